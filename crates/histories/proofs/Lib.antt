@@ -1,0 +1,5 @@
+pub mod Places
+pub mod First
+pub mod Growth
+pub mod Transitions
+pub mod Lasting

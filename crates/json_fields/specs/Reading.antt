@@ -1,0 +1,26 @@
+-- Reading step by step, where the first fault is the answer, and what a call answers beside it.
+use Rattle.std.specs.Prelude.{◌≡◌, ⊤, Bool, MatchBool, Option, Some, None, List, [], ◌∷◌, if◌then◌else◌, Result, Ok, Err}
+
+infixl 10 ◌>>=◌
+abbrev pub ◌>>=◌ : {A B E : Type 0} → Result A E → (A → Result B E) → Result B E
+(Ok x) >>= f = f x
+(Err e) >>= f = Err e
+
+-- this fault where the test holds
+abbrev pub refused_if : {E : Type 0} → Bool → E → Result ⊤ E
+refused_if test fault = if test then Err fault else Ok tt
+
+-- the value that is there, else this fault
+abbrev pub some_or : {A E : Type 0} → E → Option A → Result A E
+some_or fault None = Err fault
+some_or fault (Some x) = Ok x
+
+-- what f reads of each item in order, or the first fault
+abbrev pub each : {A B E : Type 0} → (A → Result B E) → List A → Result (List B) E
+each f [] = Ok []
+each f (x ∷ xs) = f x >>= λ y. each f xs >>= λ ys. Ok (y ∷ ys)
+
+-- What a call answered, seen by view, is what the definition gives; a fault for want of memory aside, which no definition gives.
+abbrev pub GivesUnless : {X Y E : Type 0} → (E → Bool) → (X → Y) → Result X E → Result Y E → Type 0
+GivesUnless is_memory view (Ok x) given = given ≡ Ok (view x)
+GivesUnless is_memory view (Err e) given = MatchBool (is_memory e) (Unit {0}) (given ≡ Err e)

@@ -1,0 +1,12 @@
+-- What a call answers beside what the definition of a manifest gives.
+use Rattle.std.specs.Prelude.{Bool, true, false, Result}
+use Rattle.json_fields.specs.Reading.{GivesUnless}
+use Rattle.manifest.specs.declared.fault.ManifestFault.{ManifestFault}
+use Rattle.manifest.specs.declared.fault.ManifestFault.TheVariants.{OutOfMemory}
+
+abbrev pub is_memory : ManifestFault → Bool
+is_memory OutOfMemory = true
+is_memory fault = false
+
+abbrev pub Gives : {X Y : Type 0} → (X → Y) → Result X ManifestFault → Result Y ManifestFault → Type 0
+Gives view result given = GivesUnless is_memory view result given

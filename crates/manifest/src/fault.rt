@@ -1,0 +1,87 @@
+//! Why a manifest was refused.
+
+ghost use Rattle.std.specs.Prelude.{◌≡◌};
+ghost use Rattle.manifest.specs.declared.fault.ManifestFault.TheVariants.{OutOfMemory};
+
+use std::alloc::{AllocError, AllocFailed};
+use thiserror::Error;
+
+/// A place in a manifest, in the order in which they are read.
+#[derive(Clone, Copy, Debug, PartialEq, Eq)]
+pub enum Field {
+    /// The manifest itself.
+    Pod,
+    Metadata,
+    /// `metadata.name`
+    Name,
+    /// `metadata.namespace`
+    Namespace,
+    Spec,
+    /// `spec.restartPolicy`
+    RestartPolicy,
+    /// `spec.priority`
+    Priority,
+    /// `spec.terminationGracePeriodSeconds`
+    GracePeriod,
+    /// `spec.initContainers`, and an item of it
+    InitContainers,
+    /// `spec.containers`, and an item of it
+    Containers,
+    /// A container's `name`.
+    ContainerName,
+    /// A container's `resources`.
+    Resources,
+    /// A container's `startupProbe`, `livenessProbe` or `readinessProbe`.
+    Probe,
+}
+
+/// The first fault of a manifest, in the order of its fields.
+#[derive(Clone, Copy, Debug, PartialEq, Eq, Error)]
+pub enum ManifestFault {
+    #[error("a required field is missing: {0:?}")]
+    Missing(Field),
+    #[error("a field has a value of another kind, or one that is out of its range: {0:?}")]
+    WrongKind(Field),
+    #[error("two containers have one name")]
+    DuplicateContainer,
+    #[error("a container has a restart policy of its own")]
+    Sidecar,
+    #[error("more than 16 containers")]
+    TooMany,
+    #[error("out of memory")]
+    OutOfMemory,
+}
+
+impl ManifestFault {
+    ghost use Rattle.manifest.specs.Fault.{number_of};
+
+    /// The number by which a refusal names the fault.
+    pub fn number(self) -> u8
+        ensures { result ≡ number_of self }
+    {
+        match self {
+            ManifestFault::Missing(_) => 11,
+            ManifestFault::WrongKind(_) => 12,
+            ManifestFault::DuplicateContainer => 17,
+            ManifestFault::Sidecar => 18,
+            ManifestFault::TooMany => 19,
+            ManifestFault::OutOfMemory => 20,
+        }
+    }
+}
+
+impl From<AllocError> for ManifestFault {
+    ghost from_gives = { λ _ e. e ≡ OutOfMemory };
+
+    fn from(_e: AllocError) -> ManifestFault {
+        ManifestFault::OutOfMemory
+    }
+}
+
+impl<T: Drop> From<AllocFailed<T>> for ManifestFault {
+    ghost from_gives = { λ _ e. e ≡ OutOfMemory };
+
+    fn from(_e: AllocFailed<T>) -> ManifestFault {
+        ManifestFault::OutOfMemory
+    }
+}

@@ -1,0 +1,112 @@
+//! Fields of a manifest, each read with its own fault.
+
+ghost use Rattle.std.specs.Prelude.{◌≡◌, ◌<◌, length, map, option_map, is_some, IfOk};
+ghost use Rattle.serde_json.specs.View.{view};
+ghost use Rattle.json_fields.specs.Reading.{refused_if};
+ghost use Rattle.manifest.specs.Gives.{Gives};
+ghost use Rattle.manifest.specs.Fields.{object_of, array_of, some_items, text_of, required_text, text_or};
+ghost use Rattle.manifest.specs.Grammar.{passes};
+
+use crate::fault::{Field, ManifestFault};
+use crate::names::{is_label, is_name};
+use crate::text::Text;
+use serde_json::Value;
+use std::alloc::Global;
+
+pub(crate) fn object(field: Field, found: Option<&Value>) -> Result<&Value, ManifestFault>
+    ensures { Gives (λ v. view v.now) result (object_of field (option_map (λ v. view v.now) found.entry)) }
+{
+    match found {
+        None => Err(ManifestFault::Missing(field)),
+        Some(value) if value.is_object() => Ok(value),
+        Some(_) => Err(ManifestFault::WrongKind(field)),
+    }
+}
+
+pub(crate) fn array(field: Field, found: Option<&Value>) -> Result<&[Value], ManifestFault>
+    ensures { Gives (λ v. map view v.now) result (array_of field (option_map (λ v. view v.now) found.entry)) }
+{
+    let Some(value) = found else {
+        return Err(ManifestFault::Missing(field));
+    };
+    match value.as_array() {
+        None => Err(ManifestFault::WrongKind(field)),
+        Some(list) => Ok(list.as_slice()),
+    }
+}
+
+pub(crate) fn some_items(field: Field, values: &[Value]) -> Result<&[Value], ManifestFault>
+    ensures gives { Gives (λ v. map view v.now) result (some_items field (map view values.now)) }
+    ensures same { IfOk result (λ v. (v.now ≡ values.now) × (0 < length v.now)) }
+{
+    if values.is_empty() {
+        return Err(ManifestFault::Missing(field));
+    }
+    Ok(values)
+}
+
+/// A field that has to be absent.
+pub(crate) fn absent(fault: ManifestFault, found: Option<&Value>) -> Result<(), ManifestFault>
+    ensures { Gives (λ t. t) result (refused_if (is_some (option_map (λ v. view v.now) found.entry)) fault) }
+{
+    match found {
+        None => Ok(()),
+        Some(_) => Err(fault),
+    }
+}
+
+/// The two kinds of name.
+#[derive(Clone, Copy, PartialEq, Eq)]
+pub(crate) enum Grammar {
+    Name,
+    Label,
+}
+
+fn passes(grammar: Grammar, text: &[u8]) -> bool
+    ensures { result ≡ passes grammar text.now }
+{
+    match grammar {
+        Grammar::Name => is_name(text),
+        Grammar::Label => is_label(text),
+    }
+}
+
+fn text(alloc: Global, grammar: Grammar, field: Field, value: &Value) -> Result<Text, ManifestFault>
+    ensures { Gives (λ t. t) result (text_of (passes grammar) field (view value.now)) }
+{
+    match value.as_str() {
+        Some(text) if passes(grammar, text.as_bytes()) => {
+            Ok(Text::new(String::from_str(alloc, text)?))
+        }
+        _ => Err(ManifestFault::WrongKind(field)),
+    }
+}
+
+pub(crate) fn required_text(
+    alloc: Global,
+    grammar: Grammar,
+    field: Field,
+    found: Option<&Value>,
+) -> Result<Text, ManifestFault>
+    ensures { Gives (λ t. t) result (required_text (passes grammar) field (option_map (λ v. view v.now) found.entry)) }
+{
+    match found {
+        None => Err(ManifestFault::Missing(field)),
+        Some(value) => text(alloc, grammar, field, value),
+    }
+}
+
+pub(crate) fn text_or(
+    alloc: Global,
+    default: &str,
+    grammar: Grammar,
+    field: Field,
+    found: Option<&Value>,
+) -> Result<Text, ManifestFault>
+    ensures { Gives (λ t. t) result (text_or default.now (passes grammar) field (option_map (λ v. view v.now) found.entry)) }
+{
+    match found {
+        None => Ok(Text::new(String::from_str(alloc, default)?)),
+        Some(value) => text(alloc, grammar, field, value),
+    }
+}

@@ -1,0 +1,9 @@
+pub mod Places
+pub mod Growth
+pub mod Listings
+pub mod Steps
+pub mod Events
+pub mod Acceptable
+pub mod Unique
+pub mod Order
+pub mod Runs

@@ -1,0 +1,121 @@
+-- What the records of one container say of its instances. A record is a tick, named by its place in the list of all
+-- ticks so far, oldest first. Each definition speaks of the whole list.
+use Rattle.std.specs.Prelude.{◌≡◌, ◌≢◌, ◌⊎◌, ℕ, ℤ, pos, ◌-◌, ◌<◌, ◌≤◌, List, length, take, unwrap_or, Option, Some, None, IsSomeAnd}
+use Rattle.state_diff.specs.declared.seen.CriState.{CriState}
+use Rattle.state_diff.specs.declared.seen.CriState.TheVariants.{Created, Running, Exited, Unknown}
+use Rattle.state_diff.specs.declared.seen.Seen.{Seen}
+use Rattle.state_diff.specs.States.{rank}
+use Rattle.histories.specs.Histories.{Recorded, recorded, entry_at, IsFirst, IsFirstMoment}
+
+-- one tick of one container: its moment, and the instance that it lists, if any
+abbrev pub Tick : Type 0
+Tick = Recorded (Option Seen)
+
+abbrev pub tick : ℕ → Option Seen → Tick
+tick moment seen = recorded moment seen
+
+-- what an entry lists
+abbrev pub listing_of : Option (Option Seen) → Option Seen
+listing_of None = None
+listing_of (Some seen) = seen
+
+-- what the tick at a place lists
+abbrev pub seen_at : List Tick → ℕ → Option Seen
+seen_at h t = listing_of (entry_at h t)
+
+-- the listing is of the attempt
+abbrev pub IsOf : ℕ → Seen → Type 0
+IsOf a seen = seen.attempt ≡ a
+
+-- the listing is of the attempt, in the state
+abbrev pub IsOfAs : ℕ → CriState → Seen → Type 0
+IsOfAs a state seen = (seen.attempt ≡ a) × (seen.state ≡ state)
+
+-- the listing is of the attempt, in a state that is known
+abbrev pub IsOfKnown : ℕ → Seen → Type 0
+IsOfKnown a seen = (seen.attempt ≡ a) × (seen.state ≢ Unknown)
+
+-- tick t lists the attempt
+abbrev pub Listed : List Tick → ℕ → ℕ → Type 0
+Listed h a t = IsSomeAnd (seen_at h t) (IsOf a)
+
+-- tick t lists the attempt in the state
+abbrev pub ListedAs : List Tick → ℕ → CriState → ℕ → Type 0
+ListedAs h a state t = IsSomeAnd (seen_at h t) (IsOfAs a state)
+
+-- the greatest attempt that some tick lists
+pub record IsNewest (h : List Tick) (a : ℕ) : Type 0 where
+  pub listed : (t : ℕ) × Listed h a t
+  pub greatest : (b t : ℕ) → Listed h b t → b ≤ a
+
+-- the state of the last listing of the attempt that isn't unknown
+pub record IsLastKnown (h : List Tick) (a : ℕ) (state : CriState) (t : ℕ) : Type 0 where
+  pub here : ListedAs h a state t
+  pub known : state ≢ Unknown
+  pub last : (u : ℕ) → t < u → IsSomeAnd (seen_at h u) (IsOfKnown a) → ⊥
+
+-- the effective state: that of the last known listing, and created if there is none
+abbrev pub IsEffective : List Tick → ℕ → CriState → Type 0
+IsEffective h a state =
+    ((t : ℕ) × IsLastKnown h a state t)
+    ⊎ (((t : ℕ) → IsSomeAnd (seen_at h t) (IsOfKnown a) → ⊥) × (state ≡ Created))
+
+-- tick t lists the attempt as exited, or doesn't list it after an earlier tick did
+abbrev pub Ends : List Tick → ℕ → ℕ → Type 0
+Ends h a t =
+    ListedAs h a Exited t
+    ⊎ ((t < length h) × (Listed h a t → ⊥) × ((u : ℕ) × (u < t) × Listed h a u))
+
+-- the exit: the least tick at which the attempt ends
+abbrev pub IsExit : List Tick → ℕ → ℕ → Type 0
+IsExit h a t = IsFirst (Ends h a) t
+
+-- the start: the least tick that lists the attempt as running
+abbrev pub IsStart : List Tick → ℕ → ℕ → Type 0
+IsStart h a t = IsFirst (ListedAs h a Running) t
+
+-- the code of the tick at a place: the one recorded there for the attempt, and 137 if it isn't listed there
+abbrev pub IsCodeAt : List Tick → ℕ → ℤ → ℕ → Type 0
+IsCodeAt h a code t =
+    IsSomeAnd (seen_at h t) (λ seen. (seen.attempt ≡ a) × (seen.code ≡ Some code))
+    ⊎ ((Listed h a t → ⊥) × (code ≡ pos 137))
+
+-- the exit's code
+abbrev pub IsExitCode : List Tick → ℕ → ℤ → Type 0
+IsExitCode h a code = (t : ℕ) × IsExit h a t × IsCodeAt h a code t
+
+-- the state: exited once there is an exit, else the effective state
+abbrev pub IsState : List Tick → ℕ → CriState → Type 0
+IsState h a state =
+    (((t : ℕ) × IsExit h a t) × (state ≡ Exited))
+    ⊎ (((t : ℕ) → IsExit h a t → ⊥) × IsEffective h a state)
+
+-- some instance has a start or an exit
+abbrev pub IsSetUp : List Tick → Type 0
+IsSetUp h = (a t : ℕ) × (IsStart h a t ⊎ IsExit h a t)
+
+-- the listing may come after these ticks
+pub record MayFollow (h : List Tick) (seen : Seen) : Type 0 where
+  -- its attempt isn't below one that was listed before
+  pub not_older : (a t : ℕ) → Listed h a t → a ≤ seen.attempt
+  -- an attempt that was listed before was listed at the last tick
+  pub not_gone : (t : ℕ) → Listed h seen.attempt t → Listed h seen.attempt (length h - 1)
+  -- its state isn't below the effective state
+  pub not_back : (state : CriState) → IsEffective h seen.attempt state → rank state ≤ rank seen.state
+
+-- what is listed, if anything, may come after these ticks
+abbrev pub IsAcceptable : List Tick → Option Seen → Type 0
+IsAcceptable h None = Unit {0}
+IsAcceptable h (Some seen) = MayFollow h seen
+
+-- each listing may come after those before it
+abbrev pub IsAcceptableHistory : List Tick → Type 0
+IsAcceptableHistory h = (t : ℕ) → t < length h → IsAcceptable (take t h) (seen_at h t)
+
+-- the run of an instance that has exited: from its start to its exit, in seconds, and 0 without a start
+pub record IsRun (h : List Tick) (a : ℕ) (run : ℕ) : Type 0 where
+  pub exit : ℕ
+  pub exits : IsFirstMoment h (Ends h a) (Some exit)
+  pub start : Option ℕ
+  pub starts : IsFirstMoment h (ListedAs h a Running) start
+  pub lasts : run ≡ exit - unwrap_or start exit

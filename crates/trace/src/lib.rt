@@ -1,0 +1,6 @@
+//! A trace, read line by line.
+#![tactic(auto)]
+
+mod sequence;
+
+pub use sequence::{Sequence, Trial};
