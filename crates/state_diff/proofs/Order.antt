@@ -1,5 +1,5 @@
 -- What an acceptable history says of the order of listings.
-use Rattle.std.proofs.Common.{◌≡◌, ◌⊎◌, inl, inr, ℕ, suc, zero, ◌+◌, ◌-◌, ◌<◌, ◌≤◌, List, [], ◌∷◌, ◌++◌, length, take, drop, Option, Some, None, refl, ap, subst, sym, ◌∙◌, append_assoc, arith}
+use Rattle.std.proofs.Common.{◌≡◌, inl, inr, ℕ, suc, zero, ◌+◌, ◌-◌, ◌<◌, ◌≤◌, List, [], ◌∷◌, ◌++◌, length, take, Option, Some, None, refl, ap, subst, sym, ◌∙◌, append_assoc, arith}
 use Rattle.std.specs.Prelude.{IsSomeAnd}
 use Rattle.std.proofs.lemmas.Bool.{cases_lt}
 use Rattle.std.proofs.lemmas.List.{append-nil, take-append-le, take_at, take-take, length-take, length-take-le}
@@ -8,10 +8,10 @@ use Rattle.state_diff.specs.declared.seen.Seen.{Seen}
 use Rattle.state_diff.specs.declared.seen.CriState.{CriState}
 use Rattle.state_diff.specs.declared.seen.CriState.TheVariants.{Created, Running, Exited}
 use Rattle.state_diff.specs.States.{rank}
-use Rattle.state_diff.specs.Instances.{Tick, tick, listing_of, seen_at, IsOf, IsOfAs, Listed, ListedAs, IsNewest, IsExit, MayFollow, IsAcceptable, IsAcceptableHistory}
+use Rattle.state_diff.specs.Instances.{Tick, tick, listing_of, seen_at, IsOf, IsOfAs, Listed, ListedAs, IsExit, MayFollow, IsAcceptable, IsAcceptableHistory}
 use Rattle.state_diff.specs.Acceptable.{known_after, last_known, effective_state}
 use Rattle.state_diff.specs.Laws.{StartsBeforeExit, ExitedStaysExited, NewestNeverFalls, AcceptableIsNewest}
-use Rattle.state_diff.proofs.Places.{kept, added, split, seen_at-below}
+use Rattle.state_diff.proofs.Places.{added, split, seen_at-below}
 use Rattle.state_diff.proofs.Growth.{IsExit-old}
 use Rattle.state_diff.proofs.Acceptable.{taken_or_kept, effective_state_is}
 

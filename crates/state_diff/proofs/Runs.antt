@@ -1,11 +1,11 @@
 -- The run of an instance.
-use Rattle.std.proofs.Common.{◌≡◌, ℕ, ◌-◌, List, Option, Some, None, refl, subst, arith}
+use Rattle.std.proofs.Common.{◌≡◌, ℕ, ◌-◌, List, Option, Some, None, refl, subst}
 use Rattle.std.specs.Prelude.{IsSomeAnd, IfSome, ◌↔◌, unwrap_or}
 use Rattle.histories.specs.Histories.{IsFirstMoment}
-use Rattle.histories.proofs.First.{none_from, none_at}
+use Rattle.histories.proofs.First.{none_at}
 use Rattle.state_diff.specs.declared.seen.CriState.TheVariants.{Running}
 use Rattle.state_diff.specs.declared.instance.Instance.{Instance}
-use Rattle.state_diff.specs.Instances.{Tick, Listed, ListedAs, Ends, IsExit, IsNewest, IsRun}
+use Rattle.state_diff.specs.Instances.{Tick, ListedAs, Ends, IsNewest, IsRun}
 use Rattle.state_diff.specs.Instance.{IsInstanceOf}
 use Rattle.state_diff.specs.Differ.{IsNewestOf, IsNewestRun}
 use Rattle.state_diff.proofs.Unique.{IsNewest-unique}

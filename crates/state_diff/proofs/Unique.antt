@@ -5,7 +5,7 @@ use Rattle.histories.proofs.First.{IsFirst-unique}
 use Rattle.state_diff.specs.declared.seen.Seen.{Seen}
 use Rattle.state_diff.specs.declared.seen.CriState.{CriState}
 use Rattle.state_diff.specs.declared.seen.CriState.TheVariants.{Running}
-use Rattle.state_diff.specs.Instances.{Tick, seen_at, IsOf, ListedAs, IsNewest, IsState, IsCodeAt, IsExitCode, IsStart, IsExit, Ends}
+use Rattle.state_diff.specs.Instances.{Tick, seen_at, IsOf, ListedAs, IsNewest, IsState, IsCodeAt, IsExitCode, Ends}
 use Rattle.state_diff.specs.Laws.{OneOfEach}
 use Rattle.state_diff.proofs.Steps.{IsEffective-unique}
 

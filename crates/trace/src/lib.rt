@@ -1,6 +1,22 @@
-//! A trace, read line by line.
+//! The trace that a text says, read line by line, or the text's first faulty line.
 #![tactic(auto)]
 
+mod backwards;
+mod fault;
+mod lines;
+mod listing;
+mod node;
+mod observation;
+mod past;
+mod placing;
+mod pod;
+mod reading;
 mod sequence;
+mod tick;
 
-pub use sequence::{Sequence, Trial};
+pub use fault::{LineFault, LineKind};
+pub use node::NodeConfig;
+pub use observation::{ContainerObs, PodObs, TickObs, seen_of};
+pub use past::Trace;
+pub use reading::read_trace;
+pub use sequence::Sequence;

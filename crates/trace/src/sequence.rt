@@ -58,9 +58,3 @@ impl<T: Drop> Sequence<T> {
         self.items.push(item).map_err(|_| AllocError)
     }
 }
-
-#[derive(Drop)]
-pub struct Trial {
-    pub at: u64,
-    pub pods: Sequence<Sequence<u32>>,
-}

@@ -1,0 +1,13 @@
+pub mod Faults
+pub mod Gives
+pub mod Lines
+pub mod Observations
+pub mod Backwards
+pub mod Node
+pub mod Pod
+pub mod Listings
+pub mod Placing
+pub mod Observed
+pub mod Past
+pub mod Tick
+pub mod Trace

@@ -1,0 +1,45 @@
+-- What a node line says.
+use Rattle.std.specs.Prelude.{ℕ, ◌==◌, ⊤, Bool, List, Option, Some, None, is_some, option_and_then, if◌then◌else◌, Result, Ok, Err, codes}
+use Rattle.serde_json.specs.Data.{Data}
+use Rattle.serde_json.specs.Find.{as_number, as_u64}
+use Rattle.json_fields.specs.Fields.{field_at, text_at}
+use Rattle.json_fields.specs.Reading.{◌>>=◌, refused_if}
+use Rattle.manifest.specs.Names.{is_name}
+use Rattle.trace.specs.declared.fault.LineKind.{LineKind}
+use Rattle.trace.specs.declared.fault.LineKind.TheVariants.{Config}
+use Rattle.trace.specs.declared.node.NodeConfig.{NodeConfig}
+
+abbrev pub version_from : Option ℕ → Result ⊤ LineKind
+version_from None = Err Config
+version_from (Some n) = if n == 1 then Ok tt else Err Config
+
+-- the format's version is 1, also where none is written
+abbrev pub version_of : Option Data → Result ⊤ LineKind
+version_of None = Ok tt
+version_of (Some d) = version_from (option_and_then as_u64 (as_number d))
+
+abbrev pub name_from : Option (List ℕ) → Result (List ℕ) LineKind
+name_from None = Err Config
+name_from (Some s) = if is_name s then Ok s else Err Config
+
+abbrev pub absent : LineKind → Option Data → Result ⊤ LineKind
+absent kind found = refused_if (is_some found) kind
+
+-- nothing is said of evictions
+unfoldable pub eviction_unset : Data → Result ⊤ LineKind
+eviction_unset d = do
+  hard ← absent Config (field_at (codes "evictionHard") d)
+  soft ← absent Config (field_at (codes "evictionSoft") d)
+  grace ← absent Config (field_at (codes "evictionSoftGracePeriod") d)
+  greatest ← absent Config (field_at (codes "evictionMaxPodGracePeriod") d)
+  reclaim ← absent Config (field_at (codes "evictionMinimumReclaim") d)
+  absent Config (field_at (codes "evictionPressureTransitionPeriod") d)
+
+unfoldable pub node_of : Data → Result NodeConfig LineKind
+node_of d = do
+  version ← version_of (field_at (codes "version") d)
+  name ← name_from (text_at (codes "name") d)
+  capacity ← absent Config (field_at (codes "capacity") d)
+  dedicated ← absent Config (field_at (codes "dedicatedImagefs") d)
+  eviction ← eviction_unset d
+  Ok (record { name = name })

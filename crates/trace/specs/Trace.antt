@@ -1,0 +1,84 @@
+-- What a text says as a trace, or its first faulty line with that line's first fault.
+use Rattle.std.specs.Prelude.{ℕ, ◌+◌, ◌++◌, Bool, List, [], ◌∷◌, length, nat_lt, Option, Some, None, if◌then◌else◌, Result, Ok, Err, bytes_eq, codes}
+use Rattle.std.specs.Str.{is_utf8}
+use Rattle.serde_json.specs.Data.{Data}
+use Rattle.serde_json.specs.Read.{read}
+use Rattle.json_fields.specs.Fields.{field_at, text_at}
+use Rattle.json_fields.specs.Reading.{◌>>=◌, refused_if, some_or}
+use Rattle.trace.specs.declared.fault.LineKind.{LineKind}
+use Rattle.trace.specs.declared.fault.LineKind.TheVariants.{TooLong, NotJson, UnknownKind, Order, TooMany}
+use Rattle.trace.specs.declared.fault.LineFault.{LineFault}
+use Rattle.trace.specs.declared.node.NodeConfig.{NodeConfig}
+use Rattle.trace.specs.declared.past.Trace.{Trace}
+use Rattle.trace.specs.declared.past.Sort.{Sort}
+use Rattle.trace.specs.declared.past.Sort.TheVariants as sorts
+use Rattle.trace.specs.Lines.{lines_of, is_blank}
+use Rattle.trace.specs.Node.{node_of}
+use Rattle.trace.specs.Pod.{pod_from}
+use Rattle.trace.specs.Past.{Past}
+use Rattle.trace.specs.Tick.{tick_at}
+
+-- a line's JSON value
+unfoldable pub json_of : List ℕ → Result Data LineKind
+json_of line = if is_utf8 line then some_or NotJson (read line) else Err NotJson
+
+abbrev pub kind_from : Option (List ℕ) → Option Sort
+kind_from None = None
+kind_from (Some s) =
+    if bytes_eq s (codes "node") then Some sorts.Node
+    else (if bytes_eq s (codes "pod") then Some sorts.Pod
+    else (if bytes_eq s (codes "tick") then Some sorts.Tick else None))
+
+unfoldable pub with_node : Past → Data → Result Past LineKind
+with_node past d = do
+  node ← node_of d
+  Ok (record { node = Some node; pods = past.pods; ticks = past.ticks })
+
+-- a pod line stands before all ticks, and for now there is one at most
+unfoldable pub pod_line_at : Past → Data → Result Past LineKind
+pod_line_at past d = do
+  before_ticks ← refused_if (nat_lt 0 (length past.ticks)) Order
+  only ← refused_if (nat_lt 0 (length past.pods)) TooMany
+  pod ← pod_from (field_at (codes "pod") d)
+  Ok (record { node = past.node; pods = past.pods ++ pod ∷ []; ticks = past.ticks })
+
+-- a node line stands first, and nowhere else
+abbrev pub in_order : Option NodeConfig → Past → Sort → Data → Result Past LineKind
+in_order None past sorts.Node d = with_node past d
+in_order None past sorts.Pod d = Err Order
+in_order None past sorts.Tick d = Err Order
+in_order (Some node) past sorts.Node d = Err Order
+in_order (Some node) past sorts.Pod d = pod_line_at past d
+in_order (Some node) past sorts.Tick d = tick_at past d
+
+-- a line after those that say what is past
+unfoldable pub line_at : Past → List ℕ → Result Past LineKind
+line_at past line = do
+  short ← refused_if (nat_lt 1048576 (length line)) TooLong
+  d ← json_of line
+  sort ← some_or UnknownKind (kind_from (text_at (codes "kind") d))
+  in_order past.node past sort d
+
+abbrev pub at_line : {A : Type 0} → ℕ → Result A LineKind → Result A LineFault
+at_line n (Ok x) = Ok x
+at_line n (Err kind) = Err (record { line = n; kind = kind })
+
+-- a text without a line that counts lacks a node line at its end
+abbrev pub finished : ℕ → Past → Option NodeConfig → Result Trace LineFault
+finished n past None = Err (record { line = n; kind = Order })
+finished n past (Some node) = Ok (record { node = node; pods = past.pods; ticks = past.ticks })
+
+-- the lines from the nth on, after those that say what is past
+abbrev pub read_on : ℕ → Past → List (List ℕ) → Result Trace LineFault
+read_on n past [] = finished n past past.node
+read_on n past (line ∷ lines) =
+    if is_blank line then read_on (n + 1) past lines
+    else (at_line n (line_at past line) >>= λ next. read_on (n + 1) next lines)
+
+-- no line was read yet
+abbrev pub nothing : Past
+nothing = record { node = None; pods = []; ticks = [] }
+
+-- the trace of a text
+unfoldable pub trace_of : List ℕ → Result Trace LineFault
+trace_of text = read_on 1 nothing (lines_of text)

@@ -1,0 +1,79 @@
+//! Node lines.
+
+ghost use Rattle.std.specs.Prelude.{◌≡◌, option_map, is_some};
+ghost use Rattle.serde_json.specs.View.{view};
+ghost use Rattle.json_fields.specs.Reading.{refused_if};
+ghost use Rattle.trace.specs.Gives.{Gives};
+ghost use Rattle.trace.specs.Node.{version_of, name_from, eviction_unset, node_of};
+
+use crate::fault::LineKind;
+use json_fields::{field, text_at};
+use manifest::{Text, is_name};
+use serde_json::Value;
+use std::alloc::Global;
+
+/// The node and its configuration (Kubernetes, "Node-pressure Eviction").
+#[derive(Drop)]
+pub struct NodeConfig {
+    /// 1 to 253 bytes.
+    pub name: Text,
+}
+
+fn version(found: Option<&Value>) -> Result<(), LineKind>
+    ensures { Gives (λ t. t) result (version_of (option_map (λ v. view v.now) found.entry)) }
+{
+    let Some(value) = found else {
+        return Ok(());
+    };
+    match value.as_u64() {
+        Some(1) => Ok(()),
+        _ => Err(LineKind::Config),
+    }
+}
+
+fn node_name(alloc: Global, found: Option<&str>) -> Result<Text, LineKind>
+    ensures { Gives (λ t. t) result (name_from (option_map (λ s. s.now) found.entry)) }
+{
+    match found {
+        Some(name) if is_name(name.as_bytes()) => Ok(Text::new(String::from_str(alloc, name)?)),
+        _ => Err(LineKind::Config),
+    }
+}
+
+/// A field that has to be absent.
+pub(crate) fn absent(kind: LineKind, found: Option<&Value>) -> Result<(), LineKind>
+    ensures { Gives (λ t. t) result (refused_if (is_some (option_map (λ v. view v.now) found.entry)) kind) }
+{
+    match found {
+        None => Ok(()),
+        Some(_) => Err(kind),
+    }
+}
+
+#[tactic(auto, unfolding(crate::specs::Node::eviction_unset))]
+fn eviction_unset(node: &Value) -> Result<(), LineKind>
+    ensures { Gives (λ t. t) result (eviction_unset (view node.now)) }
+{
+    absent(LineKind::Config, field(node, "evictionHard"))?;
+    absent(LineKind::Config, field(node, "evictionSoft"))?;
+    absent(LineKind::Config, field(node, "evictionSoftGracePeriod"))?;
+    absent(LineKind::Config, field(node, "evictionMaxPodGracePeriod"))?;
+    absent(LineKind::Config, field(node, "evictionMinimumReclaim"))?;
+    absent(
+        LineKind::Config,
+        field(node, "evictionPressureTransitionPeriod"),
+    )
+}
+
+/// The configuration that a node line says.
+#[tactic(auto, unfolding(crate::specs::Node::node_of))]
+pub(crate) fn node_of(alloc: Global, node: &Value) -> Result<NodeConfig, LineKind>
+    ensures { Gives (λ n. n) result (node_of (view node.now)) }
+{
+    version(field(node, "version"))?;
+    let name = node_name(alloc, text_at(node, "name"))?;
+    absent(LineKind::Config, field(node, "capacity"))?;
+    absent(LineKind::Config, field(node, "dedicatedImagefs"))?;
+    eviction_unset(node)?;
+    Ok(NodeConfig { name })
+}

@@ -1,0 +1,179 @@
+//! The entries of a tick line, with numbers in the place of names.
+
+ghost use Rattle.std.specs.Prelude.{◌≡◌, ◌==◌};
+ghost use Rattle.name_list.specs.Names.{place_of};
+ghost use Rattle.json_fields.specs.Reading.{each, some_or};
+ghost use Rattle.trace.specs.Gives.{Gives};
+ghost use Rattle.trace.specs.Pod.{keys_of};
+ghost use Rattle.trace.specs.Placing.{number_in, placed_listing, pod_numbered, placed_entry, has_twice, is_doubled};
+ghost use Rattle.std.specs.List.{list_any};
+
+use crate::fault::LineKind;
+use crate::listing::{Entry, Listing, Report};
+use crate::sequence::Sequence;
+use manifest::PodSpec;
+use name_list::NameList;
+use std::alloc::Global;
+
+/// A listing of the container with the number.
+#[derive(Clone, Copy)]
+pub(crate) struct PlacedListing {
+    pub(crate) container: usize,
+    pub(crate) report: Report,
+}
+
+/// An entry of the pod with the number.
+#[derive(Drop)]
+pub(crate) struct PlacedEntry {
+    pub(crate) pod: usize,
+    pub(crate) listings: Sequence<PlacedListing>,
+}
+
+fn pod_number(keys: &NameList, entry: &Entry) -> Result<usize, LineKind>
+    ensures { Gives (λ n. n) result (number_in keys.now entry.now) }
+{
+    match keys.number_of(entry.key.as_str()) {
+        None => Err(LineKind::StrangerPod),
+        Some(number) => Ok(number),
+    }
+}
+
+/// The numbers of the pods of all entries.
+pub(crate) fn pod_numbers(
+    alloc: Global,
+    keys: &NameList,
+    entries: &[Entry],
+) -> Result<Vec<usize>, LineKind>
+    ensures { Gives (λ v. v.items) result (each (number_in keys.now) entries.now) }
+{
+    let mut all = Vec::new(alloc);
+    for entry in entries {
+        let number = pod_number(keys, entry)?;
+        all.push(number)?;
+    }
+    Ok(all)
+}
+
+fn placed_listing(pod: &PodSpec, listing: &Listing) -> Result<PlacedListing, LineKind>
+    ensures { Gives (λ l. l) result (placed_listing pod.now listing.now) }
+{
+    match pod.containers.number_of(listing.name.as_str()) {
+        None => Err(LineKind::StrangerContainer),
+        Some(container) => Ok(PlacedListing {
+            container,
+            report: listing.report,
+        }),
+    }
+}
+
+fn placed_listings(
+    alloc: Global,
+    pod: &PodSpec,
+    listings: &[Listing],
+) -> Result<Vec<PlacedListing>, LineKind>
+    ensures { Gives (λ v. v.items) result (each (placed_listing pod.now) listings.now) }
+{
+    let mut all = Vec::new(alloc);
+    for listing in listings {
+        let placed = placed_listing(pod, listing)?;
+        all.push(placed)?;
+    }
+    Ok(all)
+}
+
+fn pod_numbered(pods: &[PodSpec], number: usize) -> Result<&PodSpec, LineKind>
+    ensures { Gives (λ p. p.now) result (pod_numbered pods.now number) }
+{
+    match pods.get(number) {
+        None => Err(LineKind::StrangerPod),
+        Some(pod) => Ok(pod),
+    }
+}
+
+#[tactic(auto, unfolding(crate::specs::Placing::placed_entry))]
+fn placed_entry(
+    alloc: Global,
+    keys: &NameList,
+    pods: &[PodSpec],
+    entry: &Entry,
+) -> Result<PlacedEntry, LineKind>
+    ensures { Gives (λ e. e) result (placed_entry keys.now pods.now entry.now) }
+{
+    let number = pod_number(keys, entry)?;
+    let pod = pod_numbered(pods, number)?;
+    let listings = placed_listings(alloc, pod, entry.listings.as_slice())?;
+    Ok(PlacedEntry {
+        pod: number,
+        listings: Sequence::from_vec(listings),
+    })
+}
+
+/// All entries, with numbers in the place of names.
+pub(crate) fn placed_entries(
+    alloc: Global,
+    keys: &NameList,
+    pods: &[PodSpec],
+    entries: &[Entry],
+) -> Result<Vec<PlacedEntry>, LineKind>
+    ensures { Gives (λ v. v.items) result (each (placed_entry keys.now pods.now) entries.now) }
+{
+    let mut all = Vec::new(alloc);
+    for entry in entries {
+        let placed = placed_entry(alloc, keys, pods, entry)?;
+        all.push(placed)?;
+    }
+    Ok(all)
+}
+
+fn has_container(listings: &[PlacedListing], container: usize) -> bool
+    ensures { result ≡ list_any (λ l. l.container == container) listings.now }
+{
+    listings.iter().any(|l| l.container == container)
+}
+
+fn has_container_twice(listings: &[PlacedListing]) -> bool
+    ensures { result ≡ has_twice (λ l. l.container) listings.now }
+{
+    let mut rest = listings;
+    while let [first, others @ ..] = rest {
+        if has_container(others, first.container) {
+            return true;
+        }
+        rest = others;
+    }
+    false
+}
+
+fn has_pod(entries: &[PlacedEntry], pod: usize) -> bool
+    ensures { result ≡ list_any (λ e. e.pod == pod) entries.now }
+{
+    entries.iter().any(|e| e.pod == pod)
+}
+
+fn has_pod_twice(entries: &[PlacedEntry]) -> bool
+    ensures { result ≡ has_twice (λ e. e.pod) entries.now }
+{
+    let mut rest = entries;
+    while let [first, others @ ..] = rest {
+        if has_pod(others, first.pod) {
+            return true;
+        }
+        rest = others;
+    }
+    false
+}
+
+fn some_container_twice(entries: &[PlacedEntry]) -> bool
+    ensures { result ≡ list_any (λ e. has_twice (λ l. l.container) e.listings) entries.now }
+{
+    entries
+        .iter()
+        .any(|e| has_container_twice(e.listings.as_slice()))
+}
+
+/// Whether a pod is listed twice, or a container twice in an entry.
+pub(crate) fn is_doubled(entries: &[PlacedEntry]) -> bool
+    ensures { result ≡ is_doubled entries.now }
+{
+    has_pod_twice(entries) || some_container_twice(entries)
+}

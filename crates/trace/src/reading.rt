@@ -1,0 +1,151 @@
+//! Reading a whole trace.
+
+ghost use Rattle.std.specs.Prelude.{◌≡◌, option_map, IfOk};
+ghost use Rattle.serde_json.specs.View.{view};
+ghost use Rattle.trace.specs.Gives.{Gives, GivesAt};
+ghost use Rattle.trace.specs.Trace.{json_of, kind_from, with_node, pod_line_at, line_at, trace_of, finished, in_order};
+
+use crate::fault::{LineFault, LineKind};
+use crate::lines::{first_line, is_blank};
+use crate::node::node_of;
+use crate::past::{Reader, Sort, Trace};
+use crate::pod::{key_text, pod_in};
+use crate::sequence::Sequence;
+use crate::tick::take_tick;
+use json_fields::{field, text_at};
+use name_list::NameList;
+use serde_json::Value;
+use std::alloc::Global;
+
+fn json(alloc: Global, line: &[u8]) -> Result<Value, LineKind>
+    ensures { Gives view result (json_of line.now) }
+{
+    match Value::from_slice(alloc, line) {
+        Ok(value) => Ok(value),
+        Err(e) if e.is_memory() => Err(LineKind::OutOfMemory),
+        Err(_) => Err(LineKind::NotJson),
+    }
+}
+
+fn sort_of(kind: Option<&str>) -> Option<Sort>
+    ensures { result ≡ kind_from (option_map (λ s. s.now) kind.entry) }
+{
+    match kind {
+        Some("node") => Some(Sort::Node),
+        Some("pod") => Some(Sort::Pod),
+        Some("tick") => Some(Sort::Tick),
+        _ => None,
+    }
+}
+
+/// Takes a node line.
+#[tactic(auto, unfolding(crate::specs::Trace::with_node))]
+fn take_node(alloc: Global, reader: Reader, line: &Value) -> Result<Reader, LineKind>
+    ensures { Gives (λ r. r) result (with_node reader (view line.now)) }
+{
+    let node = node_of(alloc, line)?;
+    let Reader {
+        pods, ticks, keys, ..
+    } = reader;
+    Ok(Reader {
+        node: Some(node),
+        pods,
+        ticks,
+        keys,
+    })
+}
+
+/// Takes a pod line. For now a trace has at most one pod.
+#[tactic(auto, unfolding(crate::specs::Trace::pod_line_at))]
+fn take_pod(alloc: Global, reader: Reader, line: &Value) -> Result<Reader, LineKind>
+    ensures { Gives (λ r. r) result (pod_line_at reader (view line.now)) }
+{
+    let Reader {
+        node,
+        mut pods,
+        ticks,
+        mut keys,
+    } = reader;
+    if !ticks.as_slice().is_empty() {
+        return Err(LineKind::Order);
+    }
+    if !pods.as_slice().is_empty() {
+        return Err(LineKind::TooMany);
+    }
+    let pod = pod_in(alloc, field(line, "pod"))?;
+    keys.push(key_text(alloc, &pod)?)?;
+    pods.push(pod)?;
+    Ok(Reader {
+        node,
+        pods,
+        ticks,
+        keys,
+    })
+}
+
+fn take_sort(alloc: Global, reader: Reader, sort: Sort, line: &Value) -> Result<Reader, LineKind>
+    ensures { Gives (λ r. r) result (in_order reader.node reader sort (view line.now)) }
+{
+    match (reader.node.is_some(), sort) {
+        (false, Sort::Node) => take_node(alloc, reader, line),
+        (true, Sort::Pod) => take_pod(alloc, reader, line),
+        (true, Sort::Tick) => take_tick(alloc, reader, line),
+        _ => Err(LineKind::Order),
+    }
+}
+
+#[tactic(auto, unfolding(crate::specs::Trace::line_at))]
+fn take_line(alloc: Global, reader: Reader, line: &[u8]) -> Result<Reader, LineKind>
+    ensures { Gives (λ r. r) result (line_at reader line.now) }
+{
+    if line.len() > 1_048_576 {
+        return Err(LineKind::TooLong);
+    }
+    let value = json(alloc, line)?;
+    let Some(sort) = sort_of(text_at(&value, "kind")) else {
+        return Err(LineKind::UnknownKind);
+    };
+    take_sort(alloc, reader, sort, &value)
+}
+
+fn finished(line: u64, reader: Reader) -> Result<Trace, LineFault>
+    ensures { GivesAt (λ t. t) result (finished line reader reader.node) }
+{
+    let Reader {
+        node, pods, ticks, ..
+    } = reader;
+    match node {
+        None => Err(LineFault {
+            line,
+            kind: LineKind::Order,
+        }),
+        Some(node) => Ok(Trace { node, pods, ticks }),
+    }
+}
+
+/// The trace that a text says, or its first faulty line with that line's first fault. A refused growth of memory is
+/// `OutOfMemory` at the line that was being read.
+#[tactic(auto, unfolding(crate::specs::Trace::trace_of))]
+pub fn read_trace(alloc: Global, text: &[u8]) -> Result<Trace, LineFault>
+    ensures { GivesAt (λ t. t) result (trace_of text.now) }
+{
+    let mut reader = Reader {
+        node: None,
+        pods: Sequence::new(alloc),
+        ticks: Sequence::new(alloc),
+        keys: NameList::new(alloc),
+    };
+    let mut rest = text;
+    let mut line = 1u64;
+    while let Some((found, after)) = first_line(rest) {
+        if !is_blank(found) {
+            reader = match take_line(alloc, reader, found) {
+                Ok(next) => next,
+                Err(kind) => return Err(LineFault { line, kind }),
+            };
+        }
+        rest = after;
+        line += 1;
+    }
+    finished(line, reader)
+}

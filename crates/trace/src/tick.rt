@@ -1,0 +1,227 @@
+//! Tick lines.
+
+ghost use Rattle.std.specs.Prelude.{◌≡◌, option_map, length, nat_le, Ok, IfOk};
+ghost use Rattle.std.specs.List.{list_any};
+ghost use Rattle.serde_json.specs.View.{view};
+ghost use Rattle.json_fields.specs.Reading.{refused_if};
+ghost use Rattle.trace.specs.Gives.{Gives};
+ghost use Rattle.trace.specs.Past.{with_tick};
+ghost use Rattle.trace.specs.Placing.{placed_of};
+ghost use Rattle.trace.specs.Observed.{seen_in, listings_of, seen_reported, containers_from, pods_from, observed, lacks_code, some_code_missing};
+ghost use Rattle.trace.specs.Backwards.{is_backwards};
+ghost use Rattle.trace.specs.Tick.{moment_of, most_ticks, observed_in, tick_at};
+
+use crate::backwards::is_backwards;
+use crate::fault::LineKind;
+use crate::listing::{Entry, Report, entries_of};
+use crate::observation::{ContainerObs, PodObs, TickObs};
+use crate::past::Reader;
+use crate::placing::{PlacedEntry, PlacedListing, is_doubled, placed_entries, pod_numbers};
+use crate::sequence::Sequence;
+use json_fields::field;
+use manifest::{ContainerSpec, PodSpec};
+use serde_json::Value;
+use state_diff::{CriState, Seen};
+use std::alloc::{AllocError, Global};
+
+fn moment(ticks: &[TickObs], found: Option<&Value>) -> Result<u64, LineKind>
+    ensures { Gives (λ n. n) result (moment_of ticks.now (option_map (λ v. view v.now) found.entry)) }
+{
+    let Some(value) = found else {
+        return Err(LineKind::Moment);
+    };
+    let Some(at) = value.as_u64() else {
+        return Err(LineKind::Moment);
+    };
+    if at >= 1 << 40 {
+        return Err(LineKind::Moment);
+    }
+    match ticks.last() {
+        Some(tick) if at <= tick.at => Err(LineKind::Moment),
+        _ => Ok(at),
+    }
+}
+
+/// What a report says of an instance. Where the exit code is missing, 0 stands in its place until that is refused.
+fn seen_reported(report: Report) -> Seen
+    ensures { result ≡ seen_reported report }
+{
+    let code = match report.state {
+        CriState::Exited => Some(report.code.unwrap_or(0)),
+        _ => None,
+    };
+    Seen {
+        attempt: report.attempt,
+        state: report.state,
+        code,
+    }
+}
+
+fn seen_in(listings: &[PlacedListing], container: usize) -> Option<Seen>
+    ensures { result ≡ seen_in listings.now container }
+{
+    for listing in listings {
+        if listing.container == container {
+            return Some(seen_reported(listing.report));
+        }
+    }
+    None
+}
+
+fn containers_observed(
+    alloc: Global,
+    listings: &[PlacedListing],
+    containers: &[ContainerSpec],
+) -> Result<Vec<ContainerObs>, AllocError>
+    ensures { IfOk result (λ v. v.items ≡ containers_from listings.now 0 containers.now) }
+{
+    let mut all = Vec::new(alloc);
+    for (number, _) in containers.iter().enumerate() {
+        let seen = seen_in(listings, number);
+        all.push(ContainerObs { seen })?;
+    }
+    Ok(all)
+}
+
+fn listings_of(entries: &[PlacedEntry], pod: usize) -> &[PlacedListing]
+    ensures { result.now ≡ listings_of entries.now pod }
+{
+    for entry in entries {
+        if entry.pod == pod {
+            return entry.listings.as_slice();
+        }
+    }
+    &[]
+}
+
+fn pods_observed(
+    alloc: Global,
+    at: u64,
+    entries: &[PlacedEntry],
+    pods: &[PodSpec],
+) -> Result<Vec<PodObs>, AllocError>
+    ensures { IfOk result (λ v. v.items ≡ pods_from at entries.now 0 pods.now) }
+{
+    let mut all = Vec::new(alloc);
+    for (number, pod) in pods.iter().enumerate() {
+        let listings = listings_of(entries, number);
+        let containers = containers_observed(alloc, listings, pod.containers.as_slice())?;
+        all.push(PodObs {
+            at,
+            containers: Sequence::from_vec(containers),
+        })?;
+    }
+    Ok(all)
+}
+
+fn observed(
+    alloc: Global,
+    at: u64,
+    entries: &[PlacedEntry],
+    pods: &[PodSpec],
+) -> Result<TickObs, AllocError>
+    ensures { IfOk result (λ t. t ≡ observed at entries.now pods.now) }
+{
+    let pods = pods_observed(alloc, at, entries, pods)?;
+    Ok(TickObs {
+        at,
+        pods: Sequence::from_vec(pods),
+    })
+}
+
+fn lacks_code(report: Report) -> bool
+    ensures { result ≡ lacks_code report }
+{
+    report.state.is_exited() && report.code.is_none()
+}
+
+fn entry_lacks_code(listings: &[PlacedListing]) -> bool
+    ensures { result ≡ list_any (λ l. lacks_code l.report) listings.now }
+{
+    listings.iter().any(|l| lacks_code(l.report))
+}
+
+fn some_code_missing(entries: &[PlacedEntry]) -> bool
+    ensures { result ≡ some_code_missing entries.now }
+{
+    entries.iter().any(|e| entry_lacks_code(e.listings.as_slice()))
+}
+
+fn refused_if(test: bool, kind: LineKind) -> Result<(), LineKind>
+    ensures { Gives (λ t. t) result (refused_if test kind) }
+{
+    if test { Err(kind) } else { Ok(()) }
+}
+
+fn room(reader: &Reader) -> Result<(), LineKind>
+    ensures { Gives (λ t. t) result (refused_if (nat_le most_ticks (length reader.now.ticks)) LineKind.TooMany) }
+{
+    refused_if(reader.ticks.as_slice().len() >= 20_000, LineKind::TooMany)
+}
+
+fn moment_after(reader: &Reader, found: Option<&Value>) -> Result<u64, LineKind>
+    ensures { Gives (λ n. n) result (moment_of reader.now.ticks (option_map (λ v. view v.now) found.entry)) }
+{
+    moment(reader.ticks.as_slice(), found)
+}
+
+/// The entries with numbers in the place of names: first all pods, then all containers.
+#[tactic(auto, unfolding(crate::specs::Placing::placed_of))]
+fn placed_of(
+    alloc: Global,
+    reader: &Reader,
+    entries: &[Entry],
+) -> Result<Vec<PlacedEntry>, LineKind>
+    ensures { Gives (λ v. v.items) result (placed_of reader.now.pods entries.now) }
+{
+    pod_numbers(alloc, &reader.keys, entries)?;
+    placed_entries(alloc, &reader.keys, reader.pods.as_slice(), entries)
+}
+
+/// The tick, checked against the earlier ticks.
+#[tactic(auto, unfolding(crate::specs::Tick::observed_in))]
+fn observed_in(
+    alloc: Global,
+    reader: &Reader,
+    at: u64,
+    entries: &[PlacedEntry],
+) -> Result<TickObs, LineKind>
+    ensures { Gives (λ t. t) result (observed_in reader.now at entries.now) }
+{
+    refused_if(is_doubled(entries), LineKind::Doubled)?;
+    let tick = observed(alloc, at, entries, reader.pods.as_slice())?;
+    refused_if(is_backwards(reader.ticks.as_slice(), &tick), LineKind::Backwards)?;
+    refused_if(some_code_missing(entries), LineKind::ExitCode)?;
+    Ok(tick)
+}
+
+fn with_tick(reader: Reader, tick: TickObs) -> Result<Reader, LineKind>
+    ensures { Gives (λ r. r) result (Ok (with_tick reader tick)) }
+{
+    let Reader {
+        node,
+        pods,
+        mut ticks,
+        keys,
+    } = reader;
+    ticks.push(tick)?;
+    Ok(Reader {
+        node,
+        pods,
+        ticks,
+        keys,
+    })
+}
+
+/// Takes a tick line.
+#[tactic(auto, unfolding(crate::specs::Tick::tick_at))]
+pub(crate) fn take_tick(alloc: Global, reader: Reader, line: &Value) -> Result<Reader, LineKind>
+    ensures { Gives (λ r. r) result (tick_at reader (view line.now)) }
+{
+    room(&reader)?;
+    let at = moment_after(&reader, field(line, "at"))?;
+    let entries = entries_of(alloc, line)?;
+    let placed = placed_of(alloc, &reader, &entries)?;
+    let tick = observed_in(alloc, &reader, at, &placed)?;
+    with_tick(reader, tick)
+}
