@@ -1,0 +1,103 @@
+-- A pod after one tick more.
+use Rattle.std.proofs.Common.{◌≡◌, ◌∙◌, ℕ, ◌<◌, List, [], ◌∷◌, ◌++◌, length, take, get_or, slice_index_or, Option, Some, None, Bool, true, false, IsTrue, sym, subst, ap, arith}
+use Rattle.std.specs.Prelude.{slice_get, ◌↔◌}
+use Rattle.histories.specs.Histories.{recorded}
+use Rattle.state_diff.specs.declared.differ.Differ.{Differ}
+use Rattle.state_diff.specs.Instances.{Tick, IsAcceptableHistory}
+use Rattle.state_diff.specs.Differ.{IsStateOf}
+use Rattle.phase.specs.declared.phase.Phase.{Phase}
+use Rattle.phase.specs.declared.pod.PodShape.{PodShape}
+use Rattle.phase.specs.declared.status.PodStatus.{PodStatus}
+use Rattle.phase.specs.declared.view.ContainerView.{ContainerView}
+use Rattle.phase.specs.Pods.{PodTick, listings, IsViewOf, AreViewsOf, AreShown, IsPhase}
+use Rattle.phase.specs.RawPhase.{IsTerminal}
+use Rattle.phase.specs.Status.{IsProgressOf}
+use Rattle.phase.proofs.EndLemmas.{IsPhase-unique, phase_ended, shown_ended, shown_lives, shown_none}
+use Rattle.trace.specs.declared.observation.TickObs.{TickObs}
+use Rattle.trace.specs.Observations.{seen_of, history}
+use Rattle.kubelet_replay.specs.PodHistory.{listed, pod_history}
+use Rattle.kubelet_replay.specs.Follow.{AreSteppedBy, AreShownBy}
+use Rattle.kubelet_replay.specs.declared.follow.Followed.{Followed}
+use Rattle.kubelet_replay.specs.Followed.{IsFollowed, IsReady}
+use Rattle.kubelet_replay.proofs.Listings.{acceptable_at, listings-pod_history, pod_history-more, history-more}
+
+-- no tick evicts the pod
+pub not_evicted : (n : ℕ) → IsTrue false ↔ (None ≡ Some n)
+not_evicted n = ((λ e. absurd (cc)), (λ e. absurd (cc)))
+
+abbrev pub entry : TickObs → ℕ → PodTick
+entry tick pod = recorded tick.at (listed (slice_get tick.pods pod))
+
+-- views of all ticks, one container after the other
+pub are_views : (ticks : List TickObs) (pod count : ℕ) (views : List ContainerView) → length views ≡ count
+    → ((c : ℕ) (v : ContainerView) → c < count → IsViewOf (history ticks pod c) (slice_index_or views c v)) → AreViewsOf (pod_history ticks pod) count views
+are_views ticks pod count views many each = record {
+    as_many = many;
+    each = λ c v lt. subst (λ (h : List Tick). IsViewOf h (slice_index_or views c v)) (sym (listings-pod_history ticks pod c)) (each c v lt);
+  }
+
+-- the same with the last tick apart
+pub are_views_more : (ticks : List TickObs) (tick : TickObs) (pod count : ℕ) (views : List ContainerView) → length views ≡ count
+    → ((c : ℕ) (v : ContainerView) → c < count → IsViewOf (history ticks pod c ++ recorded tick.at (seen_of tick pod c) ∷ []) (slice_index_or views c v))
+    → AreViewsOf (pod_history ticks pod ++ entry tick pod ∷ []) count views
+are_views_more ticks tick pod count views many each =
+    let all = are_views (ticks ++ tick ∷ []) pod count views many (λ c v lt. subst (λ (h : List Tick). IsViewOf h (slice_index_or views c v)) (sym (history-more ticks tick pod c)) (each c v lt)) in
+    subst (λ (h : List PodTick). AreViewsOf h count views) (pod_history-more ticks tick pod) all
+
+-- once the pod has ended
+pub after_end : (shape : PodShape) (pod : ℕ) (ticks : List TickObs) (tick : TickObs) (old new : Followed) → IsFollowed shape pod ticks old → IsTerminal old.status.phase
+    → new.differs ≡ old.differs → new.views ≡ old.views → IsProgressOf shape None (pod_history ticks pod ++ entry tick pod ∷ []) new.status
+    → IsFollowed shape pod (ticks ++ tick ∷ []) new
+after_end shape pod ticks tick old new f ended differs views progress =
+    let h = pod_history ticks pod in
+    let next = sym (pod_history-more ticks tick pod) in
+    let is_phase = f.progress.so_far.phase in
+    let same : new.status.phase ≡ old.status.phase =
+        IsPhase-unique shape None (h ++ entry tick pod ∷ []) new.status.phase old.status.phase progress.so_far.phase (phase_ended shape None h (entry tick pod) old.status.phase is_phase ended) in
+    let still : IsTerminal new.status.phase = subst IsTerminal (sym same) ended in
+    let shown = shown_ended shape None h (entry tick pod) old.status.phase old.views.items is_phase ended f.shown in
+    let views_are : old.views.items ≡ new.views.items = ap (λ vs. vs.items) (sym views) in
+    record {
+      progress = subst (λ (k : List PodTick). IsProgressOf shape None k new.status) next progress;
+      shown = subst (λ (vs : List ContainerView). AreShown shape None (pod_history (ticks ++ tick ∷ []) pod) vs) views_are (subst (λ (k : List PodTick). AreShown shape None k old.views.items) next shown);
+      differs = λ not. absurd (not still);
+      differ_count = ap (λ ds. length ds.items) differs ∙ f.differ_count;
+      view_count = ap (λ vs. length vs.items) views ∙ f.view_count;
+    }
+
+-- until then, where its differs are ds and its views vs after the tick
+pub before_end : (shape : PodShape) (pod : ℕ) (ticks : List TickObs) (tick : TickObs) (old new : Followed) (ds : List Differ) (vs : List ContainerView)
+    → new.differs.items ≡ ds → new.views.items ≡ vs → IsFollowed shape pod ticks old → (IsTerminal old.status.phase → ⊥)
+    → AreSteppedBy tick pod old.differs.items ds → AreShownBy ds vs → length vs ≡ length ds
+    → (AreViewsOf (pod_history ticks pod ++ entry tick pod ∷ []) shape.container_count vs → IsProgressOf shape None (pod_history ticks pod ++ entry tick pod ∷ []) new.status)
+    → IsFollowed shape pod (ticks ++ tick ∷ []) new
+before_end shape pod ticks tick old new ds vs are_ds are_vs f lives stepped shows as_many advances =
+    let d : Differ = record { newest = None; listed = false; set_up = false } in
+    let h = pod_history ticks pod in
+    let next = sym (pod_history-more ticks tick pod) in
+    let is_phase = f.progress.so_far.phase in
+    let differ_count : length ds ≡ shape.container_count = stepped.as_many ∙ f.differ_count in
+    let view_count : length vs ≡ shape.container_count = as_many ∙ differ_count in
+    let states : (c : ℕ) (e : Differ) → c < shape.container_count → IsStateOf (history ticks pod c ++ recorded tick.at (seen_of tick pod c) ∷ []) (slice_index_or ds c e) =
+        λ c e lt. stepped.each c e (history ticks pod c) (omega (arith, f.differ_count)) (f.differs lives c e lt) in
+    let views = are_views_more ticks tick pod shape.container_count vs view_count
+        (λ c v lt. shows c d v (history ticks pod c ++ recorded tick.at (seen_of tick pod c) ∷ []) (omega (arith, differ_count)) (states c d lt)) in
+    let progress = advances views in
+    let shown = shown_lives shape None h (entry tick pod) old.status.phase new.status.phase vs is_phase lives progress.so_far.phase views in
+    record {
+      progress = subst (λ (k : List PodTick). IsProgressOf shape None k new.status) next progress;
+      shown = subst (λ (ws : List ContainerView). AreShown shape None (pod_history (ticks ++ tick ∷ []) pod) ws) (sym are_vs) (subst (λ (k : List PodTick). AreShown shape None k vs) next shown);
+      differs = λ not c e lt. subst (λ (es : List Differ). IsStateOf (history (ticks ++ tick ∷ []) pod c) (slice_index_or es c e)) (sym are_ds)
+          (subst (λ (k : List Tick). IsStateOf k (slice_index_or ds c e)) (sym (history-more ticks tick pod c)) (states c e lt));
+      differ_count = ap length are_ds ∙ differ_count;
+      view_count = ap length are_vs ∙ view_count;
+    }
+
+-- the next tick's listings are accepted
+pub ready : (shape : PodShape) (pod : ℕ) (ticks : List TickObs) (i : ℕ) (tick : TickObs) (f : Followed) → i < length ticks → tick ≡ get_or ticks i tick
+    → ((c : ℕ) → IsAcceptableHistory (history ticks pod c)) → IsFollowed shape pod (take i ticks) f → IsReady shape pod tick f
+ready shape pod ticks i tick f lt is acceptable followed = record {
+    accepts = λ lives c d within. (let both = (followed.differs lives c d within).accepts (seen_of tick pod c) in both.1 (acceptable_at ticks pod c i tick lt is (acceptable c)));
+    differ_count = followed.differ_count;
+    view_count = followed.view_count;
+  }

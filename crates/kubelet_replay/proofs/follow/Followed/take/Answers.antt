@@ -1,0 +1,48 @@
+use Rattle.std.proofs.Common.{◌≡◌, ◌∙◌, List, [], ◌∷◌, ◌++◌, length, slice_index_or, None, refl, sym, subst, ap, arith}
+use Rattle.std.specs.Prelude.{slice_get}
+use Rattle.std.specs.Vec.{with_items}
+use Rattle.std.proofs.lemmas.List.{with_items_is}
+use Rattle.state_diff.specs.declared.differ.Differ.{Differ}
+use Rattle.state_diff.specs.Differ.{Accepts}
+use Rattle.phase.specs.declared.view.ContainerView.{ContainerView}
+use Rattle.phase.specs.Pods.{AreViewsOf}
+use Rattle.phase.specs.RawPhase.{IsTerminal}
+use Rattle.trace.specs.Observations.{seen_of}
+use Rattle.kubelet_replay.specs.PodHistory.{listed, pod_history}
+use Rattle.kubelet_replay.specs.Follow.{AreSteppedBy, AreShownBy}
+use Rattle.kubelet_replay.proofs.Following.{entry, after_end, before_end, not_evicted}
+use Rattle.kubelet_replay.proofs.follow.Followed.take.Goals as goal
+
+pub returns-then-has_ended : goal.returns-then-has_ended
+returns-then-has_ended c = λ ticks f.
+    let ended = c.has_ended.ensures.terminal.0 c.if-has_ended.true in
+    let h = pod_history ticks c.args.pod in
+    after_end c.args.shape c.args.pod ticks c.args.tick.now c.args.self.now _ f ended refl refl
+      (c.advance.ensures None h (listed (slice_get c.args.tick.now.pods c.args.pod)) (λ not. absurd (not ended)) (not_evicted (length h)) f.progress)
+
+pub step_all-requires : goal.step_all-requires
+step_all-requires c = λ k d lt.
+    let lives : IsTerminal c.args.self.now.status.phase → ⊥ = λ e. (let t = c.has_ended.ensures.terminal.1 e in absurd (cc)) in
+    let value = c.deref_mut.ensures.value in
+    subst (λ (ds : List Differ). Accepts (slice_index_or ds k d) (seen_of c.args.tick.now c.args.pod k)) (sym value)
+      (c.requires.accepts lives k d (omega (arith, ap length value, c.requires.differ_count)))
+
+pub returns : goal.returns
+returns c = λ ticks f.
+    let lives : IsTerminal c.args.self.now.status.phase → ⊥ = λ e. (let t = c.has_ended.ensures.terminal.1 e in absurd (cc)) in
+    let old = c.args.self.now in
+    let ds = c.step_all.new.differs in
+    let vs = c.show_all.new.views in
+    let h = pod_history ticks c.args.pod in
+    let stepped : AreSteppedBy c.args.tick.now c.args.pod old.differs.items ds =
+        subst (λ (xs : List Differ). AreSteppedBy c.args.tick.now c.args.pod xs ds) c.deref_mut.ensures.value c.step_all.ensures in
+    let are_ds : (with_items old.differs ds).items ≡ ds = with_items_is old.differs ds (stepped.as_many ∙ sym old.differs.ok.0) in
+    let seen_ds : c.deref-2.result.now ≡ ds = c.deref-2.ensures.value ∙ are_ds in
+    let shows : AreShownBy ds vs = subst (λ (xs : List Differ). AreShownBy xs vs) seen_ds c.show_all.ensures.shown in
+    let as_many : length vs ≡ length ds = c.show_all.ensures.as_many ∙ ap length seen_ds in
+    let room : length vs ≡ old.views.len = as_many ∙ stepped.as_many ∙ f.differ_count ∙ sym f.view_count ∙ sym old.views.ok.0 in
+    let are_vs : (with_items old.views vs).items ≡ vs = with_items_is old.views vs room in
+    let seen_vs : c.deref-3.result.now ≡ vs = c.deref-3.ensures.value ∙ are_vs in
+    before_end c.args.shape c.args.pod ticks c.args.tick.now old _ ds vs are_ds are_vs f lives stepped shows as_many
+      (λ views. c.advance-2.ensures None h (listed (slice_get c.args.tick.now.pods c.args.pod))
+        (λ not. subst (λ (ws : List ContainerView). AreViewsOf (h ++ entry c.args.tick.now c.args.pod ∷ []) c.args.shape.container_count ws) (sym seen_vs) views) (not_evicted (length h)) f.progress)

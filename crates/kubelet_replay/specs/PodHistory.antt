@@ -1,0 +1,17 @@
+-- What the ticks of a trace show of one pod.
+use Rattle.std.specs.Prelude.{ℕ, List, [], map, length, Option, Some, None, slice_get}
+use Rattle.histories.specs.Histories.{recorded}
+use Rattle.state_diff.specs.declared.seen.Seen.{Seen}
+use Rattle.phase.specs.Pods.{PodTick}
+use Rattle.trace.specs.declared.observation.ContainerObs.{ContainerObs}
+use Rattle.trace.specs.declared.observation.PodObs.{PodObs}
+use Rattle.trace.specs.declared.observation.TickObs.{TickObs}
+
+-- what is listed of each container
+abbrev pub listed : Option PodObs → List (Option Seen)
+listed None = []
+listed (Some p) = map (λ (o : ContainerObs). o.seen) p.containers
+
+-- tick by tick, what is listed of each container of the pod with the number
+abbrev pub pod_history : List TickObs → ℕ → List PodTick
+pod_history ticks pod = map (λ (tick : TickObs). recorded tick.at (listed (slice_get tick.pods pod))) ticks

@@ -1,0 +1,127 @@
+//! One pod's way through the ticks.
+
+ghost use Rattle.std.specs.Prelude.{◌≡◌, ◌<◌, ◌≤◌, ℕ, List, [], ◌∷◌, ◌++◌, length, None, slice_index_or, IfOk};
+ghost use Rattle.histories.specs.Histories.{recorded};
+ghost use Rattle.state_diff.specs.Instances.{Tick, IsAcceptableHistory};
+ghost use Rattle.state_diff.specs.Differ.{Accepts, IsStateOf};
+ghost use Rattle.state_diff.specs.declared.differ.Differ.{Differ};
+ghost use Rattle.phase.specs.declared.view.ContainerView.{ContainerView};
+ghost use Rattle.phase.specs.Pods.{IsViewOf};
+ghost use Rattle.trace.specs.declared.observation.TickObs.{TickObs};
+ghost use Rattle.trace.specs.Observations.{seen_of, history};
+ghost use Rattle.kubelet_replay.specs.Follow.{AreSteppedBy, AreShownBy, AreNew, AreNewViews};
+
+use phase::{ContainerView, PodShape, PodStatus};
+use state_diff::{Differ, Seen};
+use std::alloc::{AllocError, Global};
+use trace::{TickObs, seen_of};
+
+/// A pod on its way through the ticks: one differ for each container, the containers as the ticks that count show them, and
+/// the pod's status.
+#[derive(Drop)]
+pub(crate) struct Followed {
+    differs: Vec<Differ>,
+    pub(crate) views: Vec<ContainerView>,
+    pub(crate) status: PodStatus,
+}
+
+fn stepped(differ: Differ, at: u64, seen: Option<Seen>) -> Differ
+    requires { Accepts differ seen }
+    ensures { (h : List Tick) → IsStateOf h differ → IsStateOf (h ++ recorded at seen ∷ []) result }
+{
+    let mut next = differ;
+    next.step(at, seen);
+    next
+}
+
+/// Takes each container of the pod over one tick.
+fn step_all(differs: &mut [Differ], tick: &TickObs, pod: usize)
+    requires { (c : ℕ) (d : Differ) → c < length differs.old → Accepts (slice_index_or differs.old c d) (seen_of tick.now pod c) }
+    ensures { AreSteppedBy tick.now pod differs.old differs.new }
+{
+    for container in 0..differs.len() {
+        let differ = differs[container];
+        differs[container] = stepped(differ, tick.at, seen_of(tick, pod, container));
+    }
+}
+
+/// Shows each container as its listings so far leave it.
+fn show_all(views: &mut [ContainerView], differs: &[Differ])
+    requires { length views.old ≡ length differs.now }
+    ensures as_many { length views.new ≡ length differs.now }
+    ensures shown { AreShownBy differs.now views.new }
+{
+    for (container, differ) in differs.iter().enumerate() {
+        views[container] = ContainerView::of(differ);
+    }
+}
+
+fn new_differs(alloc: Global, count: usize) -> Result<Vec<Differ>, AllocError>
+    ensures { IfOk result (λ v. AreNew count v.items) }
+{
+    let mut all = Vec::new(alloc);
+    for place in 0..count {
+        all.push(Differ::new())?;
+    }
+    Ok(all)
+}
+
+fn new_views(alloc: Global, count: usize) -> Result<Vec<ContainerView>, AllocError>
+    ensures { IfOk result (λ v. AreNewViews count v.items) }
+{
+    let mut all = Vec::new(alloc);
+    for place in 0..count {
+        all.push(ContainerView::of(&Differ::new()))?;
+    }
+    Ok(all)
+}
+
+impl Followed {
+    ghost use Rattle.kubelet_replay.specs.Followed.{IsFollowed, IsReady};
+
+    /// A pod that no tick has shown yet.
+    fn new(alloc: Global, shape: PodShape) -> Result<Followed, AllocError>
+        ensures { IfOk result (λ f. (pod : ℕ) → IsFollowed shape pod [] f) }
+    {
+        let differs = new_differs(alloc, shape.container_count)?;
+        let views = new_views(alloc, shape.container_count)?;
+        Ok(Followed {
+            differs,
+            views,
+            status: PodStatus::new(shape),
+        })
+    }
+
+    /// Takes the pod over one tick. Once it has ended its records aren't looked at.
+    fn take(&mut self, shape: PodShape, pod: usize, tick: &TickObs)
+        requires { IsReady shape pod tick.now self.old }
+        ensures { (ticks : List TickObs) → IsFollowed shape pod ticks self.old → IsFollowed shape pod (ticks ++ tick.now ∷ []) self.new }
+    {
+        if self.status.has_ended() {
+            self.status.advance(shape, tick.at, &self.views, false);
+            return;
+        }
+        step_all(&mut self.differs, tick, pod);
+        show_all(&mut self.views, &self.differs);
+        self.status.advance(shape, tick.at, &self.views, false);
+    }
+}
+
+ghost use Rattle.kubelet_replay.specs.Followed.{IsFollowed};
+
+/// The pod with the number, as these ticks leave it.
+pub(crate) fn follow(
+    alloc: Global,
+    shape: PodShape,
+    pod: usize,
+    ticks: &[TickObs],
+) -> Result<Followed, AllocError>
+    requires { (c : ℕ) → IsAcceptableHistory (history ticks.now pod c) }
+    ensures { IfOk result (λ f. IsFollowed shape pod ticks.now f) }
+{
+    let mut followed = Followed::new(alloc, shape)?;
+    for tick in ticks {
+        followed.take(shape, pod, tick);
+    }
+    Ok(followed)
+}

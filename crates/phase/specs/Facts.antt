@@ -1,0 +1,49 @@
+-- What the rules ask of one container. C is what describes it: a view, or the listings of all its instances.
+use Rattle.std.specs.Prelude.{◌≡◌, ◌≢◌, ℕ, ℤ, pos, List, Option, Some, IsSomeAnd, IsTrue, option_and_then}
+use Rattle.state_diff.specs.declared.seen.CriState.TheVariants.{Running}
+use Rattle.state_diff.specs.Instances.{Tick, IsNewest, IsState, IsExitCode, IsSetUp}
+use Rattle.manifest.specs.declared.policy.Policy.{Policy}
+use Rattle.phase.specs.declared.view.ContainerView.{ContainerView}
+use Rattle.phase.specs.Policies.{WantsRestart}
+
+pub record Facts (C : Type 0) : Type 1 where
+  -- its newest instance has exited with the code
+  pub exited : C → ℤ → Type 0
+  -- its newest instance is running
+  pub running : C → Type 0
+  -- one of its instances has started or exited
+  pub set_up : C → Type 0
+
+-- the exit code of the newest instance, if it has exited
+abbrev pub exit_code : ContainerView → Option ℤ
+exit_code view = option_and_then (λ seen. seen.code) view.seen
+
+-- the facts that a view shows
+abbrev pub of_view : Facts ContainerView
+of_view = record {
+  exited = λ view code. exit_code view ≡ Some code;
+  running = λ view. IsSomeAnd view.seen (λ seen. seen.state ≡ Running);
+  set_up = λ view. IsTrue view.set_up;
+}
+
+-- the facts that a container's listings show
+abbrev pub of_listings : Facts (List Tick)
+of_listings = record {
+  exited = λ h code. (a : ℕ) × IsNewest h a × IsExitCode h a code;
+  running = λ h. (a : ℕ) × IsNewest h a × IsState h a Running;
+  set_up = IsSetUp;
+}
+
+-- its newest instance has exited with 0
+abbrev pub HasCompleted : {C : Type 0} → Facts C → C → Type 0
+HasCompleted facts container = facts.exited container (pos 0)
+
+-- its newest instance has exited with a code other than 0
+abbrev pub HasFailed : {C : Type 0} → Facts C → C → Type 0
+HasFailed facts container = (code : ℤ) × facts.exited container code × (code ≢ pos 0)
+
+-- its newest instance has exited, and wants no restart
+pub record HasFinished {C : Type 0} (facts : Facts C) (policy : Policy) (container : C) : Type 0 where
+  pub code : ℤ
+  pub exited : facts.exited container code
+  pub wants_none : WantsRestart policy code → ⊥

@@ -1,0 +1,35 @@
+use Rattle.std.specs.Prelude.{◌≡◌, ◌↔◌, ℕ, ◌<◌, List, length, Option, Bool, true, IsSomeAnd, IsTrue, nat_lt}
+use Rattle.histories.specs.Histories.{Recorded, project, entry_at, moment_at, IsSo, IsTransition}
+use Rattle.phase.specs.declared.conditions.Condition.{Condition}
+use Rattle.phase.specs.declared.conditions.Values.{Values}
+use Rattle.phase.specs.declared.pod.PodShape.{PodShape}
+use Rattle.phase.specs.declared.status.PodStatus.{PodStatus}
+use Rattle.phase.specs.Conditions.{IsStateOf}
+use Rattle.phase.specs.Pods.{PodTick, IsPhase, IsInitialized, AreContainersReady}
+
+-- the condition is true where C holds after the ticks, and its moment is that of C's last transition
+pub record IsConditionAfter (C : List PodTick → Type 0) (h : List PodTick) (c : Condition) : Type 0 where
+  pub value : IsTrue c.value ↔ C h
+  pub since : IsTransition h (IsSo C h) c.since
+
+-- the status of the pod after these ticks
+pub record IsStatusOf (pod : PodShape) (evicted : Option ℕ) (h : List PodTick) (status : PodStatus) : Type 0 where
+  pub phase : IsPhase pod evicted h status.phase
+  pub pod_scheduled : IsConditionAfter (λ _. Unit {0}) h status.conditions.pod_scheduled
+  pub initialized : IsConditionAfter (IsInitialized pod evicted) h status.conditions.initialized
+  pub containers_ready : IsConditionAfter (AreContainersReady pod evicted) h status.conditions.containers_ready
+
+-- the values have the ticks' moments, and say of each tick whether C holds after it
+pub record AreValuesOf (C : List PodTick → Type 0) (h : List PodTick) (values : List (Recorded Bool)) : Type 0 where
+  pub count : length values ≡ length h
+  pub moments : (t : ℕ) → moment_at values t ≡ moment_at h t
+  pub same : (t : ℕ) → t < length values → (IsSomeAnd (entry_at values t) IsTrue ↔ IsSo C h t)
+
+-- the same, with the values that led to it
+pub record IsProgressOf (pod : PodShape) (evicted : Option ℕ) (h : List PodTick) (status : PodStatus) : Type 0 where
+  pub so_far : IsStatusOf pod evicted h status
+  pub values : List (Recorded Values)
+  pub conditions : IsStateOf (nat_lt 0 pod.init_count) values status.conditions
+  pub pod_scheduled : AreValuesOf (λ _. Unit {0}) h (project (λ v. true) values)
+  pub initialized : AreValuesOf (IsInitialized pod evicted) h (project (λ v. v.initialized) values)
+  pub containers_ready : AreValuesOf (AreContainersReady pod evicted) h (project (λ v. v.containers_ready) values)

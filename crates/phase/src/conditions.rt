@@ -1,0 +1,81 @@
+ghost use Rattle.std.specs.Prelude.{◌≡◌, ◌≢◌, ◌⊎◌, ◌↔◌, List, [], ◌∷◌, ◌++◌, Bool, true, false, not, Option, None, IsTrue};
+ghost use Rattle.histories.specs.Histories.{Recorded, recorded};
+ghost use Rattle.phase.specs.Conditions.{IsConditionOf, IsStateOf};
+ghost use Rattle.phase.specs.declared.conditions.Values.{Values};
+
+/// Whether a condition is true, and since when. (Kubernetes, "Pod Lifecycle", "Pod conditions".)
+#[derive(Clone, Copy, Debug, PartialEq, Eq)]
+pub struct Condition {
+    /// Whether it is true.
+    pub value: bool,
+    /// The moment of the last transition, in seconds; none without ticks.
+    pub since: Option<u64>,
+}
+
+/// What a tick makes of a pod's conditions.
+#[derive(Clone, Copy, Debug, PartialEq, Eq)]
+pub struct Values {
+    /// Whether every init container has completed.
+    pub initialized: bool,
+    /// Whether the pod has not ended, and every app container is ready.
+    pub containers_ready: bool,
+}
+
+/// A pod's conditions. The condition Ready is the same as `containers_ready`.
+#[derive(Clone, Copy, Debug, PartialEq, Eq)]
+pub struct Conditions {
+    /// The pod is placed on a node, which is always true here.
+    pub pod_scheduled: Condition,
+    /// Every init container has completed.
+    pub initialized: Condition,
+    /// The pod has not ended, and every app container is ready.
+    pub containers_ready: Condition,
+}
+
+impl Condition {
+    /// A condition that no tick has given a value yet.
+    pub fn new(value: bool) -> Self
+        ensures { IsConditionOf value [] result }
+    {
+        Condition { value, since: None }
+    }
+
+    /// Whether the value is another than before, or the first.
+    fn changes(&self, value: bool) -> bool
+        ensures { IsTrue result ↔ ((self.now.since ≡ None) ⊎ (self.now.value ≢ value)) }
+    {
+        self.since.is_none() || self.value != value
+    }
+
+    /// A tick gives it a value, at the moment, in seconds.
+    pub fn advance(&mut self, at: u64, value: bool)
+        ensures { (initially : Bool) (h : List (Recorded Bool)) → IsConditionOf initially h self.old → IsConditionOf initially (h ++ recorded at value ∷ []) self.new }
+    {
+        if self.changes(value) {
+            self.value = value;
+            self.since = Some(at);
+        }
+    }
+}
+
+impl Conditions {
+    /// The conditions of a pod that no tick has shown yet.
+    pub fn new(has_init: bool) -> Self
+        ensures { IsStateOf has_init [] result }
+    {
+        Conditions {
+            pod_scheduled: Condition::new(true),
+            initialized: Condition::new(!has_init),
+            containers_ready: Condition::new(false),
+        }
+    }
+
+    /// A tick gives them their values, at the moment, in seconds.
+    pub fn advance(&mut self, at: u64, values: Values)
+        ensures { (has_init : Bool) (h : List (Recorded Values)) → IsStateOf has_init h self.old → IsStateOf has_init (h ++ recorded at values ∷ []) self.new }
+    {
+        self.pod_scheduled.advance(at, true);
+        self.initialized.advance(at, values.initialized);
+        self.containers_ready.advance(at, values.containers_ready);
+    }
+}
