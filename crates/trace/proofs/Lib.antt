@@ -1,3 +1,4 @@
 pub mod Cutting
 pub mod Found
 pub mod Listed
+pub mod Sound

@@ -11,3 +11,4 @@ pub mod Observed
 pub mod Past
 pub mod Tick
 pub mod Trace
+pub mod Sound

@@ -3,6 +3,7 @@
 ghost use Rattle.std.specs.Prelude.{◌≡◌, option_map, IfOk};
 ghost use Rattle.serde_json.specs.View.{view};
 ghost use Rattle.trace.specs.Gives.{Gives, GivesAt};
+ghost use Rattle.trace.specs.Sound.{AreAcceptable};
 ghost use Rattle.trace.specs.Trace.{json_of, kind_from, with_node, pod_line_at, line_at, trace_of, finished, in_order};
 
 use crate::fault::{LineFault, LineKind};
@@ -123,10 +124,8 @@ fn finished(line: u64, reader: Reader) -> Result<Trace, LineFault>
     }
 }
 
-/// The trace that a text says, or its first faulty line with that line's first fault. A refused growth of memory is
-/// `OutOfMemory` at the line that was being read.
 #[tactic(auto, unfolding(crate::specs::Trace::trace_of))]
-pub fn read_trace(alloc: Global, text: &[u8]) -> Result<Trace, LineFault>
+fn read_lines(alloc: Global, text: &[u8]) -> Result<Trace, LineFault>
     ensures { GivesAt (λ t. t) result (trace_of text.now) }
 {
     let mut reader = Reader {
@@ -148,4 +147,13 @@ pub fn read_trace(alloc: Global, text: &[u8]) -> Result<Trace, LineFault>
         line += 1;
     }
     finished(line, reader)
+}
+
+/// The trace that a text says, or its first faulty line with that line's first fault. A refused growth of memory is
+/// `OutOfMemory` at the line that was being read.
+pub fn read_trace(alloc: Global, text: &[u8]) -> Result<Trace, LineFault>
+    ensures gives { GivesAt (λ t. t) result (trace_of text.now) }
+    ensures acceptable { IfOk result (λ t. AreAcceptable t.ticks) }
+{
+    read_lines(alloc, text)
 }
