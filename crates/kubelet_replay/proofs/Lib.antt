@@ -1,3 +1,5 @@
 pub mod Places
 pub mod Listings
 pub mod Following
+pub mod Parts
+pub mod Shown

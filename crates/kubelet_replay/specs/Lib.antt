@@ -1,5 +1,8 @@
 pub mod Texts
 pub mod Fault
-pub mod PodHistory
 pub mod Follow
 pub mod Followed
+pub mod PodHistory
+pub mod Lines
+pub mod Report
+pub mod Run

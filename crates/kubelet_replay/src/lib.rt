@@ -3,5 +3,10 @@
 
 mod fault;
 mod follow;
+mod replay;
+mod report;
+mod text;
 
 pub use fault::{RunFault, fault_line, status_of};
+pub use replay::replay_alone;
+pub use replay_stream::{Counted, MemSink, MemSource, ReadFailed, Sink, Source, Stop, WriteFailed};

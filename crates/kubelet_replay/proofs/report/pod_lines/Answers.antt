@@ -1,0 +1,28 @@
+use Rattle.std.proofs.Common.{◌≡◌, ◌∙◌, ℕ, ◌<◌, List, length, None, slice_index_or, sym, subst, ap, arith}
+use Rattle.phase.specs.declared.container.ContainerStatus.{ContainerStatus}
+use Rattle.phase.specs.Containers.{IsContainerStatus}
+use Rattle.kubelet_replay.specs.Lines.{pod_text}
+use Rattle.kubelet_replay.specs.PodHistory.{pod_history}
+use Rattle.kubelet_replay.proofs.Shown.{views_of}
+use Rattle.kubelet_replay.proofs.report.pod_lines.Goals as goal
+
+pub follow-requires : goal.follow-requires
+follow-requires c = λ k. c.requires c.args.number k
+
+pub returns : goal.returns
+returns c =
+    let followed = c.in_ok-followed.ensures in
+    let shape = c.shape_of-shape.ensures in
+    let value = c.deref.ensures.value in
+    let count : length c.deref.result.now ≡ length c.args.pod.now.containers = ap length value ∙ followed.view_count ∙ shape.containers in
+    let shown = views_of c.shape_of-shape.result (pod_history c.args.ticks.now c.args.number) c.in_ok-followed.followed.views.items c.deref.result.now value followed.shown in
+    record {
+      shape = c.shape_of-shape.result;
+      is_shape = shape;
+      status = c.in_ok-followed.followed.status;
+      is_status = followed.progress.so_far;
+      containers = c.in_ok-containers.containers.items;
+      as_many = c.in_ok-containers.ensures.as_many ∙ count;
+      each = λ k d lt. c.in_ok-containers.ensures.statuses (pod_history c.args.ticks.now c.args.number) shown k d (omega (arith, count));
+      text = c.in_ok-text.ensures ∙ ap (pod_text c.args.number c.args.pod.now c.in_ok-followed.followed.status.phase c.in_ok-followed.followed.status.conditions) c.deref-2.ensures.value;
+    }

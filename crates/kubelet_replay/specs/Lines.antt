@@ -1,0 +1,73 @@
+-- The lines of a pod in the report, as text.
+use Rattle.std.specs.Prelude.{ℕ, ℤ, Bool, List, [], ◌∷◌, ◌++◌, Option, Some, None, unwrap_or, if◌then◌else◌, codes}
+use Rattle.std.specs.Fmt.{decimal, signed_decimal}
+use Rattle.manifest.specs.declared.pod.ContainerSpec.{ContainerSpec}
+use Rattle.manifest.specs.declared.pod.PodSpec.{PodSpec}
+use Rattle.phase.specs.declared.conditions.Condition.{Condition}
+use Rattle.phase.specs.declared.conditions.Conditions.{Conditions}
+use Rattle.phase.specs.declared.container.ContainerState.{ContainerState}
+use Rattle.phase.specs.declared.container.ContainerState.TheVariants as states
+use Rattle.phase.specs.declared.container.ContainerStatus.{ContainerStatus}
+use Rattle.phase.specs.declared.phase.Phase.{Phase}
+use Rattle.phase.specs.declared.phase.Phase.TheVariants.{Pending, Running, Succeeded, Failed}
+use Rattle.kubelet_replay.specs.Texts.{joined}
+
+abbrev pub phase_word : Phase → List ℕ
+phase_word Pending = codes "Pending"
+phase_word Running = codes "Running"
+phase_word Succeeded = codes "Succeeded"
+phase_word Failed = codes "Failed"
+
+abbrev pub state_word : ContainerState → List ℕ
+state_word states.Waiting = codes "Waiting"
+state_word states.Running = codes "Running"
+state_word states.Terminated = codes "Terminated"
+
+abbrev pub truth : Bool → List ℕ
+truth b = if b then codes "True" else codes "False"
+
+abbrev pub bool_text : Bool → List ℕ
+bool_text b = if b then codes "true" else codes "false"
+
+-- an exit code, and a dash without one
+abbrev pub code_text : Option ℤ → List ℕ
+code_text None = codes "-"
+code_text (Some code) = signed_decimal code
+
+-- no pod is evicted yet, and the manifests that are accepted so far set no requests and no limits, which is BestEffort
+abbrev pub pod_words : ℕ → List ℕ → List ℕ → List ℕ → List ℕ
+pod_words n namespace name phase = joined (codes "pod " ∷ decimal n ∷ codes " " ∷ namespace ∷ codes "/" ∷ name ∷ codes " phase=" ∷ phase ∷ codes " reason=- qos=BestEffort\n" ∷ [])
+
+unfoldable pub pod_line : ℕ → PodSpec → Phase → List ℕ
+pod_line n pod phase = pod_words n pod.namespace pod.name (phase_word phase)
+
+-- without ticks the moment is 0
+unfoldable pub condition_line : ℕ → List ℕ → Condition → List ℕ
+condition_line n kind c = joined (codes "condition " ∷ decimal n ∷ codes " " ∷ kind ∷ codes " " ∷ truth c.value ∷ codes " " ∷ decimal (unwrap_or c.since 0) ∷ codes "\n" ∷ [])
+
+abbrev pub container_words : ℕ → List ℕ → List ℕ → List ℕ → List ℕ
+container_words n name state code = joined (codes "container " ∷ decimal n ∷ codes " " ∷ name ∷ codes " state=" ∷ state ∷ codes " code=" ∷ code ∷ [])
+
+abbrev pub flag_words : List ℕ → ℕ → Bool → Bool → List ℕ
+flag_words words restarts ready started = joined (words ∷ codes " restarts=" ∷ decimal restarts ∷ codes " ready=" ∷ bool_text ready ∷ codes " started=" ∷ bool_text started ∷ codes "\n" ∷ [])
+
+unfoldable pub container_line : ℕ → List ℕ → ContainerStatus → List ℕ
+container_line n name s = flag_words (container_words n name (state_word s.state) (code_text s.code)) s.restarts s.ready s.started
+
+-- Ready is the same as ContainersReady
+abbrev pub conditions_text : ℕ → Conditions → List ℕ
+conditions_text n c =
+    condition_line n (codes "PodScheduled") c.pod_scheduled
+    ++ (condition_line n (codes "Initialized") c.initialized
+    ++ (condition_line n (codes "ContainersReady") c.containers_ready
+    ++ condition_line n (codes "Ready") c.containers_ready))
+
+-- a line for each container
+abbrev pub containers_text : ℕ → List ContainerSpec → List ContainerStatus → List ℕ
+containers_text n [] ss = []
+containers_text n (c ∷ cs) [] = []
+containers_text n (c ∷ cs) (s ∷ ss) = container_line n c.name s ++ containers_text n cs ss
+
+-- the lines of the pod with the number
+abbrev pub pod_text : ℕ → PodSpec → Phase → Conditions → List ContainerStatus → List ℕ
+pod_text n pod phase conditions statuses = pod_line n pod phase ++ (conditions_text n conditions ++ containers_text n pod.containers statuses)

@@ -1,0 +1,119 @@
+-- What a replay writes, and when it refuses.
+use Rattle.std.specs.Prelude.{◌≡◌, ℕ, ◌<◌, ◌≤◌, List, length, take, Option, Some, None, Result, Ok, Err}
+use Rattle.std.specs.Io.KnownBytes.{Appends}
+use Rattle.trace.specs.declared.past.Trace.{Trace}
+use Rattle.trace.specs.declared.fault.LineKind.{LineKind}
+use Rattle.trace.specs.declared.fault.LineKind.TheVariants as kinds
+use Rattle.trace.specs.declared.fault.LineFault.{LineFault}
+use Rattle.trace.specs.Trace.{trace_of}
+use Rattle.kubelet_replay.specs.declared.fault.RunFault.{RunFault}
+use Rattle.kubelet_replay.specs.declared.fault.RunFault.TheVariants.{Read, TooLong, Line, OutOfMemory, Write}
+use Rattle.kubelet_replay.specs.Report.{IsReport}
+
+-- 64 MiB
+abbrev pub longest_input : ℕ
+longest_input = 67108864
+
+-- the reader's calls that failed, by the answer
+abbrev pub failed_reads : {V : Type 0} → Result V RunFault → ℕ
+failed_reads (Ok v) = 0
+failed_reads (Err Read) = 1
+failed_reads (Err TooLong) = 0
+failed_reads (Err (Line fault)) = 0
+failed_reads (Err OutOfMemory) = 0
+failed_reads (Err Write) = 0
+
+-- the writer's calls that failed, by the answer
+abbrev pub failed_writes : {V : Type 0} → Result V RunFault → ℕ
+failed_writes (Ok v) = 0
+failed_writes (Err Read) = 0
+failed_writes (Err TooLong) = 0
+failed_writes (Err (Line fault)) = 0
+failed_writes (Err OutOfMemory) = 0
+failed_writes (Err Write) = 1
+
+-- the text is all that the reader had left, where that is known
+abbrev pub IsAllOf : Option (List ℕ) → List ℕ → Type 0
+IsAllOf None text = Unit {0}
+IsAllOf (Some bytes) text = text ≡ bytes
+
+-- the text is all that the reader had left, and within the limit
+pub record HasRead (left : Option (List ℕ)) (text : List ℕ) : Type 0 where
+  pub all : IsAllOf left text
+  pub within : length text ≤ longest_input
+
+-- the reader had more left than the limit
+abbrev pub IsTooLong : Option (List ℕ) → Type 0
+IsTooLong None = Unit {0}
+IsTooLong (Some bytes) = longest_input < length bytes
+
+-- these bytes are the pod lines of the report of the text's trace
+pub record IsReportOfText (text bytes : List ℕ) : Type 0 where
+  pub trace : Trace
+  pub is_trace : trace_of text ≡ Ok trace
+  pub report : IsReport trace.ticks trace.pods bytes
+
+abbrev pub run_fault : LineKind → LineFault → RunFault
+run_fault kinds.OutOfMemory fault = OutOfMemory
+run_fault kind fault = Line fault
+
+-- a faulty line is named, but for want of memory
+abbrev pub fault_of : LineFault → RunFault
+fault_of fault = run_fault fault.kind fault
+
+-- the input is refused as it is read
+abbrev pub Refuses : Option (List ℕ) → RunFault → Type 0
+Refuses left Read = Unit {0}
+Refuses left TooLong = IsTooLong left
+Refuses left (Line fault) = ⊥
+Refuses left OutOfMemory = Unit {0}
+Refuses left Write = ⊥
+
+-- the text is refused: at its first faulty line, or for want of memory
+abbrev pub RefusesText : List ℕ → RunFault → Type 0
+RefusesText text Read = ⊥
+RefusesText text TooLong = ⊥
+RefusesText text (Line fault) = trace_of text ≡ Err fault
+RefusesText text OutOfMemory = Unit {0}
+RefusesText text Write = ⊥
+
+-- all of the text was written, or a part of it from its beginning
+abbrev pub IsWritten : Option (List ℕ) → Option (List ℕ) → List ℕ → {V : Type 0} → Result V RunFault → Type 0
+IsWritten old new text (Ok v) = Appends old new text
+IsWritten old new text (Err Read) = ⊥
+IsWritten old new text (Err TooLong) = ⊥
+IsWritten old new text (Err (Line fault)) = ⊥
+IsWritten old new text (Err OutOfMemory) = ⊥
+IsWritten old new text (Err Write) = (n : ℕ) × (n < length text) × Appends old new (take n text)
+
+-- what is written is the report of the input, from the first byte to the last
+pub record WritesReport (left old new : Option (List ℕ)) : Type 0 where
+  pub text : List ℕ
+  pub read : HasRead left text
+  pub bytes : List ℕ
+  pub report : IsReportOfText text bytes
+  pub written : Appends old new bytes
+
+-- the input is a text that is refused at its first faulty line
+pub record IsFaulty (left : Option (List ℕ)) (fault : LineFault) : Type 0 where
+  pub text : List ℕ
+  pub read : HasRead left text
+  pub refused : trace_of text ≡ Err fault
+
+-- a part of the report is written, from its beginning
+pub record WritesPart (left old new : Option (List ℕ)) : Type 0 where
+  pub text : List ℕ
+  pub read : HasRead left text
+  pub bytes : List ℕ
+  pub report : IsReportOfText text bytes
+  pub count : ℕ
+  pub part : count < length bytes
+  pub written : Appends old new (take count bytes)
+
+-- what each refusal says of the input and of what is written
+abbrev pub IsRefusal : Option (List ℕ) → Option (List ℕ) → Option (List ℕ) → RunFault → Type 0
+IsRefusal left old new Read = new ≡ old
+IsRefusal left old new TooLong = IsTooLong left × (new ≡ old)
+IsRefusal left old new (Line fault) = IsFaulty left fault × (new ≡ old)
+IsRefusal left old new OutOfMemory = new ≡ old
+IsRefusal left old new Write = WritesPart left old new

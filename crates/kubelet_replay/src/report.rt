@@ -1,0 +1,80 @@
+//! The report of a trace: what the ticks make of each pod, as text.
+
+ghost use Rattle.std.specs.Prelude.{◌≡◌, ◌<◌, ℕ, List, length, None, slice_index_or, IfOk, string_bytes};
+ghost use Rattle.phase.specs.Pods.{PodTick, AreShown};
+ghost use Rattle.phase.specs.Containers.{IsContainerStatus};
+ghost use Rattle.phase.specs.declared.container.ContainerStatus.{ContainerStatus};
+ghost use Rattle.trace.specs.Sound.{AreAcceptable};
+ghost use Rattle.kubelet_replay.specs.Report.{IsShapeOf, ArePodLines, IsReport};
+
+use crate::follow::follow;
+use crate::text::pod_text;
+use manifest::PodSpec;
+use phase::{ContainerStatus, ContainerView, PodShape, container_status};
+use std::alloc::{AllocError, Global};
+use trace::{TickObs, Trace};
+
+fn shape_of(pod: &PodSpec) -> PodShape
+    ensures { IsShapeOf pod.now result }
+{
+    PodShape {
+        policy: pod.policy,
+        container_count: pod.containers.as_slice().len(),
+        init_count: 0,
+    }
+}
+
+/// What the status shows of each container.
+fn statuses(
+    alloc: Global,
+    shape: PodShape,
+    views: &[ContainerView],
+) -> Result<Vec<ContainerStatus>, AllocError>
+    ensures as_many { IfOk result (λ v. length v.items ≡ length views.now) }
+    ensures statuses { IfOk result (λ v. (h : List PodTick) → AreShown shape None h views.now → (c : ℕ) (d : ContainerStatus) → c < length views.now → IsContainerStatus shape None h c (slice_index_or v.items c d)) }
+{
+    let mut all = Vec::new(alloc);
+    for (container, view) in views.iter().enumerate() {
+        all.push(container_status(shape, container, view, false))?;
+    }
+    Ok(all)
+}
+
+/// The lines of the pod with the number.
+fn pod_lines(
+    alloc: Global,
+    ticks: &[TickObs],
+    number: usize,
+    pod: &PodSpec,
+) -> Result<String, AllocError>
+    requires { AreAcceptable ticks.now }
+    ensures { IfOk result (λ s. ArePodLines ticks.now number pod.now (string_bytes s)) }
+{
+    let shape = shape_of(pod);
+    let followed = follow(alloc, shape, number, ticks)?;
+    let containers = statuses(alloc, shape, &followed.views)?;
+    let status = followed.status;
+    let text = pod_text(
+        alloc,
+        number,
+        pod,
+        status.phase,
+        status.conditions,
+        &containers,
+    )?;
+    Ok(text)
+}
+
+/// The report of a trace.
+pub(crate) fn report_of(alloc: Global, trace: &Trace) -> Result<String, AllocError>
+    requires { AreAcceptable trace.now.ticks }
+    ensures { IfOk result (λ s. IsReport trace.now.ticks trace.now.pods (string_bytes s)) }
+{
+    let ticks = trace.ticks.as_slice();
+    let mut report = String::new(alloc);
+    for (number, pod) in trace.pods.as_slice().iter().enumerate() {
+        let lines = pod_lines(alloc, ticks, number, pod)?;
+        report.push_str(lines.as_str())?;
+    }
+    Ok(report)
+}

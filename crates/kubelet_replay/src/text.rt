@@ -1,0 +1,193 @@
+//! The lines of a pod, as text.
+
+ghost use Rattle.std.specs.Prelude.{◌≡◌, ◌++◌, length, IfOk, OnOk, string_bytes};
+ghost use Rattle.kubelet_replay.specs.Texts.{joined};
+ghost use Rattle.kubelet_replay.specs.Lines.{phase_word, state_word, truth, code_text, pod_words, pod_line, condition_line, container_words, flag_words, container_line, conditions_text, containers_text, pod_text};
+
+use manifest::{ContainerSpec, PodSpec};
+use phase::{Condition, Conditions, ContainerState, ContainerStatus, Phase};
+use std::alloc::{AllocError, Global};
+
+fn phase_word(phase: Phase) -> &'static str
+    ensures { result.now ≡ phase_word phase }
+{
+    match phase {
+        Phase::Pending => "Pending",
+        Phase::Running => "Running",
+        Phase::Succeeded => "Succeeded",
+        Phase::Failed => "Failed",
+    }
+}
+
+fn state_word(state: ContainerState) -> &'static str
+    ensures { result.now ≡ state_word state }
+{
+    match state {
+        ContainerState::Waiting => "Waiting",
+        ContainerState::Running => "Running",
+        ContainerState::Terminated => "Terminated",
+    }
+}
+
+fn truth(value: bool) -> &'static str
+    ensures { result.now ≡ truth value }
+{
+    if value { "True" } else { "False" }
+}
+
+fn code_text(alloc: Global, code: Option<i32>) -> Result<String, AllocError>
+    ensures { IfOk result (λ s. string_bytes s ≡ code_text code) }
+{
+    match code {
+        None => String::from_str(alloc, "-"),
+        Some(code) => code.to_string(alloc),
+    }
+}
+
+fn pod_words(
+    alloc: Global,
+    number: usize,
+    namespace: &str,
+    name: &str,
+    phase: &str,
+) -> Result<String, AllocError>
+    ensures { IfOk result (λ s. string_bytes s ≡ pod_words number namespace.now name.now phase.now) }
+{
+    format!(in alloc; "pod {number} {namespace}/{name} phase={phase} reason=- qos=BestEffort\n")
+}
+
+#[tactic(auto, unfolding(crate::specs::Lines::pod_line))]
+fn pod_line(
+    alloc: Global,
+    number: usize,
+    pod: &PodSpec,
+    phase: Phase,
+) -> Result<String, AllocError>
+    ensures { IfOk result (λ s. string_bytes s ≡ pod_line number pod.now phase) }
+{
+    let namespace = pod.namespace.as_str();
+    pod_words(alloc, number, namespace, pod.name.as_str(), phase_word(phase))
+}
+
+#[tactic(auto, unfolding(crate::specs::Lines::condition_line))]
+fn condition_line(
+    alloc: Global,
+    number: usize,
+    kind: &str,
+    condition: Condition,
+) -> Result<String, AllocError>
+    ensures { IfOk result (λ s. string_bytes s ≡ condition_line number kind.now condition) }
+{
+    let value = truth(condition.value);
+    let since = condition.since.unwrap_or(0);
+    format!(in alloc; "condition {number} {kind} {value} {since}\n")
+}
+
+fn container_words(
+    alloc: Global,
+    number: usize,
+    name: &str,
+    state: &str,
+    code: &str,
+) -> Result<String, AllocError>
+    ensures { IfOk result (λ s. string_bytes s ≡ container_words number name.now state.now code.now) }
+{
+    format!(in alloc; "container {number} {name} state={state} code={code}")
+}
+
+fn flag_words(
+    alloc: Global,
+    words: &str,
+    restarts: u32,
+    ready: bool,
+    started: bool,
+) -> Result<String, AllocError>
+    ensures { IfOk result (λ s. string_bytes s ≡ flag_words words.now restarts ready started) }
+{
+    format!(in alloc; "{words} restarts={restarts} ready={ready} started={started}\n")
+}
+
+#[tactic(auto, unfolding(crate::specs::Lines::container_line))]
+fn container_line(
+    alloc: Global,
+    number: usize,
+    name: &str,
+    status: ContainerStatus,
+) -> Result<String, AllocError>
+    ensures { IfOk result (λ s. string_bytes s ≡ container_line number name.now status) }
+{
+    let code = code_text(alloc, status.code)?;
+    let words = container_words(alloc, number, name, state_word(status.state), code.as_str())?;
+    flag_words(alloc, words.as_str(), status.restarts, status.ready, status.started)
+}
+
+fn add(text: &mut String, line: &str) -> Result<(), AllocError>
+    ensures { OnOk result (string_bytes text.new ≡ string_bytes text.old ++ line.now) }
+{
+    text.push_str(line)
+}
+
+fn add_condition(
+    alloc: Global,
+    text: &mut String,
+    number: usize,
+    kind: &str,
+    condition: Condition,
+) -> Result<(), AllocError>
+    ensures { OnOk result (string_bytes text.new ≡ string_bytes text.old ++ condition_line number kind.now condition) }
+{
+    let line = condition_line(alloc, number, kind, condition)?;
+    add(text, line.as_str())
+}
+
+/// Adds the four condition lines.
+fn add_conditions(
+    alloc: Global,
+    text: &mut String,
+    number: usize,
+    conditions: Conditions,
+) -> Result<(), AllocError>
+    ensures { OnOk result (string_bytes text.new ≡ string_bytes text.old ++ conditions_text number conditions) }
+{
+    add_condition(alloc, text, number, "PodScheduled", conditions.pod_scheduled)?;
+    add_condition(alloc, text, number, "Initialized", conditions.initialized)?;
+    add_condition(alloc, text, number, "ContainersReady", conditions.containers_ready)?;
+    add_condition(alloc, text, number, "Ready", conditions.containers_ready)?;
+    Ok(())
+}
+
+/// Adds a line for each container.
+fn add_containers(
+    alloc: Global,
+    text: &mut String,
+    number: usize,
+    containers: &[ContainerSpec],
+    statuses: &[ContainerStatus],
+) -> Result<(), AllocError>
+    requires { length statuses.now ≡ length containers.now }
+    ensures { OnOk result (string_bytes text.new ≡ string_bytes text.old ++ containers_text number containers.now statuses.now) }
+{
+    for (place, container) in containers.iter().enumerate() {
+        let line = container_line(alloc, number, container.name.as_str(), statuses[place])?;
+        add(text, line.as_str())?;
+    }
+    Ok(())
+}
+
+/// The lines of the pod with the number.
+pub(crate) fn pod_text(
+    alloc: Global,
+    number: usize,
+    pod: &PodSpec,
+    phase: Phase,
+    conditions: Conditions,
+    statuses: &[ContainerStatus],
+) -> Result<String, AllocError>
+    requires { length statuses.now ≡ length pod.now.containers }
+    ensures { IfOk result (λ s. string_bytes s ≡ pod_text number pod.now phase conditions statuses.now) }
+{
+    let mut text = pod_line(alloc, number, pod, phase)?;
+    add_conditions(alloc, &mut text, number, conditions)?;
+    add_containers(alloc, &mut text, number, pod.containers.as_slice(), statuses)?;
+    Ok(text)
+}
