@@ -32,9 +32,9 @@ entry tick pod = recorded tick.at (listed (slice_get tick.pods pod))
 pub are_views : (ticks : List TickObs) (pod count : ℕ) (views : List ContainerView) → length views ≡ count
     → ((c : ℕ) (v : ContainerView) → c < count → IsViewOf (history ticks pod c) (slice_index_or views c v)) → AreViewsOf (pod_history ticks pod) count views
 are_views ticks pod count views many each = record {
-    as_many = many;
-    each = λ c v lt. subst (λ (h : List Tick). IsViewOf h (slice_index_or views c v)) (sym (listings-pod_history ticks pod c)) (each c v lt);
-  }
+  as_many = many;
+  each = λ c v lt. subst (λ (h : List Tick). IsViewOf h (slice_index_or views c v)) (sym (listings-pod_history ticks pod c)) (each c v lt);
+}
 
 -- the same with the last tick apart
 pub are_views_more : (ticks : List TickObs) (tick : TickObs) (pod count : ℕ) (views : List ContainerView) → length views ≡ count
@@ -53,7 +53,7 @@ after_end shape pod ticks tick old new f ended differs views progress =
     let next = sym (pod_history-more ticks tick pod) in
     let is_phase = f.progress.so_far.phase in
     let same : new.status.phase ≡ old.status.phase =
-        IsPhase-unique shape None (h ++ entry tick pod ∷ []) new.status.phase old.status.phase progress.so_far.phase (phase_ended shape None h (entry tick pod) old.status.phase is_phase ended) in
+    IsPhase-unique shape None (h ++ entry tick pod ∷ []) new.status.phase old.status.phase progress.so_far.phase (phase_ended shape None h (entry tick pod) old.status.phase is_phase ended) in
     let still : IsTerminal new.status.phase = subst IsTerminal (sym same) ended in
     let shown = shown_ended shape None h (entry tick pod) old.status.phase old.views.items is_phase ended f.shown in
     let views_are : old.views.items ≡ new.views.items = ap (λ vs. vs.items) (sym views) in
@@ -79,9 +79,9 @@ before_end shape pod ticks tick old new ds vs are_ds are_vs f lives stepped show
     let differ_count : length ds ≡ shape.container_count = stepped.as_many ∙ f.differ_count in
     let view_count : length vs ≡ shape.container_count = as_many ∙ differ_count in
     let states : (c : ℕ) (e : Differ) → c < shape.container_count → IsStateOf (history ticks pod c ++ recorded tick.at (seen_of tick pod c) ∷ []) (slice_index_or ds c e) =
-        λ c e lt. stepped.each c e (history ticks pod c) (omega (arith, f.differ_count)) (f.differs lives c e lt) in
+    λ c e lt. stepped.each c e (history ticks pod c) (omega (arith, f.differ_count)) (f.differs lives c e lt) in
     let views = are_views_more ticks tick pod shape.container_count vs view_count
-        (λ c v lt. shows c d v (history ticks pod c ++ recorded tick.at (seen_of tick pod c) ∷ []) (omega (arith, differ_count)) (states c d lt)) in
+    (λ c v lt. shows c d v (history ticks pod c ++ recorded tick.at (seen_of tick pod c) ∷ []) (omega (arith, differ_count)) (states c d lt)) in
     let progress = advances views in
     let shown = shown_lives shape None h (entry tick pod) old.status.phase new.status.phase vs is_phase lives progress.so_far.phase views in
     record {
@@ -97,7 +97,7 @@ before_end shape pod ticks tick old new ds vs are_ds are_vs f lives stepped show
 pub ready : (shape : PodShape) (pod : ℕ) (ticks : List TickObs) (i : ℕ) (tick : TickObs) (f : Followed) → i < length ticks → tick ≡ get_or ticks i tick
     → ((c : ℕ) → IsAcceptableHistory (history ticks pod c)) → IsFollowed shape pod (take i ticks) f → IsReady shape pod tick f
 ready shape pod ticks i tick f lt is acceptable followed = record {
-    accepts = λ lives c d within. (let both = (followed.differs lives c d within).accepts (seen_of tick pod c) in both.1 (acceptable_at ticks pod c i tick lt is (acceptable c)));
-    differ_count = followed.differ_count;
-    view_count = followed.view_count;
-  }
+  accepts = λ lives c d within. (let both = (followed.differs lives c d within).accepts (seen_of tick pod c) in both.1 (acceptable_at ticks pod c i tick lt is (acceptable c)));
+  differ_count = followed.differ_count;
+  view_count = followed.view_count;
+}

@@ -47,6 +47,6 @@ acceptable_at ticks pod c i tick lt is all =
     let within : i < length (history ticks pod c) = omega (arith, length-map ticks f) in
     let here = all i within in
     let at : seen_at (history ticks pod c) i ≡ seen_of tick pod c =
-        seen_at-history ticks pod c i ∙ ap (option_and_then (λ (t : TickObs). seen_of t pod c)) (slice_get-get_or ticks i tick lt ∙ ap Some (sym is)) in
+    seen_at-history ticks pod c i ∙ ap (option_and_then (λ (t : TickObs). seen_of t pod c)) (slice_get-get_or ticks i tick lt ∙ ap Some (sym is)) in
     let before : take i (history ticks pod c) ≡ history (take i ticks) pod c = take-map f i ticks in
     subst (λ (o : Option Seen). IsAcceptable (history (take i ticks) pod c) o) at (subst (λ (h : List Tick). IsAcceptable h (seen_at (history ticks pod c) i)) before here)

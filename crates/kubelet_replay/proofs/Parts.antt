@@ -26,8 +26,8 @@ report_more ticks pods pod n so_far lines count report are =
     let P : ℕ → PodSpec → Type 0 = λ k p. (e : List ℕ) → ArePodLines ticks k p (slice_index_or (report.parts ++ lines ∷ []) k e) in
     let many : length report.parts ≡ n = report.as_many ∙ count in
     let old : (k : ℕ) (d : PodSpec) → k < n → P k (slice_index_or pods k d) =
-        λ k d lt e. (let left = get_or_append_left report.parts (lines ∷ []) e k (omega arith) in
-          subst (λ (text : List ℕ). ArePodLines ticks k (slice_index_or pods k d) text) (sym left) (report.each k d e (omega arith))) in
+    λ k d lt e. (let left = get_or_append_left report.parts (lines ∷ []) e k (omega arith) in
+    subst (λ (text : List ℕ). ArePodLines ticks k (slice_index_or pods k d) text) (sym left) (report.each k d e (omega arith))) in
     let new : P n pod = λ e. subst (λ (text : List ℕ). ArePodLines ticks n pod text) (sym (get_or_push report.parts lines e n many)) are in
     record {
       parts = report.parts ++ lines ∷ [];
@@ -43,4 +43,4 @@ report_next ticks pods i pod so_far lines new lt is report are text =
     let count : length (take i pods) ≡ i = length-take-le i pods (omega arith) in
     let more : take (i + 1) pods ≡ take i pods ++ pod ∷ [] = take_more pods i pod lt ∙ ap (λ (p : PodSpec). take i pods ++ p ∷ []) (sym is) in
     subst (λ (ps : List PodSpec). IsReport ticks ps new) (sym more)
-      (subst (λ (bytes : List ℕ). IsReport ticks (take i pods ++ pod ∷ []) bytes) (sym text) (report_more ticks (take i pods) pod i so_far lines count report are))
+    (subst (λ (bytes : List ℕ). IsReport ticks (take i pods ++ pod ∷ []) bytes) (sym text) (report_more ticks (take i pods) pod i so_far lines count report are))

@@ -23,7 +23,7 @@ pub record AreNewViews (count : ℕ) (views : List ContainerView) : Type 0 where
 pub record AreSteppedBy (tick : TickObs) (pod : ℕ) (old new : List Differ) : Type 0 where
   pub as_many : length new ≡ length old
   pub each : (c : ℕ) (d : Differ) (h : List Tick) → c < length old → IsStateOf h (slice_index_or old c d)
-    → IsStateOf (h ++ recorded tick.at (seen_of tick pod c) ∷ []) (slice_index_or new c d)
+      → IsStateOf (h ++ recorded tick.at (seen_of tick pod c) ∷ []) (slice_index_or new c d)
 
 -- each view shows the listings that its differ has followed
 abbrev pub AreShownBy : List Differ → List ContainerView → Type 0

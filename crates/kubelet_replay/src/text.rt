@@ -57,16 +57,17 @@ fn pod_words(
 }
 
 #[tactic(auto, unfolding(crate::specs::Lines::pod_line))]
-fn pod_line(
-    alloc: Global,
-    number: usize,
-    pod: &PodSpec,
-    phase: Phase,
-) -> Result<String, AllocError>
+fn pod_line(alloc: Global, number: usize, pod: &PodSpec, phase: Phase) -> Result<String, AllocError>
     ensures { IfOk result (λ s. string_bytes s ≡ pod_line number pod.now phase) }
 {
     let namespace = pod.namespace.as_str();
-    pod_words(alloc, number, namespace, pod.name.as_str(), phase_word(phase))
+    pod_words(
+        alloc,
+        number,
+        namespace,
+        pod.name.as_str(),
+        phase_word(phase),
+    )
 }
 
 #[tactic(auto, unfolding(crate::specs::Lines::condition_line))]
@@ -118,7 +119,13 @@ fn container_line(
 {
     let code = code_text(alloc, status.code)?;
     let words = container_words(alloc, number, name, state_word(status.state), code.as_str())?;
-    flag_words(alloc, words.as_str(), status.restarts, status.ready, status.started)
+    flag_words(
+        alloc,
+        words.as_str(),
+        status.restarts,
+        status.ready,
+        status.started,
+    )
 }
 
 fn add(text: &mut String, line: &str) -> Result<(), AllocError>
@@ -149,9 +156,21 @@ fn add_conditions(
 ) -> Result<(), AllocError>
     ensures { OnOk result (string_bytes text.new ≡ string_bytes text.old ++ conditions_text number conditions) }
 {
-    add_condition(alloc, text, number, "PodScheduled", conditions.pod_scheduled)?;
+    add_condition(
+        alloc,
+        text,
+        number,
+        "PodScheduled",
+        conditions.pod_scheduled,
+    )?;
     add_condition(alloc, text, number, "Initialized", conditions.initialized)?;
-    add_condition(alloc, text, number, "ContainersReady", conditions.containers_ready)?;
+    add_condition(
+        alloc,
+        text,
+        number,
+        "ContainersReady",
+        conditions.containers_ready,
+    )?;
     add_condition(alloc, text, number, "Ready", conditions.containers_ready)?;
     Ok(())
 }
@@ -188,6 +207,12 @@ pub(crate) fn pod_text(
 {
     let mut text = pod_line(alloc, number, pod, phase)?;
     add_conditions(alloc, &mut text, number, conditions)?;
-    add_containers(alloc, &mut text, number, pod.containers.as_slice(), statuses)?;
+    add_containers(
+        alloc,
+        &mut text,
+        number,
+        pod.containers.as_slice(),
+        statuses,
+    )?;
     Ok(text)
 }

@@ -153,7 +153,10 @@ impl PodSpec {
         )?;
         let spec = object(Field::Spec, field(pod, "spec"))?;
         let policy = policy_of(field(spec, "restartPolicy"))?;
-        absent(ManifestFault::WrongKind(Field::Priority), field(spec, "priority"))?;
+        absent(
+            ManifestFault::WrongKind(Field::Priority),
+            field(spec, "priority"),
+        )?;
         absent(
             ManifestFault::WrongKind(Field::GracePeriod),
             field(spec, "terminationGracePeriodSeconds"),

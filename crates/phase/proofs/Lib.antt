@@ -5,4 +5,6 @@ pub mod EndLemmas
 pub mod StatusLemmas
 pub mod ContainerLemmas
 pub mod HistoryLemmas
+pub mod DecideLemmas
+pub mod UniqueLemmas
 pub mod LawLemmas

@@ -1,11 +1,15 @@
-use Rattle.std.specs.Prelude.{◌≡◌, ◌↔◌, ℕ, ◌<◌, List, length, Option, Bool, true, IsSomeAnd, IsTrue, nat_lt}
-use Rattle.histories.specs.Histories.{Recorded, project, entry_at, moment_at, IsSo, IsTransition}
+use Rattle.std.specs.Prelude.{◌≡◌, ◌↔◌, ℕ, ◌<◌, List, [], ◌∷◌, ◌++◌, length, Option, Some, Bool, true, IsSomeAnd, IsTrue, nat_lt}
+use Rattle.histories.specs.Histories.{Recorded, recorded, project, entry_at, moment_at, IsSo, IsTransition}
 use Rattle.phase.specs.declared.conditions.Condition.{Condition}
 use Rattle.phase.specs.declared.conditions.Values.{Values}
 use Rattle.phase.specs.declared.pod.PodShape.{PodShape}
 use Rattle.phase.specs.declared.status.PodStatus.{PodStatus}
+use Rattle.phase.specs.declared.phase.Phase.{Phase}
+use Rattle.phase.specs.declared.view.ContainerView.{ContainerView}
+use Rattle.state_diff.specs.declared.seen.Seen.{Seen}
+use Rattle.phase.specs.RawPhase.{IsTerminal}
 use Rattle.phase.specs.Conditions.{IsStateOf}
-use Rattle.phase.specs.Pods.{PodTick, IsPhase, IsInitialized, AreContainersReady}
+use Rattle.phase.specs.Pods.{PodTick, AreViewsOf, IsPhase, IsInitialized, AreContainersReady}
 
 -- the condition is true where C holds after the ticks, and its moment is that of C's last transition
 pub record IsConditionAfter (C : List PodTick → Type 0) (h : List PodTick) (c : Condition) : Type 0 where
@@ -33,3 +37,22 @@ pub record IsProgressOf (pod : PodShape) (evicted : Option ℕ) (h : List PodTic
   pub pod_scheduled : AreValuesOf (λ _. Unit {0}) h (project (λ v. true) values)
   pub initialized : AreValuesOf (IsInitialized pod evicted) h (project (λ v. v.initialized) values)
   pub containers_ready : AreValuesOf (AreContainersReady pod evicted) h (project (λ v. v.containers_ready) values)
+
+-- over every history: a tick follows it, after which the containers are as the views show them unless the pod had ended,
+-- and which evicts the pod exactly if the flag says so; then p, if it was the phase, becomes q
+abbrev pub IsNextPhase : PodShape → List ContainerView → Bool → Phase → Phase → Type 0
+IsNextPhase pod views is_evicted p q =
+    (evicted : Option ℕ) (h : List PodTick) (at : ℕ) (entry : List (Option Seen))
+    → ((IsTerminal p → ⊥) → AreViewsOf (h ++ recorded at entry ∷ []) pod.container_count views)
+    → (IsTrue is_evicted ↔ (evicted ≡ Some (length h)))
+    → IsPhase pod evicted h p
+    → IsPhase pod evicted (h ++ recorded at entry ∷ []) q
+
+-- the same of a status, with a tick of this moment
+abbrev pub IsNextStatus : PodShape → ℕ → List ContainerView → Bool → PodStatus → PodStatus → Type 0
+IsNextStatus pod at views is_evicted old new =
+    (evicted : Option ℕ) (h : List PodTick) (entry : List (Option Seen))
+    → ((IsTerminal old.phase → ⊥) → AreViewsOf (h ++ recorded at entry ∷ []) pod.container_count views)
+    → (IsTrue is_evicted ↔ (evicted ≡ Some (length h)))
+    → IsProgressOf pod evicted h old
+    → IsProgressOf pod evicted (h ++ recorded at entry ∷ []) new

@@ -49,7 +49,9 @@ impl Condition {
 
     /// A tick gives it a value, at the moment, in seconds.
     pub fn advance(&mut self, at: u64, value: bool)
-        ensures { (initially : Bool) (h : List (Recorded Bool)) → IsConditionOf initially h self.old → IsConditionOf initially (h ++ recorded at value ∷ []) self.new }
+        ensures { (initially : Bool) (h : List (Recorded Bool))
+            → IsConditionOf initially h self.old
+            → IsConditionOf initially (h ++ recorded at value ∷ []) self.new }
     {
         if self.changes(value) {
             self.value = value;
@@ -72,7 +74,9 @@ impl Conditions {
 
     /// A tick gives them their values, at the moment, in seconds.
     pub fn advance(&mut self, at: u64, values: Values)
-        ensures { (has_init : Bool) (h : List (Recorded Values)) → IsStateOf has_init h self.old → IsStateOf has_init (h ++ recorded at values ∷ []) self.new }
+        ensures { (has_init : Bool) (h : List (Recorded Values))
+            → IsStateOf has_init h self.old
+            → IsStateOf has_init (h ++ recorded at values ∷ []) self.new }
     {
         self.pod_scheduled.advance(at, true);
         self.initialized.advance(at, values.initialized);

@@ -58,7 +58,8 @@ fn state_of(state: CriState) -> ContainerState
 
 /// Whether the container is an app container that is running, in a pod that was not evicted.
 fn is_up(pod: PodShape, container: usize, view: &ContainerView, is_evicted: bool) -> bool
-    ensures { IsTrue result ↔ ((pod.init_count ≤ container) × (IsTrue is_evicted → ⊥) × of_view.running view.now) }
+    ensures { IsTrue result
+        ↔ ((pod.init_count ≤ container) × (IsTrue is_evicted → ⊥) × of_view.running view.now) }
 {
     pod.init_count <= container && !is_evicted && view.is_running()
 }
@@ -71,7 +72,11 @@ pub fn container_status(
     view: &ContainerView,
     is_evicted: bool,
 ) -> ContainerStatus
-    ensures { (evicted end : Option ℕ) (h : List PodTick) → IsEnd pod evicted h end → IsViewOf (listings (counted h end) container) view.now → (IsTrue is_evicted ↔ EndsEvicted evicted end) → IsContainerStatus pod evicted h container result }
+    ensures { (evicted end : Option ℕ) (h : List PodTick)
+        → IsEnd pod evicted h end
+        → IsViewOf (listings (counted h end) container) view.now
+        → (IsTrue is_evicted ↔ EndsEvicted evicted end)
+        → IsContainerStatus pod evicted h container result }
 {
     let up = is_up(pod, container, view, is_evicted);
     ContainerStatus {

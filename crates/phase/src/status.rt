@@ -1,11 +1,9 @@
-ghost use Rattle.std.specs.Prelude.{◌≡◌, ◌↔◌, ℕ, List, [], ◌∷◌, ◌++◌, length, take, drop, All, Option, Some, None, IsTrue, IfOk};
-ghost use Rattle.histories.specs.Histories.{recorded};
-ghost use Rattle.state_diff.specs.declared.seen.Seen.{Seen};
+ghost use Rattle.std.specs.Prelude.{◌≡◌, ◌↔◌, ℕ, List, [], length, take, drop, All, Option, IsTrue};
 ghost use Rattle.phase.specs.declared.pod.PodShape.{PodShape};
 ghost use Rattle.phase.specs.Facts.{of_view, HasCompleted};
 ghost use Rattle.phase.specs.RawPhase.{IsTerminal};
-ghost use Rattle.phase.specs.Pods.{PodTick, AreViewsOf, HasEnded, IsPhase, IsInitialized};
-ghost use Rattle.phase.specs.Status.{IsStatusOf, IsProgressOf};
+ghost use Rattle.phase.specs.Pods.{PodTick, HasEnded};
+ghost use Rattle.phase.specs.Status.{IsStatusOf, IsProgressOf, IsNextPhase, IsNextStatus};
 
 use crate::conditions::{Conditions, Values};
 use crate::phase::{Phase, all_completed, all_running, raw_phase};
@@ -36,7 +34,8 @@ impl PodStatus {
     /// Whether the pod has ended: it has succeeded, failed or been evicted.
     pub fn has_ended(&self) -> bool
         ensures terminal { IsTrue result ↔ IsTerminal self.now.phase }
-        ensures ended { (pod : PodShape) (evicted : Option ℕ) (h : List PodTick) → IsStatusOf pod evicted h self.now → (IsTrue result ↔ HasEnded pod evicted h) }
+        ensures ended { (pod : PodShape) (evicted : Option ℕ) (h : List PodTick)
+            → IsStatusOf pod evicted h self.now → (IsTrue result ↔ HasEnded pod evicted h) }
     {
         self.phase.is_terminal()
     }
@@ -44,7 +43,7 @@ impl PodStatus {
     /// The phase after a tick.
     fn next_phase(&self, pod: PodShape, containers: &[ContainerView], is_evicted: bool) -> Phase
         requires { length containers.now ≡ pod.container_count }
-        ensures { (evicted : Option ℕ) (h : List PodTick) (at : ℕ) (entry : List (Option Seen)) → ((IsTerminal self.now.phase → ⊥) → AreViewsOf (h ++ recorded at entry ∷ []) pod.container_count containers.now) → (IsTrue is_evicted ↔ (evicted ≡ Some (length h))) → IsPhase pod evicted h self.now.phase → IsPhase pod evicted (h ++ recorded at entry ∷ []) result }
+        ensures { IsNextPhase pod containers.now is_evicted self.now.phase result }
     {
         if self.phase.is_terminal() {
             self.phase
@@ -59,7 +58,8 @@ impl PodStatus {
     fn next_initialized(&self, pod: PodShape, containers: &[ContainerView]) -> bool
         requires { length containers.now ≡ pod.container_count }
         ensures ended { IsTerminal self.now.phase → result ≡ self.now.conditions.initialized.value }
-        ensures lives { (IsTerminal self.now.phase → ⊥) → (IsTrue result ↔ All (HasCompleted of_view) (take pod.init_count containers.now)) }
+        ensures lives { (IsTerminal self.now.phase → ⊥)
+            → (IsTrue result ↔ All (HasCompleted of_view) (take pod.init_count containers.now)) }
     {
         if self.phase.is_terminal() {
             self.conditions.initialized.value
@@ -78,7 +78,7 @@ impl PodStatus {
         is_evicted: bool,
     )
         requires { length containers.now ≡ pod.container_count }
-        ensures { (evicted : Option ℕ) (h : List PodTick) (entry : List (Option Seen)) → ((IsTerminal self.old.phase → ⊥) → AreViewsOf (h ++ recorded at entry ∷ []) pod.container_count containers.now) → (IsTrue is_evicted ↔ (evicted ≡ Some (length h))) → IsProgressOf pod evicted h self.old → IsProgressOf pod evicted (h ++ recorded at entry ∷ []) self.new }
+        ensures { IsNextStatus pod at containers.now is_evicted self.old self.new }
     {
         let phase = self.next_phase(pod, containers, is_evicted);
         let values = Values {
@@ -93,7 +93,8 @@ impl PodStatus {
 /// Whether the containers of a pod of this phase are ready; without probes these are the running ones.
 fn are_ready(phase: Phase, pod: PodShape, containers: &[ContainerView]) -> bool
     requires { length containers.now ≡ pod.container_count }
-    ensures { IsTrue result ↔ ((IsTerminal phase → ⊥) × All of_view.running (drop pod.init_count containers.now)) }
+    ensures { IsTrue result
+        ↔ ((IsTerminal phase → ⊥) × All of_view.running (drop pod.init_count containers.now)) }
 {
     !phase.is_terminal() && all_running(&containers[pod.init_count..])
 }

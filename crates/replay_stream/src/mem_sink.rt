@@ -13,7 +13,7 @@ pub struct MemSink<'a> {
     len: usize,
     step: usize,
     // How many calls come before those that stop, if any do.
-    calls_left: Option<u64>,
+    calls_left: Option<usize>,
     stop: Stop,
     failed: u64,
     ghost within: { len ≤ length room.now },
@@ -42,7 +42,7 @@ impl<'a> MemSink<'a> {
     }
 
     /// Writes into `room`, `step` bytes a call, and stops after `calls` calls.
-    pub fn stopping(room: &'a mut [u8], step: usize, calls: u64, stop: Stop) -> MemSink<'a>
+    pub fn stopping(room: &'a mut [u8], step: usize, calls: usize, stop: Stop) -> MemSink<'a>
         ensures written { sink_bytes result ≡ [] }
         ensures room { sink_room result ≡ length room.old }
         ensures step { sink_step result ≡ step }

@@ -12,7 +12,7 @@ pub struct MemSource<'a> {
     bytes: &'a [u8],
     step: usize,
     // How many calls come before those that fail, if any do.
-    calls_left: Option<u64>,
+    calls_left: Option<usize>,
     failed: u64,
     ghost steps: { 0 < step },
 }
@@ -53,7 +53,7 @@ impl<'a> MemSource<'a> {
             Stop::Nothing => front_of(bytes, step, calls),
         };
         let calls_left = match stop {
-            Stop::Fail => Some(calls as u64),
+            Stop::Fail => Some(calls),
             Stop::Nothing => None,
         };
         MemSource {

@@ -19,7 +19,7 @@ same_test true b is is' = sym (is'.1 (is.0 refl))
 same_test false true is is' = is.1 (is'.0 refl)
 same_test false false is is' = refl
 
-is_of_is : (a : ℕ) (o : Option Seen) → (IsTrue (is_of a o) ↔ IsSomeAnd o (IsOf a))
+pub is_of_is : (a : ℕ) (o : Option Seen) → (IsTrue (is_of a o) ↔ IsSomeAnd o (IsOf a))
 is_of_is a None = ((λ e. absurd (let e : IsTrue false = e in cc)), (λ w. absurd w))
 is_of_is a (Some s) = Decides-eqb s.attempt a
 

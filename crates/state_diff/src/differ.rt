@@ -90,7 +90,9 @@ impl Differ {
 
     /// The moment at which the newest instance was first listed as running, in seconds.
     pub fn first_running(&self) -> Option<u64>
-        ensures { (h : List Tick) → IsStateOf h self.now → IsOfNewest h (λ a. IsFirstMoment h (ListedAs h a Running)) result }
+        ensures { (h : List Tick)
+            → IsStateOf h self.now
+            → IsOfNewest h (λ a. IsFirstMoment h (ListedAs h a Running)) result }
     {
         self.newest?.start
     }
@@ -132,7 +134,8 @@ impl Differ {
 
     /// The newest instance, if it is of the attempt.
     fn newest_of(&self, attempt: u32) -> Option<Instance>
-        ensures { (i : Instance) → ((result ≡ Some i) ↔ ((self.now.newest ≡ Some i) × (i.attempt ≡ attempt))) }
+        ensures { (i : Instance) → ((result ≡ Some i)
+            ↔ ((self.now.newest ≡ Some i) × (i.attempt ≡ attempt))) }
     {
         let newest = self.newest?;
         if newest.attempt == attempt {
@@ -147,7 +150,9 @@ impl Differ {
         requires { Accepts self.now seen }
         ensures attempt { IfSome seen (λ s. IsSomeAnd result (λ i. i.attempt ≡ s.attempt)) }
         ensures newest { (h : List Tick) → IsStateOf h self.now → IsNewestOf (h ++ tick at seen ∷ []) result }
-        ensures effective { (h : List Tick) → IsStateOf h self.now → IfSome result (λ i. IsSome seen → IsEffective (h ++ tick at seen ∷ []) i.attempt i.state) }
+        ensures effective { (h : List Tick)
+            → IsStateOf h self.now
+            → IfSome result (λ i. IsSome seen → IsEffective (h ++ tick at seen ∷ []) i.attempt i.state) }
     {
         match seen {
             Some(seen) => {
@@ -165,7 +170,8 @@ impl Differ {
 
     /// The attempt that is no longer listed.
     fn removed(&self, seen: Option<Seen>) -> Option<u32>
-        ensures { (a : ℕ) → ((result ≡ Some a) ↔ (IsListedBy self.now.newest self.now.listed a × (IsSomeAnd seen (IsOf a) → ⊥))) }
+        ensures { (a : ℕ) → ((result ≡ Some a)
+            ↔ (IsListedBy self.now.newest self.now.listed a × (IsSomeAnd seen (IsOf a) → ⊥))) }
     {
         let newest = self.newest?;
         if self.listed && !is_of(newest.attempt, seen) {
@@ -177,7 +183,8 @@ impl Differ {
 
     /// Whether the newest instance exits since it is no longer listed.
     fn removed_died(&self, seen: Option<Seen>) -> bool
-        ensures { IsTrue result ↔ IsSomeAnd self.now.newest (λ i. (i.exit ≡ None) × (IsSomeAnd seen (IsOf i.attempt) → ⊥)) }
+        ensures { IsTrue result
+            ↔ IsSomeAnd self.now.newest (λ i. (i.exit ≡ None) × (IsSomeAnd seen (IsOf i.attempt) → ⊥)) }
     {
         match self.newest {
             Some(newest) => newest.exit.is_none() && !is_of(newest.attempt, seen),
@@ -188,7 +195,9 @@ impl Differ {
     /// What a tick changes.
     fn changes(&self, seen: Option<Seen>) -> Changes
         requires { Accepts self.now seen }
-        ensures { (h : List Tick) (at : ℕ) → IsStateOf h self.now → AreChanges (h ++ tick at seen ∷ []) (length h) result }
+        ensures { (h : List Tick) (at : ℕ)
+            → IsStateOf h self.now
+            → AreChanges (h ++ tick at seen ∷ []) (length h) result }
     {
         let removed = self.removed(seen);
         let removed_died = self.removed_died(seen);

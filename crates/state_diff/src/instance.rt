@@ -56,7 +56,8 @@ impl Instance {
 
     /// Its code, if it exits by this listing.
     pub fn died_by(&self, seen: Seen) -> Option<(u32, i32)>
-        ensures { (a : ℕ) (code : ℤ) → ((result ≡ Some (a, code)) ↔ ((seen.attempt ≡ a) × (self.now.exit ≡ None) × (seen.code ≡ Some code))) }
+        ensures { (a : ℕ) (code : ℤ) → ((result ≡ Some (a, code))
+            ↔ ((seen.attempt ≡ a) × (self.now.exit ≡ None) × (seen.code ≡ Some code))) }
     {
         match (self.exit, seen.code) {
             (None, Some(code)) => Some((seen.attempt, code)),
@@ -69,7 +70,11 @@ impl Instance {
         requires { seen.attempt ≡ self.old.attempt }
         ensures attempt { self.new.attempt ≡ self.old.attempt }
         ensures state { (h : List Tick) → IsInstanceOf h self.old → IsInstanceOf (h ++ tick at (Some seen) ∷ []) self.new }
-        ensures effective { (h : List Tick) → IsInstanceOf h self.old → IsEffective h self.old.attempt self.old.state → rank self.old.state ≤ rank seen.state → IsEffective (h ++ tick at (Some seen) ∷ []) self.old.attempt self.new.state }
+        ensures effective { (h : List Tick)
+            → IsInstanceOf h self.old
+            → IsEffective h self.old.attempt self.old.state
+            → rank self.old.state ≤ rank seen.state
+            → IsEffective (h ++ tick at (Some seen) ∷ []) self.old.attempt self.new.state }
     {
         let runs = seen.state.is_running();
         let ends = seen.state.is_exited();
@@ -85,7 +90,11 @@ impl Instance {
     /// A tick doesn't list it, though an earlier one did.
     pub fn unlist(&mut self, at: u64)
         ensures attempt { self.new.attempt ≡ self.old.attempt }
-        ensures state { (h : List Tick) (seen : Option Seen) (t : ℕ) → Listed h self.old.attempt t → (IsSomeAnd seen (IsOf self.old.attempt) → ⊥) → IsInstanceOf h self.old → IsInstanceOf (h ++ tick at seen ∷ []) self.new }
+        ensures state { (h : List Tick) (seen : Option Seen) (t : ℕ)
+            → Listed h self.old.attempt t
+            → (IsSomeAnd seen (IsOf self.old.attempt) → ⊥)
+            → IsInstanceOf h self.old
+            → IsInstanceOf (h ++ tick at seen ∷ []) self.new }
     {
         if self.exit.is_none() {
             self.state = CriState::Exited;
@@ -97,7 +106,8 @@ impl Instance {
     /// How long it ran, in seconds, once it has exited: from its start to its exit, and 0 without a start.
     pub fn run(&self) -> Option<u64>
         ensures none { (result ≡ None) ↔ (self.now.exit ≡ None) }
-        ensures some { IfSome result (λ run. IsSomeAnd self.now.exit (λ exit. run ≡ exit - unwrap_or self.now.start exit)) }
+        ensures some { IfSome result (λ run.
+            IsSomeAnd self.now.exit (λ exit. run ≡ exit - unwrap_or self.now.start exit)) }
     {
         let exit = self.exit?;
         Some(exit.saturating_sub(self.start.unwrap_or(exit)))

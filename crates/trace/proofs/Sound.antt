@@ -72,7 +72,7 @@ pods_forwards ticks n (q ∷ qs) e zero c =
     let same : n + 0 ≡ n = omega arith in
     let place : 0 + c ≡ c = omega arith in
     subst (λ (k : ℕ). is_acceptable (history ticks k c) (seen_in_pod (Some q) c) ≡ true) (sym same)
-      (subst (λ (k : ℕ). is_acceptable (history ticks n k) (seen_in_pod (Some q) c) ≡ true) place here)
+    (subst (λ (k : ℕ). is_acceptable (history ticks n k) (seen_in_pod (Some q) c) ≡ true) place here)
 pods_forwards ticks n (q ∷ qs) e (suc p) c =
     let rest = (neither (some_container_backwards ticks n 0 q.containers) (some_pod_backwards ticks (n + 1) qs) e).1 in
     let same : n + 1 + p ≡ n + suc p = omega arith in
@@ -84,7 +84,7 @@ tick_sound ticks tick all e pod container =
     let h = history ticks pod container in
     let zeroth : 0 + pod ≡ pod = omega arith in
     let here : is_acceptable h (seen_of tick pod container) ≡ true =
-        subst (λ (k : ℕ). is_acceptable (history ticks k container) (seen_of tick pod container) ≡ true) zeroth (pods_forwards ticks 0 tick.pods e pod container) in
+    subst (λ (k : ℕ). is_acceptable (history ticks k container) (seen_of tick pod container) ≡ true) zeroth (pods_forwards ticks 0 tick.pods e pod container) in
     let next = acceptable_more h (recorded tick.at (seen_of tick pod container)) (all pod container) ((is_acceptable_is h (seen_of tick pod container)).0 here) in
     let more : history (ticks ++ tick ∷ []) pod container ≡ h ++ recorded tick.at (seen_of tick pod container) ∷ [] = map_push (λ (t : TickObs). recorded t.at (seen_of t pod container)) ticks tick in
     subst IsAcceptableHistory (sym more) next
@@ -120,7 +120,7 @@ tick_line_sound past d next all e =
     let given : Ok (with_tick past tick.0) ≡ Ok next = tick.2 in
     let is_next : with_tick past tick.0 ≡ next = cc in
     subst (λ (p : Past). AreAcceptable p.ticks) {x = with_tick past tick.0} is_next
-      (subst (λ (t : TickObs). AreAcceptable (past.ticks ++ t ∷ [])) {x = observed at.0 placed.0 past.pods} is.1 (tick_sound past.ticks (observed at.0 placed.0 past.pods) all is.0))
+    (subst (λ (t : TickObs). AreAcceptable (past.ticks ++ t ∷ [])) {x = observed at.0 placed.0 past.pods} is.1 (tick_sound past.ticks (observed at.0 placed.0 past.pods) all is.0))
 
 pod_line_sound : (past : Past) (d : Data) (next : Past) → AreAcceptable past.ticks → pod_line_at past d ≡ Ok next → AreAcceptable next.ticks
 unfolding pod_line_at
@@ -177,16 +177,16 @@ at_line_ok n (Err kind) next e = absurd (cc)
 next_sound : (n : ℕ) (past : Past) (lines : List (List ℕ)) (trace : Trace) → AreAcceptable past.ticks → read_on n past lines ≡ Ok trace → AreAcceptable trace.ticks
 next_sound n past [] trace all e = finished_sound n past past.node trace all e
 next_sound n past (line ∷ lines) trace all e = elim (cases_Bool (is_blank line)) [
-    | inl blank ↦
-        let skipped : read_on n past (line ∷ lines) ≡ read_on (n + 1) past lines = rw blank refl in
-        next_sound (n + 1) past lines trace all (sym skipped ∙ e)
-    | inr counts ↦
-        let rest : Past → Result Trace LineFault = λ next. read_on (n + 1) next lines in
-        let taken : read_on n past (line ∷ lines) ≡ (at_line n (line_at past line) >>= rest) = rw counts refl in
-        let step = bind_ok (at_line n (line_at past line)) rest trace (sym taken ∙ e) in
-        let here = line_sound past line step.0 all (at_line_ok n (line_at past line) step.0 step.1) in
-        next_sound (n + 1) step.0 lines trace here step.2
-  ]
+  | inl blank ↦
+      let skipped : read_on n past (line ∷ lines) ≡ read_on (n + 1) past lines = rw blank refl in
+      next_sound (n + 1) past lines trace all (sym skipped ∙ e)
+  | inr counts ↦
+      let rest : Past → Result Trace LineFault = λ next. read_on (n + 1) next lines in
+      let taken : read_on n past (line ∷ lines) ≡ (at_line n (line_at past line) >>= rest) = rw counts refl in
+      let step = bind_ok (at_line n (line_at past line)) rest trace (sym taken ∙ e) in
+      let here = line_sound past line step.0 all (at_line_ok n (line_at past line) step.0 step.1) in
+      next_sound (n + 1) step.0 lines trace here step.2
+]
 
 -- the ticks of a text's trace
 pub trace_sound : (text : List ℕ) (trace : Trace) → trace_of text ≡ Ok trace → AreAcceptable trace.ticks

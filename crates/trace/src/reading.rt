@@ -46,7 +46,10 @@ fn take_node(alloc: Global, reader: Reader, line: &Value) -> Result<Reader, Line
 {
     let node = node_of(alloc, line)?;
     let Reader {
-        pods, ticks, keys, ..
+        pods,
+        ticks,
+        keys,
+        ..
     } = reader;
     Ok(Reader {
         node: Some(node),
@@ -113,7 +116,10 @@ fn finished(line: u64, reader: Reader) -> Result<Trace, LineFault>
     ensures { GivesAt (λ t. t) result (finished line reader reader.node) }
 {
     let Reader {
-        node, pods, ticks, ..
+        node,
+        pods,
+        ticks,
+        ..
     } = reader;
     match node {
         None => Err(LineFault {

@@ -144,7 +144,9 @@ fn entry_lacks_code(listings: &[PlacedListing]) -> bool
 fn some_code_missing(entries: &[PlacedEntry]) -> bool
     ensures { result ≡ some_code_missing entries.now }
 {
-    entries.iter().any(|e| entry_lacks_code(e.listings.as_slice()))
+    entries
+        .iter()
+        .any(|e| entry_lacks_code(e.listings.as_slice()))
 }
 
 fn refused_if(test: bool, kind: LineKind) -> Result<(), LineKind>
@@ -190,7 +192,10 @@ fn observed_in(
 {
     refused_if(is_doubled(entries), LineKind::Doubled)?;
     let tick = observed(alloc, at, entries, reader.pods.as_slice())?;
-    refused_if(is_backwards(reader.ticks.as_slice(), &tick), LineKind::Backwards)?;
+    refused_if(
+        is_backwards(reader.ticks.as_slice(), &tick),
+        LineKind::Backwards,
+    )?;
     refused_if(some_code_missing(entries), LineKind::ExitCode)?;
     Ok(tick)
 }

@@ -12,5 +12,5 @@ pub loop-tick-preserved : goal.loop-tick-preserved
 loop-tick-preserved c =
     let more = take_more c.args.ticks.now c.loop-tick.tick-index c.tick-item.result c.loop-tick-test.true in
     let is : take (c.loop-tick.tick-index + 1) c.args.ticks.now ≡ take c.loop-tick.tick-index c.args.ticks.now ++ c.tick-item.result ∷ [] =
-        more ∙ ap (λ (t : TickObs). take c.loop-tick.tick-index c.args.ticks.now ++ t ∷ []) (sym c.tick-item.is) in
+    more ∙ ap (λ (t : TickObs). take c.loop-tick.tick-index c.args.ticks.now ++ t ∷ []) (sym c.tick-item.is) in
     subst (λ (ts : List TickObs). IsFollowed c.args.shape c.args.pod ts c.take.new.self) (sym is) (c.take.ensures (take c.loop-tick.tick-index c.args.ticks.now) c.loop-tick.invariant)

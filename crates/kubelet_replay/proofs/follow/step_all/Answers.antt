@@ -23,7 +23,7 @@ loop-container-preserved c =
     let is = c.index-differs-container.is in
     record {
       done = set_each P c.loop-container.differs c.stepped.result c.loop-container.container (omega arith) c.loop-container.invariant.done
-        (λ e h st.
+          (λ e h st.
           let same = any_default c.args.differs.now c.loop-container.container e c.index-differs-container.result (omega arith) in
           let rest = c.loop-container.invariant.rest c.loop-container.container c.index-differs-container.result (omega arith) in
           let before = subst (IsStateOf h) (same ∙ sym (is ∙ rest)) st in
@@ -33,6 +33,6 @@ loop-container-preserved c =
 
 pub returns : goal.returns
 returns c = record {
-    as_many = omega arith;
-    each = λ k d h lt. c.loop-container.invariant.done k d (omega arith) d h;
-  }
+  as_many = omega arith;
+  each = λ k d h lt. c.loop-container.invariant.done k d (omega arith) d h;
+}

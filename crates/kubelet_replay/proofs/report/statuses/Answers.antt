@@ -11,7 +11,7 @@ loop-container-preserved c =
     let P : ℕ → ContainerStatus → Type 0 = λ k s. (h : List PodTick) → AreShown c.args.shape None h c.args.views.now → IsContainerStatus c.args.shape None h k s in
     let so_far = c.loop-container.invariant in
     let here : P c.loop-container.container c.container_status.result = λ h shown.
-        c.container_status.ensures None shown.end h shown.is_end (view_at c.args.shape h c.args.views.now shown c.loop-container.container c.index-views-container.result c.loop-container-test.true c.index-views-container.is) (never_evicted shown.end) in
+    c.container_status.ensures None shown.end h shown.is_end (view_at c.args.shape h c.args.views.now shown c.loop-container.container c.index-views-container.result c.loop-container-test.true c.index-views-container.is) (never_evicted shown.end) in
     let Q : List ContainerStatus → Type 0 = λ xs. (k : ℕ) (d : ContainerStatus) → k < c.loop-container.container + 1 → P k (slice_index_or xs k d) in
     record {
       as_many = omega (arith, c.in_ok-push.ensures.len, so_far.as_many);

@@ -6,6 +6,6 @@ use Rattle.kubelet_replay.proofs.report.statuses.Given as goal
 
 abbrev pub invariant-loop-container : goal.invariant-loop-container
 invariant-loop-container l = record {
-    as_many : length l.all.items ≡ l.container;
-    statuses : (c : ℕ) (d : ContainerStatus) → c < l.container → (h : List PodTick) → AreShown l.shape None h l.views → IsContainerStatus l.shape None h c (slice_index_or l.all.items c d);
+  as_many : length l.all.items ≡ l.container;
+  statuses : (c : ℕ) (d : ContainerStatus) → c < l.container → (h : List PodTick) → AreShown l.shape None h l.views → IsContainerStatus l.shape None h c (slice_index_or l.all.items c d);
 }

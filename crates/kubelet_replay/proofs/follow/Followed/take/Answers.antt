@@ -18,14 +18,14 @@ returns-then-has_ended c = λ ticks f.
     let ended = c.has_ended.ensures.terminal.0 c.if-has_ended.true in
     let h = pod_history ticks c.args.pod in
     after_end c.args.shape c.args.pod ticks c.args.tick.now c.args.self.now _ f ended refl refl
-      (c.advance.ensures None h (listed (slice_get c.args.tick.now.pods c.args.pod)) (λ not. absurd (not ended)) (not_evicted (length h)) f.progress)
+    (c.advance.ensures None h (listed (slice_get c.args.tick.now.pods c.args.pod)) (λ not. absurd (not ended)) (not_evicted (length h)) f.progress)
 
 pub step_all-requires : goal.step_all-requires
 step_all-requires c = λ k d lt.
     let lives : IsTerminal c.args.self.now.status.phase → ⊥ = λ e. (let t = c.has_ended.ensures.terminal.1 e in absurd (cc)) in
     let value = c.deref_mut.ensures.value in
     subst (λ (ds : List Differ). Accepts (slice_index_or ds k d) (seen_of c.args.tick.now c.args.pod k)) (sym value)
-      (c.requires.accepts lives k d (omega (arith, ap length value, c.requires.differ_count)))
+    (c.requires.accepts lives k d (omega (arith, ap length value, c.requires.differ_count)))
 
 pub returns : goal.returns
 returns c = λ ticks f.
@@ -35,7 +35,7 @@ returns c = λ ticks f.
     let vs = c.show_all.new.views in
     let h = pod_history ticks c.args.pod in
     let stepped : AreSteppedBy c.args.tick.now c.args.pod old.differs.items ds =
-        subst (λ (xs : List Differ). AreSteppedBy c.args.tick.now c.args.pod xs ds) c.deref_mut.ensures.value c.step_all.ensures in
+    subst (λ (xs : List Differ). AreSteppedBy c.args.tick.now c.args.pod xs ds) c.deref_mut.ensures.value c.step_all.ensures in
     let are_ds : (with_items old.differs ds).items ≡ ds = with_items_is old.differs ds (stepped.as_many ∙ sym old.differs.ok.0) in
     let seen_ds : c.deref-2.result.now ≡ ds = c.deref-2.ensures.value ∙ are_ds in
     let shows : AreShownBy ds vs = subst (λ (xs : List Differ). AreShownBy xs vs) seen_ds c.show_all.ensures.shown in
@@ -44,5 +44,5 @@ returns c = λ ticks f.
     let are_vs : (with_items old.views vs).items ≡ vs = with_items_is old.views vs room in
     let seen_vs : c.deref-3.result.now ≡ vs = c.deref-3.ensures.value ∙ are_vs in
     before_end c.args.shape c.args.pod ticks c.args.tick.now old _ ds vs are_ds are_vs f lives stepped shows as_many
-      (λ views. c.advance-2.ensures None h (listed (slice_get c.args.tick.now.pods c.args.pod))
-        (λ not. subst (λ (ws : List ContainerView). AreViewsOf (h ++ entry c.args.tick.now c.args.pod ∷ []) c.args.shape.container_count ws) (sym seen_vs) views) (not_evicted (length h)) f.progress)
+    (λ views. c.advance-2.ensures None h (listed (slice_get c.args.tick.now.pods c.args.pod))
+    (λ not. subst (λ (ws : List ContainerView). AreViewsOf (h ++ entry c.args.tick.now c.args.pod ∷ []) c.args.shape.container_count ws) (sym seen_vs) views) (not_evicted (length h)) f.progress)

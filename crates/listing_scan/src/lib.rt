@@ -1,0 +1,9 @@
+//! The rules on the instances of a container, run as they are stated: each answer looks through the whole list of ticks.
+//! It is slow, and stands for comparison with `state_diff`, which keeps a few values and none of the ticks.
+#![tactic(auto)]
+
+mod listing;
+mod scan;
+
+pub use listing::Listing;
+pub use scan::{effective_state, exit_place, is_acceptable, newest_attempt, start_place};

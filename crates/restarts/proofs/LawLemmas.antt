@@ -1,0 +1,66 @@
+-- The laws of the delays.
+use Rattle.std.proofs.Common.{◌≡◌, ℕ, ◌+◌, ◌≤◌, List, [], ◌∷◌, ◌++◌, Option, Some, None, refl, ap, ◌∙◌, sym, min, ◌*◌, arith}
+use Rattle.restarts.specs.Exits.{Exit}
+use Rattle.restarts.specs.Delays.{IsDue, delay_of}
+use Rattle.restarts.specs.Laws.{EveryListHasOneDelay, DelayIsOneOfSeven, LongRunResets, DelayDoesNotFall, DelayDoubles, LongRunForgets}
+use Rattle.restarts.proofs.Places.{last_exit-after}
+use Rattle.restarts.proofs.Numbers.{number_of, number_unique, number_short, number_long, number_forgets, number_remembers}
+use Rattle.restarts.proofs.DelayLemmas.{delay_of-rises, delay_of-among, delay_of-doubles}
+
+pub one_delay : EveryListHasOneDelay
+one_delay greatest exits =
+    let num = number_of exits in (
+      (delay_of greatest num.0, (num.0, num.1, refl)),
+      λ c d p q. p.2 ∙ ap (delay_of greatest) (number_unique exits p.0 q.0 p.1 q.1) ∙ sym q.2,
+    )
+
+pub one_of_seven : DelayIsOneOfSeven
+one_of_seven exits delay p = rw p.2 (delay_of-among p.0)
+
+pub resets : LongRunResets
+resets greatest exits last delay long p =
+    p.2 ∙ ap (delay_of greatest) (number_unique (exits ++ last ∷ []) p.0 1 p.1 (number_long exits last long))
+
+pub does_not_fall : DelayDoesNotFall
+does_not_fall greatest exits last before after short p q =
+    let next : q.0 ≡ p.0 + 1 = number_unique (exits ++ last ∷ []) q.0 (p.0 + 1) q.1 (number_short exits last p.0 short p.1) in
+    let rises : delay_of greatest p.0 ≤ delay_of greatest q.0 = delay_of-rises greatest p.0 q.0 (omega arith) in
+    let from : before ≡ delay_of greatest p.0 = p.2 in
+    let to : after ≡ delay_of greatest q.0 = q.2 in
+    omega arith
+
+pub doubles : DelayDoubles
+doubles greatest exits last before after short some p q =
+    let next : q.0 ≡ p.0 + 1 = number_unique (exits ++ last ∷ []) q.0 (p.0 + 1) q.1 (number_short exits last p.0 short p.1) in
+    let from : before ≡ delay_of greatest p.0 = p.2 in
+    let to : after ≡ delay_of greatest q.0 = q.2 in
+    let twice : delay_of greatest (p.0 + 1) ≡ min greatest (2 * delay_of greatest p.0) = delay_of-doubles greatest p.0 (omega arith) in
+    to ∙ ap (delay_of greatest) next ∙ twice ∙ ap (λ d. min greatest (2 * d)) (sym from)
+
+some_exit : (earlier later : List Exit) (x : Exit) → earlier ++ x ∷ later ≡ [] → ⊥
+some_exit [] later x is = cc
+some_exit (y ∷ earlier) later x is = cc
+
+due_forgets : (greatest : ℕ) (earlier later : List Exit) (long : Exit) (due : Option ℕ) → 600 ≤ long.run
+    → IsDue greatest (earlier ++ long ∷ later) due → IsDue greatest (long ∷ later) due
+due_forgets greatest earlier later long None is none = absurd (some_exit earlier later long none)
+due_forgets greatest earlier later long (Some due) is (last, delay, ends, (n, num, by), so) =
+    (last, delay, sym (last_exit-after earlier long later) ∙ ends, (n, number_forgets earlier later long n is num, by), so)
+
+due_remembers : (greatest : ℕ) (earlier later : List Exit) (long : Exit) (due : Option ℕ) → 600 ≤ long.run
+    → IsDue greatest (long ∷ later) due → IsDue greatest (earlier ++ long ∷ later) due
+due_remembers greatest earlier later long None is none = absurd (some_exit [] later long none)
+due_remembers greatest earlier later long (Some due) is (last, delay, ends, (n, num, by), so) =
+    (last, delay, last_exit-after earlier long later ∙ ends, (n, number_remembers earlier later long n is num, by), so)
+
+pub forgets : LongRunForgets
+forgets earlier later long backoff is = (
+  λ st. record {
+    count = let of = st.count in (of.0, number_forgets earlier later long of.0 is of.1, of.2);
+    due = due_forgets 300 earlier later long backoff.due is st.due;
+  },
+  λ st. record {
+    count = let of = st.count in (of.0, number_remembers earlier later long of.0 is of.1, of.2);
+    due = due_remembers 300 earlier later long backoff.due is st.due;
+  },
+)

@@ -1,0 +1,5 @@
+pub mod Places
+pub mod Numbers
+pub mod CountLemmas
+pub mod DelayLemmas
+pub mod LawLemmas

@@ -1,0 +1,6 @@
+pub mod Backoff
+pub mod Counts
+pub mod Delays
+pub mod Exits
+pub mod Laws
+pub mod Wanted

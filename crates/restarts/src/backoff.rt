@@ -1,0 +1,101 @@
+//! How long a restart is put off.
+
+ghost use Rattle.std.specs.Prelude.{◌≡◌, ◌+◌, ◌^◌, ◌<◌, ◌≤◌, ◌↔◌, List, [], ◌∷◌, ◌++◌, IsTrue};
+ghost use Rattle.restarts.specs.Exits.{Exit};
+ghost use Rattle.restarts.specs.Delays.{delay_of};
+ghost use Rattle.restarts.specs.Counts.{IsCountOf};
+
+// A run of so many seconds or more begins the count anew.
+const LONG_RUN: u64 = 600;
+
+// The delay of the second exit, in seconds, which each further one doubles.
+const FIRST_DELAY: u64 = 10;
+
+// No delay is greater, in seconds.
+const GREATEST_DELAY: u64 = 300;
+
+// From this number on each delay is the greatest, so the count stops there.
+const LAST_COUNT: u32 = 7;
+
+/// The back-off of one container: how long its restarts are put off, by the exits so far.
+///
+/// (Kubernetes, "Pod Lifecycle", "Container restart policy": a delay of 10 s, 20 s, 40 s and so on,
+/// at most 300 s. The first exit has none, and a run of 600 s begins the count anew.)
+#[derive(Clone, Copy, Debug, PartialEq, Eq)]
+pub struct Backoff {
+    count: u32,
+    due: Option<u64>,
+    ghost counted: { count ≤ 7 },
+}
+
+impl Backoff {
+    ghost use Rattle.restarts.specs.Exits.{exit};
+    ghost use Rattle.restarts.specs.Delays.{IsDelay, IsDue, greatest_delay};
+    ghost use Rattle.restarts.specs.Backoff.{IsStateOf};
+
+    /// No exit yet.
+    pub fn new() -> Backoff
+        ensures { IsStateOf [] result }
+    {
+        Backoff {
+            count: 0,
+            due: None,
+        }
+    }
+
+    /// Takes the next exit, at the moment `at` (in seconds) and after a run of so many seconds (0 without a
+    /// start), and answers by how many seconds its restart is put off. Every exit counts, also one after
+    /// which no restart is wanted. Exits come in the order of their moments, and those of one moment in
+    /// that of their attempts.
+    pub fn exited(&mut self, run_seconds: u64, at: u64) -> u64
+        requires { at < 2 ^ 40 }
+        ensures state { (exits : List Exit) → IsStateOf exits self.old → IsStateOf (exits ++ exit at run_seconds ∷ []) self.new }
+        ensures delay { (exits : List Exit) → IsStateOf exits self.old → IsDelay greatest_delay (exits ++ exit at run_seconds ∷ []) result }
+    {
+        self.count = count_after(self.count, run_seconds);
+        let delay = delay_after(self.count, GREATEST_DELAY);
+        self.due = Some(at + delay);
+        delay
+    }
+
+    /// From which moment on the restart after the last exit is due; `None` before any exit.
+    pub fn due(&self) -> Option<u64>
+        ensures { (exits : List Exit) → IsStateOf exits self.now → IsDue greatest_delay exits result }
+    {
+        self.due
+    }
+}
+
+// The count after one more exit.
+fn count_after(count: u32, run_seconds: u64) -> u32
+    requires { count ≤ 7 }
+    ensures within { result ≤ 7 }
+    ensures counts { (exits : List Exit) (next : Exit) → next.run ≡ run_seconds → IsCountOf exits count → IsCountOf (exits ++ next ∷ []) result }
+{
+    if is_long(run_seconds) {
+        1
+    } else if count < LAST_COUNT {
+        count + 1
+    } else {
+        count
+    }
+}
+
+// Whether a run begins the count anew.
+fn is_long(run_seconds: u64) -> bool
+    ensures { IsTrue result ↔ (600 ≤ run_seconds) }
+{
+    run_seconds >= LONG_RUN
+}
+
+// The delay of an exit with this number.
+fn delay_after(number: u32, greatest: u64) -> u64
+    requires { number ≤ 7 }
+    ensures { result ≡ delay_of greatest number }
+{
+    if number < 2 {
+        0
+    } else {
+        (FIRST_DELAY * 2u64.pow(number - 2)).min(greatest)
+    }
+}

@@ -1,0 +1,33 @@
+//! Laws of the delays, for every list of exits.
+
+ghost use Rattle.restarts.specs.Laws.{EveryListHasOneDelay, DelayIsOneOfSeven, LongRunResets, DelayDoesNotFall, DelayDoubles, LongRunForgets};
+
+/// Every list of exits has a delay, and only one.
+pub fn every_list_has_one_delay()
+    ensures { EveryListHasOneDelay }
+{}
+
+/// A delay is 0, 10, 20, 40, 80, 160 or 300 s.
+pub fn delay_is_one_of_seven()
+    ensures { DelayIsOneOfSeven }
+{}
+
+/// After a run of at least 600 s the delay is 0.
+pub fn long_run_resets()
+    ensures { LongRunResets }
+{}
+
+/// From one exit to the next the delay does not fall, unless the run between was at least 600 s.
+pub fn delay_does_not_fall()
+    ensures { DelayDoesNotFall }
+{}
+
+/// A delay that is not 0 doubles at the next exit, up to the greatest, unless the run between was at least 600 s.
+pub fn delay_doubles()
+    ensures { DelayDoubles }
+{}
+
+/// What is kept of the exits depends on those from the last run of at least 600 s on alone.
+pub fn long_run_forgets()
+    ensures { LongRunForgets }
+{}

@@ -1,0 +1,11 @@
+//! Tests of the rules: values worked out by hand, and counters beside plain programs that look at whole histories.
+#![tactic(auto)]
+
+#[cfg(test)]
+mod instances_tests;
+#[cfg(test)]
+mod phase_tests;
+#[cfg(test)]
+mod replay_stream_tests;
+#[cfg(test)]
+mod restarts_tests;

@@ -1,0 +1,112 @@
+//! The back-off over lists of exits, and after which exits a container is started again.
+
+ghost use Rattle.std.specs.Prelude.{◌^◌, ◌<◌};
+
+use manifest::Policy;
+use restarts::{Backoff, wants_restart};
+use std::test::Fail;
+
+#[test]
+fn delays_double_until_a_long_run(rt: HostRuntime) {
+    let mut backoff = Backoff::new();
+    assert_eq!(rt; backoff.due(), None);
+    // (run, moment, delay, due)
+    let exits = [
+        (5, 100, 0, 100),
+        (600, 700, 0, 700),
+        (599, 1299, 10, 1309),
+        (1, 1310, 20, 1330),
+    ];
+    for (run, at, delay, due) in exits {
+        assert_eq!(rt; backoff.exited(run, at), delay, "after a run of {run} s");
+        assert_eq!(rt; backoff.due(), Some(due), "after a run of {run} s");
+    }
+}
+
+#[test]
+fn eight_short_runs_reach_the_greatest_delay(rt: HostRuntime) {
+    let mut backoff = Backoff::new();
+    for delay in [0u64, 10, 20, 40, 80, 160, 300, 300] {
+        assert_eq!(rt; backoff.exited(1, 1000), delay);
+        assert_eq!(rt; backoff.due(), Some(1000 + delay));
+    }
+    assert_eq!(rt; backoff.exited(0, 2000), 300);
+    assert_eq!(rt; backoff.exited(u64::MAX, 1099511627775), 0);
+    assert_eq!(rt; backoff.exited(0, 1099511627775), 10);
+    assert_eq!(rt; backoff.due(), Some(1099511627785));
+}
+
+#[test]
+fn policy_init_and_code_decide_a_restart(rt: HostRuntime) {
+    // (policy, app container with code 0, with another, init container with code 0, with another)
+    let table = [
+        (Policy::Always, true, true, false, true),
+        (Policy::OnFailure, false, true, false, true),
+        (Policy::Never, false, false, false, false),
+    ];
+    for (policy, app_success, app_failure, init_success, init_failure) in table {
+        assert_eq!(rt; wants_restart(policy, false, 0), app_success, "{policy:?}");
+        assert_eq!(rt; wants_restart(policy, true, 0), init_success, "{policy:?}");
+        for code in [1, 137, -1, i32::MAX, i32::MIN] {
+            assert_eq!(rt;
+                wants_restart(policy, false, code),
+                app_failure,
+                "{policy:?} {code}"
+            );
+            assert_eq!(rt;
+                wants_restart(policy, true, code),
+                init_failure,
+                "{policy:?} {code}"
+            );
+        }
+    }
+}
+
+/// The delay of the last of some exits, given by their runs, from the rule alone.
+fn slow_delay(runs: &[u64]) -> u64 {
+    let mut start = 0;
+    for (place, run) in runs.iter().enumerate() {
+        if *run >= 600 {
+            start = place;
+        }
+    }
+    let number = runs.len().saturating_sub(start);
+    if number < 2 {
+        return 0;
+    }
+    let mut delay = 10u64;
+    for _ in 2..number {
+        delay = delay.saturating_mul(2).min(300);
+    }
+    delay
+}
+
+/// A moment after those of smaller numbers.
+fn moment_of(number: u64, random: u64) -> u64
+    requires { number < 10000 }
+    ensures { result < 2 ^ 40 }
+{
+    number * 5000 + (random >> 20) % 5000
+}
+
+#[test]
+fn many_exits_are_put_off_as_the_whole_list_says(rt: HostRuntime) -> Result<(), Fail> {
+    let lengths = [
+        0, 1, 5, 60, 599, 600, 601, 300, 12, 599, 2, 100000, 30, 7, 1, 0,
+    ];
+    let mut random = 20261122u64;
+    let mut runs = Vec::new(rt.alloc());
+    let mut backoff = Backoff::new();
+    for i in 0..10000u64 {
+        random = random
+            .wrapping_mul(6364136223846793005)
+            .wrapping_add(1442695040888963407);
+        let at = moment_of(i, random);
+        let run = lengths[(random >> 40) as usize % lengths.len()];
+        runs.push(run)?;
+        let delay = slow_delay(&runs);
+        assert_eq!(rt; backoff.exited(run, at), delay, "exit {i}");
+        assert_eq!(rt; backoff.due(), Some(at.saturating_add(delay)), "exit {i}");
+    }
+    Ok(())
+}
