@@ -6,6 +6,8 @@ mod instances_tests;
 #[cfg(test)]
 mod phase_tests;
 #[cfg(test)]
+mod quantity_tests;
+#[cfg(test)]
 mod replay_stream_tests;
 #[cfg(test)]
 mod restarts_tests;

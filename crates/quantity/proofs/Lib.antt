@@ -1,0 +1,15 @@
+pub mod Decimal
+pub mod DurationFaults
+pub mod DurationMeaning
+pub mod Durations
+pub mod Numbers
+pub mod PercentFaults
+pub mod PercentMeaning
+pub mod Printing
+pub mod Quantities
+pub mod QuantityFaults
+pub mod QuantityLaws
+pub mod QuantityMeaning
+pub mod Runs
+pub mod StepsPassed
+pub mod Suffixes

@@ -1,0 +1,115 @@
+-- The suffix of a quantity: which texts are one, and by what factor it scales.
+use Rattle.std.specs.Prelude.{◌≡◌, ℕ, ◌^◌, ◌<◌, ◌≤◌, ◌⊎◌, List, [], ◌∷◌, ◌++◌, length, drop, slice_index, Option, Some, None, option_map, Bool, ◌&&◌, ◌||◌, nat_le, ◌==◌, if◌then◌else◌, codes, Contains}
+use Rattle.std.specs.Str.Parse.{digits_value}
+use Rattle.quantity.specs.Digits.{AllDigits, after_digits}
+use Rattle.quantity.specs.declared.suffix.Factor.{Factor}
+use Rattle.quantity.specs.declared.fault.QuantityFault.{QuantityFault}
+use Rattle.quantity.specs.declared.fault.QuantityFault.TheVariants.{BadSuffix, Exponent}
+
+-- a factor of n, and of 1 / n
+abbrev pub times : ℕ → Factor
+times n = record { numerator = n; denominator = 1 }
+
+abbrev pub divided_by : ℕ → Factor
+divided_by n = record { numerator = 1; denominator = n }
+
+-- What a suffix means.
+
+-- the suffixes that are names
+abbrev pub named_factors : List (List ℕ × Factor)
+named_factors =
+    (codes "", times 1) ∷
+    (codes "n", divided_by (10 ^ 9)) ∷
+    (codes "u", divided_by (10 ^ 6)) ∷
+    (codes "m", divided_by (10 ^ 3)) ∷
+    (codes "k", times (10 ^ 3)) ∷
+    (codes "M", times (10 ^ 6)) ∷
+    (codes "G", times (10 ^ 9)) ∷
+    (codes "T", times (10 ^ 12)) ∷
+    (codes "P", times (10 ^ 15)) ∷
+    (codes "E", times (10 ^ 18)) ∷
+    (codes "Ki", times (2 ^ 10)) ∷
+    (codes "Mi", times (2 ^ 20)) ∷
+    (codes "Gi", times (2 ^ 30)) ∷
+    (codes "Ti", times (2 ^ 40)) ∷
+    (codes "Pi", times (2 ^ 50)) ∷
+    (codes "Ei", times (2 ^ 60)) ∷ []
+
+-- `e` or `E`, perhaps a sign, and one or two digits: a power of ten from -18 to 18
+pub record IsExponent (suffix : List ℕ) (factor : Factor) : Type 0 where
+  pub letter : List ℕ
+  pub sign : List ℕ
+  pub digits : List ℕ
+  pub suffix_is : suffix ≡ letter ++ (sign ++ digits)
+  pub letter_is : (letter ≡ codes "e") ⊎ (letter ≡ codes "E")
+  pub all_digits : AllDigits digits
+  pub one_or_two : (1 ≤ length digits) × (length digits ≤ 2)
+  pub at_most : digits_value 10 digits ≤ 18
+  pub factor_is : (((sign ≡ []) ⊎ (sign ≡ codes "+")) × (factor ≡ times (10 ^ digits_value 10 digits))) ⊎ ((sign ≡ codes "-") × (factor ≡ divided_by (10 ^ digits_value 10 digits)))
+
+abbrev pub HasFactor : List ℕ → Factor → Type 0
+HasFactor suffix factor = Contains named_factors (suffix, factor) ⊎ IsExponent suffix factor
+
+-- What is read of a suffix.
+
+-- one letter: `n` is 110, `u` 117, `m` 109, `k` 107, `M` 77, `G` 71, `T` 84, `P` 80 and `E` 69
+abbrev pub decimal_factor : ℕ → Option Factor
+decimal_factor letter =
+    if letter == 110 then Some (divided_by (10 ^ 9))
+    else if letter == 117 then Some (divided_by (10 ^ 6))
+    else if letter == 109 then Some (divided_by (10 ^ 3))
+    else if letter == 107 then Some (times (10 ^ 3))
+    else if letter == 77 then Some (times (10 ^ 6))
+    else if letter == 71 then Some (times (10 ^ 9))
+    else if letter == 84 then Some (times (10 ^ 12))
+    else if letter == 80 then Some (times (10 ^ 15))
+    else if letter == 69 then Some (times (10 ^ 18))
+    else None
+
+-- the letter before `i`
+abbrev pub binary_factor : ℕ → Option Factor
+binary_factor letter =
+    if letter == 75 then Some (times (2 ^ 10))
+    else if letter == 77 then Some (times (2 ^ 20))
+    else if letter == 71 then Some (times (2 ^ 30))
+    else if letter == 84 then Some (times (2 ^ 40))
+    else if letter == 80 then Some (times (2 ^ 50))
+    else if letter == 69 then Some (times (2 ^ 60))
+    else None
+
+-- ten to the power that one or two digits write, up to 18
+abbrev pub power_of : List ℕ → Option ℕ
+power_of digits =
+    if (length digits == 1 || length digits == 2) && (length (after_digits digits) == 0 && nat_le (digits_value 10 digits) 18)
+    then Some (10 ^ digits_value 10 digits)
+    else None
+
+-- what follows the `e`: `-` is 45 and `+` 43
+abbrev pub exponent_factor : List ℕ → Option Factor
+exponent_factor text =
+    if slice_index text 0 == 45 then option_map divided_by (power_of (drop 1 text))
+    else if slice_index text 0 == 43 then option_map times (power_of (drop 1 text))
+    else option_map times (power_of text)
+
+-- a suffix begins as an exponent: `e` is 101, and `E` 69
+abbrev pub begins_exponent : List ℕ → Bool
+begins_exponent suffix = slice_index suffix 0 == 101 || slice_index suffix 0 == 69
+
+-- the factor of a suffix: `i` is 105
+unfoldable pub factor_of : List ℕ → Option Factor
+factor_of suffix =
+    if length suffix == 0 then Some (times 1)
+    else if length suffix == 1 then decimal_factor (slice_index suffix 0)
+    else if length suffix == 2 && slice_index suffix 1 == 105 then binary_factor (slice_index suffix 0)
+    else if begins_exponent suffix then exponent_factor (drop 1 suffix)
+    else None
+
+-- the fault of a suffix that is none
+abbrev pub suffix_fault : List ℕ → QuantityFault
+suffix_fault suffix = if begins_exponent suffix then Exponent else BadSuffix
+
+-- the factors stay within these bounds
+pub record IsScale (factor : Factor) : Type 0 where
+  pub small : factor.numerator ≤ 2 ^ 60
+  pub positive : 0 < factor.denominator
+  pub fine : factor.denominator ≤ 10 ^ 18

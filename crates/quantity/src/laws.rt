@@ -1,0 +1,62 @@
+//! What is true of each text that is read, and of each percentage of a capacity.
+//!
+//! Each function here is a law: its contract is what it is for, and its body is empty.
+
+ghost use Rattle.std.specs.Prelude.{ℕ, List};
+ghost use Rattle.quantity.specs.declared.fault.QuantityFault.{QuantityFault};
+ghost use Rattle.quantity.specs.Laws.{QuantityTextHasOneValue, PercentTextHasOneValue, DurationTextHasOneValue, LeadingPlusChangesNothing, LargerDigitGivesNoLess, SharesAreWithinCapacity, SharesGrow, PrintedQuantitiesReadBack, PrintedPercentagesReadBack, NumberIsLongestRun, QuantityTextHasOneFault};
+
+/// A text has at most one value as a quantity.
+pub fn quantity_text_has_one_value()
+    ensures { (text : List ℕ) (m n : ℕ) → QuantityTextHasOneValue text m n }
+{}
+
+/// A text has at most one value as a percentage.
+pub fn percent_text_has_one_value()
+    ensures { (text : List ℕ) (m n : ℕ) → PercentTextHasOneValue text m n }
+{}
+
+/// A text has at most one value as a duration.
+pub fn duration_text_has_one_value()
+    ensures { (text : List ℕ) (m n : ℕ) → DurationTextHasOneValue text m n }
+{}
+
+/// A quantity and the same text after a plus have one value.
+pub fn leading_plus_changes_nothing()
+    ensures { (text : List ℕ) (n : ℕ) → LeadingPlusChangesNothing text n }
+{}
+
+/// A quantity does not fall where a digit before its point grows.
+pub fn larger_digit_gives_no_less()
+    ensures { (front back : List ℕ) (low high m n : ℕ) → LargerDigitGivesNoLess front back low high m n }
+{}
+
+/// A percentage of a capacity is at most the capacity.
+pub fn shares_are_within_capacity()
+    ensures { (hundredths capacity : ℕ) → SharesAreWithinCapacity hundredths capacity }
+{}
+
+/// A percentage of a capacity does not fall where the percentage or the capacity grows.
+pub fn shares_grow()
+    ensures { (few many low high : ℕ) → SharesGrow few many low high }
+{}
+
+/// What is printed of a quantity is a text of that quantity, if at most 17 digits are printed.
+pub fn printed_quantities_read_back()
+    ensures { (thousandths : ℕ) → PrintedQuantitiesReadBack thousandths }
+{}
+
+/// The number that a text begins with is its longest run of digits with at most one point.
+pub fn number_is_longest_run()
+    ensures { (text : List ℕ) → NumberIsLongestRun text }
+{}
+
+/// What is printed of a percentage is a text of that percentage.
+pub fn printed_percentages_read_back()
+    ensures { (hundredths : ℕ) → PrintedPercentagesReadBack hundredths }
+{}
+
+/// A text has at most one first fault as a quantity.
+pub fn quantity_text_has_one_fault()
+    ensures { (text : List ℕ) (one other : QuantityFault) → QuantityTextHasOneFault text one other }
+{}

@@ -1,0 +1,18 @@
+//! Quantities, percentages and durations, read as Kubernetes writes them.
+#![tactic(auto)]
+
+mod digits;
+mod duration;
+mod fault;
+pub mod laws;
+mod limit;
+mod number;
+mod percent;
+mod quantity;
+mod suffix;
+
+pub use duration::seconds_of;
+pub use fault::QuantityFault;
+pub use limit::Limit;
+pub use percent::Percent;
+pub use quantity::Quantity;
