@@ -6,3 +6,4 @@ pub mod PodHistory
 pub mod Lines
 pub mod Report
 pub mod Run
+pub mod Laws

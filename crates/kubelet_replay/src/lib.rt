@@ -3,6 +3,7 @@
 
 mod fault;
 mod follow;
+pub mod laws;
 mod replay;
 mod report;
 mod text;

@@ -1,8 +1,8 @@
 use manifest::Policy::{self, Always, Never, OnFailure};
 use phase::Phase::{Failed, Pending, Succeeded};
 use phase::{
-    ContainerState, ContainerView, Phase, PodShape, PodStatus, container_state, container_status,
-    raw_phase,
+    Conditions, ContainerState, ContainerView, Phase, PodShape, PodStatus, Values, container_state,
+    container_status, is_never, is_restart_wanted, raw_phase,
 };
 use state_diff::{CriState, Differ, Seen};
 use std::process::Abort;
@@ -250,5 +250,55 @@ fn container_status_follows_the_listings(rt: HostRuntime) -> Result<(), Fail> {
     assert_eq!(rt; gone.code, Some(137));
     assert_eq!(rt; gone.restarts, 2);
     assert!(rt; !gone.ready);
+    Ok(())
+}
+
+#[test]
+fn exits_that_want_a_restart(rt: HostRuntime) -> Result<(), Fail> {
+    for (policy, after_zero, after_one) in [
+        (Always, true, true),
+        (OnFailure, false, true),
+        (Never, false, false),
+    ] {
+        assert_eq!(rt; is_restart_wanted(policy, 0), after_zero, "{policy:?}");
+        assert_eq!(rt; is_restart_wanted(policy, 1), after_one, "{policy:?}");
+        assert_eq!(rt; is_restart_wanted(policy, -1), after_one, "{policy:?}");
+        assert_eq!(rt; is_never(policy), !after_one, "{policy:?}");
+    }
+    Ok(())
+}
+
+#[test]
+fn transition_moments_of_conditions(rt: HostRuntime) -> Result<(), Fail> {
+    let mut conditions = Conditions::new(true);
+    assert!(rt; !conditions.initialized.value);
+    assert_eq!(rt; conditions.pod_scheduled.since, None);
+    for (at, initialized, containers_ready, initialized_since, ready_since) in [
+        (3, false, false, 3, 3),
+        (4, true, false, 4, 3),
+        (6, true, true, 4, 6),
+        (9, true, true, 4, 6),
+        (12, true, false, 4, 12),
+    ] {
+        let values = Values {
+            initialized,
+            containers_ready,
+        };
+        conditions.advance(at, values);
+        assert!(rt; conditions.pod_scheduled.value);
+        assert_eq!(rt; conditions.pod_scheduled.since, Some(3));
+        assert_eq!(rt; conditions.initialized.value, initialized);
+        assert_eq!(rt;
+            conditions.initialized.since,
+            Some(initialized_since),
+            "at {at}"
+        );
+        assert_eq!(rt; conditions.containers_ready.value, containers_ready);
+        assert_eq!(rt;
+            conditions.containers_ready.since,
+            Some(ready_since),
+            "at {at}"
+        );
+    }
     Ok(())
 }
