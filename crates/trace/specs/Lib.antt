@@ -12,3 +12,4 @@ pub mod Past
 pub mod Tick
 pub mod Trace
 pub mod Sound
+pub mod Laws

@@ -3,6 +3,7 @@
 
 mod backwards;
 mod fault;
+pub mod laws;
 mod lines;
 mod listing;
 mod node;

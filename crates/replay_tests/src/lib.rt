@@ -1,0 +1,13 @@
+//! Tests of the replay, from the bytes of a trace to the bytes of its report: expected values worked out by hand.
+#![tactic(auto)]
+
+#[cfg(test)]
+mod fault_tests;
+#[cfg(test)]
+mod manifest_tests;
+#[cfg(test)]
+mod replay_tests;
+#[cfg(test)]
+mod support;
+#[cfg(test)]
+mod text_tests;

@@ -1,0 +1,5 @@
+use Rattle.trace.proofs.LawLemmas as lemmas
+use Rattle.trace.proofs.laws.first_fault.Goals as goal
+
+pub returns : goal.returns
+returns c = lemmas.first_fault

@@ -1,0 +1,142 @@
+-- What the trace of a text is, in the words of its format. The lines of a text have the places 0, 1, .. and, in an
+-- answer, the numbers 1, 2, ...
+use Rattle.std.specs.Prelude.{◌≡◌, ◌≢◌, ◌⊎◌, ◌↔◌, ◌+◌, ◌≤◌, ◌<◌, ℕ, zero, suc, Bool, true, false, List, [], length, slice_get, Option, Some, None, is_some, Result, Ok, Err, codes}
+use Rattle.serde_json.specs.Data.{Data}
+use Rattle.json_fields.specs.Fields.{field_at, text_at}
+use Rattle.trace.specs.declared.fault.LineKind.{LineKind}
+use Rattle.trace.specs.declared.fault.LineKind.TheVariants.{TooLong, UnknownKind, Order, TooMany, Doubled, Backwards, ExitCode}
+use Rattle.trace.specs.declared.fault.LineFault.{LineFault}
+use Rattle.trace.specs.declared.past.Trace.{Trace}
+use Rattle.trace.specs.declared.past.Sort.{Sort}
+use Rattle.trace.specs.declared.past.Sort.TheVariants as sorts
+use Rattle.trace.specs.declared.listing.Entry.{Entry}
+use Rattle.trace.specs.declared.placing.PlacedEntry.{PlacedEntry}
+use Rattle.trace.specs.Lines.{lines_of, is_blank}
+use Rattle.trace.specs.Node.{node_of}
+use Rattle.trace.specs.Pod.{pod_from}
+use Rattle.trace.specs.Listings.{entries_of}
+use Rattle.trace.specs.Placing.{placed_of, is_doubled}
+use Rattle.trace.specs.Observed.{observed, some_code_missing}
+use Rattle.trace.specs.Backwards.{is_backwards}
+use Rattle.trace.specs.Past.{Past}
+use Rattle.trace.specs.Tick.{moment_of, most_ticks}
+use Rattle.trace.specs.Trace.{json_of, kind_from, line_at, nothing, trace_of}
+
+-- after what is said before it, the line leaves this said: a blank line adds nothing, any other line counts and has no fault
+abbrev pub Leaves : Past → List ℕ → Past → Type 0
+Leaves before line past = ((is_blank line ≡ true) × (past ≡ before)) ⊎ ((is_blank line ≡ false) × (line_at before line ≡ Ok past))
+
+-- the first n lines say this, and none of them that counts has a fault
+abbrev pub AreSaid : List (List ℕ) → ℕ → Past → Type 0
+AreSaid lines zero past = past ≡ nothing
+AreSaid lines (suc n) past = (before : Past) × (line : List ℕ) × AreSaid lines n before × (slice_get lines n ≡ Some line) × Leaves before line past
+
+-- the line at place n counts and has a fault, its first of this kind, and no line before it has one
+pub record IsFaultAt (lines : List (List ℕ)) (n : ℕ) (kind : LineKind) : Type 0 where
+  pub past : Past
+  pub line : List ℕ
+  pub said : AreSaid lines n past
+  pub here : slice_get lines n ≡ Some line
+  pub counts : is_blank line ≡ false
+  pub fails : line_at past line ≡ Err kind
+
+-- every line is blank
+abbrev pub NoneCounts : List (List ℕ) → Type 0
+NoneCounts lines = (n : ℕ) (line : List ℕ) → slice_get lines n ≡ Some line → is_blank line ≡ true
+
+-- the answer names the first line that has a fault, or the line after the last one where no line counts
+abbrev pub IsFirstFault : List (List ℕ) → LineFault → Type 0
+IsFirstFault lines fault =
+    ((n : ℕ) × IsFaultAt lines n fault.kind × (fault.line ≡ n + 1))
+    ⊎ (NoneCounts lines × (fault.kind ≡ Order) × (fault.line ≡ length lines + 1))
+
+-- no line has a fault, and all of them say the trace
+pub record IsWhole (lines : List (List ℕ)) (trace : Trace) : Type 0 where
+  pub past : Past
+  pub said : AreSaid lines (length lines) past
+  pub node : past.node ≡ Some trace.node
+  pub pods : past.pods ≡ trace.pods
+  pub ticks : past.ticks ≡ trace.ticks
+
+-- a text is refused exactly with its first fault
+abbrev pub FirstFault : Type 0
+FirstFault = (text : List ℕ) (fault : LineFault) → (trace_of text ≡ Err fault ↔ IsFirstFault (lines_of text) fault)
+
+-- a text has a trace exactly where no line has a fault and some line counts; it is what the lines say
+abbrev pub WholeTrace : Type 0
+WholeTrace = (text : List ℕ) (trace : Trace) → (trace_of text ≡ Ok trace ↔ IsWhole (lines_of text) trace)
+
+-- the first lines say one thing at most, and at most one line has the first fault
+pub record OneFault : Type 0 where
+  pub said : (lines : List (List ℕ)) (n : ℕ) (past past' : Past) → AreSaid lines n past → AreSaid lines n past' → past ≡ past'
+  pub fault : (lines : List (List ℕ)) (n m : ℕ) (kind kind' : LineKind) → IsFaultAt lines n kind → IsFaultAt lines m kind' → (n ≡ m) × (kind ≡ kind')
+
+-- the line is at most 1 MiB long, and it is this JSON value
+pub record IsJson (line : List ℕ) (d : Data) : Type 0 where
+  pub short : length line ≤ 1048576
+  pub json : json_of line ≡ Ok d
+
+-- and of this kind
+pub record IsOfKind (line : List ℕ) (sort : Sort) (d : Data) : Type 0 where
+  pub json : IsJson line d
+  pub kind : kind_from (text_at (codes "kind") d) ≡ Some sort
+
+-- a node line stands before all other lines that count, and a pod line before all tick lines
+abbrev pub MayStand : Past → Sort → Type 0
+MayStand past sorts.Node = past.node ≡ None
+MayStand past sorts.Pod = (is_some past.node ≡ true) × (past.ticks ≡ [])
+MayStand past sorts.Tick = is_some past.node ≡ true
+
+-- the line is of this kind, and may stand where it does
+pub record Stands (past : Past) (line : List ℕ) (sort : Sort) (d : Data) : Type 0 where
+  pub of_kind : IsOfKind line sort d
+  pub here : MayStand past sort
+
+-- a tick line for which there is room, at this moment
+pub record HasMoment (past : Past) (line : List ℕ) (d : Data) (at : ℕ) : Type 0 where
+  pub stands : Stands past line sorts.Tick d
+  pub room : length past.ticks < most_ticks
+  pub moment : moment_of past.ticks (field_at (codes "at") d) ≡ Ok at
+
+-- and with these entries
+pub record HasEntries (past : Past) (line : List ℕ) (d : Data) (at : ℕ) (entries : List Entry) : Type 0 where
+  pub has_moment : HasMoment past line d at
+  pub entries_are : entries_of d ≡ Ok entries
+
+-- which are of pods and containers that are known
+pub record HasPlaces (past : Past) (line : List ℕ) (d : Data) (at : ℕ) (placed : List PlacedEntry) : Type 0 where
+  pub entries : List Entry
+  pub has_entries : HasEntries past line d at entries
+  pub placed_are : placed_of past.pods entries ≡ Ok placed
+
+-- no two of them are of one pod or container
+pub record IsApart (past : Past) (line : List ℕ) (d : Data) (at : ℕ) (placed : List PlacedEntry) : Type 0 where
+  pub has_places : HasPlaces past line d at placed
+  pub apart : is_doubled placed ≡ false
+
+-- and none of them goes back behind an earlier one
+pub record IsForwards (past : Past) (line : List ℕ) (d : Data) (at : ℕ) (placed : List PlacedEntry) : Type 0 where
+  pub is_apart : IsApart past line d at placed
+  pub forwards : is_backwards past.ticks (observed at placed past.pods) ≡ false
+
+-- the first check that a line fails after what is said before it, with the fault that it answers: the checks of every
+-- line, and then those of a node line, of a pod line, or of a tick line
+pub data Fails (past : Past) (line : List ℕ) : LineKind → Type 0 where
+  too_long : 1048576 < length line → Fails past line TooLong
+  not_json : (kind : LineKind) → length line ≤ 1048576 → json_of line ≡ Err kind → Fails past line kind
+  unknown_kind : (d : Data) → IsJson line d → kind_from (text_at (codes "kind") d) ≡ None → Fails past line UnknownKind
+  misplaced : (sort : Sort) (d : Data) → IsOfKind line sort d → (MayStand past sort → ⊥) → Fails past line Order
+  wrong_node : (d : Data) (kind : LineKind) → Stands past line sorts.Node d → node_of d ≡ Err kind → Fails past line kind
+  many_pods : (d : Data) → Stands past line sorts.Pod d → past.pods ≢ [] → Fails past line TooMany
+  wrong_pod : (d : Data) (kind : LineKind) → Stands past line sorts.Pod d → past.pods ≡ [] → pod_from (field_at (codes "pod") d) ≡ Err kind → Fails past line kind
+  many_ticks : (d : Data) → Stands past line sorts.Tick d → most_ticks ≤ length past.ticks → Fails past line TooMany
+  wrong_moment : (d : Data) (kind : LineKind) → Stands past line sorts.Tick d → length past.ticks < most_ticks → moment_of past.ticks (field_at (codes "at") d) ≡ Err kind → Fails past line kind
+  wrong_entry : (d : Data) (at : ℕ) (kind : LineKind) → HasMoment past line d at → entries_of d ≡ Err kind → Fails past line kind
+  stranger : (d : Data) (at : ℕ) (es : List Entry) (kind : LineKind) → HasEntries past line d at es → placed_of past.pods es ≡ Err kind → Fails past line kind
+  doubled : (d : Data) (at : ℕ) (placed : List PlacedEntry) → HasPlaces past line d at placed → is_doubled placed ≡ true → Fails past line Doubled
+  backwards : (d : Data) (at : ℕ) (placed : List PlacedEntry) → IsApart past line d at placed → is_backwards past.ticks (observed at placed past.pods) ≡ true → Fails past line Backwards
+  no_code : (d : Data) (at : ℕ) (placed : List PlacedEntry) → IsForwards past line d at placed → some_code_missing placed ≡ true → Fails past line ExitCode
+
+-- a line's fault is that of the first check that it fails
+abbrev pub FirstCheck : Type 0
+FirstCheck = (past : Past) (line : List ℕ) (kind : LineKind) → (line_at past line ≡ Err kind ↔ Fails past line kind)
