@@ -1,6 +1,6 @@
 //! Texts that are no trace, and how a refusal is told.
 
-use crate::support::{NODE, POD, after_node, expect_fault, expect_report};
+use crate::support::{POD, after_node, expect_fault, expect_report};
 use kubelet_replay::{RunFault, fault_line, status_of};
 use manifest::Field::{Containers, Pod, Probe};
 use manifest::ManifestFault::{DuplicateContainer, Missing, Sidecar, TooMany, WrongKind};
@@ -184,7 +184,6 @@ fn second_lines_are_refused(rt: HostRuntime) -> Result<(), Fail> {
         let text = after_node(rt.alloc(), &[POD, line])?;
         expect_fault(&rt, rt.alloc(), text.as_bytes(), 3, LineKind::TooMany, line);
     }
-    expect_report(&rt, rt.alloc(), NODE.as_bytes(), 100, "");
     Ok(())
 }
 

@@ -6,7 +6,7 @@ mod fault_tests;
 #[cfg(test)]
 mod manifest_tests;
 #[cfg(test)]
-mod replay_tests;
+mod report_tests;
 #[cfg(test)]
 mod support;
 #[cfg(test)]

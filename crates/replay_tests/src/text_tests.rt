@@ -10,7 +10,7 @@ const TWO_CONTAINERS: &str =
     r#"{"kind":"pod","pod":{"metadata":{"name":"b","namespace":"prod"},"spec":{"restartPolicy":"OnFailure","containers":[{"name":"c"},{"name":"d"}]}}}"#;
 
 const LISTS_BOTH: &str =
-    r#"{"kind":"tick","at":0,"pods":[{"pod":"prod/b","containers":[{"name":"d","state":0},{"name":"c","attempt":2147483647,"state":"CONTAINER_UNKNOWN"}]}]}"#;
+    r#"{"kind":"tick","at":0,"signals":null,"pods":[{"pod":"prod/b","probes":null,"containers":[{"name":"d","state":0,"exitCode":"x"},{"name":"c","attempt":2147483647,"state":"CONTAINER_UNKNOWN"}]}]}"#;
 
 const LISTS_NONE: &str = r#"{"kind":"tick","at":7,"other":[],"pods":null}"#;
 
