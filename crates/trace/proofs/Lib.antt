@@ -1,4 +1,5 @@
 pub mod Cutting
+pub mod FollowedLemmas
 pub mod Found
 pub mod Listed
 pub mod Sound

@@ -1,5 +1,5 @@
 -- The ticks of a trace are acceptable.
-use Rattle.std.proofs.Common.{◌≡◌, ◌∙◌, ℕ, zero, suc, ◌+◌, ◌||◌, not, Bool, true, false, List, [], ◌∷◌, ◌++◌, Option, Some, None, Result, Ok, Err, refl, ap, sym, subst, inl, inr, arith, is_some}
+use Rattle.std.proofs.Common.{◌≡◌, ◌∙◌, ℕ, zero, suc, ◌+◌, ◌||◌, not, Bool, true, false, List, [], ◌∷◌, ◌++◌, Option, Some, None, Result, Ok, Err, refl, ap, sym, subst, inl, inr, arith}
 use Rattle.std.specs.Prelude.{⊤, slice_get, option_and_then, nat_lt, nat_le, length, codes, IfOk}
 use Rattle.std.proofs.lemmas.Bool.{cases_Bool}
 use Rattle.std.proofs.lemmas.List.{map_push}
@@ -10,7 +10,7 @@ use Rattle.json_fields.specs.Reading.{◌>>=◌, refused_if, some_or}
 use Rattle.json_fields.proofs.Steps.{bind_ok, refused_ok}
 use Rattle.state_diff.specs.declared.seen.Seen.{Seen}
 use Rattle.state_diff.specs.Acceptable.{is_acceptable}
-use Rattle.state_diff.specs.Instances.{Tick, IsAcceptableHistory}
+use Rattle.state_diff.specs.Instances.{IsAcceptableHistory}
 use Rattle.state_diff.proofs.Acceptable.{is_acceptable_is}
 use Rattle.state_diff.proofs.Order.{acceptable_more}
 use Rattle.manifest.specs.declared.pod.PodSpec.{PodSpec}
@@ -61,10 +61,10 @@ containers_forwards ticks pod n (o ∷ os) e (suc c) =
     let same : n + 1 + c ≡ n + suc c = omega arith in
     subst (λ (k : ℕ). is_acceptable (history ticks pod k) (option_and_then (λ (o : ContainerObs). o.seen) (slice_get os c)) ≡ true) same (containers_forwards ticks pod (n + 1) os rest c)
 
-abbrev seen_in_pod : Option PodObs → ℕ → Option Seen
+abbrev pub seen_in_pod : Option PodObs → ℕ → Option Seen
 seen_in_pod p c = option_and_then (λ (o : ContainerObs). o.seen) (option_and_then (λ (q : PodObs). slice_get q.containers c) p)
 
-pods_forwards : (ticks : List TickObs) (n : ℕ) (ps : List PodObs) → some_pod_backwards ticks n ps ≡ false
+pub pods_forwards : (ticks : List TickObs) (n : ℕ) (ps : List PodObs) → some_pod_backwards ticks n ps ≡ false
     → (p c : ℕ) → is_acceptable (history ticks (n + p) c) (seen_in_pod (slice_get ps p) c) ≡ true
 pods_forwards ticks n [] e p c = refl
 pods_forwards ticks n (q ∷ qs) e zero c =

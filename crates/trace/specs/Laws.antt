@@ -1,10 +1,10 @@
 -- What the trace of a text is, in the words of its format. The lines of a text have the places 0, 1, .. and, in an
 -- answer, the numbers 1, 2, ...
-use Rattle.std.specs.Prelude.{◌≡◌, ◌≢◌, ◌⊎◌, ◌↔◌, ◌+◌, ◌≤◌, ◌<◌, ℕ, zero, suc, Bool, true, false, List, [], length, slice_get, Option, Some, None, is_some, Result, Ok, Err, codes}
+use Rattle.std.specs.Prelude.{◌≡◌, ◌≢◌, ◌⊎◌, ◌↔◌, ◌+◌, ◌≤◌, ◌<◌, ℕ, zero, suc, true, false, List, [], ◌∷◌, ◌++◌, length, slice_get, Option, Some, None, is_some, Ok, Err, codes}
 use Rattle.serde_json.specs.Data.{Data}
 use Rattle.json_fields.specs.Fields.{field_at, text_at}
 use Rattle.trace.specs.declared.fault.LineKind.{LineKind}
-use Rattle.trace.specs.declared.fault.LineKind.TheVariants.{TooLong, UnknownKind, Order, TooMany, Doubled, Backwards, ExitCode}
+use Rattle.trace.specs.declared.fault.LineKind.TheVariants.{TooLong, NotJson, UnknownKind, Order, Manifest, Config, StrangerPod, StrangerContainer, Doubled, Moment, Backwards, ExitCode, TooMany, Usage, OutOfMemory}
 use Rattle.trace.specs.declared.fault.LineFault.{LineFault}
 use Rattle.trace.specs.declared.past.Trace.{Trace}
 use Rattle.trace.specs.declared.past.Sort.{Sort}
@@ -18,7 +18,12 @@ use Rattle.trace.specs.Listings.{entries_of}
 use Rattle.trace.specs.Placing.{placed_of, is_doubled}
 use Rattle.trace.specs.Observed.{observed, some_code_missing}
 use Rattle.trace.specs.Backwards.{is_backwards}
-use Rattle.trace.specs.Past.{Past}
+use Rattle.manifest.specs.declared.fault.ManifestFault.{ManifestFault}
+use Rattle.manifest.specs.declared.fault.ManifestFault.TheVariants as manifest_faults
+use Rattle.manifest.specs.declared.pod.PodSpec.{PodSpec}
+use Rattle.trace.specs.declared.observation.TickObs.{TickObs}
+use Rattle.trace.specs.declared.node.NodeConfig.{NodeConfig}
+use Rattle.trace.specs.Past.{Past, with_tick}
 use Rattle.trace.specs.Tick.{moment_of, most_ticks}
 use Rattle.trace.specs.Trace.{json_of, kind_from, line_at, nothing, trace_of}
 
@@ -140,3 +145,31 @@ pub data Fails (past : Past) (line : List ℕ) : LineKind → Type 0 where
 -- a line's fault is that of the first check that it fails
 abbrev pub FirstCheck : Type 0
 FirstCheck = (past : Past) (line : List ℕ) (kind : LineKind) → (line_at past line ≡ Err kind ↔ Fails past line kind)
+
+-- what is said after a line that passes all its checks
+pub data Says (past : Past) (line : List ℕ) : Past → Type 0 where
+  says_node : (d : Data) (node : NodeConfig) → Stands past line sorts.Node d → node_of d ≡ Ok node → Says past line (record { node = Some node; pods = past.pods; ticks = past.ticks })
+  says_pod : (d : Data) (pod : PodSpec) → Stands past line sorts.Pod d → past.pods ≡ [] → pod_from (field_at (codes "pod") d) ≡ Ok pod → Says past line (record { node = past.node; pods = past.pods ++ pod ∷ []; ticks = past.ticks })
+  says_tick : (d : Data) (at : ℕ) (placed : List PlacedEntry) → IsForwards past line d at placed → some_code_missing placed ≡ false → Says past line (with_tick past (observed at placed past.pods))
+
+-- a line without a fault says its node, its pod or its tick, behind what is said before it
+abbrev pub AllChecks : Type 0
+AllChecks = (past : Past) (line : List ℕ) (next : Past) → (line_at past line ≡ Ok next ↔ Says past line next)
+
+-- the kinds of fault that a check answers
+pub record KindsOfChecks : Type 0 where
+  pub json : (line : List ℕ) (kind : LineKind) → json_of line ≡ Err kind → kind ≡ NotJson
+  pub node : (d : Data) (kind : LineKind) → node_of d ≡ Err kind → kind ≡ Config
+  pub pod : (found : Option Data) (kind : LineKind) → pod_from found ≡ Err kind → (fault : ManifestFault) × (kind ≡ Manifest fault)
+  pub moment : (ticks : List TickObs) (found : Option Data) (kind : LineKind) → moment_of ticks found ≡ Err kind → kind ≡ Moment
+  pub entries : (d : Data) (kind : LineKind) → entries_of d ≡ Err kind → kind ≡ Usage
+  pub places : (pods : List PodSpec) (es : List Entry) (kind : LineKind) → placed_of pods es ≡ Err kind → (kind ≡ StrangerPod) ⊎ (kind ≡ StrangerContainer)
+
+-- not for want of memory
+abbrev pub IsNotMemory : LineKind → Type 0
+IsNotMemory kind = (kind ≢ OutOfMemory) × (kind ≢ Manifest manifest_faults.OutOfMemory)
+
+-- no line and no text has a fault for want of memory
+pub record NeverMemory : Type 0 where
+  pub line : (past : Past) (line : List ℕ) (kind : LineKind) → line_at past line ≡ Err kind → IsNotMemory kind
+  pub text : (text : List ℕ) (fault : LineFault) → trace_of text ≡ Err fault → IsNotMemory fault.kind

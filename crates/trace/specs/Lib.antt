@@ -8,6 +8,7 @@ pub mod Pod
 pub mod Listings
 pub mod Placing
 pub mod Observed
+pub mod Followed
 pub mod Past
 pub mod Tick
 pub mod Trace

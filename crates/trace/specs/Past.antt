@@ -9,5 +9,8 @@ pub record Past : Type 0 where
   pub pods : List PodSpec
   pub ticks : List TickObs
 
+abbrev pub with_pod : Past → PodSpec → Past
+with_pod past pod = record { node = past.node; pods = past.pods ++ pod ∷ []; ticks = past.ticks }
+
 abbrev pub with_tick : Past → TickObs → Past
 with_tick past tick = record { node = past.node; pods = past.pods; ticks = past.ticks ++ tick ∷ [] }

@@ -1,5 +1,5 @@
 //! What the definition of a trace implies, in the words of the format. The functions do nothing; their contracts are the laws.
-ghost use Rattle.trace.specs.Laws.{FirstFault, WholeTrace, OneFault, FirstCheck};
+ghost use Rattle.trace.specs.Laws.{FirstFault, WholeTrace, OneFault, FirstCheck, AllChecks, KindsOfChecks, NeverMemory};
 
 /// A text is refused exactly with the fault of its first line that has one, or behind its last line where no line counts.
 pub fn first_fault()
@@ -19,4 +19,19 @@ pub fn one_fault()
 /// A line's fault is that of the first check that it fails, in the order in which a line is checked.
 pub fn first_check()
     ensures { FirstCheck }
+{}
+
+/// A line that passes all its checks says its node, its pod or its tick, behind what is said before it.
+pub fn all_checks()
+    ensures { AllChecks }
+{}
+
+/// The kinds of fault that each check of a line answers.
+pub fn kinds_of_checks()
+    ensures { KindsOfChecks }
+{}
+
+/// No text has a fault for want of memory.
+pub fn never_memory()
+    ensures { NeverMemory }
 {}

@@ -1,8 +1,8 @@
 //! The trace that a text says, read line by line, or the text's first faulty line.
 #![tactic(auto)]
 
-mod backwards;
 mod fault;
+mod following;
 pub mod laws;
 mod lines;
 mod listing;

@@ -5,6 +5,7 @@ use crate::observation::TickObs;
 use crate::sequence::Sequence;
 use manifest::PodSpec;
 use name_list::NameList;
+use state_diff::Differ;
 use std::marker::Model;
 
 /// The kinds of line.
@@ -15,17 +16,20 @@ pub(crate) enum Sort {
     Tick,
 }
 
-/// What the lines so far say, with the pods' keys by number.
+/// What the lines so far say, with the pods' keys by number, and a differ for each container of each pod that has
+/// followed the ticks.
 #[derive(Drop)]
 pub(crate) struct Reader {
     pub(crate) node: Option<NodeConfig>,
     pub(crate) pods: Sequence<PodSpec>,
     pub(crate) ticks: Sequence<TickObs>,
     pub(crate) keys: NameList,
+    pub(crate) differs: Sequence<Sequence<Differ>>,
 }
 
 impl Model for Reader {
     ghost use Rattle.std.specs.Prelude.{◌≡◌};
+    ghost use Rattle.trace.specs.Followed.{AreFollowed};
     ghost use Rattle.trace.specs.Past.{Past};
     ghost use Rattle.trace.specs.Pod.{keys_of};
 
@@ -33,7 +37,7 @@ impl Model for Reader {
 
     ghost view = { λ r. record { node = r.node; pods = r.pods; ticks = r.ticks } };
 
-    ghost invariant = { λ r. r.keys ≡ keys_of r.pods };
+    ghost invariant = { λ r. (r.keys ≡ keys_of r.pods) × AreFollowed r.ticks r.pods r.differs };
 }
 
 /// A whole trace: the node, its pods, and what was recorded of them tick by tick.

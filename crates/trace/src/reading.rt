@@ -1,12 +1,14 @@
 //! Reading a whole trace.
 
-ghost use Rattle.std.specs.Prelude.{◌≡◌, option_map, IfOk};
+ghost use Rattle.std.specs.Prelude.{◌≡◌, [], option_map, Ok, IfOk};
 ghost use Rattle.serde_json.specs.View.{view};
 ghost use Rattle.trace.specs.Gives.{Gives, GivesAt};
+ghost use Rattle.trace.specs.Past.{with_pod};
 ghost use Rattle.trace.specs.Sound.{AreAcceptable};
 ghost use Rattle.trace.specs.Trace.{json_of, kind_from, with_node, pod_line_at, line_at, trace_of, finished, in_order};
 
 use crate::fault::{LineFault, LineKind};
+use crate::following::new_differs;
 use crate::lines::{first_line, is_blank};
 use crate::node::node_of;
 use crate::past::{Reader, Sort, Trace};
@@ -14,6 +16,7 @@ use crate::pod::{key_text, pod_in};
 use crate::sequence::Sequence;
 use crate::tick::take_tick;
 use json_fields::{field, text_at};
+use manifest::PodSpec;
 use name_list::NameList;
 use serde_json::Value;
 use std::alloc::Global;
@@ -49,6 +52,7 @@ fn take_node(alloc: Global, reader: Reader, line: &Value) -> Result<Reader, Line
         pods,
         ticks,
         keys,
+        differs,
         ..
     } = reader;
     Ok(Reader {
@@ -56,6 +60,32 @@ fn take_node(alloc: Global, reader: Reader, line: &Value) -> Result<Reader, Line
         pods,
         ticks,
         keys,
+        differs,
+    })
+}
+
+/// Adds the first pod, before all ticks.
+fn with_pod(alloc: Global, reader: Reader, pod: PodSpec) -> Result<Reader, LineKind>
+    requires { (reader.ticks ≡ []) × (reader.pods ≡ []) }
+    ensures { Gives (λ r. r) result (Ok (with_pod reader pod)) }
+{
+    let Reader {
+        node,
+        mut pods,
+        ticks,
+        mut keys,
+        mut differs,
+    } = reader;
+    keys.push(key_text(alloc, &pod)?)?;
+    let new = new_differs(alloc, pod.containers.as_slice().len())?;
+    differs.push(Sequence::from_vec(new))?;
+    pods.push(pod)?;
+    Ok(Reader {
+        node,
+        pods,
+        ticks,
+        keys,
+        differs,
     })
 }
 
@@ -64,27 +94,14 @@ fn take_node(alloc: Global, reader: Reader, line: &Value) -> Result<Reader, Line
 fn take_pod(alloc: Global, reader: Reader, line: &Value) -> Result<Reader, LineKind>
     ensures { Gives (λ r. r) result (pod_line_at reader (view line.now)) }
 {
-    let Reader {
-        node,
-        mut pods,
-        ticks,
-        mut keys,
-    } = reader;
-    if !ticks.as_slice().is_empty() {
+    if !reader.ticks.as_slice().is_empty() {
         return Err(LineKind::Order);
     }
-    if !pods.as_slice().is_empty() {
+    if !reader.pods.as_slice().is_empty() {
         return Err(LineKind::TooMany);
     }
     let pod = pod_in(alloc, field(line, "pod"))?;
-    keys.push(key_text(alloc, &pod)?)?;
-    pods.push(pod)?;
-    Ok(Reader {
-        node,
-        pods,
-        ticks,
-        keys,
-    })
+    with_pod(alloc, reader, pod)
 }
 
 fn take_sort(alloc: Global, reader: Reader, sort: Sort, line: &Value) -> Result<Reader, LineKind>
@@ -130,7 +147,7 @@ fn finished(line: u64, reader: Reader) -> Result<Trace, LineFault>
     }
 }
 
-#[tactic(auto, unfolding(crate::specs::Trace::trace_of))]
+#[tactic(auto, using(crate::proofs::FollowedLemmas::none_followed), unfolding(crate::specs::Trace::trace_of))]
 fn read_lines(alloc: Global, text: &[u8]) -> Result<Trace, LineFault>
     ensures { GivesAt (λ t. t) result (trace_of text.now) }
 {
@@ -139,6 +156,7 @@ fn read_lines(alloc: Global, text: &[u8]) -> Result<Trace, LineFault>
         pods: Sequence::new(alloc),
         ticks: Sequence::new(alloc),
         keys: NameList::new(alloc),
+        differs: Sequence::new(alloc),
     };
     let mut rest = text;
     let mut line = 1u64;

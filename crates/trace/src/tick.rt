@@ -1,6 +1,6 @@
 //! Tick lines.
 
-ghost use Rattle.std.specs.Prelude.{◌≡◌, option_map, length, nat_le, Ok, IfOk};
+ghost use Rattle.std.specs.Prelude.{◌≡◌, ◌++◌, ◌∷◌, [], option_map, length, nat_le, Ok, IfOk};
 ghost use Rattle.std.specs.List.{list_any};
 ghost use Rattle.serde_json.specs.View.{view};
 ghost use Rattle.json_fields.specs.Reading.{refused_if};
@@ -8,11 +8,11 @@ ghost use Rattle.trace.specs.Gives.{Gives};
 ghost use Rattle.trace.specs.Past.{with_tick};
 ghost use Rattle.trace.specs.Placing.{placed_of};
 ghost use Rattle.trace.specs.Observed.{seen_in, listings_of, seen_reported, containers_from, pods_from, observed, lacks_code, some_code_missing};
-ghost use Rattle.trace.specs.Backwards.{is_backwards};
+ghost use Rattle.trace.specs.Followed.{AreFollowed};
 ghost use Rattle.trace.specs.Tick.{moment_of, most_ticks, observed_in, tick_at};
 
-use crate::backwards::is_backwards;
 use crate::fault::LineKind;
+use crate::following::differs_after;
 use crate::listing::{Entry, Report, entries_of};
 use crate::observation::{ContainerObs, PodObs, TickObs};
 use crate::past::Reader;
@@ -21,7 +21,7 @@ use crate::sequence::Sequence;
 use json_fields::field;
 use manifest::{ContainerSpec, PodSpec};
 use serde_json::Value;
-use state_diff::{CriState, Seen};
+use state_diff::{CriState, Differ, Seen};
 use std::alloc::{AllocError, Global};
 
 fn moment(ticks: &[TickObs], found: Option<&Value>) -> Result<u64, LineKind>
@@ -180,27 +180,30 @@ fn placed_of(
     placed_entries(alloc, &reader.keys, reader.pods.as_slice(), entries)
 }
 
-/// The tick, checked against the earlier ticks.
+/// The tick, checked against the earlier ticks, and the differs after it.
 #[tactic(auto, unfolding(crate::specs::Tick::observed_in))]
 fn observed_in(
     alloc: Global,
     reader: &Reader,
     at: u64,
     entries: &[PlacedEntry],
-) -> Result<TickObs, LineKind>
-    ensures { Gives (λ t. t) result (observed_in reader.now at entries.now) }
+) -> Result<(TickObs, Sequence<Sequence<Differ>>), LineKind>
+    ensures gives { Gives (λ r. r.0) result (observed_in reader.now at entries.now) }
+    ensures followed { IfOk result (λ r. AreFollowed (reader.now.ticks ++ r.0 ∷ []) reader.now.pods r.1) }
 {
     refused_if(is_doubled(entries), LineKind::Doubled)?;
     let tick = observed(alloc, at, entries, reader.pods.as_slice())?;
-    refused_if(
-        is_backwards(reader.ticks.as_slice(), &tick),
-        LineKind::Backwards,
-    )?;
+    let differs = differs_after(alloc, reader, &tick)?;
     refused_if(some_code_missing(entries), LineKind::ExitCode)?;
-    Ok(tick)
+    Ok((tick, differs))
 }
 
-fn with_tick(reader: Reader, tick: TickObs) -> Result<Reader, LineKind>
+fn with_tick(
+    reader: Reader,
+    tick: TickObs,
+    differs: Sequence<Sequence<Differ>>,
+) -> Result<Reader, LineKind>
+    requires { AreFollowed (reader.ticks ++ tick ∷ []) reader.pods differs }
     ensures { Gives (λ r. r) result (Ok (with_tick reader tick)) }
 {
     let Reader {
@@ -208,6 +211,7 @@ fn with_tick(reader: Reader, tick: TickObs) -> Result<Reader, LineKind>
         pods,
         mut ticks,
         keys,
+        ..
     } = reader;
     ticks.push(tick)?;
     Ok(Reader {
@@ -215,6 +219,7 @@ fn with_tick(reader: Reader, tick: TickObs) -> Result<Reader, LineKind>
         pods,
         ticks,
         keys,
+        differs,
     })
 }
 
@@ -227,6 +232,6 @@ pub(crate) fn take_tick(alloc: Global, reader: Reader, line: &Value) -> Result<R
     let at = moment_after(&reader, field(line, "at"))?;
     let entries = entries_of(alloc, line)?;
     let placed = placed_of(alloc, &reader, &entries)?;
-    let tick = observed_in(alloc, &reader, at, &placed)?;
-    with_tick(reader, tick)
+    let (tick, differs) = observed_in(alloc, &reader, at, &placed)?;
+    with_tick(reader, tick, differs)
 }

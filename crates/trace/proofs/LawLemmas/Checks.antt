@@ -1,0 +1,428 @@
+-- A line's fault is that of its first check that fails; a line without one says its node, its pod or its tick.
+use Rattle.std.proofs.Common.{◌≡◌, ◌≢◌, ◌∙◌, ◌⊎◌, ℕ, ◌≤◌, ◌<◌, Bool, true, false, List, [], ◌∷◌, ◌++◌, length, Option, Some, None, Result, Ok, Err, refl, ap, sym, subst, inl, inr, arith, is_some}
+use Rattle.std.specs.Prelude.{⊤, nat_lt, nat_le, codes}
+use Rattle.std.proofs.lemmas.Bool.{ltb-true, ltb-false, lt-ltb, le-ltb, leb-true, leb-false, le-leb, lt-leb}
+use Rattle.serde_json.specs.Data.{Data}
+use Rattle.json_fields.specs.Fields.{field_at, text_at}
+use Rattle.json_fields.specs.Reading.{◌>>=◌, refused_if, some_or}
+use Rattle.json_fields.proofs.Steps.{bind_ok}
+use Rattle.manifest.specs.declared.pod.PodSpec.{PodSpec}
+use Rattle.trace.specs.declared.fault.LineKind.{LineKind}
+use Rattle.trace.specs.declared.fault.LineKind.TheVariants.{TooLong, UnknownKind, Order, TooMany, Doubled, Backwards, ExitCode}
+use Rattle.trace.specs.declared.node.NodeConfig.{NodeConfig}
+use Rattle.trace.specs.declared.past.Sort.{Sort}
+use Rattle.trace.specs.declared.past.Sort.TheVariants as sorts
+use Rattle.trace.specs.declared.observation.TickObs.{TickObs}
+use Rattle.trace.specs.declared.listing.Entry.{Entry}
+use Rattle.trace.specs.declared.placing.PlacedEntry.{PlacedEntry}
+use Rattle.trace.specs.Node.{node_of}
+use Rattle.trace.specs.Pod.{pod_from}
+use Rattle.trace.specs.Listings.{entries_of}
+use Rattle.trace.specs.Placing.{placed_of, is_doubled}
+use Rattle.trace.specs.Observed.{observed, some_code_missing}
+use Rattle.trace.specs.Backwards.{is_backwards}
+use Rattle.trace.specs.Past.{Past, with_tick}
+use Rattle.trace.specs.Tick.{moment_of, most_ticks, observed_in, tick_at}
+use Rattle.trace.specs.Trace.{json_of, kind_from, with_node, pod_line_at, in_order, line_at}
+use Rattle.trace.specs.Laws.{IsJson, IsOfKind, MayStand, Stands, HasMoment, HasEntries, HasPlaces, IsApart, IsForwards, Fails, too_long, not_json, unknown_kind, misplaced, wrong_node, many_pods, wrong_pod, many_ticks, wrong_moment, wrong_entry, stranger, doubled, backwards, no_code, FirstCheck, Says, says_node, says_pod, says_tick, AllChecks}
+
+bind_err : {A B E : Type 0} (r : Result A E) (f : A → Result B E) (fault : E) → (r >>= f) ≡ Err fault → (r ≡ Err fault) ⊎ ((x : A) × (r ≡ Ok x) × (f x ≡ Err fault))
+bind_err (Ok x) f fault e = inr (x, refl, e)
+bind_err (Err other) f fault e = let is : other ≡ fault = cc in inl (ap Err is)
+
+then_ok : {A B E : Type 0} (r : Result A E) (f : A → Result B E) (x : A) → r ≡ Ok x → (r >>= f) ≡ f x
+then_ok r f x e = rw e refl
+
+then_err : {A B E : Type 0} (r : Result A E) (f : A → Result B E) (fault : E) → r ≡ Err fault → (r >>= f) ≡ Err fault
+then_err r f fault e = rw e refl
+
+passed : {B E : Type 0} (b : Bool) (fault : E) (f : ⊤ → Result B E) → b ≡ false → (refused_if b fault >>= f) ≡ f tt
+passed b fault f e = rw e refl
+
+failed : {B E : Type 0} (b : Bool) (fault : E) (f : ⊤ → Result B E) → b ≡ true → (refused_if b fault >>= f) ≡ Err fault
+failed b fault f e = rw e refl
+
+-- a test either refuses, or what follows it does
+tested : {B E : Type 0} (b : Bool) (fault : E) (f : ⊤ → Result B E) (given : E) → (refused_if b fault >>= f) ≡ Err given → ((b ≡ true) × (fault ≡ given)) ⊎ ((b ≡ false) × (f tt ≡ Err given))
+tested true fault f given e = let is : fault ≡ given = cc in inl (refl, is)
+tested false fault f given e = inr (refl, e)
+
+-- the steps of a line, each with those after it
+abbrev in_place : Past → Data → Sort → Result Past LineKind
+in_place past d sort = in_order past.node past sort d
+
+abbrev with_kind : Past → Data → Option Sort → Result Past LineKind
+with_kind past d kind = some_or UnknownKind kind >>= in_place past d
+
+abbrev with_json : Past → Data → Result Past LineKind
+with_json past d = with_kind past d (kind_from (text_at (codes "kind") d))
+
+abbrev with_tick_seen : Past → TickObs → Result Past LineKind
+with_tick_seen past tick = Ok (with_tick past tick)
+
+abbrev with_places : Past → ℕ → List PlacedEntry → Result Past LineKind
+with_places past at placed = observed_in past at placed >>= with_tick_seen past
+
+abbrev with_entries : Past → ℕ → List Entry → Result Past LineKind
+with_entries past at entries = placed_of past.pods entries >>= with_places past at
+
+abbrev with_moment : Past → Data → ℕ → Result Past LineKind
+with_moment past d at = entries_of d >>= with_entries past at
+
+abbrev with_room : Past → Data → ⊤ → Result Past LineKind
+with_room past d u = moment_of past.ticks (field_at (codes "at") d) >>= with_moment past d
+
+abbrev with_code : Past → ℕ → List PlacedEntry → ⊤ → Result TickObs LineKind
+with_code past at placed u = Ok (observed at placed past.pods)
+
+abbrev with_forwards : Past → ℕ → List PlacedEntry → ⊤ → Result TickObs LineKind
+with_forwards past at placed u = refused_if (some_code_missing placed) ExitCode >>= with_code past at placed
+
+abbrev with_apart : Past → ℕ → List PlacedEntry → ⊤ → Result TickObs LineKind
+with_apart past at placed u = refused_if (is_backwards past.ticks (observed at placed past.pods)) Backwards >>= with_forwards past at placed
+
+abbrev pod_said : Past → PodSpec → Result Past LineKind
+pod_said past pod = Ok (record { node = past.node; pods = past.pods ++ pod ∷ []; ticks = past.ticks })
+
+abbrev pod_read : Past → Data → ⊤ → Result Past LineKind
+pod_read past d u = pod_from (field_at (codes "pod") d) >>= pod_said past
+
+abbrev pod_alone : Past → Data → ⊤ → Result Past LineKind
+pod_alone past d u = refused_if (nat_lt 0 (length past.pods)) TooMany >>= pod_read past d
+
+none_in : {A : Type 0} (xs : List A) → nat_lt 0 (length xs) ≡ false → xs ≡ []
+none_in [] e = refl
+none_in (x ∷ xs) e = let le = ltb-false 0 (length (x ∷ xs)) e in absurd (omega arith)
+
+some_in : {A : Type 0} (xs : List A) → nat_lt 0 (length xs) ≡ true → xs ≢ []
+some_in [] e is = let lt = ltb-true 0 0 e in absurd (omega arith)
+some_in (x ∷ xs) e is = absurd (cc)
+
+in_some : {A : Type 0} (xs : List A) → xs ≢ [] → nat_lt 0 (length xs) ≡ true
+in_some [] some = absurd (some refl)
+in_some (x ∷ xs) some = lt-ltb 0 (length (x ∷ xs)) (omega arith)
+
+in_none : {A : Type 0} (xs : List A) → xs ≡ [] → nat_lt 0 (length xs) ≡ false
+in_none xs none = rw none refl
+
+pub no_fault : {A E : Type 0} (x : A) (fault : E) → ◌≡◌ {A = Result A E} (Ok x) (Err fault) → ⊥
+no_fault x fault e = absurd (cc)
+
+pub same_fault : {A E : Type 0} (a b : E) → ◌≡◌ {A = Result A E} (Err a) (Err b) → a ≡ b
+same_fault a b e = cc
+
+-- from a fault to the check that fails
+code_fails : (past : Past) (line : List ℕ) (d : Data) (at : ℕ) (placed : List PlacedEntry) (kind : LineKind) → IsForwards past line d at placed → with_forwards past at placed tt ≡ Err kind → Fails past line kind
+code_fails past line d at placed kind is e = elim (tested (some_code_missing placed) ExitCode (with_code past at placed) kind e) [
+  | inl here ↦ subst (λ (k : LineKind). Fails past line k) here.1 (no_code d at placed is here.0)
+  | inr later ↦ absurd (no_fault (observed at placed past.pods) kind later.1)
+]
+
+order_fails : (past : Past) (line : List ℕ) (d : Data) (at : ℕ) (placed : List PlacedEntry) (kind : LineKind) → IsApart past line d at placed → with_apart past at placed tt ≡ Err kind → Fails past line kind
+order_fails past line d at placed kind is e = elim (tested (is_backwards past.ticks (observed at placed past.pods)) Backwards (with_forwards past at placed) kind e) [
+  | inl here ↦ subst (λ (k : LineKind). Fails past line k) here.1 (backwards d at placed is here.0)
+  | inr later ↦ code_fails past line d at placed kind (record { is_apart = is; forwards = later.0 }) later.1
+]
+
+observed_fails : (past : Past) (line : List ℕ) (d : Data) (at : ℕ) (placed : List PlacedEntry) (kind : LineKind) → HasPlaces past line d at placed → observed_in past at placed ≡ Err kind → Fails past line kind
+unfolding observed_in
+observed_fails past line d at placed kind is e = elim (tested (is_doubled placed) Doubled (with_apart past at placed) kind e) [
+  | inl here ↦ subst (λ (k : LineKind). Fails past line k) here.1 (doubled d at placed is here.0)
+  | inr later ↦ order_fails past line d at placed kind (record { has_places = is; apart = later.0 }) later.1
+]
+
+places_fails : (past : Past) (line : List ℕ) (d : Data) (at : ℕ) (placed : List PlacedEntry) (kind : LineKind) → HasPlaces past line d at placed → with_places past at placed ≡ Err kind → Fails past line kind
+places_fails past line d at placed kind is e = elim (bind_err (observed_in past at placed) (with_tick_seen past) kind e) [
+  | inl here ↦ observed_fails past line d at placed kind is here
+  | inr later ↦ absurd (no_fault (with_tick past later.0) kind later.2)
+]
+
+entries_fails : (past : Past) (line : List ℕ) (d : Data) (at : ℕ) (es : List Entry) (kind : LineKind) → HasEntries past line d at es → with_entries past at es ≡ Err kind → Fails past line kind
+entries_fails past line d at es kind is e = elim (bind_err (placed_of past.pods es) (with_places past at) kind e) [
+  | inl here ↦ stranger d at es kind is here
+  | inr later ↦ places_fails past line d at later.0 kind (record { entries = es; has_entries = is; placed_are = later.1 }) later.2
+]
+
+moment_fails : (past : Past) (line : List ℕ) (d : Data) (at : ℕ) (kind : LineKind) → HasMoment past line d at → with_moment past d at ≡ Err kind → Fails past line kind
+moment_fails past line d at kind is e = elim (bind_err (entries_of d) (with_entries past at) kind e) [
+  | inl here ↦ wrong_entry d at kind is here
+  | inr later ↦ entries_fails past line d at later.0 kind (record { has_moment = is; entries_are = later.1 }) later.2
+]
+
+room_fails : (past : Past) (line : List ℕ) (d : Data) (kind : LineKind) → Stands past line sorts.Tick d → length past.ticks < most_ticks → with_room past d tt ≡ Err kind → Fails past line kind
+room_fails past line d kind is room e = elim (bind_err (moment_of past.ticks (field_at (codes "at") d)) (with_moment past d) kind e) [
+  | inl here ↦ wrong_moment d kind is room here
+  | inr later ↦ moment_fails past line d later.0 kind (record { stands = is; room = room; moment = later.1 }) later.2
+]
+
+tick_fails : (past : Past) (line : List ℕ) (d : Data) (kind : LineKind) → Stands past line sorts.Tick d → tick_at past d ≡ Err kind → Fails past line kind
+unfolding tick_at
+tick_fails past line d kind is e = elim (tested (nat_le most_ticks (length past.ticks)) TooMany (with_room past d) kind e) [
+  | inl here ↦ subst (λ (k : LineKind). Fails past line k) here.1 (many_ticks d is (leb-true most_ticks (length past.ticks) here.0))
+  | inr later ↦ room_fails past line d kind is (leb-false most_ticks (length past.ticks) later.0) later.1
+]
+
+read_fails : (past : Past) (line : List ℕ) (d : Data) (kind : LineKind) → Stands past line sorts.Pod d → past.pods ≡ [] → pod_read past d tt ≡ Err kind → Fails past line kind
+read_fails past line d kind is none e = elim (bind_err (pod_from (field_at (codes "pod") d)) (pod_said past) kind e) [
+  | inl here ↦ wrong_pod d kind is none here
+  | inr later ↦ absurd (no_fault (record { node = past.node; pods = past.pods ++ later.0 ∷ []; ticks = past.ticks }) kind later.2)
+]
+
+alone_fails : (past : Past) (line : List ℕ) (d : Data) (kind : LineKind) → Stands past line sorts.Pod d → pod_alone past d tt ≡ Err kind → Fails past line kind
+alone_fails past line d kind is e = elim (tested (nat_lt 0 (length past.pods)) TooMany (pod_read past d) kind e) [
+  | inl here ↦ subst (λ (k : LineKind). Fails past line k) here.1 (many_pods d is (some_in past.pods here.0))
+  | inr later ↦ read_fails past line d kind is (none_in past.pods later.0) later.1
+]
+
+pod_fails : (past : Past) (line : List ℕ) (d : Data) (kind : LineKind) → is_some past.node ≡ true → IsOfKind line sorts.Pod d → pod_line_at past d ≡ Err kind → Fails past line kind
+unfolding pod_line_at
+pod_fails past line d kind node is e = elim (tested (nat_lt 0 (length past.ticks)) Order (pod_alone past d) kind e) [
+  | inl here ↦ subst (λ (k : LineKind). Fails past line k) here.1 (misplaced sorts.Pod d is (λ may. some_in past.ticks here.0 may.1))
+  | inr later ↦ alone_fails past line d kind (record { of_kind = is; here = (node, none_in past.ticks later.0) }) later.1
+]
+
+node_fails : (past : Past) (line : List ℕ) (d : Data) (kind : LineKind) → Stands past line sorts.Node d → with_node past d ≡ Err kind → Fails past line kind
+unfolding with_node
+node_fails past line d kind is e =
+    let said : NodeConfig → Result Past LineKind = λ node. Ok (record { node = Some node; pods = past.pods; ticks = past.ticks }) in
+    elim (bind_err (node_of d) said kind e) [
+      | inl here ↦ wrong_node d kind is here
+      | inr later ↦ absurd (no_fault (record { node = Some later.0; pods = past.pods; ticks = past.ticks }) kind later.2)
+    ]
+
+not_some : (node : Option NodeConfig) → node ≡ None → is_some node ≡ true → ⊥
+not_some None none some = absurd (cc)
+not_some (Some node) none some = absurd (cc)
+
+none_some : {A : Type 0} (x : A) → ◌≡◌ {A = Option A} None (Some x) → ⊥
+none_some x e = absurd (cc)
+
+place_fails : (node : Option NodeConfig) (past : Past) (line : List ℕ) (sort : Sort) (d : Data) (kind : LineKind) → past.node ≡ node → IsOfKind line sort d → in_order node past sort d ≡ Err kind → Fails past line kind
+place_fails None past line sorts.Node d kind none is e = node_fails past line d kind (record { of_kind = is; here = none }) e
+place_fails None past line sorts.Pod d kind none is e =
+    subst (λ (k : LineKind). Fails past line k) (same_fault {A = Past} Order kind e) (misplaced sorts.Pod d is (λ may. not_some past.node none may.0))
+place_fails None past line sorts.Tick d kind none is e =
+    subst (λ (k : LineKind). Fails past line k) (same_fault {A = Past} Order kind e) (misplaced sorts.Tick d is (λ may. not_some past.node none may))
+place_fails (Some node) past line sorts.Node d kind some is e =
+    subst (λ (k : LineKind). Fails past line k) (same_fault {A = Past} Order kind e) (misplaced sorts.Node d is (λ may. none_some node (sym may ∙ some)))
+place_fails (Some node) past line sorts.Pod d kind some is e =
+    pod_fails past line d kind (ap (λ (o : Option NodeConfig). is_some o) some) is e
+place_fails (Some node) past line sorts.Tick d kind some is e =
+    tick_fails past line d kind (record { of_kind = is; here = ap (λ (o : Option NodeConfig). is_some o) some }) e
+
+kind_fails : (past : Past) (line : List ℕ) (d : Data) (found : Option Sort) (kind : LineKind) → IsJson line d → kind_from (text_at (codes "kind") d) ≡ found → with_kind past d found ≡ Err kind → Fails past line kind
+kind_fails past line d None kind is found e = subst (λ (k : LineKind). Fails past line k) (same_fault {A = Past} UnknownKind kind e) (unknown_kind d is found)
+kind_fails past line d (Some sort) kind is found e = place_fails past.node past line sort d kind refl (record { json = is; kind = found }) e
+
+json_fails : (past : Past) (line : List ℕ) (kind : LineKind) → length line ≤ 1048576 → (json_of line >>= with_json past) ≡ Err kind → Fails past line kind
+json_fails past line kind short e = elim (bind_err (json_of line) (with_json past) kind e) [
+  | inl here ↦ not_json kind short here
+  | inr later ↦ kind_fails past line later.0 (kind_from (text_at (codes "kind") later.0)) kind (record { short = short; json = later.1 }) refl later.2
+]
+
+pub line_fails : (past : Past) (line : List ℕ) (kind : LineKind) → line_at past line ≡ Err kind → Fails past line kind
+unfolding line_at
+line_fails past line kind e = elim (tested (nat_lt 1048576 (length line)) TooLong (λ u. json_of line >>= with_json past) kind e) [
+  | inl here ↦ subst (λ (k : LineKind). Fails past line k) here.1 (too_long (ltb-true 1048576 (length line) here.0))
+  | inr later ↦ json_fails past line kind (ltb-false 1048576 (length line) later.0) later.1
+]
+
+-- from a check that fails to the fault
+of_short : (past : Past) (line : List ℕ) → length line ≤ 1048576 → line_at past line ≡ (json_of line >>= with_json past)
+unfolding line_at
+of_short past line short = passed (nat_lt 1048576 (length line)) TooLong (λ u. json_of line >>= with_json past) (le-ltb 1048576 (length line) short)
+
+of_long : (past : Past) (line : List ℕ) → 1048576 < length line → line_at past line ≡ Err TooLong
+unfolding line_at
+of_long past line long = failed (nat_lt 1048576 (length line)) TooLong (λ u. json_of line >>= with_json past) (lt-ltb 1048576 (length line) long)
+
+of_json : (past : Past) (line : List ℕ) (d : Data) → IsJson line d → line_at past line ≡ with_json past d
+of_json past line d is = of_short past line is.short ∙ then_ok (json_of line) (with_json past) d is.json
+
+of_kind : (past : Past) (line : List ℕ) (sort : Sort) (d : Data) → IsOfKind line sort d → line_at past line ≡ in_order past.node past sort d
+of_kind past line sort d is = of_json past line d is.json ∙ ap (λ (found : Option Sort). with_kind past d found) is.kind
+
+misplaced_kind : (node : Option NodeConfig) (past : Past) (sort : Sort) (d : Data) → past.node ≡ node → (MayStand past sort → ⊥) → in_order node past sort d ≡ Err Order
+unfolding pod_line_at
+misplaced_kind None past sorts.Node d none never = absurd (never none)
+misplaced_kind None past sorts.Pod d none never = refl
+misplaced_kind None past sorts.Tick d none never = refl
+misplaced_kind (Some node) past sorts.Node d some never = refl
+misplaced_kind (Some node) past sorts.Pod d some never =
+    let ticks : past.ticks ≢ [] = λ none. never (ap (λ (o : Option NodeConfig). is_some o) some, none) in
+    failed (nat_lt 0 (length past.ticks)) Order (pod_alone past d) (in_some past.ticks ticks)
+misplaced_kind (Some node) past sorts.Tick d some never = absurd (never (ap (λ (o : Option NodeConfig). is_some o) some))
+
+node_in_order : (node : Option NodeConfig) (past : Past) (d : Data) → node ≡ None → in_order node past sorts.Node d ≡ with_node past d
+node_in_order None past d is = refl
+node_in_order (Some node) past d is = absurd (cc)
+
+pod_in_order : (node : Option NodeConfig) (past : Past) (d : Data) → is_some node ≡ true → in_order node past sorts.Pod d ≡ pod_line_at past d
+pod_in_order None past d is = absurd (cc)
+pod_in_order (Some node) past d is = refl
+
+tick_in_order : (node : Option NodeConfig) (past : Past) (d : Data) → is_some node ≡ true → in_order node past sorts.Tick d ≡ tick_at past d
+tick_in_order None past d is = absurd (cc)
+tick_in_order (Some node) past d is = refl
+
+of_node : (past : Past) (line : List ℕ) (d : Data) (kind : LineKind) → Stands past line sorts.Node d → node_of d ≡ Err kind → line_at past line ≡ Err kind
+unfolding with_node
+of_node past line d kind is e =
+    let said : NodeConfig → Result Past LineKind = λ node. Ok (record { node = Some node; pods = past.pods; ticks = past.ticks }) in
+    of_kind past line sorts.Node d is.of_kind ∙ node_in_order past.node past d is.here ∙ then_err (node_of d) said kind e
+
+of_pod : (past : Past) (line : List ℕ) (d : Data) → Stands past line sorts.Pod d → line_at past line ≡ pod_alone past d tt
+unfolding pod_line_at
+of_pod past line d is =
+    of_kind past line sorts.Pod d is.of_kind ∙ pod_in_order past.node past d is.here.0
+    ∙ passed (nat_lt 0 (length past.ticks)) Order (pod_alone past d) (in_none past.ticks is.here.1)
+
+of_tick : (past : Past) (line : List ℕ) (d : Data) → Stands past line sorts.Tick d → line_at past line ≡ (refused_if (nat_le most_ticks (length past.ticks)) TooMany >>= with_room past d)
+unfolding tick_at
+of_tick past line d is = of_kind past line sorts.Tick d is.of_kind ∙ tick_in_order past.node past d is.here
+
+of_room : (past : Past) (line : List ℕ) (d : Data) → Stands past line sorts.Tick d → length past.ticks < most_ticks → line_at past line ≡ with_room past d tt
+of_room past line d is room = of_tick past line d is ∙ passed (nat_le most_ticks (length past.ticks)) TooMany (with_room past d) (lt-leb most_ticks (length past.ticks) room)
+
+of_moment : (past : Past) (line : List ℕ) (d : Data) (at : ℕ) → HasMoment past line d at → line_at past line ≡ with_moment past d at
+of_moment past line d at is = of_room past line d is.stands is.room ∙ then_ok (moment_of past.ticks (field_at (codes "at") d)) (with_moment past d) at is.moment
+
+of_entries : (past : Past) (line : List ℕ) (d : Data) (at : ℕ) (es : List Entry) → HasEntries past line d at es → line_at past line ≡ with_entries past at es
+of_entries past line d at es is = of_moment past line d at is.has_moment ∙ then_ok (entries_of d) (with_entries past at) es is.entries_are
+
+of_places : (past : Past) (line : List ℕ) (d : Data) (at : ℕ) (placed : List PlacedEntry) → HasPlaces past line d at placed → line_at past line ≡ with_places past at placed
+of_places past line d at placed is = of_entries past line d at is.entries is.has_entries ∙ then_ok (placed_of past.pods is.entries) (with_places past at) placed is.placed_are
+
+of_observed : (past : Past) (line : List ℕ) (d : Data) (at : ℕ) (placed : List PlacedEntry) (kind : LineKind) → HasPlaces past line d at placed
+    → (refused_if (is_doubled placed) Doubled >>= with_apart past at placed) ≡ Err kind → line_at past line ≡ Err kind
+unfolding observed_in
+of_observed past line d at placed kind is e = of_places past line d at placed is ∙ then_err (observed_in past at placed) (with_tick_seen past) kind e
+
+of_apart : (past : Past) (line : List ℕ) (d : Data) (at : ℕ) (placed : List PlacedEntry) (kind : LineKind) → IsApart past line d at placed
+    → with_apart past at placed tt ≡ Err kind → line_at past line ≡ Err kind
+of_apart past line d at placed kind is e = of_observed past line d at placed kind is.has_places (passed (is_doubled placed) Doubled (with_apart past at placed) is.apart ∙ e)
+
+of_forwards : (past : Past) (line : List ℕ) (d : Data) (at : ℕ) (placed : List PlacedEntry) (kind : LineKind) → IsForwards past line d at placed
+    → with_forwards past at placed tt ≡ Err kind → line_at past line ≡ Err kind
+of_forwards past line d at placed kind is e =
+    of_apart past line d at placed kind is.is_apart (passed (is_backwards past.ticks (observed at placed past.pods)) Backwards (with_forwards past at placed) is.forwards ∙ e)
+
+fails_line : (past : Past) (line : List ℕ) (kind : LineKind) → Fails past line kind → line_at past line ≡ Err kind
+fails_line past line _ (too_long long) = of_long past line long
+fails_line past line _ (not_json kind short e) = of_short past line short ∙ then_err (json_of line) (with_json past) kind e
+fails_line past line _ (unknown_kind d is none) = of_json past line d is ∙ ap (λ (found : Option Sort). with_kind past d found) none
+fails_line past line _ (misplaced sort d is never) = of_kind past line sort d is ∙ misplaced_kind past.node past sort d refl never
+fails_line past line _ (wrong_node d kind is e) = of_node past line d kind is e
+fails_line past line _ (many_pods d is some) = of_pod past line d is ∙ failed (nat_lt 0 (length past.pods)) TooMany (pod_read past d) (in_some past.pods some)
+fails_line past line _ (wrong_pod d kind is none e) =
+    of_pod past line d is ∙ passed (nat_lt 0 (length past.pods)) TooMany (pod_read past d) (in_none past.pods none) ∙ then_err (pod_from (field_at (codes "pod") d)) (pod_said past) kind e
+fails_line past line _ (many_ticks d is many) = of_tick past line d is ∙ failed (nat_le most_ticks (length past.ticks)) TooMany (with_room past d) (le-leb most_ticks (length past.ticks) many)
+fails_line past line _ (wrong_moment d kind is room e) = of_room past line d is room ∙ then_err (moment_of past.ticks (field_at (codes "at") d)) (with_moment past d) kind e
+fails_line past line _ (wrong_entry d at kind is e) = of_moment past line d at is ∙ then_err (entries_of d) (with_entries past at) kind e
+fails_line past line _ (stranger d at es kind is e) = of_entries past line d at es is ∙ then_err (placed_of past.pods es) (with_places past at) kind e
+fails_line past line _ (doubled d at placed is twice) = of_observed past line d at placed Doubled is (failed (is_doubled placed) Doubled (with_apart past at placed) twice)
+fails_line past line _ (backwards d at placed is back) = of_apart past line d at placed Backwards is (failed (is_backwards past.ticks (observed at placed past.pods)) Backwards (with_forwards past at placed) back)
+fails_line past line _ (no_code d at placed is missing) = of_forwards past line d at placed ExitCode is (failed (some_code_missing placed) ExitCode (with_code past at placed) missing)
+
+pub first_check : FirstCheck
+first_check past line kind = (line_fails past line kind, fails_line past line kind)
+
+-- a test that refuses nothing, and what follows it
+cleared : {B E : Type 0} (b : Bool) (fault : E) (f : ⊤ → Result B E) (y : B) → (refused_if b fault >>= f) ≡ Ok y → (b ≡ false) × (f tt ≡ Ok y)
+cleared true fault f y e = absurd (cc)
+cleared false fault f y e = (refl, e)
+
+same_value : {A E : Type 0} (a b : A) → ◌≡◌ {A = Result A E} (Ok a) (Ok b) → a ≡ b
+same_value a b e = cc
+
+-- from what a line leaves to what it says
+tick_says : (past : Past) (line : List ℕ) (d : Data) (next : Past) → Stands past line sorts.Tick d → tick_at past d ≡ Ok next → Says past line next
+unfolding tick_at observed_in
+tick_says past line d next is e =
+    let room = cleared (nat_le most_ticks (length past.ticks)) TooMany (with_room past d) next e in
+    let at = bind_ok (moment_of past.ticks (field_at (codes "at") d)) (with_moment past d) next room.1 in
+    let es = bind_ok (entries_of d) (with_entries past at.0) next at.2 in
+    let placed = bind_ok (placed_of past.pods es.0) (with_places past at.0) next es.2 in
+    let tick = bind_ok (observed_in past at.0 placed.0) (with_tick_seen past) next placed.2 in
+    let apart = cleared (is_doubled placed.0) Doubled (with_apart past at.0 placed.0) tick.0 tick.1 in
+    let forwards = cleared (is_backwards past.ticks (observed at.0 placed.0 past.pods)) Backwards (with_forwards past at.0 placed.0) tick.0 apart.1 in
+    let coded = cleared (some_code_missing placed.0) ExitCode (with_code past at.0 placed.0) tick.0 forwards.1 in
+    let is_tick : observed at.0 placed.0 past.pods ≡ tick.0 = same_value {E = LineKind} (observed at.0 placed.0 past.pods) tick.0 coded.1 in
+    let is_next : with_tick past tick.0 ≡ next = same_value {E = LineKind} (with_tick past tick.0) next tick.2 in
+    let has_moment : HasMoment past line d at.0 = record { stands = is; room = leb-false most_ticks (length past.ticks) room.0; moment = at.1 } in
+    let has_entries : HasEntries past line d at.0 es.0 = record { has_moment = has_moment; entries_are = es.1 } in
+    let has_places : HasPlaces past line d at.0 placed.0 = record { entries = es.0; has_entries = has_entries; placed_are = placed.1 } in
+    let is_apart : IsApart past line d at.0 placed.0 = record { has_places = has_places; apart = apart.0 } in
+    let is_forwards : IsForwards past line d at.0 placed.0 = record { is_apart = is_apart; forwards = forwards.0 } in
+    let says : Says past line (with_tick past (observed at.0 placed.0 past.pods)) = says_tick d at.0 placed.0 is_forwards coded.0 in
+    subst (λ (p : Past). Says past line p) {x = with_tick past tick.0} {y = next} is_next
+    (subst (λ (t : TickObs). Says past line (with_tick past t)) {x = observed at.0 placed.0 past.pods} {y = tick.0} is_tick says)
+
+pod_says : (past : Past) (line : List ℕ) (d : Data) (next : Past) → is_some past.node ≡ true → IsOfKind line sorts.Pod d → pod_line_at past d ≡ Ok next → Says past line next
+unfolding pod_line_at
+pod_says past line d next node is e =
+    let before = cleared (nat_lt 0 (length past.ticks)) Order (pod_alone past d) next e in
+    let only = cleared (nat_lt 0 (length past.pods)) TooMany (pod_read past d) next before.1 in
+    let pod = bind_ok (pod_from (field_at (codes "pod") d)) (pod_said past) next only.1 in
+    let with : Past = record { node = past.node; pods = past.pods ++ pod.0 ∷ []; ticks = past.ticks } in
+    let is_next : with ≡ next = same_value {E = LineKind} with next pod.2 in
+    let stands : Stands past line sorts.Pod d = record { of_kind = is; here = (node, none_in past.ticks before.0) } in
+    subst (λ (p : Past). Says past line p) {x = with} is_next (says_pod d pod.0 stands (none_in past.pods only.0) pod.1)
+
+node_says : (past : Past) (line : List ℕ) (d : Data) (next : Past) → Stands past line sorts.Node d → with_node past d ≡ Ok next → Says past line next
+unfolding with_node
+node_says past line d next is e =
+    let said : NodeConfig → Past = λ node. record { node = Some node; pods = past.pods; ticks = past.ticks } in
+    let last : NodeConfig → Result Past LineKind = λ node. Ok (said node) in
+    let node = bind_ok (node_of d) last next e in
+    let is_next : said node.0 ≡ next = same_value {E = LineKind} (said node.0) next node.2 in
+    subst (λ (p : Past). Says past line p) {x = said node.0} is_next (says_node d node.0 is node.1)
+
+place_says : (node : Option NodeConfig) (past : Past) (line : List ℕ) (sort : Sort) (d : Data) (next : Past) → past.node ≡ node → IsOfKind line sort d → in_order node past sort d ≡ Ok next → Says past line next
+place_says None past line sorts.Node d next none is e = node_says past line d next (record { of_kind = is; here = none }) e
+place_says None past line sorts.Pod d next none is e = absurd (no_fault next Order (sym e))
+place_says None past line sorts.Tick d next none is e = absurd (no_fault next Order (sym e))
+place_says (Some node) past line sorts.Node d next some is e = absurd (no_fault next Order (sym e))
+place_says (Some node) past line sorts.Pod d next some is e = pod_says past line d next (ap (λ (o : Option NodeConfig). is_some o) some) is e
+place_says (Some node) past line sorts.Tick d next some is e =
+    tick_says past line d next (record { of_kind = is; here = ap (λ (o : Option NodeConfig). is_some o) some }) e
+
+kind_says : (past : Past) (line : List ℕ) (d : Data) (found : Option Sort) (next : Past) → IsJson line d → kind_from (text_at (codes "kind") d) ≡ found → with_kind past d found ≡ Ok next → Says past line next
+kind_says past line d None next is found e = absurd (no_fault next UnknownKind (sym e))
+kind_says past line d (Some sort) next is found e = place_says past.node past line sort d next refl (record { json = is; kind = found }) e
+
+line_says_it : (past : Past) (line : List ℕ) (next : Past) → line_at past line ≡ Ok next → Says past line next
+unfolding line_at
+line_says_it past line next e =
+    let short = cleared (nat_lt 1048576 (length line)) TooLong (λ u. json_of line >>= with_json past) next e in
+    let json = bind_ok (json_of line) (with_json past) next short.1 in
+    let is : IsJson line json.0 = record { short = ltb-false 1048576 (length line) short.0; json = json.1 } in
+    kind_says past line json.0 (kind_from (text_at (codes "kind") json.0)) next is refl json.2
+
+-- from what a line says to what it leaves
+node_line : (past : Past) (line : List ℕ) (d : Data) (node : NodeConfig) → Stands past line sorts.Node d → node_of d ≡ Ok node
+    → line_at past line ≡ Ok (record { node = Some node; pods = past.pods; ticks = past.ticks })
+unfolding with_node
+node_line past line d node is e =
+    let said : NodeConfig → Result Past LineKind = λ node. Ok (record { node = Some node; pods = past.pods; ticks = past.ticks }) in
+    of_kind past line sorts.Node d is.of_kind ∙ node_in_order past.node past d is.here ∙ then_ok (node_of d) said node e
+
+tick_line : (past : Past) (line : List ℕ) (d : Data) (at : ℕ) (placed : List PlacedEntry) → IsForwards past line d at placed → some_code_missing placed ≡ false
+    → line_at past line ≡ Ok (with_tick past (observed at placed past.pods))
+unfolding observed_in
+tick_line past line d at placed is coded =
+    let seen = observed at placed past.pods in
+    let given : observed_in past at placed ≡ Ok seen =
+    passed (is_doubled placed) Doubled (with_apart past at placed) is.is_apart.apart
+    ∙ passed (is_backwards past.ticks seen) Backwards (with_forwards past at placed) is.forwards
+    ∙ passed (some_code_missing placed) ExitCode (with_code past at placed) coded in
+    of_places past line d at placed is.is_apart.has_places ∙ then_ok (observed_in past at placed) (with_tick_seen past) seen given
+
+says_line : (past : Past) (line : List ℕ) (next : Past) → Says past line next → line_at past line ≡ Ok next
+says_line past line _ (says_node d node is e) = node_line past line d node is e
+says_line past line _ (says_pod d pod is none e) =
+    of_pod past line d is ∙ passed (nat_lt 0 (length past.pods)) TooMany (pod_read past d) (in_none past.pods none) ∙ then_ok (pod_from (field_at (codes "pod") d)) (pod_said past) pod e
+says_line past line _ (says_tick d at placed is coded) = tick_line past line d at placed is coded
+
+pub all_checks : AllChecks
+all_checks past line next = (line_says_it past line next, says_line past line next)

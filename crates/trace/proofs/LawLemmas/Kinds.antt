@@ -1,0 +1,365 @@
+-- The kinds of fault that the checks of a line answer.
+use Rattle.std.proofs.Common.{◌≡◌, ◌≢◌, ◌⊎◌, ℕ, Bool, true, false, List, [], ◌∷◌, length, slice_get, Option, Some, None, Result, Ok, Err, refl, sym, subst, inl, inr, is_some}
+use Rattle.std.specs.Prelude.{◌==◌, ◌&&◌, ◌-◌, ◌^◌, if◌then◌else◌, option_and_then, nat_lt, codes}
+use Rattle.serde_json.specs.Data.{Data, Items}
+use Rattle.serde_json.specs.Find.{as_str, as_number, as_u64, as_array, as_object}
+use Rattle.manifest.specs.Names.{is_name, is_label}
+use Rattle.json_fields.specs.Fields.{field_at, text_at}
+use Rattle.json_fields.specs.Reading.{◌>>=◌, refused_if, some_or, each}
+use Rattle.manifest.specs.declared.pod.PodSpec.{PodSpec}
+use Rattle.trace.specs.declared.fault.LineKind.{LineKind}
+use Rattle.trace.specs.declared.fault.LineKind.TheVariants.{NotJson, Config, Manifest, Moment, Usage, StrangerPod, StrangerContainer, Order}
+use Rattle.trace.specs.declared.fault.LineFault.{LineFault}
+use Rattle.trace.specs.declared.observation.TickObs.{TickObs}
+use Rattle.trace.specs.declared.listing.Entry.{Entry}
+use Rattle.trace.specs.Lines.{lines_of}
+use Rattle.trace.specs.Node.{version_from, version_of, name_from, absent, eviction_unset, node_of}
+use Rattle.manifest.specs.declared.fault.ManifestFault.{ManifestFault}
+use Rattle.manifest.specs.declared.fault.ManifestFault.TheVariants.{Missing, WrongKind, DuplicateContainer, Sidecar}
+use Rattle.manifest.specs.declared.fault.ManifestFault.TheVariants as faults
+use Rattle.manifest.specs.declared.fault.Field.{Field}
+use Rattle.manifest.specs.declared.policy.Policy.TheVariants.{Always, OnFailure, Never}
+use Rattle.manifest.specs.Fields.{object_of, tested_text, required_text, text_or, items_or, array_of, some_items}
+use Rattle.manifest.specs.declared.fault.Field.TheVariants as fields
+use Rattle.manifest.specs.Manifest.{policy_from, policy_of, no_items, none_yet, absent as manifest_absent, container_of, containers_of, pod_at}
+use Rattle.manifest.specs.Containers.{names_of, has_twice}
+use Rattle.name_list.specs.Names.{place_of}
+use Rattle.serde_json.specs.Read.{read}
+use Rattle.std.specs.Str.{is_utf8}
+use Rattle.state_diff.specs.declared.seen.CriState.{CriState}
+use Rattle.state_diff.specs.declared.seen.CriState.TheVariants.{Created, Running, Exited, Unknown}
+use Rattle.trace.specs.declared.listing.Listing.{Listing}
+use Rattle.json_fields.specs.Fields.{items_list}
+use Rattle.trace.specs.Pod.{keys_of, of_manifest, pod_from}
+use Rattle.trace.specs.Listings.{attempt_from, attempt_of, state_named, state_numbered, state_from, state_of, listing_of, items_from, items_of, entry_of, entries_of}
+use Rattle.trace.specs.Placing.{number_in, placed_listing, placed_entry, placed_of}
+use Rattle.trace.specs.Past.{Past}
+use Rattle.trace.specs.Tick.{is_later, moment_from}
+use Rattle.trace.specs.Trace.{json_of}
+use Rattle.trace.specs.Laws.{IsFirstFault, Fails, too_long, not_json, unknown_kind, misplaced, wrong_node, many_pods, wrong_pod, many_ticks, wrong_moment, wrong_entry, stranger, doubled, backwards, no_code, KindsOfChecks, IsNotMemory, NeverMemory}
+use Rattle.trace.proofs.LawLemmas.{first_fault}
+use Rattle.trace.proofs.LawLemmas.Checks.{no_fault, same_fault, line_fails}
+
+-- a fault, if there is one, has the property
+record Only {A E : Type 0} (P : E → Type 0) (r : Result A E) : Type 0 where
+  has : (fault : E) → r ≡ Err fault → P fault
+
+only_ok : {A E : Type 0} (P : E → Type 0) (x : A) → Only P (Ok x)
+only_ok P x = record { has = λ fault e. absurd (no_fault x fault e) }
+
+only_err : {A E : Type 0} (P : E → Type 0) (fault : E) → P fault → Only {A = A} P (Err fault)
+only_err {A = A} P fault is = record { has = λ other e. subst P (same_fault {A = A} fault other e) is }
+
+only_bind : {A B E : Type 0} (P : E → Type 0) (r : Result A E) (f : A → Result B E) → Only P r → ((x : A) → Only P (f x)) → Only P (r >>= f)
+only_bind P (Ok x) f first rest = rest x
+only_bind {B = B} P (Err fault) f first rest = only_err {A = B} P fault (first.has fault refl)
+
+only_if : {A E : Type 0} (P : E → Type 0) (b : Bool) (r s : Result A E) → Only P r → Only P s → Only P (if b then r else s)
+only_if P true r s yes_is no_is = yes_is
+only_if P false r s yes_is no_is = no_is
+
+only_refused : {E : Type 0} (P : E → Type 0) (b : Bool) (fault : E) → P fault → Only P (refused_if b fault)
+only_refused P true fault is = only_err P fault is
+only_refused P false fault is = only_ok P tt
+
+only_some : {A E : Type 0} (P : E → Type 0) (fault : E) (found : Option A) → P fault → Only P (some_or fault found)
+only_some P fault None is = only_err P fault is
+only_some P fault (Some x) is = only_ok P x
+
+only_each : {A B E : Type 0} (P : E → Type 0) (f : A → Result B E) → ((x : A) → Only P (f x)) → (xs : List A) → Only P (each f xs)
+only_each P f one [] = only_ok P []
+only_each P f one (x ∷ xs) = only_bind P (f x) (λ y. each f xs >>= λ ys. Ok (y ∷ ys)) (one x) (λ y. only_bind P (each f xs) (λ ys. Ok (y ∷ ys)) (only_each P f one xs) (λ ys. only_ok P (y ∷ ys)))
+
+abbrev Is : LineKind → LineKind → Type 0
+Is given kind = kind ≡ given
+
+version_from_only : (found : Option ℕ) → Only (Is Config) (version_from found)
+version_from_only None = only_err (Is Config) Config refl
+version_from_only (Some n) = only_if (Is Config) (n == 1) (Ok tt) (Err Config) (only_ok (Is Config) tt) (only_err (Is Config) Config refl)
+
+version_only : (found : Option Data) → Only (Is Config) (version_of found)
+version_only None = only_ok (Is Config) tt
+version_only (Some d) = version_from_only (option_and_then as_u64 (as_number d))
+
+name_only : (found : Option (List ℕ)) → Only (Is Config) (name_from found)
+name_only None = only_err (Is Config) Config refl
+name_only (Some s) = only_if (Is Config) (is_name s) (Ok s) (Err Config) (only_ok (Is Config) s) (only_err (Is Config) Config refl)
+
+absent_only : (kind : LineKind) (found : Option Data) → Only (Is kind) (absent kind found)
+absent_only kind found = only_refused (Is kind) (is_some found) kind refl
+
+eviction_only : (d : Data) → Only (Is Config) (eviction_unset d)
+unfolding eviction_unset
+eviction_only d =
+    let P = Is Config in
+    only_bind P _ _ (absent_only Config (field_at (codes "evictionHard") d)) (λ hard.
+    only_bind P _ _ (absent_only Config (field_at (codes "evictionSoft") d)) (λ soft.
+    only_bind P _ _ (absent_only Config (field_at (codes "evictionSoftGracePeriod") d)) (λ grace.
+    only_bind P _ _ (absent_only Config (field_at (codes "evictionMaxPodGracePeriod") d)) (λ greatest.
+    only_bind P _ _ (absent_only Config (field_at (codes "evictionMinimumReclaim") d)) (λ reclaim.
+    absent_only Config (field_at (codes "evictionPressureTransitionPeriod") d))))))
+
+node_only : (d : Data) → Only (Is Config) (node_of d)
+unfolding node_of
+node_only d =
+    let P = Is Config in
+    only_bind P _ _ (version_only (field_at (codes "version") d)) (λ version.
+    only_bind P _ _ (name_only (text_at (codes "name") d)) (λ name.
+    only_bind P _ _ (absent_only Config (field_at (codes "capacity") d)) (λ capacity.
+    only_bind P _ _ (absent_only Config (field_at (codes "dedicatedImagefs") d)) (λ dedicated.
+    only_bind P _ _ (eviction_only d) (λ eviction. only_ok P _)))))
+
+json_only : (line : List ℕ) → Only (Is NotJson) (json_of line)
+unfolding json_of
+json_only line =
+    let P = Is NotJson in
+    only_if P (is_utf8 line) (some_or NotJson (read line)) (Err NotJson) (only_some P NotJson (read line) refl) (only_err P NotJson refl)
+
+-- the faults of a manifest, none of which is for want of memory
+abbrev IsFound : ManifestFault → Type 0
+IsFound fault = fault ≢ faults.OutOfMemory
+
+missing : (field : Field) → IsFound (Missing field)
+missing field is = absurd (cc)
+
+wrong : (field : Field) → IsFound (WrongKind field)
+wrong field is = absurd (cc)
+
+object_only : (field : Field) (found : Option Data) → Only IsFound (object_of field found)
+object_only field None = only_err IsFound (Missing field) (missing field)
+object_only field (Some d) = only_if IsFound (is_some (as_object d)) (Ok d) (Err (WrongKind field)) (only_ok IsFound d) (only_err IsFound (WrongKind field) (wrong field))
+
+tested_only : (test : List ℕ → Bool) (field : Field) (found : Option (List ℕ)) → Only IsFound (tested_text test field found)
+tested_only test field None = only_err IsFound (WrongKind field) (wrong field)
+tested_only test field (Some s) = only_if IsFound (test s) (Ok s) (Err (WrongKind field)) (only_ok IsFound s) (only_err IsFound (WrongKind field) (wrong field))
+
+required_only : (test : List ℕ → Bool) (field : Field) (found : Option Data) → Only IsFound (required_text test field found)
+required_only test field None = only_err IsFound (Missing field) (missing field)
+required_only test field (Some d) = tested_only test field (as_str d)
+
+text_or_only : (default : List ℕ) (test : List ℕ → Bool) (field : Field) (found : Option Data) → Only IsFound (text_or default test field found)
+text_or_only default test field None = only_ok IsFound default
+text_or_only default test field (Some d) = tested_only test field (as_str d)
+
+items_or_only : (field : Field) (found : Option Items) → Only IsFound (items_or field found)
+items_or_only field None = only_err IsFound (WrongKind field) (wrong field)
+items_or_only field (Some items) = only_ok IsFound (items_list items)
+
+array_only : (field : Field) (found : Option Data) → Only IsFound (array_of field found)
+array_only field None = only_err IsFound (Missing field) (missing field)
+array_only field (Some d) = items_or_only field (as_array d)
+
+some_items_only : (field : Field) (ds : List Data) → Only IsFound (some_items field ds)
+some_items_only field [] = only_err IsFound (Missing field) (missing field)
+some_items_only field (d ∷ ds) = only_ok IsFound (d ∷ ds)
+
+policy_from_only : (found : Option (List ℕ)) → Only IsFound (policy_from found)
+policy_from_only None = only_err IsFound (WrongKind fields.RestartPolicy) (wrong fields.RestartPolicy)
+policy_from_only (Some text) =
+    only_if IsFound _ (Ok Always) _ (only_ok IsFound Always)
+    (only_if IsFound _ (Ok OnFailure) _ (only_ok IsFound OnFailure)
+    (only_if IsFound _ (Ok Never) _ (only_ok IsFound Never) (only_err IsFound (WrongKind fields.RestartPolicy) (wrong fields.RestartPolicy))))
+
+policy_only : (found : Option Data) → Only IsFound (policy_of found)
+policy_only None = only_ok IsFound Always
+policy_only (Some d) = policy_from_only (as_str d)
+
+no_items_only : (field : Field) (ds : List Data) → Only IsFound (no_items field ds)
+no_items_only field [] = only_ok IsFound tt
+no_items_only field (d ∷ ds) = only_err IsFound (WrongKind field) (wrong field)
+
+none_yet_only : (field : Field) (found : Option Data) → Only IsFound (none_yet field found)
+none_yet_only field None = only_ok IsFound tt
+none_yet_only field (Some d) = only_bind IsFound (array_of field (Some d)) (λ ds. no_items field ds) (array_only field (Some d)) (λ ds. no_items_only field ds)
+
+unset_only : (field : Field) (found : Option Data) → Only IsFound (manifest_absent (WrongKind field) found)
+unset_only field found = only_refused IsFound (is_some found) (WrongKind field) (wrong field)
+
+container_only : (field : Field) (d : Data) → Only IsFound (container_of field d)
+unfolding container_of
+container_only field d =
+    let P = IsFound in
+    only_bind P _ _ (object_only field (Some d)) (λ object.
+    only_bind P _ _ (required_only is_label fields.ContainerName (field_at (codes "name") object)) (λ name.
+    only_bind P _ _ (only_refused P (is_some (field_at (codes "restartPolicy") object)) Sidecar (λ is. absurd (cc))) (λ own.
+    only_bind P _ _ (unset_only fields.Resources (field_at (codes "resources") object)) (λ resources.
+    only_bind P _ _ (unset_only fields.Probe (field_at (codes "startupProbe") object)) (λ startup.
+    only_bind P _ _ (unset_only fields.Probe (field_at (codes "livenessProbe") object)) (λ liveness.
+    only_bind P _ _ (unset_only fields.Probe (field_at (codes "readinessProbe") object)) (λ readiness. only_ok P _)))))))
+
+containers_only : (found : Option Data) → Only IsFound (containers_of found)
+unfolding containers_of
+containers_only found =
+    let P = IsFound in
+    only_bind P _ _ (array_only fields.Containers found) (λ listed.
+    only_bind P _ _ (some_items_only fields.Containers listed) (λ items.
+    only_bind P _ _ (only_refused P (nat_lt 16 (length items)) faults.TooMany (λ is. absurd (cc))) (λ few.
+    only_bind P _ _ (only_each P (container_of fields.Containers) (container_only fields.Containers) items) (λ containers.
+    only_bind P _ _ (only_refused P (has_twice containers) DuplicateContainer (λ is. absurd (cc))) (λ apart. only_ok P containers)))))
+
+pod_at_only : (d : Data) → Only IsFound (pod_at d)
+unfolding pod_at
+pod_at_only d =
+    let P = IsFound in
+    only_bind P _ _ (object_only fields.Pod (Some d)) (λ pod.
+    only_bind P _ _ (object_only fields.Metadata (field_at (codes "metadata") pod)) (λ metadata.
+    only_bind P _ _ (required_only is_name fields.Name (field_at (codes "name") metadata)) (λ name.
+    only_bind P _ _ (text_or_only (codes "default") is_label fields.Namespace (field_at (codes "namespace") metadata)) (λ namespace.
+    only_bind P _ _ (object_only fields.Spec (field_at (codes "spec") pod)) (λ spec.
+    only_bind P _ _ (policy_only (field_at (codes "restartPolicy") spec)) (λ policy.
+    only_bind P _ _ (unset_only fields.Priority (field_at (codes "priority") spec)) (λ priority.
+    only_bind P _ _ (unset_only fields.GracePeriod (field_at (codes "terminationGracePeriodSeconds") spec)) (λ grace.
+    only_bind P _ _ (none_yet_only fields.InitContainers (field_at (codes "initContainers") spec)) (λ init.
+    only_bind P _ _ (containers_only (field_at (codes "containers") spec)) (λ containers. only_ok P _))))))))))
+
+abbrev IsManifest : LineKind → Type 0
+IsManifest kind = (fault : ManifestFault) × (kind ≡ Manifest fault) × IsFound fault
+
+manifest_only : {A : Type 0} (r : Result A ManifestFault) → Only IsFound r → Only IsManifest (of_manifest r)
+manifest_only (Ok x) only = only_ok IsManifest x
+manifest_only (Err fault) only = only_err IsManifest (Manifest fault) (fault, refl, only.has fault refl)
+
+pod_only : (found : Option Data) → Only IsManifest (pod_from found)
+pod_only None = only_err IsManifest (Manifest (Missing fields.Pod)) (Missing fields.Pod, refl, missing fields.Pod)
+pod_only (Some d) = manifest_only (pod_at d) (pod_at_only d)
+
+moment_only : (ticks : List TickObs) (found : Option ℕ) → Only (Is Moment) (moment_from ticks found)
+moment_only ticks None = only_err (Is Moment) Moment refl
+moment_only ticks (Some at) =
+    only_if (Is Moment) (nat_lt at (2 ^ 40) && is_later (slice_get ticks (length ticks - 1)) at) (Ok at) (Err Moment) (only_ok (Is Moment) at) (only_err (Is Moment) Moment refl)
+
+attempt_from_only : (found : Option ℕ) → Only (Is Usage) (attempt_from found)
+attempt_from_only None = only_err (Is Usage) Usage refl
+attempt_from_only (Some n) = only_if (Is Usage) (nat_lt n (2 ^ 31)) (Ok n) (Err Usage) (only_ok (Is Usage) n) (only_err (Is Usage) Usage refl)
+
+attempt_only : (found : Option Data) → Only (Is Usage) (attempt_of found)
+attempt_only None = only_ok (Is Usage) 0
+attempt_only (Some d) = attempt_from_only (option_and_then as_u64 (as_number d))
+
+-- a test that answers a state, and the tests after it
+state_if : (b : Bool) (state : CriState) (rest : Result CriState LineKind) → Only (Is Usage) rest → Only (Is Usage) (if b then Ok state else rest)
+state_if b state rest only = only_if (Is Usage) b (Ok state) rest (only_ok (Is Usage) state) only
+
+named_only : (s : List ℕ) → Only (Is Usage) (state_named s)
+named_only s = state_if _ Created _ (state_if _ Running _ (state_if _ Exited _ (state_if _ Unknown _ (only_err (Is Usage) Usage refl))))
+
+numbered_only : (found : Option ℕ) → Only (Is Usage) (state_numbered found)
+numbered_only None = only_err (Is Usage) Usage refl
+numbered_only (Some n) = state_if _ Created _ (state_if _ Running _ (state_if _ Exited _ (state_if _ Unknown _ (only_err (Is Usage) Usage refl))))
+
+state_from_only : (d : Data) (found : Option (List ℕ)) → Only (Is Usage) (state_from d found)
+state_from_only d None = numbered_only (option_and_then as_u64 (as_number d))
+state_from_only d (Some s) = named_only s
+
+state_only : (found : Option Data) → Only (Is Usage) (state_of found)
+state_only None = only_err (Is Usage) Usage refl
+state_only (Some d) = state_from_only d (as_str d)
+
+listing_only : (d : Data) → Only (Is Usage) (listing_of d)
+unfolding listing_of
+listing_only d =
+    let P = Is Usage in
+    only_bind P _ _ (only_some P Usage (text_at (codes "name") d) refl) (λ name.
+    only_bind P _ _ (attempt_only (field_at (codes "attempt") d)) (λ attempt.
+    only_bind P _ _ (state_only (field_at (codes "state") d)) (λ state. only_ok P _)))
+
+items_from_only : (found : Option Items) → Only (Is Usage) (items_from found)
+items_from_only None = only_err (Is Usage) Usage refl
+items_from_only (Some items) = only_ok (Is Usage) (items_list items)
+
+items_only : (found : Option Data) → Only (Is Usage) (items_of found)
+items_only None = only_ok (Is Usage) []
+items_only (Some d) = items_from_only (as_array d)
+
+entry_only : (d : Data) → Only (Is Usage) (entry_of d)
+unfolding entry_of
+entry_only d =
+    let P = Is Usage in
+    only_bind P _ _ (only_some P Usage (text_at (codes "pod") d) refl) (λ key.
+    only_bind P _ _ (items_only (field_at (codes "containers") d)) (λ items.
+    only_bind P _ _ (only_each P listing_of listing_only items) (λ listings.
+    only_bind P _ _ (absent_only Usage (field_at (codes "probes") d)) (λ probes.
+    only_bind P _ _ (absent_only Usage (field_at (codes "usage") d)) (λ usage. only_ok P _)))))
+
+entries_only : (d : Data) → Only (Is Usage) (entries_of d)
+unfolding entries_of
+entries_only d =
+    let P = Is Usage in
+    only_bind P _ _ (items_only (field_at (codes "pods") d)) (λ items.
+    only_bind P _ _ (only_each P entry_of entry_only items) (λ es.
+    only_bind P _ _ (absent_only Usage (field_at (codes "signals") d)) (λ signals.
+    only_bind P _ _ (absent_only Usage (field_at (codes "afterReclaim") d)) (λ after. only_ok P es))))
+
+abbrev IsStranger : LineKind → Type 0
+IsStranger kind = (kind ≡ StrangerPod) ⊎ (kind ≡ StrangerContainer)
+
+number_only : (keys : List (List ℕ)) (entry : Entry) → Only IsStranger (number_in keys entry)
+number_only keys entry = only_some IsStranger StrangerPod (place_of keys entry.key) (inl refl)
+
+placed_listing_only : (pod : PodSpec) (listing : Listing) → Only IsStranger (placed_listing pod listing)
+placed_listing_only pod listing =
+    only_bind IsStranger _ _ (only_some IsStranger StrangerContainer (place_of (names_of pod.containers) listing.name) (inr refl)) (λ number. only_ok IsStranger _)
+
+placed_entry_only : (keys : List (List ℕ)) (pods : List PodSpec) (entry : Entry) → Only IsStranger (placed_entry keys pods entry)
+unfolding placed_entry
+placed_entry_only keys pods entry =
+    let P = IsStranger in
+    only_bind P _ _ (number_only keys entry) (λ number.
+    only_bind P _ _ (only_some P StrangerPod (slice_get pods number) (inl refl)) (λ pod.
+    only_bind P _ _ (only_each P (placed_listing pod) (placed_listing_only pod) entry.listings) (λ listings. only_ok P _)))
+
+placed_only : (pods : List PodSpec) (es : List Entry) → Only IsStranger (placed_of pods es)
+unfolding placed_of
+placed_only pods es =
+    let P = IsStranger in
+    only_bind P _ _ (only_each P (number_in (keys_of pods)) (number_only (keys_of pods)) es) (λ numbers.
+    only_each P (placed_entry (keys_of pods) pods) (placed_entry_only (keys_of pods) pods) es)
+
+pub kinds_of_checks : KindsOfChecks
+kinds_of_checks = record {
+  json = λ line kind e. (json_only line).has kind e;
+  node = λ d kind e. (node_only d).has kind e;
+  pod = λ found kind e. let is = (pod_only found).has kind e in (is.0, is.1);
+  moment = λ ticks found kind e. (moment_only ticks (option_and_then as_u64 (option_and_then as_number found))).has kind e;
+  entries = λ d kind e. (entries_only d).has kind e;
+  places = λ pods es kind e. (placed_only pods es).has kind e;
+}
+
+-- a kind that isn't for want of memory
+is_not : (kind given : LineKind) → kind ≡ given → IsNotMemory given → IsNotMemory kind
+is_not kind given is never = subst IsNotMemory (sym is) never
+
+fails_not_memory : (past : Past) (line : List ℕ) (kind : LineKind) → Fails past line kind → IsNotMemory kind
+fails_not_memory past line _ (too_long long) = (λ memory. absurd (cc), λ memory. absurd (cc))
+fails_not_memory past line _ (not_json kind short e) = is_not kind NotJson ((json_only line).has kind e) (λ memory. absurd (cc), λ memory. absurd (cc))
+fails_not_memory past line _ (unknown_kind d is none) = (λ memory. absurd (cc), λ memory. absurd (cc))
+fails_not_memory past line _ (misplaced sort d is never) = (λ memory. absurd (cc), λ memory. absurd (cc))
+fails_not_memory past line _ (wrong_node d kind is e) = is_not kind Config ((node_only d).has kind e) (λ memory. absurd (cc), λ memory. absurd (cc))
+fails_not_memory past line _ (many_pods d is some) = (λ memory. absurd (cc), λ memory. absurd (cc))
+fails_not_memory past line _ (wrong_pod d kind is none e) =
+    let given = (pod_only (field_at (codes "pod") d)).has kind e in
+    let fault = given.0 in
+    let found : IsFound fault = given.2 in
+    is_not kind (Manifest fault) given.1 (λ memory. absurd (cc), λ memory. let same : fault ≡ faults.OutOfMemory = cc in absurd (found same))
+fails_not_memory past line _ (many_ticks d is many) = (λ memory. absurd (cc), λ memory. absurd (cc))
+fails_not_memory past line _ (wrong_moment d kind is room e) =
+    is_not kind Moment (kinds_of_checks.moment past.ticks (field_at (codes "at") d) kind e) (λ memory. absurd (cc), λ memory. absurd (cc))
+fails_not_memory past line _ (wrong_entry d at kind is e) = is_not kind Usage ((entries_only d).has kind e) (λ memory. absurd (cc), λ memory. absurd (cc))
+fails_not_memory past line _ (stranger d at es kind is e) = elim ((placed_only past.pods es).has kind e) [
+  | inl pod ↦ is_not kind StrangerPod pod (λ memory. absurd (cc), λ memory. absurd (cc))
+  | inr container ↦ is_not kind StrangerContainer container (λ memory. absurd (cc), λ memory. absurd (cc))
+]
+fails_not_memory past line _ (doubled d at placed is twice) = (λ memory. absurd (cc), λ memory. absurd (cc))
+fails_not_memory past line _ (backwards d at placed is back) = (λ memory. absurd (cc), λ memory. absurd (cc))
+fails_not_memory past line _ (no_code d at placed is missing) = (λ memory. absurd (cc), λ memory. absurd (cc))
+
+first_not_memory : (lines : List (List ℕ)) (fault : LineFault) → IsFirstFault lines fault → IsNotMemory fault.kind
+first_not_memory lines fault (inl (n, first, number)) =
+    fails_not_memory first.past first.line fault.kind (line_fails first.past first.line fault.kind first.fails)
+first_not_memory lines fault (inr (blank, kind, number)) = is_not fault.kind Order kind (λ memory. absurd (cc), λ memory. absurd (cc))
+
+pub never_memory : NeverMemory
+never_memory = record {
+  line = λ past line kind e. fails_not_memory past line kind (line_fails past line kind e);
+  text = λ text fault e. first_not_memory (lines_of text) fault ((first_fault text fault).0 e);
+}

@@ -1,0 +1,63 @@
+-- The differs that follow the containers of the pods, one tick after the other.
+use Rattle.std.specs.Prelude.{◌≡◌, ◌⊎◌, ℕ, ◌<◌, true, false, List, [], ◌∷◌, ◌++◌, length, map, slice_index_or, Option}
+use Rattle.histories.specs.Histories.{recorded}
+use Rattle.manifest.specs.declared.pod.PodSpec.{PodSpec}
+use Rattle.state_diff.specs.declared.seen.Seen.{Seen}
+use Rattle.state_diff.specs.declared.differ.Differ.{Differ}
+use Rattle.state_diff.specs.Acceptable.{is_acceptable}
+use Rattle.state_diff.specs.Differ.{IsStateOf}
+use Rattle.state_diff.specs.Instances.{Tick}
+use Rattle.trace.specs.declared.fault.LineKind.{LineKind}
+use Rattle.trace.specs.declared.fault.LineKind.TheVariants.{Backwards, OutOfMemory}
+use Rattle.trace.specs.declared.observation.PodObs.{PodObs}
+use Rattle.trace.specs.declared.observation.TickObs.{TickObs}
+use Rattle.trace.specs.Observations.{seen_of, history}
+
+-- one differ for each container of each pod, as these ticks leave it
+pub record AreFollowed (ticks : List TickObs) (pods : List PodSpec) (differs : List (List Differ)) : Type 0 where
+  pub as_many : map length differs ≡ map (λ (p : PodSpec). length p.containers) pods
+  pub each : (p c : ℕ) (ds : List Differ) (d : Differ) → p < length differs → c < length (slice_index_or differs p ds)
+      → IsStateOf (history ticks p c) (slice_index_or (slice_index_or differs p ds) c d)
+
+-- so many differs, with no listing behind them
+pub record AreNew (count : ℕ) (differs : List Differ) : Type 0 where
+  pub as_many : length differs ≡ count
+  pub new : (c : ℕ) (d : Differ) → c < count → IsStateOf [] (slice_index_or differs c d)
+
+-- the tick shows each container of these pods
+abbrev pub Shows : List PodSpec → TickObs → Type 0
+Shows pods tick = map (λ (p : PodObs). length p.containers) tick.pods ≡ map (λ (p : PodSpec). length p.containers) pods
+
+-- the listing may come next, and the differ has followed it
+abbrev pub Takes : ℕ → Option Seen → Differ → Differ → Type 0
+Takes at seen old new = (h : List Tick) → IsStateOf h old → (is_acceptable h seen ≡ true) × IsStateOf (h ++ recorded at seen ∷ []) new
+
+-- the listing may not come next
+abbrev pub Refuses : Option Seen → Differ → Type 0
+Refuses seen d = (h : List Tick) → IsStateOf h d → is_acceptable h seen ≡ false
+
+-- of a pod, the first n differs have followed the tick
+pub record HaveTaken (n : ℕ) (tick : TickObs) (pod : ℕ) (old new : List Differ) : Type 0 where
+  pub as_many : length new ≡ n
+  pub each : (c : ℕ) (d : Differ) → c < n → Takes tick.at (seen_of tick pod c) (slice_index_or old c d) (slice_index_or new c d)
+
+-- all differs of the first n pods have followed the tick
+pub record PodsHaveTaken (n : ℕ) (tick : TickObs) (old new : List (List Differ)) : Type 0 where
+  pub as_many : length new ≡ n
+  pub each : (p : ℕ) (ds : List Differ) → p < n → HaveTaken (length (slice_index_or old p ds)) tick p (slice_index_or old p ds) (slice_index_or new p ds)
+
+-- a differ of the pod refuses what the tick lists
+pub record SomeRefuses (tick : TickObs) (pod : ℕ) (differs : List Differ) : Type 0 where
+  pub container : ℕ
+  pub within : container < length differs
+  pub refuses : (d : Differ) → Refuses (seen_of tick pod container) (slice_index_or differs container d)
+
+-- a differ of some pod refuses what the tick lists
+pub record SomePodRefuses (tick : TickObs) (differs : List (List Differ)) : Type 0 where
+  pub pod : ℕ
+  pub within : pod < length differs
+  pub refuses : (ds : List Differ) → SomeRefuses tick pod (slice_index_or differs pod ds)
+
+-- want of memory, or a listing that goes back, and why it does
+abbrev pub IsRefusal : Type 0 → LineKind → Type 0
+IsRefusal Why fault = (fault ≡ OutOfMemory) ⊎ ((fault ≡ Backwards) × Why)
