@@ -1,18 +1,16 @@
 -- A pod after one tick more.
-use Rattle.std.proofs.Common.{◌≡◌, ◌∙◌, ℕ, ◌<◌, List, [], ◌∷◌, ◌++◌, length, take, get_or, slice_index_or, Option, Some, None, Bool, true, false, IsTrue, sym, subst, ap, arith}
+use Rattle.std.proofs.Common.{◌≡◌, ◌∙◌, ℕ, ◌<◌, List, [], ◌∷◌, ◌++◌, length, take, get_or, slice_index_or, Some, None, false, IsTrue, sym, subst, ap, arith}
 use Rattle.std.specs.Prelude.{slice_get, ◌↔◌}
 use Rattle.histories.specs.Histories.{recorded}
 use Rattle.state_diff.specs.declared.differ.Differ.{Differ}
 use Rattle.state_diff.specs.Instances.{Tick, IsAcceptableHistory}
 use Rattle.state_diff.specs.Differ.{IsStateOf}
-use Rattle.phase.specs.declared.phase.Phase.{Phase}
 use Rattle.phase.specs.declared.pod.PodShape.{PodShape}
-use Rattle.phase.specs.declared.status.PodStatus.{PodStatus}
 use Rattle.phase.specs.declared.view.ContainerView.{ContainerView}
-use Rattle.phase.specs.Pods.{PodTick, listings, IsViewOf, AreViewsOf, AreShown, IsPhase}
+use Rattle.phase.specs.Pods.{PodTick, IsViewOf, AreViewsOf, AreShown}
 use Rattle.phase.specs.RawPhase.{IsTerminal}
 use Rattle.phase.specs.Status.{IsProgressOf}
-use Rattle.phase.proofs.EndLemmas.{IsPhase-unique, phase_ended, shown_ended, shown_lives, shown_none}
+use Rattle.phase.proofs.EndLemmas.{IsPhase-unique, phase_ended, shown_ended, shown_lives}
 use Rattle.trace.specs.declared.observation.TickObs.{TickObs}
 use Rattle.trace.specs.Observations.{seen_of, history}
 use Rattle.kubelet_replay.specs.PodHistory.{listed, pod_history}

@@ -1,12 +1,12 @@
 -- The listings of a container, in the history of its pod.
-use Rattle.std.proofs.Common.{◌≡◌, ◌∙◌, ℕ, zero, suc, ◌+◌, ◌<◌, List, [], ◌∷◌, ◌++◌, length, map, take, get_or, Option, Some, None, refl, ap, sym, subst, arith}
+use Rattle.std.proofs.Common.{◌≡◌, ◌∙◌, ℕ, zero, suc, ◌<◌, List, [], ◌∷◌, ◌++◌, length, map, take, get_or, Option, Some, None, refl, ap, sym, subst, arith}
 use Rattle.std.specs.Prelude.{slice_get, option_and_then}
-use Rattle.std.proofs.lemmas.List.{map_push, take_more, take-map, length-map}
+use Rattle.std.proofs.lemmas.List.{map_push, take-map, length-map}
 use Rattle.std.proofs.lemmas.Option.{slice_get-get_or}
-use Rattle.histories.specs.Histories.{Recorded, recorded, project}
+use Rattle.histories.specs.Histories.{recorded}
 use Rattle.state_diff.specs.declared.seen.Seen.{Seen}
 use Rattle.state_diff.specs.Instances.{Tick, listing_of, seen_at, IsAcceptable, IsAcceptableHistory}
-use Rattle.phase.specs.Pods.{PodTick, listings}
+use Rattle.phase.specs.Pods.{listings}
 use Rattle.trace.specs.declared.observation.ContainerObs.{ContainerObs}
 use Rattle.trace.specs.declared.observation.PodObs.{PodObs}
 use Rattle.trace.specs.declared.observation.TickObs.{TickObs}

@@ -1,6 +1,6 @@
 -- What is shown of containers.
-use Rattle.std.proofs.Common.{◌≡◌, ℕ, ◌<◌, List, length, get_or, slice_index_or, Option, Some, None, false, IsTrue, subst, sym, arith}
-use Rattle.std.specs.Prelude.{◌↔◌, IsSomeAnd}
+use Rattle.std.proofs.Common.{◌≡◌, ℕ, ◌<◌, List, length, get_or, Option, Some, None, false, IsTrue, subst, sym, arith}
+use Rattle.std.specs.Prelude.{◌↔◌}
 use Rattle.phase.specs.declared.pod.PodShape.{PodShape}
 use Rattle.phase.specs.declared.view.ContainerView.{ContainerView}
 use Rattle.phase.specs.Pods.{PodTick, listings, counted, IsViewOf, AreShown, EndsEvicted}

@@ -1,5 +1,5 @@
 -- There is one report.
-use Rattle.std.proofs.Common.{◌≡◌, ◌∙◌, ℕ, suc, ◌+◌, ◌<◌, ◌≤◌, List, [], ◌∷◌, length, get_or, None, slice_index_or, Ok, refl, ap, sym, subst, arith}
+use Rattle.std.proofs.Common.{◌≡◌, ◌∙◌, ℕ, suc, ◌<◌, ◌≤◌, List, [], ◌∷◌, length, get_or, None, slice_index_or, Ok, refl, ap, sym, subst, arith}
 use native.Mathlib.Bridge.{le_prop}
 use Rattle.manifest.specs.declared.policy.Policy.{Policy}
 use Rattle.manifest.specs.declared.pod.PodSpec.{PodSpec}
@@ -11,7 +11,6 @@ use Rattle.phase.specs.Status.{IsStatusOf}
 use Rattle.phase.proofs.UniqueLemmas.{status_one, container_one}
 use Rattle.trace.specs.declared.observation.TickObs.{TickObs}
 use Rattle.trace.specs.declared.past.Trace.{Trace}
-use Rattle.trace.specs.Trace.{trace_of}
 use Rattle.kubelet_replay.specs.Lines.{pod_text}
 use Rattle.kubelet_replay.specs.PodHistory.{pod_history}
 use Rattle.kubelet_replay.specs.Texts.{flat}
@@ -45,7 +44,7 @@ shape_one : (pod : PodSpec) (s t : PodShape) → IsShapeOf pod s → IsShapeOf p
 unfolding made_of
 shape_one pod s t is_s is_t =
     same_shape s.policy t.policy s.container_count t.container_count s.init_count t.init_count s.inits_first t.inits_first
-      (is_s.policy ∙ sym is_t.policy) (is_s.containers ∙ sym is_t.containers) (is_s.inits ∙ sym is_t.inits)
+    (is_s.policy ∙ sym is_t.policy) (is_s.containers ∙ sym is_t.containers) (is_s.inits ∙ sym is_t.inits)
 
 lines_one : (ticks : List TickObs) (n : ℕ) (pod : PodSpec) (a b : List ℕ) → ArePodLines ticks n pod a → ArePodLines ticks n pod b → a ≡ b
 lines_one ticks n pod a b x y =
@@ -54,8 +53,8 @@ lines_one ticks n pod a b x y =
     let other : IsStatusOf x.shape None h y.status = subst (λ (s : PodShape). IsStatusOf s None h y.status) shapes y.is_status in
     let statuses : x.status ≡ y.status = status_one x.shape None h x.status y.status x.is_status other in
     let containers : x.containers ≡ y.containers = same_items x.containers y.containers (x.as_many ∙ sym y.as_many)
-        (λ c d lt. container_one x.shape None h c (slice_index_or x.containers c d) (slice_index_or y.containers c d) (x.each c d (omega (arith, x.as_many)))
-          (subst (λ (s : PodShape). IsContainerStatus s None h c (slice_index_or y.containers c d)) shapes (y.each c d (omega (arith, x.as_many))))) in
+    (λ c d lt. container_one x.shape None h c (slice_index_or x.containers c d) (slice_index_or y.containers c d) (x.each c d (omega (arith, x.as_many)))
+    (subst (λ (s : PodShape). IsContainerStatus s None h c (slice_index_or y.containers c d)) shapes (y.each c d (omega (arith, x.as_many))))) in
     x.text ∙ ap (λ (s : PodStatus). pod_text n pod s.phase s.conditions x.containers) statuses ∙ ap (λ (cs : List ContainerStatus). pod_text n pod y.status.phase y.status.conditions cs) containers ∙ sym y.text
 
 some_item : {A : Type 0} (xs : List A) (n : ℕ) → n < length xs → A
@@ -65,10 +64,10 @@ some_item (x ∷ xs) n lt = x
 report_one : (ticks : List TickObs) (pods : List PodSpec) (a b : List ℕ) → IsReport ticks pods a → IsReport ticks pods b → a ≡ b
 report_one ticks pods a b x y =
     let parts : x.parts ≡ y.parts = same_items x.parts y.parts (x.as_many ∙ sym y.as_many)
-        (λ n e lt.
-          let within : n < length pods = omega (arith, x.as_many) in
-          let d = some_item pods n within in
-          lines_one ticks n (slice_index_or pods n d) (slice_index_or x.parts n e) (slice_index_or y.parts n e) (x.each n d e within) (y.each n d e within)) in
+    (λ n e lt.
+    let within : n < length pods = omega (arith, x.as_many) in
+    let d = some_item pods n within in
+    lines_one ticks n (slice_index_or pods n d) (slice_index_or x.parts n e) (slice_index_or y.parts n e) (x.each n d e within) (y.each n d e within)) in
     x.whole ∙ ap flat parts ∙ sym y.whole
 
 text_one : (text a b : List ℕ) → IsReportOfText text a → IsReportOfText text b → a ≡ b

@@ -1,5 +1,5 @@
 -- What the ticks of a trace show of one pod.
-use Rattle.std.specs.Prelude.{ℕ, List, [], map, length, Option, Some, None, slice_get}
+use Rattle.std.specs.Prelude.{ℕ, List, [], map, Option, Some, None, slice_get}
 use Rattle.histories.specs.Histories.{recorded}
 use Rattle.state_diff.specs.declared.seen.Seen.{Seen}
 use Rattle.phase.specs.Pods.{PodTick}

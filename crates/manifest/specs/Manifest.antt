@@ -1,5 +1,5 @@
 -- What a manifest says of a pod, or its first fault: one line for each field, in the order in which they are read.
-use Rattle.std.specs.Prelude.{ℕ, ⊤, Bool, List, [], ◌∷◌, length, nat_lt, Option, Some, None, is_some, if◌then◌else◌, Result, Ok, Err, bytes_eq, codes}
+use Rattle.std.specs.Prelude.{ℕ, ⊤, List, [], ◌∷◌, length, nat_lt, Option, Some, None, is_some, if◌then◌else◌, Result, Ok, Err, bytes_eq, codes}
 use Rattle.serde_json.specs.Data.{Data}
 use Rattle.serde_json.specs.Find.{as_str}
 use Rattle.json_fields.specs.Fields.{field_at}

@@ -1,5 +1,5 @@
 -- What a tick lists, in the history of a container.
-use Rattle.std.proofs.Common.{◌≡◌, ℕ, zero, suc, List, [], ◌∷◌, length, Option, None, refl, ap}
+use Rattle.std.proofs.Common.{◌≡◌, ℕ, zero, suc, List, [], ◌∷◌, refl}
 use Rattle.std.specs.Prelude.{slice_get, option_and_then}
 use Rattle.state_diff.specs.Instances.{seen_at}
 use Rattle.trace.specs.declared.observation.TickObs.{TickObs}

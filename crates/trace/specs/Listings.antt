@@ -1,5 +1,5 @@
 -- The entries of a tick line, as they are written.
-use Rattle.std.specs.Prelude.{ℕ, ℤ, pos, negsuc, int_le, ◌^◌, ◌&&◌, ◌==◌, Bool, List, [], ◌∷◌, nat_lt, Option, Some, None, is_some, option_and_then, if◌then◌else◌, Result, Ok, Err, bytes_eq, codes}
+use Rattle.std.specs.Prelude.{ℕ, ℤ, pos, negsuc, int_le, ◌^◌, ◌&&◌, ◌==◌, List, [], nat_lt, Option, Some, None, option_and_then, if◌then◌else◌, Result, Ok, Err, bytes_eq, codes}
 use Rattle.serde_json.specs.Data.{Data, Items}
 use Rattle.serde_json.specs.Find.{as_str, as_number, as_i64, as_u64, as_array}
 use Rattle.json_fields.specs.Fields.{field_at, text_at, items_list}

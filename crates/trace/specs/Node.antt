@@ -1,5 +1,5 @@
 -- What a node line says.
-use Rattle.std.specs.Prelude.{ℕ, ◌==◌, ⊤, Bool, List, Option, Some, None, is_some, option_and_then, if◌then◌else◌, Result, Ok, Err, codes}
+use Rattle.std.specs.Prelude.{ℕ, ◌==◌, ⊤, List, Option, Some, None, is_some, option_and_then, if◌then◌else◌, Result, Ok, Err, codes}
 use Rattle.serde_json.specs.Data.{Data}
 use Rattle.serde_json.specs.Find.{as_number, as_u64}
 use Rattle.json_fields.specs.Fields.{field_at, text_at}

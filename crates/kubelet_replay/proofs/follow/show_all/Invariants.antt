@@ -1,4 +1,4 @@
-use Rattle.std.proofs.Common.{◌≡◌, ℕ, ◌<◌, List, length, slice_index_or}
+use Rattle.std.proofs.Common.{ℕ, ◌<◌, List, slice_index_or}
 use Rattle.state_diff.specs.Instances.{Tick}
 use Rattle.state_diff.specs.Differ.{IsStateOf}
 use Rattle.state_diff.specs.declared.differ.Differ.{Differ}

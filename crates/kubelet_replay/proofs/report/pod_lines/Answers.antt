@@ -1,6 +1,4 @@
-use Rattle.std.proofs.Common.{◌≡◌, ◌∙◌, ℕ, ◌<◌, List, length, None, slice_index_or, sym, subst, ap, arith}
-use Rattle.phase.specs.declared.container.ContainerStatus.{ContainerStatus}
-use Rattle.phase.specs.Containers.{IsContainerStatus}
+use Rattle.std.proofs.Common.{◌≡◌, ◌∙◌, length, ap, arith}
 use Rattle.kubelet_replay.specs.Lines.{pod_text}
 use Rattle.kubelet_replay.specs.PodHistory.{pod_history}
 use Rattle.kubelet_replay.proofs.Shown.{views_of}

@@ -1,4 +1,4 @@
-use Rattle.std.proofs.Common.{◌≡◌, ℕ, ◌+◌, ◌<◌, List, [], ◌∷◌, ◌++◌, None, slice_index_or, sym, subst, arith}
+use Rattle.std.proofs.Common.{ℕ, ◌+◌, ◌<◌, List, None, slice_index_or, sym, subst, arith}
 use Rattle.phase.specs.declared.container.ContainerStatus.{ContainerStatus}
 use Rattle.phase.specs.Containers.{IsContainerStatus}
 use Rattle.phase.specs.Pods.{PodTick, AreShown}
