@@ -17,7 +17,8 @@ use Rattle.kubelet_replay.specs.PodHistory.{listed, pod_history}
 use Rattle.kubelet_replay.specs.Follow.{AreSteppedBy, AreShownBy}
 use Rattle.kubelet_replay.specs.declared.follow.Followed.{Followed}
 use Rattle.kubelet_replay.specs.Followed.{IsFollowed, IsReady}
-use Rattle.kubelet_replay.proofs.Listings.{acceptable_at, listings-pod_history, pod_history-more, history-more}
+use Rattle.trace.proofs.FollowedLemmas.{history-more}
+use Rattle.kubelet_replay.proofs.Listings.{acceptable_at, listings-pod_history, pod_history-more}
 
 -- no tick evicts the pod
 pub not_evicted : (n : ℕ) → IsTrue false ↔ (None ≡ Some n)

@@ -36,9 +36,6 @@ listings-pod_history (t ∷ ts) pod c =
 pub pod_history-more : (ticks : List TickObs) (tick : TickObs) (pod : ℕ) → pod_history (ticks ++ tick ∷ []) pod ≡ pod_history ticks pod ++ recorded tick.at (listed (slice_get tick.pods pod)) ∷ []
 pod_history-more ticks tick pod = map_push (λ (t : TickObs). recorded t.at (listed (slice_get t.pods pod))) ticks tick
 
-pub history-more : (ticks : List TickObs) (tick : TickObs) (pod c : ℕ) → history (ticks ++ tick ∷ []) pod c ≡ history ticks pod c ++ recorded tick.at (seen_of tick pod c) ∷ []
-history-more ticks tick pod c = map_push (λ (t : TickObs). recorded t.at (seen_of t pod c)) ticks tick
-
 -- the listing of the tick at a place may follow those before it
 pub acceptable_at : (ticks : List TickObs) (pod c i : ℕ) (tick : TickObs) → i < length ticks → tick ≡ get_or ticks i tick → IsAcceptableHistory (history ticks pod c)
     → IsAcceptable (history (take i ticks) pod c) (seen_of tick pod c)

@@ -5,7 +5,7 @@ use Rattle.manifest.specs.declared.pod.PodSpec.{PodSpec}
 use Rattle.trace.specs.declared.observation.TickObs.{TickObs}
 use Rattle.kubelet_replay.specs.Texts.{flat}
 use Rattle.kubelet_replay.specs.Report.{ArePodLines, IsReport}
-use Rattle.kubelet_replay.proofs.Places.{pushed_each}
+use Rattle.trace.proofs.FollowedLemmas.{pushed_each}
 
 pub four_parts : (s p q r t a b c d : List ℕ) → p ≡ s ++ a → q ≡ p ++ b → r ≡ q ++ c → t ≡ r ++ d → t ≡ s ++ (a ++ (b ++ (c ++ d)))
 four_parts s p q r t a b c d ep eq er et =

@@ -9,11 +9,6 @@ use Rattle.phase.specs.Pods.{IsViewOf}
 use Rattle.trace.specs.declared.observation.TickObs.{TickObs}
 use Rattle.trace.specs.Observations.{seen_of}
 
--- so many differs, with no listing behind them
-pub record AreNew (count : ℕ) (differs : List Differ) : Type 0 where
-  pub as_many : length differs ≡ count
-  pub new : (c : ℕ) (d : Differ) → c < count → IsStateOf [] (slice_index_or differs c d)
-
 -- so many views, of containers that were never listed
 pub record AreNewViews (count : ℕ) (views : List ContainerView) : Type 0 where
   pub as_many : length views ≡ count

@@ -8,8 +8,9 @@ ghost use Rattle.state_diff.specs.declared.differ.Differ.{Differ};
 ghost use Rattle.phase.specs.declared.view.ContainerView.{ContainerView};
 ghost use Rattle.phase.specs.Pods.{IsViewOf};
 ghost use Rattle.trace.specs.declared.observation.TickObs.{TickObs};
+ghost use Rattle.trace.specs.Followed.{AreNew};
 ghost use Rattle.trace.specs.Observations.{seen_of, history};
-ghost use Rattle.kubelet_replay.specs.Follow.{AreSteppedBy, AreShownBy, AreNew, AreNewViews};
+ghost use Rattle.kubelet_replay.specs.Follow.{AreSteppedBy, AreShownBy, AreNewViews};
 
 use phase::{ContainerView, PodShape, PodStatus};
 use state_diff::{Differ, Seen};

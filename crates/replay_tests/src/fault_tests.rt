@@ -3,6 +3,7 @@
 use crate::support::{POD, after_node, expect_fault, expect_report};
 use kubelet_replay::{RunFault, fault_line, status_of};
 use manifest::Field::{Containers, Pod, Probe};
+use manifest::ManifestFault;
 use manifest::ManifestFault::{DuplicateContainer, Missing, Sidecar, TooMany, WrongKind};
 use std::test::Fail;
 use trace::{LineFault, LineKind};
@@ -40,6 +41,12 @@ fn refusals_have_a_status_and_a_line(rt: HostRuntime) -> Result<(), Fail> {
         ),
         (2, LineKind::Manifest(Sidecar), "line 2: 35 Manifest 18"),
         (2, LineKind::Manifest(TooMany), "line 2: 35 Manifest 19"),
+        (
+            2,
+            LineKind::Manifest(ManifestFault::OutOfMemory),
+            "line 2: 35 Manifest 20",
+        ),
+        (3, LineKind::OutOfMemory, "line 3: 47 OutOfMemory"),
         (1, LineKind::Config, "line 1: 36 Config"),
         (3, LineKind::StrangerPod, "line 3: 39 StrangerPod"),
         (

@@ -9,11 +9,14 @@ use Rattle.trace.specs.declared.fault.LineFault.{LineFault}
 use Rattle.trace.specs.declared.past.Trace.{Trace}
 use Rattle.trace.specs.declared.past.Sort.{Sort}
 use Rattle.trace.specs.declared.past.Sort.TheVariants as sorts
+use Rattle.trace.specs.declared.listing.Listing.{Listing}
 use Rattle.trace.specs.declared.listing.Entry.{Entry}
+use Rattle.name_list.specs.Names.{place_of}
+use Rattle.manifest.specs.Containers.{names_of}
 use Rattle.trace.specs.declared.placing.PlacedEntry.{PlacedEntry}
 use Rattle.trace.specs.Lines.{lines_of, is_blank}
 use Rattle.trace.specs.Node.{node_of}
-use Rattle.trace.specs.Pod.{pod_from}
+use Rattle.trace.specs.Pod.{keys_of, pod_from}
 use Rattle.trace.specs.Listings.{entries_of}
 use Rattle.trace.specs.Placing.{placed_of, is_doubled}
 use Rattle.trace.specs.Observed.{observed, some_code_missing}
@@ -164,6 +167,32 @@ pub record KindsOfChecks : Type 0 where
   pub moment : (ticks : List TickObs) (found : Option Data) (kind : LineKind) → moment_of ticks found ≡ Err kind → kind ≡ Moment
   pub entries : (d : Data) (kind : LineKind) → entries_of d ≡ Err kind → kind ≡ Usage
   pub places : (pods : List PodSpec) (es : List Entry) (kind : LineKind) → placed_of pods es ≡ Err kind → (kind ≡ StrangerPod) ⊎ (kind ≡ StrangerContainer)
+
+-- an entry names a pod that isn't known
+pub record NamesStranger (pods : List PodSpec) (es : List Entry) : Type 0 where
+  pub n : ℕ
+  pub entry : Entry
+  pub here : slice_get es n ≡ Some entry
+  pub unknown : place_of (keys_of pods) entry.key ≡ None
+
+-- an entry of a known pod names a container that isn't the pod's
+pub record NamesStrangerContainer (pods : List PodSpec) (es : List Entry) : Type 0 where
+  pub n : ℕ
+  pub entry : Entry
+  pub number : ℕ
+  pub pod : PodSpec
+  pub m : ℕ
+  pub listing : Listing
+  pub here : slice_get es n ≡ Some entry
+  pub known : place_of (keys_of pods) entry.key ≡ Some number
+  pub pod_is : slice_get pods number ≡ Some pod
+  pub listed : slice_get entry.listings m ≡ Some listing
+  pub unknown : place_of (names_of pod.containers) listing.name ≡ None
+
+-- every pod of the line has to be known before any of its containers is looked for
+pub record Strangers : Type 0 where
+  pub pod : (pods : List PodSpec) (es : List Entry) → (placed_of pods es ≡ Err StrangerPod ↔ NamesStranger pods es)
+  pub container : (pods : List PodSpec) (es : List Entry) → (placed_of pods es ≡ Err StrangerContainer ↔ ((NamesStranger pods es → ⊥) × NamesStrangerContainer pods es))
 
 -- not for want of memory
 abbrev pub IsNotMemory : LineKind → Type 0

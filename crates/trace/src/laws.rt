@@ -1,5 +1,5 @@
 //! What the definition of a trace implies, in the words of the format. The functions do nothing; their contracts are the laws.
-ghost use Rattle.trace.specs.Laws.{FirstFault, WholeTrace, OneFault, FirstCheck, AllChecks, KindsOfChecks, NeverMemory};
+ghost use Rattle.trace.specs.Laws.{FirstFault, WholeTrace, OneFault, FirstCheck, AllChecks, KindsOfChecks, Strangers, NeverMemory};
 
 /// A text is refused exactly with the fault of its first line that has one, or behind its last line where no line counts.
 pub fn first_fault()
@@ -29,6 +29,11 @@ pub fn all_checks()
 /// The kinds of fault that each check of a line answers.
 pub fn kinds_of_checks()
     ensures { KindsOfChecks }
+{}
+
+/// Which entries of a tick line name a pod or a container that isn't known.
+pub fn strangers()
+    ensures { Strangers }
 {}
 
 /// No text has a fault for want of memory.

@@ -1,4 +1,4 @@
-use Rattle.kubelet_replay.specs.Follow.{AreNew}
+use Rattle.trace.specs.Followed.{AreNew}
 use Rattle.kubelet_replay.proofs.follow.new_differs.Given as goal
 
 abbrev pub invariant-loop-place : goal.invariant-loop-place

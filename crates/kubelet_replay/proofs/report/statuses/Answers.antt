@@ -2,7 +2,7 @@ use Rattle.std.proofs.Common.{ℕ, ◌+◌, ◌<◌, List, None, slice_index_or,
 use Rattle.phase.specs.declared.container.ContainerStatus.{ContainerStatus}
 use Rattle.phase.specs.Containers.{IsContainerStatus}
 use Rattle.phase.specs.Pods.{PodTick, AreShown}
-use Rattle.kubelet_replay.proofs.Places.{pushed_each}
+use Rattle.trace.proofs.FollowedLemmas.{pushed_each}
 use Rattle.kubelet_replay.proofs.Shown.{never_evicted, view_at}
 use Rattle.kubelet_replay.proofs.report.statuses.Goals as goal
 

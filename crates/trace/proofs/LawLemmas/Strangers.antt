@@ -1,0 +1,193 @@
+-- Which entries of a tick line name what isn't known.
+use Rattle.std.proofs.Common.{◌≡◌, ◌∙◌, ◌⊎◌, ℕ, zero, suc, ◌+◌, ◌<◌, Bool, true, false, List, [], ◌∷◌, length, slice_get, Option, Some, None, Result, Ok, Err, refl, ap, sym, inl, inr, arith}
+use Rattle.std.specs.Prelude.{option_map, if◌then◌else◌, bytes_eq}
+use Rattle.std.proofs.Common.{get_or}
+use Rattle.std.proofs.lemmas.Option.{slice_get-get_or}
+use Rattle.std.proofs.lemmas.List.{length-map}
+use Rattle.json_fields.specs.Reading.{◌>>=◌, some_or, each}
+use Rattle.name_list.specs.Names.{place_of}
+use Rattle.manifest.specs.declared.pod.PodSpec.{PodSpec}
+use Rattle.manifest.specs.Containers.{names_of}
+use Rattle.trace.specs.declared.fault.LineKind.{LineKind}
+use Rattle.trace.specs.declared.fault.LineKind.TheVariants.{StrangerPod, StrangerContainer}
+use Rattle.trace.specs.declared.listing.Listing.{Listing}
+use Rattle.trace.specs.declared.listing.Entry.{Entry}
+use Rattle.trace.specs.declared.placing.PlacedListing.{PlacedListing}
+use Rattle.trace.specs.declared.placing.PlacedEntry.{PlacedEntry}
+use Rattle.trace.specs.Pod.{keys_of}
+use Rattle.trace.specs.Placing.{number_in, pod_numbered, placed_listing, placed_entry, placed_of}
+use Rattle.trace.specs.Laws.{NamesStranger, NamesStrangerContainer, Strangers}
+use Rattle.trace.proofs.LawLemmas.Checks.{no_fault, same_fault, bind_err, then_ok, then_err}
+
+-- the first item that gives a fault
+each_at : {A B E : Type 0} (f : A → Result B E) (xs : List A) (fault : E) → each f xs ≡ Err fault → (n : ℕ) × (x : A) × (slice_get xs n ≡ Some x) × (f x ≡ Err fault)
+each_at f [] fault e = absurd (no_fault [] fault e)
+each_at f (x ∷ xs) fault e = elim (bind_err (f x) (λ y. each f xs >>= λ ys. Ok (y ∷ ys)) fault e) [
+  | inl here ↦ (0, x, refl, here)
+  | inr later ↦ elim (bind_err (each f xs) (λ ys. Ok (later.0 ∷ ys)) fault later.2) [
+    | inl rest ↦ let r = each_at f xs fault rest in (suc r.0, r.1, r.2, r.3)
+    | inr done ↦ absurd (no_fault (later.0 ∷ done.0) fault done.2)
+  ]
+]
+
+first_or_later : {A B E : Type 0} (f : A → Result B E) (fault : E) (y : A) (xs : List A) (r : Result B E) → f y ≡ r → ((other : E) → f y ≡ Err other → other ≡ fault) → each f xs ≡ Err fault → each f (y ∷ xs) ≡ Err fault
+first_or_later f fault y xs (Ok z) is only later =
+    then_ok (f y) (λ z. each f xs >>= λ zs. Ok (z ∷ zs)) z is ∙ then_err (each f xs) (λ zs. Ok (z ∷ zs)) fault later
+first_or_later f fault y xs (Err other) is only later =
+    then_err (f y) (λ z. each f xs >>= λ zs. Ok (z ∷ zs)) fault (is ∙ ap Err (only other is))
+
+-- some item gives the fault, and no item gives another
+each_meets : {A B E : Type 0} (f : A → Result B E) (fault : E) (xs : List A) (n : ℕ) (x : A) → slice_get xs n ≡ Some x → f x ≡ Err fault
+    → ((m : ℕ) (z : A) (other : E) → slice_get xs m ≡ Some z → f z ≡ Err other → other ≡ fault) → each f xs ≡ Err fault
+each_meets f fault [] n x here e only = absurd (cc)
+each_meets f fault (y ∷ xs) zero x here e only =
+    let is : y ≡ x = cc in
+    then_err (f y) (λ z. each f xs >>= λ zs. Ok (z ∷ zs)) fault (ap f is ∙ e)
+each_meets f fault (y ∷ xs) (suc n) x here e only =
+    first_or_later f fault y xs (f y) refl (λ other is. only 0 y other refl is) (each_meets f fault xs n x here e (λ m z other at is. only (suc m) z other at is))
+
+-- what is missing gives its fault, and what is there none
+missing_is : {A E : Type 0} (fault given : E) (found : Option A) → some_or fault found ≡ Err given → (found ≡ None) × (given ≡ fault)
+missing_is fault given None e = (refl, sym (same_fault fault given e))
+missing_is fault given (Some x) e = absurd (no_fault x given e)
+
+there_is : {A E : Type 0} (fault : E) (found : Option A) (x : A) → some_or fault found ≡ Ok x → found ≡ Some x
+there_is fault None x e = absurd (no_fault x fault (sym e))
+there_is fault (Some y) x e = let is : y ≡ x = cc in ap Some is
+
+within_one : (here : Bool) (ks : List (List ℕ)) (n : ℕ) (later : Option ℕ) → ((m : ℕ) → later ≡ Some m → m < length ks) → (if here then Some 0 else option_map (λ i. i + 1) later) ≡ Some n → n < suc (length ks)
+within_one true ks n later rest e = let is : 0 ≡ n = cc in omega arith
+within_one false ks n None rest e = absurd (cc)
+within_one false ks n (Some m) rest e = let is : m + 1 ≡ n = cc in let lt = rest m refl in omega arith
+
+place_within : (ks : List (List ℕ)) (name : List ℕ) (n : ℕ) → place_of ks name ≡ Some n → n < length ks
+place_within [] name n e = absurd (cc)
+place_within (k ∷ ks) name n e = within_one (bytes_eq name k) ks n (place_of ks name) (λ m is. place_within ks name m is) e
+
+pod_is_there : (pods : List PodSpec) (key : List ℕ) (n : ℕ) → place_of (keys_of pods) key ≡ Some n → (pod : PodSpec) × (slice_get pods n ≡ Some pod)
+pod_is_there [] key n e = absurd (cc)
+pod_is_there (pod ∷ pods) key n e =
+    let within : n < length (keys_of (pod ∷ pods)) = place_within (keys_of (pod ∷ pods)) key n e in
+    let same : length (keys_of (pod ∷ pods)) ≡ length (pod ∷ pods) = simp length-map in
+    (get_or (pod ∷ pods) n pod, slice_get-get_or (pod ∷ pods) n pod (omega arith))
+
+-- the steps of an entry
+abbrev listed : ℕ → List PlacedListing → Result PlacedEntry LineKind
+listed number listings = Ok (record { pod = number; listings = listings })
+
+abbrev with_pod : Entry → ℕ → PodSpec → Result PlacedEntry LineKind
+with_pod entry number pod = each (placed_listing pod) entry.listings >>= listed number
+
+abbrev with_number : List PodSpec → Entry → ℕ → Result PlacedEntry LineKind
+with_number pods entry number = pod_numbered pods number >>= with_pod entry number
+
+listing_fault : (pod : PodSpec) (listing : Listing) (kind : LineKind) → placed_listing pod listing ≡ Err kind → (place_of (names_of pod.containers) listing.name ≡ None) × (kind ≡ StrangerContainer)
+listing_fault pod listing kind e =
+    let last : ℕ → Result PlacedListing LineKind = λ number. Ok (record { container = number; report = listing.report }) in
+    elim (bind_err (some_or StrangerContainer (place_of (names_of pod.containers) listing.name)) last kind e) [
+      | inl here ↦ missing_is StrangerContainer kind (place_of (names_of pod.containers) listing.name) here
+      | inr later ↦ absurd (no_fault (record { container = later.0; report = listing.report }) kind later.2)
+    ]
+
+-- a fault of one entry: its pod isn't known, or a container isn't its pod's
+entry_fault : (pods : List PodSpec) (es : List Entry) (n : ℕ) (entry : Entry) (kind : LineKind) → slice_get es n ≡ Some entry → placed_entry (keys_of pods) pods entry ≡ Err kind
+    → NamesStranger pods es ⊎ ((kind ≡ StrangerContainer) × NamesStrangerContainer pods es)
+unfolding placed_entry
+entry_fault pods es n entry kind here e = elim (bind_err (number_in (keys_of pods) entry) (with_number pods entry) kind e) [
+  | inl unknown ↦ inl (record { n = n; entry = entry; here = here; unknown = (missing_is StrangerPod kind (place_of (keys_of pods) entry.key) unknown).0 })
+  | inr number ↦
+      let known = there_is StrangerPod (place_of (keys_of pods) entry.key) number.0 number.1 in
+      let pod = pod_is_there pods entry.key number.0 known in
+      elim (bind_err (pod_numbered pods number.0) (with_pod entry number.0) kind number.2) [
+        | inl gone ↦
+            let none = (missing_is StrangerPod kind (slice_get pods number.0) gone).0 in
+            let some = pod.1 in
+            absurd (cc)
+        | inr found ↦
+            let is = there_is StrangerPod (slice_get pods number.0) found.0 found.1 in
+            elim (bind_err (each (placed_listing found.0) entry.listings) (listed number.0) kind found.2) [
+              | inl faulty ↦
+                  let at = each_at (placed_listing found.0) entry.listings kind faulty in
+                  let why = listing_fault found.0 at.1 kind at.3 in
+                  inr (why.1, record { n = n; entry = entry; number = number.0; pod = found.0; m = at.0; listing = at.1; here = here; known = known; pod_is = is; listed = at.2; unknown = why.0 })
+              | inr done ↦ absurd (no_fault (record { pod = number.0; listings = done.0 }) kind done.2)
+            ]
+      ]
+]
+
+unknown_pod : (pods : List PodSpec) (es : List Entry) → NamesStranger pods es → each (number_in (keys_of pods)) es ≡ Err StrangerPod
+unknown_pod pods es is =
+    each_meets (number_in (keys_of pods)) StrangerPod es is.n is.entry is.here (ap (λ (found : Option ℕ). some_or StrangerPod found) is.unknown)
+    (λ m z other at e. (missing_is StrangerPod other (place_of (keys_of pods) z.key) e).1)
+
+-- where every number is found, no entry names a stranger
+all_known : (pods : List PodSpec) (es : List Entry) (numbers : List ℕ) → each (number_in (keys_of pods)) es ≡ Ok numbers → NamesStranger pods es → ⊥
+all_known pods es numbers e is = no_fault numbers StrangerPod (sym e ∙ unknown_pod pods es is)
+
+entries_fault : (pods : List PodSpec) (es : List Entry) (kind : LineKind) → placed_of pods es ≡ Err kind → ((kind ≡ StrangerPod) × NamesStranger pods es) ⊎ ((kind ≡ StrangerContainer) × NamesStrangerContainer pods es)
+unfolding placed_of
+entries_fault pods es kind e = elim (bind_err (each (number_in (keys_of pods)) es) (λ numbers. each (placed_entry (keys_of pods) pods) es) kind e) [
+  | inl unknown ↦
+      let at = each_at (number_in (keys_of pods)) es kind unknown in
+      let why = missing_is StrangerPod kind (place_of (keys_of pods) at.1.key) at.3 in
+      inl (why.1, record { n = at.0; entry = at.1; here = at.2; unknown = why.0 })
+  | inr numbers ↦
+      let at = each_at (placed_entry (keys_of pods) pods) es kind numbers.2 in
+      elim (entry_fault pods es at.0 at.1 kind at.2 at.3) [
+        | inl stranger ↦ absurd (all_known pods es numbers.0 numbers.1 stranger)
+        | inr container ↦ inr container
+      ]
+]
+
+pod_is : (pods : List PodSpec) (es : List Entry) → NamesStranger pods es → placed_of pods es ≡ Err StrangerPod
+unfolding placed_of
+pod_is pods es is = then_err (each (number_in (keys_of pods)) es) (λ numbers. each (placed_entry (keys_of pods) pods) es) StrangerPod (unknown_pod pods es is)
+
+one_entry : (pods : List PodSpec) (es : List Entry) → (is : NamesStrangerContainer pods es) → placed_entry (keys_of pods) pods is.entry ≡ Err StrangerContainer
+unfolding placed_entry
+one_entry pods es is =
+    let last : ℕ → Result PlacedListing LineKind = λ number. Ok (record { container = number; report = is.listing.report }) in
+    let one : placed_listing is.pod is.listing ≡ Err StrangerContainer =
+    then_err (some_or StrangerContainer (place_of (names_of is.pod.containers) is.listing.name)) last StrangerContainer (ap (λ (found : Option ℕ). some_or StrangerContainer found) is.unknown) in
+    let all : each (placed_listing is.pod) is.entry.listings ≡ Err StrangerContainer =
+    each_meets (placed_listing is.pod) StrangerContainer is.entry.listings is.m is.listing is.listed one (λ m z other at e. (listing_fault is.pod z other e).1) in
+    then_ok (number_in (keys_of pods) is.entry) (with_number pods is.entry) is.number (ap (λ (found : Option ℕ). some_or StrangerPod found) is.known)
+    ∙ then_ok (pod_numbered pods is.number) (with_pod is.entry is.number) is.pod (ap (λ (found : Option PodSpec). some_or StrangerPod found) is.pod_is)
+    ∙ then_err (each (placed_listing is.pod) is.entry.listings) (listed is.number) StrangerContainer all
+
+only_container : (pods : List PodSpec) (es : List Entry) → (NamesStranger pods es → ⊥) → (m : ℕ) (z : Entry) (other : LineKind) → slice_get es m ≡ Some z → placed_entry (keys_of pods) pods z ≡ Err other → other ≡ StrangerContainer
+only_container pods es none m z other at faulty = elim (entry_fault pods es m z other at faulty) [
+  | inl stranger ↦ absurd (none stranger)
+  | inr container ↦ container.0
+]
+
+container_is : (pods : List PodSpec) (es : List Entry) → (NamesStranger pods es → ⊥) → NamesStrangerContainer pods es → (r : Result (List ℕ) LineKind) → each (number_in (keys_of pods)) es ≡ r → placed_of pods es ≡ Err StrangerContainer
+unfolding placed_of
+container_is pods es none is (Ok numbers) e =
+    then_ok (each (number_in (keys_of pods)) es) (λ numbers. each (placed_entry (keys_of pods) pods) es) numbers e
+    ∙ each_meets (placed_entry (keys_of pods) pods) StrangerContainer es is.n is.entry is.here (one_entry pods es is)
+    (λ m z other at faulty. only_container pods es none m z other at faulty)
+container_is pods es none is (Err kind) e =
+    let at = each_at (number_in (keys_of pods)) es kind e in
+    absurd (none (record { n = at.0; entry = at.1; here = at.2; unknown = (missing_is StrangerPod kind (place_of (keys_of pods) at.1.key) at.3).0 }))
+
+pod_of : (pods : List PodSpec) (es : List Entry) → placed_of pods es ≡ Err StrangerPod → NamesStranger pods es
+pod_of pods es e = elim (entries_fault pods es StrangerPod e) [
+  | inl pod ↦ pod.1
+  | inr container ↦ let other : StrangerPod ≡ StrangerContainer = container.0 in absurd (cc)
+]
+
+apart : ◌≡◌ {A = Result (List PlacedEntry) LineKind} (Err StrangerPod) (Err StrangerContainer) → ⊥
+apart e = let same = same_fault {A = List PlacedEntry} StrangerPod StrangerContainer e in absurd (cc)
+
+container_of : (pods : List PodSpec) (es : List Entry) → placed_of pods es ≡ Err StrangerContainer → (NamesStranger pods es → ⊥) × NamesStrangerContainer pods es
+container_of pods es e = elim (entries_fault pods es StrangerContainer e) [
+  | inl pod ↦ let other : StrangerContainer ≡ StrangerPod = pod.0 in absurd (cc)
+  | inr container ↦ (λ is. apart (sym (pod_is pods es is) ∙ e), container.1)
+]
+
+pub strangers : Strangers
+strangers = record {
+  pod = λ pods es. (pod_of pods es, pod_is pods es);
+  container = λ pods es. (container_of pods es, λ is. container_is pods es is.0 is.1 (each (number_in (keys_of pods)) es) refl);
+}
