@@ -6,4 +6,7 @@ mod listing;
 mod scan;
 
 pub use listing::Listing;
-pub use scan::{effective_state, exit_place, is_acceptable, newest_attempt, start_place};
+pub use scan::{
+    effective_state, exit_code, exit_place, exited_at, is_acceptable, is_set_up, newest_attempt,
+    run, start_place, started_at,
+};

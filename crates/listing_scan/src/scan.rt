@@ -1,10 +1,10 @@
-ghost use Rattle.std.specs.Prelude.{◌≡◌, ◌≢◌, ◌↔◌, ◌≤◌, ◌-◌, List, length, max, option_map, IsTrue, IsSomeAnd, Option, slice_get};
+ghost use Rattle.std.specs.Prelude.{◌≡◌, ◌≢◌, ◌↔◌, ◌≤◌, ◌-◌, ℤ, Some, List, length, max, option_map, IsTrue, IsSomeAnd, Option, slice_get};
 ghost use Rattle.std.specs.List.{fold, list_all, list_any};
-ghost use Rattle.histories.specs.Histories.{IsFirstPlace};
+ghost use Rattle.histories.specs.Histories.{moment_at, IsFirstPlace, IsFirstMoment};
 ghost use Rattle.state_diff.specs.declared.seen.CriState.TheVariants.{Created, Running, Exited, Unknown};
-ghost use Rattle.state_diff.specs.Instances.{listing_of, seen_at, IsOfAs, ListedAs, Ends, IsEffective, IsAcceptable};
+ghost use Rattle.state_diff.specs.Instances.{listing_of, seen_at, IsOfAs, ListedAs, Ends, IsEffective, IsExitCode, IsSetUp, IsAcceptable};
 ghost use Rattle.state_diff.specs.Acceptable.{is_of as of_attempt, is_at_most as at_most, known_after as after_listing, effective_state as effective, is_not_older as not_older, is_not_gone as not_gone, is_not_back as not_back};
-ghost use Rattle.listing_scan.specs.Listings.{history, later_of, IsEnding, IsNewestAttempt};
+ghost use Rattle.listing_scan.specs.Listings.{history, later_of, code_in, IsEnding, IsNewestAttempt, IsRunOf, IsSetUpBy};
 
 use crate::listing::Listing;
 use state_diff::{CriState, Seen};
@@ -189,4 +189,103 @@ fn ends(attempt: u32, listed: bool, seen: Option<Seen>) -> bool
     ensures { IsTrue result ↔ IsEnding attempt listed seen }
 {
     exits(attempt, seen) || listed && !is_of(attempt, seen)
+}
+
+/// The moment of the tick at a place.
+fn moment(ticks: &[Listing], place: usize) -> Option<u64>
+    ensures { result ≡ moment_at (history ticks.now) place }
+{
+    match ticks.get(place) {
+        Some(tick) => Some(tick.at),
+        None => None,
+    }
+}
+
+/// The moment at which the attempt was first listed as running, in seconds.
+pub fn started_at(ticks: &[Listing], attempt: u32) -> Option<u64>
+    ensures { IsFirstMoment (history ticks.now) (ListedAs (history ticks.now) attempt Running) result }
+{
+    match start_place(ticks, attempt) {
+        Some(place) => moment(ticks, place),
+        None => None,
+    }
+}
+
+/// The moment at which the attempt exited, in seconds.
+pub fn exited_at(ticks: &[Listing], attempt: u32) -> Option<u64>
+    ensures { IsFirstMoment (history ticks.now) (Ends (history ticks.now) attempt) result }
+{
+    match exit_place(ticks, attempt) {
+        Some(place) => moment(ticks, place),
+        None => None,
+    }
+}
+
+/// How long the attempt ran, in seconds, once it has exited; 0 if it never started.
+pub fn run(ticks: &[Listing], attempt: u32) -> Option<u64>
+    ensures { IsRunOf (history ticks.now) attempt result }
+{
+    match exited_at(ticks, attempt) {
+        Some(exit) => Some(exit.saturating_sub(started_at(ticks, attempt).unwrap_or(exit))),
+        None => None,
+    }
+}
+
+/// The exit code that a listing gives the attempt, and 137 where it is not of the attempt.
+fn code_in(attempt: u32, seen: Option<Seen>) -> Option<i32>
+    ensures { result ≡ code_in attempt seen }
+{
+    match seen {
+        Some(seen) if seen.attempt == attempt => seen.code,
+        _ => Some(137),
+    }
+}
+
+/// The exit code that the tick at a place gives the attempt.
+fn code_at(ticks: &[Listing], attempt: u32, place: usize) -> Option<i32>
+    ensures { result ≡ code_in attempt (seen_at (history ticks.now) place) }
+{
+    match ticks.get(place) {
+        Some(tick) => code_in(attempt, tick.seen),
+        None => code_in(attempt, None),
+    }
+}
+
+/// The code with which the attempt exited, if it has.
+pub fn exit_code(ticks: &[Listing], attempt: u32) -> Option<i32>
+    ensures { (code : ℤ) → ((result ≡ Some code) ↔ IsExitCode (history ticks.now) attempt code) }
+{
+    match exit_place(ticks, attempt) {
+        Some(place) => code_at(ticks, attempt, place),
+        None => None,
+    }
+}
+
+/// Whether the attempt has started or exited.
+fn is_set_up_by(ticks: &[Listing], attempt: u32) -> bool
+    ensures { IsTrue result ↔ IsSetUpBy (history ticks.now) attempt }
+{
+    start_place(ticks, attempt).is_some() || exit_place(ticks, attempt).is_some()
+}
+
+/// Whether the listed attempt has started or exited.
+fn is_set_up_in(ticks: &[Listing], seen: Option<Seen>) -> bool
+    ensures { IsTrue result ↔ IsSomeAnd seen (λ s. IsSetUpBy (history ticks.now) s.attempt) }
+{
+    match seen {
+        Some(seen) => is_set_up_by(ticks, seen.attempt),
+        None => false,
+    }
+}
+
+/// Whether some instance has started or exited.
+pub fn is_set_up(ticks: &[Listing]) -> bool
+    ensures { IsTrue result ↔ IsSetUp (history ticks.now) }
+{
+    for tick in ticks {
+        if is_set_up_in(ticks, tick.seen) {
+            return true;
+        }
+    }
+    false
 }

@@ -1,5 +1,6 @@
 use listing_scan::{
-    Listing, effective_state, exit_place, is_acceptable, newest_attempt, start_place,
+    Listing, effective_state, exit_code, exit_place, exited_at, is_acceptable, is_set_up,
+    newest_attempt, run, start_place, started_at,
 };
 use state_diff::CriState::{Created, Exited, Running, Unknown};
 use state_diff::{Changes, CriState, Differ, Seen};
@@ -182,16 +183,14 @@ fn draw(random: u64, newest: Option<Seen>) -> Option<Seen> {
     match random % 16 {
         0 => None,
         1 | 2 => seen(attempt, Created),
-        3 | 4 => seen(attempt, Exited),
+        3 => Some(Seen {
+            attempt,
+            state: Exited,
+            code: Some(random as i32 / 256 % 256),
+        }),
+        4 => seen(attempt, Exited),
         5 => seen(attempt, Unknown),
         _ => seen(attempt, Running),
-    }
-}
-
-fn moment(ticks: &[Listing], place: Option<usize>) -> Option<u64> {
-    match ticks.get(place?) {
-        Some(tick) => Some(tick.at),
-        None => None,
     }
 }
 
@@ -199,34 +198,25 @@ fn attempt_of(seen: Option<Seen>) -> Option<u32> {
     Some(seen?.attempt)
 }
 
-/// The instance as all ticks show it.
-fn scanned(ticks: &[Listing], attempt: u32) -> Option<(CriState, Option<i32>)> {
+/// The state of the attempt as all ticks show it.
+fn scanned_state(ticks: &[Listing], attempt: u32) -> CriState {
     match exit_place(ticks, attempt) {
-        None => Some((effective_state(ticks, attempt), None)),
-        Some(place) => {
-            let tick = ticks.get(place)?;
-            let code = match tick.seen {
-                Some(seen) if seen.attempt == attempt => seen.code,
-                _ => Some(137),
-            };
-            Some((Exited, code))
-        }
+        Some(_) => Exited,
+        None => effective_state(ticks, attempt),
     }
 }
 
 /// Compares what the differ says of the newest instance with a scan of all ticks.
 fn compare(rt: &impl Abort, ticks: &[Listing], differ: &Differ) {
+    assert_eq!(rt; differ.set_up(), is_set_up(ticks));
     let newest = differ.newest();
     assert_eq!(rt; attempt_of(newest), newest_attempt(ticks));
     if let Some(newest) = newest {
-        let start = moment(ticks, start_place(ticks, newest.attempt));
-        let exit = moment(ticks, exit_place(ticks, newest.attempt));
-        assert_eq!(rt; differ.first_running(), start);
-        assert_eq!(rt; differ.exited_at(), exit);
-        assert_eq!(rt;
-            Some((newest.state, newest.code)),
-            scanned(ticks, newest.attempt)
-        );
+        assert_eq!(rt; newest.state, scanned_state(ticks, newest.attempt));
+        assert_eq!(rt; newest.code, exit_code(ticks, newest.attempt));
+        assert_eq!(rt; differ.first_running(), started_at(ticks, newest.attempt));
+        assert_eq!(rt; differ.exited_at(), exited_at(ticks, newest.attempt));
+        assert_eq!(rt; differ.run(), run(ticks, newest.attempt));
     }
 }
 
@@ -256,10 +246,16 @@ fn compare_changes(
     };
     assert_eq!(rt; changes.started, started);
     let exited = match attempt_of(listed) {
-        Some(attempt) => exit_place(ticks, attempt) == last,
-        None => false,
+        Some(attempt) if exit_place(ticks, attempt) == last => Some(attempt),
+        _ => None,
     };
-    assert_eq!(rt; changes.died.is_some(), exited);
+    match exited {
+        Some(attempt) => {
+            let code = exit_code(ticks, attempt).unwrap_or(-1);
+            assert_eq!(rt; changes.died, Some((attempt, code)));
+        }
+        None => assert_eq!(rt; changes.died, None),
+    }
 }
 
 #[test]
