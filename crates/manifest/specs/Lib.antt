@@ -3,5 +3,7 @@ pub mod Gives
 pub mod Names
 pub mod Fields
 pub mod Grammar
+pub mod Probe
+pub mod Resources
 pub mod Containers
 pub mod Manifest

@@ -1,5 +1,5 @@
 -- What a manifest says of a pod, or its first fault: one line for each field, in the order in which they are read.
-use Rattle.std.specs.Prelude.{ℕ, ⊤, List, [], ◌∷◌, length, nat_lt, Option, Some, None, is_some, if◌then◌else◌, Result, Ok, Err, bytes_eq, codes}
+use Rattle.std.specs.Prelude.{ℕ, pos, ⊤, List, [], ◌∷◌, length, nat_lt, Option, Some, None, is_some, if◌then◌else◌, Result, Ok, Err, bytes_eq, codes}
 use Rattle.serde_json.specs.Data.{Data}
 use Rattle.serde_json.specs.Find.{as_str}
 use Rattle.json_fields.specs.Fields.{field_at}
@@ -10,10 +10,14 @@ use Rattle.manifest.specs.declared.fault.ManifestFault.{ManifestFault}
 use Rattle.manifest.specs.declared.fault.ManifestFault.TheVariants.{WrongKind, TooMany, DuplicateContainer, Sidecar}
 use Rattle.manifest.specs.declared.policy.Policy.{Policy}
 use Rattle.manifest.specs.declared.policy.Policy.TheVariants.{Always, OnFailure, Never}
+use Rattle.manifest.specs.declared.pod.Role.TheVariants.{App}
 use Rattle.manifest.specs.declared.pod.ContainerSpec.{ContainerSpec}
 use Rattle.manifest.specs.declared.pod.PodSpec.{PodSpec}
+use Rattle.manifest.specs.declared.reading.Metadata.{Metadata}
 use Rattle.manifest.specs.Names.{is_name, is_label}
 use Rattle.manifest.specs.Fields.{object_of, array_of, some_items, required_text, text_or}
+use Rattle.manifest.specs.Probe.{no_probes}
+use Rattle.manifest.specs.Resources.{no_resources}
 use Rattle.manifest.specs.Containers.{has_twice}
 
 abbrev pub policy_from : Option (List ℕ) → Result Policy ManifestFault
@@ -49,7 +53,7 @@ container_of field d = do
   startup ← absent (WrongKind fields.Probe) (field_at (codes "startupProbe") object)
   liveness ← absent (WrongKind fields.Probe) (field_at (codes "livenessProbe") object)
   readiness ← absent (WrongKind fields.Probe) (field_at (codes "readinessProbe") object)
-  Ok (record { name = name })
+  Ok (record { name = name; role = App; resources = no_resources; probes = no_probes })
 
 -- at most 16 containers
 abbrev pub few : List Data → Result ⊤ ManifestFault
@@ -69,16 +73,22 @@ containers_of found = do
   names_apart ← apart containers
   Ok containers
 
+-- a pod's name, and the namespace that it is in
+unfoldable pub metadata_of : Option Data → Result Metadata ManifestFault
+metadata_of found = do
+  metadata ← object_of fields.Metadata found
+  name ← required_text is_name fields.Name (field_at (codes "name") metadata)
+  namespace ← text_or (codes "default") is_label fields.Namespace (field_at (codes "namespace") metadata)
+  Ok (record { name = name; namespace = namespace })
+
 unfoldable pub pod_at : Data → Result PodSpec ManifestFault
 pod_at d = do
   pod ← object_of fields.Pod (Some d)
-  metadata ← object_of fields.Metadata (field_at (codes "metadata") pod)
-  name ← required_text is_name fields.Name (field_at (codes "name") metadata)
-  namespace ← text_or (codes "default") is_label fields.Namespace (field_at (codes "namespace") metadata)
+  metadata ← metadata_of (field_at (codes "metadata") pod)
   spec ← object_of fields.Spec (field_at (codes "spec") pod)
   policy ← policy_of (field_at (codes "restartPolicy") spec)
   priority ← absent (WrongKind fields.Priority) (field_at (codes "priority") spec)
   grace_period ← absent (WrongKind fields.GracePeriod) (field_at (codes "terminationGracePeriodSeconds") spec)
   init_containers ← none_yet fields.InitContainers (field_at (codes "initContainers") spec)
   containers ← containers_of (field_at (codes "containers") spec)
-  Ok (record { name = name; namespace = namespace; policy = policy; containers = containers })
+  Ok (record { name = metadata.name; namespace = metadata.namespace; policy = policy; priority = pos 0; grace_period_seconds = 30; containers = containers })

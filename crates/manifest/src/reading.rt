@@ -5,13 +5,18 @@ ghost use Rattle.std.specs.List.{list_any};
 ghost use Rattle.serde_json.specs.View.{view};
 ghost use Rattle.json_fields.specs.Reading.{each};
 ghost use Rattle.manifest.specs.Gives.{Gives};
-ghost use Rattle.manifest.specs.Containers.{has_twice};
-ghost use Rattle.manifest.specs.Manifest.{policy_of, none_yet, container_of, few, apart, containers_of, pod_at};
+ghost use Rattle.manifest.specs.Containers.{has_twice, IsOf, AllOf};
+ghost use Rattle.manifest.specs.declared.pod.Role.TheVariants.{App};
+ghost use Rattle.manifest.specs.Manifest.{policy_of, none_yet, container_of, few, apart, containers_of, metadata_of, pod_at};
 
 use crate::fault::{Field, ManifestFault};
 use crate::fields::{Grammar, absent, array, object, required_text, some_items, text_or};
-use crate::pod::{ContainerList, ContainerSpec, PodSpec};
+use crate::grace::GracePeriod;
+use crate::pod::{ContainerList, ContainerSpec, PodSpec, Role};
 use crate::policy::Policy;
+use crate::probe::Probes;
+use crate::resources::Resources;
+use crate::text::Text;
 use json_fields::field;
 use serde_json::Value;
 use std::alloc::Global;
@@ -47,7 +52,8 @@ fn none_yet(field: Field, found: Option<&Value>) -> Result<(), ManifestFault>
 /// What this reader doesn't read yet of a container has to be absent.
 #[tactic(auto, unfolding(crate::specs::Manifest::container_of))]
 fn container_of(alloc: Global, place: Field, value: &Value) -> Result<ContainerSpec, ManifestFault>
-    ensures { Gives (λ c. c) result (container_of place (view value.now)) }
+    ensures gives { Gives (λ c. c) result (container_of place (view value.now)) }
+    ensures app { IfOk result (IsOf App) }
 {
     let object = object(place, Some(value))?;
     let name = required_text(
@@ -63,9 +69,15 @@ fn container_of(alloc: Global, place: Field, value: &Value) -> Result<ContainerS
     absent(probe, field(object, "startupProbe"))?;
     absent(probe, field(object, "livenessProbe"))?;
     absent(probe, field(object, "readinessProbe"))?;
-    Ok(ContainerSpec { name })
+    Ok(ContainerSpec {
+        name,
+        role: Role::App,
+        resources: Resources::none(),
+        probes: Probes::none(),
+    })
 }
 
+#[tactic(auto, using(crate::proofs::Roles::all_of_none))]
 fn containers(
     alloc: Global,
     place: Field,
@@ -73,6 +85,7 @@ fn containers(
 ) -> Result<Vec<ContainerSpec>, ManifestFault>
     ensures gives { Gives (λ cs. cs.items) result (each (container_of place) (map view values.now)) }
     ensures as_many { IfOk result (λ cs. length cs.items ≡ length values.now) }
+    ensures apps { IfOk result (λ cs. AllOf App cs.items) }
 {
     let mut all = Vec::new(alloc);
     for value in values {
@@ -133,6 +146,29 @@ fn containers_of(alloc: Global, found: Option<&Value>) -> Result<ContainerList, 
     Ok(ContainerList::new(alloc, all)?)
 }
 
+/// What is read of a pod's `metadata`.
+#[derive(Drop)]
+struct Metadata {
+    name: Text,
+    namespace: Text,
+}
+
+#[tactic(auto, unfolding(crate::specs::Manifest::metadata_of))]
+fn metadata_of(alloc: Global, found: Option<&Value>) -> Result<Metadata, ManifestFault>
+    ensures { Gives (λ m. m) result (metadata_of (option_map (λ v. view v.now) found.entry)) }
+{
+    let metadata = object(Field::Metadata, found)?;
+    let name = required_text(alloc, Grammar::Name, Field::Name, field(metadata, "name"))?;
+    let namespace = text_or(
+        alloc,
+        "default",
+        Grammar::Label,
+        Field::Namespace,
+        field(metadata, "namespace"),
+    )?;
+    Ok(Metadata { name, namespace })
+}
+
 impl PodSpec {
     /// The pod that a manifest describes, or the manifest's first fault in the order of its fields
     /// (`metadata`, its `name` and `namespace`, `spec`, its `restartPolicy`, `priority`, `terminationGracePeriodSeconds`,
@@ -142,15 +178,7 @@ impl PodSpec {
         ensures { Gives (λ p. p) result (pod_at (view value.now)) }
     {
         let pod = object(Field::Pod, Some(value))?;
-        let metadata = object(Field::Metadata, field(pod, "metadata"))?;
-        let name = required_text(alloc, Grammar::Name, Field::Name, field(metadata, "name"))?;
-        let namespace = text_or(
-            alloc,
-            "default",
-            Grammar::Label,
-            Field::Namespace,
-            field(metadata, "namespace"),
-        )?;
+        let metadata = metadata_of(alloc, field(pod, "metadata"))?;
         let spec = object(Field::Spec, field(pod, "spec"))?;
         let policy = policy_of(field(spec, "restartPolicy"))?;
         absent(
@@ -164,9 +192,11 @@ impl PodSpec {
         none_yet(Field::InitContainers, field(spec, "initContainers"))?;
         let containers = containers_of(alloc, field(spec, "containers"))?;
         Ok(PodSpec {
-            name,
-            namespace,
+            name: metadata.name,
+            namespace: metadata.namespace,
             policy,
+            priority: 0,
+            grace_period_seconds: GracePeriod::new(30),
             containers,
         })
     }

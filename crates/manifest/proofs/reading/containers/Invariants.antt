@@ -2,6 +2,8 @@ use Rattle.std.proofs.Common.{◌≡◌, map, drop, length}
 use Rattle.serde_json.specs.View.{view}
 use Rattle.json_fields.specs.Reading.{each}
 use Rattle.json_fields.proofs.Each.{with_front}
+use Rattle.manifest.specs.Containers.{AllOf}
+use Rattle.manifest.specs.declared.pod.Role.TheVariants.{App}
 use Rattle.manifest.specs.Manifest.{container_of}
 use Rattle.manifest.proofs.reading.containers.Given as goal
 
@@ -9,4 +11,5 @@ abbrev pub invariant-loop-value : goal.invariant-loop-value
 invariant-loop-value l = record {
   read : with_front l.all.items (each (container_of l.place) (map view (drop l.value-index l.values))) ≡ each (container_of l.place) (map view l.values);
   as_many : length l.all.items ≡ l.value-index;
+  apps : AllOf App l.all.items;
 }
