@@ -1,5 +1,5 @@
 -- A loop that reads the items of an array, one more each time.
-use Rattle.std.proofs.Common.{◌≡◌, ◌∙◌, ℕ, suc, ◌+◌, ◌<◌, List, [], ◌∷◌, ◌++◌, length, map, drop, get_or, Result, Ok, Err, refl, ap, sym, append_assoc, add-one, drop-cons}
+use Rattle.std.proofs.Common.{◌≡◌, ℕ, ◌+◌, ◌<◌, List, [], ◌∷◌, ◌++◌, length, map, drop, get_or, Result, Ok, Err, refl, ap, append_assoc, add-one, drop-cons}
 use Rattle.json_fields.specs.Reading.{◌>>=◌, each}
 use Rattle.json_fields.proofs.Each.{with_front}
 

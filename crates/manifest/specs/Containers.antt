@@ -14,17 +14,10 @@ abbrev pub has_twice : List ContainerSpec → Bool
 has_twice [] = false
 has_twice (c ∷ cs) = list_any (λ other. bytes_eq other.name c.name) cs || has_twice cs
 
--- an init container has no probes
-pub record IsInit (c : ContainerSpec) : Type 0 where
-  pub role : c.role ≡ Init
-  pub unprobed : c.probes ≡ no_probes
-
-abbrev pub IsApp : ContainerSpec → Type 0
-IsApp c = c.role ≡ App
-
-abbrev pub IsOf : Role → ContainerSpec → Type 0
-IsOf Init c = IsInit c
-IsOf App c = IsApp c
+-- a container of this role; an init container has no probes
+pub record IsOf (role : Role) (c : ContainerSpec) : Type 0 where
+  pub role_is : c.role ≡ role
+  pub unprobed : role ≡ Init → c.probes ≡ no_probes
 
 -- all of one role
 unfoldable pub AllOf : Role → List ContainerSpec → Type 0
@@ -42,8 +35,8 @@ pub record AreContainers (containers : List ContainerSpec) : Type 0 where
   pub init : List ContainerSpec
   pub apps : List ContainerSpec
   pub in_order : containers ≡ init ++ apps
-  pub init_first : All IsInit init
-  pub apps_last : All IsApp apps
+  pub init_first : All (IsOf Init) init
+  pub apps_last : All (IsOf App) apps
   pub some : 0 < length apps
   pub few : length containers ≤ 16
   pub apart : has_twice containers ≡ false

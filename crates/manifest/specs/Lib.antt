@@ -4,6 +4,8 @@ pub mod Names
 pub mod Fields
 pub mod Grammar
 pub mod Probe
+pub mod ProbeFields
 pub mod Resources
+pub mod ResourceFields
 pub mod Containers
 pub mod Manifest

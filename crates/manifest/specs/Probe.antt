@@ -1,5 +1,5 @@
 -- The probes of a container (Kubernetes, "Configure Liveness, Readiness and Startup Probes").
-use Rattle.std.specs.Prelude.{◌≡◌, ℕ, ◌≤◌, ◌<◌, ◌^◌, Option, Some, None, ⊤}
+use Rattle.std.specs.Prelude.{◌≡◌, ℕ, ◌≤◌, ◌<◌, ◌^◌, Option, Some, None}
 
 -- one probe's numbers
 pub record Probe : Type 0 where

@@ -22,9 +22,6 @@ impl Model for GracePeriod {
 }
 
 impl GracePeriod {
-    /// What a pod has where none is written.
-    pub(crate) const DEFAULT_SECONDS: u64 = 30;
-
     pub(crate) fn new(seconds: u64) -> GracePeriod
         requires { seconds < 2 ^ 40 }
         ensures { result ≡ seconds }

@@ -8,7 +8,9 @@ mod names;
 mod pod;
 mod policy;
 mod probe;
+mod probe_fields;
 mod reading;
+mod resource_fields;
 mod resources;
 mod text;
 

@@ -28,6 +28,25 @@ impl Model for Probe {
 }
 
 impl Probe {
+    pub(crate) fn new(
+        initial_delay_seconds: u32,
+        period_seconds: u32,
+        timeout_seconds: u32,
+        success_threshold: u32,
+        failure_threshold: u32,
+    ) -> Probe
+        requires { IsInRange (record { initial_delay_seconds = initial_delay_seconds; period_seconds = period_seconds; timeout_seconds = timeout_seconds; success_threshold = success_threshold; failure_threshold = failure_threshold }) }
+        ensures { result ≡ record { initial_delay_seconds = initial_delay_seconds; period_seconds = period_seconds; timeout_seconds = timeout_seconds; success_threshold = success_threshold; failure_threshold = failure_threshold } }
+    {
+        Probe {
+            initial_delay_seconds,
+            period_seconds,
+            timeout_seconds,
+            success_threshold,
+            failure_threshold,
+        }
+    }
+
     /// `initialDelaySeconds`: the seconds from the instance's start before results count.
     pub fn initial_delay_seconds(self) -> u32
         ensures value { result ≡ self.initial_delay_seconds }
@@ -94,6 +113,22 @@ impl Model for Probes {
 }
 
 impl Probes {
+    pub(crate) fn new(
+        startup: Option<Probe>,
+        liveness: Option<Probe>,
+        readiness: Option<Probe>,
+    ) -> Probes
+        requires startup_by_one { SucceedsByOne startup }
+        requires liveness_by_one { SucceedsByOne liveness }
+        ensures { result ≡ record { startup = startup; liveness = liveness; readiness = readiness } }
+    {
+        Probes {
+            startup,
+            liveness,
+            readiness,
+        }
+    }
+
     /// A container's probes where none is written.
     pub(crate) fn none() -> Probes
         ensures { result ≡ no_probes }

@@ -1,7 +1,7 @@
 //! Resources that a container asks for (Kubernetes, "Resource Management for Pods and Containers").
 
 ghost use Rattle.std.specs.Prelude.{◌≡◌, false};
-ghost use Rattle.manifest.specs.Resources.{amount_of, nothing, no_resources, AreWithin, some_above};
+ghost use Rattle.manifest.specs.Resources.{amount_of, nothing, no_resources, AreWithin, is_above, some_above};
 
 use quantity::Quantity;
 use std::marker::Model;
@@ -28,6 +28,16 @@ pub struct Amounts {
     pub ephemeral_storage: Option<Quantity>,
 }
 
+/// Whether a request is above its limit. A limit of zero counts as unset.
+fn is_above(request: Option<Quantity>, limit: Option<Quantity>) -> bool
+    ensures { result ≡ is_above request limit }
+{
+    match (request, limit) {
+        (Some(request), Some(limit)) => 0 < limit.milli() && limit.milli() < request.milli(),
+        _ => false,
+    }
+}
+
 impl Amounts {
     /// No amount of any.
     pub(crate) fn nothing() -> Amounts
@@ -49,6 +59,15 @@ impl Amounts {
             Resource::Memory => self.memory,
             Resource::EphemeralStorage => self.ephemeral_storage,
         }
+    }
+
+    /// Whether one of these requests is above its limit.
+    pub(crate) fn some_above(&self, limits: &Amounts) -> bool
+        ensures { result ≡ some_above self.now limits.now }
+    {
+        is_above(self.cpu, limits.cpu)
+            || is_above(self.memory, limits.memory)
+            || is_above(self.ephemeral_storage, limits.ephemeral_storage)
     }
 }
 
@@ -73,6 +92,13 @@ impl Model for Resources {
 }
 
 impl Resources {
+    pub(crate) fn new(requests: Amounts, limits: Amounts) -> Resources
+        requires { some_above requests limits ≡ false }
+        ensures { result ≡ record { requests = requests; limits = limits } }
+    {
+        Resources { requests, limits }
+    }
+
     /// A container's resources where none is written.
     pub(crate) fn none() -> Resources
         ensures { result ≡ no_resources }

@@ -3,13 +3,12 @@ use Rattle.serde_json.specs.View.{view}
 use Rattle.json_fields.specs.Reading.{each}
 use Rattle.json_fields.proofs.Each.{with_front}
 use Rattle.manifest.specs.Containers.{AllOf}
-use Rattle.manifest.specs.declared.pod.Role.TheVariants.{App}
 use Rattle.manifest.specs.Manifest.{container_of}
 use Rattle.manifest.proofs.reading.containers.Given as goal
 
 abbrev pub invariant-loop-value : goal.invariant-loop-value
 invariant-loop-value l = record {
-  read : with_front l.all.items (each (container_of l.place) (map view (drop l.value-index l.values))) ≡ each (container_of l.place) (map view l.values);
+  read : with_front l.all.items (each (container_of l.role) (map view (drop l.value-index l.values))) ≡ each (container_of l.role) (map view l.values);
   as_many : length l.all.items ≡ l.value-index;
-  apps : AllOf App l.all.items;
+  roles : AllOf l.role l.all.items;
 }

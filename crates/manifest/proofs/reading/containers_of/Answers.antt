@@ -1,18 +1,16 @@
-use Rattle.std.proofs.Common.{[], refl, arith, rules, All}
+use Rattle.std.proofs.Common.{arith, rules}
 use Rattle.std.proofs.lemmas.Grind.{common_steps}
-use Rattle.std.proofs.lemmas.List.Elements.{All-nil}
-use Rattle.manifest.specs.declared.pod.Role.TheVariants.{App}
-use Rattle.manifest.specs.Containers.{IsInit}
+use Rattle.manifest.specs.declared.pod.Role.TheVariants.{Init, App}
 use Rattle.manifest.proofs.Roles.{each_of}
 use Rattle.manifest.proofs.reading.containers_of.Goals as goal
 
 pub new-requires : goal.new-requires
 new-requires c = record {
-  init = [];
-  apps = c.in_ok-all.all.items;
-  in_order = refl;
-  init_first = All-nil IsInit;
-  apps_last = each_of App _ c.in_ok-all.ensures.apps;
+  init = c.in_ok-init.init.items;
+  apps = c.in_ok-apps.apps.items;
+  in_order = c.in_ok-all.ensures;
+  init_first = each_of Init _ c.in_ok-init.ensures.roles;
+  apps_last = each_of App _ c.in_ok-apps.ensures.roles;
   some = grind (arith, common_steps);
   few = grind (arith, common_steps);
   apart = search rules;
