@@ -1,2 +1,4 @@
 pub mod Arrays
 pub mod Apart
+pub mod Roles
+pub mod EachItem

@@ -1,8 +1,9 @@
 -- Fields of a manifest: what stands in each, or its fault.
-use Rattle.std.specs.Prelude.{ℕ, Bool, List, [], ◌∷◌, Option, Some, None, is_some, if◌then◌else◌, Result, Ok, Err}
+use Rattle.std.specs.Prelude.{ℕ, ⊤, Bool, List, [], ◌∷◌, Option, Some, None, is_some, if◌then◌else◌, Result, Ok, Err}
 use Rattle.serde_json.specs.Data.{Data, Items}
 use Rattle.serde_json.specs.Find.{as_object, as_array, as_str}
 use Rattle.json_fields.specs.Fields.{items_list}
+use Rattle.json_fields.specs.Reading.{refused_if}
 use Rattle.manifest.specs.declared.fault.Field.{Field}
 use Rattle.manifest.specs.declared.fault.ManifestFault.{ManifestFault}
 use Rattle.manifest.specs.declared.fault.ManifestFault.TheVariants.{Missing, WrongKind}
@@ -39,7 +40,16 @@ abbrev pub array_of : Field → Option Data → Result (List Data) ManifestFault
 array_of field None = Err (Missing field)
 array_of field (Some d) = items_or field (as_array d)
 
+-- an array that may be left out
+abbrev pub array_or_none : Field → Option Data → Result (List Data) ManifestFault
+array_or_none field None = Ok []
+array_or_none field (Some d) = array_of field (Some d)
+
 -- an array must have an item
 abbrev pub some_items : Field → List Data → Result (List Data) ManifestFault
 some_items field [] = Err (Missing field)
 some_items field (d ∷ ds) = Ok (d ∷ ds)
+
+-- a field that must not stand there
+abbrev pub absent : ManifestFault → Option Data → Result ⊤ ManifestFault
+absent fault found = refused_if (is_some found) fault

@@ -3,5 +3,9 @@ pub mod Gives
 pub mod Names
 pub mod Fields
 pub mod Grammar
+pub mod Probe
+pub mod ProbeFields
+pub mod Resources
+pub mod ResourceFields
 pub mod Containers
 pub mod Manifest

@@ -1,7 +1,7 @@
 -- What a manifest says of a pod, or its first fault: one line for each field, in the order in which they are read.
-use Rattle.std.specs.Prelude.{ℕ, ⊤, List, [], ◌∷◌, length, nat_lt, Option, Some, None, is_some, if◌then◌else◌, Result, Ok, Err, bytes_eq, codes}
+use Rattle.std.specs.Prelude.{ℕ, ℤ, pos, negsuc, int_le, ⊤, ◌^◌, ◌+◌, ◌&&◌, List, ◌++◌, length, nat_lt, Option, Some, None, option_and_then, if◌then◌else◌, Result, Ok, Err, bytes_eq, codes}
 use Rattle.serde_json.specs.Data.{Data}
-use Rattle.serde_json.specs.Find.{as_str}
+use Rattle.serde_json.specs.Find.{as_str, as_number, as_i64, as_u64}
 use Rattle.json_fields.specs.Fields.{field_at}
 use Rattle.json_fields.specs.Reading.{◌>>=◌, refused_if, each}
 use Rattle.manifest.specs.declared.fault.Field.{Field}
@@ -10,10 +10,15 @@ use Rattle.manifest.specs.declared.fault.ManifestFault.{ManifestFault}
 use Rattle.manifest.specs.declared.fault.ManifestFault.TheVariants.{WrongKind, TooMany, DuplicateContainer, Sidecar}
 use Rattle.manifest.specs.declared.policy.Policy.{Policy}
 use Rattle.manifest.specs.declared.policy.Policy.TheVariants.{Always, OnFailure, Never}
+use Rattle.manifest.specs.declared.pod.Role.{Role}
+use Rattle.manifest.specs.declared.pod.Role.TheVariants.{Init, App}
 use Rattle.manifest.specs.declared.pod.ContainerSpec.{ContainerSpec}
 use Rattle.manifest.specs.declared.pod.PodSpec.{PodSpec}
+use Rattle.manifest.specs.declared.reading.Metadata.{Metadata}
 use Rattle.manifest.specs.Names.{is_name, is_label}
-use Rattle.manifest.specs.Fields.{object_of, array_of, some_items, required_text, text_or}
+use Rattle.manifest.specs.Fields.{object_of, array_of, array_or_none, some_items, required_text, text_or, absent}
+use Rattle.manifest.specs.ProbeFields.{probes_of}
+use Rattle.manifest.specs.ResourceFields.{resources_of}
 use Rattle.manifest.specs.Containers.{has_twice}
 
 abbrev pub policy_from : Option (List ℕ) → Result Policy ManifestFault
@@ -27,58 +32,78 @@ abbrev pub policy_of : Option Data → Result Policy ManifestFault
 policy_of None = Ok Always
 policy_of (Some d) = policy_from (as_str d)
 
-abbrev pub no_items : Field → List Data → Result ⊤ ManifestFault
-no_items field [] = Ok tt
-no_items field (d ∷ ds) = Err (WrongKind field)
+abbrev pub priority_from : Option ℤ → Result ℤ ManifestFault
+priority_from None = Err (WrongKind fields.Priority)
+priority_from (Some z) = if int_le (negsuc 2147483647) z && int_le z (pos 2147483647) then Ok z else Err (WrongKind fields.Priority)
 
--- an array that is absent, or has no items
-abbrev pub none_yet : Field → Option Data → Result ⊤ ManifestFault
-none_yet field None = Ok tt
-none_yet field (Some d) = array_of field (Some d) >>= λ ds. no_items field ds
+-- a whole number of 32 bits; 0 where none is written
+abbrev pub priority_of : Option Data → Result ℤ ManifestFault
+priority_of None = Ok (pos 0)
+priority_of (Some d) = priority_from (option_and_then as_i64 (as_number d))
 
-abbrev pub absent : ManifestFault → Option Data → Result ⊤ ManifestFault
-absent fault found = refused_if (is_some found) fault
+abbrev pub grace_period_from : Option ℕ → Result ℕ ManifestFault
+grace_period_from None = Err (WrongKind fields.GracePeriod)
+grace_period_from (Some n) = if nat_lt n (2 ^ 40) then Ok n else Err (WrongKind fields.GracePeriod)
 
--- one container of the array that a field holds; what isn't read yet has to be absent
-unfoldable pub container_of : Field → Data → Result ContainerSpec ManifestFault
-container_of field d = do
-  object ← object_of field (Some d)
+-- seconds below 2^40; 30 where none is written
+abbrev pub grace_period_of : Option Data → Result ℕ ManifestFault
+grace_period_of None = Ok 30
+grace_period_of (Some d) = grace_period_from (option_and_then as_u64 (as_number d))
+
+-- the array that a container of this role stands in
+abbrev pub place_of : Role → Field
+place_of Init = fields.InitContainers
+place_of App = fields.Containers
+
+-- one container; a restart policy of its own would make it a sidecar
+unfoldable pub container_of : Role → Data → Result ContainerSpec ManifestFault
+container_of role d = do
+  object ← object_of (place_of role) (Some d)
   name ← required_text is_label fields.ContainerName (field_at (codes "name") object)
-  own ← absent Sidecar (field_at (codes "restartPolicy") object)
-  resources ← absent (WrongKind fields.Resources) (field_at (codes "resources") object)
-  startup ← absent (WrongKind fields.Probe) (field_at (codes "startupProbe") object)
-  liveness ← absent (WrongKind fields.Probe) (field_at (codes "livenessProbe") object)
-  readiness ← absent (WrongKind fields.Probe) (field_at (codes "readinessProbe") object)
-  Ok (record { name = name })
+  own_policy ← absent Sidecar (field_at (codes "restartPolicy") object)
+  resources ← resources_of (field_at (codes "resources") object)
+  probes ← probes_of role object
+  Ok (record { name = name; role = role; resources = resources; probes = probes })
 
 -- at most 16 containers
-abbrev pub few : List Data → Result ⊤ ManifestFault
-few ds = refused_if (nat_lt 16 (length ds)) TooMany
+abbrev pub few : List Data → List Data → Result ⊤ ManifestFault
+few init apps = refused_if (nat_lt 16 (length init + length apps)) TooMany
 
 -- no two of one name
 abbrev pub apart : List ContainerSpec → Result ⊤ ManifestFault
 apart cs = refused_if (has_twice cs) DuplicateContainer
 
--- the containers of the array that the field holds
-unfoldable pub containers_of : Option Data → Result (List ContainerSpec) ManifestFault
-containers_of found = do
-  listed ← array_of fields.Containers found
+-- the containers of the two arrays' items, the init containers first
+unfoldable pub containers_of : List Data → List Data → Result (List ContainerSpec) ManifestFault
+containers_of init_items items = do
+  within_limit ← few init_items items
+  init ← each (container_of Init) init_items
+  apps ← each (container_of App) items
+  names_apart ← apart (init ++ apps)
+  Ok (init ++ apps)
+
+unfoldable pub containers_in : Data → Result (List ContainerSpec) ManifestFault
+containers_in spec = do
+  init_items ← array_or_none fields.InitContainers (field_at (codes "initContainers") spec)
+  listed ← array_of fields.Containers (field_at (codes "containers") spec)
   items ← some_items fields.Containers listed
-  within_limit ← few items
-  containers ← each (container_of fields.Containers) items
-  names_apart ← apart containers
-  Ok containers
+  containers_of init_items items
+
+-- a pod's name, and the namespace that it is in
+unfoldable pub metadata_of : Option Data → Result Metadata ManifestFault
+metadata_of found = do
+  metadata ← object_of fields.Metadata found
+  name ← required_text is_name fields.Name (field_at (codes "name") metadata)
+  namespace ← text_or (codes "default") is_label fields.Namespace (field_at (codes "namespace") metadata)
+  Ok (record { name = name; namespace = namespace })
 
 unfoldable pub pod_at : Data → Result PodSpec ManifestFault
 pod_at d = do
   pod ← object_of fields.Pod (Some d)
-  metadata ← object_of fields.Metadata (field_at (codes "metadata") pod)
-  name ← required_text is_name fields.Name (field_at (codes "name") metadata)
-  namespace ← text_or (codes "default") is_label fields.Namespace (field_at (codes "namespace") metadata)
+  metadata ← metadata_of (field_at (codes "metadata") pod)
   spec ← object_of fields.Spec (field_at (codes "spec") pod)
   policy ← policy_of (field_at (codes "restartPolicy") spec)
-  priority ← absent (WrongKind fields.Priority) (field_at (codes "priority") spec)
-  grace_period ← absent (WrongKind fields.GracePeriod) (field_at (codes "terminationGracePeriodSeconds") spec)
-  init_containers ← none_yet fields.InitContainers (field_at (codes "initContainers") spec)
-  containers ← containers_of (field_at (codes "containers") spec)
-  Ok (record { name = name; namespace = namespace; policy = policy; containers = containers })
+  priority ← priority_of (field_at (codes "priority") spec)
+  grace_period ← grace_period_of (field_at (codes "terminationGracePeriodSeconds") spec)
+  containers ← containers_in spec
+  Ok (record { name = metadata.name; namespace = metadata.namespace; policy = policy; priority = priority; grace_period_seconds = grace_period; containers = containers })

@@ -3,6 +3,7 @@
 ghost use Rattle.std.specs.Prelude.{◌≡◌};
 ghost use Rattle.manifest.specs.declared.fault.ManifestFault.TheVariants.{OutOfMemory};
 
+use quantity::QuantityFault;
 use std::alloc::{AllocError, AllocFailed};
 use thiserror::Error;
 
@@ -42,6 +43,14 @@ pub enum ManifestFault {
     Missing(Field),
     #[error("a field has a value of another kind, or one that is out of its range: {0:?}")]
     WrongKind(Field),
+    #[error("a quantity is faulty: {0}")]
+    Quantity(QuantityFault),
+    #[error("a number of a probe is out of its range")]
+    ProbeRange,
+    #[error("an init container has a probe")]
+    InitProbe,
+    #[error("a resource's request is above its limit")]
+    RequestAboveLimit,
     #[error("two containers have one name")]
     DuplicateContainer,
     #[error("a container has a restart policy of its own")]
@@ -62,6 +71,10 @@ impl ManifestFault {
         match self {
             ManifestFault::Missing(_) => 11,
             ManifestFault::WrongKind(_) => 12,
+            ManifestFault::Quantity(_) => 13,
+            ManifestFault::ProbeRange => 14,
+            ManifestFault::InitProbe => 15,
+            ManifestFault::RequestAboveLimit => 16,
             ManifestFault::DuplicateContainer => 17,
             ManifestFault::Sidecar => 18,
             ManifestFault::TooMany => 19,

@@ -1,10 +1,9 @@
 //! Fields of a manifest, each read with its own fault.
 
-ghost use Rattle.std.specs.Prelude.{◌≡◌, ◌<◌, length, map, option_map, is_some, IfOk};
+ghost use Rattle.std.specs.Prelude.{◌≡◌, ◌<◌, length, map, option_map, IfOk};
 ghost use Rattle.serde_json.specs.View.{view};
-ghost use Rattle.json_fields.specs.Reading.{refused_if};
 ghost use Rattle.manifest.specs.Gives.{Gives};
-ghost use Rattle.manifest.specs.Fields.{object_of, array_of, some_items, text_of, required_text, text_or};
+ghost use Rattle.manifest.specs.Fields.{object_of, array_of, array_or_none, some_items, text_of, required_text, text_or, absent};
 ghost use Rattle.manifest.specs.Grammar.{passes};
 
 use crate::fault::{Field, ManifestFault};
@@ -35,6 +34,15 @@ pub(crate) fn array(field: Field, found: Option<&Value>) -> Result<&[Value], Man
     }
 }
 
+pub(crate) fn array_or_none(field: Field, found: Option<&Value>) -> Result<&[Value], ManifestFault>
+    ensures { Gives (λ v. map view v.now) result (array_or_none field (option_map (λ v. view v.now) found.entry)) }
+{
+    if found.is_none() {
+        return Ok(&[]);
+    }
+    array(field, found)
+}
+
 pub(crate) fn some_items(field: Field, values: &[Value]) -> Result<&[Value], ManifestFault>
     ensures gives { Gives (λ v. map view v.now) result (some_items field (map view values.now)) }
     ensures same { IfOk result (λ v. (v.now ≡ values.now) × (0 < length v.now)) }
@@ -47,7 +55,7 @@ pub(crate) fn some_items(field: Field, values: &[Value]) -> Result<&[Value], Man
 
 /// A field that has to be absent.
 pub(crate) fn absent(fault: ManifestFault, found: Option<&Value>) -> Result<(), ManifestFault>
-    ensures { Gives (λ t. t) result (refused_if (is_some (option_map (λ v. view v.now) found.entry)) fault) }
+    ensures { Gives (λ t. t) result (absent fault (option_map (λ v. view v.now) found.entry)) }
 {
     match found {
         None => Ok(()),

@@ -3,14 +3,22 @@
 
 mod fault;
 mod fields;
+mod grace;
 mod names;
 mod pod;
 mod policy;
+mod probe;
+mod probe_fields;
 mod reading;
+mod resource_fields;
+mod resources;
 mod text;
 
 pub use fault::{Field, ManifestFault};
+pub use grace::GracePeriod;
 pub use names::is_name;
-pub use pod::{ContainerList, ContainerSpec, PodSpec};
+pub use pod::{ContainerList, ContainerSpec, PodSpec, Role};
 pub use policy::Policy;
+pub use probe::{Probe, Probes};
+pub use resources::{Amounts, Resource, Resources};
 pub use text::Text;

@@ -3,20 +3,36 @@
 ghost use Rattle.std.specs.Prelude.{◌≡◌, ◌<◌, ◌≤◌, List, [], ◌∷◌, false, length, map, OnOk, IfOk};
 ghost use Rattle.name_list.specs.Names.{place_of};
 
+use crate::grace::GracePeriod;
 use crate::policy::Policy;
+use crate::probe::Probes;
+use crate::resources::Resources;
 use crate::text::Text;
 use name_list::NameList;
 use std::alloc::{AllocError, Global};
 use std::marker::Model;
+
+/// What a container is to its pod.
+/// (Kubernetes, "Init Containers".)
+#[derive(Clone, Copy, Debug, PartialEq, Eq)]
+pub enum Role {
+    /// It has to end well before the containers after it start.
+    Init,
+    App,
+}
 
 /// One container of a pod.
 #[derive(Drop)]
 pub struct ContainerSpec {
     /// At most 63 bytes, with no point.
     pub name: Text,
+    pub role: Role,
+    pub resources: Resources,
+    pub probes: Probes,
 }
 
-/// The containers of a pod: 1 to 16, no two of one name. Contracts see them as a list.
+/// The containers of a pod: init containers, then at least one app container, at most 16 together, no two of one name.
+/// An init container has no probes. Contracts see them as a list.
 #[derive(Drop)]
 pub struct ContainerList {
     items: Vec<ContainerSpec>,
@@ -36,7 +52,8 @@ impl Model for ContainerList {
 }
 
 impl ContainerList {
-    ghost use Rattle.manifest.specs.Containers.{AreContainers, names_of};
+    ghost use Rattle.std.specs.Prelude.{count_by};
+    ghost use Rattle.manifest.specs.Containers.{AreContainers, names_of, is_init_container};
 
     /// The containers, numbered by their places.
     pub(crate) fn new(alloc: Global, items: Vec<ContainerSpec>) -> Result<ContainerList, AllocError>
@@ -53,6 +70,16 @@ impl ContainerList {
         ensures containers { AreContainers self.now }
     {
         self.items.as_slice()
+    }
+
+    /// How many of them are init containers: they have the lowest numbers.
+    pub fn init_count(&self) -> usize
+        ensures { result ≡ count_by is_init_container self.now }
+    {
+        self.items
+            .iter()
+            .filter(|container| container.role == Role::Init)
+            .count()
     }
 
     /// The number of the container with this name, if there is one.
@@ -86,6 +113,10 @@ pub struct PodSpec {
     pub namespace: Text,
     /// `spec.restartPolicy`; `Always` where none is written.
     pub policy: Policy,
-    /// `spec.containers`, in their order.
+    /// `spec.priority`, 0 where none is written: of two pods the one of lower priority is evicted first.
+    pub priority: i32,
+    /// `spec.terminationGracePeriodSeconds`, in seconds; 30 where none is written.
+    pub grace_period_seconds: GracePeriod,
+    /// `spec.initContainers`, then `spec.containers`, in their order.
     pub containers: ContainerList,
 }

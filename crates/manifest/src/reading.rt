@@ -1,20 +1,26 @@
 //! Reading a manifest, with the first fault in the order of the fields.
 
-ghost use Rattle.std.specs.Prelude.{◌≡◌, ◌≤◌, false, length, map, option_map, bytes_eq, IfOk, OnOk};
+ghost use Rattle.std.specs.Prelude.{◌≡◌, ◌≤◌, ◌<◌, ◌+◌, ◌++◌, false, length, map, option_map, bytes_eq, IfOk, OnOk};
 ghost use Rattle.std.specs.List.{list_any};
 ghost use Rattle.serde_json.specs.View.{view};
 ghost use Rattle.json_fields.specs.Reading.{each};
 ghost use Rattle.manifest.specs.Gives.{Gives};
-ghost use Rattle.manifest.specs.Containers.{has_twice};
-ghost use Rattle.manifest.specs.Manifest.{policy_of, none_yet, container_of, few, apart, containers_of, pod_at};
+ghost use Rattle.manifest.specs.Containers.{has_twice, IsOf, AllOf};
+ghost use Rattle.manifest.specs.Manifest.{policy_of, priority_of, grace_period_of, place_of, container_of, few, apart, containers_of, containers_in, metadata_of, pod_at};
 
 use crate::fault::{Field, ManifestFault};
-use crate::fields::{Grammar, absent, array, object, required_text, some_items, text_or};
-use crate::pod::{ContainerList, ContainerSpec, PodSpec};
+use crate::fields::{
+    Grammar, absent, array, array_or_none, object, required_text, some_items, text_or,
+};
+use crate::grace::GracePeriod;
+use crate::pod::{ContainerList, ContainerSpec, PodSpec, Role};
 use crate::policy::Policy;
+use crate::probe_fields::probes_of;
+use crate::resource_fields::resources_of;
+use crate::text::Text;
 use json_fields::field;
 use serde_json::Value;
-use std::alloc::Global;
+use std::alloc::{AllocError, Global};
 
 fn policy_of(found: Option<&Value>) -> Result<Policy, ManifestFault>
     ensures { Gives (λ p. p) result (policy_of (option_map (λ v. view v.now) found.entry)) }
@@ -30,26 +36,46 @@ fn policy_of(found: Option<&Value>) -> Result<Policy, ManifestFault>
     }
 }
 
-/// An array that is absent or has no items.
-fn none_yet(field: Field, found: Option<&Value>) -> Result<(), ManifestFault>
-    ensures { Gives (λ t. t) result (none_yet field (option_map (λ v. view v.now) found.entry)) }
+fn priority_of(found: Option<&Value>) -> Result<i32, ManifestFault>
+    ensures { Gives (λ n. n) result (priority_of (option_map (λ v. view v.now) found.entry)) }
 {
-    if found.is_none() {
-        return Ok(());
-    }
-    if array(field, found)?.is_empty() {
-        Ok(())
-    } else {
-        Err(ManifestFault::WrongKind(field))
+    let Some(value) = found else {
+        return Ok(0);
+    };
+    match value.as_i64() {
+        Some(number) if i32::MIN as i64 <= number && number <= i32::MAX as i64 => Ok(number as i32),
+        _ => Err(ManifestFault::WrongKind(Field::Priority)),
     }
 }
 
-/// What this reader doesn't read yet of a container has to be absent.
-#[tactic(auto, unfolding(crate::specs::Manifest::container_of))]
-fn container_of(alloc: Global, place: Field, value: &Value) -> Result<ContainerSpec, ManifestFault>
-    ensures { Gives (λ c. c) result (container_of place (view value.now)) }
+fn grace_period_of(found: Option<&Value>) -> Result<GracePeriod, ManifestFault>
+    ensures { Gives (λ n. n) result (grace_period_of (option_map (λ v. view v.now) found.entry)) }
 {
-    let object = object(place, Some(value))?;
+    let Some(value) = found else {
+        return Ok(GracePeriod::new(30));
+    };
+    match value.as_u64() {
+        Some(seconds) if seconds < 1 << 40 => Ok(GracePeriod::new(seconds)),
+        _ => Err(ManifestFault::WrongKind(Field::GracePeriod)),
+    }
+}
+
+/// The array that a container of this role stands in.
+fn place_of(role: Role) -> Field
+    ensures { result ≡ place_of role }
+{
+    match role {
+        Role::Init => Field::InitContainers,
+        Role::App => Field::Containers,
+    }
+}
+
+#[tactic(auto, unfolding(crate::specs::Manifest::container_of))]
+fn container_of(alloc: Global, role: Role, value: &Value) -> Result<ContainerSpec, ManifestFault>
+    ensures gives { Gives (λ c. c) result (container_of role (view value.now)) }
+    ensures of { IfOk result (IsOf role) }
+{
+    let object = object(place_of(role), Some(value))?;
     let name = required_text(
         alloc,
         Grammar::Label,
@@ -57,26 +83,29 @@ fn container_of(alloc: Global, place: Field, value: &Value) -> Result<ContainerS
         field(object, "name"),
     )?;
     absent(ManifestFault::Sidecar, field(object, "restartPolicy"))?;
-    let resources = ManifestFault::WrongKind(Field::Resources);
-    absent(resources, field(object, "resources"))?;
-    let probe = ManifestFault::WrongKind(Field::Probe);
-    absent(probe, field(object, "startupProbe"))?;
-    absent(probe, field(object, "livenessProbe"))?;
-    absent(probe, field(object, "readinessProbe"))?;
-    Ok(ContainerSpec { name })
+    let resources = resources_of(field(object, "resources"))?;
+    let probes = probes_of(role, object)?;
+    Ok(ContainerSpec {
+        name,
+        role,
+        resources,
+        probes,
+    })
 }
 
+#[tactic(auto, using(crate::proofs::Roles::all_of_none))]
 fn containers(
     alloc: Global,
-    place: Field,
+    role: Role,
     values: &[Value],
 ) -> Result<Vec<ContainerSpec>, ManifestFault>
-    ensures gives { Gives (λ cs. cs.items) result (each (container_of place) (map view values.now)) }
+    ensures gives { Gives (λ cs. cs.items) result (each (container_of role) (map view values.now)) }
     ensures as_many { IfOk result (λ cs. length cs.items ≡ length values.now) }
+    ensures roles { IfOk result (λ cs. AllOf role cs.items) }
 {
     let mut all = Vec::new(alloc);
     for value in values {
-        let container = container_of(alloc, place, value)?;
+        let container = container_of(alloc, role, value)?;
         all.push(container)?;
     }
     Ok(all)
@@ -101,11 +130,11 @@ fn has_twice(containers: &[ContainerSpec]) -> bool
     false
 }
 
-fn few(values: &[Value]) -> Result<(), ManifestFault>
-    ensures gives { Gives (λ t. t) result (few (map view values.now)) }
-    ensures within { OnOk result (length values.now ≤ 16) }
+fn few(init: &[Value], apps: &[Value]) -> Result<(), ManifestFault>
+    ensures gives { Gives (λ t. t) result (few (map view init.now) (map view apps.now)) }
+    ensures within { OnOk result (length init.now + length apps.now ≤ 16) }
 {
-    if values.len() > 16 {
+    if init.len() + apps.len() > 16 {
         return Err(ManifestFault::TooMany);
     }
     Ok(())
@@ -121,16 +150,67 @@ fn apart(containers: &[ContainerSpec]) -> Result<(), ManifestFault>
     Ok(())
 }
 
-#[tactic(auto, unfolding(crate::specs::Manifest::containers_of))]
-fn containers_of(alloc: Global, found: Option<&Value>) -> Result<ContainerList, ManifestFault>
-    ensures { Gives (λ cs. cs) result (containers_of (option_map (λ v. view v.now) found.entry)) }
+fn joined(
+    init: Vec<ContainerSpec>,
+    apps: Vec<ContainerSpec>,
+) -> Result<Vec<ContainerSpec>, AllocError>
+    ensures { IfOk result (λ all. all.items ≡ init.items ++ apps.items) }
 {
-    let listed = array(Field::Containers, found)?;
-    let items = some_items(Field::Containers, listed)?;
-    few(items)?;
-    let all = containers(alloc, Field::Containers, items)?;
+    let mut all = init;
+    for container in apps {
+        all.push(container)?;
+    }
+    Ok(all)
+}
+
+#[tactic(auto, unfolding(crate::specs::Manifest::containers_of))]
+fn containers_of(
+    alloc: Global,
+    init_items: &[Value],
+    items: &[Value],
+) -> Result<ContainerList, ManifestFault>
+    requires { 0 < length items.now }
+    ensures { Gives (λ cs. cs) result (containers_of (map view init_items.now) (map view items.now)) }
+{
+    few(init_items, items)?;
+    let init = containers(alloc, Role::Init, init_items)?;
+    let apps = containers(alloc, Role::App, items)?;
+    let all = joined(init, apps)?;
     apart(&all)?;
     Ok(ContainerList::new(alloc, all)?)
+}
+
+#[tactic(auto, unfolding(crate::specs::Manifest::containers_in))]
+fn containers_in(alloc: Global, spec: &Value) -> Result<ContainerList, ManifestFault>
+    ensures { Gives (λ cs. cs) result (containers_in (view spec.now)) }
+{
+    let init_items = array_or_none(Field::InitContainers, field(spec, "initContainers"))?;
+    let listed = array(Field::Containers, field(spec, "containers"))?;
+    let items = some_items(Field::Containers, listed)?;
+    containers_of(alloc, init_items, items)
+}
+
+/// What is read of a pod's `metadata`.
+#[derive(Drop)]
+struct Metadata {
+    name: Text,
+    namespace: Text,
+}
+
+#[tactic(auto, unfolding(crate::specs::Manifest::metadata_of))]
+fn metadata_of(alloc: Global, found: Option<&Value>) -> Result<Metadata, ManifestFault>
+    ensures { Gives (λ m. m) result (metadata_of (option_map (λ v. view v.now) found.entry)) }
+{
+    let metadata = object(Field::Metadata, found)?;
+    let name = required_text(alloc, Grammar::Name, Field::Name, field(metadata, "name"))?;
+    let namespace = text_or(
+        alloc,
+        "default",
+        Grammar::Label,
+        Field::Namespace,
+        field(metadata, "namespace"),
+    )?;
+    Ok(Metadata { name, namespace })
 }
 
 impl PodSpec {
@@ -142,31 +222,18 @@ impl PodSpec {
         ensures { Gives (λ p. p) result (pod_at (view value.now)) }
     {
         let pod = object(Field::Pod, Some(value))?;
-        let metadata = object(Field::Metadata, field(pod, "metadata"))?;
-        let name = required_text(alloc, Grammar::Name, Field::Name, field(metadata, "name"))?;
-        let namespace = text_or(
-            alloc,
-            "default",
-            Grammar::Label,
-            Field::Namespace,
-            field(metadata, "namespace"),
-        )?;
+        let metadata = metadata_of(alloc, field(pod, "metadata"))?;
         let spec = object(Field::Spec, field(pod, "spec"))?;
         let policy = policy_of(field(spec, "restartPolicy"))?;
-        absent(
-            ManifestFault::WrongKind(Field::Priority),
-            field(spec, "priority"),
-        )?;
-        absent(
-            ManifestFault::WrongKind(Field::GracePeriod),
-            field(spec, "terminationGracePeriodSeconds"),
-        )?;
-        none_yet(Field::InitContainers, field(spec, "initContainers"))?;
-        let containers = containers_of(alloc, field(spec, "containers"))?;
+        let priority = priority_of(field(spec, "priority"))?;
+        let grace_period_seconds = grace_period_of(field(spec, "terminationGracePeriodSeconds"))?;
+        let containers = containers_in(alloc, spec)?;
         Ok(PodSpec {
-            name,
-            namespace,
+            name: metadata.name,
+            namespace: metadata.namespace,
             policy,
+            priority,
+            grace_period_seconds,
             containers,
         })
     }

@@ -1,0 +1,40 @@
+-- The probes of a container (Kubernetes, "Configure Liveness, Readiness and Startup Probes").
+use Rattle.std.specs.Prelude.{◌≡◌, ℕ, ◌≤◌, ◌<◌, ◌^◌, Option, Some, None}
+
+-- one probe's numbers
+pub record Probe : Type 0 where
+  pub initial_delay_seconds : ℕ
+  pub period_seconds : ℕ
+  pub timeout_seconds : ℕ
+  pub success_threshold : ℕ
+  pub failure_threshold : ℕ
+
+-- each number in its range
+pub record IsInRange (p : Probe) : Type 0 where
+  pub initial_delay : p.initial_delay_seconds < 2 ^ 31
+  pub some_period : 1 ≤ p.period_seconds
+  pub period : p.period_seconds < 2 ^ 31
+  pub some_timeout : 1 ≤ p.timeout_seconds
+  pub timeout : p.timeout_seconds < 2 ^ 31
+  pub some_successes : 1 ≤ p.success_threshold
+  pub successes : p.success_threshold < 2 ^ 31
+  pub some_failures : 1 ≤ p.failure_threshold
+  pub failures : p.failure_threshold < 2 ^ 31
+
+-- the probes of a container
+pub record Probes : Type 0 where
+  pub startup : Option Probe
+  pub liveness : Option Probe
+  pub readiness : Option Probe
+
+abbrev pub no_probes : Probes
+no_probes = record { startup = None; liveness = None; readiness = None }
+
+-- one success is enough for the probe, if there is one
+abbrev pub SucceedsByOne : Option Probe → Type 0
+SucceedsByOne None = Unit {0}
+SucceedsByOne (Some p) = p.success_threshold ≡ 1
+
+pub record AreProbes (p : Probes) : Type 0 where
+  pub startup_by_one : SucceedsByOne p.startup
+  pub liveness_by_one : SucceedsByOne p.liveness

@@ -1,0 +1,101 @@
+//! Reading the resources of a container, field by field.
+
+ghost use Rattle.std.specs.Prelude.{◌≡◌, false, option_map, OnOk};
+ghost use Rattle.serde_json.specs.Find.{as_str};
+ghost use Rattle.serde_json.specs.View.{view};
+ghost use Rattle.manifest.specs.Gives.{Gives};
+ghost use Rattle.manifest.specs.Resources.{some_above};
+ghost use Rattle.manifest.specs.ResourceFields.{quantity_read, quantity_from, quantity_at, amounts_in, amounts_of, within, resources_in, resources_of};
+ghost use Rattle.quantity.specs.Quantity.{quantity_of};
+
+use crate::fault::{Field, ManifestFault};
+use crate::fields::object;
+use crate::resources::{Amounts, Resources};
+use json_fields::field;
+use quantity::{Quantity, QuantityFault};
+use serde_json::Value;
+
+fn quantity_read(text: &[u8]) -> Result<Quantity, ManifestFault>
+    ensures { Gives (λ q. q) result (quantity_read (quantity_of text.now)) }
+{
+    match Quantity::parse(text) {
+        Ok(quantity) => Ok(quantity),
+        Err(fault) => Err(ManifestFault::Quantity(fault)),
+    }
+}
+
+fn quantity_from(value: &Value) -> Result<Quantity, ManifestFault>
+    ensures { Gives (λ q. q) result (quantity_from (view value.now) (as_str (view value.now))) }
+{
+    if let Some(text) = value.as_str() {
+        return quantity_read(text.as_bytes());
+    }
+    match value.as_u64() {
+        Some(units) => Ok(Quantity::from_units(units)),
+        None if value.is_i64() => Err(ManifestFault::Quantity(QuantityFault::Negative)),
+        None => Err(ManifestFault::WrongKind(Field::Resources)),
+    }
+}
+
+fn quantity_at(found: Option<&Value>) -> Result<Option<Quantity>, ManifestFault>
+    ensures { Gives (λ q. q) result (quantity_at (option_map (λ v. view v.now) found.entry)) }
+{
+    let Some(value) = found else {
+        return Ok(None);
+    };
+    Ok(Some(quantity_from(value)?))
+}
+
+#[tactic(auto, unfolding(crate::specs::ResourceFields::amounts_in))]
+fn amounts_in(value: &Value) -> Result<Amounts, ManifestFault>
+    ensures { Gives (λ a. a) result (amounts_in (view value.now)) }
+{
+    let amounts = object(Field::Resources, Some(value))?;
+    let cpu = quantity_at(field(amounts, "cpu"))?;
+    let memory = quantity_at(field(amounts, "memory"))?;
+    let ephemeral_storage = quantity_at(field(amounts, "ephemeral-storage"))?;
+    Ok(Amounts {
+        cpu,
+        memory,
+        ephemeral_storage,
+    })
+}
+
+fn amounts_of(found: Option<&Value>) -> Result<Amounts, ManifestFault>
+    ensures { Gives (λ a. a) result (amounts_of (option_map (λ v. view v.now) found.entry)) }
+{
+    match found {
+        None => Ok(Amounts::nothing()),
+        Some(value) => amounts_in(value),
+    }
+}
+
+fn within(requests: &Amounts, limits: &Amounts) -> Result<(), ManifestFault>
+    ensures gives { Gives (λ t. t) result (within requests.now limits.now) }
+    ensures within { OnOk result (some_above requests.now limits.now ≡ false) }
+{
+    if requests.some_above(limits) {
+        return Err(ManifestFault::RequestAboveLimit);
+    }
+    Ok(())
+}
+
+#[tactic(auto, unfolding(crate::specs::ResourceFields::resources_in))]
+fn resources_in(value: &Value) -> Result<Resources, ManifestFault>
+    ensures { Gives (λ r. r) result (resources_in (view value.now)) }
+{
+    let resources = object(Field::Resources, Some(value))?;
+    let requests = amounts_of(field(resources, "requests"))?;
+    let limits = amounts_of(field(resources, "limits"))?;
+    within(&requests, &limits)?;
+    Ok(Resources::new(requests, limits))
+}
+
+pub(crate) fn resources_of(found: Option<&Value>) -> Result<Resources, ManifestFault>
+    ensures { Gives (λ r. r) result (resources_of (option_map (λ v. view v.now) found.entry)) }
+{
+    match found {
+        None => Ok(Resources::none()),
+        Some(value) => resources_in(value),
+    }
+}
