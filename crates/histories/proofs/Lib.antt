@@ -3,3 +3,4 @@ pub mod First
 pub mod Growth
 pub mod Transitions
 pub mod Lasting
+pub mod Decide

@@ -1,0 +1,72 @@
+-- Every list of containers is of a class.
+use Rattle.std.proofs.Common.{◌≡◌, inl, inr, ℕ, List, ◌∷◌, Option, Some, None, refl, ap, subst, sym, ◌∙◌, arith}
+use Rattle.std.specs.Prelude.{All, IsSome}
+use Rattle.std.proofs.lemmas.Bool.Decides.{eqb_tells}
+use Rattle.histories.proofs.Decide.{OrNot, both, either, all_or_not, any_or_not}
+use Rattle.manifest.specs.declared.pod.ContainerSpec.{ContainerSpec}
+use Rattle.manifest.specs.declared.resources.Resource.{Resource}
+use Rattle.manifest.specs.declared.resources.Resource.TheVariants.{Cpu, Memory}
+use Rattle.qos.specs.declared.class.Qos.{Qos}
+use Rattle.qos.specs.declared.class.Qos.TheVariants.{Guaranteed, Burstable, BestEffort}
+use Rattle.qos.specs.Container.{limit_of, request_of, IsHeldTo, IsGuaranteed, AsksFor, AsksForSome}
+use Rattle.qos.specs.Class.{IsOfClass}
+
+held_or_not : (resource : Resource) (container : ContainerSpec) → OrNot (IsHeldTo resource container)
+held_or_not resource container = there (limit_of container resource) (request_of container resource)
+  where
+    there : (o p : Option ℕ) → OrNot ((limit : ℕ) × (o ≡ Some limit) × (p ≡ Some limit))
+    there None p = inr (λ w. let e : None ≡ Some w.0 = w.1 in cc)
+    there (Some n) None = inr (λ w. let e : None ≡ Some w.0 = w.2 in cc)
+    there (Some n) (Some m) = elim (eqb_tells m n) [
+      | inl same ↦ inl (n, refl, ap (λ k. Some k) same.1)
+      | inr other ↦ inr (λ w. other.1 (let e : Some n ≡ Some w.0 = w.1 in let f : Some m ≡ Some w.0 = w.2 in let g : n ≡ w.0 = cc in let h : m ≡ w.0 = cc in h ∙ sym g))
+    ]
+
+guaranteed_or_not : (container : ContainerSpec) → OrNot (IsGuaranteed container)
+unfolding IsGuaranteed
+guaranteed_or_not container = both (held_or_not Cpu container) (held_or_not Memory container)
+
+some_or_not : (o : Option ℕ) → OrNot (IsSome o)
+some_or_not None = inr (λ w. let e : IsSome {T = ℕ} None = w in cc)
+some_or_not (Some n) = inl refl
+
+asks_or_not : (resource : Resource) (container : ContainerSpec) → OrNot (AsksFor resource container)
+asks_or_not resource container = either (some_or_not (request_of container resource)) (some_or_not (limit_of container resource))
+
+some_asked_or_not : (container : ContainerSpec) → OrNot (AsksForSome container)
+some_asked_or_not container = either (asks_or_not Cpu container) (asks_or_not Memory container)
+
+pub some_class : (containers : List ContainerSpec) → (class : Qos) × IsOfClass containers class
+some_class containers = elim (all_or_not IsGuaranteed guaranteed_or_not containers) [
+  | inl all ↦ (Guaranteed, all)
+  | inr not_all ↦ elim (any_or_not AsksForSome some_asked_or_not containers) [
+    | inl some ↦ (Burstable, (not_all, some))
+    | inr none ↦ (BestEffort, (not_all, none))
+  ]
+]
+
+pub one_class : (containers : List ContainerSpec) (class other : Qos) → IsOfClass containers class → IsOfClass containers other → class ≡ other
+one_class containers Guaranteed Guaranteed p q = refl
+one_class containers Guaranteed Burstable p q = absurd (q.0 p)
+one_class containers Guaranteed BestEffort p q = absurd (q.0 p)
+one_class containers Burstable Guaranteed p q = absurd (p.0 q)
+one_class containers Burstable Burstable p q = refl
+one_class containers Burstable BestEffort p q = absurd (q.1 p.1)
+one_class containers BestEffort Guaranteed p q = absurd (p.0 q)
+one_class containers BestEffort Burstable p q = absurd (p.1 q.1)
+one_class containers BestEffort BestEffort p q = refl
+
+-- what is guaranteed asks for something
+guaranteed_asks : (container : ContainerSpec) → IsGuaranteed container → AsksForSome container
+unfolding IsGuaranteed
+guaranteed_asks container g = inl (inr (there (limit_of container Cpu) g.0.0 g.0.1))
+  where
+    there : (o : Option ℕ) (n : ℕ) → o ≡ Some n → IsSome o
+    there None n e = cc
+    there (Some m) n e = refl
+
+pub nothing_asked : (container : ContainerSpec) (others : List ContainerSpec) → All (λ c. AsksForSome c → ⊥) (container ∷ others) → IsOfClass (container ∷ others) BestEffort
+nothing_asked container others none = (
+  (λ all. none 0 container (omega arith) (guaranteed_asks container (all 0 container (omega arith)))),
+  (λ any. none any.0 any.1 any.2 (subst AsksForSome (sym any.3) any.4)),
+)

@@ -1,0 +1,41 @@
+-- What one container asks for, and what it is held to.
+use Rattle.std.specs.Prelude.{◌≡◌, ◌⊎◌, ◌==◌, ℕ, if◌then◌else◌, Option, Some, None, unwrap_or, IsSome}
+use Rattle.std.specs.Option.{option_or}
+use Rattle.manifest.specs.declared.pod.ContainerSpec.{ContainerSpec}
+use Rattle.manifest.specs.declared.resources.Resource.{Resource}
+use Rattle.manifest.specs.declared.resources.Resource.TheVariants.{Cpu, Memory}
+use Rattle.manifest.specs.Resources.{amount_of}
+
+-- an amount that is set: a zero counts as unset
+abbrev pub set_amount : Option ℕ → Option ℕ
+set_amount None = None
+set_amount (Some amount) = if amount == 0 then None else Some amount
+
+-- a container's limit of a resource
+abbrev pub limit_of : ContainerSpec → Resource → Option ℕ
+limit_of container resource = set_amount (amount_of container.resources.limits resource)
+
+-- a container's request of a resource: a limit without a request gives the request the limit's value
+abbrev pub request_of : ContainerSpec → Resource → Option ℕ
+request_of container resource =
+    option_or (set_amount (amount_of container.resources.requests resource)) (limit_of container resource)
+
+-- the amount that a container requests, and 0 where it requests none
+abbrev pub requested : Resource → ContainerSpec → ℕ
+requested resource container = unwrap_or (request_of container resource) 0
+
+-- the container has a limit of the resource, and its request equals it
+abbrev pub IsHeldTo : Resource → ContainerSpec → Type 0
+IsHeldTo resource container = (limit : ℕ) × (limit_of container resource ≡ Some limit) × (request_of container resource ≡ Some limit)
+
+-- so for cpu and for memory
+unfoldable pub IsGuaranteed : ContainerSpec → Type 0
+IsGuaranteed container = IsHeldTo Cpu container × IsHeldTo Memory container
+
+-- the container has a request or a limit of the resource
+abbrev pub AsksFor : Resource → ContainerSpec → Type 0
+AsksFor resource container = IsSome (request_of container resource) ⊎ IsSome (limit_of container resource)
+
+-- so for cpu or for memory
+abbrev pub AsksForSome : ContainerSpec → Type 0
+AsksForSome container = AsksFor Cpu container ⊎ AsksFor Memory container

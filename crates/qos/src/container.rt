@@ -1,0 +1,79 @@
+//! What one container asks for, and what it is held to.
+
+ghost use Rattle.std.specs.Prelude.{◌≡◌, ◌≤◌, ◌↔◌, IfSome, IsTrue};
+ghost use Rattle.manifest.specs.declared.resources.Resource.TheVariants.{Cpu, Memory};
+ghost use Rattle.quantity.specs.Quantity.{greatest};
+ghost use Rattle.qos.specs.Container.{set_amount, limit_of, request_of, requested, IsHeldTo, IsGuaranteed, AsksFor, AsksForSome};
+
+use manifest::{ContainerSpec, Resource};
+use quantity::Quantity;
+
+/// An amount in thousandths, where it is set: a zero counts as unset.
+fn set_amount(amount: Option<Quantity>) -> Option<u128>
+    ensures value { result ≡ set_amount amount }
+    ensures bound { IfSome result (λ n. n ≤ greatest) }
+{
+    match amount {
+        Some(amount) if amount.milli() != 0 => Some(amount.milli()),
+        _ => None,
+    }
+}
+
+/// The container's limit of the resource, in thousandths.
+fn limit_of(container: &ContainerSpec, resource: Resource) -> Option<u128>
+    ensures value { result ≡ limit_of container.now resource }
+    ensures bound { IfSome result (λ n. n ≤ greatest) }
+{
+    set_amount(container.resources.limits().of(resource))
+}
+
+/// The container's request of the resource, in thousandths: its limit where it has no request.
+fn request_of(container: &ContainerSpec, resource: Resource) -> Option<u128>
+    ensures value { result ≡ request_of container.now resource }
+    ensures bound { IfSome result (λ n. n ≤ greatest) }
+{
+    match set_amount(container.resources.requests().of(resource)) {
+        Some(request) => Some(request),
+        None => limit_of(container, resource),
+    }
+}
+
+/// What the container requests of the resource, in thousandths; 0 where it requests none.
+pub(crate) fn requested(container: &ContainerSpec, resource: Resource) -> u128
+    ensures value { result ≡ requested resource container.now }
+    ensures bound { result ≤ greatest }
+{
+    request_of(container, resource).unwrap_or(0)
+}
+
+/// Whether the container has a limit of the resource, and its request equals it.
+fn is_held_to(container: &ContainerSpec, resource: Resource) -> bool
+    ensures { IsTrue result ↔ IsHeldTo resource container.now }
+{
+    match limit_of(container, resource) {
+        Some(limit) => request_of(container, resource) == Some(limit),
+        None => false,
+    }
+}
+
+/// Whether that is so for cpu and for memory.
+#[tactic(auto, unfolding(crate::specs::Container::IsGuaranteed))]
+pub(crate) fn is_guaranteed(container: &ContainerSpec) -> bool
+    ensures { IsTrue result ↔ IsGuaranteed container.now }
+{
+    is_held_to(container, Resource::Cpu) && is_held_to(container, Resource::Memory)
+}
+
+/// Whether the container has a request or a limit of the resource.
+fn asks_for(container: &ContainerSpec, resource: Resource) -> bool
+    ensures { IsTrue result ↔ AsksFor resource container.now }
+{
+    request_of(container, resource).is_some() || limit_of(container, resource).is_some()
+}
+
+/// Whether that is so for cpu or for memory.
+pub(crate) fn asks_for_some(container: &ContainerSpec) -> bool
+    ensures { IsTrue result ↔ AsksForSome container.now }
+{
+    asks_for(container, Resource::Cpu) || asks_for(container, Resource::Memory)
+}

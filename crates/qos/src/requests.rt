@@ -1,0 +1,62 @@
+//! Effective requests.
+
+ghost use Rattle.std.specs.Prelude.{◌≡◌, ◌≤◌, ◌*◌, length};
+ghost use Rattle.quantity.specs.Quantity.{greatest};
+ghost use Rattle.qos.specs.Requests.{requested_by_app, requested_by_init, sum_of_apps, greatest_of_inits, effective_request_of};
+
+use crate::container::requested;
+use manifest::{ContainerSpec, PodSpec, Resource, Role};
+
+/// What the container requests, if it is an app container.
+fn requested_by_app(container: &ContainerSpec, resource: Resource) -> u128
+    ensures value { result ≡ requested_by_app resource container.now }
+    ensures bound { result ≤ greatest }
+{
+    match container.role {
+        Role::Init => 0,
+        Role::App => requested(container, resource),
+    }
+}
+
+/// What the container requests, if it is an init container.
+fn requested_by_init(container: &ContainerSpec, resource: Resource) -> u128
+    ensures { result ≡ requested_by_init resource container.now }
+{
+    match container.role {
+        Role::Init => requested(container, resource),
+        Role::App => 0,
+    }
+}
+
+/// What the app containers request together.
+fn sum_of_apps(containers: &[ContainerSpec], resource: Resource) -> u128
+    requires { length containers.now ≤ 16 }
+    ensures { result ≡ sum_of_apps resource containers.now }
+{
+    let mut sum = 0;
+    for container in containers {
+        sum += requested_by_app(container, resource);
+    }
+    sum
+}
+
+/// The greatest request of an init container.
+fn greatest_of_inits(containers: &[ContainerSpec], resource: Resource) -> u128
+    ensures { result ≡ greatest_of_inits resource containers.now }
+{
+    let mut greatest = 0;
+    for container in containers {
+        greatest = requested_by_init(container, resource).max(greatest);
+    }
+    greatest
+}
+
+/// What the pod asks for of a resource in effect, in thousandths: the greater of what its app containers request
+/// together and of the greatest request of an init container. (Kubernetes, "Init Containers", "Resource sharing within
+/// containers".) A zero amount counts as unset, and a limit without a request gives the request the limit's value.
+pub fn effective_request(pod: &PodSpec, resource: Resource) -> u128
+    ensures { result ≡ effective_request_of resource pod.now.containers }
+{
+    let containers = pod.containers.as_slice();
+    sum_of_apps(containers, resource).max(greatest_of_inits(containers, resource))
+}
