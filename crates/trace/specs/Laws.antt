@@ -11,6 +11,7 @@ use Rattle.trace.specs.declared.past.Sort.{Sort}
 use Rattle.trace.specs.declared.past.Sort.TheVariants as sorts
 use Rattle.trace.specs.declared.listing.Listing.{Listing}
 use Rattle.trace.specs.declared.listing.Entry.{Entry}
+use Rattle.trace.specs.declared.probing.ProbeResult.{ProbeResult}
 use Rattle.name_list.specs.Names.{place_of}
 use Rattle.manifest.specs.Containers.{names_of}
 use Rattle.trace.specs.declared.placing.PlacedEntry.{PlacedEntry}
@@ -175,19 +176,26 @@ pub record NamesStranger (pods : List PodSpec) (es : List Entry) : Type 0 where
   pub here : slice_get es n ≡ Some entry
   pub unknown : place_of (keys_of pods) entry.key ≡ None
 
+-- the pod has no container of this name
+abbrev pub HasNo : PodSpec → List ℕ → Type 0
+HasNo pod name = place_of (names_of pod.containers) name ≡ None
+
+-- a listing or a result of the entry names a container that isn't the pod's
+abbrev pub NamesOther : PodSpec → Entry → Type 0
+NamesOther pod entry =
+    ((m : ℕ) × (listing : Listing) × (slice_get entry.listings m ≡ Some listing) × HasNo pod listing.name)
+    ⊎ ((m : ℕ) × (r : ProbeResult) × (slice_get entry.results m ≡ Some r) × HasNo pod r.container)
+
 -- an entry of a known pod names a container that isn't the pod's
 pub record NamesStrangerContainer (pods : List PodSpec) (es : List Entry) : Type 0 where
   pub n : ℕ
   pub entry : Entry
   pub number : ℕ
   pub pod : PodSpec
-  pub m : ℕ
-  pub listing : Listing
   pub here : slice_get es n ≡ Some entry
   pub known : place_of (keys_of pods) entry.key ≡ Some number
   pub pod_is : slice_get pods number ≡ Some pod
-  pub listed : slice_get entry.listings m ≡ Some listing
-  pub unknown : place_of (names_of pod.containers) listing.name ≡ None
+  pub other : NamesOther pod entry
 
 -- every pod of the line has to be known before any of its containers is looked for
 pub record Strangers : Type 0 where
