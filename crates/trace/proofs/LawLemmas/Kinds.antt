@@ -30,7 +30,6 @@ use Rattle.manifest.specs.Containers.{names_of, has_twice}
 use Rattle.name_list.specs.Names.{place_of}
 use Rattle.serde_json.specs.Read.{read}
 use Rattle.std.specs.Str.{is_utf8}
-use Rattle.state_diff.specs.declared.seen.CriState.{CriState}
 use Rattle.state_diff.specs.declared.seen.CriState.TheVariants.{Created, Running, Exited, Unknown}
 use Rattle.trace.specs.declared.listing.Listing.{Listing}
 use Rattle.json_fields.specs.Fields.{items_list}
