@@ -14,13 +14,16 @@ use Rattle.trace.specs.declared.listing.Entry.{Entry}
 use Rattle.trace.specs.declared.probing.ProbeResult.{ProbeResult}
 use Rattle.name_list.specs.Names.{place_of}
 use Rattle.manifest.specs.Containers.{names_of}
+use Rattle.trace.specs.declared.outcome.Outcome.{Outcome}
+use Rattle.trace.specs.declared.outcome.ProbeKind.{ProbeKind}
+use Rattle.trace.specs.declared.placing.PlacedResult.{PlacedResult}
 use Rattle.trace.specs.declared.placing.PlacedEntry.{PlacedEntry}
 use Rattle.trace.specs.Lines.{lines_of, is_blank}
 use Rattle.trace.specs.Node.{node_of}
 use Rattle.trace.specs.Pod.{keys_of, pod_from}
 use Rattle.trace.specs.Listings.{entries_of}
-use Rattle.trace.specs.Placing.{placed_of, is_doubled}
-use Rattle.trace.specs.Observed.{observed, some_code_missing}
+use Rattle.trace.specs.Placing.{placed_of, has_twice, are_of_one_probe, is_doubled}
+use Rattle.trace.specs.Observed.{outcome_in, observed, some_code_missing}
 use Rattle.trace.specs.Backwards.{is_backwards}
 use Rattle.manifest.specs.declared.fault.ManifestFault.{ManifestFault}
 use Rattle.manifest.specs.declared.fault.ManifestFault.TheVariants as manifest_faults
@@ -201,6 +204,15 @@ pub record NamesStrangerContainer (pods : List PodSpec) (es : List Entry) : Type
 pub record Strangers : Type 0 where
   pub pod : (pods : List PodSpec) (es : List Entry) → (placed_of pods es ≡ Err StrangerPod ↔ NamesStranger pods es)
   pub container : (pods : List PodSpec) (es : List Entry) → (placed_of pods es ≡ Err StrangerContainer ↔ ((NamesStranger pods es → ⊥) × NamesStrangerContainer pods es))
+
+-- one of the results is of this probe of the container with the number, and has this outcome
+abbrev pub IsGiven : List PlacedResult → ℕ → ProbeKind → Outcome → Type 0
+IsGiven rs n probe outcome = (m : ℕ) × (slice_get rs m ≡ Some (record { container = n; probe = probe; outcome = outcome }))
+
+-- where no probe has two results, what is shown of a probe is exactly the result that is given, wherever it stands
+abbrev pub ResultsShown : Type 0
+ResultsShown = (rs : List PlacedResult) (n : ℕ) (probe : ProbeKind) (outcome : Outcome) → has_twice are_of_one_probe rs ≡ false
+    → (outcome_in rs n probe ≡ Some outcome ↔ IsGiven rs n probe outcome)
 
 -- not for want of memory
 abbrev pub IsNotMemory : LineKind → Type 0

@@ -34,13 +34,13 @@ abbrev pub seen_in : List PlacedListing → ℕ → Option Seen
 seen_in [] n = None
 seen_in (l ∷ ls) n = if l.container == n then Some (seen_reported l.report) else seen_in ls n
 
-abbrev pub is_of : PlacedResult → ℕ → ProbeKind → Bool
-is_of r n probe = r.container == n && place r.probe == place probe
+abbrev pub is_of_probe : PlacedResult → ℕ → ProbeKind → Bool
+is_of_probe r n probe = r.container == n && place r.probe == place probe
 
 -- what the results say of this probe of the container with the number
 abbrev pub outcome_in : List PlacedResult → ℕ → ProbeKind → Option Outcome
 outcome_in [] n probe = None
-outcome_in (r ∷ rs) n probe = if is_of r n probe then Some r.outcome else outcome_in rs n probe
+outcome_in (r ∷ rs) n probe = if is_of_probe r n probe then Some r.outcome else outcome_in rs n probe
 
 -- what they say of each of its probes
 abbrev pub results_in : List PlacedResult → ℕ → List (Option Outcome)

@@ -7,7 +7,7 @@ ghost use Rattle.json_fields.specs.Reading.{refused_if};
 ghost use Rattle.trace.specs.Gives.{Gives};
 ghost use Rattle.trace.specs.Past.{with_tick};
 ghost use Rattle.trace.specs.Placing.{placed_of};
-ghost use Rattle.trace.specs.Observed.{seen_in, is_of, outcome_in, results_in, entry_for, listings_of, results_of, seen_reported, containers_from, pod_observed, pods_from, observed, lacks_code, some_code_missing};
+ghost use Rattle.trace.specs.Observed.{seen_in, is_of_probe, outcome_in, results_in, entry_for, listings_of, results_of, seen_reported, containers_from, pod_observed, pods_from, observed, lacks_code, some_code_missing};
 ghost use Rattle.trace.specs.Followed.{AreFollowed};
 ghost use Rattle.trace.specs.Tick.{moment_of, most_ticks, observed_in, tick_at};
 
@@ -71,8 +71,8 @@ fn seen_in(listings: &[PlacedListing], container: usize) -> Option<Seen>
     None
 }
 
-fn is_of(placed: PlacedResult, container: usize, probe: ProbeKind) -> bool
-    ensures { result ≡ is_of placed container probe }
+fn is_of_probe(placed: PlacedResult, container: usize, probe: ProbeKind) -> bool
+    ensures { result ≡ is_of_probe placed container probe }
 {
     placed.container == container && placed.probe.place() == probe.place()
 }
@@ -81,7 +81,7 @@ fn outcome_in(results: &[PlacedResult], container: usize, probe: ProbeKind) -> O
     ensures { result ≡ outcome_in results.now container probe }
 {
     for placed in results {
-        if is_of(*placed, container, probe) {
+        if is_of_probe(*placed, container, probe) {
             return Some(placed.outcome);
         }
     }
