@@ -121,7 +121,7 @@ pub record HasPlaces (past : Past) (line : List ℕ) (d : Data) (at : ℕ) (plac
   pub has_entries : HasEntries past line d at entries
   pub placed_are : placed_of past.pods entries ≡ Ok placed
 
--- no two of them are of one pod or container
+-- no two of them are of one pod, and none has a container or a probe twice
 pub record IsApart (past : Past) (line : List ℕ) (d : Data) (at : ℕ) (placed : List PlacedEntry) : Type 0 where
   pub has_places : HasPlaces past line d at placed
   pub apart : is_doubled placed ≡ false
