@@ -220,7 +220,7 @@ fn tick_lines_are_checked_in_order(rt: HostRuntime) -> Result<(), Fail> {
         (r#""at":11,"signals":{}"#, LineKind::Usage),
         (r#""at":11,"afterReclaim":{}"#, LineKind::Usage),
         (
-            r#""at":11,"pods":[{"pod":"default/b"},{"pod":"default/a","probes":[]}]"#,
+            r#""at":11,"pods":[{"pod":"default/b"},{"pod":"default/a","probes":{}}]"#,
             LineKind::Usage,
         ),
         (

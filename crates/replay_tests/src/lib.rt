@@ -6,6 +6,8 @@ mod fault_tests;
 #[cfg(test)]
 mod manifest_tests;
 #[cfg(test)]
+mod probe_results_tests;
+#[cfg(test)]
 mod report_tests;
 #[cfg(test)]
 mod support;

@@ -23,8 +23,9 @@ use Rattle.trace.specs.Followed.{AreFollowed, AreNew, Shows, Takes, Refuses, Hav
 use Rattle.trace.specs.Gives.{is_memory}
 use Rattle.trace.specs.Observations.{seen_of, history}
 use Rattle.trace.specs.declared.placing.PlacedListing.{PlacedListing}
+use Rattle.trace.specs.declared.placing.PlacedResult.{PlacedResult}
 use Rattle.manifest.specs.declared.pod.ContainerSpec.{ContainerSpec}
-use Rattle.trace.specs.Observed.{observed, listings_of, pods_from, containers_from}
+use Rattle.trace.specs.Observed.{observed, entry_for, listings_of, results_of, pods_from, containers_from}
 use Rattle.trace.proofs.Sound.{seen_in_pod, pods_forwards}
 
 blank : Differ
@@ -150,13 +151,13 @@ tick_more ticks tick pods old new all taken = record {
 }
 
 -- a tick shows each container of the pods
-containers_shown : (ls : List PlacedListing) (n : ℕ) (cs : List ContainerSpec) → length (containers_from ls n cs) ≡ length cs
-containers_shown ls n [] = refl
-containers_shown ls n (c ∷ cs) = ap suc (containers_shown ls (n + 1) cs)
+containers_shown : (ls : List PlacedListing) (rs : List PlacedResult) (n : ℕ) (cs : List ContainerSpec) → length (containers_from ls rs n cs) ≡ length cs
+containers_shown ls rs n [] = refl
+containers_shown ls rs n (c ∷ cs) = ap suc (containers_shown ls rs (n + 1) cs)
 
 pods_shown : (at : ℕ) (es : List PlacedEntry) (n : ℕ) (pods : List PodSpec) → map (λ (p : PodObs). length p.containers) (pods_from at es n pods) ≡ counts pods
 pods_shown at es n [] = refl
-pods_shown at es n (p ∷ ps) = rw (containers_shown (listings_of es n) 0 p.containers, pods_shown at es (n + 1) ps) refl
+pods_shown at es n (p ∷ ps) = rw (containers_shown (listings_of (entry_for es n)) (results_of (entry_for es n)) 0 p.containers, pods_shown at es (n + 1) ps) refl
 
 pub shows : (at : ℕ) (es : List PlacedEntry) (pods : List PodSpec) → Shows pods (observed at es pods)
 shows at es pods = pods_shown at es 0 pods

@@ -1,6 +1,7 @@
 -- The trace of a text is what its lines say, or its first fault.
 pub mod Checks
 pub mod Kinds
+pub mod Results
 pub mod Strangers
 use Rattle.std.proofs.Common.{◌≡◌, ◌≢◌, ◌∙◌, ◌⊎◌, ◌↔◌, ℕ, zero, suc, ◌+◌, ◌≤◌, ◌<◌, Bool, true, false, List, [], ◌∷◌, ◌++◌, length, drop, get_or, slice_get, Option, Some, None, Result, Ok, Err, refl, ap, sym, subst, inl, inr, arith, is_some, drop-cons}
 use Rattle.std.specs.Prelude.{⊤, ◌==◌, ◌&&◌, ◌-◌, ◌^◌, if◌then◌else◌, option_and_then, nat_lt, nat_le, codes}

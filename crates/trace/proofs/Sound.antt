@@ -120,7 +120,7 @@ tick_line_sound past d next all e =
     let given : Ok (with_tick past tick.0) ≡ Ok next = tick.2 in
     let is_next : with_tick past tick.0 ≡ next = cc in
     subst (λ (p : Past). AreAcceptable p.ticks) {x = with_tick past tick.0} is_next
-    (subst (λ (t : TickObs). AreAcceptable (past.ticks ++ t ∷ [])) {x = observed at.0 placed.0 past.pods} is.1 (tick_sound past.ticks (observed at.0 placed.0 past.pods) all is.0))
+    (subst (λ (t : TickObs). AreAcceptable (past.ticks ++ t ∷ [])) {x = observed at.0 placed.0 past.pods} {y = tick.0} is.1 (tick_sound past.ticks (observed at.0 placed.0 past.pods) all is.0))
 
 pod_line_sound : (past : Past) (d : Data) (next : Past) → AreAcceptable past.ticks → pod_line_at past d ≡ Ok next → AreAcceptable next.ticks
 unfolding pod_line_at

@@ -11,15 +11,19 @@ use Rattle.trace.specs.declared.past.Sort.{Sort}
 use Rattle.trace.specs.declared.past.Sort.TheVariants as sorts
 use Rattle.trace.specs.declared.listing.Listing.{Listing}
 use Rattle.trace.specs.declared.listing.Entry.{Entry}
+use Rattle.trace.specs.declared.probing.ProbeResult.{ProbeResult}
 use Rattle.name_list.specs.Names.{place_of}
 use Rattle.manifest.specs.Containers.{names_of}
+use Rattle.trace.specs.declared.outcome.Outcome.{Outcome}
+use Rattle.trace.specs.declared.outcome.ProbeKind.{ProbeKind}
+use Rattle.trace.specs.declared.placing.PlacedResult.{PlacedResult}
 use Rattle.trace.specs.declared.placing.PlacedEntry.{PlacedEntry}
 use Rattle.trace.specs.Lines.{lines_of, is_blank}
 use Rattle.trace.specs.Node.{node_of}
 use Rattle.trace.specs.Pod.{keys_of, pod_from}
 use Rattle.trace.specs.Listings.{entries_of}
-use Rattle.trace.specs.Placing.{placed_of, is_doubled}
-use Rattle.trace.specs.Observed.{observed, some_code_missing}
+use Rattle.trace.specs.Placing.{placed_of, has_twice, are_of_one_probe, is_doubled}
+use Rattle.trace.specs.Observed.{outcome_in, observed, some_code_missing}
 use Rattle.trace.specs.Backwards.{is_backwards}
 use Rattle.manifest.specs.declared.fault.ManifestFault.{ManifestFault}
 use Rattle.manifest.specs.declared.fault.ManifestFault.TheVariants as manifest_faults
@@ -117,7 +121,7 @@ pub record HasPlaces (past : Past) (line : List ℕ) (d : Data) (at : ℕ) (plac
   pub has_entries : HasEntries past line d at entries
   pub placed_are : placed_of past.pods entries ≡ Ok placed
 
--- no two of them are of one pod or container
+-- no two of them are of one pod, and none has a container or a probe twice
 pub record IsApart (past : Past) (line : List ℕ) (d : Data) (at : ℕ) (placed : List PlacedEntry) : Type 0 where
   pub has_places : HasPlaces past line d at placed
   pub apart : is_doubled placed ≡ false
@@ -175,24 +179,40 @@ pub record NamesStranger (pods : List PodSpec) (es : List Entry) : Type 0 where
   pub here : slice_get es n ≡ Some entry
   pub unknown : place_of (keys_of pods) entry.key ≡ None
 
+-- the pod has no container of this name
+abbrev pub HasNo : PodSpec → List ℕ → Type 0
+HasNo pod name = place_of (names_of pod.containers) name ≡ None
+
+-- a listing or a result of the entry names a container that isn't the pod's
+abbrev pub NamesOther : PodSpec → Entry → Type 0
+NamesOther pod entry =
+    ((m : ℕ) × (listing : Listing) × (slice_get entry.listings m ≡ Some listing) × HasNo pod listing.name)
+    ⊎ ((m : ℕ) × (r : ProbeResult) × (slice_get entry.results m ≡ Some r) × HasNo pod r.container)
+
 -- an entry of a known pod names a container that isn't the pod's
 pub record NamesStrangerContainer (pods : List PodSpec) (es : List Entry) : Type 0 where
   pub n : ℕ
   pub entry : Entry
   pub number : ℕ
   pub pod : PodSpec
-  pub m : ℕ
-  pub listing : Listing
   pub here : slice_get es n ≡ Some entry
   pub known : place_of (keys_of pods) entry.key ≡ Some number
   pub pod_is : slice_get pods number ≡ Some pod
-  pub listed : slice_get entry.listings m ≡ Some listing
-  pub unknown : place_of (names_of pod.containers) listing.name ≡ None
+  pub other : NamesOther pod entry
 
 -- every pod of the line has to be known before any of its containers is looked for
 pub record Strangers : Type 0 where
   pub pod : (pods : List PodSpec) (es : List Entry) → (placed_of pods es ≡ Err StrangerPod ↔ NamesStranger pods es)
   pub container : (pods : List PodSpec) (es : List Entry) → (placed_of pods es ≡ Err StrangerContainer ↔ ((NamesStranger pods es → ⊥) × NamesStrangerContainer pods es))
+
+-- one of the results is of this probe of the container with the number, and has this outcome
+abbrev pub IsGiven : List PlacedResult → ℕ → ProbeKind → Outcome → Type 0
+IsGiven rs n probe outcome = (m : ℕ) × (slice_get rs m ≡ Some (record { container = n; probe = probe; outcome = outcome }))
+
+-- where no probe has two results, what is shown of a probe is exactly the result that is given, wherever it stands
+abbrev pub ResultsShown : Type 0
+ResultsShown = (rs : List PlacedResult) (n : ℕ) (probe : ProbeKind) (outcome : Outcome) → has_twice are_of_one_probe rs ≡ false
+    → (outcome_in rs n probe ≡ Some outcome ↔ IsGiven rs n probe outcome)
 
 -- not for want of memory
 abbrev pub IsNotMemory : LineKind → Type 0

@@ -5,6 +5,7 @@ pub mod Observations
 pub mod Backwards
 pub mod Node
 pub mod Pod
+pub mod Results
 pub mod Listings
 pub mod Placing
 pub mod Observed

@@ -10,6 +10,7 @@ use Rattle.trace.specs.declared.fault.LineKind.{LineKind}
 use Rattle.trace.specs.declared.fault.LineKind.TheVariants.{Usage}
 use Rattle.trace.specs.declared.listing.Listing.{Listing}
 use Rattle.trace.specs.declared.listing.Entry.{Entry}
+use Rattle.trace.specs.Results.{result_of}
 use Rattle.trace.specs.Node.{absent}
 
 abbrev pub attempt_from : Option ℕ → Result ℕ LineKind
@@ -76,9 +77,10 @@ entry_of d = do
   key ← some_or Usage (text_at (codes "pod") d)
   items ← items_of (field_at (codes "containers") d)
   listings ← each listing_of items
-  probes ← absent Usage (field_at (codes "probes") d)
+  probes ← items_of (field_at (codes "probes") d)
+  results ← each result_of probes
   usage ← absent Usage (field_at (codes "usage") d)
-  Ok (record { key = key; listings = listings })
+  Ok (record { key = key; listings = listings; results = results })
 
 unfoldable pub entries_of : Data → Result (List Entry) LineKind
 entries_of d = do

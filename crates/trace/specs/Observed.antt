@@ -8,11 +8,16 @@ use Rattle.state_diff.specs.declared.seen.CriState.TheVariants.{Created, Running
 use Rattle.state_diff.specs.declared.seen.Seen.{Seen}
 use Rattle.state_diff.specs.States.{is_exited}
 use Rattle.trace.specs.declared.listing.Report.{Report}
+use Rattle.trace.specs.declared.outcome.Outcome.{Outcome}
+use Rattle.trace.specs.declared.outcome.ProbeKind.{ProbeKind}
+use Rattle.trace.specs.declared.outcome.ProbeKind.TheVariants.{Startup, Liveness, Readiness}
 use Rattle.trace.specs.declared.placing.PlacedListing.{PlacedListing}
+use Rattle.trace.specs.declared.placing.PlacedResult.{PlacedResult}
 use Rattle.trace.specs.declared.placing.PlacedEntry.{PlacedEntry}
 use Rattle.trace.specs.declared.observation.ContainerObs.{ContainerObs}
 use Rattle.trace.specs.declared.observation.PodObs.{PodObs}
 use Rattle.trace.specs.declared.observation.TickObs.{TickObs}
+use Rattle.trace.specs.Results.{place}
 
 abbrev pub seen_as : CriState → Report → Seen
 seen_as Created r = record { attempt = r.attempt; state = Created; code = None; code_given = refl }
@@ -29,20 +34,45 @@ abbrev pub seen_in : List PlacedListing → ℕ → Option Seen
 seen_in [] n = None
 seen_in (l ∷ ls) n = if l.container == n then Some (seen_reported l.report) else seen_in ls n
 
--- what they say of each of the containers, numbered from n on
-abbrev pub containers_from : List PlacedListing → ℕ → List ContainerSpec → List ContainerObs
-containers_from ls n [] = []
-containers_from ls n (c ∷ cs) = record { seen = seen_in ls n } ∷ containers_from ls (n + 1) cs
+abbrev pub is_of_probe : PlacedResult → ℕ → ProbeKind → Bool
+is_of_probe r n probe = r.container == n && place r.probe == place probe
 
--- the listings of the pod with the number; a pod without an entry has none
-abbrev pub listings_of : List PlacedEntry → ℕ → List PlacedListing
-listings_of [] n = []
-listings_of (e ∷ es) n = if e.pod == n then e.listings else listings_of es n
+-- what the results say of this probe of the container with the number
+abbrev pub outcome_in : List PlacedResult → ℕ → ProbeKind → Option Outcome
+outcome_in [] n probe = None
+outcome_in (r ∷ rs) n probe = if is_of_probe r n probe then Some r.outcome else outcome_in rs n probe
+
+-- what they say of each of its probes
+abbrev pub results_in : List PlacedResult → ℕ → List (Option Outcome)
+results_in rs n = outcome_in rs n Startup ∷ outcome_in rs n Liveness ∷ outcome_in rs n Readiness ∷ []
+
+-- what the listings and results say of each of the containers, numbered from n on
+abbrev pub containers_from : List PlacedListing → List PlacedResult → ℕ → List ContainerSpec → List ContainerObs
+containers_from ls rs n [] = []
+containers_from ls rs n (c ∷ cs) = record { seen = seen_in ls n; results = results_in rs n } ∷ containers_from ls rs (n + 1) cs
+
+-- the entry of the pod with the number
+abbrev pub entry_for : List PlacedEntry → ℕ → Option PlacedEntry
+entry_for [] n = None
+entry_for (e ∷ es) n = if e.pod == n then Some e else entry_for es n
+
+-- a pod without an entry has no listings and no results
+abbrev pub listings_of : Option PlacedEntry → List PlacedListing
+listings_of None = []
+listings_of (Some e) = e.listings
+
+abbrev pub results_of : Option PlacedEntry → List PlacedResult
+results_of None = []
+results_of (Some e) = e.results
+
+-- what its entry says of a pod
+abbrev pub pod_observed : ℕ → Option PlacedEntry → PodSpec → PodObs
+pod_observed at entry pod = record { at = at; containers = containers_from (listings_of entry) (results_of entry) 0 pod.containers }
 
 -- what the entries say of each of the pods, numbered from n on
 abbrev pub pods_from : ℕ → List PlacedEntry → ℕ → List PodSpec → List PodObs
 pods_from at es n [] = []
-pods_from at es n (p ∷ ps) = record { at = at; containers = containers_from (listings_of es n) 0 p.containers } ∷ pods_from at es (n + 1) ps
+pods_from at es n (p ∷ ps) = pod_observed at (entry_for es n) p ∷ pods_from at es (n + 1) ps
 
 -- the whole tick
 abbrev pub observed : ℕ → List PlacedEntry → List PodSpec → TickObs

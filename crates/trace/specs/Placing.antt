@@ -1,5 +1,5 @@
 -- The entries of a tick line, with numbers in the place of names.
-use Rattle.std.specs.Prelude.{ℕ, ◌==◌, ◌||◌, Bool, false, List, [], ◌∷◌, slice_get, Result, Ok}
+use Rattle.std.specs.Prelude.{ℕ, ◌==◌, ◌&&◌, ◌||◌, Bool, false, List, [], ◌∷◌, slice_get, Result, Ok}
 use Rattle.std.specs.List.{list_any}
 use Rattle.name_list.specs.Names.{place_of}
 use Rattle.json_fields.specs.Reading.{◌>>=◌, some_or, each}
@@ -9,9 +9,12 @@ use Rattle.trace.specs.declared.fault.LineKind.{LineKind}
 use Rattle.trace.specs.declared.fault.LineKind.TheVariants.{StrangerPod, StrangerContainer}
 use Rattle.trace.specs.declared.listing.Listing.{Listing}
 use Rattle.trace.specs.declared.listing.Entry.{Entry}
+use Rattle.trace.specs.declared.probing.ProbeResult.{ProbeResult}
 use Rattle.trace.specs.declared.placing.PlacedListing.{PlacedListing}
+use Rattle.trace.specs.declared.placing.PlacedResult.{PlacedResult}
 use Rattle.trace.specs.declared.placing.PlacedEntry.{PlacedEntry}
 use Rattle.trace.specs.Pod.{keys_of}
+use Rattle.trace.specs.Results.{place}
 
 -- the number of the pod that an entry names
 abbrev pub number_in : List (List ℕ) → Entry → Result ℕ LineKind
@@ -20,17 +23,25 @@ number_in keys entry = some_or StrangerPod (place_of keys entry.key)
 abbrev pub pod_numbered : List PodSpec → ℕ → Result PodSpec LineKind
 pod_numbered pods number = some_or StrangerPod (slice_get pods number)
 
+-- the number of the pod's container of this name
+abbrev pub container_number : PodSpec → List ℕ → Result ℕ LineKind
+container_number pod name = some_or StrangerContainer (place_of (names_of pod.containers) name)
+
 -- the listing of the pod's container that it names
 abbrev pub placed_listing : PodSpec → Listing → Result PlacedListing LineKind
-placed_listing pod listing =
-    some_or StrangerContainer (place_of (names_of pod.containers) listing.name) >>= λ number. Ok (record { container = number; report = listing.report })
+placed_listing pod listing = container_number pod listing.name >>= λ number. Ok (record { container = number; report = listing.report })
+
+-- the result of the pod's container that it names
+abbrev pub placed_result : PodSpec → ProbeResult → Result PlacedResult LineKind
+placed_result pod r = container_number pod r.container >>= λ number. Ok (record { container = number; probe = r.probe; outcome = r.outcome })
 
 unfoldable pub placed_entry : List (List ℕ) → List PodSpec → Entry → Result PlacedEntry LineKind
 placed_entry keys pods entry = do
   number ← number_in keys entry
   pod ← pod_numbered pods number
   listings ← each (placed_listing pod) entry.listings
-  Ok (record { pod = number; listings = listings })
+  results ← each (placed_result pod) entry.results
+  Ok (record { pod = number; listings = listings; results = results })
 
 -- all entries: first every pod has to be known, then every container
 unfoldable pub placed_of : List PodSpec → List Entry → Result (List PlacedEntry) LineKind
@@ -38,11 +49,25 @@ placed_of pods entries = do
   numbers ← each (number_in (keys_of pods)) entries
   each (placed_entry (keys_of pods) pods) entries
 
--- two of the items have one number
-abbrev pub has_twice : {A : Type 0} → (A → ℕ) → List A → Bool
-has_twice number [] = false
-has_twice number (x ∷ xs) = list_any (λ y. number y == number x) xs || has_twice number xs
+-- two of the items are alike
+abbrev pub has_twice : {A : Type 0} → (A → A → Bool) → List A → Bool
+has_twice are_alike [] = false
+has_twice are_alike (x ∷ xs) = list_any (λ y. are_alike y x) xs || has_twice are_alike xs
 
--- a pod is listed twice, or a container twice in an entry
+abbrev pub are_of_one_pod : PlacedEntry → PlacedEntry → Bool
+are_of_one_pod e f = e.pod == f.pod
+
+abbrev pub are_of_one_container : PlacedListing → PlacedListing → Bool
+are_of_one_container l m = l.container == m.container
+
+-- whatever their outcomes are
+abbrev pub are_of_one_probe : PlacedResult → PlacedResult → Bool
+are_of_one_probe r s = r.container == s.container && place r.probe == place s.probe
+
+-- a container is listed twice, or has two results of one probe
+abbrev pub repeats : PlacedEntry → Bool
+repeats e = has_twice are_of_one_container e.listings || has_twice are_of_one_probe e.results
+
+-- a pod is listed twice, or an entry repeats a container or a probe
 abbrev pub is_doubled : List PlacedEntry → Bool
-is_doubled entries = has_twice (λ e. e.pod) entries || list_any (λ e. has_twice (λ l. l.container) e.listings) entries
+is_doubled entries = has_twice are_of_one_pod entries || list_any repeats entries

@@ -26,7 +26,7 @@ pub enum LineKind {
     StrangerPod,
     #[error("no container of the pod has this name")]
     StrangerContainer,
-    #[error("a pod or a container is listed twice")]
+    #[error("a pod, a container or a probe is listed twice")]
     Doubled,
     #[error("the moment is missing, out of range or not later than the last tick's")]
     Moment,

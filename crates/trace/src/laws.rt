@@ -1,5 +1,5 @@
 //! What the definition of a trace implies, in the words of the format. The functions do nothing; their contracts are the laws.
-ghost use Rattle.trace.specs.Laws.{FirstFault, WholeTrace, OneFault, FirstCheck, AllChecks, KindsOfChecks, Strangers, NeverMemory};
+ghost use Rattle.trace.specs.Laws.{FirstFault, WholeTrace, OneFault, FirstCheck, AllChecks, KindsOfChecks, Strangers, ResultsShown, NeverMemory};
 
 /// A text is refused exactly with the fault of its first line that has one, or behind its last line where no line counts.
 pub fn first_fault()
@@ -34,6 +34,11 @@ pub fn kinds_of_checks()
 /// Which entries of a tick line name a pod or a container that isn't known.
 pub fn strangers()
     ensures { Strangers }
+{}
+
+/// What a tick shows of a probe is the result that its entry gives, wherever it stands.
+pub fn results_shown()
+    ensures { ResultsShown }
 {}
 
 /// No text has a fault for want of memory.

@@ -8,6 +8,7 @@ ghost use Rattle.trace.specs.Listings.{attempt_of, state_named, state_numbered, 
 
 use crate::fault::LineKind;
 use crate::node::absent;
+use crate::probing::{ProbeResult, results_of};
 use crate::sequence::Sequence;
 use json_fields::{field, text_at};
 use manifest::Text;
@@ -36,6 +37,7 @@ pub(crate) struct Listing {
 pub(crate) struct Entry {
     pub(crate) key: Text,
     pub(crate) listings: Sequence<Listing>,
+    pub(crate) results: Sequence<ProbeResult>,
 }
 
 fn attempt_of(found: Option<&Value>) -> Result<u32, LineKind>
@@ -95,7 +97,8 @@ fn code_of(found: Option<&Value>) -> Option<i32>
     }
 }
 
-fn text_of(alloc: Global, found: Option<&str>) -> Result<Text, LineKind>
+/// The text of a field that has to be there.
+pub(crate) fn text_of(alloc: Global, found: Option<&str>) -> Result<Text, LineKind>
     ensures { Gives (λ t. t) result (some_or LineKind.Usage (option_map (λ s. s.now) found.entry)) }
 {
     match found {
@@ -154,11 +157,13 @@ fn entry_of(alloc: Global, value: &Value) -> Result<Entry, LineKind>
     let key = text_of(alloc, text_at(value, "pod"))?;
     let items = items_of(field(value, "containers"))?;
     let listings = listings(alloc, items)?;
-    absent(LineKind::Usage, field(value, "probes"))?;
+    let probes = items_of(field(value, "probes"))?;
+    let results = results_of(alloc, probes)?;
     absent(LineKind::Usage, field(value, "usage"))?;
     Ok(Entry {
         key,
         listings: Sequence::from_vec(listings),
+        results: Sequence::from_vec(results),
     })
 }
 

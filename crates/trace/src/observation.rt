@@ -3,6 +3,7 @@
 ghost use Rattle.std.specs.Prelude.{◌≡◌};
 ghost use Rattle.trace.specs.Observations.{seen_of};
 
+use crate::outcome::Outcome;
 use crate::sequence::Sequence;
 use state_diff::Seen;
 
@@ -11,6 +12,8 @@ use state_diff::Seen;
 pub struct ContainerObs {
     /// The instance that the tick lists, if it lists one.
     pub seen: Option<Seen>,
+    /// The results of its probes, in the order startup, liveness, readiness, where the tick has one.
+    pub results: [Option<Outcome>; 3],
 }
 
 /// What a tick shows of one pod.

@@ -5,11 +5,13 @@ ghost use Rattle.name_list.specs.Names.{place_of};
 ghost use Rattle.json_fields.specs.Reading.{each, some_or};
 ghost use Rattle.trace.specs.Gives.{Gives};
 ghost use Rattle.trace.specs.Pod.{keys_of};
-ghost use Rattle.trace.specs.Placing.{number_in, placed_listing, pod_numbered, placed_entry, has_twice, is_doubled};
+ghost use Rattle.trace.specs.Placing.{number_in, container_number, placed_listing, placed_result, pod_numbered, placed_entry, has_twice, are_of_one_pod, are_of_one_container, are_of_one_probe, repeats, is_doubled};
 ghost use Rattle.std.specs.List.{list_any};
 
 use crate::fault::LineKind;
 use crate::listing::{Entry, Listing, Report};
+use crate::outcome::{Outcome, ProbeKind};
+use crate::probing::ProbeResult;
 use crate::sequence::Sequence;
 use manifest::PodSpec;
 use name_list::NameList;
@@ -22,11 +24,20 @@ pub(crate) struct PlacedListing {
     pub(crate) report: Report,
 }
 
+/// A result of a probe of the container with the number.
+#[derive(Clone, Copy)]
+pub(crate) struct PlacedResult {
+    pub(crate) container: usize,
+    pub(crate) probe: ProbeKind,
+    pub(crate) outcome: Outcome,
+}
+
 /// An entry of the pod with the number.
 #[derive(Drop)]
 pub(crate) struct PlacedEntry {
     pub(crate) pod: usize,
     pub(crate) listings: Sequence<PlacedListing>,
+    pub(crate) results: Sequence<PlacedResult>,
 }
 
 fn pod_number(keys: &NameList, entry: &Entry) -> Result<usize, LineKind>
@@ -54,16 +65,34 @@ pub(crate) fn pod_numbers(
     Ok(all)
 }
 
+fn container_number(pod: &PodSpec, name: &str) -> Result<usize, LineKind>
+    ensures { Gives (λ n. n) result (container_number pod.now name.now) }
+{
+    match pod.containers.number_of(name) {
+        None => Err(LineKind::StrangerContainer),
+        Some(number) => Ok(number),
+    }
+}
+
 fn placed_listing(pod: &PodSpec, listing: &Listing) -> Result<PlacedListing, LineKind>
     ensures { Gives (λ l. l) result (placed_listing pod.now listing.now) }
 {
-    match pod.containers.number_of(listing.name.as_str()) {
-        None => Err(LineKind::StrangerContainer),
-        Some(container) => Ok(PlacedListing {
-            container,
-            report: listing.report,
-        }),
-    }
+    let container = container_number(pod, listing.name.as_str())?;
+    Ok(PlacedListing {
+        container,
+        report: listing.report,
+    })
+}
+
+fn placed_result(pod: &PodSpec, written: &ProbeResult) -> Result<PlacedResult, LineKind>
+    ensures { Gives (λ r. r) result (placed_result pod.now written.now) }
+{
+    let container = container_number(pod, written.container.as_str())?;
+    Ok(PlacedResult {
+        container,
+        probe: written.probe,
+        outcome: written.outcome,
+    })
 }
 
 fn placed_listings(
@@ -76,6 +105,21 @@ fn placed_listings(
     let mut all = Vec::new(alloc);
     for listing in listings {
         let placed = placed_listing(pod, listing)?;
+        all.push(placed)?;
+    }
+    Ok(all)
+}
+
+fn placed_results(
+    alloc: Global,
+    pod: &PodSpec,
+    results: &[ProbeResult],
+) -> Result<Vec<PlacedResult>, LineKind>
+    ensures { Gives (λ v. v.items) result (each (placed_result pod.now) results.now) }
+{
+    let mut all = Vec::new(alloc);
+    for written in results {
+        let placed = placed_result(pod, written)?;
         all.push(placed)?;
     }
     Ok(all)
@@ -102,9 +146,11 @@ fn placed_entry(
     let number = pod_number(keys, entry)?;
     let pod = pod_numbered(pods, number)?;
     let listings = placed_listings(alloc, pod, entry.listings.as_slice())?;
+    let results = placed_results(alloc, pod, entry.results.as_slice())?;
     Ok(PlacedEntry {
         pod: number,
         listings: Sequence::from_vec(listings),
+        results: Sequence::from_vec(results),
     })
 }
 
@@ -132,7 +178,7 @@ fn has_container(listings: &[PlacedListing], container: usize) -> bool
 }
 
 fn has_container_twice(listings: &[PlacedListing]) -> bool
-    ensures { result ≡ has_twice (λ l. l.container) listings.now }
+    ensures { result ≡ has_twice are_of_one_container listings.now }
 {
     let mut rest = listings;
     while let [first, others @ ..] = rest {
@@ -151,7 +197,7 @@ fn has_pod(entries: &[PlacedEntry], pod: usize) -> bool
 }
 
 fn has_pod_twice(entries: &[PlacedEntry]) -> bool
-    ensures { result ≡ has_twice (λ e. e.pod) entries.now }
+    ensures { result ≡ has_twice are_of_one_pod entries.now }
 {
     let mut rest = entries;
     while let [first, others @ ..] = rest {
@@ -163,17 +209,46 @@ fn has_pod_twice(entries: &[PlacedEntry]) -> bool
     false
 }
 
-fn some_container_twice(entries: &[PlacedEntry]) -> bool
-    ensures { result ≡ list_any (λ e. has_twice (λ l. l.container) e.listings) entries.now }
+fn are_of_one_probe(one: PlacedResult, other: PlacedResult) -> bool
+    ensures { result ≡ are_of_one_probe one other }
 {
-    entries
-        .iter()
-        .any(|e| has_container_twice(e.listings.as_slice()))
+    one.container == other.container && one.probe.place() == other.probe.place()
 }
 
-/// Whether a pod is listed twice, or a container twice in an entry.
+fn has_result(results: &[PlacedResult], other: PlacedResult) -> bool
+    ensures { result ≡ list_any (λ r. are_of_one_probe r other) results.now }
+{
+    results.iter().any(|r| are_of_one_probe(*r, other))
+}
+
+fn has_result_twice(results: &[PlacedResult]) -> bool
+    ensures { result ≡ has_twice are_of_one_probe results.now }
+{
+    let mut rest = results;
+    while let [first, others @ ..] = rest {
+        if has_result(others, *first) {
+            return true;
+        }
+        rest = others;
+    }
+    false
+}
+
+fn repeats(entry: &PlacedEntry) -> bool
+    ensures { result ≡ repeats entry.now }
+{
+    has_container_twice(entry.listings.as_slice()) || has_result_twice(entry.results.as_slice())
+}
+
+fn some_entry_repeats(entries: &[PlacedEntry]) -> bool
+    ensures { result ≡ list_any repeats entries.now }
+{
+    entries.iter().any(|e| repeats(e))
+}
+
+/// Whether a pod is listed twice, or an entry has a container twice or two results of one probe.
 pub(crate) fn is_doubled(entries: &[PlacedEntry]) -> bool
     ensures { result ≡ is_doubled entries.now }
 {
-    has_pod_twice(entries) || some_container_twice(entries)
+    has_pod_twice(entries) || some_entry_repeats(entries)
 }

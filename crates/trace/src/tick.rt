@@ -7,7 +7,7 @@ ghost use Rattle.json_fields.specs.Reading.{refused_if};
 ghost use Rattle.trace.specs.Gives.{Gives};
 ghost use Rattle.trace.specs.Past.{with_tick};
 ghost use Rattle.trace.specs.Placing.{placed_of};
-ghost use Rattle.trace.specs.Observed.{seen_in, listings_of, seen_reported, containers_from, pods_from, observed, lacks_code, some_code_missing};
+ghost use Rattle.trace.specs.Observed.{seen_in, is_of_probe, outcome_in, results_in, entry_for, listings_of, results_of, seen_reported, containers_from, pod_observed, pods_from, observed, lacks_code, some_code_missing};
 ghost use Rattle.trace.specs.Followed.{AreFollowed};
 ghost use Rattle.trace.specs.Tick.{moment_of, most_ticks, observed_in, tick_at};
 
@@ -15,8 +15,11 @@ use crate::fault::LineKind;
 use crate::following::differs_after;
 use crate::listing::{Entry, Report, entries_of};
 use crate::observation::{ContainerObs, PodObs, TickObs};
+use crate::outcome::{Outcome, ProbeKind};
 use crate::past::Reader;
-use crate::placing::{PlacedEntry, PlacedListing, is_doubled, placed_entries, pod_numbers};
+use crate::placing::{
+    PlacedEntry, PlacedListing, PlacedResult, is_doubled, placed_entries, pod_numbers,
+};
 use crate::sequence::Sequence;
 use json_fields::field;
 use manifest::{ContainerSpec, PodSpec};
@@ -68,30 +71,94 @@ fn seen_in(listings: &[PlacedListing], container: usize) -> Option<Seen>
     None
 }
 
+fn is_of_probe(placed: PlacedResult, container: usize, probe: ProbeKind) -> bool
+    ensures { result ≡ is_of_probe placed container probe }
+{
+    placed.container == container && placed.probe.place() == probe.place()
+}
+
+fn outcome_in(results: &[PlacedResult], container: usize, probe: ProbeKind) -> Option<Outcome>
+    ensures { result ≡ outcome_in results.now container probe }
+{
+    for placed in results {
+        if is_of_probe(*placed, container, probe) {
+            return Some(placed.outcome);
+        }
+    }
+    None
+}
+
+fn results_in(results: &[PlacedResult], container: usize) -> [Option<Outcome>; 3]
+    ensures { result ≡ results_in results.now container }
+{
+    let startup = outcome_in(results, container, ProbeKind::Startup);
+    let liveness = outcome_in(results, container, ProbeKind::Liveness);
+    let readiness = outcome_in(results, container, ProbeKind::Readiness);
+    [startup, liveness, readiness]
+}
+
 fn containers_observed(
     alloc: Global,
     listings: &[PlacedListing],
+    results: &[PlacedResult],
     containers: &[ContainerSpec],
 ) -> Result<Vec<ContainerObs>, AllocError>
-    ensures { IfOk result (λ v. v.items ≡ containers_from listings.now 0 containers.now) }
+    ensures { IfOk result (λ v. v.items ≡ containers_from listings.now results.now 0 containers.now) }
 {
     let mut all = Vec::new(alloc);
     for (number, _) in containers.iter().enumerate() {
         let seen = seen_in(listings, number);
-        all.push(ContainerObs { seen })?;
+        let results = results_in(results, number);
+        all.push(ContainerObs { seen, results })?;
     }
     Ok(all)
 }
 
-fn listings_of(entries: &[PlacedEntry], pod: usize) -> &[PlacedListing]
-    ensures { result.now ≡ listings_of entries.now pod }
+/// The entry of the pod with the number.
+fn entry_for(entries: &[PlacedEntry], pod: usize) -> Option<&PlacedEntry>
+    ensures { option_map (λ e. e.now) result ≡ entry_for entries.now pod }
 {
     for entry in entries {
         if entry.pod == pod {
-            return entry.listings.as_slice();
+            return Some(entry);
         }
     }
-    &[]
+    None
+}
+
+fn listings_of(entry: Option<&PlacedEntry>) -> &[PlacedListing]
+    ensures { result.now ≡ listings_of (option_map (λ e. e.now) entry.entry) }
+{
+    match entry {
+        None => &[],
+        Some(entry) => entry.listings.as_slice(),
+    }
+}
+
+fn results_of(entry: Option<&PlacedEntry>) -> &[PlacedResult]
+    ensures { result.now ≡ results_of (option_map (λ e. e.now) entry.entry) }
+{
+    match entry {
+        None => &[],
+        Some(entry) => entry.results.as_slice(),
+    }
+}
+
+fn pod_observed(
+    alloc: Global,
+    at: u64,
+    entry: Option<&PlacedEntry>,
+    pod: &PodSpec,
+) -> Result<PodObs, AllocError>
+    ensures { IfOk result (λ p. p ≡ pod_observed at (option_map (λ e. e.now) entry.entry) pod.now) }
+{
+    let listings = listings_of(entry);
+    let results = results_of(entry);
+    let containers = containers_observed(alloc, listings, results, pod.containers.as_slice())?;
+    Ok(PodObs {
+        at,
+        containers: Sequence::from_vec(containers),
+    })
 }
 
 fn pods_observed(
@@ -104,12 +171,8 @@ fn pods_observed(
 {
     let mut all = Vec::new(alloc);
     for (number, pod) in pods.iter().enumerate() {
-        let listings = listings_of(entries, number);
-        let containers = containers_observed(alloc, listings, pod.containers.as_slice())?;
-        all.push(PodObs {
-            at,
-            containers: Sequence::from_vec(containers),
-        })?;
+        let observed = pod_observed(alloc, at, entry_for(entries, number), pod)?;
+        all.push(observed)?;
     }
     Ok(all)
 }

@@ -12,6 +12,10 @@ use Rattle.trace.specs.declared.fault.LineKind.TheVariants.{NotJson, Config, Man
 use Rattle.trace.specs.declared.fault.LineFault.{LineFault}
 use Rattle.trace.specs.declared.observation.TickObs.{TickObs}
 use Rattle.trace.specs.declared.listing.Entry.{Entry}
+use Rattle.trace.specs.declared.probing.ProbeResult.{ProbeResult}
+use Rattle.trace.specs.declared.outcome.Outcome.TheVariants.{Success, Failure}
+use Rattle.trace.specs.declared.outcome.Outcome.TheVariants as outcomes
+use Rattle.trace.specs.declared.outcome.ProbeKind.TheVariants.{Startup, Liveness, Readiness}
 use Rattle.trace.specs.Lines.{lines_of}
 use Rattle.trace.specs.Node.{version_from, version_of, name_from, absent, eviction_unset, node_of}
 use Rattle.manifest.specs.declared.fault.ManifestFault.{ManifestFault}
@@ -26,13 +30,13 @@ use Rattle.manifest.specs.Containers.{names_of, has_twice}
 use Rattle.name_list.specs.Names.{place_of}
 use Rattle.serde_json.specs.Read.{read}
 use Rattle.std.specs.Str.{is_utf8}
-use Rattle.state_diff.specs.declared.seen.CriState.{CriState}
 use Rattle.state_diff.specs.declared.seen.CriState.TheVariants.{Created, Running, Exited, Unknown}
 use Rattle.trace.specs.declared.listing.Listing.{Listing}
 use Rattle.json_fields.specs.Fields.{items_list}
 use Rattle.trace.specs.Pod.{keys_of, of_manifest, pod_from}
 use Rattle.trace.specs.Listings.{attempt_from, attempt_of, state_named, state_numbered, state_from, state_of, listing_of, items_from, items_of, entry_of, entries_of}
-use Rattle.trace.specs.Placing.{number_in, placed_listing, placed_entry, placed_of}
+use Rattle.trace.specs.Results.{probe_named, outcome_named, result_of}
+use Rattle.trace.specs.Placing.{number_in, container_number, placed_listing, placed_result, placed_entry, placed_of}
 use Rattle.trace.specs.Past.{Past}
 use Rattle.trace.specs.Tick.{is_later, moment_from}
 use Rattle.trace.specs.Trace.{json_of}
@@ -236,16 +240,16 @@ attempt_only : (found : Option Data) → Only (Is Usage) (attempt_of found)
 attempt_only None = only_ok (Is Usage) 0
 attempt_only (Some d) = attempt_from_only (option_and_then as_u64 (as_number d))
 
--- a test that answers a state, and the tests after it
-state_if : (b : Bool) (state : CriState) (rest : Result CriState LineKind) → Only (Is Usage) rest → Only (Is Usage) (if b then Ok state else rest)
-state_if b state rest only = only_if (Is Usage) b (Ok state) rest (only_ok (Is Usage) state) only
+-- a test that answers a value, and the tests after it
+value_if : {A : Type 0} (b : Bool) (value : A) (rest : Result A LineKind) → Only (Is Usage) rest → Only (Is Usage) (if b then Ok value else rest)
+value_if b value rest only = only_if (Is Usage) b (Ok value) rest (only_ok (Is Usage) value) only
 
 named_only : (s : List ℕ) → Only (Is Usage) (state_named s)
-named_only s = state_if _ Created _ (state_if _ Running _ (state_if _ Exited _ (state_if _ Unknown _ (only_err (Is Usage) Usage refl))))
+named_only s = value_if _ Created _ (value_if _ Running _ (value_if _ Exited _ (value_if _ Unknown _ (only_err (Is Usage) Usage refl))))
 
 numbered_only : (found : Option ℕ) → Only (Is Usage) (state_numbered found)
 numbered_only None = only_err (Is Usage) Usage refl
-numbered_only (Some n) = state_if _ Created _ (state_if _ Running _ (state_if _ Exited _ (state_if _ Unknown _ (only_err (Is Usage) Usage refl))))
+numbered_only (Some n) = value_if _ Created _ (value_if _ Running _ (value_if _ Exited _ (value_if _ Unknown _ (only_err (Is Usage) Usage refl))))
 
 state_from_only : (d : Data) (found : Option (List ℕ)) → Only (Is Usage) (state_from d found)
 state_from_only d None = numbered_only (option_and_then as_u64 (as_number d))
@@ -263,6 +267,22 @@ listing_only d =
     only_bind P _ _ (attempt_only (field_at (codes "attempt") d)) (λ attempt.
     only_bind P _ _ (state_only (field_at (codes "state") d)) (λ state. only_ok P _)))
 
+probe_only : (found : Option (List ℕ)) → Only (Is Usage) (probe_named found)
+probe_only None = only_err (Is Usage) Usage refl
+probe_only (Some s) = value_if _ Startup _ (value_if _ Liveness _ (value_if _ Readiness _ (only_err (Is Usage) Usage refl)))
+
+outcome_only : (found : Option (List ℕ)) → Only (Is Usage) (outcome_named found)
+outcome_only None = only_err (Is Usage) Usage refl
+outcome_only (Some s) = value_if _ Success _ (value_if _ Failure _ (value_if _ outcomes.Unknown _ (only_err (Is Usage) Usage refl)))
+
+result_only : (d : Data) → Only (Is Usage) (result_of d)
+unfolding result_of
+result_only d =
+    let P = Is Usage in
+    only_bind P _ _ (only_some P Usage (text_at (codes "container") d) refl) (λ container.
+    only_bind P _ _ (probe_only (text_at (codes "probe") d)) (λ probe.
+    only_bind P _ _ (outcome_only (text_at (codes "result") d)) (λ outcome. only_ok P _)))
+
 items_from_only : (found : Option Items) → Only (Is Usage) (items_from found)
 items_from_only None = only_err (Is Usage) Usage refl
 items_from_only (Some items) = only_ok (Is Usage) (items_list items)
@@ -278,8 +298,9 @@ entry_only d =
     only_bind P _ _ (only_some P Usage (text_at (codes "pod") d) refl) (λ key.
     only_bind P _ _ (items_only (field_at (codes "containers") d)) (λ items.
     only_bind P _ _ (only_each P listing_of listing_only items) (λ listings.
-    only_bind P _ _ (absent_only Usage (field_at (codes "probes") d)) (λ probes.
-    only_bind P _ _ (absent_only Usage (field_at (codes "usage") d)) (λ usage. only_ok P _)))))
+    only_bind P _ _ (items_only (field_at (codes "probes") d)) (λ probes.
+    only_bind P _ _ (only_each P result_of result_only probes) (λ results.
+    only_bind P _ _ (absent_only Usage (field_at (codes "usage") d)) (λ usage. only_ok P _))))))
 
 entries_only : (d : Data) → Only (Is Usage) (entries_of d)
 unfolding entries_of
@@ -296,9 +317,14 @@ IsStranger kind = (kind ≡ StrangerPod) ⊎ (kind ≡ StrangerContainer)
 number_only : (keys : List (List ℕ)) (entry : Entry) → Only IsStranger (number_in keys entry)
 number_only keys entry = only_some IsStranger StrangerPod (place_of keys entry.key) (inl refl)
 
+container_number_only : (pod : PodSpec) (name : List ℕ) → Only IsStranger (container_number pod name)
+container_number_only pod name = only_some IsStranger StrangerContainer (place_of (names_of pod.containers) name) (inr refl)
+
 placed_listing_only : (pod : PodSpec) (listing : Listing) → Only IsStranger (placed_listing pod listing)
-placed_listing_only pod listing =
-    only_bind IsStranger _ _ (only_some IsStranger StrangerContainer (place_of (names_of pod.containers) listing.name) (inr refl)) (λ number. only_ok IsStranger _)
+placed_listing_only pod listing = only_bind IsStranger _ _ (container_number_only pod listing.name) (λ number. only_ok IsStranger _)
+
+placed_result_only : (pod : PodSpec) (r : ProbeResult) → Only IsStranger (placed_result pod r)
+placed_result_only pod r = only_bind IsStranger _ _ (container_number_only pod r.container) (λ number. only_ok IsStranger _)
 
 placed_entry_only : (keys : List (List ℕ)) (pods : List PodSpec) (entry : Entry) → Only IsStranger (placed_entry keys pods entry)
 unfolding placed_entry
@@ -306,7 +332,8 @@ placed_entry_only keys pods entry =
     let P = IsStranger in
     only_bind P _ _ (number_only keys entry) (λ number.
     only_bind P _ _ (only_some P StrangerPod (slice_get pods number) (inl refl)) (λ pod.
-    only_bind P _ _ (only_each P (placed_listing pod) (placed_listing_only pod) entry.listings) (λ listings. only_ok P _)))
+    only_bind P _ _ (only_each P (placed_listing pod) (placed_listing_only pod) entry.listings) (λ listings.
+    only_bind P _ _ (only_each P (placed_result pod) (placed_result_only pod) entry.results) (λ results. only_ok P _))))
 
 placed_only : (pods : List PodSpec) (es : List Entry) → Only IsStranger (placed_of pods es)
 unfolding placed_of

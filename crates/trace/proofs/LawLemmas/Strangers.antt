@@ -12,11 +12,13 @@ use Rattle.trace.specs.declared.fault.LineKind.{LineKind}
 use Rattle.trace.specs.declared.fault.LineKind.TheVariants.{StrangerPod, StrangerContainer}
 use Rattle.trace.specs.declared.listing.Listing.{Listing}
 use Rattle.trace.specs.declared.listing.Entry.{Entry}
+use Rattle.trace.specs.declared.probing.ProbeResult.{ProbeResult}
 use Rattle.trace.specs.declared.placing.PlacedListing.{PlacedListing}
+use Rattle.trace.specs.declared.placing.PlacedResult.{PlacedResult}
 use Rattle.trace.specs.declared.placing.PlacedEntry.{PlacedEntry}
 use Rattle.trace.specs.Pod.{keys_of}
-use Rattle.trace.specs.Placing.{number_in, pod_numbered, placed_listing, placed_entry, placed_of}
-use Rattle.trace.specs.Laws.{NamesStranger, NamesStrangerContainer, Strangers}
+use Rattle.trace.specs.Placing.{number_in, pod_numbered, container_number, placed_listing, placed_result, placed_entry, placed_of}
+use Rattle.trace.specs.Laws.{HasNo, NamesOther, NamesStranger, NamesStrangerContainer, Strangers}
 use Rattle.trace.proofs.LawLemmas.Checks.{no_fault, same_fault, bind_err, then_ok, then_err}
 
 -- the first item that gives a fault
@@ -72,22 +74,71 @@ pod_is_there (pod ∷ pods) key n e =
     (get_or (pod ∷ pods) n pod, slice_get-get_or (pod ∷ pods) n pod (omega arith))
 
 -- the steps of an entry
-abbrev listed : ℕ → List PlacedListing → Result PlacedEntry LineKind
-listed number listings = Ok (record { pod = number; listings = listings })
+abbrev placed : ℕ → List PlacedListing → List PlacedResult → Result PlacedEntry LineKind
+placed number listings results = Ok (record { pod = number; listings = listings; results = results })
+
+abbrev with_listings : Entry → ℕ → PodSpec → List PlacedListing → Result PlacedEntry LineKind
+with_listings entry number pod listings = each (placed_result pod) entry.results >>= placed number listings
 
 abbrev with_pod : Entry → ℕ → PodSpec → Result PlacedEntry LineKind
-with_pod entry number pod = each (placed_listing pod) entry.listings >>= listed number
+with_pod entry number pod = each (placed_listing pod) entry.listings >>= with_listings entry number pod
 
 abbrev with_number : List PodSpec → Entry → ℕ → Result PlacedEntry LineKind
 with_number pods entry number = pod_numbered pods number >>= with_pod entry number
 
-listing_fault : (pod : PodSpec) (listing : Listing) (kind : LineKind) → placed_listing pod listing ≡ Err kind → (place_of (names_of pod.containers) listing.name ≡ None) × (kind ≡ StrangerContainer)
+container_fault : (pod : PodSpec) (name : List ℕ) (kind : LineKind) → container_number pod name ≡ Err kind → HasNo pod name × (kind ≡ StrangerContainer)
+container_fault pod name kind e = missing_is StrangerContainer kind (place_of (names_of pod.containers) name) e
+
+listing_fault : (pod : PodSpec) (listing : Listing) (kind : LineKind) → placed_listing pod listing ≡ Err kind → HasNo pod listing.name × (kind ≡ StrangerContainer)
 listing_fault pod listing kind e =
     let last : ℕ → Result PlacedListing LineKind = λ number. Ok (record { container = number; report = listing.report }) in
-    elim (bind_err (some_or StrangerContainer (place_of (names_of pod.containers) listing.name)) last kind e) [
-      | inl here ↦ missing_is StrangerContainer kind (place_of (names_of pod.containers) listing.name) here
+    elim (bind_err (container_number pod listing.name) last kind e) [
+      | inl here ↦ container_fault pod listing.name kind here
       | inr later ↦ absurd (no_fault (record { container = later.0; report = listing.report }) kind later.2)
     ]
+
+result_fault : (pod : PodSpec) (r : ProbeResult) (kind : LineKind) → placed_result pod r ≡ Err kind → HasNo pod r.container × (kind ≡ StrangerContainer)
+result_fault pod r kind e =
+    let last : ℕ → Result PlacedResult LineKind = λ number. Ok (record { container = number; probe = r.probe; outcome = r.outcome }) in
+    elim (bind_err (container_number pod r.container) last kind e) [
+      | inl here ↦ container_fault pod r.container kind here
+      | inr later ↦ absurd (no_fault (record { container = later.0; probe = r.probe; outcome = r.outcome }) kind later.2)
+    ]
+
+-- a fault of an entry of a known pod: it names a container that isn't the pod's
+known_fault : (entry : Entry) (number : ℕ) (pod : PodSpec) (kind : LineKind) → with_pod entry number pod ≡ Err kind → (kind ≡ StrangerContainer) × NamesOther pod entry
+known_fault entry number pod kind e = elim (bind_err (each (placed_listing pod) entry.listings) (with_listings entry number pod) kind e) [
+  | inl faulty ↦
+      let at = each_at (placed_listing pod) entry.listings kind faulty in
+      let why = listing_fault pod at.1 kind at.3 in
+      (why.1, inl (at.0, at.1, at.2, why.0))
+  | inr listings ↦ elim (bind_err (each (placed_result pod) entry.results) (placed number listings.0) kind listings.2) [
+    | inl faulty ↦
+        let at = each_at (placed_result pod) entry.results kind faulty in
+        let why = result_fault pod at.1 kind at.3 in
+        (why.1, inr (at.0, at.1, at.2, why.0))
+    | inr done ↦ absurd (no_fault (record { pod = number; listings = listings.0; results = done.0 }) kind done.2)
+  ]
+]
+
+-- and where it names one, that is its fault
+known_is : (entry : Entry) (number : ℕ) (pod : PodSpec) → NamesOther pod entry → (r : Result (List PlacedListing) LineKind) → each (placed_listing pod) entry.listings ≡ r → with_pod entry number pod ≡ Err StrangerContainer
+known_is entry number pod (inl (m, listing, here, unknown)) r e =
+    let last : ℕ → Result PlacedListing LineKind = λ number. Ok (record { container = number; report = listing.report }) in
+    let one : placed_listing pod listing ≡ Err StrangerContainer =
+    then_err (container_number pod listing.name) last StrangerContainer (ap (λ (found : Option ℕ). some_or StrangerContainer found) unknown) in
+    then_err (each (placed_listing pod) entry.listings) (with_listings entry number pod) StrangerContainer
+    (each_meets (placed_listing pod) StrangerContainer entry.listings m listing here one (λ m z other at e. (listing_fault pod z other e).1))
+known_is entry number pod (inr (m, result, here, unknown)) (Ok listings) e =
+    let last : ℕ → Result PlacedResult LineKind = λ number. Ok (record { container = number; probe = result.probe; outcome = result.outcome }) in
+    let one : placed_result pod result ≡ Err StrangerContainer =
+    then_err (container_number pod result.container) last StrangerContainer (ap (λ (found : Option ℕ). some_or StrangerContainer found) unknown) in
+    then_ok (each (placed_listing pod) entry.listings) (with_listings entry number pod) listings e
+    ∙ then_err (each (placed_result pod) entry.results) (placed number listings) StrangerContainer
+    (each_meets (placed_result pod) StrangerContainer entry.results m result here one (λ m z other at e. (result_fault pod z other e).1))
+known_is entry number pod (inr other) (Err kind) e =
+    let at = each_at (placed_listing pod) entry.listings kind e in
+    then_err (each (placed_listing pod) entry.listings) (with_listings entry number pod) StrangerContainer (e ∙ ap Err (listing_fault pod at.1 kind at.3).1)
 
 -- a fault of one entry: its pod isn't known, or a container isn't its pod's
 entry_fault : (pods : List PodSpec) (es : List Entry) (n : ℕ) (entry : Entry) (kind : LineKind) → slice_get es n ≡ Some entry → placed_entry (keys_of pods) pods entry ≡ Err kind
@@ -105,13 +156,8 @@ entry_fault pods es n entry kind here e = elim (bind_err (number_in (keys_of pod
             absurd (cc)
         | inr found ↦
             let is = there_is StrangerPod (slice_get pods number.0) found.0 found.1 in
-            elim (bind_err (each (placed_listing found.0) entry.listings) (listed number.0) kind found.2) [
-              | inl faulty ↦
-                  let at = each_at (placed_listing found.0) entry.listings kind faulty in
-                  let why = listing_fault found.0 at.1 kind at.3 in
-                  inr (why.1, record { n = n; entry = entry; number = number.0; pod = found.0; m = at.0; listing = at.1; here = here; known = known; pod_is = is; listed = at.2; unknown = why.0 })
-              | inr done ↦ absurd (no_fault (record { pod = number.0; listings = done.0 }) kind done.2)
-            ]
+            let why = known_fault entry number.0 found.0 kind found.2 in
+            inr (why.0, record { n = n; entry = entry; number = number.0; pod = found.0; here = here; known = known; pod_is = is; other = why.1 })
       ]
 ]
 
@@ -146,14 +192,9 @@ pod_is pods es is = then_err (each (number_in (keys_of pods)) es) (λ numbers. e
 one_entry : (pods : List PodSpec) (es : List Entry) → (is : NamesStrangerContainer pods es) → placed_entry (keys_of pods) pods is.entry ≡ Err StrangerContainer
 unfolding placed_entry
 one_entry pods es is =
-    let last : ℕ → Result PlacedListing LineKind = λ number. Ok (record { container = number; report = is.listing.report }) in
-    let one : placed_listing is.pod is.listing ≡ Err StrangerContainer =
-    then_err (some_or StrangerContainer (place_of (names_of is.pod.containers) is.listing.name)) last StrangerContainer (ap (λ (found : Option ℕ). some_or StrangerContainer found) is.unknown) in
-    let all : each (placed_listing is.pod) is.entry.listings ≡ Err StrangerContainer =
-    each_meets (placed_listing is.pod) StrangerContainer is.entry.listings is.m is.listing is.listed one (λ m z other at e. (listing_fault is.pod z other e).1) in
     then_ok (number_in (keys_of pods) is.entry) (with_number pods is.entry) is.number (ap (λ (found : Option ℕ). some_or StrangerPod found) is.known)
     ∙ then_ok (pod_numbered pods is.number) (with_pod is.entry is.number) is.pod (ap (λ (found : Option PodSpec). some_or StrangerPod found) is.pod_is)
-    ∙ then_err (each (placed_listing is.pod) is.entry.listings) (listed is.number) StrangerContainer all
+    ∙ known_is is.entry is.number is.pod is.other (each (placed_listing is.pod) is.entry.listings) refl
 
 only_container : (pods : List PodSpec) (es : List Entry) → (NamesStranger pods es → ⊥) → (m : ℕ) (z : Entry) (other : LineKind) → slice_get es m ≡ Some z → placed_entry (keys_of pods) pods z ≡ Err other → other ≡ StrangerContainer
 only_container pods es none m z other at faulty = elim (entry_fault pods es m z other at faulty) [

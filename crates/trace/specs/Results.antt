@@ -1,0 +1,41 @@
+-- The results of probes in an entry of a tick line, as they are written.
+use Rattle.std.specs.Prelude.{ℕ, List, Option, Some, None, if◌then◌else◌, Result, Ok, Err, bytes_eq, codes}
+use Rattle.serde_json.specs.Data.{Data}
+use Rattle.json_fields.specs.Fields.{text_at}
+use Rattle.json_fields.specs.Reading.{◌>>=◌, some_or}
+use Rattle.trace.specs.declared.fault.LineKind.{LineKind}
+use Rattle.trace.specs.declared.fault.LineKind.TheVariants.{Usage}
+use Rattle.trace.specs.declared.outcome.Outcome.{Outcome}
+use Rattle.trace.specs.declared.outcome.Outcome.TheVariants.{Success, Failure, Unknown}
+use Rattle.trace.specs.declared.outcome.ProbeKind.{ProbeKind}
+use Rattle.trace.specs.declared.outcome.ProbeKind.TheVariants.{Startup, Liveness, Readiness}
+use Rattle.trace.specs.declared.probing.ProbeResult.{ProbeResult}
+
+-- a probe's place in the order startup, liveness, readiness
+abbrev pub place : ProbeKind → ℕ
+place Startup = 0
+place Liveness = 1
+place Readiness = 2
+
+-- the probe of this name
+abbrev pub probe_named : Option (List ℕ) → Result ProbeKind LineKind
+probe_named None = Err Usage
+probe_named (Some s) =
+    if bytes_eq s (codes "startup") then Ok Startup
+    else (if bytes_eq s (codes "liveness") then Ok Liveness
+    else (if bytes_eq s (codes "readiness") then Ok Readiness else Err Usage))
+
+-- the outcome of this name (Kubernetes, "Pod Lifecycle", "Probe outcome")
+abbrev pub outcome_named : Option (List ℕ) → Result Outcome LineKind
+outcome_named None = Err Usage
+outcome_named (Some s) =
+    if bytes_eq s (codes "success") then Ok Success
+    else (if bytes_eq s (codes "failure") then Ok Failure
+    else (if bytes_eq s (codes "unknown") then Ok Unknown else Err Usage))
+
+unfoldable pub result_of : Data → Result ProbeResult LineKind
+result_of d = do
+  container ← some_or Usage (text_at (codes "container") d)
+  probe ← probe_named (text_at (codes "probe") d)
+  outcome ← outcome_named (text_at (codes "result") d)
+  Ok (record { container = container; probe = probe; outcome = outcome })

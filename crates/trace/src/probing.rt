@@ -1,0 +1,71 @@
+//! The results of probes in an entry of a tick line, as they are written.
+
+ghost use Rattle.std.specs.Prelude.{◌≡◌, map, option_map};
+ghost use Rattle.serde_json.specs.View.{view};
+ghost use Rattle.json_fields.specs.Reading.{each};
+ghost use Rattle.trace.specs.Gives.{Gives};
+ghost use Rattle.trace.specs.Results.{probe_named, outcome_named, result_of};
+
+use crate::fault::LineKind;
+use crate::listing::text_of;
+use crate::outcome::{Outcome, ProbeKind};
+use json_fields::text_at;
+use manifest::Text;
+use serde_json::Value;
+use std::alloc::Global;
+
+/// A result of a container's probe, as it is written.
+#[derive(Drop)]
+pub(crate) struct ProbeResult {
+    pub(crate) container: Text,
+    pub(crate) probe: ProbeKind,
+    pub(crate) outcome: Outcome,
+}
+
+fn probe_named(found: Option<&str>) -> Result<ProbeKind, LineKind>
+    ensures { Gives (λ p. p) result (probe_named (option_map (λ s. s.now) found.entry)) }
+{
+    match found {
+        Some("startup") => Ok(ProbeKind::Startup),
+        Some("liveness") => Ok(ProbeKind::Liveness),
+        Some("readiness") => Ok(ProbeKind::Readiness),
+        _ => Err(LineKind::Usage),
+    }
+}
+
+fn outcome_named(found: Option<&str>) -> Result<Outcome, LineKind>
+    ensures { Gives (λ o. o) result (outcome_named (option_map (λ s. s.now) found.entry)) }
+{
+    match found {
+        Some("success") => Ok(Outcome::Success),
+        Some("failure") => Ok(Outcome::Failure),
+        Some("unknown") => Ok(Outcome::Unknown),
+        _ => Err(LineKind::Usage),
+    }
+}
+
+#[tactic(auto, unfolding(crate::specs::Results::result_of))]
+fn result_of(alloc: Global, value: &Value) -> Result<ProbeResult, LineKind>
+    ensures { Gives (λ r. r) result (result_of (view value.now)) }
+{
+    let container = text_of(alloc, text_at(value, "container"))?;
+    let probe = probe_named(text_at(value, "probe"))?;
+    let outcome = outcome_named(text_at(value, "result"))?;
+    Ok(ProbeResult {
+        container,
+        probe,
+        outcome,
+    })
+}
+
+/// The results of an entry.
+pub(crate) fn results_of(alloc: Global, values: &[Value]) -> Result<Vec<ProbeResult>, LineKind>
+    ensures { Gives (λ v. v.items) result (each result_of (map view values.now)) }
+{
+    let mut all = Vec::new(alloc);
+    for value in values {
+        let read = result_of(alloc, value)?;
+        all.push(read)?;
+    }
+    Ok(all)
+}
