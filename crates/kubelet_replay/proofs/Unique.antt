@@ -14,6 +14,8 @@ use Rattle.trace.specs.declared.past.Trace.{Trace}
 use Rattle.kubelet_replay.specs.Lines.{pod_text}
 use Rattle.kubelet_replay.specs.PodHistory.{pod_history}
 use Rattle.kubelet_replay.specs.Texts.{flat}
+use Rattle.qos.specs.declared.class.Qos.{Qos}
+use Rattle.qos.proofs.ClassLemmas.{one_class}
 use Rattle.kubelet_replay.specs.Report.{IsShapeOf, ArePodLines, IsReport}
 use Rattle.kubelet_replay.specs.Run.{IsReportOfText}
 use Rattle.kubelet_replay.specs.Laws.{OneReport}
@@ -55,7 +57,9 @@ lines_one ticks n pod a b x y =
     let containers : x.containers ≡ y.containers = same_items x.containers y.containers (x.as_many ∙ sym y.as_many)
     (λ c d lt. container_one x.shape None h c (slice_index_or x.containers c d) (slice_index_or y.containers c d) (x.each c d (omega (arith, x.as_many)))
     (subst (λ (s : PodShape). IsContainerStatus s None h c (slice_index_or y.containers c d)) shapes (y.each c d (omega (arith, x.as_many))))) in
-    x.text ∙ ap (λ (s : PodStatus). pod_text n pod s.phase s.conditions x.containers) statuses ∙ ap (λ (cs : List ContainerStatus). pod_text n pod y.status.phase y.status.conditions cs) containers ∙ sym y.text
+    let classes : x.qos ≡ y.qos = one_class pod.containers x.qos y.qos x.is_qos y.is_qos in
+    x.text ∙ ap (λ (q : Qos). pod_text n pod q x.status.phase x.status.conditions x.containers) classes ∙ ap (λ (s : PodStatus). pod_text n pod y.qos s.phase s.conditions x.containers) statuses
+    ∙ ap (λ (cs : List ContainerStatus). pod_text n pod y.qos y.status.phase y.status.conditions cs) containers ∙ sym y.text
 
 some_item : {A : Type 0} (xs : List A) (n : ℕ) → n < length xs → A
 some_item [] n lt = absurd (omega arith)

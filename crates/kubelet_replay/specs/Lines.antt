@@ -10,6 +10,8 @@ use Rattle.phase.specs.declared.container.ContainerState.TheVariants as states
 use Rattle.phase.specs.declared.container.ContainerStatus.{ContainerStatus}
 use Rattle.phase.specs.declared.phase.Phase.{Phase}
 use Rattle.phase.specs.declared.phase.Phase.TheVariants.{Pending, Running, Succeeded, Failed}
+use Rattle.qos.specs.declared.class.Qos.{Qos}
+use Rattle.qos.specs.declared.class.Qos.TheVariants.{Guaranteed, Burstable, BestEffort}
 use Rattle.kubelet_replay.specs.Texts.{joined}
 
 abbrev pub phase_word : Phase → List ℕ
@@ -34,12 +36,17 @@ abbrev pub code_text : Option ℤ → List ℕ
 code_text None = codes "-"
 code_text (Some code) = signed_decimal code
 
--- no pod is evicted yet, and the manifests that are accepted so far set no requests and no limits, which is BestEffort
-abbrev pub pod_words : ℕ → List ℕ → List ℕ → List ℕ → List ℕ
-pod_words n namespace name phase = joined (codes "pod " ∷ decimal n ∷ codes " " ∷ namespace ∷ codes "/" ∷ name ∷ codes " phase=" ∷ phase ∷ codes " reason=- qos=BestEffort\n" ∷ [])
+abbrev pub qos_word : Qos → List ℕ
+qos_word Guaranteed = codes "Guaranteed"
+qos_word Burstable = codes "Burstable"
+qos_word BestEffort = codes "BestEffort"
 
-unfoldable pub pod_line : ℕ → PodSpec → Phase → List ℕ
-pod_line n pod phase = pod_words n pod.namespace pod.name (phase_word phase)
+-- no pod is evicted yet, so there is no reason
+abbrev pub pod_words : ℕ → List ℕ → List ℕ → List ℕ → List ℕ → List ℕ
+pod_words n namespace name phase qos = joined (codes "pod " ∷ decimal n ∷ codes " " ∷ namespace ∷ codes "/" ∷ name ∷ codes " phase=" ∷ phase ∷ codes " reason=- qos=" ∷ qos ∷ codes "\n" ∷ [])
+
+unfoldable pub pod_line : ℕ → PodSpec → Qos → Phase → List ℕ
+pod_line n pod qos phase = pod_words n pod.namespace pod.name (phase_word phase) (qos_word qos)
 
 -- without ticks the moment is 0
 unfoldable pub condition_line : ℕ → List ℕ → Condition → List ℕ
@@ -69,5 +76,5 @@ containers_text n (c ∷ cs) [] = []
 containers_text n (c ∷ cs) (s ∷ ss) = container_line n c.name s ++ containers_text n cs ss
 
 -- the lines of the pod with the number
-abbrev pub pod_text : ℕ → PodSpec → Phase → Conditions → List ContainerStatus → List ℕ
-pod_text n pod phase conditions statuses = pod_line n pod phase ++ (conditions_text n conditions ++ containers_text n pod.containers statuses)
+abbrev pub pod_text : ℕ → PodSpec → Qos → Phase → Conditions → List ContainerStatus → List ℕ
+pod_text n pod qos phase conditions statuses = pod_line n pod qos phase ++ (conditions_text n conditions ++ containers_text n pod.containers statuses)

@@ -1,6 +1,9 @@
 -- The report of a trace: the rules applied by one thread, pod after pod.
-use Rattle.std.specs.Prelude.{◌≡◌, ℕ, ◌<◌, List, length, None, slice_index_or}
+use Rattle.std.specs.Prelude.{◌≡◌, ℕ, ◌<◌, List, length, count_by, None, slice_index_or}
 use Rattle.manifest.specs.declared.pod.PodSpec.{PodSpec}
+use Rattle.manifest.specs.Containers.{is_init_container}
+use Rattle.qos.specs.declared.class.Qos.{Qos}
+use Rattle.qos.specs.Class.{IsOfClass}
 use Rattle.phase.specs.declared.container.ContainerStatus.{ContainerStatus}
 use Rattle.phase.specs.declared.pod.PodShape.{PodShape}
 use Rattle.phase.specs.declared.status.PodStatus.{PodStatus}
@@ -11,11 +14,11 @@ use Rattle.kubelet_replay.specs.Lines.{pod_text}
 use Rattle.kubelet_replay.specs.PodHistory.{pod_history}
 use Rattle.kubelet_replay.specs.Texts.{flat}
 
--- what the rules on phases need of a pod: its policy and its containers, none of which is an init container yet
+-- what the rules on phases need of a pod: its policy, and how many containers and init containers it has
 pub record IsShapeOf (pod : PodSpec) (shape : PodShape) : Type 0 where
   pub policy : shape.policy ≡ pod.policy
   pub containers : shape.container_count ≡ length pod.containers
-  pub inits : shape.init_count ≡ 0
+  pub inits : shape.init_count ≡ count_by is_init_container pod.containers
 
 -- the lines of the pod with the number after these ticks
 pub record ArePodLines (ticks : List TickObs) (n : ℕ) (pod : PodSpec) (bytes : List ℕ) : Type 0 where
@@ -26,7 +29,9 @@ pub record ArePodLines (ticks : List TickObs) (n : ℕ) (pod : PodSpec) (bytes :
   pub containers : List ContainerStatus
   pub as_many : length containers ≡ length pod.containers
   pub each : (c : ℕ) (d : ContainerStatus) → c < length pod.containers → IsContainerStatus shape None (pod_history ticks n) c (slice_index_or containers c d)
-  pub text : bytes ≡ pod_text n pod status.phase status.conditions containers
+  pub qos : Qos
+  pub is_qos : IsOfClass pod.containers qos
+  pub text : bytes ≡ pod_text n pod qos status.phase status.conditions containers
 
 -- the lines of each pod, one pod after the other
 pub record IsReport (ticks : List TickObs) (pods : List PodSpec) (bytes : List ℕ) : Type 0 where

@@ -11,6 +11,7 @@ use crate::follow::follow;
 use crate::text::pod_text;
 use manifest::PodSpec;
 use phase::{ContainerStatus, ContainerView, PodShape, container_status};
+use qos::qos_class;
 use std::alloc::{AllocError, Global};
 use trace::{TickObs, Trace};
 
@@ -20,7 +21,7 @@ fn shape_of(pod: &PodSpec) -> PodShape
     PodShape {
         policy: pod.policy,
         container_count: pod.containers.as_slice().len(),
-        init_count: 0,
+        init_count: pod.containers.init_count(),
     }
 }
 
@@ -58,6 +59,7 @@ fn pod_lines(
         alloc,
         number,
         pod,
+        qos_class(pod),
         status.phase,
         status.conditions,
         &containers,

@@ -2,10 +2,11 @@
 
 ghost use Rattle.std.specs.Prelude.{◌≡◌, ◌++◌, length, IfOk, OnOk, string_bytes};
 ghost use Rattle.kubelet_replay.specs.Texts.{joined};
-ghost use Rattle.kubelet_replay.specs.Lines.{phase_word, state_word, truth, code_text, pod_words, pod_line, condition_line, container_words, flag_words, container_line, conditions_text, containers_text, pod_text};
+ghost use Rattle.kubelet_replay.specs.Lines.{phase_word, state_word, qos_word, truth, code_text, pod_words, pod_line, condition_line, container_words, flag_words, container_line, conditions_text, containers_text, pod_text};
 
 use manifest::{ContainerSpec, PodSpec};
 use phase::{Condition, Conditions, ContainerState, ContainerStatus, Phase};
+use qos::Qos;
 use std::alloc::{AllocError, Global};
 
 fn phase_word(phase: Phase) -> &'static str
@@ -26,6 +27,16 @@ fn state_word(state: ContainerState) -> &'static str
         ContainerState::Waiting => "Waiting",
         ContainerState::Running => "Running",
         ContainerState::Terminated => "Terminated",
+    }
+}
+
+fn qos_word(qos: Qos) -> &'static str
+    ensures { result.now ≡ qos_word qos }
+{
+    match qos {
+        Qos::Guaranteed => "Guaranteed",
+        Qos::Burstable => "Burstable",
+        Qos::BestEffort => "BestEffort",
     }
 }
 
@@ -50,15 +61,22 @@ fn pod_words(
     namespace: &str,
     name: &str,
     phase: &str,
+    qos: &str,
 ) -> Result<String, AllocError>
-    ensures { IfOk result (λ s. string_bytes s ≡ pod_words number namespace.now name.now phase.now) }
+    ensures { IfOk result (λ s. string_bytes s ≡ pod_words number namespace.now name.now phase.now qos.now) }
 {
-    format!(in alloc; "pod {number} {namespace}/{name} phase={phase} reason=- qos=BestEffort\n")
+    format!(in alloc; "pod {number} {namespace}/{name} phase={phase} reason=- qos={qos}\n")
 }
 
 #[tactic(auto, unfolding(crate::specs::Lines::pod_line))]
-fn pod_line(alloc: Global, number: usize, pod: &PodSpec, phase: Phase) -> Result<String, AllocError>
-    ensures { IfOk result (λ s. string_bytes s ≡ pod_line number pod.now phase) }
+fn pod_line(
+    alloc: Global,
+    number: usize,
+    pod: &PodSpec,
+    qos: Qos,
+    phase: Phase,
+) -> Result<String, AllocError>
+    ensures { IfOk result (λ s. string_bytes s ≡ pod_line number pod.now qos phase) }
 {
     let namespace = pod.namespace.as_str();
     pod_words(
@@ -67,6 +85,7 @@ fn pod_line(alloc: Global, number: usize, pod: &PodSpec, phase: Phase) -> Result
         namespace,
         pod.name.as_str(),
         phase_word(phase),
+        qos_word(qos),
     )
 }
 
@@ -198,14 +217,15 @@ pub(crate) fn pod_text(
     alloc: Global,
     number: usize,
     pod: &PodSpec,
+    qos: Qos,
     phase: Phase,
     conditions: Conditions,
     statuses: &[ContainerStatus],
 ) -> Result<String, AllocError>
     requires { length statuses.now ≡ length pod.now.containers }
-    ensures { IfOk result (λ s. string_bytes s ≡ pod_text number pod.now phase conditions statuses.now) }
+    ensures { IfOk result (λ s. string_bytes s ≡ pod_text number pod.now qos phase conditions statuses.now) }
 {
-    let mut text = pod_line(alloc, number, pod, phase)?;
+    let mut text = pod_line(alloc, number, pod, qos, phase)?;
     add_conditions(alloc, &mut text, number, conditions)?;
     add_containers(
         alloc,

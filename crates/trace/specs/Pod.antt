@@ -1,11 +1,15 @@
 -- What a pod line says.
-use Rattle.std.specs.Prelude.{ℕ, List, ◌∷◌, ◌++◌, map, Option, Some, None, Result, Ok, Err}
+use Rattle.std.specs.Prelude.{ℕ, Bool, ◌||◌, List, ◌∷◌, ◌++◌, map, count_by, nat_lt, Option, Some, None, is_some, if◌then◌else◌, Result, Ok, Err}
+use Rattle.std.specs.List.{list_any}
 use Rattle.serde_json.specs.Data.{Data}
 use Rattle.manifest.specs.declared.fault.ManifestFault.{ManifestFault}
-use Rattle.manifest.specs.declared.fault.ManifestFault.TheVariants.{Missing}
+use Rattle.manifest.specs.declared.fault.ManifestFault.TheVariants.{Missing, WrongKind}
 use Rattle.manifest.specs.declared.fault.Field.TheVariants as fields
 use Rattle.manifest.specs.declared.pod.PodSpec.{PodSpec}
+use Rattle.manifest.specs.declared.pod.ContainerSpec.{ContainerSpec}
+use Rattle.manifest.specs.Containers.{is_init_container}
 use Rattle.manifest.specs.Manifest.{pod_at}
+use Rattle.json_fields.specs.Reading.{◌>>=◌}
 use Rattle.trace.specs.declared.fault.LineKind.{LineKind}
 use Rattle.trace.specs.declared.fault.LineKind.TheVariants.{Manifest}
 
@@ -20,7 +24,33 @@ abbrev pub of_manifest : {A : Type 0} → Result A ManifestFault → Result A Li
 of_manifest (Ok x) = Ok x
 of_manifest (Err fault) = Err (Manifest fault)
 
+abbrev pub has_init_containers : PodSpec → Bool
+has_init_containers pod = nat_lt 0 (count_by is_init_container pod.containers)
+
+abbrev pub is_probed : ContainerSpec → Bool
+is_probed container = is_some container.probes.startup || is_some container.probes.liveness || is_some container.probes.readiness
+
+abbrev pub has_probe : PodSpec → Bool
+has_probe pod = list_any is_probed pod.containers
+
+-- which of its fields keeps a pod from being replayed: for now its init containers, and else a probe
+abbrev pub refusal_of : PodSpec → Option ManifestFault
+refusal_of pod =
+    if has_init_containers pod then Some (WrongKind fields.InitContainers)
+    else (if has_probe pod then Some (WrongKind fields.Probe) else None)
+
+abbrev pub unless : {A E : Type 0} → Option E → A → Result A E
+unless None x = Ok x
+unless (Some fault) x = Err fault
+
+abbrev pub replayed : PodSpec → Result PodSpec ManifestFault
+replayed pod = unless (refusal_of pod) pod
+
+-- the pod that a manifest describes, if it is replayed
+abbrev pub pod_of : Data → Result PodSpec ManifestFault
+pod_of d = pod_at d >>= replayed
+
 -- the pod that the line's manifest describes
 abbrev pub pod_from : Option Data → Result PodSpec LineKind
 pod_from None = Err (Manifest (Missing fields.Pod))
-pod_from (Some d) = of_manifest (pod_at d)
+pod_from (Some d) = of_manifest (pod_of d)

@@ -1,14 +1,60 @@
 //! Pod lines.
 
 ghost use Rattle.std.specs.Prelude.{◌≡◌, option_map, IfOk, string_bytes};
+ghost use Rattle.std.specs.List.{list_any};
+ghost use Rattle.manifest.specs.Gives as manifests;
 ghost use Rattle.serde_json.specs.View.{view};
 ghost use Rattle.trace.specs.Gives.{Gives};
-ghost use Rattle.trace.specs.Pod.{key_of_pod, pod_from};
+ghost use Rattle.trace.specs.Pod.{key_of_pod, is_probed, refusal_of, replayed, pod_of, pod_from};
 
 use crate::fault::LineKind;
-use manifest::{Field, ManifestFault, PodSpec};
+use manifest::{ContainerSpec, Field, ManifestFault, PodSpec};
 use serde_json::Value;
 use std::alloc::{AllocError, Global};
+
+fn is_probed(container: &ContainerSpec) -> bool
+    ensures { result ≡ is_probed container.now }
+{
+    let probes = container.probes;
+    probes.startup().is_some() || probes.liveness().is_some() || probes.readiness().is_some()
+}
+
+fn has_probe(containers: &[ContainerSpec]) -> bool
+    ensures { result ≡ list_any is_probed containers.now }
+{
+    containers.iter().any(|container| is_probed(container))
+}
+
+/// Which of its fields keeps a pod from being replayed.
+fn refusal(pod: &PodSpec) -> Option<ManifestFault>
+    ensures { result ≡ refusal_of pod.now }
+{
+    if pod.containers.init_count() > 0 {
+        Some(ManifestFault::WrongKind(Field::InitContainers))
+    } else if has_probe(pod.containers.as_slice()) {
+        Some(ManifestFault::WrongKind(Field::Probe))
+    } else {
+        None
+    }
+}
+
+/// The pod, if it is replayed.
+fn replayed(pod: PodSpec) -> Result<PodSpec, ManifestFault>
+    ensures { result ≡ replayed pod }
+{
+    match refusal(&pod) {
+        Some(fault) => Err(fault),
+        None => Ok(pod),
+    }
+}
+
+/// The pod that a manifest describes, if it is replayed.
+fn pod_of(alloc: Global, manifest: &Value) -> Result<PodSpec, ManifestFault>
+    ensures { manifests.Gives (λ p. p) result (pod_of (view manifest.now)) }
+{
+    let pod = PodSpec::from_value(alloc, manifest)?;
+    replayed(pod)
+}
 
 /// The pod that a pod line's manifest describes.
 pub(crate) fn pod_in(alloc: Global, found: Option<&Value>) -> Result<PodSpec, LineKind>
@@ -17,7 +63,7 @@ pub(crate) fn pod_in(alloc: Global, found: Option<&Value>) -> Result<PodSpec, Li
     let Some(value) = found else {
         return Err(LineKind::Manifest(ManifestFault::Missing(Field::Pod)));
     };
-    match PodSpec::from_value(alloc, value) {
+    match pod_of(alloc, value) {
         Ok(pod) => Ok(pod),
         Err(ManifestFault::OutOfMemory) => Err(LineKind::OutOfMemory),
         Err(fault) => Err(LineKind::Manifest(fault)),

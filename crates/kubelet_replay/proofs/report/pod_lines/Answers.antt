@@ -22,5 +22,7 @@ returns c =
       containers = c.in_ok-containers.containers.items;
       as_many = c.in_ok-containers.ensures.as_many ∙ count;
       each = λ k d lt. c.in_ok-containers.ensures.statuses (pod_history c.args.ticks.now c.args.number) shown k d (omega (arith, count));
-      text = c.in_ok-text.ensures ∙ ap (pod_text c.args.number c.args.pod.now c.in_ok-followed.followed.status.phase c.in_ok-followed.followed.status.conditions) c.deref-2.ensures.value;
+      qos = c.qos_class.result;
+      is_qos = c.qos_class.ensures;
+      text = c.in_ok-text.ensures ∙ ap (pod_text c.args.number c.args.pod.now c.qos_class.result c.in_ok-followed.followed.status.phase c.in_ok-followed.followed.status.conditions) c.deref-2.ensures.value;
     }
