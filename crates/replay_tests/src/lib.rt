@@ -4,8 +4,6 @@
 #[cfg(test)]
 mod fault_tests;
 #[cfg(test)]
-mod manifest_tests;
-#[cfg(test)]
 mod report_tests;
 #[cfg(test)]
 mod support;
