@@ -74,12 +74,10 @@ impl ContainerList {
 
     /// How many of them are init containers: they have the lowest numbers.
     pub fn init_count(&self) -> usize
-        ensures { result ≡ count_by is_init_container self.now }
+        ensures count { result ≡ count_by is_init_container self.now }
+        ensures first { (are : AreContainers self.now) → result ≡ length are.init }
     {
-        self.items
-            .iter()
-            .filter(|container| container.role == Role::Init)
-            .count()
+        init_count_of(&self.items)
     }
 
     /// The number of the container with this name, if there is one.
@@ -90,7 +88,18 @@ impl ContainerList {
     }
 }
 
-ghost use Rattle.manifest.specs.Containers.{AreContainers, names_of};
+ghost use Rattle.std.specs.Prelude.{count_by};
+ghost use Rattle.manifest.specs.Containers.{AreContainers, names_of, is_init_container};
+
+/// How many of the containers are init containers.
+fn init_count_of(containers: &[ContainerSpec]) -> usize
+    ensures { result ≡ count_by is_init_container containers.now }
+{
+    containers
+        .iter()
+        .filter(|container| container.role == Role::Init)
+        .count()
+}
 
 /// The names of the containers, each with its container's number.
 fn names_of(alloc: Global, containers: &[ContainerSpec]) -> Result<NameList, AllocError>

@@ -4,9 +4,8 @@
 #[cfg(test)]
 mod fault_tests;
 #[cfg(test)]
-mod lists_tests;
 #[cfg(test)]
-mod manifest_tests;
+mod lists_tests;
 #[cfg(test)]
 mod probe_results_tests;
 #[cfg(test)]

@@ -4,6 +4,8 @@
 #[cfg(test)]
 mod instances_tests;
 #[cfg(test)]
+mod manifest_tests;
+#[cfg(test)]
 mod phase_tests;
 #[cfg(test)]
 mod quantity_tests;
