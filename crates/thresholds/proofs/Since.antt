@@ -1,7 +1,7 @@
 -- Since when a threshold is active, after one more sample.
 use Rattle.std.proofs.Common.{◌≡◌, ◌⊎◌, inl, inr, ℕ, suc, ◌+◌, ◌-◌, ◌<◌, ◌≤◌, Bool, true, false, List, [], ◌∷◌, ◌++◌, length, Option, Some, None, refl, subst, sym, ◌∙◌, arith}
 use Rattle.std.specs.Prelude.{◌↔◌, IsTrue, IsSome, IsSomeAnd}
-use Rattle.std.specs.Option.{option_or, is_some}
+use Rattle.std.specs.Option.{option_or}
 use Rattle.std.proofs.lemmas.Bool.{cases_lt}
 use Rattle.std.proofs.lemmas.List.{take_all}
 use Rattle.histories.specs.Histories.{IsSo, up_to, moment_at}
@@ -10,7 +10,7 @@ use Rattle.histories.proofs.First.{Grows, IsFirstMoment-more, IsFirstMoment-uniq
 use Rattle.histories.proofs.Growth.{grows_so}
 use Rattle.thresholds.specs.Samples.{Sample, sample, IsBelow}
 use Rattle.thresholds.specs.Thresholds.{IsActive, IsActiveFrom, IsActiveSince, IsDue}
-use Rattle.thresholds.proofs.Active.{active_by, active_still, active_from, none_active}
+use Rattle.thresholds.proofs.Active.{below_or_not, active_by, active_still, active_from, none_active}
 
 -- the stretch, over one more sample that leaves the threshold active
 from_grows : (limit reclaim : ℕ) (h : List Sample) (x : Sample) → IsActive limit reclaim (h ++ x ∷ [])
@@ -132,28 +132,59 @@ due_by limit reclaim grace h x (Some m) is = (
       rw first (rw last passed)),
 )
 
--- what the watch keeps, and tests, in the words of the samples
-pub since_moved : (limit reclaim at : ℕ) (value : Option ℕ) (h : List Sample) (met_below clears_from : ℕ) (since after : Option ℕ) → met_below ≡ limit → clears_from ≡ limit + reclaim
-    → IsActiveSince limit reclaim h since → IsBelow met_below value ⊎ (IsSome since × IsBelow clears_from value) → after ≡ option_or since (Some at)
-    → IsActiveSince limit reclaim (h ++ sample at value ∷ []) after
-since_moved limit reclaim at value h met_below clears_from since after same clears is test moved =
+-- what the watch keeps, in the words of the samples
+since_moved : (limit reclaim at : ℕ) (value : Option ℕ) (h : List Sample) (since after : Option ℕ) → IsActiveSince limit reclaim h since
+    → IsBelow limit value ⊎ (IsSome since × IsBelow (limit + reclaim) value) → after ≡ option_or since (Some at) → IsActiveSince limit reclaim (h ++ sample at value ∷ []) after
+since_moved limit reclaim at value h since after is test moved =
     let P : Option ℕ → Type 0 = λ o. IsActiveSince limit reclaim (h ++ sample at value ∷ []) o in
-    let Q : ℕ → Type 0 = λ k. IsBelow k value in
     let on : IsActive limit reclaim (h ++ sample at value ∷ []) = elim test [
-      | inl b ↦ active_by limit reclaim at value h (subst Q same b)
-      | inr w ↦ active_still limit reclaim at value h ((since_some limit reclaim h since is).0 w.0) (subst Q clears w.1)
+      | inl b ↦ active_by limit reclaim at value h b
+      | inr w ↦ active_still limit reclaim at value h ((since_some limit reclaim h since is).0 w.0) w.1
     ] in
     subst P (sym moved) (since_goes_on limit reclaim h (sample at value) since on is)
 
-pub since_lost : (limit reclaim at : ℕ) (value : Option ℕ) (h : List Sample) (met_below clears_from : ℕ) (since : Option ℕ) → met_below ≡ limit → clears_from ≡ limit + reclaim
-    → IsActiveSince limit reclaim h since → (IsBelow met_below value ⊎ (IsSome since × IsBelow clears_from value) → ⊥)
-    → IsActiveSince limit reclaim (h ++ sample at value ∷ []) None
-since_lost limit reclaim at value h met_below clears_from since same clears is test =
-    let Q : ℕ → Type 0 = λ k. IsBelow k value in
-    since_none limit reclaim (h ++ sample at value ∷ []) (λ on. elim (active_from limit reclaim at value h on) [
-      | inl b ↦ test (inl (subst Q (sym same) b))
-      | inr w ↦ test (inr ((since_some limit reclaim h since is).1 w.0, subst Q (sym clears) w.1))
-    ])
+since_lost : (limit reclaim at : ℕ) (value : Option ℕ) (h : List Sample) (since after : Option ℕ) → IsActiveSince limit reclaim h since
+    → (IsBelow limit value ⊎ (IsSome since × IsBelow (limit + reclaim) value) → ⊥) → after ≡ None → IsActiveSince limit reclaim (h ++ sample at value ∷ []) after
+since_lost limit reclaim at value h since after is test lost =
+    let P : Option ℕ → Type 0 = λ o. IsActiveSince limit reclaim (h ++ sample at value ∷ []) o in
+    subst P (sym lost) (since_none limit reclaim (h ++ sample at value ∷ []) (λ on. elim (active_from limit reclaim at value h on) [
+      | inl b ↦ test (inl b)
+      | inr w ↦ test (inr ((since_some limit reclaim h since is).1 w.0, w.1))
+    ]))
+
+left_or_not : (limit clears_from : ℕ) (value since : Option ℕ)
+    → (IsBelow limit value ⊎ (IsSome since × IsBelow clears_from value)) ⊎ (IsBelow limit value ⊎ (IsSome since × IsBelow clears_from value) → ⊥)
+left_or_not limit clears_from value None = elim (below_or_not limit value) [
+  | inl b ↦ inl (inl b)
+  | inr not ↦ inr (λ w. elim w [ inl b ↦ not b | inr v ↦ let e : false ≡ true = v.0 in absurd (cc) ])
+]
+left_or_not limit clears_from value (Some m) = elim (below_or_not limit value) [
+  | inl b ↦ inl (inl b)
+  | inr not ↦ elim (below_or_not clears_from value) [
+    | inl b ↦ inl (inr (refl, b))
+    | inr above ↦ inr (λ w. elim w [ inl b ↦ not b | inr v ↦ above v.1 ])
+  ]
+]
+
+-- since when it is active, after one more sample
+since_after : (limit reclaim clears_from at : ℕ) (value : Option ℕ) (h : List Sample) (since after : Option ℕ) → clears_from ≡ limit + reclaim → IsActiveSince limit reclaim h since
+    → (IsBelow limit value ⊎ (IsSome since × IsBelow clears_from value) → after ≡ option_or since (Some at))
+    → ((IsBelow limit value ⊎ (IsSome since × IsBelow clears_from value) → ⊥) → after ≡ None)
+    → IsActiveSince limit reclaim (h ++ sample at value ∷ []) after
+since_after limit reclaim clears_from at value h since after clears is left lost =
+    let P : ℕ → Type 0 = λ k. IsBelow k value in
+    elim (left_or_not limit clears_from value since) [
+      | inl w ↦ since_moved limit reclaim at value h since after is (elim w [ inl b ↦ inl b | inr v ↦ inr (v.0, subst P clears v.1) ]) (left w)
+      | inr not ↦ since_lost limit reclaim at value h since after is (λ w. not (elim w [ inl b ↦ inl b | inr v ↦ inr (v.0, subst P (sym clears) v.1) ])) (lost not)
+    ]
+
+pub since_after_by : (limit reclaim kept clears_from at : ℕ) (value : Option ℕ) (h : List Sample) (since after : Option ℕ) → kept ≡ limit → clears_from ≡ limit + reclaim → IsActiveSince limit reclaim h since
+    → (IsBelow kept value ⊎ (IsSome since × IsBelow clears_from value) → after ≡ option_or since (Some at))
+    → ((IsBelow kept value ⊎ (IsSome since × IsBelow clears_from value) → ⊥) → after ≡ None)
+    → IsActiveSince limit reclaim (h ++ sample at value ∷ []) after
+since_after_by limit reclaim kept clears_from at value h since after same clears is left lost =
+    let P : ℕ → Type 0 = λ k. IsBelow k value ⊎ (IsSome since × IsBelow clears_from value) in
+    since_after limit reclaim clears_from at value h since after clears is (λ w. left (subst P (sym same) w)) (λ not. lost (λ w. not (subst P same w)))
 
 pub due_after : (limit reclaim kept grace : ℕ) (h : List Sample) (x : Sample) (since : Option ℕ) (test : Bool) → kept ≡ grace → IsActiveSince limit reclaim (h ++ x ∷ []) since
     → (IsTrue test ↔ IsSomeAnd since (λ moment. kept ≤ x.moment - moment)) → (IsTrue test ↔ IsDue limit reclaim grace (h ++ x ∷ []))
@@ -163,8 +194,8 @@ due_after limit reclaim kept grace h x since test same is by =
     let due = due_by limit reclaim grace h x since is in
     ((λ t. due.0 (moved.0 t)), (λ d. moved.1 (due.1 d)))
 
-pub since_test : (limit reclaim : ℕ) (h : List Sample) (since : Option ℕ) (test : Bool) → test ≡ is_some since → IsActiveSince limit reclaim h since
+pub since_test : (limit reclaim : ℕ) (h : List Sample) (since : Option ℕ) (test : Bool) → (IsTrue test ↔ IsSome since) → IsActiveSince limit reclaim h since
     → (IsTrue test ↔ IsActive limit reclaim h)
 since_test limit reclaim h since test is at =
     let some = since_some limit reclaim h since at in
-    ((λ t. some.0 (sym is ∙ t)), (λ a. is ∙ some.1 a))
+    ((λ t. some.0 (is.0 t)), (λ a. is.1 (some.1 a)))

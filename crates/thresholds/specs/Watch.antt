@@ -1,10 +1,14 @@
 -- Where a list of samples leads.
-use Rattle.std.specs.Prelude.{◌≡◌, ◌↔◌, ℕ, ◌+◌, List, Option, IsTrue}
+use Rattle.std.specs.Prelude.{◌≡◌, ◌⊎◌, ◌↔◌, ℕ, ◌+◌, List, Option, IsTrue, IsSome}
 use Rattle.thresholds.specs.declared.threshold.Threshold.{Threshold}
 use Rattle.thresholds.specs.declared.watch.Watch.{Watch}
 use Rattle.thresholds.specs.Amounts.{amount_of}
-use Rattle.thresholds.specs.Samples.{Sample}
+use Rattle.thresholds.specs.Samples.{Sample, IsBelow}
 use Rattle.thresholds.specs.Thresholds.{IsActiveSince, IsThresholdDue}
+
+-- the threshold is active once this value has come
+abbrev pub LeavesActive : Watch → Option ℕ → Type 0
+LeavesActive watch value = IsBelow watch.limit value ⊎ (IsSome watch.active_since × IsBelow watch.clears_from value)
 
 -- the watch's value after these samples
 pub record IsStateOf (threshold : Threshold) (capacity : Option ℕ) (h : List Sample) (watch : Watch) : Type 0 where

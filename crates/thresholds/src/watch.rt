@@ -1,12 +1,13 @@
 //! A threshold beside the samples of its signal.
 
-ghost use Rattle.std.specs.Prelude.{◌≡◌, ◌⊎◌, ◌↔◌, ◌≤◌, ◌+◌, ◌-◌, ℕ, List, [], ◌∷◌, ◌++◌, Option, IsTrue, IsSome, IsSomeAnd, IfSome};
+ghost use Rattle.std.specs.Prelude.{◌≡◌, ◌↔◌, ◌≤◌, ◌-◌, ℕ, List, [], ◌∷◌, ◌++◌, Option, Some, None, IsTrue, IsSome, IsSomeAnd, IfSome};
+ghost use Rattle.std.specs.Option.{option_or};
 ghost use Rattle.quantity.specs.Quantity.{greatest};
 ghost use Rattle.thresholds.specs.declared.threshold.Threshold.{Threshold};
 ghost use Rattle.thresholds.specs.Amounts.{HasItsCapacity};
 ghost use Rattle.thresholds.specs.Samples.{Sample, sample as sample_of, IsBelow};
-ghost use Rattle.thresholds.specs.Thresholds.{IsActiveSince, IsThresholdActive, IsThresholdDue};
-ghost use Rattle.thresholds.specs.Watch.{IsStateOf};
+ghost use Rattle.thresholds.specs.Thresholds.{IsThresholdActive, IsThresholdDue};
+ghost use Rattle.thresholds.specs.Watch.{LeavesActive, IsStateOf};
 
 use crate::threshold::{Threshold, amount};
 
@@ -61,7 +62,7 @@ impl Watch {
             → IsStateOf threshold capacity h self.now
             → (IsTrue result ↔ IsThresholdActive threshold capacity h) }
     {
-        self.active_since.is_some()
+        self.is_active_so_far()
     }
 
     /// Whether the threshold is due: it is active, and at the last sample has been for at least its grace.
@@ -74,23 +75,24 @@ impl Watch {
         self.due
     }
 
+    /// Whether the threshold is active after the samples so far.
+    fn is_active_so_far(&self) -> bool
+        ensures { IsTrue result ↔ IsSome self.now.active_since }
+    {
+        self.active_since.is_some()
+    }
+
     /// Whether the threshold is active once this value has come.
     fn is_active_after(&self, value: Option<u128>) -> bool
-        ensures { IsTrue result
-            ↔ (IsBelow self.now.limit value
-            ⊎ (IsSome self.now.active_since × IsBelow self.now.clears_from value)) }
+        ensures { IsTrue result ↔ LeavesActive self.now value }
     {
-        is_below(value, self.limit)
-            || self.active_since.is_some() && is_below(value, self.clears_from)
+        is_below(value, self.limit) || self.is_active_so_far() && is_below(value, self.clears_from)
     }
 
     /// Since when the threshold is active, once this sample has come.
     fn active_since_after(&self, at: u64, value: Option<u128>) -> Option<u64>
-        ensures { (limit reclaim : ℕ) (h : List Sample)
-            → self.now.limit ≡ limit
-            → self.now.clears_from ≡ limit + reclaim
-            → IsActiveSince limit reclaim h self.now.active_since
-            → IsActiveSince limit reclaim (h ++ sample_of at value ∷ []) result }
+        ensures active { LeavesActive self.now value → result ≡ option_or self.now.active_since (Some at) }
+        ensures cleared { ¬ LeavesActive self.now value → result ≡ None }
     {
         if self.is_active_after(value) {
             self.active_since.or(Some(at))
