@@ -6,8 +6,12 @@ mod instances_tests;
 #[cfg(test)]
 mod phase_tests;
 #[cfg(test)]
+mod pressure_tests;
+#[cfg(test)]
 mod quantity_tests;
 #[cfg(test)]
 mod replay_stream_tests;
 #[cfg(test)]
 mod restarts_tests;
+#[cfg(test)]
+mod thresholds_tests;

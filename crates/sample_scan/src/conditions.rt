@@ -47,8 +47,8 @@ fn was_met_lately(observations: &[Observation], period: u64) -> bool
     }
     let last = observations.len() - 1;
     let now = observed_at(observations, last);
-    for place in 0..last {
-        if is_met_within(observations, now, period, place) {
+    for count in 0..last {
+        if is_met_within(observations, now, period, last - 1 - count) {
             return true;
         }
     }

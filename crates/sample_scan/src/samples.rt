@@ -79,8 +79,8 @@ fn is_low_from(samples: &[Sample], limit: u128, reclaim: u128, place: usize) -> 
 pub fn is_active(samples: &[Sample], limit: u128, reclaim: u128) -> bool
     ensures { IsTrue result ↔ IsActive limit reclaim (samples_of samples.now) }
 {
-    for place in 0..samples.len() {
-        if is_low_from(samples, limit, reclaim, place) {
+    for count in 0..samples.len() {
+        if is_low_from(samples, limit, reclaim, samples.len() - 1 - count) {
             return true;
         }
     }
