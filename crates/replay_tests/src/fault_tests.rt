@@ -4,7 +4,9 @@ use crate::support::{POD, after_node, expect_fault, expect_report};
 use kubelet_replay::{RunFault, fault_line, status_of};
 use manifest::Field::{Containers, Pod, Probe};
 use manifest::ManifestFault;
-use manifest::ManifestFault::{DuplicateContainer, Missing, Sidecar, TooMany, WrongKind};
+use manifest::ManifestFault::{
+    DuplicateContainer, Missing, ProbeRange, RequestAboveLimit, Sidecar, TooMany, WrongKind,
+};
 use std::test::Fail;
 use trace::{LineFault, LineKind};
 
@@ -175,8 +177,8 @@ fn second_lines_are_refused(rt: HostRuntime) -> Result<(), Fail> {
             LineKind::Manifest(DuplicateContainer),
         ),
         (
-            r#"{"kind":"pod","pod":{"metadata":{"name":"a"},"spec":{"containers":[{"name":"c","readinessProbe":{}}]}}}"#,
-            LineKind::Manifest(WrongKind(Probe)),
+            r#"{"kind":"pod","pod":{"metadata":{"name":"a"},"spec":{"containers":[{"name":"c","resources":{"limits":{"cpu":"1"},"requests":{"cpu":"1001m"}}}]}}}"#,
+            LineKind::Manifest(RequestAboveLimit),
         ),
         (
             r#"{"kind":"tick","at":0,"pods":[{"pod":"default/a"}]}"#,
@@ -190,6 +192,48 @@ fn second_lines_are_refused(rt: HostRuntime) -> Result<(), Fail> {
     for line in [POD, r#"{"kind":"pod"}"#] {
         let text = after_node(rt.alloc(), &[POD, line])?;
         expect_fault(&rt, rt.alloc(), text.as_bytes(), 3, LineKind::TooMany, line);
+    }
+    Ok(())
+}
+
+/// Pods that are read whole, and not replayed yet.
+#[test]
+fn pods_that_are_not_replayed_yet_are_refused(rt: HostRuntime) -> Result<(), Fail> {
+    for (containers, fault) in [
+        (
+            r#""containers":[{"name":"c","readinessProbe":{}}]"#,
+            WrongKind(Probe),
+        ),
+        (
+            r#""containers":[{"name":"c"},{"name":"d","startupProbe":{"failureThreshold":2}}]"#,
+            WrongKind(Probe),
+        ),
+        (
+            r#""initContainers":[{"name":"i"}],"containers":[{"name":"c"}]"#,
+            WrongKind(InitContainers),
+        ),
+        // init containers come before probes
+        (
+            r#""initContainers":[{"name":"i"}],"containers":[{"name":"c","livenessProbe":{}}]"#,
+            WrongKind(InitContainers),
+        ),
+        // and the manifest's own faults before both
+        (
+            r#""initContainers":[{"name":"c"}],"containers":[{"name":"c","livenessProbe":{}}]"#,
+            DuplicateContainer,
+        ),
+        (
+            r#""containers":[{"name":"c","livenessProbe":{"periodSeconds":0}}]"#,
+            ProbeRange,
+        ),
+    ] {
+        let alloc = rt.alloc();
+        let line = format!(in alloc;
+            "{{\"kind\":\"pod\",\"pod\":{{\"metadata\":{{\"name\":\"a\"}},\"spec\":{{{containers}}}}}}}"
+        )?;
+        let text = after_node(alloc, &[line.as_str()])?;
+        let kind = LineKind::Manifest(fault);
+        expect_fault(&rt, alloc, text.as_bytes(), 2, kind, containers);
     }
     Ok(())
 }

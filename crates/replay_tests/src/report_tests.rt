@@ -75,6 +75,35 @@ fn first_tick_shows_the_pod_in_six_lines(rt: HostRuntime) {
     expect_report(&rt, rt.alloc(), NODE.as_bytes(), 1, "");
 }
 
+/// Pods before any tick, each of another class.
+#[test]
+fn the_pod_line_shows_the_class(rt: HostRuntime) -> Result<(), Fail> {
+    let alloc = rt.alloc();
+    for (resources, class) in [
+        ("{}", "BestEffort"),
+        (r#"{"requests":{"cpu":"1m"}}"#, "Burstable"),
+        (r#"{"limits":{"cpu":1,"memory":"1Gi"}}"#, "Guaranteed"),
+        (r#"{"limits":{"cpu":1,"memory":"0"}}"#, "Burstable"),
+    ] {
+        let pod = format!(in alloc;
+            "{{\"kind\":\"pod\",\"pod\":{{\"metadata\":{{\"name\":\"a\"}},\"spec\":{{\"containers\":[{{\"name\":\"c\",\"resources\":{resources}}}]}}}}}}"
+        )?;
+        let text = after_node(alloc, &[pod.as_str()])?;
+        let report = format!(in alloc;
+            "pod 0 default/a phase=Pending reason=- qos={class}\n{PENDING_LINES}"
+        )?;
+        expect_report(&rt, alloc, text.as_bytes(), 4096, report.as_str());
+    }
+    Ok(())
+}
+
+const PENDING_LINES: &str = "condition 0 PodScheduled True 0
+condition 0 Initialized True 0
+condition 0 ContainersReady False 0
+condition 0 Ready False 0
+container 0 c state=Waiting code=- restarts=0 ready=false started=false
+";
+
 #[test]
 fn reports_follow_the_listings(rt: HostRuntime) -> Result<(), Fail> {
     let again = r#"{"name":"c","attempt":1,"state":"CONTAINER_RUNNING"}"#;
