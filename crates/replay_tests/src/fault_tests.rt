@@ -2,7 +2,7 @@
 
 use crate::support::{POD, after_node, expect_fault, expect_report};
 use kubelet_replay::{RunFault, fault_line, status_of};
-use manifest::Field::{Containers, Pod, Probe};
+use manifest::Field::{Containers, InitContainers, Pod, Probe};
 use manifest::ManifestFault;
 use manifest::ManifestFault::{
     DuplicateContainer, Missing, ProbeRange, RequestAboveLimit, Sidecar, TooMany, WrongKind,
