@@ -1,9 +1,6 @@
 //! Reads the trace of a node from standard input, and writes the pod lines of its report on standard output.
 #![tactic(auto)]
 
-ghost use Rattle.std.specs.Prelude.{◌≤◌};
-ghost use Rattle.std.specs.Process.{exit_status};
-
 use kubelet_replay::{Counted, RunFault, fault_line, replay_alone, status_of};
 use std::process::ExitCode;
 use std::{env, io};
@@ -11,10 +8,9 @@ use std::{env, io};
 /// The status of a call with words, which the program doesn't take yet.
 const USAGE: u8 = 3;
 
-/// Ends with status 0 where the whole answer was written, and with 1, 2 or 3 otherwise.
-fn main(rt: HostRuntime) -> ExitCode
-    ensures { exit_status result ≤ 3 }
-{
+/// Ends with status 0 where the whole report was written, and with 1, 2 or 3 otherwise. (An entry function can have no
+/// clause.)
+fn main(rt: HostRuntime) -> ExitCode {
     let has_words = match env::args(&rt) {
         Ok(mut words) => Ok(words.nth(1).is_some()),
         Err(error) if error.kind() == io::ErrorKind::OutOfMemory => Err(RunFault::OutOfMemory),
