@@ -186,7 +186,7 @@ fn draw(random: u64, newest: Option<Seen>) -> Option<Seen> {
         3 => Some(Seen {
             attempt,
             state: Exited,
-            code: Some(random as i32 / 256 % 256),
+            code: Some((random / 256 % 256) as i32),
         }),
         4 => seen(attempt, Exited),
         5 => seen(attempt, Unknown),
