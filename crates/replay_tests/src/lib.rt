@@ -4,7 +4,6 @@
 #[cfg(test)]
 mod fault_tests;
 #[cfg(test)]
-#[cfg(test)]
 mod lists_tests;
 #[cfg(test)]
 mod probe_results_tests;

@@ -8,8 +8,12 @@ mod manifest_tests;
 #[cfg(test)]
 mod phase_tests;
 #[cfg(test)]
+mod pressure_tests;
+#[cfg(test)]
 mod quantity_tests;
 #[cfg(test)]
 mod replay_stream_tests;
 #[cfg(test)]
 mod restarts_tests;
+#[cfg(test)]
+mod thresholds_tests;

@@ -22,18 +22,15 @@ use Rattle.manifest.specs.declared.fault.ManifestFault.{ManifestFault}
 use Rattle.manifest.specs.declared.fault.ManifestFault.TheVariants.{Missing, WrongKind, DuplicateContainer, Sidecar}
 use Rattle.manifest.specs.declared.fault.ManifestFault.TheVariants as faults
 use Rattle.manifest.specs.declared.fault.Field.{Field}
-use Rattle.manifest.specs.declared.policy.Policy.TheVariants.{Always, OnFailure, Never}
-use Rattle.manifest.specs.Fields.{object_of, tested_text, required_text, text_or, items_or, array_of, some_items}
 use Rattle.manifest.specs.declared.fault.Field.TheVariants as fields
-use Rattle.manifest.specs.Manifest.{policy_from, policy_of, no_items, none_yet, absent as manifest_absent, container_of, containers_of, pod_at}
-use Rattle.manifest.specs.Containers.{names_of, has_twice}
+use Rattle.manifest.specs.Containers.{names_of}
 use Rattle.name_list.specs.Names.{place_of}
 use Rattle.serde_json.specs.Read.{read}
 use Rattle.std.specs.Str.{is_utf8}
 use Rattle.state_diff.specs.declared.seen.CriState.TheVariants.{Created, Running, Exited, Unknown}
 use Rattle.trace.specs.declared.listing.Listing.{Listing}
 use Rattle.json_fields.specs.Fields.{items_list}
-use Rattle.trace.specs.Pod.{keys_of, of_manifest, pod_from}
+use Rattle.trace.specs.Pod.{keys_of, of_manifest, pod_of, pod_from}
 use Rattle.trace.specs.Listings.{attempt_from, attempt_of, state_named, state_numbered, state_from, state_of, listing_of, items_from, items_of, entry_of, entries_of}
 use Rattle.trace.specs.Results.{probe_named, outcome_named, result_of}
 use Rattle.trace.specs.Placing.{number_in, container_number, placed_listing, placed_result, placed_entry, placed_of}
@@ -42,37 +39,9 @@ use Rattle.trace.specs.Tick.{is_later, moment_from}
 use Rattle.trace.specs.Trace.{json_of}
 use Rattle.trace.specs.Laws.{IsFirstFault, Fails, too_long, not_json, unknown_kind, misplaced, wrong_node, many_pods, wrong_pod, many_ticks, wrong_moment, wrong_entry, stranger, doubled, backwards, no_code, KindsOfChecks, IsNotMemory, NeverMemory}
 use Rattle.trace.proofs.LawLemmas.{first_fault}
-use Rattle.trace.proofs.LawLemmas.Checks.{no_fault, same_fault, line_fails}
-
--- a fault, if there is one, has the property
-record Only {A E : Type 0} (P : E → Type 0) (r : Result A E) : Type 0 where
-  has : (fault : E) → r ≡ Err fault → P fault
-
-only_ok : {A E : Type 0} (P : E → Type 0) (x : A) → Only P (Ok x)
-only_ok P x = record { has = λ fault e. absurd (no_fault x fault e) }
-
-only_err : {A E : Type 0} (P : E → Type 0) (fault : E) → P fault → Only {A = A} P (Err fault)
-only_err {A = A} P fault is = record { has = λ other e. subst P (same_fault {A = A} fault other e) is }
-
-only_bind : {A B E : Type 0} (P : E → Type 0) (r : Result A E) (f : A → Result B E) → Only P r → ((x : A) → Only P (f x)) → Only P (r >>= f)
-only_bind P (Ok x) f first rest = rest x
-only_bind {B = B} P (Err fault) f first rest = only_err {A = B} P fault (first.has fault refl)
-
-only_if : {A E : Type 0} (P : E → Type 0) (b : Bool) (r s : Result A E) → Only P r → Only P s → Only P (if b then r else s)
-only_if P true r s yes_is no_is = yes_is
-only_if P false r s yes_is no_is = no_is
-
-only_refused : {E : Type 0} (P : E → Type 0) (b : Bool) (fault : E) → P fault → Only P (refused_if b fault)
-only_refused P true fault is = only_err P fault is
-only_refused P false fault is = only_ok P tt
-
-only_some : {A E : Type 0} (P : E → Type 0) (fault : E) (found : Option A) → P fault → Only P (some_or fault found)
-only_some P fault None is = only_err P fault is
-only_some P fault (Some x) is = only_ok P x
-
-only_each : {A B E : Type 0} (P : E → Type 0) (f : A → Result B E) → ((x : A) → Only P (f x)) → (xs : List A) → Only P (each f xs)
-only_each P f one [] = only_ok P []
-only_each P f one (x ∷ xs) = only_bind P (f x) (λ y. each f xs >>= λ ys. Ok (y ∷ ys)) (one x) (λ y. only_bind P (each f xs) (λ ys. Ok (y ∷ ys)) (only_each P f one xs) (λ ys. only_ok P (y ∷ ys)))
+use Rattle.trace.proofs.LawLemmas.Checks.{line_fails}
+use Rattle.trace.proofs.LawLemmas.Only.{Only, only_ok, only_err, only_bind, only_if, only_refused, only_some, only_each}
+use Rattle.trace.proofs.LawLemmas.ManifestKinds.{IsFound, missing, wrong, pod_of_only}
 
 abbrev Is : LineKind → LineKind → Type 0
 Is given kind = kind ≡ given
@@ -119,103 +88,6 @@ json_only line =
     let P = Is NotJson in
     only_if P (is_utf8 line) (some_or NotJson (read line)) (Err NotJson) (only_some P NotJson (read line) refl) (only_err P NotJson refl)
 
--- the faults of a manifest, none of which is for want of memory
-abbrev IsFound : ManifestFault → Type 0
-IsFound fault = fault ≢ faults.OutOfMemory
-
-missing : (field : Field) → IsFound (Missing field)
-missing field is = absurd (cc)
-
-wrong : (field : Field) → IsFound (WrongKind field)
-wrong field is = absurd (cc)
-
-object_only : (field : Field) (found : Option Data) → Only IsFound (object_of field found)
-object_only field None = only_err IsFound (Missing field) (missing field)
-object_only field (Some d) = only_if IsFound (is_some (as_object d)) (Ok d) (Err (WrongKind field)) (only_ok IsFound d) (only_err IsFound (WrongKind field) (wrong field))
-
-tested_only : (test : List ℕ → Bool) (field : Field) (found : Option (List ℕ)) → Only IsFound (tested_text test field found)
-tested_only test field None = only_err IsFound (WrongKind field) (wrong field)
-tested_only test field (Some s) = only_if IsFound (test s) (Ok s) (Err (WrongKind field)) (only_ok IsFound s) (only_err IsFound (WrongKind field) (wrong field))
-
-required_only : (test : List ℕ → Bool) (field : Field) (found : Option Data) → Only IsFound (required_text test field found)
-required_only test field None = only_err IsFound (Missing field) (missing field)
-required_only test field (Some d) = tested_only test field (as_str d)
-
-text_or_only : (default : List ℕ) (test : List ℕ → Bool) (field : Field) (found : Option Data) → Only IsFound (text_or default test field found)
-text_or_only default test field None = only_ok IsFound default
-text_or_only default test field (Some d) = tested_only test field (as_str d)
-
-items_or_only : (field : Field) (found : Option Items) → Only IsFound (items_or field found)
-items_or_only field None = only_err IsFound (WrongKind field) (wrong field)
-items_or_only field (Some items) = only_ok IsFound (items_list items)
-
-array_only : (field : Field) (found : Option Data) → Only IsFound (array_of field found)
-array_only field None = only_err IsFound (Missing field) (missing field)
-array_only field (Some d) = items_or_only field (as_array d)
-
-some_items_only : (field : Field) (ds : List Data) → Only IsFound (some_items field ds)
-some_items_only field [] = only_err IsFound (Missing field) (missing field)
-some_items_only field (d ∷ ds) = only_ok IsFound (d ∷ ds)
-
-policy_from_only : (found : Option (List ℕ)) → Only IsFound (policy_from found)
-policy_from_only None = only_err IsFound (WrongKind fields.RestartPolicy) (wrong fields.RestartPolicy)
-policy_from_only (Some text) =
-    only_if IsFound _ (Ok Always) _ (only_ok IsFound Always)
-    (only_if IsFound _ (Ok OnFailure) _ (only_ok IsFound OnFailure)
-    (only_if IsFound _ (Ok Never) _ (only_ok IsFound Never) (only_err IsFound (WrongKind fields.RestartPolicy) (wrong fields.RestartPolicy))))
-
-policy_only : (found : Option Data) → Only IsFound (policy_of found)
-policy_only None = only_ok IsFound Always
-policy_only (Some d) = policy_from_only (as_str d)
-
-no_items_only : (field : Field) (ds : List Data) → Only IsFound (no_items field ds)
-no_items_only field [] = only_ok IsFound tt
-no_items_only field (d ∷ ds) = only_err IsFound (WrongKind field) (wrong field)
-
-none_yet_only : (field : Field) (found : Option Data) → Only IsFound (none_yet field found)
-none_yet_only field None = only_ok IsFound tt
-none_yet_only field (Some d) = only_bind IsFound (array_of field (Some d)) (λ ds. no_items field ds) (array_only field (Some d)) (λ ds. no_items_only field ds)
-
-unset_only : (field : Field) (found : Option Data) → Only IsFound (manifest_absent (WrongKind field) found)
-unset_only field found = only_refused IsFound (is_some found) (WrongKind field) (wrong field)
-
-container_only : (field : Field) (d : Data) → Only IsFound (container_of field d)
-unfolding container_of
-container_only field d =
-    let P = IsFound in
-    only_bind P _ _ (object_only field (Some d)) (λ object.
-    only_bind P _ _ (required_only is_label fields.ContainerName (field_at (codes "name") object)) (λ name.
-    only_bind P _ _ (only_refused P (is_some (field_at (codes "restartPolicy") object)) Sidecar (λ is. absurd (cc))) (λ own.
-    only_bind P _ _ (unset_only fields.Resources (field_at (codes "resources") object)) (λ resources.
-    only_bind P _ _ (unset_only fields.Probe (field_at (codes "startupProbe") object)) (λ startup.
-    only_bind P _ _ (unset_only fields.Probe (field_at (codes "livenessProbe") object)) (λ liveness.
-    only_bind P _ _ (unset_only fields.Probe (field_at (codes "readinessProbe") object)) (λ readiness. only_ok P _)))))))
-
-containers_only : (found : Option Data) → Only IsFound (containers_of found)
-unfolding containers_of
-containers_only found =
-    let P = IsFound in
-    only_bind P _ _ (array_only fields.Containers found) (λ listed.
-    only_bind P _ _ (some_items_only fields.Containers listed) (λ items.
-    only_bind P _ _ (only_refused P (nat_lt 16 (length items)) faults.TooMany (λ is. absurd (cc))) (λ few.
-    only_bind P _ _ (only_each P (container_of fields.Containers) (container_only fields.Containers) items) (λ containers.
-    only_bind P _ _ (only_refused P (has_twice containers) DuplicateContainer (λ is. absurd (cc))) (λ apart. only_ok P containers)))))
-
-pod_at_only : (d : Data) → Only IsFound (pod_at d)
-unfolding pod_at
-pod_at_only d =
-    let P = IsFound in
-    only_bind P _ _ (object_only fields.Pod (Some d)) (λ pod.
-    only_bind P _ _ (object_only fields.Metadata (field_at (codes "metadata") pod)) (λ metadata.
-    only_bind P _ _ (required_only is_name fields.Name (field_at (codes "name") metadata)) (λ name.
-    only_bind P _ _ (text_or_only (codes "default") is_label fields.Namespace (field_at (codes "namespace") metadata)) (λ namespace.
-    only_bind P _ _ (object_only fields.Spec (field_at (codes "spec") pod)) (λ spec.
-    only_bind P _ _ (policy_only (field_at (codes "restartPolicy") spec)) (λ policy.
-    only_bind P _ _ (unset_only fields.Priority (field_at (codes "priority") spec)) (λ priority.
-    only_bind P _ _ (unset_only fields.GracePeriod (field_at (codes "terminationGracePeriodSeconds") spec)) (λ grace.
-    only_bind P _ _ (none_yet_only fields.InitContainers (field_at (codes "initContainers") spec)) (λ init.
-    only_bind P _ _ (containers_only (field_at (codes "containers") spec)) (λ containers. only_ok P _))))))))))
-
 abbrev IsManifest : LineKind → Type 0
 IsManifest kind = (fault : ManifestFault) × (kind ≡ Manifest fault) × IsFound fault
 
@@ -225,7 +97,7 @@ manifest_only (Err fault) only = only_err IsManifest (Manifest fault) (fault, re
 
 pod_only : (found : Option Data) → Only IsManifest (pod_from found)
 pod_only None = only_err IsManifest (Manifest (Missing fields.Pod)) (Missing fields.Pod, refl, missing fields.Pod)
-pod_only (Some d) = manifest_only (pod_at d) (pod_at_only d)
+pod_only (Some d) = manifest_only (pod_of d) (pod_of_only d)
 
 moment_only : (ticks : List TickObs) (found : Option ℕ) → Only (Is Moment) (moment_from ticks found)
 moment_only ticks None = only_err (Is Moment) Moment refl

@@ -1,0 +1,4 @@
+pub mod Latest
+pub mod Values
+pub mod Since
+pub mod LawLemmas

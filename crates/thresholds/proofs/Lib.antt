@@ -1,0 +1,3 @@
+pub mod Active
+pub mod Since
+pub mod LawLemmas

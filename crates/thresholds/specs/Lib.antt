@@ -1,0 +1,5 @@
+pub mod Amounts
+pub mod Laws
+pub mod Samples
+pub mod Thresholds
+pub mod Watch

@@ -1,0 +1,19 @@
+-- Where a list of samples leads.
+use Rattle.std.specs.Prelude.{◌≡◌, ◌⊎◌, ◌↔◌, ℕ, ◌+◌, List, Option, IsTrue, IsSome}
+use Rattle.thresholds.specs.declared.threshold.Threshold.{Threshold}
+use Rattle.thresholds.specs.declared.watch.Watch.{Watch}
+use Rattle.thresholds.specs.Amounts.{amount_of}
+use Rattle.thresholds.specs.Samples.{Sample, IsBelow}
+use Rattle.thresholds.specs.Thresholds.{IsActiveSince, IsThresholdDue}
+
+-- the threshold is active once this value has come
+abbrev pub LeavesActive : Watch → Option ℕ → Type 0
+LeavesActive watch value = IsBelow watch.limit value ⊎ (IsSome watch.active_since × IsBelow watch.clears_from value)
+
+-- the watch's value after these samples
+pub record IsStateOf (threshold : Threshold) (capacity : Option ℕ) (h : List Sample) (watch : Watch) : Type 0 where
+  pub limit : watch.limit ≡ amount_of capacity threshold.limit
+  pub clears_from : watch.clears_from ≡ amount_of capacity threshold.limit + amount_of capacity threshold.reclaim
+  pub grace : watch.grace ≡ threshold.grace
+  pub active_since : IsActiveSince (amount_of capacity threshold.limit) (amount_of capacity threshold.reclaim) h watch.active_since
+  pub due : IsTrue watch.due ↔ IsThresholdDue threshold capacity h
