@@ -1,5 +1,5 @@
 -- The ticks that count are there for every list of ticks.
-use Rattle.std.proofs.Common.{◌≡◌, ◌⊎◌, inl, inr, ℕ, suc, zero, ◌<◌, ◌≤◌, List, [], ◌∷◌, ◌++◌, length, take, drop, Option, Some, None, refl, sym, subst, arith}
+use Rattle.std.proofs.Common.{◌≡◌, ◌⊎◌, inl, inr, ℕ, suc, zero, ◌<◌, ◌≤◌, List, [], ◌∷◌, ◌++◌, length, length-take, take, drop, Option, Some, None, refl, sym, subst, arith}
 use Rattle.std.specs.Prelude.{◌↔◌, slice_get}
 use Rattle.std.proofs.lemmas.List.{take_all, take-take}
 use Rattle.trace.specs.declared.outcome.Outcome.{Outcome}

@@ -1,5 +1,5 @@
 -- The state of a set: what its flags say, and what one more tick makes of it.
-use Rattle.std.proofs.Common.{◌≡◌, ℕ, ◌-◌, Bool, true, false, List, [], ◌∷◌, ◌++◌, length, Option, Some, None, refl, sym, subst, ◌∙◌}
+use Rattle.std.proofs.Common.{◌≡◌, ℕ, ◌-◌, Bool, true, false, List, [], ◌∷◌, ◌++◌, length, Option, Some, None, is_some, refl, sym, subst, ◌∙◌}
 use Rattle.std.specs.Prelude.{◌↔◌, IsTrue, IsSomeAnd}
 use Rattle.std.proofs.lemmas.Option.{same_Some}
 use Rattle.manifest.specs.Probe.{Probe, Probes}
@@ -43,11 +43,11 @@ dead_is probes start ticks set dead st reads = (
 
 -- whether the instance is ready, where startup has passed
 pub ready_is : (probes : Probes) (start : ℕ) (ticks : List Tick) (set : ProbeSet) (ready : Bool) → IsStateOf probes start ticks set
-    → IsStarted set.startup.probe start ticks
+    → IsStarted probes.startup start ticks
     → ((c : List Tick) → IsReadinessOf start c set.readiness → (IsTrue ready ↔ HoldsReady set.readiness.probe start c))
     → (IsTrue ready ↔ IsReady probes start ticks)
 ready_is probes start ticks set ready st started reads = (
-  (λ t. ((let P : Option Probe → Type 0 = λ p. IsStarted p start ticks in subst P st.follows.startup started), (st.counts.0, st.counts.1, here.0 t))),
+  (λ t. (started, (st.counts.0, st.counts.1, here.0 t))),
   (λ (_, (c, are, holds)). here.1 (let P : List Tick → Type 0 = λ x. HoldsReady probes.readiness start x in
       subst P (AreCounted-unique probes.startup start ticks c st.counts.0 are st.counts.1) holds)),
 )
@@ -57,19 +57,13 @@ ready_is probes start ticks set ready st started reads = (
         let P : Option Probe → Type 0 = λ p. IsTrue ready ↔ HoldsReady p start st.counts.0 in
         subst P st.follows.readiness (reads st.counts.0 st.counts.2.readiness)
 
--- whether there is an order, and its cause
-pub ordered_is : (probes : Probes) (start : ℕ) (ticks : List Tick) (failed dead : Bool)
-    → (IsTrue failed ↔ IsKillOrdered probes start causes.Startup ticks) → failed ≡ false
-    → (IsTrue dead ↔ IsKillOrdered probes start causes.Liveness ticks)
-    → (IsTrue dead ↔ IsOrdered probes start ticks)
-ordered_is probes start ticks failed dead fails not_failed dies = (
-  (λ t. (causes.Liveness, dies.0 t)),
-  (λ (cause, order). of cause order),
-)
-  where
-    of : (cause : Cause) → IsKillOrdered probes start cause ticks → IsTrue dead
-    of causes.Startup order = let t : failed ≡ true = fails.1 order in absurd (cc)
-    of causes.Liveness order = dies.1 order
+-- there is an order where it has a cause
+pub ordered_is : (probes : Probes) (start : ℕ) (ticks : List Tick) (found : Option Cause)
+    → ((cause : Cause) → ((found ≡ Some cause) ↔ IsKillOrdered probes start cause ticks))
+    → (IsTrue (is_some found) ↔ IsOrdered probes start ticks)
+ordered_is probes start ticks (Some cause) is = ((λ _. (cause, (is cause).0 refl)), (λ _. refl))
+ordered_is probes start ticks None is =
+    ((λ t. absurd (cc)), (λ (cause, order). let e : None ≡ Some cause = (is cause).1 order in absurd (cc)))
 
 pub startup_cause : (probes : Probes) (start : ℕ) (ticks : List Tick) → AreInRange probes → IsKillOrdered probes start causes.Startup ticks
     → (cause : Cause) → ((Some causes.Startup ≡ Some cause) ↔ IsKillOrdered probes start cause ticks)

@@ -1,5 +1,5 @@
 -- What one more tick makes of the counters of each probe.
-use Rattle.std.proofs.Common.{◌≡◌, ◌⊎◌, inl, inr, ℕ, ◌-◌, Bool, nat_eq, List, [], ◌∷◌, ◌++◌, length, Option, Some, None, sym, ap, ◌∙◌}
+use Rattle.std.proofs.Common.{◌≡◌, ◌⊎◌, inl, inr, ℕ, ◌-◌, Bool, nat_eq, List, [], ◌∷◌, ◌++◌, length, Option, Some, None, sym, ap, subst, ◌∙◌}
 use Rattle.std.specs.Prelude.{◌↔◌, ◌||◌, IsTrue}
 use Rattle.std.specs.List.{filter_map, cons_option}
 use Rattle.std.proofs.lemmas.Bool.{or_cases, or_left, or_right, eqb-true, eq-eqb}
@@ -36,12 +36,21 @@ pub startup_skips : (p : Probe) (start : ℕ) (ticks : List Tick) (next : Tick) 
 startup_skips p start ticks next progress none st =
     rw (filter_map-nothing (λ t. belonging p (t.moment - start) t.entry.startup) ticks next none) st
 
-pub startup_takes : (p : Probe) (start : ℕ) (ticks : List Tick) (next : Tick) (o : Outcome) (progress progress' : Progress)
-    → belonging p (next.moment - start) next.entry.startup ≡ Some o
-    → ((results : List Outcome) → IsProgressOf p.failure_threshold results progress → IsProgressOf p.failure_threshold (results ++ o ∷ []) progress')
+pub startup_takes : (p : Probe) (start : ℕ) (ticks : List Tick) (next : Tick) (o : Outcome) (limit : ℕ) (progress progress' : Progress)
+    → belonging p (next.moment - start) next.entry.startup ≡ Some o → limit ≡ p.failure_threshold
+    → ((results : List Outcome) → IsProgressOf limit results progress → IsProgressOf limit (results ++ o ∷ []) progress')
     → IsProgressWith (Some p) start ticks progress → IsProgressWith (Some p) start (ticks ++ next ∷ []) progress'
-startup_takes p start ticks next o progress progress' some step st =
-    rw (filter_map-item (λ t. belonging p (t.moment - start) t.entry.startup) ticks next o some) (step _ st)
+startup_takes p start ticks next o limit progress progress' some same step st =
+    let F : ℕ → Type 0 = λ f. (results : List Outcome) → IsProgressOf f results progress → IsProgressOf f (results ++ o ∷ []) progress' in
+    rw (filter_map-item (λ t. belonging p (t.moment - start) t.entry.startup) ticks next o some) (subst F same step _ st)
+
+-- a run counted up to a limit, where the probe's number is that limit
+run_by : (o : Outcome) (limit number : ℕ) (counted : Outcome) (n n' : ℕ) → limit ≡ number
+    → ((results : List Outcome) → IsRunLength counted limit results n → IsRunLength counted limit (results ++ o ∷ []) n')
+    → (results : List Outcome) → IsRunLength counted number results n → IsRunLength counted number (results ++ o ∷ []) n'
+run_by o limit number counted n n' same step =
+    let F : ℕ → Type 0 = λ f. (results : List Outcome) → IsRunLength counted f results n → IsRunLength counted f (results ++ o ∷ []) n' in
+    subst F same step
 
 -- liveness
 pub liveness_skips : (p : Probe) (start : ℕ) (ticks : List Tick) (next : Tick) (failures : ℕ) (failed : Bool) → belonging p (next.moment - start) next.entry.liveness ≡ None
@@ -62,14 +71,15 @@ liveness_counts f results o failures failed run st = (
   ]),
 )
 
-pub liveness_takes : (p : Probe) (start : ℕ) (ticks : List Tick) (next : Tick) (o : Outcome) (failures failures' : ℕ) (failed : Bool)
-    → belonging p (next.moment - start) next.entry.liveness ≡ Some o
-    → ((results : List Outcome) → IsRunLength Failure p.failure_threshold results failures → IsRunLength Failure p.failure_threshold (results ++ o ∷ []) failures')
+pub liveness_takes : (p : Probe) (start : ℕ) (ticks : List Tick) (next : Tick) (o : Outcome) (limit failures failures' : ℕ) (failed : Bool)
+    → belonging p (next.moment - start) next.entry.liveness ≡ Some o → limit ≡ p.failure_threshold
+    → ((results : List Outcome) → IsRunLength Failure limit results failures → IsRunLength Failure limit (results ++ o ∷ []) failures')
     → CountsLiveness (Some p) start ticks failures failed
-    → CountsLiveness (Some p) start (ticks ++ next ∷ []) failures' (failed || nat_eq failures' p.failure_threshold)
-liveness_takes p start ticks next o failures failures' failed some step st =
+    → CountsLiveness (Some p) start (ticks ++ next ∷ []) failures' (failed || nat_eq failures' limit)
+liveness_takes p start ticks next o limit failures failures' failed some same step st =
+    let run = run_by o limit p.failure_threshold Failure failures failures' same step _ st.0 in
     rw (filter_map-item (λ t. belonging p (t.moment - start) t.entry.liveness) ticks next o some)
-    (step _ st.0, liveness_counts p.failure_threshold _ o failures' failed (step _ st.0) st.1)
+    (rw same (run, liveness_counts p.failure_threshold _ o failures' failed run st.1))
 
 -- readiness
 pub readiness_skips : (p : Probe) (start : ℕ) (ticks : List Tick) (next : Tick) (successes failures : ℕ) (ready : Bool) → belonging p (next.moment - start) next.entry.readiness ≡ None
@@ -106,12 +116,15 @@ readiness_counts p results o s s' f f' ready ready' is succeeds fails st = recor
     fails_reach : (f' ≡ p.failure_threshold) ↔ EndsRun Failure p.failure_threshold (results ++ o ∷ []) (length (results ++ o ∷ []))
     fails_reach = IsRunLength-reaches Failure p.failure_threshold (results ++ o ∷ []) f' fails
 
-pub readiness_takes : (p : Probe) (start : ℕ) (ticks : List Tick) (next : Tick) (o : Outcome) (s s' f f' : ℕ) (ready ready' : Bool)
+pub readiness_takes : (p : Probe) (start : ℕ) (ticks : List Tick) (next : Tick) (o : Outcome) (s s' f f' s_limit s_most f_limit f_most : ℕ) (ready ready' : Bool)
     → belonging p (next.moment - start) next.entry.readiness ≡ Some o
-    → ((results : List Outcome) → IsRunLength Success p.success_threshold results s → IsRunLength Success p.success_threshold (results ++ o ∷ []) s')
-    → ((results : List Outcome) → IsRunLength Failure p.failure_threshold results f → IsRunLength Failure p.failure_threshold (results ++ o ∷ []) f')
-    → (IsTrue ready' ↔ (IsTrue (nat_eq s' p.success_threshold) ⊎ (IsTrue ready × (IsTrue (nat_eq f' p.failure_threshold) → ⊥))))
+    → s_limit ≡ p.success_threshold → s_most ≡ p.success_threshold → f_limit ≡ p.failure_threshold → f_most ≡ p.failure_threshold
+    → ((results : List Outcome) → IsRunLength Success s_limit results s → IsRunLength Success s_limit (results ++ o ∷ []) s')
+    → ((results : List Outcome) → IsRunLength Failure f_limit results f → IsRunLength Failure f_limit (results ++ o ∷ []) f')
+    → (IsTrue ready' ↔ (IsTrue (nat_eq s' s_most) ⊎ (IsTrue ready × (IsTrue (nat_eq f' f_most) → ⊥))))
     → CountsReadiness (Some p) start ticks s f ready → CountsReadiness (Some p) start (ticks ++ next ∷ []) s' f' ready'
-readiness_takes p start ticks next o s s' f f' ready ready' some succeed fail is st =
+readiness_takes p start ticks next o s s' f f' s_limit s_most f_limit f_most ready ready' some s_is s_most_is f_is f_most_is succeed fail is st =
+    let R : ℕ → ℕ → Type 0 = λ a b. IsTrue ready' ↔ (IsTrue (nat_eq s' a) ⊎ (IsTrue ready × (IsTrue (nat_eq f' b) → ⊥))) in
     rw (filter_map-item (λ t. belonging p (t.moment - start) t.entry.readiness) ticks next o some)
-    (readiness_counts p _ o s s' f f' ready ready' is (succeed _ st.succeeds) (fail _ st.fails) st)
+    (readiness_counts p _ o s s' f f' ready ready' (subst (λ b. R p.success_threshold b) f_most_is (subst (λ a. R a f_most) s_most_is is))
+    (run_by o s_limit p.success_threshold Success s s' s_is succeed _ st.succeeds) (run_by o f_limit p.failure_threshold Failure f f' f_is fail _ st.fails) st)

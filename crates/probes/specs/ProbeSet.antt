@@ -1,4 +1,4 @@
-use Rattle.std.specs.Prelude.{◌≡◌, ◌↔◌, ℕ, List, Some, IsTrue, IsSome, IsSomeAnd}
+use Rattle.std.specs.Prelude.{◌≡◌, ◌↔◌, ℕ, List, Some, None, IsTrue, IsSome, IsSomeAnd}
 use Rattle.manifest.specs.Probe.{Probes}
 use Rattle.probes.specs.declared.probe_set.Cause.{Cause}
 use Rattle.probes.specs.declared.probe_set.Verdicts.{Verdicts}
@@ -19,6 +19,10 @@ pub record Follows (set : ProbeSet) (probes : Probes) : Type 0 where
 -- an instance has begun
 abbrev pub HasBegun : ProbeSet → Type 0
 HasBegun set = IsSome set.start
+
+-- no instance has begun yet
+abbrev pub HasNotBegun : ProbeSet → Type 0
+HasNotBegun set = set.start ≡ None
 
 -- the counters of liveness and readiness after the ticks that count
 pub record IsCountOf (start : ℕ) (counted : List Tick) (set : ProbeSet) : Type 0 where

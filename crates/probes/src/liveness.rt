@@ -2,9 +2,10 @@ ghost use Rattle.std.specs.Prelude.{◌≡◌, ◌-◌, ◌↔◌, ℕ, List, �
 ghost use Rattle.probes.specs.Ticks.{Tick, HasLivenessFailed};
 ghost use Rattle.probes.specs.Liveness.{IsLivenessOf};
 
-use trace::Outcome;
-use manifest::Probe;
+use crate::outcome::{belonging, is_failure};
 use crate::run_length::longer;
+use manifest::Probe;
+use trace::Outcome;
 
 /// Follows the liveness probe of one instance over the ticks that count.
 #[derive(Clone, Copy, Debug, PartialEq, Eq)]

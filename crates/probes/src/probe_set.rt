@@ -1,14 +1,14 @@
-ghost use Rattle.std.specs.Prelude.{◌≡◌, ◌↔◌, ◌-◌, ℕ, List, [], ◌∷◌, ◌++◌, length, Option, Some, IsTrue, MatchOption};
+ghost use Rattle.std.specs.Prelude.{◌≡◌, ◌↔◌, ◌-◌, ℕ, List, [], ◌∷◌, ◌++◌, length, Option, Some, None, IsTrue, false};
 ghost use Rattle.manifest.specs.Probe.{Probes};
 ghost use Rattle.probes.specs.Ticks.{Tick, tick, IsStarted};
 ghost use Rattle.probes.specs.Container.{IsReady, IsKillOrdered, IsOrdered};
-ghost use Rattle.probes.specs.ProbeSet.{Follows, HasBegun, IsStateOf, AreVerdicts};
+ghost use Rattle.probes.specs.ProbeSet.{Follows, HasBegun, HasNotBegun, IsStateOf, AreVerdicts};
 
 use crate::liveness::Liveness;
-use trace::Outcome;
-use manifest::ContainerSpec;
 use crate::readiness::Readiness;
 use crate::startup::Startup;
+use manifest::ContainerSpec;
+use trace::Outcome;
 
 /// Why an instance is to be killed.
 #[derive(Clone, Copy, Debug, PartialEq, Eq)]
@@ -39,7 +39,8 @@ pub struct ProbeSet {
 
 impl ProbeSet {
     pub fn new(container: &ContainerSpec) -> Self
-        ensures { Follows result container.now.probes }
+        ensures follows { Follows result container.now.probes }
+        ensures before { HasNotBegun result }
     {
         let probes = container.probes;
         ProbeSet {
@@ -79,32 +80,40 @@ impl ProbeSet {
         }
     }
 
-    /// Whether startup has passed; without a startup probe it has from the start on.
+    /// Whether startup has passed; without a startup probe it has from the instance's start on. Before the first instance
+    /// it has not.
     pub fn started(&self) -> bool
-        ensures { (probes : Probes) (start : ℕ) (ticks : List Tick) → IsStateOf probes start ticks self.now → (IsTrue result ↔ IsStarted probes.startup start ticks) }
+        ensures before { HasNotBegun self.now → result ≡ false }
+        ensures state { (probes : Probes) (start : ℕ) (ticks : List Tick) → IsStateOf probes start ticks self.now → (IsTrue result ↔ IsStarted probes.startup start ticks) }
     {
-        self.startup.has_passed()
+        self.start.is_some() && self.startup.has_passed()
     }
 
-    /// Whether startup has passed and the readiness probe, if there is one, holds.
+    /// Whether startup has passed and the readiness probe, if there is one, holds. Before the first instance it is not
+    /// ready.
     pub fn ready(&self) -> bool
-        ensures { (probes : Probes) (start : ℕ) (ticks : List Tick) → IsStateOf probes start ticks self.now → (IsTrue result ↔ IsReady probes start ticks) }
+        ensures before { HasNotBegun self.now → result ≡ false }
+        ensures state { (probes : Probes) (start : ℕ) (ticks : List Tick) → IsStateOf probes start ticks self.now → (IsTrue result ↔ IsReady probes start ticks) }
     {
-        self.startup.has_passed() && self.readiness.is_ready()
+        self.started() && self.readiness.is_ready()
     }
 
-    /// Whether the instance is to be killed.
+    /// Whether the instance is to be killed. Before the first instance nothing is.
     pub fn kill_ordered(&self) -> bool
-        ensures { (probes : Probes) (start : ℕ) (ticks : List Tick) → IsStateOf probes start ticks self.now → (IsTrue result ↔ IsOrdered probes start ticks) }
+        ensures before { HasNotBegun self.now → result ≡ false }
+        ensures state { (probes : Probes) (start : ℕ) (ticks : List Tick) → IsStateOf probes start ticks self.now → (IsTrue result ↔ IsOrdered probes start ticks) }
     {
-        self.startup.has_failed() || self.liveness.has_failed()
+        self.cause().is_some()
     }
 
     /// Why the instance is to be killed, if it is.
     fn cause(&self) -> Option<Cause>
-        ensures { (probes : Probes) (start : ℕ) (ticks : List Tick) → IsStateOf probes start ticks self.now → (cause : Cause) → ((result ≡ Some cause) ↔ IsKillOrdered probes start cause ticks) }
+        ensures before { HasNotBegun self.now → result ≡ None }
+        ensures state { (probes : Probes) (start : ℕ) (ticks : List Tick) → IsStateOf probes start ticks self.now → (cause : Cause) → ((result ≡ Some cause) ↔ IsKillOrdered probes start cause ticks) }
     {
-        if self.startup.has_failed() {
+        if self.start.is_none() {
+            None
+        } else if self.startup.has_failed() {
             Some(Cause::Startup)
         } else if self.liveness.has_failed() {
             Some(Cause::Liveness)

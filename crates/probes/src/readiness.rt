@@ -2,9 +2,10 @@ ghost use Rattle.std.specs.Prelude.{◌≡◌, ◌-◌, ◌↔◌, ◌⊎◌, �
 ghost use Rattle.probes.specs.Ticks.{Tick, HoldsReady};
 ghost use Rattle.probes.specs.Readiness.{IsReadinessOf};
 
-use trace::Outcome;
-use manifest::Probe;
+use crate::outcome::{belonging, is_failure, is_success};
 use crate::run_length::longer;
+use manifest::Probe;
+use trace::Outcome;
 
 /// Follows the readiness probe of one instance over the ticks that count; without a probe it is ready.
 #[derive(Clone, Copy, Debug, PartialEq, Eq)]

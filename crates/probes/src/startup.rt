@@ -3,8 +3,9 @@ ghost use Rattle.trace.specs.declared.outcome.Outcome.{Outcome};
 ghost use Rattle.probes.specs.Ticks.{Tick, IsStarted, HasStartupFailed};
 ghost use Rattle.probes.specs.Startup.{IsProgressOf, IsStartupOf};
 
-use trace::Outcome;
+use crate::outcome::{belonging, is_success};
 use manifest::Probe;
+use trace::Outcome;
 
 /// How far the startup of an instance has come.
 #[derive(Clone, Copy, Debug, PartialEq, Eq)]
