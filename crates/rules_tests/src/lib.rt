@@ -10,6 +10,8 @@ mod phase_tests;
 #[cfg(test)]
 mod pressure_tests;
 #[cfg(test)]
+mod probes_tests;
+#[cfg(test)]
 mod quantity_tests;
 #[cfg(test)]
 mod replay_stream_tests;
