@@ -1,7 +1,7 @@
 -- What comes true in a tick, where it goes on to hold once it does.
-use Rattle.std.proofs.Common.{◌≡◌, inl, inr, ℕ, suc, ◌<◌, List, [], ◌∷◌, ◌++◌, length, take, drop, subst, arith}
+use Rattle.std.proofs.Common.{◌≡◌, inl, inr, ℕ, suc, ◌<◌, List, [], ◌∷◌, ◌++◌, length, take, drop, subst, sym, arith}
 use Rattle.std.specs.Prelude.{◌↔◌}
-use Rattle.std.proofs.lemmas.List.{take-append-drop}
+use Rattle.std.proofs.lemmas.List.{append-nil, append_assoc, take-append-drop}
 use Rattle.histories.specs.Histories.{Recorded, IsSo, ComesTrue, Lasts}
 use Rattle.histories.proofs.First.{IsFirst-old, IsFirst-new, IsFirst-split, IsFirst-unique}
 use Rattle.histories.proofs.Growth.{grows_so, so_last}
@@ -13,6 +13,12 @@ Lasts-all P h t lasts s = subst P (take-append-drop (suc t) h) (lasts.more (take
 -- what came true stays so, at its place
 pub ComesTrue-old : {A : Type 0} (P : List (Recorded A) → Type 0) (h : List (Recorded A)) (x : Recorded A) (t : ℕ) → ComesTrue P h t → ComesTrue P (h ++ x ∷ []) t
 ComesTrue-old P h x t f = IsFirst-old (length h) _ _ _ (grows_so P h x) t f
+
+-- so it does whatever is recorded later
+pub ComesTrue-later : {A : Type 0} (P : List (Recorded A) → Type 0) (h later : List (Recorded A)) (t : ℕ) → ComesTrue P h t → ComesTrue P (h ++ later) t
+ComesTrue-later P h [] t f = subst (λ k. ComesTrue P k t) (sym (append-nil h)) f
+ComesTrue-later P h (x ∷ later) t f =
+    subst (λ k. ComesTrue P k t) (append_assoc h (x ∷ []) later) (ComesTrue-later P (h ++ x ∷ []) later t (ComesTrue-old P h x t f))
 
 -- it comes true once
 pub ComesTrue-unique : {A : Type 0} (P : List (Recorded A) → Type 0) (h : List (Recorded A)) (t u : ℕ) → ComesTrue P h t → ComesTrue P h u → t ≡ u

@@ -35,6 +35,11 @@ abbrev pub SucceedsByOne : Option Probe → Type 0
 SucceedsByOne None = Unit {0}
 SucceedsByOne (Some p) = p.success_threshold ≡ 1
 
+-- the numbers of the probe, if there is one, are in their ranges
+abbrev pub HasNumbersInRange : Option Probe → Type 0
+HasNumbersInRange None = Unit {0}
+HasNumbersInRange (Some p) = IsInRange p
+
 pub record AreProbes (p : Probes) : Type 0 where
   pub startup_by_one : SucceedsByOne p.startup
   pub liveness_by_one : SucceedsByOne p.liveness

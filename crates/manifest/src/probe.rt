@@ -1,7 +1,7 @@
 //! Probes of a container (Kubernetes, "Configure Liveness, Readiness and Startup Probes").
 
 ghost use Rattle.std.specs.Prelude.{◌≡◌, ◌≤◌, ◌<◌, ◌^◌};
-ghost use Rattle.manifest.specs.Probe.{IsInRange, SucceedsByOne, no_probes};
+ghost use Rattle.manifest.specs.Probe.{IsInRange, HasNumbersInRange, SucceedsByOne, no_probes};
 
 use std::marker::Model;
 
@@ -143,6 +143,7 @@ impl Probes {
     /// `startupProbe`: until it has succeeded, the others are not run.
     pub fn startup(self) -> Option<Probe>
         ensures value { result ≡ self.startup }
+        ensures in_range { HasNumbersInRange result }
         ensures by_one { SucceedsByOne result }
     {
         self.startup
@@ -151,6 +152,7 @@ impl Probes {
     /// `livenessProbe`: where it fails, the container is killed.
     pub fn liveness(self) -> Option<Probe>
         ensures value { result ≡ self.liveness }
+        ensures in_range { HasNumbersInRange result }
         ensures by_one { SucceedsByOne result }
     {
         self.liveness
@@ -158,7 +160,8 @@ impl Probes {
 
     /// `readinessProbe`: whether the container is ready.
     pub fn readiness(self) -> Option<Probe>
-        ensures { result ≡ self.readiness }
+        ensures value { result ≡ self.readiness }
+        ensures in_range { HasNumbersInRange result }
     {
         self.readiness
     }

@@ -10,6 +10,8 @@ mod phase_tests;
 #[cfg(test)]
 mod pressure_tests;
 #[cfg(test)]
+mod probes_tests;
+#[cfg(test)]
 mod qos_tests;
 #[cfg(test)]
 mod quantity_tests;

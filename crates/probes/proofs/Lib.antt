@@ -1,0 +1,6 @@
+pub mod Runs
+pub mod Taken
+pub mod Counted
+pub mod Kills
+pub mod States
+pub mod Determined

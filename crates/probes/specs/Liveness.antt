@@ -1,0 +1,17 @@
+use Rattle.std.specs.Prelude.{◌≡◌, ◌↔◌, ℕ, Bool, false, IsTrue, List, Option, Some, None}
+use Rattle.trace.specs.declared.outcome.Outcome.TheVariants.{Failure}
+use Rattle.manifest.specs.Probe.{Probe}
+use Rattle.probes.specs.declared.liveness.Liveness.{Liveness}
+use Rattle.probes.specs.Outcomes.{IsRunLength, FailsInARow}
+use Rattle.probes.specs.Ticks.{Tick, liveness_results}
+
+-- the failures at the end, and whether there were ever enough of them in a row
+abbrev pub CountsLiveness : Option Probe → ℕ → List Tick → ℕ → Bool → Type 0
+CountsLiveness None start ticks failures failed = failed ≡ false
+CountsLiveness (Some probe) start ticks failures failed =
+    let results = liveness_results probe start ticks in
+    IsRunLength Failure probe.failure_threshold results failures × (IsTrue failed ↔ FailsInARow probe.failure_threshold results)
+
+-- the value after these ticks, which all count, of an instance with this start
+abbrev pub IsLivenessOf : ℕ → List Tick → Liveness → Type 0
+IsLivenessOf start ticks liveness = CountsLiveness liveness.probe start ticks liveness.failures liveness.failed

@@ -1,0 +1,38 @@
+-- What a list of results says, oldest first. A place is counted from 0; the e-th result is counted from 1.
+use Rattle.std.specs.Prelude.{◌≡◌, ◌↔◌, ℕ, ◌+◌, ◌<◌, ◌≤◌, Bool, true, false, List, length, slice_get, Some}
+use Rattle.trace.specs.declared.outcome.Outcome.{Outcome}
+use Rattle.trace.specs.declared.outcome.Outcome.TheVariants.{Success, Failure, Unknown}
+
+-- whether the result is a success or a failure
+abbrev pub is_known : Outcome → Bool
+is_known Success = true
+is_known Failure = true
+is_known Unknown = false
+
+-- the n results that end with the e-th are all the outcome
+pub record EndsRun (outcome : Outcome) (n : ℕ) (results : List Outcome) (e : ℕ) : Type 0 where
+  pub among : e ≤ length results
+  pub enough : n ≤ e
+  pub all : (k : ℕ) → k < e → e ≤ k + n → slice_get results k ≡ Some outcome
+
+-- somewhere n failures stand next to each other
+abbrev pub FailsInARow : ℕ → List Outcome → Type 0
+FailsInARow n results = (e : ℕ) × EndsRun Failure n results e
+
+-- somewhere s successes stand next to each other, and no f failures do so later
+abbrev pub HoldsAfter : ℕ → ℕ → List Outcome → Type 0
+HoldsAfter s f results = (e : ℕ) × EndsRun Success s results e × ((later : ℕ) → e < later → EndsRun Failure f results later → ⊥)
+
+-- one of the first f results is a success
+abbrev pub PassesWithin : ℕ → List Outcome → Type 0
+PassesWithin f results = (k : ℕ) × (k < f) × (slice_get results k ≡ Some Success)
+
+-- there are at least f results, and the first f are failures
+pub record FailsWithin (f : ℕ) (results : List Outcome) : Type 0 where
+  pub enough : f ≤ length results
+  pub all : (k : ℕ) → k < f → slice_get results k ≡ Some Failure
+
+-- the number of results at the end that are the outcome, counted up to a limit
+pub record IsRunLength (outcome : Outcome) (limit : ℕ) (results : List Outcome) (n : ℕ) : Type 0 where
+  pub within : n ≤ limit
+  pub run : (m : ℕ) → m ≤ limit → ((m ≤ n) ↔ EndsRun outcome m results (length results))

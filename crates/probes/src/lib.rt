@@ -1,0 +1,15 @@
+//! The startup, liveness and readiness probes of one container.
+#![tactic(auto)]
+
+mod laws;
+mod liveness;
+mod outcome;
+mod probe_set;
+mod readiness;
+mod run_length;
+mod startup;
+
+pub use laws::{
+    counted_ticks, kill_order_stands, one_cause, ready_without_probe, startup_passes_once,
+};
+pub use probe_set::{Cause, ProbeSet, Verdicts};

@@ -1,0 +1,39 @@
+//! Results of probes, and which of them belong to an instance.
+
+ghost use Rattle.std.specs.Prelude.{◌≡◌, ◌↔◌, IsTrue};
+ghost use Rattle.trace.specs.declared.outcome.Outcome.TheVariants.{Success, Failure};
+ghost use Rattle.probes.specs.Outcomes.{is_known};
+ghost use Rattle.probes.specs.Ticks.{belonging};
+
+use manifest::Probe;
+use trace::Outcome;
+
+pub(crate) fn is_success(outcome: Outcome) -> bool
+    ensures { IsTrue result ↔ (outcome ≡ Success) }
+{
+    matches!(outcome, Outcome::Success)
+}
+
+pub(crate) fn is_failure(outcome: Outcome) -> bool
+    ensures { IsTrue result ↔ (outcome ≡ Failure) }
+{
+    matches!(outcome, Outcome::Failure)
+}
+
+fn is_known(outcome: Outcome) -> bool
+    ensures { result ≡ is_known outcome }
+{
+    !matches!(outcome, Outcome::Unknown)
+}
+
+/// The outcome, if it belongs to an instance of this age in seconds: it is known, and the initial delay is over.
+pub(crate) fn belonging(probe: Probe, age: u64, outcome: Option<Outcome>) -> Option<Outcome>
+    ensures { result ≡ belonging probe age outcome }
+{
+    let outcome = outcome?;
+    if is_known(outcome) && u64::from(probe.initial_delay_seconds()) <= age {
+        Some(outcome)
+    } else {
+        None
+    }
+}

@@ -1,0 +1,68 @@
+ghost use Rattle.std.specs.Prelude.{◌≡◌, ◌-◌, ◌↔◌, ◌⊎◌, ℕ, List, ◌∷◌, [], ◌++◌, IsTrue};
+ghost use Rattle.probes.specs.Ticks.{Tick, HoldsReady};
+ghost use Rattle.probes.specs.Readiness.{IsReadinessOf};
+
+use crate::outcome::{belonging, is_failure, is_success};
+use crate::run_length::longer;
+use manifest::Probe;
+use trace::Outcome;
+
+/// Follows the readiness probe of one instance over the ticks that count; without a probe it is ready.
+#[derive(Clone, Copy, Debug, PartialEq, Eq)]
+pub struct Readiness {
+    pub probe: Option<Probe>,
+    /// The successes at the end, counted up to the success threshold.
+    successes: u32,
+    /// The failures at the end, counted up to the failure threshold.
+    failures: u32,
+    ready: bool,
+}
+
+impl Readiness {
+    pub fn new(probe: Option<Probe>) -> Self
+        ensures probe { result.probe ≡ probe }
+        ensures state { (start : ℕ) → IsReadinessOf start [] result }
+    {
+        Readiness {
+            probe,
+            successes: 0,
+            failures: 0,
+            ready: probe.is_none(),
+        }
+    }
+
+    pub fn is_ready(&self) -> bool
+        ensures { (start : ℕ) (ticks : List Tick) → IsReadinessOf start ticks self.now → (IsTrue result ↔ HoldsReady self.now.probe start ticks) }
+    {
+        self.ready
+    }
+
+    /// Takes the readiness probe's result in a tick that counts, at this age of the instance.
+    pub fn take(&mut self, age: u64, outcome: Option<Outcome>)
+        ensures probe { self.new.probe ≡ self.old.probe }
+        ensures state { (start : ℕ) (ticks : List Tick) (next : Tick) → next.moment - start ≡ age → next.entry.readiness ≡ outcome → IsReadinessOf start ticks self.old → IsReadinessOf start (ticks ++ next ∷ []) self.new }
+    {
+        let Some(probe) = self.probe else {
+            return;
+        };
+        let Some(outcome) = belonging(probe, age, outcome) else {
+            return;
+        };
+        self.successes = longer(
+            self.successes,
+            is_success(outcome),
+            probe.success_threshold(),
+        );
+        self.failures = longer(self.failures, is_failure(outcome), probe.failure_threshold());
+        let succeeds = self.successes == probe.success_threshold();
+        let fails = self.failures == probe.failure_threshold();
+        self.ready = stays_ready(self.ready, succeeds, fails);
+    }
+}
+
+/// Whether it is ready after a result with which enough successes, or enough failures, came in a row.
+fn stays_ready(ready: bool, succeeds: bool, fails: bool) -> bool
+    ensures { IsTrue result ↔ (IsTrue succeeds ⊎ (IsTrue ready × (IsTrue fails → ⊥))) }
+{
+    succeeds || ready && !fails
+}

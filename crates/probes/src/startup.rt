@@ -1,0 +1,91 @@
+ghost use Rattle.std.specs.Prelude.{◌≡◌, ◌≢◌, ◌-◌, ◌≤◌, ◌↔◌, ℕ, List, ◌∷◌, [], ◌++◌, IsTrue};
+ghost use Rattle.trace.specs.declared.outcome.Outcome.{Outcome};
+ghost use Rattle.probes.specs.Ticks.{Tick, IsStarted, HasStartupFailed};
+ghost use Rattle.probes.specs.Startup.{IsProgressOf, IsStartupOf};
+
+use crate::outcome::{belonging, is_success};
+use manifest::Probe;
+use trace::Outcome;
+
+/// How far the startup of an instance has come.
+#[derive(Clone, Copy, Debug, PartialEq, Eq)]
+pub enum Progress {
+    /// Neither passed nor failed yet, after this many failures.
+    Waiting(u32),
+    Passed,
+    Failed,
+}
+
+impl Progress {
+    /// The progress after one more result that belongs.
+    fn after(self, outcome: Outcome, limit: u32) -> Progress
+        requires known { outcome ≢ Outcome.Unknown }
+        requires limited { 1 ≤ limit }
+        ensures { (results : List Outcome) → IsProgressOf limit results self → IsProgressOf limit (results ++ outcome ∷ []) result }
+    {
+        match self {
+            Progress::Waiting(failures) => {
+                if is_success(outcome) {
+                    Progress::Passed
+                } else if failures < limit - 1 {
+                    Progress::Waiting(failures + 1)
+                } else {
+                    Progress::Failed
+                }
+            }
+            Progress::Passed => Progress::Passed,
+            Progress::Failed => Progress::Failed,
+        }
+    }
+}
+
+/// Follows the startup probe of one instance; without a probe startup has passed from the start on.
+#[derive(Clone, Copy, Debug, PartialEq, Eq)]
+pub struct Startup {
+    pub probe: Option<Probe>,
+    progress: Progress,
+}
+
+impl Startup {
+    pub fn new(probe: Option<Probe>) -> Self
+        ensures probe { result.probe ≡ probe }
+        ensures state { (start : ℕ) → IsStartupOf start [] result }
+    {
+        match probe {
+            Some(_) => Startup {
+                probe,
+                progress: Progress::Waiting(0),
+            },
+            None => Startup {
+                probe,
+                progress: Progress::Passed,
+            },
+        }
+    }
+
+    pub fn has_passed(&self) -> bool
+        ensures { (start : ℕ) (ticks : List Tick) → IsStartupOf start ticks self.now → (IsTrue result ↔ IsStarted self.now.probe start ticks) }
+    {
+        matches!(self.progress, Progress::Passed)
+    }
+
+    pub fn has_failed(&self) -> bool
+        ensures { (start : ℕ) (ticks : List Tick) → IsStartupOf start ticks self.now → (IsTrue result ↔ HasStartupFailed self.now.probe start ticks) }
+    {
+        matches!(self.progress, Progress::Failed)
+    }
+
+    /// Takes the startup probe's result in a tick, at this age of the instance.
+    pub fn take(&mut self, age: u64, outcome: Option<Outcome>)
+        ensures probe { self.new.probe ≡ self.old.probe }
+        ensures state { (start : ℕ) (ticks : List Tick) (next : Tick) → next.moment - start ≡ age → next.entry.startup ≡ outcome → IsStartupOf start ticks self.old → IsStartupOf start (ticks ++ next ∷ []) self.new }
+    {
+        let Some(probe) = self.probe else {
+            return;
+        };
+        let Some(outcome) = belonging(probe, age, outcome) else {
+            return;
+        };
+        self.progress = self.progress.after(outcome, probe.failure_threshold());
+    }
+}
