@@ -114,7 +114,13 @@ fn liveness_counts_after_the_tick_in_which_startup_passed(rt: HostRuntime) -> Re
     startup(&rt, &mut set, 0, Failure, NOTHING);
     startup(&rt, &mut set, 1, Failure, NOTHING);
     assert!(rt; !set.started());
-    take(&rt, &mut set, 2, [Some(Success), Some(Failure), None], PASSED);
+    take(
+        &rt,
+        &mut set,
+        2,
+        [Some(Success), Some(Failure), None],
+        PASSED,
+    );
     assert!(rt; set.started() && !set.kill_ordered());
     let killed = Verdicts {
         kill: Some(Cause::Liveness),
@@ -186,7 +192,10 @@ fn result_counts_from_the_initial_delay_on(rt: HostRuntime) -> Result<(), Fail> 
 fn nothing_holds_before_the_first_instance(rt: HostRuntime) -> Result<(), Fail> {
     for fields in [r#""image":"i""#, STARTUP_TWO, TWO_UNTIL_THREE] {
         let (_, set) = read(&rt, rt.alloc(), fields)?;
-        assert!(rt; !set.started() && !set.ready() && !set.kill_ordered(), "{fields}");
+        assert!(rt;
+            !set.started() && !set.ready() && !set.kill_ordered(),
+            "{fields}"
+        );
     }
     let (_, mut set) = read(&rt, rt.alloc(), r#""image":"i""#)?;
     set.begin_instance(5);
@@ -253,7 +262,10 @@ fn compare(
         ordered |= now;
     }
     assert_eq!(rt; set.kill_ordered(), ordered);
-    assert_eq!(rt; set.started(), is_started(alloc, probes.startup(), start, ticks)?);
+    assert_eq!(rt;
+        set.started(),
+        is_started(alloc, probes.startup(), start, ticks)?
+    );
     let ready = is_ready(alloc, probes, start, ticks)?;
     assert_eq!(rt; (verdicts.ready, set.ready()), (ready, ready));
     Ok(())
