@@ -2,9 +2,15 @@ pub mod Decimal
 pub mod DurationFaults
 pub mod DurationMeaning
 pub mod Durations
+pub mod FirstForm
+pub mod FormMeaning
+pub mod Forms
+pub mod FormsComplete
 pub mod Numbers
+pub mod Padded
 pub mod PercentFaults
 pub mod PercentMeaning
+pub mod PrintedTexts
 pub mod Printing
 pub mod Quantities
 pub mod QuantityFaults

@@ -11,7 +11,8 @@ use Rattle.std.proofs.lemmas.List.Elements.{All-append}
 use Rattle.std.proofs.lemmas.Str.Parse.{digit_at}
 use Rattle.quantity.specs.Digits.{AllDigits}
 use Rattle.quantity.specs.Percent.{HasHundredths, percent_text}
-use Rattle.quantity.specs.Quantity.{HasThousandths, greatest, quantity_text}
+use Rattle.quantity.specs.Printed.{plain_text}
+use Rattle.quantity.specs.Quantity.{HasThousandths, greatest}
 use Rattle.quantity.specs.Suffix.{times, divided_by}
 use Rattle.quantity.proofs.Numbers.{digits_value-append}
 
@@ -23,13 +24,13 @@ digits_are digits all k d lt =
     let high : get_or digits k 0 ≤ 57 = range.1 in
     rw same (grind (arith, nat_tests))
 
-record IsPrinted (n : ℕ) : Type 0 where
-  digits : AllDigits (decimal n)
-  some : 1 ≤ length (decimal n)
-  few : length (decimal n) ≤ 17
-  value : digits_value 10 (decimal n) ≡ n
+pub record IsPrinted (n : ℕ) : Type 0 where
+  pub digits : AllDigits (decimal n)
+  pub some : 1 ≤ length (decimal n)
+  pub few : length (decimal n) ≤ 17
+  pub value : digits_value 10 (decimal n) ≡ n
 
-printed : (n : ℕ) → n < 10 ^ 17 → IsPrinted n
+pub printed : (n : ℕ) → n < 10 ^ 17 → IsPrinted n
 printed n small =
     let fits : n < 2 ^ 64 = omega (arith, small) in
     let numeral = decimal_is_IsNumeral n fits in
@@ -83,8 +84,8 @@ thousandths_mean m small few =
       thousandths_is = omega (arith, small);
     }
 
-pub text_reads_back : (m : ℕ) → m ≤ greatest → (m < 10 ^ 17) ⊎ ((m % 1000 ≡ 0) × (m / 1000 < 10 ^ 17)) → HasThousandths (quantity_text m) m
-text_reads_back m small few =
+pub plain_reads_back : (m : ℕ) → m ≤ greatest → (m < 10 ^ 17) ⊎ ((m % 1000 ≡ 0) × (m / 1000 < 10 ^ 17)) → HasThousandths (plain_text m) m
+plain_reads_back m small few =
     ⊎_elim (λ (w : ((m % 1000 == 0) ≡ true) × (m % 1000 ≡ 0)).
     let is : m ≡ 1000 * (m / 1000) = omega (arith, w.1) in
     let below : m / 1000 < 10 ^ 17 = ⊎_elim (λ (h : m < 10 ^ 17). omega (arith, h)) (λ (h : (m % 1000 ≡ 0) × (m / 1000 < 10 ^ 17)). h.1) few in

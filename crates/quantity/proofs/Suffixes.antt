@@ -189,11 +189,11 @@ binary_named letter factor h =
     pick letter 69 (times (2 ^ 60)) factor _ (Contains named_factors (letter ∷ 105 ∷ [], factor)) h (λ e g. rw (e, ← g) (15, omega arith, refl)) (λ h.
     absurd (cc)))))))
 
-some_if : {A : Type 0} (test : Bool) (x y : A) → (if test then Some x else None) ≡ Some y → (test ≡ true) × (x ≡ y)
+pub some_if : {A : Type 0} (test : Bool) (x y : A) → (if test then Some x else None) ≡ Some y → (test ≡ true) × (x ≡ y)
 some_if true x y h = (refl, cc)
 some_if false x y h = absurd (cc)
 
-mapped : {A B : Type 0} (f : A → B) (o : Option A) (y : B) → option_map f o ≡ Some y → (x : A) × (o ≡ Some x) × (f x ≡ y)
+pub mapped : {A B : Type 0} (f : A → B) (o : Option A) (y : B) → option_map f o ≡ Some y → (x : A) × (o ≡ Some x) × (f x ≡ y)
 mapped f None y h = absurd (cc)
 mapped f (Some x) y h = (x, refl, cc)
 

@@ -6,7 +6,8 @@ use Rattle.quantity.specs.Duration.{HasSeconds}
 use Rattle.quantity.specs.Number.{IsLongestRun, run_of, after_number}
 use Rattle.quantity.specs.declared.fault.QuantityFault.{QuantityFault}
 use Rattle.quantity.specs.Percent.{HasHundredths, percent_text, share_of}
-use Rattle.quantity.specs.Quantity.{HasThousandths, HasQuantityFault, greatest, after_plus, quantity_text}
+use Rattle.quantity.specs.Printed.{quantity_text}
+use Rattle.quantity.specs.Quantity.{HasThousandths, HasQuantityFault, greatest, after_plus}
 
 abbrev pub QuantityTextHasOneValue : List ℕ → ℕ → ℕ → Type 0
 QuantityTextHasOneValue text m n = HasThousandths text m → HasThousandths text n → m ≡ n
@@ -33,7 +34,11 @@ SharesAreWithinCapacity hundredths capacity = hundredths ≤ 10000 → share_of 
 abbrev pub SharesGrow : ℕ → ℕ → ℕ → ℕ → Type 0
 SharesGrow few many low high = few ≤ many → low ≤ high → share_of few low ≤ share_of many high
 
--- whole units are printed as units, and all else as thousandths
+-- each quantity that some text writes
+abbrev pub WrittenQuantitiesReadBack : List ℕ → ℕ → Type 0
+WrittenQuantitiesReadBack text thousandths = HasThousandths text thousandths → HasThousandths (quantity_text thousandths) thousandths
+
+-- among them all whose units, or thousandths, have at most 17 digits
 abbrev pub PrintedQuantitiesReadBack : ℕ → Type 0
 PrintedQuantitiesReadBack thousandths =
     thousandths ≤ greatest → (thousandths < 10 ^ 17) ⊎ ((thousandths % 1000 ≡ 0) × (thousandths / 1000 < 10 ^ 17)) →

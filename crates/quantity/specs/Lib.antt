@@ -4,6 +4,7 @@ pub mod Laws
 pub mod Limit
 pub mod Number
 pub mod Percent
+pub mod Printed
 pub mod Quantity
 pub mod Steps
 pub mod Suffix

@@ -1,5 +1,5 @@
 -- Quantities, as `1.5Gi`, `100m` and `1e3`, in thousandths of a unit.
-use Rattle.std.specs.Prelude.{◌≡◌, ◌≢◌, ◌<◌, ◌∷◌, count_by, ℕ, ◌+◌, ◌*◌, ◌-◌, ◌/◌, ◌%◌, ◌^◌, ◌≤◌, ◌⊎◌, min, List, [], ◌++◌, length, drop, slice_index, Result, Ok, nat_lt, ◌==◌, if◌then◌else◌, codes, decimal}
+use Rattle.std.specs.Prelude.{◌≡◌, ◌≢◌, ◌<◌, ◌∷◌, count_by, ℕ, ◌+◌, ◌*◌, ◌-◌, ◌^◌, ◌≤◌, ◌⊎◌, min, List, [], ◌++◌, length, drop, slice_index, Result, Ok, nat_lt, ◌==◌, if◌then◌else◌, codes}
 use Rattle.std.specs.Char.{is_ascii_digit}
 use Rattle.std.specs.Int.{div_ceil}
 use Rattle.std.specs.Str.Parse.{digits_value}
@@ -93,7 +93,3 @@ quantity_of text = do
   _ ← refused_if (length text == 0) Empty
   _ ← refused_if (slice_index text 0 == 45) Negative
   scaled_number_of (after_plus text)
-
--- What is printed of a quantity: its units, or its thousandths where it is no whole number of units.
-abbrev pub quantity_text : ℕ → List ℕ
-quantity_text thousandths = if thousandths % 1000 == 0 then decimal (thousandths / 1000) else decimal thousandths ++ codes "m"

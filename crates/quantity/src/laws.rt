@@ -4,7 +4,7 @@
 
 ghost use Rattle.std.specs.Prelude.{ℕ, List};
 ghost use Rattle.quantity.specs.declared.fault.QuantityFault.{QuantityFault};
-ghost use Rattle.quantity.specs.Laws.{QuantityTextHasOneValue, PercentTextHasOneValue, DurationTextHasOneValue, LeadingPlusChangesNothing, LargerDigitGivesNoLess, SharesAreWithinCapacity, SharesGrow, PrintedQuantitiesReadBack, PrintedPercentagesReadBack, NumberIsLongestRun, QuantityTextHasOneFault};
+ghost use Rattle.quantity.specs.Laws.{QuantityTextHasOneValue, PercentTextHasOneValue, DurationTextHasOneValue, LeadingPlusChangesNothing, LargerDigitGivesNoLess, SharesAreWithinCapacity, SharesGrow, WrittenQuantitiesReadBack, PrintedQuantitiesReadBack, PrintedPercentagesReadBack, NumberIsLongestRun, QuantityTextHasOneFault};
 
 /// A text has at most one value as a quantity.
 pub fn quantity_text_has_one_value()
@@ -41,7 +41,12 @@ pub fn shares_grow()
     ensures { (few many low high : ℕ) → SharesGrow few many low high }
 {}
 
-/// What is printed of a quantity is a text of that quantity, if at most 17 digits are printed.
+/// What is printed of a quantity that some text writes is a text of that quantity.
+pub fn written_quantities_read_back()
+    ensures { (text : List ℕ) (thousandths : ℕ) → WrittenQuantitiesReadBack text thousandths }
+{}
+
+/// What is printed of a quantity is a text of that quantity, if its units or its thousandths have at most 17 digits.
 pub fn printed_quantities_read_back()
     ensures { (thousandths : ℕ) → PrintedQuantitiesReadBack thousandths }
 {}

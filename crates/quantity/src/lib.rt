@@ -4,6 +4,7 @@
 mod digits;
 mod duration;
 mod fault;
+mod form;
 pub mod laws;
 mod limit;
 mod number;

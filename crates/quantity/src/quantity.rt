@@ -8,6 +8,7 @@ ghost use Rattle.quantity.specs.Quantity.{quantity_of, HasThousandths, HasQuanti
 
 use crate::digits::decimal;
 use crate::fault::QuantityFault;
+use crate::form::printed_form;
 use crate::number::Number;
 use crate::suffix::{Factor, fault_of};
 use std::fmt;
@@ -120,7 +121,7 @@ fn digits_of(whole: &[u8], fraction: &[u8]) -> u128
 }
 
 /// 1000 times a number with so many digits after its point, times a factor, rounded up and at most the greatest quantity.
-fn scaled(number: u128, places: u32, factor: Factor) -> u128
+pub(crate) fn scaled(number: u128, places: u32, factor: Factor) -> u128
     requires number { number < 10 ^ 17 }
     requires places { places ≤ 17 }
     requires factor { IsScale factor }
@@ -141,14 +142,18 @@ fn rounded_up(above: u128, below: u128) -> u128
 }
 
 impl fmt::Display for Quantity {
-    ghost use Rattle.quantity.specs.Quantity.{quantity_text};
+    ghost use Rattle.quantity.specs.Printed.{quantity_text};
     ghost use Rattle.std.specs.Prelude.{Some};
 
     ghost output = { λ q. Some (quantity_text q) };
 
-    /// The units, as `5`, or the thousandths, as `1500m`, where they are no whole number of units.
+    /// The units, as `5`, or the thousandths, as `1500m`, where they are no whole number of units. Where these have
+    /// more than 17 digits, which no text has, the shortest number with a suffix that is the quantity, if there is one.
     fn fmt<W: fmt::Write>(&self, f: &mut fmt::Formatter<W>) -> fmt::Result {
         let thousandths = self.0;
+        if let Some(form) = printed_form(thousandths) {
+            return write!(f, "{form}");
+        }
         let units = thousandths / 1000;
         if thousandths % 1000 == 0 {
             write!(f, "{units}")

@@ -1,4 +1,4 @@
-use Rattle.quantity.proofs.Printing.{text_reads_back}
+use Rattle.quantity.proofs.PrintedTexts.{text_reads_back}
 use Rattle.quantity.proofs.laws.printed_quantities_read_back.Goals as goal
 
 pub returns : goal.returns

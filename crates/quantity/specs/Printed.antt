@@ -1,0 +1,111 @@
+-- What is printed of a quantity.
+use Rattle.std.specs.Prelude.{ℕ, suc, zero, ◌+◌, ◌*◌, ◌-◌, ◌/◌, ◌%◌, ◌^◌, List, [], ◌++◌, length, replicate, Option, Some, None, option_map, ◌&&◌, nat_lt, ◌==◌, if◌then◌else◌, codes, decimal}
+use Rattle.std.specs.Option.{option_or}
+use Rattle.quantity.specs.Quantity.{thousandths_of}
+use Rattle.quantity.specs.Suffix.{times}
+use Rattle.quantity.specs.declared.form.Form.{Form}
+use Rattle.quantity.specs.declared.form.Scale.{Scale}
+use Rattle.quantity.specs.declared.form.Scale.TheVariants.{Units, Exa, Peta, Tera, Giga, Mega, Kilo, Exbi, Pebi, Tebi, Gibi, Mebi, Kibi}
+
+-- the suffix of a scale, and its factor
+abbrev pub scale_suffix : Scale → List ℕ
+scale_suffix Units = codes ""
+scale_suffix Exa = codes "E"
+scale_suffix Peta = codes "P"
+scale_suffix Tera = codes "T"
+scale_suffix Giga = codes "G"
+scale_suffix Mega = codes "M"
+scale_suffix Kilo = codes "k"
+scale_suffix Exbi = codes "Ei"
+scale_suffix Pebi = codes "Pi"
+scale_suffix Tebi = codes "Ti"
+scale_suffix Gibi = codes "Gi"
+scale_suffix Mebi = codes "Mi"
+scale_suffix Kibi = codes "Ki"
+
+abbrev pub scale_numerator : Scale → ℕ
+scale_numerator Units = 1
+scale_numerator Exa = 10 ^ 18
+scale_numerator Peta = 10 ^ 15
+scale_numerator Tera = 10 ^ 12
+scale_numerator Giga = 10 ^ 9
+scale_numerator Mega = 10 ^ 6
+scale_numerator Kilo = 10 ^ 3
+scale_numerator Exbi = 2 ^ 60
+scale_numerator Pebi = 2 ^ 50
+scale_numerator Tebi = 2 ^ 40
+scale_numerator Gibi = 2 ^ 30
+scale_numerator Mebi = 2 ^ 20
+scale_numerator Kibi = 2 ^ 10
+
+-- the scales in the order in which they are tried: units first, then decimal and binary ones, the largest first
+abbrev pub scale_at : ℕ → Scale
+scale_at place =
+    if place == 0 then Units
+    else if place == 1 then Exa
+    else if place == 2 then Peta
+    else if place == 3 then Tera
+    else if place == 4 then Giga
+    else if place == 5 then Mega
+    else if place == 6 then Kilo
+    else if place == 7 then Exbi
+    else if place == 8 then Pebi
+    else if place == 9 then Tebi
+    else if place == 10 then Gibi
+    else if place == 11 then Mebi
+    else Kibi
+
+-- The least number with so many digits after its point whose value is not below a quantity, as its digits without the point.
+abbrev pub least_number : ℕ → ℕ → ℕ → ℕ
+least_number thousandths places numerator = (thousandths - 1) * 10 ^ places / (1000 * numerator) + 1
+
+-- that number, where it has at most 17 digits
+abbrev pub few_digits : ℕ → Option ℕ
+few_digits number = if nat_lt number (10 ^ 17) then Some number else None
+
+-- a number of at most 17 digits, so many of them after the point, that has exactly the quantity as its value in a scale
+abbrev pub exact_number : ℕ → ℕ → ℕ → Option ℕ
+exact_number thousandths places numerator =
+    let number = least_number thousandths places numerator in
+    if nat_lt number (10 ^ 17) && thousandths_of number places (times numerator) == thousandths then Some number else None
+
+-- its digits before and after the point
+abbrev pub form_of : ℕ → Scale → ℕ → Form
+form_of places scale number = record { whole = number / 10 ^ places; fraction = number % 10 ^ places; places = places; scale = scale }
+
+-- the form at a place: by the digits after the point, and then by the scale
+abbrev pub form_at : ℕ → ℕ → Option Form
+form_at thousandths place =
+    let places = place / 13 in
+    let scale = scale_at (place % 13) in
+    option_map (form_of places scale) (exact_number thousandths places (scale_numerator scale))
+
+-- the first of so many forms that writes the quantity
+unfoldable pub first_form : ℕ → ℕ → Option Form
+first_form thousandths zero = None
+first_form thousandths (suc n) = option_or (first_form thousandths n) (form_at thousandths n)
+
+-- so many digits, zeros first
+abbrev pub zero_padded : ℕ → ℕ → List ℕ
+zero_padded places n = replicate (places - length (decimal n)) 48 ++ decimal n
+
+abbrev pub form_text : Form → List ℕ
+form_text form =
+    if form.places == 0 then decimal form.whole ++ scale_suffix form.scale
+    else (if form.whole == 0 then [] else decimal form.whole) ++ (codes "." ++ (zero_padded form.places form.fraction ++ scale_suffix form.scale))
+
+-- no form is needed below 10^17 thousandths
+abbrev pub printed_form : ℕ → Option Form
+printed_form thousandths = if nat_lt thousandths (10 ^ 17) then None else first_form thousandths 234
+
+-- the units, or the thousandths where they are no whole number of units
+abbrev pub plain_text : ℕ → List ℕ
+plain_text thousandths = if thousandths % 1000 == 0 then decimal (thousandths / 1000) else decimal thousandths ++ codes "m"
+
+abbrev pub text_by_form : Option Form → ℕ → List ℕ
+text_by_form None thousandths = plain_text thousandths
+text_by_form (Some form) thousandths = form_text form
+
+-- What is printed of a quantity.
+abbrev pub quantity_text : ℕ → List ℕ
+quantity_text thousandths = text_by_form (printed_form thousandths) thousandths
