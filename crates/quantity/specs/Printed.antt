@@ -80,7 +80,7 @@ form_at thousandths place =
     let scale = scale_at (place % 13) in
     option_map (form_of places scale) (exact_number thousandths places (scale_numerator scale))
 
--- the first of so many forms that writes the quantity
+-- the first of so many forms that writes the quantity; there are 18 * 13
 unfoldable pub first_form : ℕ → ℕ → Option Form
 first_form thousandths zero = None
 first_form thousandths (suc n) = option_or (first_form thousandths n) (form_at thousandths n)
@@ -89,6 +89,7 @@ first_form thousandths (suc n) = option_or (first_form thousandths n) (form_at t
 abbrev pub zero_padded : ℕ → ℕ → List ℕ
 zero_padded places n = replicate (places - length (decimal n)) 48 ++ decimal n
 
+-- the text of a form: with no point where no digit follows it, and no digit before the point where that were a zero
 abbrev pub form_text : Form → List ℕ
 form_text form =
     if form.places == 0 then decimal form.whole ++ scale_suffix form.scale
@@ -106,6 +107,6 @@ abbrev pub text_by_form : Option Form → ℕ → List ℕ
 text_by_form None thousandths = plain_text thousandths
 text_by_form (Some form) thousandths = form_text form
 
--- What is printed of a quantity.
+-- What is printed of a quantity: the form, where there is one.
 abbrev pub quantity_text : ℕ → List ℕ
 quantity_text thousandths = text_by_form (printed_form thousandths) thousandths

@@ -8,7 +8,7 @@ use crate::quantity::scaled;
 use crate::suffix::Factor;
 use std::fmt;
 
-/// The suffixes by which large quantities are printed, the largest first.
+/// The suffixes with which large quantities are printed, in the order in which they are tried.
 #[derive(Clone, Copy)]
 pub(crate) enum Scale {
     Units,

@@ -147,8 +147,8 @@ impl fmt::Display for Quantity {
 
     ghost output = { λ q. Some (quantity_text q) };
 
-    /// The units, as `5`, or the thousandths, as `1500m`, where they are no whole number of units. Where these have
-    /// more than 17 digits, which no text has, the shortest number with a suffix that is the quantity, if there is one.
+    /// The units, as `5`, or the thousandths, as `1500m`, where they are no whole number of units. Where that has more than
+    /// 17 digits, which no text has, a number of at most 17 digits with a suffix, as `3Ei`, if one is exactly the quantity.
     fn fmt<W: fmt::Write>(&self, f: &mut fmt::Formatter<W>) -> fmt::Result {
         let thousandths = self.0;
         if let Some(form) = printed_form(thousandths) {

@@ -243,6 +243,70 @@ fn whole_units_become_quantities(rt: HostRuntime) {
     assert_eq!(rt; Quantity::from_units(u64::MAX).milli(), GREATEST);
 }
 
+/// A text, its value in thousandths of a unit, and what is printed of it.
+type Printed = (&'static [u8], u128, &'static str);
+
+/// Quantities whose thousandths have more than 17 digits.
+const LARGE_QUANTITIES: [Printed; 16] = [
+    (
+        b"12345678901234567",
+        12_345_678_901_234_567_000,
+        "12345678901234567",
+    ),
+    (
+        b"12345678901234567e-2",
+        123_456_789_012_345_670,
+        "123456789012345.67",
+    ),
+    (
+        b"100000000000000.01",
+        100_000_000_000_000_010,
+        "100000000000000.01",
+    ),
+    (
+        b"99999999999999999e1",
+        999_999_999_999_999_990_000,
+        "999999999999999.99k",
+    ),
+    (
+        b"12345678901234567e2",
+        1_234_567_890_123_456_700_000,
+        "1234567890123456.7k",
+    ),
+    (b"1e17", 100_000_000_000_000_000_000, "100P"),
+    (b"1E", 1_000_000_000_000_000_000_000, "1E"),
+    (b"10E", GREATEST, "10E"),
+    (b"8Ei", GREATEST, "10E"),
+    (b"3Ei", 3_458_764_513_820_540_928_000, "3Ei"),
+    (b"123.4Pi", 138_936_048_504_379_801_600, "123.4Pi"),
+    (
+        b"12345.678901234567Ti",
+        13_574_217_504_696_237_899,
+        "12345.678901234567Ti",
+    ),
+    (
+        b"1.2345678901234567Ei",
+        1_423_359_869_420_436_235_031,
+        "1.2345678901234567Ei",
+    ),
+    (
+        b"7.9999999999999999Ei",
+        9_223_372_036_854_775_692_708,
+        "7.9999999999999999Ei",
+    ),
+    // All 17 digits after the point, and zeros among them.
+    (
+        b".12345678901234567Ei",
+        142_335_986_942_043_623_504,
+        ".12345678901234567Ei",
+    ),
+    (
+        b"5.0000000000000001Ei",
+        5_764_607_523_034_234_995_293,
+        "5.0000000000000001Ei",
+    ),
+];
+
 fn printed(alloc: Global, text: &[u8]) -> Result<String, AllocError> {
     match Quantity::parse(text) {
         Ok(quantity) => format!(in alloc; "{quantity}"),
@@ -259,6 +323,29 @@ fn quantities_are_printed_in_units_or_thousandths(rt: HostRuntime) -> Result<(),
     assert_eq!(rt;
         printed(rt.alloc(), b"-1")?.as_str(),
         "the number is negative"
+    );
+    Ok(())
+}
+
+#[test]
+fn large_quantities_are_printed_as_texts_of_theirs(rt: HostRuntime) -> Result<(), Fail> {
+    for (text, thousandths, shown) in LARGE_QUANTITIES {
+        assert_eq!(rt; Quantity::parse(text).map(|q| q.milli()), Ok(thousandths));
+        assert_eq!(rt; printed(rt.alloc(), text)?.as_str(), shown);
+        assert_eq!(rt;
+            Quantity::parse(shown.as_bytes()).map(|q| q.milli()),
+            Ok(thousandths)
+        );
+    }
+    Ok(())
+}
+
+#[test]
+fn quantities_that_no_text_writes_are_printed_in_units(rt: HostRuntime) -> Result<(), Fail> {
+    let many = Quantity::from_units(123_456_789_012_345_678);
+    assert_eq!(rt;
+        format!(in rt.alloc(); "{many}")?.as_str(),
+        "123456789012345678"
     );
     Ok(())
 }
