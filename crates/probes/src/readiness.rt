@@ -53,7 +53,11 @@ impl Readiness {
             is_success(outcome),
             probe.success_threshold(),
         );
-        self.failures = longer(self.failures, is_failure(outcome), probe.failure_threshold());
+        self.failures = longer(
+            self.failures,
+            is_failure(outcome),
+            probe.failure_threshold(),
+        );
         let succeeds = self.successes == probe.success_threshold();
         let fails = self.failures == probe.failure_threshold();
         self.ready = stays_ready(self.ready, succeeds, fails);
