@@ -1,5 +1,7 @@
 -- What the results of an instance make of it: started, ready, to be killed.
-use Rattle.std.specs.Prelude.{◌≡◌, ◌⊎◌, ℕ, suc, ◌<◌, List, [], length, take, drop, Option, Some, None}
+-- (Kubernetes, "Pod Lifecycle", "Types of probe": with a startup probe the others are disabled until it succeeds; where a
+-- startup or liveness probe fails the container is killed; where readiness fails it is not ready.)
+use Rattle.std.specs.Prelude.{◌≡◌, ◌⊎◌, ℕ, suc, List, [], drop, Option, Some, None}
 use Rattle.manifest.specs.Probe.{Probe, Probes, HasNumbersInRange}
 use Rattle.probes.specs.declared.probe_set.Cause.{Cause}
 use Rattle.probes.specs.declared.probe_set.Cause.TheVariants.{Startup, Liveness}

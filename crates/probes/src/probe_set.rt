@@ -10,7 +10,8 @@ use crate::startup::Startup;
 use manifest::ContainerSpec;
 use trace::Outcome;
 
-/// Why an instance is to be killed.
+/// Why an instance is to be killed: which of its probes failed.
+/// (Kubernetes, "Pod Lifecycle", "Types of probe".)
 #[derive(Clone, Copy, Debug, PartialEq, Eq)]
 pub enum Cause {
     Startup,
@@ -28,7 +29,8 @@ pub struct Verdicts {
     pub ready: bool,
 }
 
-/// Follows the probes of one container, one instance after the other.
+/// Follows the probes of one container, one instance after the other. It keeps counters, and no results.
+/// (Kubernetes, "Configure Liveness, Readiness and Startup Probes".)
 #[derive(Clone, Copy, Debug, PartialEq, Eq)]
 pub struct ProbeSet {
     start: Option<u64>,
@@ -51,7 +53,7 @@ impl ProbeSet {
         }
     }
 
-    /// A new instance starts; nothing of the one before is kept.
+    /// A new instance starts at this moment, in seconds; nothing of the one before is kept.
     pub fn begin_instance(&mut self, start: u64)
         ensures begun { HasBegun self.new }
         ensures state { (probes : Probes) → Follows self.old probes → IsStateOf probes start [] self.new }
@@ -62,7 +64,8 @@ impl ProbeSet {
         self.readiness = Readiness::new(self.readiness.probe);
     }
 
-    /// Takes the results of the next tick, in the order startup, liveness, readiness.
+    /// Takes the results of the next tick, at this moment in seconds, in the order startup, liveness, readiness. An
+    /// instance must have begun.
     pub fn take(&mut self, at: u64, results: [Option<Outcome>; 3]) -> Verdicts
         requires { HasBegun self.old }
         ensures begun { HasBegun self.new }

@@ -1,6 +1,6 @@
 -- What is found place by place in a list of results.
-use Rattle.std.proofs.Common.{◌≡◌, ℕ, ◌+◌, ◌-◌, ◌<◌, ◌≤◌, Bool, true, false, List, length, Some, inl, inr, refl, subst, arith}
-use Rattle.std.specs.Prelude.{◌↔◌, IsTrue, not, slice_get}
+use Rattle.std.proofs.Common.{◌≡◌, ℕ, ◌+◌, ◌-◌, ◌<◌, ◌≤◌, Bool, true, false, List, length, inl, inr, refl, subst, arith}
+use Rattle.std.specs.Prelude.{◌↔◌, IsTrue, not}
 use Rattle.std.proofs.lemmas.Bool.{cases_lt}
 use Rattle.std.proofs.lemmas.Option.{slice_get_within}
 use Rattle.trace.specs.declared.outcome.Outcome.{Outcome}

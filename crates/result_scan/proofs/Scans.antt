@@ -1,12 +1,12 @@
 -- What a scan of the ticks finds, as the definitions say it.
-use Rattle.std.proofs.Common.{◌≡◌, ℕ, suc, ◌+◌, ◌-◌, ◌<◌, ◌≤◌, Bool, List, [], ◌∷◌, length, map, take, drop, Option, Some, None, Result, Ok, Err, inl, inr, refl, ap, subst, sym, ◌∙◌, arith}
+use Rattle.std.proofs.Common.{◌≡◌, ℕ, suc, ◌+◌, ◌-◌, ◌<◌, Bool, List, [], ◌∷◌, length, take, drop, Option, Some, Result, Ok, Err, inl, inr, refl, ap, subst, sym, ◌∙◌, arith}
 use Rattle.std.specs.Prelude.{◌↔◌, IsTrue, IfOk}
 use Rattle.std.specs.List.{filter_map, cons_option}
 use Rattle.std.proofs.lemmas.List.{take-map, drop-map, length-map, drop_all}
 use Rattle.trace.specs.declared.outcome.Outcome.{Outcome}
 use Rattle.trace.specs.declared.outcome.ProbeKind.TheVariants as kinds
 use Rattle.manifest.specs.Probe.{Probe}
-use Rattle.histories.specs.Histories.{Recorded, IsFirst, IsFirstPlace, IsSo}
+use Rattle.histories.specs.Histories.{IsFirst, IsSo}
 use Rattle.histories.proofs.Growth.{so_last}
 use Rattle.probes.specs.Ticks.{Tick, startup_results, liveness_results, readiness_results, belonging, HasPassed}
 use Rattle.probes.specs.Container.{AreCounted}

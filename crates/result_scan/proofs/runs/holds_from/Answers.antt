@@ -1,4 +1,3 @@
-use Rattle.trace.specs.declared.outcome.Outcome.TheVariants.{Success}
 use Rattle.result_scan.proofs.Places as places
 use Rattle.result_scan.proofs.runs.holds_from.Goals as goal
 

@@ -1,4 +1,4 @@
-use Rattle.std.proofs.Common.{◌+◌, ◌<◌, length, arith}
+use Rattle.std.proofs.Common.{◌<◌, length, arith}
 use Rattle.std.proofs.lemmas.Bool.{iff_false}
 use Rattle.result_scan.specs.Scans.{PassesAt}
 use Rattle.result_scan.proofs.Places as places
