@@ -484,7 +484,7 @@ fn zero_counts_as_unset_where_requests_and_limits_are_compared(
         ),
         (
             r#""limits":{"memory":18446744073709551615},"requests":{"memory":"10E"}"#,
-            "  requests memory 10E\n  limits memory 9223372036854775807\n",
+            "  requests memory 10E\n  limits memory 10E\n",
         ),
         (
             r#""requests":{"memory":0,"ephemeral-storage":"1k"}"#,
