@@ -88,34 +88,40 @@ fn readiness(rt: &impl Abort, set: &mut ProbeSet, at: u64, outcome: Outcome, wan
     take(rt, set, at, [None, None, Some(outcome)], wanted);
 }
 
+// Each test hands on to a function over any runtime that can abort: the kit does not prove a set of probes held beside
+// the whole runtime.
+
 const TWO_UNTIL_THREE: &str = r#""readinessProbe":{"successThreshold":2,"failureThreshold":3}"#;
+
+fn expect_two_successes_until_three_failures(rt: &impl Abort, alloc: Global) -> Result<(), Fail> {
+    let mut set = begun(rt, alloc, TWO_UNTIL_THREE, 0)?;
+    readiness(rt, &mut set, 0, Success, NOTHING);
+    readiness(rt, &mut set, 1, Success, READY);
+    readiness(rt, &mut set, 2, Failure, READY);
+    readiness(rt, &mut set, 3, Failure, READY);
+    readiness(rt, &mut set, 4, Success, READY);
+    readiness(rt, &mut set, 5, Failure, READY);
+    readiness(rt, &mut set, 6, Failure, READY);
+    readiness(rt, &mut set, 7, Failure, NOTHING);
+    assert!(rt; set.started() && !set.kill_ordered());
+    Ok(())
+}
 
 #[test]
 fn ready_after_two_successes_until_three_failures(rt: HostRuntime) -> Result<(), Fail> {
-    let mut set = begun(&rt, rt.alloc(), TWO_UNTIL_THREE, 0)?;
-    readiness(&rt, &mut set, 0, Success, NOTHING);
-    readiness(&rt, &mut set, 1, Success, READY);
-    readiness(&rt, &mut set, 2, Failure, READY);
-    readiness(&rt, &mut set, 3, Failure, READY);
-    readiness(&rt, &mut set, 4, Success, READY);
-    readiness(&rt, &mut set, 5, Failure, READY);
-    readiness(&rt, &mut set, 6, Failure, READY);
-    readiness(&rt, &mut set, 7, Failure, NOTHING);
-    assert!(rt; set.started() && !set.kill_ordered());
-    Ok(())
+    expect_two_successes_until_three_failures(&rt, rt.alloc())
 }
 
 const STARTUP_THREE_LIVENESS_ONE: &str =
     r#""startupProbe":{"failureThreshold":3},"livenessProbe":{"failureThreshold":1}"#;
 
-#[test]
-fn liveness_counts_after_the_tick_in_which_startup_passed(rt: HostRuntime) -> Result<(), Fail> {
-    let mut set = begun(&rt, rt.alloc(), STARTUP_THREE_LIVENESS_ONE, 0)?;
-    startup(&rt, &mut set, 0, Failure, NOTHING);
-    startup(&rt, &mut set, 1, Failure, NOTHING);
+fn expect_liveness_after_startup(rt: &impl Abort, alloc: Global) -> Result<(), Fail> {
+    let mut set = begun(rt, alloc, STARTUP_THREE_LIVENESS_ONE, 0)?;
+    startup(rt, &mut set, 0, Failure, NOTHING);
+    startup(rt, &mut set, 1, Failure, NOTHING);
     assert!(rt; !set.started());
     take(
-        &rt,
+        rt,
         &mut set,
         2,
         [Some(Success), Some(Failure), None],
@@ -126,99 +132,128 @@ fn liveness_counts_after_the_tick_in_which_startup_passed(rt: HostRuntime) -> Re
         kill: Some(Cause::Liveness),
         ..READY
     };
-    liveness(&rt, &mut set, 3, Failure, killed);
+    liveness(rt, &mut set, 3, Failure, killed);
     assert!(rt; set.kill_ordered());
-    liveness(&rt, &mut set, 4, Failure, READY);
-    liveness(&rt, &mut set, 5, Success, READY);
+    liveness(rt, &mut set, 4, Failure, READY);
+    liveness(rt, &mut set, 5, Success, READY);
     assert!(rt; set.kill_ordered());
+    Ok(())
+}
+
+#[test]
+fn liveness_counts_after_the_tick_in_which_startup_passed(rt: HostRuntime) -> Result<(), Fail> {
+    expect_liveness_after_startup(&rt, rt.alloc())
+}
+
+fn expect_run_over_unknown(rt: &impl Abort, alloc: Global) -> Result<(), Fail> {
+    let fields = r#""livenessProbe":{"failureThreshold":2}"#;
+    let mut set = begun(rt, alloc, fields, 0)?;
+    liveness(rt, &mut set, 0, Failure, READY);
+    liveness(rt, &mut set, 10, Unknown, READY);
+    let killed = Verdicts {
+        kill: Some(Cause::Liveness),
+        ..READY
+    };
+    liveness(rt, &mut set, 20, Failure, killed);
     Ok(())
 }
 
 #[test]
 fn unknown_result_neither_extends_nor_ends_a_run(rt: HostRuntime) -> Result<(), Fail> {
-    let fields = r#""livenessProbe":{"failureThreshold":2}"#;
-    let mut set = begun(&rt, rt.alloc(), fields, 0)?;
-    liveness(&rt, &mut set, 0, Failure, READY);
-    liveness(&rt, &mut set, 10, Unknown, READY);
-    let killed = Verdicts {
-        kill: Some(Cause::Liveness),
-        ..READY
-    };
-    liveness(&rt, &mut set, 20, Failure, killed);
-    Ok(())
+    expect_run_over_unknown(&rt, rt.alloc())
 }
 
 const STARTUP_TWO: &str = r#""startupProbe":{"failureThreshold":2}"#;
 
-#[test]
-fn startup_fails_once_its_first_results_failed(rt: HostRuntime) -> Result<(), Fail> {
-    let mut set = begun(&rt, rt.alloc(), STARTUP_TWO, 0)?;
-    startup(&rt, &mut set, 0, Failure, NOTHING);
+fn expect_failed_startup(rt: &impl Abort, alloc: Global) -> Result<(), Fail> {
+    let mut set = begun(rt, alloc, STARTUP_TWO, 0)?;
+    startup(rt, &mut set, 0, Failure, NOTHING);
     let killed = Verdicts {
         kill: Some(Cause::Startup),
         ..NOTHING
     };
-    startup(&rt, &mut set, 10, Failure, killed);
-    startup(&rt, &mut set, 20, Success, NOTHING);
+    startup(rt, &mut set, 10, Failure, killed);
+    startup(rt, &mut set, 20, Success, NOTHING);
     assert!(rt; set.kill_ordered() && !set.started());
     Ok(())
 }
 
 #[test]
-fn startup_passes_over_an_unknown_result(rt: HostRuntime) -> Result<(), Fail> {
-    let mut set = begun(&rt, rt.alloc(), STARTUP_TWO, 0)?;
-    startup(&rt, &mut set, 0, Failure, NOTHING);
-    startup(&rt, &mut set, 10, Unknown, NOTHING);
-    startup(&rt, &mut set, 20, Success, PASSED);
-    startup(&rt, &mut set, 30, Success, READY);
+fn startup_fails_once_its_first_results_failed(rt: HostRuntime) -> Result<(), Fail> {
+    expect_failed_startup(&rt, rt.alloc())
+}
+
+fn expect_startup_over_unknown(rt: &impl Abort, alloc: Global) -> Result<(), Fail> {
+    let mut set = begun(rt, alloc, STARTUP_TWO, 0)?;
+    startup(rt, &mut set, 0, Failure, NOTHING);
+    startup(rt, &mut set, 10, Unknown, NOTHING);
+    startup(rt, &mut set, 20, Success, PASSED);
+    startup(rt, &mut set, 30, Success, READY);
     Ok(())
 }
 
 #[test]
-fn result_counts_from_the_initial_delay_on(rt: HostRuntime) -> Result<(), Fail> {
+fn startup_passes_over_an_unknown_result(rt: HostRuntime) -> Result<(), Fail> {
+    expect_startup_over_unknown(&rt, rt.alloc())
+}
+
+fn expect_initial_delay(rt: &impl Abort, alloc: Global) -> Result<(), Fail> {
     let fields = r#""livenessProbe":{"initialDelaySeconds":10,"failureThreshold":1}"#;
-    let mut set = begun(&rt, rt.alloc(), fields, 1000)?;
-    liveness(&rt, &mut set, 1009, Failure, READY);
+    let mut set = begun(rt, alloc, fields, 1000)?;
+    liveness(rt, &mut set, 1009, Failure, READY);
     assert!(rt; !set.kill_ordered());
     let killed = Verdicts {
         kill: Some(Cause::Liveness),
         ..READY
     };
-    liveness(&rt, &mut set, 1010, Failure, killed);
+    liveness(rt, &mut set, 1010, Failure, killed);
     Ok(())
 }
 
 #[test]
-fn nothing_holds_before_the_first_instance(rt: HostRuntime) -> Result<(), Fail> {
+fn result_counts_from_the_initial_delay_on(rt: HostRuntime) -> Result<(), Fail> {
+    expect_initial_delay(&rt, rt.alloc())
+}
+
+fn expect_nothing_before_the_first_instance(rt: &impl Abort, alloc: Global) -> Result<(), Fail> {
     for fields in [r#""image":"i""#, STARTUP_TWO, TWO_UNTIL_THREE] {
-        let (_, set) = read(&rt, rt.alloc(), fields)?;
+        let (_, set) = read(rt, alloc, fields)?;
         assert!(rt;
             !set.started() && !set.ready() && !set.kill_ordered(),
             "{fields}"
         );
     }
-    let (_, mut set) = read(&rt, rt.alloc(), r#""image":"i""#)?;
+    let (_, mut set) = read(rt, alloc, r#""image":"i""#)?;
     set.begin_instance(5);
     assert!(rt; set.started() && set.ready() && !set.kill_ordered());
     Ok(())
 }
 
 #[test]
-fn new_instance_begins_with_no_results(rt: HostRuntime) -> Result<(), Fail> {
-    let mut set = begun(&rt, rt.alloc(), STARTUP_THREE_LIVENESS_ONE, 0)?;
-    startup(&rt, &mut set, 0, Success, PASSED);
+fn nothing_holds_before_the_first_instance(rt: HostRuntime) -> Result<(), Fail> {
+    expect_nothing_before_the_first_instance(&rt, rt.alloc())
+}
+
+fn expect_new_instance(rt: &impl Abort, alloc: Global) -> Result<(), Fail> {
+    let mut set = begun(rt, alloc, STARTUP_THREE_LIVENESS_ONE, 0)?;
+    startup(rt, &mut set, 0, Success, PASSED);
     let killed = Verdicts {
         kill: Some(Cause::Liveness),
         ..READY
     };
-    liveness(&rt, &mut set, 1, Failure, killed);
+    liveness(rt, &mut set, 1, Failure, killed);
     set.begin_instance(20);
     assert!(rt; !set.started() && !set.ready() && !set.kill_ordered());
-    startup(&rt, &mut set, 20, Failure, NOTHING);
-    startup(&rt, &mut set, 21, Failure, NOTHING);
-    startup(&rt, &mut set, 22, Success, PASSED);
-    liveness(&rt, &mut set, 23, Success, READY);
+    startup(rt, &mut set, 20, Failure, NOTHING);
+    startup(rt, &mut set, 21, Failure, NOTHING);
+    startup(rt, &mut set, 22, Success, PASSED);
+    liveness(rt, &mut set, 23, Success, READY);
     Ok(())
+}
+
+#[test]
+fn new_instance_begins_with_no_results(rt: HostRuntime) -> Result<(), Fail> {
+    expect_new_instance(&rt, rt.alloc())
 }
 
 /// The next of a fixed sequence of pseudo-random numbers below 2^31.
@@ -305,14 +340,18 @@ const CONTAINERS: [&str; 5] = [
     r#""livenessProbe":{"initialDelaySeconds":20,"failureThreshold":5}"#,
 ];
 
-#[test]
-fn counters_agree_with_a_scan_of_all_results(rt: HostRuntime) -> Result<(), Fail> {
+fn expect_agreement(rt: &impl Abort, alloc: Global) -> Result<(), Fail> {
     let mut random = 20_261_122;
     for fields in CONTAINERS {
-        let (probes, mut set) = read(&rt, rt.alloc(), fields)?;
+        let (probes, mut set) = read(rt, alloc, fields)?;
         for _ in 0..40 {
-            follow_instance(&rt, rt.alloc(), probes, &mut set, &mut random)?;
+            follow_instance(rt, alloc, probes, &mut set, &mut random)?;
         }
     }
     Ok(())
+}
+
+#[test]
+fn counters_agree_with_a_scan_of_all_results(rt: HostRuntime) -> Result<(), Fail> {
+    expect_agreement(&rt, rt.alloc())
 }
