@@ -15,6 +15,8 @@ use Rattle.manifest.specs.declared.pod.Role.TheVariants.{Init, App}
 use Rattle.manifest.specs.declared.pod.ContainerSpec.{ContainerSpec}
 use Rattle.manifest.specs.declared.pod.PodSpec.{PodSpec}
 use Rattle.manifest.specs.declared.reading.Metadata.{Metadata}
+use Rattle.manifest.specs.declared.reading.Settings.{Settings}
+use Rattle.manifest.specs.declared.reading.Spec.{Spec}
 use Rattle.manifest.specs.Names.{is_name, is_label}
 use Rattle.manifest.specs.Fields.{object_of, array_of, array_or_none, some_items, required_text, text_or, absent}
 use Rattle.manifest.specs.ProbeFields.{probes_of}
@@ -82,11 +84,16 @@ containers_of init_items items = do
   names_apart ← apart (init ++ apps)
   Ok (init ++ apps)
 
+-- an array of at least one app container
+unfoldable pub app_items_of : Option Data → Result (List Data) ManifestFault
+app_items_of found = do
+  listed ← array_of fields.Containers found
+  some_items fields.Containers listed
+
 unfoldable pub containers_in : Data → Result (List ContainerSpec) ManifestFault
 containers_in spec = do
   init_items ← array_or_none fields.InitContainers (field_at (codes "initContainers") spec)
-  listed ← array_of fields.Containers (field_at (codes "containers") spec)
-  items ← some_items fields.Containers listed
+  items ← app_items_of (field_at (codes "containers") spec)
   containers_of init_items items
 
 -- a pod's name, and the namespace that it is in
@@ -97,13 +104,31 @@ metadata_of found = do
   namespace ← text_or (codes "default") is_label fields.Namespace (field_at (codes "namespace") metadata)
   Ok (record { name = name; namespace = namespace })
 
+-- what a pod's spec says of the pod as a whole
+unfoldable pub settings_in : Data → Result Settings ManifestFault
+settings_in spec = do
+  policy ← policy_of (field_at (codes "restartPolicy") spec)
+  priority ← priority_of (field_at (codes "priority") spec)
+  grace_period ← grace_period_of (field_at (codes "terminationGracePeriodSeconds") spec)
+  Ok (record { policy = policy; priority = priority; grace_period_seconds = grace_period })
+
+unfoldable pub spec_of : Option Data → Result Spec ManifestFault
+spec_of found = do
+  spec ← object_of fields.Spec found
+  settings ← settings_in spec
+  containers ← containers_in spec
+  Ok (record { settings = settings; containers = containers })
+
 unfoldable pub pod_at : Data → Result PodSpec ManifestFault
 pod_at d = do
   pod ← object_of fields.Pod (Some d)
   metadata ← metadata_of (field_at (codes "metadata") pod)
-  spec ← object_of fields.Spec (field_at (codes "spec") pod)
-  policy ← policy_of (field_at (codes "restartPolicy") spec)
-  priority ← priority_of (field_at (codes "priority") spec)
-  grace_period ← grace_period_of (field_at (codes "terminationGracePeriodSeconds") spec)
-  containers ← containers_in spec
-  Ok (record { name = metadata.name; namespace = metadata.namespace; policy = policy; priority = priority; grace_period_seconds = grace_period; containers = containers })
+  spec ← spec_of (field_at (codes "spec") pod)
+  Ok (record {
+    name = metadata.name;
+    namespace = metadata.namespace;
+    policy = spec.settings.policy;
+    priority = spec.settings.priority;
+    grace_period_seconds = spec.settings.grace_period_seconds;
+    containers = spec.containers;
+  })

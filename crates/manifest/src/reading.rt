@@ -6,7 +6,7 @@ ghost use Rattle.serde_json.specs.View.{view};
 ghost use Rattle.json_fields.specs.Reading.{each};
 ghost use Rattle.manifest.specs.Gives.{Gives};
 ghost use Rattle.manifest.specs.Containers.{has_twice, IsOf, AllOf};
-ghost use Rattle.manifest.specs.Manifest.{policy_of, priority_of, grace_period_of, place_of, container_of, few, apart, containers_of, containers_in, metadata_of, pod_at};
+ghost use Rattle.manifest.specs.Manifest.{policy_of, priority_of, grace_period_of, place_of, container_of, few, apart, containers_of, app_items_of, containers_in, metadata_of, settings_in, spec_of, pod_at};
 
 use crate::fault::{Field, ManifestFault};
 use crate::fields::{
@@ -180,13 +180,22 @@ fn containers_of(
     Ok(ContainerList::new(alloc, all)?)
 }
 
+/// The items of an array of app containers, of which there is at least one.
+#[tactic(auto, unfolding(crate::specs::Manifest::app_items_of))]
+fn app_items_of(found: Option<&Value>) -> Result<&[Value], ManifestFault>
+    ensures gives { Gives (λ v. map view v.now) result (app_items_of (option_map (λ v. view v.now) found.entry)) }
+    ensures some { IfOk result (λ v. 0 < length v.now) }
+{
+    let listed = array(Field::Containers, found)?;
+    some_items(Field::Containers, listed)
+}
+
 #[tactic(auto, unfolding(crate::specs::Manifest::containers_in))]
 fn containers_in(alloc: Global, spec: &Value) -> Result<ContainerList, ManifestFault>
     ensures { Gives (λ cs. cs) result (containers_in (view spec.now)) }
 {
     let init_items = array_or_none(Field::InitContainers, field(spec, "initContainers"))?;
-    let listed = array(Field::Containers, field(spec, "containers"))?;
-    let items = some_items(Field::Containers, listed)?;
+    let items = app_items_of(field(spec, "containers"))?;
     containers_of(alloc, init_items, items)
 }
 
@@ -213,6 +222,48 @@ fn metadata_of(alloc: Global, found: Option<&Value>) -> Result<Metadata, Manifes
     Ok(Metadata { name, namespace })
 }
 
+/// What a pod's `spec` says of the pod as a whole.
+#[derive(Clone, Copy)]
+struct Settings {
+    policy: Policy,
+    priority: i32,
+    grace_period_seconds: GracePeriod,
+}
+
+#[tactic(auto, unfolding(crate::specs::Manifest::settings_in))]
+fn settings_in(spec: &Value) -> Result<Settings, ManifestFault>
+    ensures { Gives (λ s. s) result (settings_in (view spec.now)) }
+{
+    let policy = policy_of(field(spec, "restartPolicy"))?;
+    let priority = priority_of(field(spec, "priority"))?;
+    let grace_period_seconds = grace_period_of(field(spec, "terminationGracePeriodSeconds"))?;
+    Ok(Settings {
+        policy,
+        priority,
+        grace_period_seconds,
+    })
+}
+
+/// What is read of a pod's `spec`.
+#[derive(Drop)]
+struct Spec {
+    settings: Settings,
+    containers: ContainerList,
+}
+
+#[tactic(auto, unfolding(crate::specs::Manifest::spec_of))]
+fn spec_of(alloc: Global, found: Option<&Value>) -> Result<Spec, ManifestFault>
+    ensures { Gives (λ s. s) result (spec_of (option_map (λ v. view v.now) found.entry)) }
+{
+    let spec = object(Field::Spec, found)?;
+    let settings = settings_in(spec)?;
+    let containers = containers_in(alloc, spec)?;
+    Ok(Spec {
+        settings,
+        containers,
+    })
+}
+
 impl PodSpec {
     /// The pod that a manifest describes, or the manifest's first fault in the order of its fields
     /// (`metadata`, its `name` and `namespace`, `spec`, its `restartPolicy`, `priority`, `terminationGracePeriodSeconds`,
@@ -223,18 +274,15 @@ impl PodSpec {
     {
         let pod = object(Field::Pod, Some(value))?;
         let metadata = metadata_of(alloc, field(pod, "metadata"))?;
-        let spec = object(Field::Spec, field(pod, "spec"))?;
-        let policy = policy_of(field(spec, "restartPolicy"))?;
-        let priority = priority_of(field(spec, "priority"))?;
-        let grace_period_seconds = grace_period_of(field(spec, "terminationGracePeriodSeconds"))?;
-        let containers = containers_in(alloc, spec)?;
+        let spec = spec_of(alloc, field(pod, "spec"))?;
+        let settings = spec.settings;
         Ok(PodSpec {
             name: metadata.name,
             namespace: metadata.namespace,
-            policy,
-            priority,
-            grace_period_seconds,
-            containers,
+            policy: settings.policy,
+            priority: settings.priority,
+            grace_period_seconds: settings.grace_period_seconds,
+            containers: spec.containers,
         })
     }
 }
