@@ -21,7 +21,7 @@ use Rattle.manifest.specs.Probe.{no_probes}
 use Rattle.manifest.specs.ProbeFields.{not_from_0, number_from, number_of, probe_in, probe_of, app_probes, init_probes, probes_of}
 use Rattle.manifest.specs.Resources.{nothing, no_resources, some_above}
 use Rattle.manifest.specs.ResourceFields.{quantity_read, quantity_numbered, quantity_from, quantity_at, amounts_in, amounts_of, within, resources_in, resources_of}
-use Rattle.manifest.specs.Manifest.{policy_from, policy_of, priority_from, priority_of, grace_period_from, grace_period_of, place_of, container_of, few, containers_of, containers_in, metadata_of, pod_at}
+use Rattle.manifest.specs.Manifest.{policy_from, policy_of, priority_from, priority_of, grace_period_from, grace_period_of, place_of, container_of, few, containers_of, app_items_of, containers_in, metadata_of, settings_in, spec_of, pod_at}
 use Rattle.manifest.specs.Containers.{has_twice}
 use Rattle.trace.specs.Pod.{has_init_containers, has_probe, refusal_of, unless, replayed, pod_of}
 use Rattle.trace.proofs.LawLemmas.Only.{Only, only_ok, only_err, only_bind, only_if, only_refused, only_each}
@@ -210,13 +210,16 @@ containers_only init_items items =
     only_bind P _ _ (only_each P (container_of App) (container_only App) items) (λ apps.
     only_bind P _ _ (only_refused P (has_twice (init ++ apps)) DuplicateContainer (λ is. absurd (cc))) (λ apart. only_ok P (init ++ apps)))))
 
+app_items_only : (found : Option Data) → Only IsFound (app_items_of found)
+unfolding app_items_of
+app_items_only found = only_bind IsFound _ _ (array_only fields.Containers found) (λ listed. some_items_only fields.Containers listed)
+
 containers_in_only : (spec : Data) → Only IsFound (containers_in spec)
 unfolding containers_in
 containers_in_only spec =
     let P = IsFound in
     only_bind P _ _ (array_or_none_only fields.InitContainers (field_at (codes "initContainers") spec)) (λ init_items.
-    only_bind P _ _ (array_only fields.Containers (field_at (codes "containers") spec)) (λ listed.
-    only_bind P _ _ (some_items_only fields.Containers listed) (λ items. containers_only init_items items)))
+    only_bind P _ _ (app_items_only (field_at (codes "containers") spec)) (λ items. containers_only init_items items))
 
 metadata_only : (found : Option Data) → Only IsFound (metadata_of found)
 unfolding metadata_of
@@ -226,17 +229,29 @@ metadata_only found =
     only_bind P _ _ (required_only is_name fields.Name (field_at (codes "name") metadata)) (λ name.
     only_bind P _ _ (text_or_only (codes "default") is_label fields.Namespace (field_at (codes "namespace") metadata)) (λ namespace. only_ok P _)))
 
+settings_only : (spec : Data) → Only IsFound (settings_in spec)
+unfolding settings_in
+settings_only spec =
+    let P = IsFound in
+    only_bind P _ _ (policy_only (field_at (codes "restartPolicy") spec)) (λ policy.
+    only_bind P _ _ (priority_only (field_at (codes "priority") spec)) (λ priority.
+    only_bind P _ _ (grace_period_only (field_at (codes "terminationGracePeriodSeconds") spec)) (λ grace. only_ok P _)))
+
+spec_only : (found : Option Data) → Only IsFound (spec_of found)
+unfolding spec_of
+spec_only found =
+    let P = IsFound in
+    only_bind P _ _ (object_only fields.Spec found) (λ spec.
+    only_bind P _ _ (settings_only spec) (λ settings.
+    only_bind P _ _ (containers_in_only spec) (λ containers. only_ok P _)))
+
 pod_at_only : (d : Data) → Only IsFound (pod_at d)
 unfolding pod_at
 pod_at_only d =
     let P = IsFound in
     only_bind P _ _ (object_only fields.Pod (Some d)) (λ pod.
     only_bind P _ _ (metadata_only (field_at (codes "metadata") pod)) (λ metadata.
-    only_bind P _ _ (object_only fields.Spec (field_at (codes "spec") pod)) (λ spec.
-    only_bind P _ _ (policy_only (field_at (codes "restartPolicy") spec)) (λ policy.
-    only_bind P _ _ (priority_only (field_at (codes "priority") spec)) (λ priority.
-    only_bind P _ _ (grace_period_only (field_at (codes "terminationGracePeriodSeconds") spec)) (λ grace.
-    only_bind P _ _ (containers_in_only spec) (λ containers. only_ok P _)))))))
+    only_bind P _ _ (spec_only (field_at (codes "spec") pod)) (λ spec. only_ok P _)))
 
 -- a pod that is not replayed yet
 refusal_found : (pod : PodSpec) (fault : ManifestFault) → refusal_of pod ≡ Some fault → IsFound fault
