@@ -1,4 +1,4 @@
--- The containers of a pod.
+-- The containers of a pod (Kubernetes, "Init Containers").
 use Rattle.std.specs.Prelude.{◌≡◌, ℕ, ◌<◌, ◌≤◌, ◌||◌, Bool, true, false, List, [], ◌∷◌, ◌++◌, All, length, map, bytes_eq}
 use Rattle.std.specs.List.{list_any}
 use Rattle.manifest.specs.declared.pod.Role.{Role}

@@ -1,3 +1,4 @@
+-- The two kinds of name that a field may ask for.
 use Rattle.std.specs.Prelude.{ℕ, List, Bool}
 use Rattle.manifest.specs.Names.{is_name, is_label}
 use Rattle.manifest.specs.declared.fields.Grammar.{Grammar}

@@ -1,4 +1,5 @@
--- What a manifest says of a pod, or its first fault: one line for each field, in the order in which they are read.
+-- What a manifest says of a pod, or its first fault: one line for each field, in the order in which they are read
+-- (Kubernetes API, `Pod`; "Pod Lifecycle", "Container restart policy"; "Pod Priority and Preemption").
 use Rattle.std.specs.Prelude.{ℕ, ℤ, pos, negsuc, int_le, ⊤, ◌^◌, ◌+◌, ◌&&◌, List, ◌++◌, length, nat_lt, Option, Some, None, option_and_then, if◌then◌else◌, Result, Ok, Err, bytes_eq, codes}
 use Rattle.serde_json.specs.Data.{Data}
 use Rattle.serde_json.specs.Find.{as_str, as_number, as_i64, as_u64}

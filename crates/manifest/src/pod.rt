@@ -122,7 +122,9 @@ pub struct PodSpec {
     pub namespace: Text,
     /// `spec.restartPolicy`; `Always` where none is written.
     pub policy: Policy,
-    /// `spec.priority`, 0 where none is written: of two pods the one of lower priority is evicted first.
+    /// `spec.priority`, 0 where none is written. Under memory or disk pressure, of pods alike in whether they use more than
+    /// they request, one of lower priority is evicted first. (Kubernetes, "Node-pressure Eviction", "Pod selection for
+    /// kubelet eviction".)
     pub priority: i32,
     /// `spec.terminationGracePeriodSeconds`, in seconds; 30 where none is written.
     pub grace_period_seconds: GracePeriod,

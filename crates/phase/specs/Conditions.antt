@@ -1,4 +1,5 @@
--- A condition's value, and the moment of its last transition, after a list of values.
+-- A condition's value, and the moment of its last transition, after a list of values (Kubernetes, "Pod Lifecycle", "Pod conditions":
+-- `lastTransitionTime`).
 use Rattle.std.specs.Prelude.{◌≡◌, List, [], ◌∷◌, Bool, not, true, false, IsSomeAnd, IsTrue}
 use Rattle.histories.specs.Histories.{Recorded, entry_at, project, IsTransition}
 use Rattle.phase.specs.declared.conditions.Condition.{Condition}

@@ -1,4 +1,5 @@
--- What a status shows of one container.
+-- What a status shows of one container (Kubernetes, "Pod Lifecycle", "Container states"; restarts by the greatest attempt are this
+-- profile's rule).
 use Rattle.std.specs.Prelude.{◌≡◌, ◌⊎◌, ◌↔◌, ◌≤◌, ℕ, ℤ, List, Option, Some, None, IsTrue}
 use Rattle.state_diff.specs.declared.seen.Seen.{Seen}
 use Rattle.state_diff.specs.declared.seen.CriState.{CriState}

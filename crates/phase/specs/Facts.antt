@@ -1,4 +1,5 @@
--- What the rules ask of one container. C is what describes it: a view, or the listings of all its instances.
+-- What the rules ask of one container (Kubernetes, "Pod Lifecycle", "Pod phase" and "Container restart policy"). C is what describes it: a
+-- view, or the listings of all its instances.
 use Rattle.std.specs.Prelude.{◌≡◌, ◌≢◌, ℕ, ℤ, pos, List, Option, Some, IsSomeAnd, IsTrue, option_and_then}
 use Rattle.state_diff.specs.declared.seen.CriState.TheVariants.{Running}
 use Rattle.state_diff.specs.Instances.{Tick, IsNewest, IsState, IsExitCode, IsSetUp}

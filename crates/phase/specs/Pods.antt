@@ -1,4 +1,5 @@
--- The phase and the conditions of a pod after a list of ticks. A tick is named by its place in the list.
+-- The phase and the conditions of a pod after a list of ticks (Kubernetes, "Pod Lifecycle", "Pod phase" and "Pod conditions"; that what is
+-- recorded after the end of a pod changes nothing is this profile's rule). A tick is named by its place in the list.
 use Rattle.std.specs.Prelude.{◌≡◌, ◌≢◌, ◌⊎◌, ◌↔◌, ℕ, suc, ◌-◌, ◌<◌, List, [], length, map, All, Option, Some, None, IsSomeAnd, IsTrue, slice_get, slice_index_or}
 use Rattle.std.specs.List.{range_with_len}
 use Rattle.histories.specs.Histories.{Recorded, project, up_to, IsSo, IsFirstPlace}

@@ -1,4 +1,5 @@
--- The phase of a pod by the present state of its containers alone.
+-- The phase of a pod by the present state of its containers alone (Kubernetes, "Pod Lifecycle", "Pod phase"; the order of the cases is
+-- this profile's).
 use Rattle.std.specs.Prelude.{◌≡◌, ◌⊎◌, List, All, Any}
 use Rattle.manifest.specs.declared.policy.Policy.{Policy}
 use Rattle.manifest.specs.declared.policy.Policy.TheVariants.{Never}

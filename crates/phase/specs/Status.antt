@@ -1,3 +1,5 @@
+-- A pod's status after a list of ticks: its phase and its conditions with their moments (Kubernetes, "Pod Lifecycle", "Pod phase" and "Pod
+-- conditions").
 use Rattle.std.specs.Prelude.{◌≡◌, ◌↔◌, ℕ, ◌<◌, List, [], ◌∷◌, ◌++◌, length, Option, Some, Bool, true, IsSomeAnd, IsTrue, nat_lt}
 use Rattle.histories.specs.Histories.{Recorded, recorded, project, entry_at, moment_at, IsSo, IsTransition}
 use Rattle.phase.specs.declared.conditions.Condition.{Condition}

@@ -65,7 +65,8 @@ fn is_up(pod: PodShape, container: usize, view: &ContainerView, is_evicted: bool
 }
 
 /// What a pod's status shows of its container at the place, as the ticks that count leave it, which are those up to the
-/// end of the pod. `is_evicted` says whether the pod has ended by its eviction.
+/// end of the pod. `is_evicted` says whether the pod has ended by its eviction. (Kubernetes, "Pod Lifecycle", "Container
+/// states".)
 pub fn container_status(
     pod: PodShape,
     container: usize,

@@ -93,13 +93,13 @@ fn have_failed(policy: Policy, apps: &[ContainerView]) -> bool
     all_finished(policy, apps) && any_failed(apps)
 }
 
-/// The phase of a pod with these containers, the first `n_init` of which are init containers, by the present alone: a
-/// pod that has ended keeps its phase, which `PodStatus` knows.
-pub fn raw_phase(policy: Policy, containers: &[ContainerView], n_init: usize) -> Phase
-    requires { n_init ≤ length containers.now }
-    ensures { IsRawPhase of_view policy (take n_init containers.now) (drop n_init containers.now) result }
+/// The phase of a pod with these containers, the first `init_count` of which are init containers, by the present alone: a
+/// pod that has ended keeps its phase, which `PodStatus` knows. (Kubernetes, "Pod Lifecycle", "Pod phase".)
+pub fn raw_phase(policy: Policy, containers: &[ContainerView], init_count: usize) -> Phase
+    requires { init_count ≤ length containers.now }
+    ensures { IsRawPhase of_view policy (take init_count containers.now) (drop init_count containers.now) result }
 {
-    let (inits, apps) = containers.split_at(n_init);
+    let (inits, apps) = containers.split_at(init_count);
     if init_has_failed(policy, inits) {
         Phase::Failed
     } else if is_starting(inits, apps) {

@@ -11,7 +11,7 @@ use crate::pod::PodShape;
 use crate::view::ContainerView;
 
 /// A pod's phase and conditions, from tick to tick. A pod that has succeeded, failed or been evicted has ended: from then
-/// on it keeps its phase, whatever its containers do.
+/// on it keeps its phase, whatever its containers do. (Kubernetes, "Pod Lifecycle", "Pod phase" and "Pod conditions".)
 #[derive(Clone, Copy, Debug, PartialEq, Eq)]
 pub struct PodStatus {
     /// The phase.

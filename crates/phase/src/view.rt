@@ -9,7 +9,7 @@ use crate::policy::is_restart_wanted;
 use manifest::Policy;
 use state_diff::{Differ, Seen};
 
-/// A container, as its newest instance shows it.
+/// A container, as its newest instance shows it. (Container Runtime Interface, `ContainerStatus`.)
 #[derive(Clone, Copy, Debug, PartialEq, Eq)]
 pub struct ContainerView {
     /// The newest instance, with its state and its exit code.

@@ -1,3 +1,4 @@
+-- Where the results of a liveness probe lead.
 use Rattle.std.specs.Prelude.{◌≡◌, ◌↔◌, ℕ, Bool, false, IsTrue, List, Option, Some, None}
 use Rattle.trace.specs.declared.outcome.Outcome.TheVariants.{Failure}
 use Rattle.manifest.specs.Probe.{Probe}

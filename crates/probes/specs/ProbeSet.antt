@@ -1,3 +1,4 @@
+-- Where the results of one instance after the other lead, and what a tick's verdicts say.
 use Rattle.std.specs.Prelude.{◌≡◌, ◌↔◌, ℕ, List, Some, None, IsTrue, IsSome, IsSomeAnd}
 use Rattle.manifest.specs.Probe.{Probes}
 use Rattle.probes.specs.declared.probe_set.Cause.{Cause}

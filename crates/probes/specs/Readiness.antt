@@ -1,3 +1,4 @@
+-- Where the results of a readiness probe lead.
 use Rattle.std.specs.Prelude.{◌≡◌, ◌↔◌, ℕ, Bool, true, IsTrue, List, Option, Some, None}
 use Rattle.trace.specs.declared.outcome.Outcome.TheVariants.{Success, Failure}
 use Rattle.trace.specs.declared.outcome.Outcome.{Outcome}

@@ -1,3 +1,4 @@
+-- Where the results of a startup probe lead.
 use Rattle.std.specs.Prelude.{◌≡◌, ℕ, ◌<◌, List, length, slice_get, Option, Some, None}
 use Rattle.trace.specs.declared.outcome.Outcome.{Outcome}
 use Rattle.trace.specs.declared.outcome.Outcome.TheVariants.{Failure}

@@ -2,7 +2,7 @@
 //! (Kubernetes, "Configure Liveness, Readiness and Startup Probes"; "Pod Lifecycle", "Container probes".)
 #![tactic(auto)]
 
-mod laws;
+pub mod laws;
 mod liveness;
 mod outcome;
 mod probe_set;
@@ -10,7 +10,4 @@ mod readiness;
 mod run_length;
 mod startup;
 
-pub use laws::{
-    counted_ticks, kill_order_stands, one_cause, ready_without_probe, startup_passes_once,
-};
 pub use probe_set::{Cause, ProbeSet, Verdicts};

@@ -14,7 +14,9 @@ use trace::Outcome;
 /// (Kubernetes, "Pod Lifecycle", "Types of probe".)
 #[derive(Clone, Copy, Debug, PartialEq, Eq)]
 pub enum Cause {
+    /// The first results of the startup probe, as many as its failure threshold says, all failed.
     Startup,
+    /// As many results of the liveness probe in a row as its failure threshold says failed.
     Liveness,
 }
 
@@ -40,6 +42,7 @@ pub struct ProbeSet {
 }
 
 impl ProbeSet {
+    /// Follows the probes of this container. No instance has begun, so nothing is started, ready or to be killed.
     pub fn new(container: &ContainerSpec) -> Self
         ensures follows { Follows result container.now.probes }
         ensures before { HasNotBegun result }

@@ -1,4 +1,5 @@
--- What one container asks for, and what it is held to.
+-- What one container asks for, and what it is held to (Kubernetes, "Resource Management for Pods and Containers"; "Pod
+-- Quality of Service Classes"; that a zero counts as unset is this profile's rule).
 use Rattle.std.specs.Prelude.{◌≡◌, ◌⊎◌, ◌==◌, ℕ, if◌then◌else◌, Option, Some, None, unwrap_or, IsSome}
 use Rattle.std.specs.Option.{option_or}
 use Rattle.manifest.specs.declared.pod.ContainerSpec.{ContainerSpec}

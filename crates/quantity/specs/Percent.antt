@@ -1,4 +1,4 @@
--- Percentages, as `10%` and `12.5%`.
+-- Percentages, as `10%` and `12.5%` (Kubernetes, "Node-pressure Eviction", "Eviction thresholds").
 use Rattle.std.specs.Prelude.{◌≡◌, ◌≢◌, ◌<◌, ◌∷◌, slice_index, false, ℕ, ◌+◌, ◌*◌, ◌-◌, ◌/◌, ◌^◌, ◌≤◌, ◌⊎◌, List, [], ◌++◌, length, unwrap_or, slice_get, Result, Ok, not, ◌&&◌, ◌||◌, nat_lt, ◌==◌, ◌%◌, if◌then◌else◌, codes, decimal}
 use Rattle.std.specs.Char.{is_ascii_digit}
 use Rattle.std.specs.Str.Parse.{digits_value}

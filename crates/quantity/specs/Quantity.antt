@@ -1,4 +1,5 @@
--- Quantities, as `1.5Gi`, `100m` and `1e3`, in thousandths of a unit.
+-- Quantities, as `1.5Gi`, `100m` and `1e3`, in thousandths of a unit (Kubernetes, "Resource Management for Pods and
+-- Containers", "Resource units in Kubernetes").
 use Rattle.std.specs.Prelude.{◌≡◌, ◌≢◌, ◌<◌, ◌∷◌, count_by, ℕ, ◌+◌, ◌*◌, ◌-◌, ◌^◌, ◌≤◌, ◌⊎◌, min, List, [], ◌++◌, length, drop, slice_index, Result, Ok, nat_lt, ◌==◌, if◌then◌else◌, codes}
 use Rattle.std.specs.Char.{is_ascii_digit}
 use Rattle.std.specs.Int.{div_ceil}

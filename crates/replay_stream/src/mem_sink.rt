@@ -12,7 +12,7 @@ pub struct MemSink<'a> {
     room: &'a mut [u8],
     len: usize,
     step: usize,
-    // How many calls come before those that stop, if any do.
+    /// How many calls come before those that stop, if any do.
     calls_left: Option<usize>,
     stop: Stop,
     failed: u64,

@@ -11,7 +11,7 @@ use crate::stream::Source;
 pub struct MemSource<'a> {
     bytes: &'a [u8],
     step: usize,
-    // How many calls come before those that fail, if any do.
+    /// How many calls come before those that fail, if any do.
     calls_left: Option<usize>,
     failed: u64,
     ghost steps: { 0 < step },
@@ -65,7 +65,7 @@ impl<'a> MemSource<'a> {
     }
 }
 
-// The bytes of so many calls.
+/// The bytes of so many calls.
 fn front_of(bytes: &[u8], step: usize, calls: usize) -> &[u8]
     ensures { result.now ≡ take (calls * step) bytes.now }
 {

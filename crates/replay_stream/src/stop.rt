@@ -12,7 +12,7 @@ pub enum Stop {
     Nothing,
 }
 
-// Whether the call to come is one that stops. It counts as one of the calls before.
+/// Whether the call to come is one that stops. It counts as one of the calls before.
 pub fn is_over(calls_left: &mut Option<usize>) -> bool
     ensures over { IsTrue result ↔ (calls_left.old ≡ Some 0) }
     ensures counted { calls_left.new ≡ one_fewer calls_left.old }

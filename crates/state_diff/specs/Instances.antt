@@ -1,4 +1,5 @@
--- What the records of one container say of its instances. A record is a tick, named by its place in the list of all
+-- What the records of one container say of its instances (Container Runtime Interface, `ContainerState` and
+-- `ContainerMetadata.attempt`; Kubernetes, "Pod Lifecycle", "Container states"). A record is a tick, named by its place in the list of all
 -- ticks so far, oldest first. Each definition speaks of the whole list.
 use Rattle.std.specs.Prelude.{◌≡◌, ◌≢◌, ◌⊎◌, ℕ, ℤ, pos, ◌-◌, ◌<◌, ◌≤◌, List, length, take, unwrap_or, Option, Some, None, IsSomeAnd}
 use Rattle.state_diff.specs.declared.seen.CriState.{CriState}

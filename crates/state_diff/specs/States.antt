@@ -1,3 +1,4 @@
+-- The states of a container (Container Runtime Interface, `ContainerState`), and their order.
 use Rattle.std.specs.Prelude.{ℕ, Bool, true, false}
 use Rattle.state_diff.specs.declared.seen.CriState.{CriState}
 use Rattle.state_diff.specs.declared.seen.CriState.TheVariants.{Created, Running, Exited, Unknown}

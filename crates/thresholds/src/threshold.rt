@@ -6,12 +6,12 @@ ghost use Rattle.thresholds.specs.Amounts.{amount_of, HasItsCapacity};
 
 use quantity::Limit;
 
-/// An eviction threshold: it is met while its signal's value is below the limit, and cleared once the value is not below
-/// the limit plus the reclaim. (Kubernetes, "Node-pressure Eviction", "Eviction thresholds" and "Minimum eviction
+/// An eviction threshold: it becomes active below the limit, and clears once the value has reached the limit plus the
+/// reclaim. (Kubernetes, "Node-pressure Eviction", "Eviction thresholds" and "Minimum eviction
 /// reclaim".)
 #[derive(Clone, Copy, Debug, PartialEq, Eq)]
 pub struct Threshold {
-    /// The value below which the threshold is met.
+    /// The value below which the threshold becomes active.
     pub limit: Limit,
     /// How far above the limit the value has to rise before the threshold is cleared.
     pub reclaim: Limit,

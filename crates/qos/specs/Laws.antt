@@ -1,0 +1,28 @@
+-- Laws of classes and effective requests, over the definitions alone: for every pod.
+use Rattle.std.specs.Prelude.{◌≡◌, ◌≤◌, ◌∷◌, List, All, Contains}
+use Rattle.manifest.specs.declared.pod.ContainerSpec.{ContainerSpec}
+use Rattle.manifest.specs.declared.resources.Resource.{Resource}
+use Rattle.qos.specs.declared.class.Qos.{Qos}
+use Rattle.qos.specs.declared.class.Qos.TheVariants.{BestEffort}
+use Rattle.qos.specs.Container.{requested, AsksForSome}
+use Rattle.qos.specs.Class.{IsOfClass}
+use Rattle.qos.specs.Requests.{effective_request_of}
+
+-- every pod is of a class, and of one alone
+abbrev pub SomeClass : Type 0
+SomeClass = (containers : List ContainerSpec) → (class : Qos) × IsOfClass containers class
+
+abbrev pub OneClass : Type 0
+OneClass = (containers : List ContainerSpec) (class other : Qos) → IsOfClass containers class → IsOfClass containers other → class ≡ other
+
+-- a pod with a container, and none that has anything of cpu and memory, is BestEffort
+abbrev pub NothingAskedFor : Type 0
+NothingAskedFor =
+    (container : ContainerSpec) (others : List ContainerSpec)
+    → All (λ c. AsksForSome c → ⊥) (container ∷ others) → IsOfClass (container ∷ others) BestEffort
+
+-- an effective request is at least that of each container, init or app
+abbrev pub EffectiveRequestCovers : Type 0
+EffectiveRequestCovers =
+    (resource : Resource) (containers : List ContainerSpec) (container : ContainerSpec)
+    → Contains containers container → requested resource container ≤ effective_request_of resource containers
