@@ -1,4 +1,5 @@
 pub mod Places
+pub mod Moments
 pub mod First
 pub mod Growth
 pub mod Transitions

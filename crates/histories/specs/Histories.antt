@@ -1,5 +1,5 @@
 -- A history is a list of records, oldest first. A place is a number below its length.
-use Rattle.std.specs.Prelude.{◌≡◌, ℕ, suc, zero, ◌<◌, ◌≤◌, List, [], ◌∷◌, ◌++◌, length, take, Option, Some, None}
+use Rattle.std.specs.Prelude.{◌≡◌, ℕ, suc, zero, ◌-◌, ◌<◌, ◌≤◌, List, [], ◌∷◌, ◌++◌, length, take, Option, Some, None, IfSome}
 
 -- one record: its moment, and the entry
 pub record Recorded (A : Type 0) : Type 0 where
@@ -29,6 +29,14 @@ moment_at (x ∷ h) (suc t) = moment_at h t
 -- each moment is later than those before it
 abbrev pub IsRising : {A : Type 0} → List (Recorded A) → Type 0
 IsRising h = (t u m n : ℕ) → t < u → moment_at h t ≡ Some m → moment_at h u ≡ Some n → m < n
+
+-- the moment of the last record, if there is one
+abbrev pub last_moment : {A : Type 0} → List (Recorded A) → Option ℕ
+last_moment h = moment_at h (length h - 1)
+
+-- the last record, if there is one, is before the moment
+abbrev pub EndsBefore : {A : Type 0} → List (Recorded A) → ℕ → Type 0
+EndsBefore h moment = IfSome (last_moment h) (λ last. last < moment)
 
 -- the history up to a place, and with it
 abbrev pub up_to : {A : Type 0} → List (Recorded A) → ℕ → List (Recorded A)

@@ -13,12 +13,14 @@ use Rattle.phase.specs.Status.{IsProgressOf}
 use Rattle.phase.proofs.EndLemmas.{IsPhase-unique, phase_ended, shown_ended, shown_lives}
 use Rattle.trace.specs.declared.observation.TickObs.{TickObs}
 use Rattle.trace.specs.Observations.{seen_of, history}
+use Rattle.trace.specs.Sound.{AreRising}
 use Rattle.kubelet_replay.specs.PodHistory.{listed, pod_history}
 use Rattle.kubelet_replay.specs.Follow.{AreSteppedBy, AreShownBy}
 use Rattle.kubelet_replay.specs.declared.follow.Followed.{Followed}
 use Rattle.kubelet_replay.specs.Followed.{IsFollowed, IsReady}
 use Rattle.trace.proofs.FollowedLemmas.{history-more}
-use Rattle.kubelet_replay.proofs.Listings.{acceptable_at, listings-pod_history, pod_history-more}
+use Rattle.state_diff.proofs.Steps.{is_before}
+use Rattle.kubelet_replay.proofs.Listings.{acceptable_at, ends_before_at, listings-pod_history, pod_history-more}
 
 -- no tick evicts the pod
 pub not_evicted : (n : ℕ) → IsTrue false ↔ (None ≡ Some n)
@@ -71,7 +73,7 @@ pub before_end : (shape : PodShape) (pod : ℕ) (ticks : List TickObs) (tick : T
     → (AreViewsOf (pod_history ticks pod ++ entry tick pod ∷ []) shape.container_count vs → IsProgressOf shape None (pod_history ticks pod ++ entry tick pod ∷ []) new.status)
     → IsFollowed shape pod (ticks ++ tick ∷ []) new
 before_end shape pod ticks tick old new ds vs are_ds are_vs f lives stepped shows as_many advances =
-    let d : Differ = record { newest = None; listed = false; set_up = false } in
+    let d : Differ = record { newest = None; listed = false; set_up = false; last_at = None } in
     let h = pod_history ticks pod in
     let next = sym (pod_history-more ticks tick pod) in
     let is_phase = f.progress.so_far.phase in
@@ -92,11 +94,14 @@ before_end shape pod ticks tick old new ds vs are_ds are_vs f lives stepped show
       view_count = ap length are_vs ∙ view_count;
     }
 
--- the next tick's listings are accepted
+-- the next tick's listings are accepted, and its moment is later
 pub ready : (shape : PodShape) (pod : ℕ) (ticks : List TickObs) (i : ℕ) (tick : TickObs) (f : Followed) → i < length ticks → tick ≡ get_or ticks i tick
-    → ((c : ℕ) → IsAcceptableHistory (history ticks pod c)) → IsFollowed shape pod (take i ticks) f → IsReady shape pod tick f
-ready shape pod ticks i tick f lt is acceptable followed = record {
+    → ((c : ℕ) → IsAcceptableHistory (history ticks pod c)) → AreRising ticks → IsFollowed shape pod (take i ticks) f → IsReady shape pod tick f
+ready shape pod ticks i tick f lt is acceptable rising followed = record {
   accepts = λ lives c d within. (let both = (followed.differs lives c d within).accepts (seen_of tick pod c) in both.1 (acceptable_at ticks pod c i tick lt is (acceptable c)));
+  before = λ lives c d within. is_before (history (take i ticks) pod c) (slice_index_or f.differs.items c d) tick.at
+      (followed.differs lives c d (omega (arith, followed.differ_count)))
+      (ends_before_at ticks pod c i tick lt is rising);
   differ_count = followed.differ_count;
   view_count = followed.view_count;
 }

@@ -1,9 +1,10 @@
 -- The listings of a container, in the history of its pod.
 use Rattle.std.proofs.Common.{◌≡◌, ◌∙◌, ℕ, zero, suc, ◌<◌, List, [], ◌∷◌, ◌++◌, length, map, take, get_or, Option, Some, None, refl, ap, sym, subst, arith}
-use Rattle.std.specs.Prelude.{slice_get, option_and_then}
+use Rattle.std.specs.Prelude.{slice_get, option_and_then, option_map}
 use Rattle.std.proofs.lemmas.List.{map_push, take-map, length-map}
 use Rattle.std.proofs.lemmas.Option.{slice_get-get_or}
-use Rattle.histories.specs.Histories.{recorded}
+use Rattle.histories.specs.Histories.{recorded, moment_at, EndsBefore}
+use Rattle.histories.proofs.Moments.{ends_before}
 use Rattle.state_diff.specs.declared.seen.Seen.{Seen}
 use Rattle.state_diff.specs.Instances.{Tick, listing_of, seen_at, IsAcceptable, IsAcceptableHistory}
 use Rattle.phase.specs.Pods.{listings}
@@ -11,7 +12,9 @@ use Rattle.trace.specs.declared.observation.ContainerObs.{ContainerObs}
 use Rattle.trace.specs.declared.observation.PodObs.{PodObs}
 use Rattle.trace.specs.declared.observation.TickObs.{TickObs}
 use Rattle.trace.specs.Observations.{seen_of, history}
+use Rattle.trace.specs.Sound.{AreRising}
 use Rattle.trace.proofs.Listed.{seen_at-history}
+use Rattle.trace.proofs.Moments.{moment_at-history, history-rising}
 use Rattle.kubelet_replay.specs.PodHistory.{listed, pod_history}
 
 at_place : (cs : List ContainerObs) (c : ℕ) → listing_of (slice_get (map (λ (o : ContainerObs). o.seen) cs) c) ≡ option_and_then (λ (o : ContainerObs). o.seen) (slice_get cs c)
@@ -47,3 +50,13 @@ acceptable_at ticks pod c i tick lt is all =
     seen_at-history ticks pod c i ∙ ap (option_and_then (λ (t : TickObs). seen_of t pod c)) (slice_get-get_or ticks i tick lt ∙ ap Some (sym is)) in
     let before : take i (history ticks pod c) ≡ history (take i ticks) pod c = take-map f i ticks in
     subst (λ (o : Option Seen). IsAcceptable (history (take i ticks) pod c) o) at (subst (λ (h : List Tick). IsAcceptable h (seen_at (history ticks pod c) i)) before here)
+
+-- the ticks before a place end before the moment of the tick at it
+pub ends_before_at : (ticks : List TickObs) (pod c i : ℕ) (tick : TickObs) → i < length ticks → tick ≡ get_or ticks i tick → AreRising ticks
+    → EndsBefore (history (take i ticks) pod c) tick.at
+ends_before_at ticks pod c i tick lt is rising =
+    let f : TickObs → Tick = λ t. recorded t.at (seen_of t pod c) in
+    let at : moment_at (history ticks pod c) i ≡ Some tick.at =
+    moment_at-history ticks pod c i ∙ ap (option_map (λ (t : TickObs). t.at)) (slice_get-get_or ticks i tick lt ∙ ap Some (sym is)) in
+    let before : take i (history ticks pod c) ≡ history (take i ticks) pod c = take-map f i ticks in
+    subst (λ (h : List Tick). EndsBefore h tick.at) before (ends_before (history ticks pod c) i tick.at (history-rising ticks pod c rising) at)

@@ -3,13 +3,14 @@
 ghost use Rattle.std.specs.Prelude.{◌≡◌, ◌<◌, ◌≤◌, ℕ, List, [], ◌∷◌, ◌++◌, length, None, slice_index_or, IfOk};
 ghost use Rattle.histories.specs.Histories.{recorded};
 ghost use Rattle.state_diff.specs.Instances.{Tick, IsAcceptableHistory};
-ghost use Rattle.state_diff.specs.Differ.{Accepts, IsStateOf};
+ghost use Rattle.state_diff.specs.Differ.{Accepts, IsBefore, IsStateOf};
 ghost use Rattle.state_diff.specs.declared.differ.Differ.{Differ};
 ghost use Rattle.phase.specs.declared.view.ContainerView.{ContainerView};
 ghost use Rattle.phase.specs.Pods.{IsViewOf};
 ghost use Rattle.trace.specs.declared.observation.TickObs.{TickObs};
-ghost use Rattle.trace.specs.Followed.{AreNew};
+ghost use Rattle.trace.specs.Followed.{AreNew, AreBefore};
 ghost use Rattle.trace.specs.Observations.{seen_of, history};
+ghost use Rattle.trace.specs.Sound.{AreRising};
 ghost use Rattle.kubelet_replay.specs.Follow.{AreSteppedBy, AreShownBy, AreNewViews};
 
 use phase::{ContainerView, PodShape, PodStatus};
@@ -27,7 +28,8 @@ pub(crate) struct Followed {
 }
 
 fn stepped(differ: Differ, at: u64, seen: Option<Seen>) -> Differ
-    requires { Accepts differ seen }
+    requires accepts { Accepts differ seen }
+    requires later { IsBefore differ at }
     ensures { (h : List Tick) → IsStateOf h differ → IsStateOf (h ++ recorded at seen ∷ []) result }
 {
     let mut next = differ;
@@ -37,7 +39,8 @@ fn stepped(differ: Differ, at: u64, seen: Option<Seen>) -> Differ
 
 /// Takes each container of the pod over one tick.
 fn step_all(differs: &mut [Differ], tick: &TickObs, pod: usize)
-    requires { (c : ℕ) (d : Differ) → c < length differs.old → Accepts (slice_index_or differs.old c d) (seen_of tick.now pod c) }
+    requires accepts { (c : ℕ) (d : Differ) → c < length differs.old → Accepts (slice_index_or differs.old c d) (seen_of tick.now pod c) }
+    requires later { AreBefore differs.old tick.now.at }
     ensures { AreSteppedBy tick.now pod differs.old differs.new }
 {
     for container in 0..differs.len() {
@@ -117,7 +120,8 @@ pub(crate) fn follow(
     pod: usize,
     ticks: &[TickObs],
 ) -> Result<Followed, AllocError>
-    requires { (c : ℕ) → IsAcceptableHistory (history ticks.now pod c) }
+    requires acceptable { (c : ℕ) → IsAcceptableHistory (history ticks.now pod c) }
+    requires rising { AreRising ticks.now }
     ensures { IfOk result (λ f. IsFollowed shape pod ticks.now f) }
 {
     let mut followed = Followed::new(alloc, shape)?;

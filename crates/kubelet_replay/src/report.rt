@@ -4,7 +4,7 @@ ghost use Rattle.std.specs.Prelude.{◌≡◌, ◌<◌, ℕ, List, length, None,
 ghost use Rattle.phase.specs.Pods.{PodTick, AreShown};
 ghost use Rattle.phase.specs.Containers.{IsContainerStatus};
 ghost use Rattle.phase.specs.declared.container.ContainerStatus.{ContainerStatus};
-ghost use Rattle.trace.specs.Sound.{AreAcceptable};
+ghost use Rattle.trace.specs.Sound.{AreAcceptable, AreRising};
 ghost use Rattle.kubelet_replay.specs.Report.{IsShapeOf, ArePodLines, IsReport};
 
 use crate::follow::follow;
@@ -48,7 +48,8 @@ fn pod_lines(
     number: usize,
     pod: &PodSpec,
 ) -> Result<String, AllocError>
-    requires { AreAcceptable ticks.now }
+    requires acceptable { AreAcceptable ticks.now }
+    requires rising { AreRising ticks.now }
     ensures { IfOk result (λ s. ArePodLines ticks.now number pod.now (string_bytes s)) }
 {
     let shape = shape_of(pod);
@@ -69,7 +70,8 @@ fn pod_lines(
 
 /// The report of a trace.
 pub(crate) fn report_of(alloc: Global, trace: &Trace) -> Result<String, AllocError>
-    requires { AreAcceptable trace.now.ticks }
+    requires acceptable { AreAcceptable trace.now.ticks }
+    requires rising { AreRising trace.now.ticks }
     ensures { IfOk result (λ s. IsReport trace.now.ticks trace.now.pods (string_bytes s)) }
 {
     let ticks = trace.ticks.as_slice();

@@ -7,6 +7,6 @@ mod scan;
 
 pub use listing::Listing;
 pub use scan::{
-    effective_state, exit_code, exit_place, exited_at, is_acceptable, is_set_up, newest_attempt,
-    run, start_place, started_at,
+    effective_state, exit_code, exit_place, exited_at, is_acceptable, is_set_up, last_at,
+    newest_attempt, run, start_place, started_at,
 };

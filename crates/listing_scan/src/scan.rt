@@ -1,6 +1,6 @@
 ghost use Rattle.std.specs.Prelude.{◌≡◌, ◌≢◌, ◌↔◌, ◌≤◌, ◌-◌, ℤ, Some, List, length, max, option_map, IsTrue, IsSomeAnd, Option, slice_get};
 ghost use Rattle.std.specs.List.{fold, list_all, list_any};
-ghost use Rattle.histories.specs.Histories.{moment_at, IsFirstPlace, IsFirstMoment};
+ghost use Rattle.histories.specs.Histories.{moment_at, last_moment, IsFirstPlace, IsFirstMoment};
 ghost use Rattle.state_diff.specs.declared.seen.CriState.TheVariants.{Created, Running, Exited, Unknown};
 ghost use Rattle.state_diff.specs.Instances.{listing_of, seen_at, IsOfAs, ListedAs, Ends, IsEffective, IsExitCode, IsSetUp, IsAcceptable};
 ghost use Rattle.state_diff.specs.Acceptable.{is_of as of_attempt, is_at_most as at_most, known_after as after_listing, effective_state as effective, is_not_older as not_older, is_not_gone as not_gone, is_not_back as not_back};
@@ -199,6 +199,13 @@ fn moment(ticks: &[Listing], place: usize) -> Option<u64>
         Some(tick) => Some(tick.at),
         None => None,
     }
+}
+
+/// The moment of the last tick, in seconds.
+pub fn last_at(ticks: &[Listing]) -> Option<u64>
+    ensures { result ≡ last_moment (history ticks.now) }
+{
+    moment(ticks, ticks.len().saturating_sub(1))
 }
 
 /// The moment at which the attempt was first listed as running, in seconds.

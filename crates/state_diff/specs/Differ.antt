@@ -6,6 +6,7 @@ use Rattle.state_diff.specs.declared.differ.Changes.{Changes}
 use Rattle.state_diff.specs.States.{rank}
 use Rattle.state_diff.specs.Instances.{Tick, seen_at, Listed, IsNewest, IsEffective, IsState, IsExit, IsExitCode, IsStart, IsSetUp, IsAcceptable, IsRun}
 use Rattle.state_diff.specs.Instance.{IsInstanceOf}
+use Rattle.histories.specs.Histories.{last_moment}
 
 -- the newest instance, if some tick lists one
 abbrev pub IsNewestOf : List Tick → Option Instance → Type 0
@@ -27,6 +28,10 @@ abbrev pub Accepts : Differ → Option Seen → Type 0
 Accepts d None = Unit {0}
 Accepts d (Some seen) = Follows d.newest d.listed seen
 
+-- the differ's last tick, if there is one, is before the moment
+abbrev pub IsBefore : Differ → ℕ → Type 0
+IsBefore d moment = IfSome d.last_at (λ last. last < moment)
+
 -- the differ's value after these ticks
 pub record IsStateOf (h : List Tick) (d : Differ) : Type 0 where
   pub newest : IsNewestOf h d.newest
@@ -35,6 +40,7 @@ pub record IsStateOf (h : List Tick) (d : Differ) : Type 0 where
   pub effective : IfSome d.newest (λ i. IsTrue d.listed → IsEffective h i.attempt i.state)
   pub set_up : IsTrue d.set_up ↔ IsSetUp h
   pub accepts : (seen : Option Seen) → (Accepts d seen ↔ IsAcceptable h seen)
+  pub last_at : d.last_at ≡ last_moment h
 
 -- the listing is of the newest attempt, with its state and exit code; none is listed where there is none
 pub record IsSeenOf (h : List Tick) (seen : Seen) : Type 0 where

@@ -1,12 +1,12 @@
-ghost use Rattle.std.specs.Prelude.{◌≡◌, ◌↔◌, ◌≤◌, ◌-◌, ℕ, ℤ, List, [], ◌∷◌, ◌++◌, length, Option, Some, None, IsSomeAnd, IsTrue, IsSome, IfSome, MatchOption};
+ghost use Rattle.std.specs.Prelude.{◌≡◌, ◌↔◌, ◌<◌, ◌≤◌, ◌-◌, ℕ, ℤ, List, [], ◌∷◌, ◌++◌, length, Option, Some, None, IsSomeAnd, IsTrue, IsSome, IfSome, MatchOption};
 ghost use Rattle.state_diff.specs.Instances.{Tick, tick, IsOf, seen_at, Listed, ListedAs, IsNewest, IsState, IsExit, IsExitCode, IsStart, Ends, IsSetUp, IsAcceptable, IsEffective};
 ghost use Rattle.state_diff.specs.Acceptable.{is_acceptable};
-ghost use Rattle.histories.specs.Histories.{IsFirstMoment};
+ghost use Rattle.histories.specs.Histories.{IsFirstMoment, last_moment};
 ghost use Rattle.state_diff.specs.States.{rank};
 ghost use Rattle.state_diff.specs.declared.seen.CriState.TheVariants.{Running};
 ghost use Rattle.state_diff.specs.Instance.{IsInstanceOf};
 ghost use Rattle.state_diff.specs.declared.instance.Instance.{Instance};
-ghost use Rattle.state_diff.specs.Differ.{Accepts, IsNewestSeen, IsOfNewest, IsNewestRun, IsStateOf, AreChanges, SetsUp, IsNewestOf, IsListedBy};
+ghost use Rattle.state_diff.specs.Differ.{Accepts, IsBefore, IsNewestSeen, IsOfNewest, IsNewestRun, IsStateOf, AreChanges, SetsUp, IsNewestOf, IsListedBy};
 
 use crate::instance::Instance;
 use crate::seen::Seen;
@@ -25,13 +25,13 @@ pub struct Changes {
 }
 
 /// Follows the listings of one container, of which each tick has at most one, the newest instance. It keeps what the
-/// listings so far say of the newest instance, and none of them. It does not know the moment of its last tick: none of
-/// its answers needs moments that rise, and each moment is kept as it was given.
+/// listings so far say of the newest instance, and the moment of the last tick, but none of the listings.
 #[derive(Clone, Copy, Debug, PartialEq, Eq)]
 pub struct Differ {
     newest: Option<Instance>,
     listed: bool,
     set_up: bool,
+    last_at: Option<u64>,
 }
 
 impl Differ {
@@ -43,6 +43,7 @@ impl Differ {
             newest: None,
             listed: false,
             set_up: false,
+            last_at: None,
         }
     }
 
@@ -116,6 +117,14 @@ impl Differ {
         ensures { (h : List Tick) → IsStateOf h self.now → (IsTrue result ↔ IsSetUp h) }
     {
         self.set_up
+    }
+
+    /// The moment of the last tick, in seconds; none before the first.
+    pub fn last_at(&self) -> Option<u64>
+        ensures moment { (h : List Tick) → IsStateOf h self.now → result ≡ last_moment h }
+        ensures before { (moment : ℕ) → (IfSome result (λ last. last < moment) ↔ IsBefore self.now moment) }
+    {
+        self.last_at
     }
 
     /// The instance of this listing so far: the newest one, or a later one that wasn't listed yet.
@@ -220,9 +229,11 @@ impl Differ {
         }
     }
 
-    /// A tick comes, at the moment, in seconds, with what it lists of the container.
+    /// A tick comes, at the moment, in seconds, with what it lists of the container: a listing that `accepts` takes, at
+    /// a moment later than `last_at`, if there is one.
     pub fn step(&mut self, at: u64, seen: Option<Seen>) -> Changes
-        requires { Accepts self.old seen }
+        requires accepted { Accepts self.old seen }
+        requires later { IsBefore self.old at }
         ensures state { (h : List Tick) → IsStateOf h self.old → IsStateOf (h ++ tick at seen ∷ []) self.new }
         ensures changes { (h : List Tick) → IsStateOf h self.old → AreChanges (h ++ tick at seen ∷ []) (length h) result }
     {
@@ -230,6 +241,7 @@ impl Differ {
         self.newest = self.newest_after(at, seen);
         self.listed = seen.is_some();
         self.set_up |= changes.set_up();
+        self.last_at = Some(at);
         changes
     }
 }

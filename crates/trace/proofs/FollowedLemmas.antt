@@ -1,6 +1,7 @@
 -- The differs after one pod or one tick more.
 use Rattle.std.proofs.Common.{◌≡◌, ◌∙◌, ℕ, zero, suc, ◌+◌, ◌<◌, ◌≤◌, ◌||◌, not, Bool, true, false, List, [], ◌∷◌, ◌++◌, length, map, get_or, Option, Some, None, Ok, Err, refl, ap, sym, subst, inl, inr, arith}
 use Rattle.std.specs.Prelude.{slice_get, option_and_then, MatchBool}
+use Rattle.std.specs.List.{All}
 use Rattle.std.proofs.Math.Seq.{get_or-append_seam}
 use Rattle.std.proofs.lemmas.Bool.{cases_Bool, cases_lt}
 use Rattle.std.proofs.lemmas.List.{map_push, length-append, get_or_append_left}
@@ -10,7 +11,8 @@ use Rattle.manifest.specs.declared.pod.PodSpec.{PodSpec}
 use Rattle.state_diff.specs.declared.seen.Seen.{Seen}
 use Rattle.state_diff.specs.declared.differ.Differ.{Differ}
 use Rattle.state_diff.specs.Acceptable.{is_acceptable}
-use Rattle.state_diff.specs.Differ.{IsStateOf}
+use Rattle.state_diff.specs.Differ.{IsStateOf, IsBefore}
+use Rattle.state_diff.proofs.Steps.{is_before}
 use Rattle.state_diff.specs.Instances.{Tick}
 use Rattle.trace.specs.declared.fault.LineKind.{LineKind}
 use Rattle.trace.specs.declared.fault.LineKind.TheVariants.{Backwards}
@@ -19,7 +21,7 @@ use Rattle.trace.specs.declared.observation.PodObs.{PodObs}
 use Rattle.trace.specs.declared.observation.TickObs.{TickObs}
 use Rattle.trace.specs.declared.placing.PlacedEntry.{PlacedEntry}
 use Rattle.trace.specs.Backwards.{some_container_backwards, some_pod_backwards, is_backwards}
-use Rattle.trace.specs.Followed.{AreFollowed, AreNew, Shows, Takes, Refuses, HaveTaken, PodsHaveTaken, SomeRefuses, SomePodRefuses, IsRefusal}
+use Rattle.trace.specs.Followed.{AreFollowed, AreNew, AreBefore, EndBefore, Shows, Takes, Refuses, HaveTaken, PodsHaveTaken, SomeRefuses, SomePodRefuses, IsRefusal}
 use Rattle.trace.specs.Gives.{is_memory}
 use Rattle.trace.specs.Observations.{seen_of, history}
 use Rattle.trace.specs.declared.placing.PlacedListing.{PlacedListing}
@@ -27,9 +29,10 @@ use Rattle.trace.specs.declared.placing.PlacedResult.{PlacedResult}
 use Rattle.manifest.specs.declared.pod.ContainerSpec.{ContainerSpec}
 use Rattle.trace.specs.Observed.{observed, entry_for, listings_of, results_of, pods_from, containers_from}
 use Rattle.trace.proofs.Sound.{seen_in_pod, pods_forwards}
+use Rattle.trace.proofs.Moments.{history-ends_before}
 
 blank : Differ
-blank = record { newest = None; listed = false; set_up = false }
+blank = record { newest = None; listed = false; set_up = false; last_at = None }
 
 -- an item more at the end
 pub pushed_each : {A : Type 0} (P : ℕ → A → Type 0) (xs : List A) (x : A) (n : ℕ) → length xs ≡ n → ((c : ℕ) (d : A) → c < n → P c (get_or xs c d)) → P n x
@@ -149,6 +152,21 @@ tick_more ticks tick pods old new all taken = record {
       let inside : c < length (get_or old p ds) = omega (arith, pod.as_many) in
       subst (λ (h : List Tick). IsStateOf h (get_or (get_or new p ds) c d)) (sym (history-more ticks tick p c)) (pod.each c d inside (history ticks p c) (all.each p c ds d place inside)).1;
 }
+
+-- a moment after all ticks is after the last one of each differ
+pub all_before : (ticks : List TickObs) (pods : List PodSpec) (differs : List (List Differ)) (moment : ℕ) → AreFollowed ticks pods differs → EndBefore ticks moment
+    → All (λ ds. AreBefore ds moment) differs
+all_before ticks pods differs moment all before p ds lt c d within =
+    is_before (history ticks p c) (get_or (get_or differs p ds) c d) moment (all.each p c ds d lt within) (history-ends_before ticks p c moment before)
+
+-- so it is of those at one place
+pub pod_before : (differs : List (List Differ)) (n : ℕ) (from shown : List Differ) (moment : ℕ) → n < length differs → from ≡ get_or differs n from → shown ≡ from
+    → All (λ ds. AreBefore ds moment) differs → AreBefore shown moment
+pod_before differs n from shown moment lt is is_shown all =
+    subst (λ (ds : List Differ). AreBefore ds moment) (sym (is_shown ∙ is)) (all n from lt)
+
+pub differ_before : (differs : List Differ) (n : ℕ) (from : Differ) (moment : ℕ) → n < length differs → from ≡ get_or differs n from → AreBefore differs moment → IsBefore from moment
+differ_before differs n from moment lt is all = subst (λ (d : Differ). IsBefore d moment) (sym is) (all n from lt)
 
 -- a tick shows each container of the pods
 containers_shown : (ls : List PlacedListing) (rs : List PlacedResult) (n : ℕ) (cs : List ContainerSpec) → length (containers_from ls rs n cs) ≡ length cs

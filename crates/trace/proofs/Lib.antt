@@ -2,5 +2,6 @@ pub mod Cutting
 pub mod FollowedLemmas
 pub mod Found
 pub mod Listed
+pub mod Moments
 pub mod Sound
 pub mod LawLemmas

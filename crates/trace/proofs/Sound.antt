@@ -1,4 +1,4 @@
--- The ticks of a trace are acceptable.
+-- The ticks of a trace are acceptable, and their moments rise.
 use Rattle.std.proofs.Common.{◌≡◌, ◌∙◌, ℕ, zero, suc, ◌+◌, ◌||◌, not, Bool, true, false, List, [], ◌∷◌, ◌++◌, Option, Some, None, Result, Ok, Err, refl, ap, sym, subst, inl, inr, arith}
 use Rattle.std.specs.Prelude.{⊤, slice_get, option_and_then, nat_lt, nat_le, length, codes, IfOk}
 use Rattle.std.proofs.lemmas.Bool.{cases_Bool}
@@ -37,7 +37,9 @@ use Rattle.trace.specs.Observed.{observed, some_code_missing}
 use Rattle.trace.specs.Past.{Past, with_tick}
 use Rattle.trace.specs.Tick.{moment_of, most_ticks, observed_in, tick_at}
 use Rattle.trace.specs.Lines.{lines_of, is_blank}
-use Rattle.trace.specs.Sound.{AreAcceptable}
+use Rattle.trace.specs.Followed.{EndBefore}
+use Rattle.trace.specs.Sound.{AreAcceptable, AreRising}
+use Rattle.trace.proofs.Moments.{rising-more, moment_later}
 use Rattle.trace.specs.Trace.{json_of, kind_from, with_node, pod_line_at, in_order, line_at, at_line, finished, read_on, nothing, trace_of}
 
 first_holds : (a rest : Bool) → (not a || rest) ≡ false → (a ≡ true) × (rest ≡ false)
@@ -78,9 +80,14 @@ pods_forwards ticks n (q ∷ qs) e (suc p) c =
     let same : n + 1 + p ≡ n + suc p = omega arith in
     subst (λ (k : ℕ). is_acceptable (history ticks k c) (seen_in_pod (slice_get qs p) c) ≡ true) same (pods_forwards ticks (n + 1) qs rest p c)
 
+-- what holds of the ticks of a trace
+record AreSound (ticks : List TickObs) : Type 0 where
+  pub acceptable : AreAcceptable ticks
+  pub rising : AreRising ticks
+
 -- ticks that are acceptable, and one more that doesn't go back behind them
-tick_sound : (ticks : List TickObs) (tick : TickObs) → AreAcceptable ticks → is_backwards ticks tick ≡ false → AreAcceptable (ticks ++ tick ∷ [])
-tick_sound ticks tick all e pod container =
+tick_acceptable : (ticks : List TickObs) (tick : TickObs) → AreAcceptable ticks → is_backwards ticks tick ≡ false → AreAcceptable (ticks ++ tick ∷ [])
+tick_acceptable ticks tick all e pod container =
     let h = history ticks pod container in
     let zeroth : 0 + pod ≡ pod = omega arith in
     let here : is_acceptable h (seen_of tick pod container) ≡ true =
@@ -88,6 +95,10 @@ tick_sound ticks tick all e pod container =
     let next = acceptable_more h (recorded tick.at (seen_of tick pod container)) (all pod container) ((is_acceptable_is h (seen_of tick pod container)).0 here) in
     let more : history (ticks ++ tick ∷ []) pod container ≡ h ++ recorded tick.at (seen_of tick pod container) ∷ [] = map_push (λ (t : TickObs). recorded t.at (seen_of t pod container)) ticks tick in
     subst IsAcceptableHistory (sym more) next
+
+-- ticks that are sound, and one more that is later and doesn't go back behind them
+tick_sound : (ticks : List TickObs) (tick : TickObs) → AreSound ticks → EndBefore ticks tick.at → is_backwards ticks tick ≡ false → AreSound (ticks ++ tick ∷ [])
+tick_sound ticks tick all later e = record { acceptable = tick_acceptable ticks tick all.acceptable e; rising = rising-more ticks tick all.rising later }
 
 observed_sound : (past : Past) (at : ℕ) (entries : List PlacedEntry) (tick : TickObs) → observed_in past at entries ≡ Ok tick
     → (is_backwards past.ticks (observed at entries past.pods) ≡ false) × (observed at entries past.pods ≡ tick)
@@ -103,7 +114,7 @@ observed_sound past at entries tick e =
     let given : Ok seen ≡ Ok tick = coded.2 in
     (refused_ok (is_backwards past.ticks seen) Backwards forwards.0 forwards.1, cc)
 
-tick_line_sound : (past : Past) (d : Data) (next : Past) → AreAcceptable past.ticks → tick_at past d ≡ Ok next → AreAcceptable next.ticks
+tick_line_sound : (past : Past) (d : Data) (next : Past) → AreSound past.ticks → tick_at past d ≡ Ok next → AreSound next.ticks
 unfolding tick_at
 tick_line_sound past d next all e =
     let last : TickObs → Result Past LineKind = λ t. Ok (with_tick past t) in
@@ -116,13 +127,14 @@ tick_line_sound past d next all e =
     let entries = bind_ok (entries_of d) (place at.0) next at.2 in
     let placed = bind_ok (placed_of past.pods entries.0) (seen at.0) next entries.2 in
     let tick = bind_ok (observed_in past at.0 placed.0) last next placed.2 in
+    let later = moment_later past.ticks (field_at (codes "at") d) at.0 at.1 in
     let is = observed_sound past at.0 placed.0 tick.0 tick.1 in
     let given : Ok (with_tick past tick.0) ≡ Ok next = tick.2 in
     let is_next : with_tick past tick.0 ≡ next = cc in
-    subst (λ (p : Past). AreAcceptable p.ticks) {x = with_tick past tick.0} is_next
-    (subst (λ (t : TickObs). AreAcceptable (past.ticks ++ t ∷ [])) {x = observed at.0 placed.0 past.pods} {y = tick.0} is.1 (tick_sound past.ticks (observed at.0 placed.0 past.pods) all is.0))
+    subst (λ (p : Past). AreSound p.ticks) {x = with_tick past tick.0} is_next
+    (subst (λ (t : TickObs). AreSound (past.ticks ++ t ∷ [])) {x = observed at.0 placed.0 past.pods} {y = tick.0} is.1 (tick_sound past.ticks (observed at.0 placed.0 past.pods) all later is.0))
 
-pod_line_sound : (past : Past) (d : Data) (next : Past) → AreAcceptable past.ticks → pod_line_at past d ≡ Ok next → AreAcceptable next.ticks
+pod_line_sound : (past : Past) (d : Data) (next : Past) → AreSound past.ticks → pod_line_at past d ≡ Ok next → AreSound next.ticks
 unfolding pod_line_at
 pod_line_sound past d next all e =
     let with_pod : PodSpec → Past = λ pod. record { node = past.node; pods = past.pods ++ pod ∷ []; ticks = past.ticks } in
@@ -134,9 +146,9 @@ pod_line_sound past d next all e =
     let pod = bind_ok (pod_from (field_at (codes "pod") d)) last next only.2 in
     let given : Ok (with_pod pod.0) ≡ Ok next = pod.2 in
     let is_next : with_pod pod.0 ≡ next = cc in
-    subst (λ (p : Past). AreAcceptable p.ticks) is_next all
+    subst (λ (p : Past). AreSound p.ticks) is_next all
 
-node_line_sound : (past : Past) (d : Data) (next : Past) → AreAcceptable past.ticks → with_node past d ≡ Ok next → AreAcceptable next.ticks
+node_line_sound : (past : Past) (d : Data) (next : Past) → AreSound past.ticks → with_node past d ≡ Ok next → AreSound next.ticks
 unfolding with_node
 node_line_sound past d next all e =
     let with : NodeConfig → Past = λ node. record { node = Some node; pods = past.pods; ticks = past.ticks } in
@@ -144,9 +156,9 @@ node_line_sound past d next all e =
     let node = bind_ok (node_of d) last next e in
     let given : Ok (with node.0) ≡ Ok next = node.2 in
     let is_next : with node.0 ≡ next = cc in
-    subst (λ (p : Past). AreAcceptable p.ticks) is_next all
+    subst (λ (p : Past). AreSound p.ticks) is_next all
 
-in_order_sound : (node : Option NodeConfig) (past : Past) (sort : Sort) (d : Data) (next : Past) → AreAcceptable past.ticks → in_order node past sort d ≡ Ok next → AreAcceptable next.ticks
+in_order_sound : (node : Option NodeConfig) (past : Past) (sort : Sort) (d : Data) (next : Past) → AreSound past.ticks → in_order node past sort d ≡ Ok next → AreSound next.ticks
 in_order_sound None past sorts.Node d next all e = node_line_sound past d next all e
 in_order_sound None past sorts.Pod d next all e = absurd (cc)
 in_order_sound None past sorts.Tick d next all e = absurd (cc)
@@ -154,7 +166,7 @@ in_order_sound (Some node) past sorts.Node d next all e = absurd (cc)
 in_order_sound (Some node) past sorts.Pod d next all e = pod_line_sound past d next all e
 in_order_sound (Some node) past sorts.Tick d next all e = tick_line_sound past d next all e
 
-line_sound : (past : Past) (line : List ℕ) (next : Past) → AreAcceptable past.ticks → line_at past line ≡ Ok next → AreAcceptable next.ticks
+line_sound : (past : Past) (line : List ℕ) (next : Past) → AreSound past.ticks → line_at past line ≡ Ok next → AreSound next.ticks
 unfolding line_at
 line_sound past line next all e =
     let take : Data → Sort → Result Past LineKind = λ d sort. in_order past.node past sort d in
@@ -165,16 +177,16 @@ line_sound past line next all e =
     let sort = bind_ok (some_or UnknownKind (kind_from (text_at (codes "kind") json.0))) (take json.0) next json.2 in
     in_order_sound past.node past sort.0 json.0 next all sort.2
 
-finished_sound : (n : ℕ) (past : Past) (node : Option NodeConfig) (trace : Trace) → AreAcceptable past.ticks → finished n past node ≡ Ok trace → AreAcceptable trace.ticks
+finished_sound : (n : ℕ) (past : Past) (node : Option NodeConfig) (trace : Trace) → AreSound past.ticks → finished n past node ≡ Ok trace → AreSound trace.ticks
 finished_sound n past None trace all e = absurd (cc)
-finished_sound n past (Some node) trace all e = let is : past.ticks ≡ trace.ticks = cc (e) in subst AreAcceptable is all
+finished_sound n past (Some node) trace all e = let is : past.ticks ≡ trace.ticks = cc (e) in subst AreSound is all
 
 at_line_ok : (n : ℕ) (r : Result Past LineKind) (next : Past) → at_line n r ≡ Ok next → r ≡ Ok next
 at_line_ok n (Ok past) next e = let is : past ≡ next = cc in ap Ok is
 at_line_ok n (Err kind) next e = absurd (cc)
 
 -- the lines that are still read, after those that say what is past
-next_sound : (n : ℕ) (past : Past) (lines : List (List ℕ)) (trace : Trace) → AreAcceptable past.ticks → read_on n past lines ≡ Ok trace → AreAcceptable trace.ticks
+next_sound : (n : ℕ) (past : Past) (lines : List (List ℕ)) (trace : Trace) → AreSound past.ticks → read_on n past lines ≡ Ok trace → AreSound trace.ticks
 next_sound n past [] trace all e = finished_sound n past past.node trace all e
 next_sound n past (line ∷ lines) trace all e = elim (cases_Bool (is_blank line)) [
   | inl blank ↦
@@ -188,12 +200,20 @@ next_sound n past (line ∷ lines) trace all e = elim (cases_Bool (is_blank line
       next_sound (n + 1) step.0 lines trace here step.2
 ]
 
+-- no ticks
+none_sound : AreSound []
+none_sound = record { acceptable = λ pod container t lt. absurd (omega arith); rising = λ t u x y lt e f. absurd (cc) }
+
 -- the ticks of a text's trace
-pub trace_sound : (text : List ℕ) (trace : Trace) → trace_of text ≡ Ok trace → AreAcceptable trace.ticks
+trace_sound : (text : List ℕ) (trace : Trace) → trace_of text ≡ Ok trace → AreSound trace.ticks
 unfolding trace_of
-trace_sound text trace e = next_sound 1 nothing (lines_of text) trace (λ pod container t lt. absurd (omega arith)) e
+trace_sound text trace e = next_sound 1 nothing (lines_of text) trace none_sound e
 
 -- what a call answers that gives this trace
-pub given_sound : (text : List ℕ) (answer : Result Trace LineFault) → GivesAt (λ t. t) answer (trace_of text) → IfOk answer (λ t. AreAcceptable t.ticks)
-given_sound text (Ok trace) given = trace_sound text trace given
-given_sound text (Err fault) given = tt
+pub given_acceptable : (text : List ℕ) (answer : Result Trace LineFault) → GivesAt (λ t. t) answer (trace_of text) → IfOk answer (λ t. AreAcceptable t.ticks)
+given_acceptable text (Ok trace) given = (trace_sound text trace given).acceptable
+given_acceptable text (Err fault) given = tt
+
+pub given_rising : (text : List ℕ) (answer : Result Trace LineFault) → GivesAt (λ t. t) answer (trace_of text) → IfOk answer (λ t. AreRising t.ticks)
+given_rising text (Ok trace) given = (trace_sound text trace given).rising
+given_rising text (Err fault) given = tt

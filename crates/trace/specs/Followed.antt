@@ -1,11 +1,12 @@
 -- The differs that follow the containers of the pods, one tick after the other.
-use Rattle.std.specs.Prelude.{◌≡◌, ◌⊎◌, ℕ, ◌<◌, true, false, List, [], ◌∷◌, ◌++◌, length, map, slice_index_or, Option}
+use Rattle.std.specs.Prelude.{◌≡◌, ◌⊎◌, ℕ, ◌-◌, ◌<◌, true, false, List, [], ◌∷◌, ◌++◌, length, map, slice_get, slice_index_or, Option, IfSome}
+use Rattle.std.specs.List.{All}
 use Rattle.histories.specs.Histories.{recorded}
 use Rattle.manifest.specs.declared.pod.PodSpec.{PodSpec}
 use Rattle.state_diff.specs.declared.seen.Seen.{Seen}
 use Rattle.state_diff.specs.declared.differ.Differ.{Differ}
 use Rattle.state_diff.specs.Acceptable.{is_acceptable}
-use Rattle.state_diff.specs.Differ.{IsStateOf}
+use Rattle.state_diff.specs.Differ.{IsStateOf, IsBefore}
 use Rattle.state_diff.specs.Instances.{Tick}
 use Rattle.trace.specs.declared.fault.LineKind.{LineKind}
 use Rattle.trace.specs.declared.fault.LineKind.TheVariants.{Backwards, OutOfMemory}
@@ -23,6 +24,14 @@ pub record AreFollowed (ticks : List TickObs) (pods : List PodSpec) (differs : L
 pub record AreNew (count : ℕ) (differs : List Differ) : Type 0 where
   pub as_many : length differs ≡ count
   pub new : (c : ℕ) (d : Differ) → c < count → IsStateOf [] (slice_index_or differs c d)
+
+-- the last of the ticks, if there is one, is before the moment
+abbrev pub EndBefore : List TickObs → ℕ → Type 0
+EndBefore ticks moment = IfSome (slice_get ticks (length ticks - 1)) (λ last. last.at < moment)
+
+-- so is the last tick of each of a pod's differs
+abbrev pub AreBefore : List Differ → ℕ → Type 0
+AreBefore differs moment = All (λ d. IsBefore d moment) differs
 
 -- the tick shows each container of these pods
 abbrev pub Shows : List PodSpec → TickObs → Type 0

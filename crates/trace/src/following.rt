@@ -1,10 +1,12 @@
 //! The differs that follow the containers, one tick after the other.
 
+ghost use Rattle.std.specs.List.{All};
 ghost use Rattle.std.specs.Prelude.{◌≡◌, ◌++◌, ◌∷◌, [], length, IfOk, IfErr};
 ghost use Rattle.json_fields.specs.Reading.{refused_if};
 ghost use Rattle.trace.specs.Gives.{Gives};
 ghost use Rattle.trace.specs.Backwards.{is_backwards};
-ghost use Rattle.trace.specs.Followed.{AreFollowed, AreNew, Shows, Takes, Refuses, HaveTaken, PodsHaveTaken, SomeRefuses, SomePodRefuses, IsRefusal};
+ghost use Rattle.state_diff.specs.Differ.{IsBefore};
+ghost use Rattle.trace.specs.Followed.{AreFollowed, AreNew, AreBefore, EndBefore, Shows, Takes, Refuses, HaveTaken, PodsHaveTaken, SomeRefuses, SomePodRefuses, IsRefusal};
 
 use crate::fault::LineKind;
 use crate::observation::{TickObs, seen_of};
@@ -26,6 +28,7 @@ pub(crate) fn new_differs(alloc: Global, count: usize) -> Result<Vec<Differ>, Al
 
 /// The differ after a tick that lists this, if that may come next.
 fn differ_after(differ: Differ, at: u64, seen: Option<Seen>) -> Result<Differ, LineKind>
+    requires { IsBefore differ at }
     ensures taken { IfOk result (λ next. Takes at seen differ next) }
     ensures refused { IfErr result (λ e. (e ≡ LineKind.Backwards) × Refuses seen differ) }
 {
@@ -43,6 +46,7 @@ fn pod_after(
     tick: &TickObs,
     pod: usize,
 ) -> Result<Vec<Differ>, LineKind>
+    requires { AreBefore differs.now tick.now.at }
     ensures taken { IfOk result (λ v. HaveTaken (length differs.now) tick.now pod differs.now v.items) }
     ensures refused { IfErr result (λ e. IsRefusal (SomeRefuses tick.now pod differs.now) e) }
 {
@@ -59,6 +63,7 @@ fn pods_after(
     differs: &[Sequence<Differ>],
     tick: &TickObs,
 ) -> Result<Vec<Sequence<Differ>>, LineKind>
+    requires { All (λ ds. AreBefore ds tick.now.at) differs.now }
     ensures taken { IfOk result (λ v. PodsHaveTaken (length differs.now) tick.now differs.now v.items) }
     ensures refused { IfErr result (λ e. IsRefusal (SomePodRefuses tick.now differs.now) e) }
 {
@@ -76,7 +81,8 @@ pub(crate) fn differs_after(
     reader: &Reader,
     tick: &TickObs,
 ) -> Result<Sequence<Sequence<Differ>>, LineKind>
-    requires { Shows reader.now.pods tick.now }
+    requires shown { Shows reader.now.pods tick.now }
+    requires later { EndBefore reader.now.ticks tick.now.at }
     ensures gives { Gives (λ _. tt) result (refused_if (is_backwards reader.now.ticks tick.now) LineKind.Backwards) }
     ensures followed { IfOk result (λ d. AreFollowed (reader.now.ticks ++ tick.now ∷ []) reader.now.pods d) }
 {

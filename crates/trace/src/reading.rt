@@ -4,7 +4,7 @@ ghost use Rattle.std.specs.Prelude.{◌≡◌, [], option_map, Ok, IfOk};
 ghost use Rattle.serde_json.specs.View.{view};
 ghost use Rattle.trace.specs.Gives.{Gives, GivesAt};
 ghost use Rattle.trace.specs.Past.{with_pod};
-ghost use Rattle.trace.specs.Sound.{AreAcceptable};
+ghost use Rattle.trace.specs.Sound.{AreAcceptable, AreRising};
 ghost use Rattle.trace.specs.Trace.{json_of, kind_from, with_node, pod_line_at, line_at, trace_of, finished, in_order};
 
 use crate::fault::{LineFault, LineKind};
@@ -178,6 +178,7 @@ fn read_lines(alloc: Global, text: &[u8]) -> Result<Trace, LineFault>
 pub fn read_trace(alloc: Global, text: &[u8]) -> Result<Trace, LineFault>
     ensures gives { GivesAt (λ t. t) result (trace_of text.now) }
     ensures acceptable { IfOk result (λ t. AreAcceptable t.ticks) }
+    ensures rising { IfOk result (λ t. AreRising t.ticks) }
 {
     read_lines(alloc, text)
 }

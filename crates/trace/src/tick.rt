@@ -8,7 +8,7 @@ ghost use Rattle.trace.specs.Gives.{Gives};
 ghost use Rattle.trace.specs.Past.{with_tick};
 ghost use Rattle.trace.specs.Placing.{placed_of};
 ghost use Rattle.trace.specs.Observed.{seen_in, is_of_probe, outcome_in, results_in, entry_for, listings_of, results_of, seen_reported, containers_from, pod_observed, pods_from, observed, lacks_code, some_code_missing};
-ghost use Rattle.trace.specs.Followed.{AreFollowed};
+ghost use Rattle.trace.specs.Followed.{AreFollowed, EndBefore};
 ghost use Rattle.trace.specs.Tick.{moment_of, most_ticks, observed_in, tick_at};
 
 use crate::fault::LineKind;
@@ -225,7 +225,8 @@ fn room(reader: &Reader) -> Result<(), LineKind>
 }
 
 fn moment_after(reader: &Reader, found: Option<&Value>) -> Result<u64, LineKind>
-    ensures { Gives (λ n. n) result (moment_of reader.now.ticks (option_map (λ v. view v.now) found.entry)) }
+    ensures gives { Gives (λ n. n) result (moment_of reader.now.ticks (option_map (λ v. view v.now) found.entry)) }
+    ensures later { IfOk result (λ at. EndBefore reader.now.ticks at) }
 {
     moment(reader.ticks.as_slice(), found)
 }
@@ -251,6 +252,7 @@ fn observed_in(
     at: u64,
     entries: &[PlacedEntry],
 ) -> Result<(TickObs, Sequence<Sequence<Differ>>), LineKind>
+    requires { EndBefore reader.now.ticks at }
     ensures gives { Gives (λ r. r.0) result (observed_in reader.now at entries.now) }
     ensures followed { IfOk result (λ r. AreFollowed (reader.now.ticks ++ r.0 ∷ []) reader.now.pods r.1) }
 {

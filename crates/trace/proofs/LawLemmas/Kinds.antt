@@ -1,11 +1,11 @@
 -- The kinds of fault that the checks of a line answer.
-use Rattle.std.proofs.Common.{◌≡◌, ◌≢◌, ◌⊎◌, ℕ, Bool, true, false, List, [], ◌∷◌, length, slice_get, Option, Some, None, Result, Ok, Err, refl, sym, subst, inl, inr, is_some}
+use Rattle.std.proofs.Common.{◌≡◌, ◌⊎◌, ℕ, Bool, List, [], length, slice_get, Option, Some, None, Result, Ok, Err, refl, sym, subst, inl, inr, is_some}
 use Rattle.std.specs.Prelude.{◌==◌, ◌&&◌, ◌-◌, ◌^◌, if◌then◌else◌, option_and_then, nat_lt, codes}
 use Rattle.serde_json.specs.Data.{Data, Items}
-use Rattle.serde_json.specs.Find.{as_str, as_number, as_u64, as_array, as_object}
-use Rattle.manifest.specs.Names.{is_name, is_label}
+use Rattle.serde_json.specs.Find.{as_str, as_number, as_u64, as_array}
+use Rattle.manifest.specs.Names.{is_name}
 use Rattle.json_fields.specs.Fields.{field_at, text_at}
-use Rattle.json_fields.specs.Reading.{◌>>=◌, refused_if, some_or, each}
+use Rattle.json_fields.specs.Reading.{some_or}
 use Rattle.manifest.specs.declared.pod.PodSpec.{PodSpec}
 use Rattle.trace.specs.declared.fault.LineKind.{LineKind}
 use Rattle.trace.specs.declared.fault.LineKind.TheVariants.{NotJson, Config, Manifest, Moment, Usage, StrangerPod, StrangerContainer, Order}
@@ -21,7 +21,6 @@ use Rattle.trace.specs.Node.{version_from, version_of, name_from, absent, evicti
 use Rattle.manifest.specs.declared.fault.ManifestFault.{ManifestFault}
 use Rattle.manifest.specs.declared.fault.ManifestFault.TheVariants.{Missing, WrongKind, DuplicateContainer, Sidecar}
 use Rattle.manifest.specs.declared.fault.ManifestFault.TheVariants as faults
-use Rattle.manifest.specs.declared.fault.Field.{Field}
 use Rattle.manifest.specs.declared.fault.Field.TheVariants as fields
 use Rattle.manifest.specs.Containers.{names_of}
 use Rattle.name_list.specs.Names.{place_of}
@@ -41,7 +40,7 @@ use Rattle.trace.specs.Laws.{IsFirstFault, Fails, too_long, not_json, unknown_ki
 use Rattle.trace.proofs.LawLemmas.{first_fault}
 use Rattle.trace.proofs.LawLemmas.Checks.{line_fails}
 use Rattle.trace.proofs.LawLemmas.Only.{Only, only_ok, only_err, only_bind, only_if, only_refused, only_some, only_each}
-use Rattle.trace.proofs.LawLemmas.ManifestKinds.{IsFound, missing, wrong, pod_of_only}
+use Rattle.trace.proofs.LawLemmas.ManifestKinds.{IsFound, missing, pod_of_only}
 
 abbrev Is : LineKind → LineKind → Type 0
 Is given kind = kind ≡ given

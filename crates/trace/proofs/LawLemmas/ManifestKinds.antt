@@ -1,6 +1,6 @@
 -- The faults of a manifest, none of which is for want of memory.
 use Rattle.std.proofs.Common.{◌≡◌, ◌≢◌, ℕ, ℤ, Bool, true, false, List, [], ◌∷◌, ◌+◌, ◌++◌, length, Option, Some, None, Result, Ok, Err, refl, is_some}
-use Rattle.std.specs.Prelude.{◌*◌, ◌&&◌, ◌^◌, pos, negsuc, int_le, min, if◌then◌else◌, option_and_then, nat_lt, nat_le, codes}
+use Rattle.std.specs.Prelude.{◌*◌, pos, min, if◌then◌else◌, option_and_then, nat_lt, codes}
 use Rattle.serde_json.specs.Data.{Data, Items}
 use Rattle.serde_json.specs.Find.{as_str, as_number, as_u64, as_i64, as_array, as_object}
 use Rattle.json_fields.specs.Fields.{field_at, items_list}
@@ -20,8 +20,8 @@ use Rattle.manifest.specs.Fields.{object_of, tested_text, required_text, text_or
 use Rattle.manifest.specs.Probe.{no_probes}
 use Rattle.manifest.specs.ProbeFields.{not_from_0, number_from, number_of, probe_in, probe_of, app_probes, init_probes, probes_of}
 use Rattle.manifest.specs.Resources.{nothing, no_resources, some_above}
-use Rattle.manifest.specs.ResourceFields.{quantity_read, quantity_numbered, quantity_from, quantity_at, amounts_in, amounts_of, within, resources_in, resources_of}
-use Rattle.manifest.specs.Manifest.{policy_from, policy_of, priority_from, priority_of, grace_period_from, grace_period_of, place_of, container_of, few, containers_of, app_items_of, containers_in, metadata_of, settings_in, spec_of, pod_at}
+use Rattle.manifest.specs.ResourceFields.{quantity_read, quantity_numbered, quantity_from, quantity_at, amounts_in, amounts_of, resources_in, resources_of}
+use Rattle.manifest.specs.Manifest.{policy_from, policy_of, priority_from, priority_of, grace_period_from, grace_period_of, place_of, container_of, containers_of, app_items_of, containers_in, metadata_of, settings_in, spec_of, pod_at}
 use Rattle.manifest.specs.Containers.{has_twice}
 use Rattle.trace.specs.Pod.{has_init_containers, has_probe, refusal_of, unless, replayed, pod_of}
 use Rattle.trace.proofs.LawLemmas.Only.{Only, only_ok, only_err, only_bind, only_if, only_refused, only_each}

@@ -6,7 +6,7 @@ use Rattle.kubelet_replay.proofs.Following.{ready}
 use Rattle.kubelet_replay.proofs.follow.follow.Goals as goal
 
 pub take-requires : goal.take-requires
-take-requires c = ready c.args.shape c.args.pod c.args.ticks.now c.loop-tick.tick-index c.tick-item.result c.loop-tick.followed c.loop-tick-test.true c.tick-item.is c.requires c.loop-tick.invariant
+take-requires c = ready c.args.shape c.args.pod c.args.ticks.now c.loop-tick.tick-index c.tick-item.result c.loop-tick.followed c.loop-tick-test.true c.tick-item.is c.requires.acceptable c.requires.rising c.loop-tick.invariant
 
 pub loop-tick-preserved : goal.loop-tick-preserved
 loop-tick-preserved c =

@@ -2,21 +2,27 @@ use Rattle.std.proofs.Common.{◌∙◌, ℕ, ◌<◌, List, [], ◌∷◌, ◌+
 use Rattle.histories.specs.Histories.{recorded}
 use Rattle.state_diff.specs.declared.seen.Seen.{Seen}
 use Rattle.state_diff.specs.Instances.{Tick}
-use Rattle.state_diff.specs.Differ.{IsStateOf, Accepts}
+use Rattle.state_diff.specs.Differ.{IsStateOf, Accepts, IsBefore}
 use Rattle.state_diff.specs.declared.differ.Differ.{Differ}
 use Rattle.trace.specs.Observations.{seen_of}
 use Rattle.trace.proofs.FollowedLemmas.{any_default}
 use Rattle.kubelet_replay.proofs.Places.{set_each, set_rest}
 use Rattle.kubelet_replay.proofs.follow.step_all.Goals as goal
 
-pub stepped-requires : goal.stepped-requires
-stepped-requires c =
+pub stepped-requires-clause-accepts : goal.stepped-requires-clause-accepts
+stepped-requires-clause-accepts c =
     let is = c.index-differs-container.is in
     let seen = c.seen_of.ensures in
     let here : c.loop-container.container < length c.args.differs.now = omega arith in
-    let accepts = c.requires c.loop-container.container c.index-differs-container.result here in
+    let accepts = c.requires.accepts c.loop-container.container c.index-differs-container.result here in
     let rest = c.loop-container.invariant.rest c.loop-container.container c.index-differs-container.result (omega arith) in
     subst (λ (d : Differ). Accepts d c.seen_of.result) (sym (is ∙ rest)) (rw seen accepts)
+
+pub stepped-requires-clause-later : goal.stepped-requires-clause-later
+stepped-requires-clause-later c =
+    let before = c.requires.later c.loop-container.container c.index-differs-container.result (omega arith) in
+    let rest = c.loop-container.invariant.rest c.loop-container.container c.index-differs-container.result (omega arith) in
+    subst (λ (d : Differ). IsBefore d c.args.tick.now.at) (sym (c.index-differs-container.is ∙ rest)) before
 
 pub loop-container-preserved : goal.loop-container-preserved
 loop-container-preserved c =

@@ -4,8 +4,8 @@ use Rattle.kubelet_replay.specs.PodHistory.{pod_history}
 use Rattle.kubelet_replay.proofs.Shown.{views_of}
 use Rattle.kubelet_replay.proofs.report.pod_lines.Goals as goal
 
-pub follow-requires : goal.follow-requires
-follow-requires c = λ k. c.requires c.args.number k
+pub follow-requires-clause-acceptable : goal.follow-requires-clause-acceptable
+follow-requires-clause-acceptable c = λ k. c.requires.acceptable c.args.number k
 
 pub returns : goal.returns
 returns c =

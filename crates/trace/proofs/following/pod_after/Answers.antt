@@ -1,8 +1,12 @@
 use Rattle.std.proofs.Common.{◌+◌, sym, subst, inr}
 use Rattle.std.proofs.lemmas.Result.{err_from_is_err_and}
 use Rattle.trace.specs.Followed.{HaveTaken}
-use Rattle.trace.proofs.FollowedLemmas.{differ_more, some_refuses}
+use Rattle.trace.proofs.FollowedLemmas.{differ_before, differ_more, some_refuses}
 use Rattle.trace.proofs.following.pod_after.Goals as goal
+
+pub differ_after-requires : goal.differ_after-requires
+differ_after-requires c =
+    differ_before c.args.differs.now c.loop-container.container c.index-differs-container.result c.args.tick.now.at c.loop-container-test.true c.index-differs-container.is c.requires
 
 pub returns-in_err-next-clause-refused : goal.returns-in_err-next-clause-refused
 returns-in_err-next-clause-refused c =

@@ -1,8 +1,12 @@
 use Rattle.std.proofs.Common.{◌+◌, sym, subst}
 use Rattle.std.proofs.lemmas.Result.{err_from_is_err_and}
 use Rattle.trace.specs.Followed.{PodsHaveTaken}
-use Rattle.trace.proofs.FollowedLemmas.{pod_taken_more, some_pod_refuses}
+use Rattle.trace.proofs.FollowedLemmas.{pod_before, pod_taken_more, some_pod_refuses}
 use Rattle.trace.proofs.following.pods_after.Goals as goal
+
+pub pod_after-requires : goal.pod_after-requires
+pod_after-requires c =
+    pod_before c.args.differs.now c.loop-pod.pod c.index-differs-pod.result c.as_slice.result.now c.args.tick.now.at c.loop-pod-test.true c.index-differs-pod.is c.as_slice.ensures c.requires
 
 pub returns-in_err-next-clause-refused : goal.returns-in_err-next-clause-refused
 returns-in_err-next-clause-refused c =

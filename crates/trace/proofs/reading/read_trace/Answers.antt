@@ -1,5 +1,8 @@
-use Rattle.trace.proofs.Sound.{given_sound}
+use Rattle.trace.proofs.Sound.{given_acceptable, given_rising}
 use Rattle.trace.proofs.reading.read_trace.Goals as goal
 
 pub returns-clause-acceptable : goal.returns-clause-acceptable
-returns-clause-acceptable c = given_sound c.args.text.now c.read_lines.result c.read_lines.ensures
+returns-clause-acceptable c = given_acceptable c.args.text.now c.read_lines.result c.read_lines.ensures
+
+pub returns-clause-rising : goal.returns-clause-rising
+returns-clause-rising c = given_rising c.args.text.now c.read_lines.result c.read_lines.ensures

@@ -7,6 +7,7 @@ use Rattle.state_diff.specs.Differ.{Accepts}
 use Rattle.phase.specs.declared.view.ContainerView.{ContainerView}
 use Rattle.phase.specs.Pods.{AreViewsOf}
 use Rattle.phase.specs.RawPhase.{IsTerminal}
+use Rattle.trace.specs.Followed.{AreBefore}
 use Rattle.trace.specs.Observations.{seen_of}
 use Rattle.kubelet_replay.specs.PodHistory.{listed, pod_history}
 use Rattle.kubelet_replay.specs.Follow.{AreSteppedBy, AreShownBy}
@@ -20,12 +21,17 @@ returns-then-has_ended c = λ ticks f.
     after_end c.args.shape c.args.pod ticks c.args.tick.now c.args.self.now _ f ended refl refl
     (c.advance.ensures None h (listed (slice_get c.args.tick.now.pods c.args.pod)) (λ not. absurd (not ended)) (not_evicted (length h)) f.progress)
 
-pub step_all-requires : goal.step_all-requires
-step_all-requires c = λ k d lt.
+pub step_all-requires-clause-accepts : goal.step_all-requires-clause-accepts
+step_all-requires-clause-accepts c = λ k d lt.
     let lives : IsTerminal c.args.self.now.status.phase → ⊥ = λ e. (let t = c.has_ended.ensures.terminal.1 e in absurd (cc)) in
     let value = c.deref_mut.ensures.value in
     subst (λ (ds : List Differ). Accepts (slice_index_or ds k d) (seen_of c.args.tick.now c.args.pod k)) (sym value)
     (c.requires.accepts lives k d (omega (arith, ap length value, c.requires.differ_count)))
+
+pub step_all-requires-clause-later : goal.step_all-requires-clause-later
+step_all-requires-clause-later c =
+    let lives : IsTerminal c.args.self.now.status.phase → ⊥ = λ e. (let t = c.has_ended.ensures.terminal.1 e in absurd (cc)) in
+    subst (λ (ds : List Differ). AreBefore ds c.args.tick.now.at) (sym c.deref_mut.ensures.value) (c.requires.before lives)
 
 pub returns : goal.returns
 returns c = λ ticks f.
