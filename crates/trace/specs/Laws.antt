@@ -30,7 +30,7 @@ use Rattle.manifest.specs.declared.fault.ManifestFault.TheVariants as manifest_f
 use Rattle.manifest.specs.declared.pod.PodSpec.{PodSpec}
 use Rattle.trace.specs.declared.observation.TickObs.{TickObs}
 use Rattle.trace.specs.declared.node.NodeConfig.{NodeConfig}
-use Rattle.trace.specs.Past.{Past, with_tick}
+use Rattle.trace.specs.Past.{Past, with_pod, with_tick}
 use Rattle.trace.specs.Tick.{moment_of, most_ticks}
 use Rattle.trace.specs.Trace.{json_of, kind_from, line_at, nothing, trace_of}
 
@@ -156,7 +156,7 @@ FirstCheck = (past : Past) (line : List ℕ) (kind : LineKind) → (line_at past
 -- what is said after a line that passes all its checks
 pub data Says (past : Past) (line : List ℕ) : Past → Type 0 where
   says_node : (d : Data) (node : NodeConfig) → Stands past line sorts.Node d → node_of d ≡ Ok node → Says past line (record { node = Some node; pods = past.pods; ticks = past.ticks })
-  says_pod : (d : Data) (pod : PodSpec) → Stands past line sorts.Pod d → past.pods ≡ [] → pod_from (field_at (codes "pod") d) ≡ Ok pod → Says past line (record { node = past.node; pods = past.pods ++ pod ∷ []; ticks = past.ticks })
+  says_pod : (d : Data) (pod : PodSpec) → Stands past line sorts.Pod d → past.pods ≡ [] → pod_from (field_at (codes "pod") d) ≡ Ok pod → Says past line (with_pod past pod)
   says_tick : (d : Data) (at : ℕ) (placed : List PlacedEntry) → IsForwards past line d at placed → some_code_missing placed ≡ false → Says past line (with_tick past (observed at placed past.pods))
 
 -- a line without a fault says its node, its pod or its tick, behind what is said before it

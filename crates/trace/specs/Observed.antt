@@ -17,7 +17,7 @@ use Rattle.trace.specs.declared.placing.PlacedEntry.{PlacedEntry}
 use Rattle.trace.specs.declared.observation.ContainerObs.{ContainerObs}
 use Rattle.trace.specs.declared.observation.PodObs.{PodObs}
 use Rattle.trace.specs.declared.observation.TickObs.{TickObs}
-use Rattle.trace.specs.Results.{place}
+use Rattle.trace.specs.Placing.{is_of_probe}
 
 abbrev pub seen_as : CriState → Report → Seen
 seen_as Created r = record { attempt = r.attempt; state = Created; code = None; code_given = refl }
@@ -33,9 +33,6 @@ seen_reported r = seen_as r.state r
 abbrev pub seen_in : List PlacedListing → ℕ → Option Seen
 seen_in [] n = None
 seen_in (l ∷ ls) n = if l.container == n then Some (seen_reported l.report) else seen_in ls n
-
-abbrev pub is_of_probe : PlacedResult → ℕ → ProbeKind → Bool
-is_of_probe r n probe = r.container == n && place r.probe == place probe
 
 -- what the results say of this probe of the container with the number
 abbrev pub outcome_in : List PlacedResult → ℕ → ProbeKind → Option Outcome

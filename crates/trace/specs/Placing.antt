@@ -10,6 +10,7 @@ use Rattle.trace.specs.declared.fault.LineKind.TheVariants.{StrangerPod, Strange
 use Rattle.trace.specs.declared.listing.Listing.{Listing}
 use Rattle.trace.specs.declared.listing.Entry.{Entry}
 use Rattle.trace.specs.declared.probing.ProbeResult.{ProbeResult}
+use Rattle.trace.specs.declared.outcome.ProbeKind.{ProbeKind}
 use Rattle.trace.specs.declared.placing.PlacedListing.{PlacedListing}
 use Rattle.trace.specs.declared.placing.PlacedResult.{PlacedResult}
 use Rattle.trace.specs.declared.placing.PlacedEntry.{PlacedEntry}
@@ -60,9 +61,13 @@ are_of_one_pod e f = e.pod == f.pod
 abbrev pub are_of_one_container : PlacedListing → PlacedListing → Bool
 are_of_one_container l m = l.container == m.container
 
+-- the result is of this probe of the container with the number
+abbrev pub is_of_probe : PlacedResult → ℕ → ProbeKind → Bool
+is_of_probe r n probe = r.container == n && place r.probe == place probe
+
 -- whatever their outcomes are
 abbrev pub are_of_one_probe : PlacedResult → PlacedResult → Bool
-are_of_one_probe r s = r.container == s.container && place r.probe == place s.probe
+are_of_one_probe r s = is_of_probe r s.container s.probe
 
 -- a container is listed twice, or has two results of one probe
 abbrev pub repeats : PlacedEntry → Bool

@@ -15,7 +15,7 @@ use Rattle.trace.specs.declared.past.Sort.TheVariants as sorts
 use Rattle.trace.specs.Lines.{lines_of, is_blank}
 use Rattle.trace.specs.Node.{node_of}
 use Rattle.trace.specs.Pod.{pod_from}
-use Rattle.trace.specs.Past.{Past}
+use Rattle.trace.specs.Past.{Past, with_pod}
 use Rattle.trace.specs.Tick.{tick_at}
 
 -- a line's JSON value
@@ -40,7 +40,7 @@ pod_line_at past d = do
   before_ticks ← refused_if (nat_lt 0 (length past.ticks)) Order
   only ← refused_if (nat_lt 0 (length past.pods)) TooMany
   pod ← pod_from (field_at (codes "pod") d)
-  Ok (record { node = past.node; pods = past.pods ++ pod ∷ []; ticks = past.ticks })
+  Ok (with_pod past pod)
 
 -- a node line stands first, and nowhere else
 abbrev pub in_order : Option NodeConfig → Past → Sort → Data → Result Past LineKind

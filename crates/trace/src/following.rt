@@ -19,11 +19,7 @@ use std::alloc::{AllocError, Global};
 pub(crate) fn new_differs(alloc: Global, count: usize) -> Result<Vec<Differ>, AllocError>
     ensures { IfOk result (λ v. AreNew count v.items) }
 {
-    let mut all = Vec::new(alloc);
-    for place in 0..count {
-        all.push(Differ::new())?;
-    }
-    Ok(all)
+    Ok(vec![in alloc; Differ::new(); count]?)
 }
 
 /// The differ after a tick that lists this, if that may come next.

@@ -5,7 +5,7 @@ ghost use Rattle.name_list.specs.Names.{place_of};
 ghost use Rattle.json_fields.specs.Reading.{each, some_or};
 ghost use Rattle.trace.specs.Gives.{Gives};
 ghost use Rattle.trace.specs.Pod.{keys_of};
-ghost use Rattle.trace.specs.Placing.{number_in, container_number, placed_listing, placed_result, pod_numbered, placed_entry, has_twice, are_of_one_pod, are_of_one_container, are_of_one_probe, repeats, is_doubled};
+ghost use Rattle.trace.specs.Placing.{number_in, container_number, placed_listing, placed_result, pod_numbered, placed_entry, has_twice, are_of_one_pod, are_of_one_container, is_of_probe, are_of_one_probe, repeats, is_doubled};
 ghost use Rattle.std.specs.List.{list_any};
 
 use crate::fault::LineKind;
@@ -209,16 +209,19 @@ fn has_pod_twice(entries: &[PlacedEntry]) -> bool
     false
 }
 
-fn are_of_one_probe(one: PlacedResult, other: PlacedResult) -> bool
-    ensures { result ≡ are_of_one_probe one other }
+/// Whether the result is of this probe of the container with the number.
+pub(crate) fn is_of_probe(placed: PlacedResult, container: usize, probe: ProbeKind) -> bool
+    ensures { result ≡ is_of_probe placed container probe }
 {
-    one.container == other.container && one.probe.place() == other.probe.place()
+    placed.container == container && placed.probe.place() == probe.place()
 }
 
 fn has_result(results: &[PlacedResult], other: PlacedResult) -> bool
     ensures { result ≡ list_any (λ r. are_of_one_probe r other) results.now }
 {
-    results.iter().any(|r| are_of_one_probe(*r, other))
+    results
+        .iter()
+        .any(|r| is_of_probe(*r, other.container, other.probe))
 }
 
 fn has_result_twice(results: &[PlacedResult]) -> bool

@@ -7,7 +7,7 @@ ghost use Rattle.json_fields.specs.Reading.{refused_if};
 ghost use Rattle.trace.specs.Gives.{Gives};
 ghost use Rattle.trace.specs.Past.{with_tick};
 ghost use Rattle.trace.specs.Placing.{placed_of};
-ghost use Rattle.trace.specs.Observed.{seen_in, is_of_probe, outcome_in, results_in, entry_for, listings_of, results_of, seen_reported, containers_from, pod_observed, pods_from, observed, lacks_code, some_code_missing};
+ghost use Rattle.trace.specs.Observed.{seen_in, outcome_in, results_in, entry_for, listings_of, results_of, seen_reported, containers_from, pod_observed, pods_from, observed, lacks_code, some_code_missing};
 ghost use Rattle.trace.specs.Followed.{AreFollowed, EndBefore};
 ghost use Rattle.trace.specs.Tick.{moment_of, most_ticks, observed_in, tick_at};
 
@@ -18,7 +18,7 @@ use crate::observation::{ContainerObs, PodObs, TickObs};
 use crate::outcome::{Outcome, ProbeKind};
 use crate::past::Reader;
 use crate::placing::{
-    PlacedEntry, PlacedListing, PlacedResult, is_doubled, placed_entries, pod_numbers,
+    PlacedEntry, PlacedListing, PlacedResult, is_doubled, is_of_probe, placed_entries, pod_numbers,
 };
 use crate::sequence::Sequence;
 use json_fields::field;
@@ -69,12 +69,6 @@ fn seen_in(listings: &[PlacedListing], container: usize) -> Option<Seen>
         }
     }
     None
-}
-
-fn is_of_probe(placed: PlacedResult, container: usize, probe: ProbeKind) -> bool
-    ensures { result ≡ is_of_probe placed container probe }
-{
-    placed.container == container && placed.probe.place() == probe.place()
 }
 
 fn outcome_in(results: &[PlacedResult], container: usize, probe: ProbeKind) -> Option<Outcome>

@@ -8,8 +8,8 @@ use Rattle.trace.specs.declared.outcome.ProbeKind.{ProbeKind}
 use Rattle.trace.specs.declared.outcome.ProbeKind.TheVariants.{Startup, Liveness, Readiness}
 use Rattle.trace.specs.declared.placing.PlacedResult.{PlacedResult}
 use Rattle.trace.specs.Results.{place}
-use Rattle.trace.specs.Placing.{has_twice, are_of_one_probe}
-use Rattle.trace.specs.Observed.{is_of_probe, outcome_in}
+use Rattle.trace.specs.Placing.{has_twice, is_of_probe, are_of_one_probe}
+use Rattle.trace.specs.Observed.{outcome_in}
 use Rattle.trace.specs.Laws.{IsGiven, ResultsShown}
 
 same_probe : (a b : ProbeKind) → (place a == place b) ≡ true → a ≡ b
