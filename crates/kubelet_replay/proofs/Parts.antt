@@ -3,7 +3,8 @@ use Rattle.std.proofs.Common.{◌≡◌, ◌∙◌, ℕ, ◌+◌, ◌<◌, List,
 use Rattle.std.proofs.lemmas.List.{get_or_append_left, get_or_push, take_more, length-take-le}
 use Rattle.manifest.specs.declared.pod.PodSpec.{PodSpec}
 use Rattle.trace.specs.declared.observation.TickObs.{TickObs}
-use Rattle.kubelet_replay.specs.Texts.{flat}
+use Rattle.std.specs.List.{concat}
+use Rattle.std.proofs.lemmas.List.Folds.{concat-append}
 use Rattle.kubelet_replay.specs.Report.{ArePodLines, IsReport}
 use Rattle.trace.proofs.FollowedLemmas.{pushed_each}
 
@@ -11,9 +12,8 @@ pub four_parts : (s p q r t a b c d : List ℕ) → p ≡ s ++ a → q ≡ p ++ 
 four_parts s p q r t a b c d ep eq er et =
     rw (et, er, eq, ep) (simp append_assoc)
 
-flat-push : (parts : List (List ℕ)) (part : List ℕ) → flat (parts ++ part ∷ []) ≡ flat parts ++ part
-flat-push [] part = simp append-nil
-flat-push (p ∷ ps) part = ap (λ (xs : List ℕ). p ++ xs) (flat-push ps part) ∙ sym (append_assoc p (flat ps) part)
+concat-push : (parts : List (List ℕ)) (part : List ℕ) → concat (parts ++ part ∷ []) ≡ concat parts ++ part
+concat-push parts part = concat-append parts (part ∷ []) ∙ ap (λ (xs : List ℕ). concat parts ++ xs) (append-nil part)
 
 -- no pods yet
 pub no_report : (ticks : List TickObs) → IsReport ticks [] []
@@ -33,7 +33,7 @@ report_more ticks pods pod n so_far lines count report are =
       parts = report.parts ++ lines ∷ [];
       as_many = simp length-append (omega arith);
       each = λ k d e lt. pushed_each P pods pod n count old new k d (omega (arith, length-append pods (pod ∷ []))) e;
-      whole = ap (λ (xs : List ℕ). xs ++ lines) report.whole ∙ sym (flat-push report.parts lines);
+      whole = ap (λ (xs : List ℕ). xs ++ lines) report.whole ∙ sym (concat-push report.parts lines);
     }
 
 -- the next pod of a list

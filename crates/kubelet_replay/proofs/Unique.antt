@@ -13,7 +13,7 @@ use Rattle.trace.specs.declared.observation.TickObs.{TickObs}
 use Rattle.trace.specs.declared.past.Trace.{Trace}
 use Rattle.kubelet_replay.specs.Lines.{pod_text}
 use Rattle.kubelet_replay.specs.PodHistory.{pod_history}
-use Rattle.kubelet_replay.specs.Texts.{flat}
+use Rattle.std.specs.List.{concat}
 use Rattle.qos.specs.declared.class.Qos.{Qos}
 use Rattle.qos.proofs.ClassLemmas.{one_class}
 use Rattle.kubelet_replay.specs.Report.{IsShapeOf, ArePodLines, IsReport}
@@ -72,7 +72,7 @@ report_one ticks pods a b x y =
     let within : n < length pods = omega (arith, x.as_many) in
     let d = some_item pods n within in
     lines_one ticks n (slice_index_or pods n d) (slice_index_or x.parts n e) (slice_index_or y.parts n e) (x.each n d e within) (y.each n d e within)) in
-    x.whole ∙ ap flat parts ∙ sym y.whole
+    x.whole ∙ ap concat parts ∙ sym y.whole
 
 text_one : (text a b : List ℕ) → IsReportOfText text a → IsReportOfText text b → a ≡ b
 text_one text a b x y =

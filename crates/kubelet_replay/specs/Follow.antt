@@ -9,11 +9,6 @@ use Rattle.phase.specs.Pods.{IsViewOf}
 use Rattle.trace.specs.declared.observation.TickObs.{TickObs}
 use Rattle.trace.specs.Observations.{seen_of}
 
--- so many views, of containers that were never listed
-pub record AreNewViews (count : ℕ) (views : List ContainerView) : Type 0 where
-  pub as_many : length views ≡ count
-  pub new : (c : ℕ) (v : ContainerView) → c < count → IsViewOf [] (slice_index_or views c v)
-
 -- each differ has followed one tick more
 pub record AreSteppedBy (tick : TickObs) (pod : ℕ) (old new : List Differ) : Type 0 where
   pub as_many : length new ≡ length old

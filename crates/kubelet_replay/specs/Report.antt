@@ -12,7 +12,7 @@ use Rattle.phase.specs.Status.{IsStatusOf}
 use Rattle.trace.specs.declared.observation.TickObs.{TickObs}
 use Rattle.kubelet_replay.specs.Lines.{pod_text}
 use Rattle.kubelet_replay.specs.PodHistory.{pod_history}
-use Rattle.kubelet_replay.specs.Texts.{flat}
+use Rattle.std.specs.List.{concat}
 
 -- what the rules on phases need of a pod: its policy, and how many containers and init containers it has
 pub record IsShapeOf (pod : PodSpec) (shape : PodShape) : Type 0 where
@@ -38,4 +38,4 @@ pub record IsReport (ticks : List TickObs) (pods : List PodSpec) (bytes : List �
   pub parts : List (List ℕ)
   pub as_many : length parts ≡ length pods
   pub each : (n : ℕ) (d : PodSpec) (e : List ℕ) → n < length pods → ArePodLines ticks n (slice_index_or pods n d) (slice_index_or parts n e)
-  pub whole : bytes ≡ flat parts
+  pub whole : bytes ≡ concat parts

@@ -6,8 +6,3 @@ abbrev pub joined : List (List ℕ) → List ℕ
 joined [] = []
 joined (part ∷ []) = part
 joined (part ∷ next ∷ parts) = part ++ joined (next ∷ parts)
-
--- all parts one after the other
-abbrev pub flat : List (List ℕ) → List ℕ
-flat [] = []
-flat (part ∷ parts) = part ++ flat parts

@@ -8,10 +8,10 @@ ghost use Rattle.state_diff.specs.declared.differ.Differ.{Differ};
 ghost use Rattle.phase.specs.declared.view.ContainerView.{ContainerView};
 ghost use Rattle.phase.specs.Pods.{IsViewOf};
 ghost use Rattle.trace.specs.declared.observation.TickObs.{TickObs};
-ghost use Rattle.trace.specs.Followed.{AreNew, AreBefore};
+ghost use Rattle.trace.specs.Followed.{AreBefore};
 ghost use Rattle.trace.specs.Observations.{seen_of, history};
 ghost use Rattle.trace.specs.Sound.{AreRising};
-ghost use Rattle.kubelet_replay.specs.Follow.{AreSteppedBy, AreShownBy, AreNewViews};
+ghost use Rattle.kubelet_replay.specs.Follow.{AreSteppedBy, AreShownBy};
 
 use phase::{ContainerView, PodShape, PodStatus};
 use state_diff::{Differ, Seen};
@@ -60,26 +60,6 @@ fn show_all(views: &mut [ContainerView], differs: &[Differ])
     }
 }
 
-fn new_differs(alloc: Global, count: usize) -> Result<Vec<Differ>, AllocError>
-    ensures { IfOk result (λ v. AreNew count v.items) }
-{
-    let mut all = Vec::new(alloc);
-    for place in 0..count {
-        all.push(Differ::new())?;
-    }
-    Ok(all)
-}
-
-fn new_views(alloc: Global, count: usize) -> Result<Vec<ContainerView>, AllocError>
-    ensures { IfOk result (λ v. AreNewViews count v.items) }
-{
-    let mut all = Vec::new(alloc);
-    for place in 0..count {
-        all.push(ContainerView::of(&Differ::new()))?;
-    }
-    Ok(all)
-}
-
 impl Followed {
     ghost use Rattle.kubelet_replay.specs.Followed.{IsFollowed, IsReady};
 
@@ -87,8 +67,10 @@ impl Followed {
     fn new(alloc: Global, shape: PodShape) -> Result<Followed, AllocError>
         ensures { IfOk result (λ f. (pod : ℕ) → IsFollowed shape pod [] f) }
     {
-        let differs = new_differs(alloc, shape.container_count)?;
-        let views = new_views(alloc, shape.container_count)?;
+        let differ = Differ::new();
+        let view = ContainerView::of(&differ);
+        let differs = vec![in alloc; differ; shape.container_count]?;
+        let views = vec![in alloc; view; shape.container_count]?;
         Ok(Followed {
             differs,
             views,
