@@ -61,7 +61,7 @@ listing_of d = do
   name ← some_or Usage (text_at (codes "name") d)
   attempt ← attempt_of (field_at (codes "attempt") d)
   state ← state_of (field_at (codes "state") d)
-  Ok (record { name = name; report = record { attempt = attempt; state = state; code = code_of (field_at (codes "exitCode") d) } })
+  Ok (record { name = name; instance = record { attempt = attempt; state = state; code = code_of (field_at (codes "exitCode") d) } })
 
 abbrev pub items_from : Option Items → Result (List Data) LineKind
 items_from None = Err Usage

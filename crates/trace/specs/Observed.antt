@@ -7,7 +7,7 @@ use Rattle.state_diff.specs.declared.seen.CriState.{CriState}
 use Rattle.state_diff.specs.declared.seen.CriState.TheVariants.{Created, Running, Exited, Unknown}
 use Rattle.state_diff.specs.declared.seen.Seen.{Seen}
 use Rattle.state_diff.specs.States.{is_exited}
-use Rattle.trace.specs.declared.listing.Report.{Report}
+use Rattle.trace.specs.declared.listing.ListedInstance.{ListedInstance}
 use Rattle.trace.specs.declared.outcome.Outcome.{Outcome}
 use Rattle.trace.specs.declared.outcome.ProbeKind.{ProbeKind}
 use Rattle.trace.specs.declared.outcome.ProbeKind.TheVariants.{Startup, Liveness, Readiness}
@@ -19,20 +19,20 @@ use Rattle.trace.specs.declared.observation.PodObs.{PodObs}
 use Rattle.trace.specs.declared.observation.TickObs.{TickObs}
 use Rattle.trace.specs.Placing.{is_of_probe}
 
-abbrev pub seen_as : CriState → Report → Seen
+abbrev pub seen_as : CriState → ListedInstance → Seen
 seen_as Created r = record { attempt = r.attempt; state = Created; code = None; code_given = refl }
 seen_as Running r = record { attempt = r.attempt; state = Running; code = None; code_given = refl }
 seen_as Exited r = record { attempt = r.attempt; state = Exited; code = Some (unwrap_or r.code (pos 0)); code_given = refl }
 seen_as Unknown r = record { attempt = r.attempt; state = Unknown; code = None; code_given = refl }
 
--- the instance that a listing reports; while a missing exit code isn't refused yet, 0 stands in its place
-abbrev pub seen_reported : Report → Seen
-seen_reported r = seen_as r.state r
+-- the instance that a listing says; while a missing exit code isn't refused yet, 0 stands in its place
+abbrev pub seen_listed : ListedInstance → Seen
+seen_listed r = seen_as r.state r
 
 -- what the listings say of the container with the number
 abbrev pub seen_in : List PlacedListing → ℕ → Option Seen
 seen_in [] n = None
-seen_in (l ∷ ls) n = if l.container == n then Some (seen_reported l.report) else seen_in ls n
+seen_in (l ∷ ls) n = if l.container == n then Some (seen_listed l.instance) else seen_in ls n
 
 -- what the results say of this probe of the container with the number
 abbrev pub outcome_in : List PlacedResult → ℕ → ProbeKind → Option Outcome
@@ -75,9 +75,9 @@ pods_from at es n (p ∷ ps) = pod_observed at (entry_for es n) p ∷ pods_from 
 abbrev pub observed : ℕ → List PlacedEntry → List PodSpec → TickObs
 observed at entries pods = record { at = at; pods = pods_from at entries 0 pods }
 
--- an exited instance is reported without an exit code
-abbrev pub lacks_code : Report → Bool
+-- an exited instance is listed without an exit code
+abbrev pub lacks_code : ListedInstance → Bool
 lacks_code r = is_exited r.state && is_none r.code
 
 abbrev pub some_code_missing : List PlacedEntry → Bool
-some_code_missing entries = list_any (λ e. list_any (λ l. lacks_code l.report) e.listings) entries
+some_code_missing entries = list_any (λ e. list_any (λ l. lacks_code l.instance) e.listings) entries

@@ -30,7 +30,7 @@ container_number pod name = some_or StrangerContainer (place_of (names_of pod.co
 
 -- the listing of the pod's container that it names
 abbrev pub placed_listing : PodSpec → Listing → Result PlacedListing LineKind
-placed_listing pod listing = container_number pod listing.name >>= λ number. Ok (record { container = number; report = listing.report })
+placed_listing pod listing = container_number pod listing.name >>= λ number. Ok (record { container = number; instance = listing.instance })
 
 -- the result of the pod's container that it names
 abbrev pub placed_result : PodSpec → ProbeResult → Result PlacedResult LineKind

@@ -16,9 +16,9 @@ use serde_json::Value;
 use state_diff::CriState;
 use std::alloc::Global;
 
-/// What a listing reports of an instance.
+/// What a listing says of an instance.
 #[derive(Clone, Copy)]
-pub(crate) struct Report {
+pub(crate) struct ListedInstance {
     pub(crate) attempt: u32,
     pub(crate) state: CriState,
     /// What the field for the exit code says, if it is a code. In another state than exited nobody looks at it.
@@ -29,7 +29,7 @@ pub(crate) struct Report {
 #[derive(Drop)]
 pub(crate) struct Listing {
     pub(crate) name: Text,
-    pub(crate) report: Report,
+    pub(crate) instance: ListedInstance,
 }
 
 /// A pod's entry, as it is written.
@@ -117,7 +117,7 @@ fn listing_of(alloc: Global, value: &Value) -> Result<Listing, LineKind>
     let code = code_of(field(value, "exitCode"));
     Ok(Listing {
         name,
-        report: Report {
+        instance: ListedInstance {
             attempt,
             state,
             code,

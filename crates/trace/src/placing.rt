@@ -9,7 +9,7 @@ ghost use Rattle.trace.specs.Placing.{number_in, container_number, placed_listin
 ghost use Rattle.std.specs.List.{list_any};
 
 use crate::fault::LineKind;
-use crate::listing::{Entry, Listing, Report};
+use crate::listing::{Entry, ListedInstance, Listing};
 use crate::outcome::{Outcome, ProbeKind};
 use crate::probing::ProbeResult;
 use crate::sequence::Sequence;
@@ -21,7 +21,7 @@ use std::alloc::Global;
 #[derive(Clone, Copy)]
 pub(crate) struct PlacedListing {
     pub(crate) container: usize,
-    pub(crate) report: Report,
+    pub(crate) instance: ListedInstance,
 }
 
 /// A result of a probe of the container with the number.
@@ -80,7 +80,7 @@ fn placed_listing(pod: &PodSpec, listing: &Listing) -> Result<PlacedListing, Lin
     let container = container_number(pod, listing.name.as_str())?;
     Ok(PlacedListing {
         container,
-        report: listing.report,
+        instance: listing.instance,
     })
 }
 

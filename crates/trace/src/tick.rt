@@ -7,13 +7,13 @@ ghost use Rattle.json_fields.specs.Reading.{refused_if};
 ghost use Rattle.trace.specs.Gives.{Gives};
 ghost use Rattle.trace.specs.Past.{with_tick};
 ghost use Rattle.trace.specs.Placing.{placed_of};
-ghost use Rattle.trace.specs.Observed.{seen_in, outcome_in, results_in, entry_for, listings_of, results_of, seen_reported, containers_from, pod_observed, pods_from, observed, lacks_code, some_code_missing};
+ghost use Rattle.trace.specs.Observed.{seen_in, outcome_in, results_in, entry_for, listings_of, results_of, seen_listed, containers_from, pod_observed, pods_from, observed, lacks_code, some_code_missing};
 ghost use Rattle.trace.specs.Followed.{AreFollowed, EndBefore};
 ghost use Rattle.trace.specs.Tick.{moment_of, most_ticks, observed_in, tick_at};
 
 use crate::fault::LineKind;
 use crate::following::differs_after;
-use crate::listing::{Entry, Report, entries_of};
+use crate::listing::{Entry, ListedInstance, entries_of};
 use crate::observation::{ContainerObs, PodObs, TickObs};
 use crate::outcome::{Outcome, ProbeKind};
 use crate::past::Reader;
@@ -45,17 +45,17 @@ fn moment(ticks: &[TickObs], found: Option<&Value>) -> Result<u64, LineKind>
     }
 }
 
-/// What a report says of an instance. Where the exit code is missing, 0 stands in its place until that is refused.
-fn seen_reported(report: Report) -> Seen
-    ensures { result ≡ seen_reported report }
+/// The instance that a listing says. Where the exit code is missing, 0 stands in its place until that is refused.
+fn seen_listed(instance: ListedInstance) -> Seen
+    ensures { result ≡ seen_listed instance }
 {
-    let code = match report.state {
-        CriState::Exited => Some(report.code.unwrap_or(0)),
+    let code = match instance.state {
+        CriState::Exited => Some(instance.code.unwrap_or(0)),
         _ => None,
     };
     Seen {
-        attempt: report.attempt,
-        state: report.state,
+        attempt: instance.attempt,
+        state: instance.state,
         code,
     }
 }
@@ -65,7 +65,7 @@ fn seen_in(listings: &[PlacedListing], container: usize) -> Option<Seen>
 {
     for listing in listings {
         if listing.container == container {
-            return Some(seen_reported(listing.report));
+            return Some(seen_listed(listing.instance));
         }
     }
     None
@@ -186,16 +186,16 @@ fn observed(
     })
 }
 
-fn lacks_code(report: Report) -> bool
-    ensures { result ≡ lacks_code report }
+fn lacks_code(instance: ListedInstance) -> bool
+    ensures { result ≡ lacks_code instance }
 {
-    report.state.is_exited() && report.code.is_none()
+    instance.state.is_exited() && instance.code.is_none()
 }
 
 fn entry_lacks_code(listings: &[PlacedListing]) -> bool
-    ensures { result ≡ list_any (λ l. lacks_code l.report) listings.now }
+    ensures { result ≡ list_any (λ l. lacks_code l.instance) listings.now }
 {
-    listings.iter().any(|l| lacks_code(l.report))
+    listings.iter().any(|l| lacks_code(l.instance))
 }
 
 fn some_code_missing(entries: &[PlacedEntry]) -> bool

@@ -91,10 +91,10 @@ container_fault pod name kind e = missing_is StrangerContainer kind (place_of (n
 
 listing_fault : (pod : PodSpec) (listing : Listing) (kind : LineKind) → placed_listing pod listing ≡ Err kind → HasNo pod listing.name × (kind ≡ StrangerContainer)
 listing_fault pod listing kind e =
-    let last : ℕ → Result PlacedListing LineKind = λ number. Ok (record { container = number; report = listing.report }) in
+    let last : ℕ → Result PlacedListing LineKind = λ number. Ok (record { container = number; instance = listing.instance }) in
     elim (bind_err (container_number pod listing.name) last kind e) [
       | inl here ↦ container_fault pod listing.name kind here
-      | inr later ↦ absurd (no_fault (record { container = later.0; report = listing.report }) kind later.2)
+      | inr later ↦ absurd (no_fault (record { container = later.0; instance = listing.instance }) kind later.2)
     ]
 
 result_fault : (pod : PodSpec) (r : ProbeResult) (kind : LineKind) → placed_result pod r ≡ Err kind → HasNo pod r.container × (kind ≡ StrangerContainer)
@@ -124,7 +124,7 @@ known_fault entry number pod kind e = elim (bind_err (each (placed_listing pod) 
 -- and where it names one, that is its fault
 known_is : (entry : Entry) (number : ℕ) (pod : PodSpec) → NamesOther pod entry → (r : Result (List PlacedListing) LineKind) → each (placed_listing pod) entry.listings ≡ r → with_pod entry number pod ≡ Err StrangerContainer
 known_is entry number pod (inl (m, listing, here, unknown)) r e =
-    let last : ℕ → Result PlacedListing LineKind = λ number. Ok (record { container = number; report = listing.report }) in
+    let last : ℕ → Result PlacedListing LineKind = λ number. Ok (record { container = number; instance = listing.instance }) in
     let one : placed_listing pod listing ≡ Err StrangerContainer =
     then_err (container_number pod listing.name) last StrangerContainer (ap (λ (found : Option ℕ). some_or StrangerContainer found) unknown) in
     then_err (each (placed_listing pod) entry.listings) (with_listings entry number pod) StrangerContainer
