@@ -1,5 +1,8 @@
+ghost use Rattle.std.specs.Prelude.{◌↔◌, IsTrue};
+ghost use Rattle.state_diff.specs.Differ.{IsBefore};
+
 use listing_scan::{
-    Listing, effective_state, exit_code, exit_place, exited_at, is_acceptable, is_set_up,
+    Listing, effective_state, exit_code, exit_place, exited_at, is_acceptable, is_set_up, last_at,
     newest_attempt, run, start_place, started_at,
 };
 use state_diff::CriState::{Created, Exited, Running, Unknown};
@@ -16,9 +19,20 @@ fn seen(attempt: u32, state: CriState) -> Option<Seen> {
     })
 }
 
-/// Steps over an acceptable listing.
-fn take(rt: &impl Abort, differ: &mut Differ, at: u64, listed: Option<Seen>) -> Changes {
+/// Whether the moment is later than that of the differ's last tick.
+fn is_later(differ: &Differ, at: u64) -> bool
+    ensures { IsTrue result ↔ IsBefore differ.now at }
+{
+    match differ.last_at() {
+        Some(last) => last < at,
+        None => true,
+    }
+}
+
+/// Steps over an acceptable listing at a later moment.
+pub(crate) fn take(rt: &impl Abort, differ: &mut Differ, at: u64, listed: Option<Seen>) -> Changes {
     assert!(rt; differ.accepts(listed), "at {at}");
+    assert!(rt; is_later(differ, at), "at {at}");
     differ.step(at, listed)
 }
 
@@ -160,6 +174,17 @@ fn listings_do_not_go_backwards(rt: HostRuntime) -> Result<(), Fail> {
     Ok(())
 }
 
+#[test]
+fn last_moment_is_that_of_the_last_tick(rt: HostRuntime) -> Result<(), Fail> {
+    let mut differ = Differ::new();
+    assert_eq!(rt; differ.last_at(), None);
+    for (at, listed) in [(0, None), (7, seen(0, Running)), (10, None), (11, None)] {
+        take(&rt, &mut differ, at, listed);
+        assert_eq!(rt; differ.last_at(), Some(at));
+    }
+    Ok(())
+}
+
 /// The next of a fixed sequence of pseudo-random numbers below 2^31.
 fn next(random: &mut u64) -> u64 {
     *random = random
@@ -208,6 +233,7 @@ fn scanned_state(ticks: &[Listing], attempt: u32) -> CriState {
 
 /// Compares what the differ says of the newest instance with a scan of all ticks.
 fn compare(rt: &impl Abort, ticks: &[Listing], differ: &Differ) {
+    assert_eq!(rt; differ.last_at(), last_at(ticks));
     assert_eq!(rt; differ.set_up(), is_set_up(ticks));
     let newest = differ.newest();
     assert_eq!(rt; attempt_of(newest), newest_attempt(ticks));
@@ -271,7 +297,7 @@ fn differ_agrees_with_a_scan_of_all_ticks(rt: HostRuntime) -> Result<(), Fail> {
         let listed = draw(next(&mut random), differ.newest());
         assert_eq!(rt; differ.accepts(listed), is_acceptable(&ticks, listed));
         if differ.accepts(listed) {
-            let changes = differ.step(at, listed);
+            let changes = take(&rt, &mut differ, at, listed);
             ticks.push(Listing { at, seen: listed })?;
             compare(&rt, &ticks, &differ);
             compare_changes(&rt, &ticks, before, listed, changes);

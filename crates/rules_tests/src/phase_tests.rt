@@ -1,3 +1,4 @@
+use crate::instances_tests::take;
 use manifest::Policy::{self, Always, Never, OnFailure};
 use phase::Phase::{Failed, Pending, Succeeded};
 use phase::{
@@ -232,8 +233,7 @@ fn container_status_follows_the_listings(rt: HostRuntime) -> Result<(), Fail> {
             state: CriState::Running,
             code: None,
         });
-        assert!(rt; differ.accepts(listed));
-        differ.step(at, listed);
+        take(&rt, &mut differ, at, listed);
     }
     let app = container_status(pod, 1, &ContainerView::of(&differ), false);
     assert_eq!(rt; app.state, ContainerState::Running);
@@ -243,8 +243,7 @@ fn container_status_follows_the_listings(rt: HostRuntime) -> Result<(), Fail> {
     let init = container_status(pod, 0, &ContainerView::of(&differ), false);
     assert!(rt; !init.ready);
     assert!(rt; !init.started);
-    assert!(rt; differ.accepts(None));
-    differ.step(20, None);
+    take(&rt, &mut differ, 20, None);
     let gone = container_status(pod, 1, &ContainerView::of(&differ), false);
     assert_eq!(rt; gone.state, ContainerState::Terminated);
     assert_eq!(rt; gone.code, Some(137));
