@@ -8,37 +8,37 @@ use Rattle.state_diff.specs.declared.seen.Seen.{Seen}
 use Rattle.state_diff.specs.declared.seen.CriState.{CriState}
 use Rattle.state_diff.specs.declared.seen.CriState.TheVariants.{Running, Exited}
 use Rattle.state_diff.specs.Instances.{Tick, seen_at, IsOf, IsOfAs, Listed, Ends, IsExit, IsCodeAt, IsExitCode, IsSetUp}
-use Rattle.listing_scan.specs.declared.listing.Listing.{Listing}
+use Rattle.listing_scan.specs.declared.tick.ContainerTick.{ContainerTick}
 use Rattle.listing_scan.specs.Listings.{history, code_in, IsSetUpBy}
 use Rattle.listing_scan.proofs.Scans.{seen_at-item, item_has}
 
-pub moment_item : (xs : List Listing) (i : ℕ) (x : Listing) → i < length xs → x ≡ get_or xs i x → Some x.at ≡ moment_at (history xs) i
+pub moment_item : (xs : List ContainerTick) (i : ℕ) (x : ContainerTick) → i < length xs → x ≡ get_or xs i x → Some x.at ≡ moment_at (history xs) i
 moment_item [] i x lt is = absurd (omega arith)
 moment_item (y ∷ xs) zero x lt is = ap (λ z. Some z.at) is
 moment_item (y ∷ xs) (suc i) x lt is = moment_item xs i x (omega arith) is
 
-pub moment_beyond : (xs : List Listing) (i : ℕ) → length xs ≤ i → None ≡ moment_at (history xs) i
+pub moment_beyond : (xs : List ContainerTick) (i : ℕ) → length xs ≤ i → None ≡ moment_at (history xs) i
 moment_beyond [] i le = refl
 moment_beyond (y ∷ xs) zero le = absurd (omega arith)
 moment_beyond (y ∷ xs) (suc i) le = moment_beyond xs i (omega arith)
 
-pub seen_beyond : (xs : List Listing) (i : ℕ) → length xs ≤ i → None ≡ seen_at (history xs) i
+pub seen_beyond : (xs : List ContainerTick) (i : ℕ) → length xs ≤ i → None ≡ seen_at (history xs) i
 seen_beyond [] i le = refl
 seen_beyond (y ∷ xs) zero le = absurd (omega arith)
 seen_beyond (y ∷ xs) (suc i) le = seen_beyond xs i (omega arith)
 
-pub code_item : (a : ℕ) (xs : List Listing) (i : ℕ) (x : Listing) → i < length xs → x ≡ get_or xs i x → code_in a x.seen ≡ code_in a (seen_at (history xs) i)
-code_item a xs i x lt is = ap (code_in a) (ap (λ (y : Listing). y.seen) is ∙ sym (seen_at-item xs i x lt))
+pub code_item : (a : ℕ) (xs : List ContainerTick) (i : ℕ) (x : ContainerTick) → i < length xs → x ≡ get_or xs i x → code_in a x.seen ≡ code_in a (seen_at (history xs) i)
+code_item a xs i x lt is = ap (code_in a) (ap (λ (y : ContainerTick). y.seen) is ∙ sym (seen_at-item xs i x lt))
 
 -- the moment of the first place, if there is one
-pub first_moment : (xs : List Listing) (P : ℕ → Type 0) (place : Option ℕ) (t : ℕ) (m : Option ℕ) → ((u : ℕ) → P u → u < length xs)
+pub first_moment : (xs : List ContainerTick) (P : ℕ → Type 0) (place : Option ℕ) (t : ℕ) (m : Option ℕ) → ((u : ℕ) → P u → u < length xs)
     → IsFirstPlace P place → place ≡ Some t → m ≡ moment_at (history xs) t → IsFirstMoment (history xs) P m
 first_moment xs P None t m below is e f = absurd (cc)
 first_moment xs P (Some u) t None below is e f =
     let same : u ≡ t = cc in
     absurd (beyond xs t (below t (subst P same is.holds)) f)
   where
-    beyond : (ys : List Listing) (i : ℕ) → i < length ys → None ≡ moment_at (history ys) i → ⊥
+    beyond : (ys : List ContainerTick) (i : ℕ) → i < length ys → None ≡ moment_at (history ys) i → ⊥
     beyond [] i lt f = absurd (omega arith)
     beyond (y ∷ ys) zero lt f = absurd (cc)
     beyond (y ∷ ys) (suc i) lt f = beyond ys i (omega arith) f
@@ -46,7 +46,7 @@ first_moment xs P (Some u) t (Some m) below is e f =
     let same : u ≡ t = cc in
     (t, subst (λ (k : ℕ). IsFirst P k) same is, sym f)
 
-pub no_moment : (xs : List Listing) (P : ℕ → Type 0) (place : Option ℕ) → IsFirstPlace P place → place ≡ None → IsFirstMoment (history xs) P None
+pub no_moment : (xs : List ContainerTick) (P : ℕ → Type 0) (place : Option ℕ) → IsFirstPlace P place → place ≡ None → IsFirstMoment (history xs) P None
 no_moment xs P None is e = is
 no_moment xs P (Some u) is e = absurd (cc)
 
@@ -85,7 +85,7 @@ set_up_found h None w = absurd w
 set_up_found h (Some s) w = (s.attempt, w.0, w.1)
 
 -- no attempt that a tick up to the next lists is set up, where none before it was and the one here is not
-pub none_set_up : (xs : List Listing) (i : ℕ) (x : Listing) (b : Bool) → i < length xs → x ≡ get_or xs i x
+pub none_set_up : (xs : List ContainerTick) (i : ℕ) (x : ContainerTick) (b : Bool) → i < length xs → x ≡ get_or xs i x
     → (IsTrue b ↔ IsSomeAnd x.seen (λ s. IsSetUpBy (history xs) s.attempt)) → b ≡ false
     → ((a u : ℕ) → u < i → Listed (history xs) a u → IsSetUpBy (history xs) a → ⊥)
     → (a u : ℕ) → u < i + 1 → Listed (history xs) a u → IsSetUpBy (history xs) a → ⊥

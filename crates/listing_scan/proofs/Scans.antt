@@ -12,26 +12,26 @@ use Rattle.state_diff.specs.Instances.{Tick, listing_of, seen_at, IsOf, IsOfAs, 
 use Rattle.state_diff.specs.Acceptable.{is_of, is_at_most, known_after, last_known, is_not_older, is_not_gone, is_not_back}
 use Rattle.state_diff.proofs.Places.{kept, added, split, seen_at-below}
 use Rattle.state_diff.proofs.Acceptable.{is_of_is, is_acceptable_is}
-use Rattle.listing_scan.specs.declared.listing.Listing.{Listing}
+use Rattle.listing_scan.specs.declared.tick.ContainerTick.{ContainerTick}
 use Rattle.listing_scan.specs.Listings.{tick_of, history, later_of, IsEnding, IsNewestAttempt}
 
 -- what is seen at a place
-pub seen_at-history : (xs : List Listing) (i : ℕ) → seen_at (history xs) i ≡ listing_of (option_map (λ x. x.seen) (slice_get xs i))
+pub seen_at-history : (xs : List ContainerTick) (i : ℕ) → seen_at (history xs) i ≡ listing_of (option_map (λ x. x.seen) (slice_get xs i))
 seen_at-history [] i = refl
 seen_at-history (x ∷ xs) zero = refl
 seen_at-history (x ∷ xs) (suc i) = seen_at-history xs i
 
-pub seen_at-item : (xs : List Listing) (i : ℕ) (d : Listing) → i < length xs → seen_at (history xs) i ≡ (get_or xs i d).seen
+pub seen_at-item : (xs : List ContainerTick) (i : ℕ) (d : ContainerTick) → i < length xs → seen_at (history xs) i ≡ (get_or xs i d).seen
 seen_at-item [] i d lt = absurd (omega arith)
 seen_at-item (x ∷ xs) zero d lt = refl
 seen_at-item (x ∷ xs) (suc i) d lt = seen_at-item xs i d (omega arith)
 
 -- the fold is the last known state
-pub fold-last_known : (a : ℕ) (before : CriState) (xs : List Listing) → fold (λ s x. known_after a s x.seen) before xs ≡ last_known a before (history xs)
+pub fold-last_known : (a : ℕ) (before : CriState) (xs : List ContainerTick) → fold (λ s x. known_after a s x.seen) before xs ≡ last_known a before (history xs)
 fold-last_known a before [] = refl
 fold-last_known a before (x ∷ xs) = fold-last_known a (known_after a before x.seen) xs
 
-pub history-more : (xs : List Listing) (i : ℕ) (d : Listing) → i < length xs → history (take (i + 1) xs) ≡ history (take i xs) ++ tick_of (get_or xs i d) ∷ []
+pub history-more : (xs : List ContainerTick) (i : ℕ) (d : ContainerTick) → i < length xs → history (take (i + 1) xs) ≡ history (take i xs) ++ tick_of (get_or xs i d) ∷ []
 history-more xs i d lt = map_more tick_of xs i d lt
 
 -- the newest attempt after one more tick
@@ -62,14 +62,14 @@ newest_more h x o is = there x.entry (λ b t l. split (IsOf b) h x t l) (λ b w.
     }
 
 -- the tests of the whole list
-pub not_older-history : (a : ℕ) (xs : List Listing) → is_not_older (history xs) a ≡ list_all (λ x. is_at_most a x.seen) xs
+pub not_older-history : (a : ℕ) (xs : List ContainerTick) → is_not_older (history xs) a ≡ list_all (λ x. is_at_most a x.seen) xs
 not_older-history a xs = list_all-map (λ (x : Tick). is_at_most a x.entry) tick_of xs
 
-pub any-history : (a : ℕ) (xs : List Listing) → list_any (λ x. is_of a x.entry) (history xs) ≡ list_any (λ x. is_of a x.seen) xs
+pub any-history : (a : ℕ) (xs : List ContainerTick) → list_any (λ x. is_of a x.entry) (history xs) ≡ list_any (λ x. is_of a x.seen) xs
 any-history a [] = refl
 any-history a (x ∷ xs) = ap (λ b. is_of a x.seen || b) (any-history a xs)
 
-pub not_gone-history : (a : ℕ) (xs : List Listing) → is_not_gone (history xs) a
+pub not_gone-history : (a : ℕ) (xs : List ContainerTick) → is_not_gone (history xs) a
     ≡ (not (list_any (λ x. is_of a x.seen) xs) || is_of a (listing_of (option_map (λ x. x.seen) (slice_get xs (length xs - 1)))))
 not_gone-history a xs =
     let n : length (history xs) ≡ length xs = length-map xs tick_of in
@@ -106,17 +106,17 @@ pub none_all : (P : ℕ → Type 0) (n : ℕ) → ((t : ℕ) → P t → t < n) 
 none_all P n below none t p = none t (below t p) p
 
 -- what the tick at a place lists has the property exactly if its item has
-pub item_has : (Q : Seen → Type 0) (xs : List Listing) (i : ℕ) (x : Listing) → i < length xs → x ≡ get_or xs i x → (IsSomeAnd (seen_at (history xs) i) Q ↔ IsSomeAnd x.seen Q)
+pub item_has : (Q : Seen → Type 0) (xs : List ContainerTick) (i : ℕ) (x : ContainerTick) → i < length xs → x ≡ get_or xs i x → (IsSomeAnd (seen_at (history xs) i) Q ↔ IsSomeAnd x.seen Q)
 item_has Q xs i x lt is =
     let e : seen_at (history xs) i ≡ x.seen = seen_at-item xs i x lt ∙ sym (ap (λ y. y.seen) is) in
     let P : Option Seen → Type 0 = λ o. IsSomeAnd o Q in
     (subst P e, subst P (sym e))
 
-pub seen_below : (Q : Seen → Type 0) (xs : List Listing) (t : ℕ) → IsSomeAnd (seen_at (history xs) t) Q → t < length xs
+pub seen_below : (Q : Seen → Type 0) (xs : List ContainerTick) (t : ℕ) → IsSomeAnd (seen_at (history xs) t) Q → t < length xs
 seen_below Q xs t q = let lt : t < length (history xs) = seen_at-below Q (history xs) t q in omega (arith, length-map xs tick_of)
 
 -- the tick at a place ends the attempt exactly if its listing does, with what was listed before
-pub ends_here : (xs : List Listing) (a i : ℕ) (x : Listing) (listed : Bool) → i < length xs → x ≡ get_or xs i x
+pub ends_here : (xs : List ContainerTick) (a i : ℕ) (x : ContainerTick) (listed : Bool) → i < length xs → x ≡ get_or xs i x
     → (IsTrue listed ↔ ((u : ℕ) × (u < i) × Listed (history xs) a u)) → (IsEnding a listed x.seen ↔ Ends (history xs) a i)
 ends_here xs a i x listed lt is before = (
   (λ w. elim w [
@@ -129,12 +129,12 @@ ends_here xs a i x listed lt is before = (
   ]),
 )
 
-pub ends_below : (xs : List Listing) (a t : ℕ) → Ends (history xs) a t → t < length xs
+pub ends_below : (xs : List ContainerTick) (a t : ℕ) → Ends (history xs) a t → t < length xs
 ends_below xs a t (inl q) = seen_below (IsOfAs a Exited) xs t q
 ends_below xs a t (inr w) = let lt : t < length (history xs) = w.0 in omega (arith, length-map xs tick_of)
 
 -- whether some tick so far lists the attempt, after one more
-pub listed_next : (xs : List Listing) (a i : ℕ) (x : Listing) (listed b : Bool) → i < length xs → x ≡ get_or xs i x → b ≡ is_of a x.seen
+pub listed_next : (xs : List ContainerTick) (a i : ℕ) (x : ContainerTick) (listed b : Bool) → i < length xs → x ≡ get_or xs i x → b ≡ is_of a x.seen
     → (IsTrue listed ↔ ((u : ℕ) × (u < i) × Listed (history xs) a u)) → (IsTrue (listed || b) ↔ ((u : ℕ) × (u < i + 1) × Listed (history xs) a u))
 listed_next xs a i x listed b lt is e before = (
   (λ t. elim (or_cases listed b t) [
@@ -155,10 +155,10 @@ listed_next xs a i x listed b lt is e before = (
     or_true true z e = refl
     or_true false z e = e
 
-pub newest_at : (xs : List Listing) (i : ℕ) (x : Listing) (o r : Option ℕ) → i < length xs → x ≡ get_or xs i x → r ≡ later_of o x.seen
+pub newest_at : (xs : List ContainerTick) (i : ℕ) (x : ContainerTick) (o r : Option ℕ) → i < length xs → x ≡ get_or xs i x → r ≡ later_of o x.seen
     → IsNewestAttempt (history (take i xs)) o → IsNewestAttempt (history (take (i + 1) xs)) r
 newest_at xs i x o r lt is e n =
-    let P : Listing → Type 0 = λ y. IsNewestAttempt (history (take i xs) ++ tick_of y ∷ []) r in
+    let P : ContainerTick → Type 0 = λ y. IsNewestAttempt (history (take i xs) ++ tick_of y ∷ []) r in
     let Q : Option ℕ → Type 0 = λ p. IsNewestAttempt (history (take i xs) ++ tick_of x ∷ []) p in
     let R : List Tick → Type 0 = λ h. IsNewestAttempt h r in
     subst R (sym (history-more xs i x lt)) (subst P is (subst Q (sym e) (newest_more (history (take i xs)) (tick_of x) o n)))

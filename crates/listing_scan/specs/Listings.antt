@@ -3,12 +3,12 @@ use Rattle.std.specs.Prelude.{◌⊎◌, ◌==◌, ℕ, ℤ, pos, max, List, map
 use Rattle.state_diff.specs.declared.seen.Seen.{Seen}
 use Rattle.state_diff.specs.declared.seen.CriState.TheVariants.{Exited}
 use Rattle.state_diff.specs.Instances.{Tick, tick, IsOf, IsOfAs, Listed, IsNewest, IsStart, IsExit, IsRun}
-use Rattle.listing_scan.specs.declared.listing.Listing.{Listing}
+use Rattle.listing_scan.specs.declared.tick.ContainerTick.{ContainerTick}
 
-abbrev pub tick_of : Listing → Tick
+abbrev pub tick_of : ContainerTick → Tick
 tick_of listing = tick listing.at listing.seen
 
-abbrev pub history : List Listing → List Tick
+abbrev pub history : List ContainerTick → List Tick
 history listings = map tick_of listings
 
 -- the newest attempt, and none where none is listed

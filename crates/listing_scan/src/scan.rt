@@ -6,7 +6,7 @@ ghost use Rattle.state_diff.specs.Instances.{listing_of, seen_at, IsOfAs, Listed
 ghost use Rattle.state_diff.specs.Acceptable.{is_of as of_attempt, is_at_most as at_most, known_after as after_listing, effective_state as effective, is_not_older as not_older, is_not_gone as not_gone, is_not_back as not_back};
 ghost use Rattle.listing_scan.specs.Listings.{history, later_of, code_in, IsEnding, IsNewestAttempt, IsRunOf, IsSetUpBy};
 
-use crate::listing::Listing;
+use crate::tick::ContainerTick;
 use state_diff::{CriState, Seen};
 
 /// Whether the listing is of the attempt.
@@ -60,7 +60,7 @@ fn exits(attempt: u32, seen: Option<Seen>) -> bool
 }
 
 /// What the last tick lists.
-fn last(ticks: &[Listing]) -> Option<Seen>
+fn last(ticks: &[ContainerTick]) -> Option<Seen>
     ensures { result ≡ listing_of (option_map (λ tick. tick.seen) (slice_get ticks.now (length ticks.now - 1))) }
 {
     match ticks.last() {
@@ -69,19 +69,19 @@ fn last(ticks: &[Listing]) -> Option<Seen>
     }
 }
 
-fn is_listed(ticks: &[Listing], attempt: u32) -> bool
+fn is_listed(ticks: &[ContainerTick], attempt: u32) -> bool
     ensures { result ≡ list_any (λ tick. of_attempt attempt tick.seen) ticks.now }
 {
     ticks.iter().any(|tick| is_of(attempt, tick.seen))
 }
 
-fn is_newest(ticks: &[Listing], attempt: u32) -> bool
+fn is_newest(ticks: &[ContainerTick], attempt: u32) -> bool
     ensures { result ≡ list_all (λ tick. at_most attempt tick.seen) ticks.now }
 {
     ticks.iter().all(|tick| is_at_most(attempt, tick.seen))
 }
 
-fn last_known(ticks: &[Listing], attempt: u32) -> CriState
+fn last_known(ticks: &[ContainerTick], attempt: u32) -> CriState
     ensures { result ≡ fold (λ before tick. after_listing attempt before tick.seen) Created ticks.now }
 {
     ticks.iter().fold(CriState::Created, |before, tick| {
@@ -90,32 +90,32 @@ fn last_known(ticks: &[Listing], attempt: u32) -> CriState
 }
 
 /// The last known state of the attempt, and created if there is none.
-pub fn effective_state(ticks: &[Listing], attempt: u32) -> CriState
+pub fn effective_state(ticks: &[ContainerTick], attempt: u32) -> CriState
     ensures state { IsEffective (history ticks.now) attempt result }
     ensures computed { result ≡ effective (history ticks.now) attempt }
 {
     last_known(ticks, attempt)
 }
 
-fn is_not_older(ticks: &[Listing], attempt: u32) -> bool
+fn is_not_older(ticks: &[ContainerTick], attempt: u32) -> bool
     ensures { result ≡ not_older (history ticks.now) attempt }
 {
     is_newest(ticks, attempt)
 }
 
-fn is_not_gone(ticks: &[Listing], attempt: u32) -> bool
+fn is_not_gone(ticks: &[ContainerTick], attempt: u32) -> bool
     ensures { IsTrue result ↔ IsTrue (not_gone (history ticks.now) attempt) }
 {
     !is_listed(ticks, attempt) || is_of(attempt, last(ticks))
 }
 
-fn is_not_back(ticks: &[Listing], seen: Seen) -> bool
+fn is_not_back(ticks: &[ContainerTick], seen: Seen) -> bool
     ensures { IsTrue result ↔ IsTrue (not_back (history ticks.now) seen.attempt seen.state) }
 {
     effective_state(ticks, seen.attempt).rank() <= seen.state.rank()
 }
 
-fn may_follow(ticks: &[Listing], seen: Seen) -> bool
+fn may_follow(ticks: &[ContainerTick], seen: Seen) -> bool
     ensures { IsTrue result
         ↔ (IsTrue (not_older (history ticks.now) seen.attempt)
         × IsTrue (not_gone (history ticks.now) seen.attempt)
@@ -127,7 +127,7 @@ fn may_follow(ticks: &[Listing], seen: Seen) -> bool
 }
 
 /// Whether the listing may come after these ticks.
-pub fn is_acceptable(ticks: &[Listing], seen: Option<Seen>) -> bool
+pub fn is_acceptable(ticks: &[ContainerTick], seen: Option<Seen>) -> bool
     ensures { IsTrue result ↔ IsAcceptable (history ticks.now) seen }
 {
     match seen {
@@ -137,7 +137,7 @@ pub fn is_acceptable(ticks: &[Listing], seen: Option<Seen>) -> bool
 }
 
 /// The greatest attempt listed so far.
-pub fn newest_attempt(ticks: &[Listing]) -> Option<u32>
+pub fn newest_attempt(ticks: &[ContainerTick]) -> Option<u32>
     ensures { IsNewestAttempt (history ticks.now) result }
 {
     let mut newest = None;
@@ -159,7 +159,7 @@ fn later(newest: Option<u32>, seen: Option<Seen>) -> Option<u32>
 }
 
 /// The place of the first tick that lists the attempt as running.
-pub fn start_place(ticks: &[Listing], attempt: u32) -> Option<usize>
+pub fn start_place(ticks: &[ContainerTick], attempt: u32) -> Option<usize>
     ensures { IsFirstPlace (ListedAs (history ticks.now) attempt Running) result }
 {
     for (place, tick) in ticks.iter().enumerate() {
@@ -171,7 +171,7 @@ pub fn start_place(ticks: &[Listing], attempt: u32) -> Option<usize>
 }
 
 /// The place of the first tick that lists the attempt as exited, or no longer lists it.
-pub fn exit_place(ticks: &[Listing], attempt: u32) -> Option<usize>
+pub fn exit_place(ticks: &[ContainerTick], attempt: u32) -> Option<usize>
     ensures { IsFirstPlace (Ends (history ticks.now) attempt) result }
 {
     let mut listed = false;
@@ -192,7 +192,7 @@ fn ends(attempt: u32, listed: bool, seen: Option<Seen>) -> bool
 }
 
 /// The moment of the tick at a place.
-fn moment(ticks: &[Listing], place: usize) -> Option<u64>
+fn moment(ticks: &[ContainerTick], place: usize) -> Option<u64>
     ensures { result ≡ moment_at (history ticks.now) place }
 {
     match ticks.get(place) {
@@ -202,14 +202,14 @@ fn moment(ticks: &[Listing], place: usize) -> Option<u64>
 }
 
 /// The moment of the last tick, in seconds.
-pub fn last_at(ticks: &[Listing]) -> Option<u64>
+pub fn last_at(ticks: &[ContainerTick]) -> Option<u64>
     ensures { result ≡ last_moment (history ticks.now) }
 {
     moment(ticks, ticks.len().saturating_sub(1))
 }
 
 /// The moment at which the attempt was first listed as running, in seconds.
-pub fn started_at(ticks: &[Listing], attempt: u32) -> Option<u64>
+pub fn started_at(ticks: &[ContainerTick], attempt: u32) -> Option<u64>
     ensures { IsFirstMoment (history ticks.now) (ListedAs (history ticks.now) attempt Running) result }
 {
     match start_place(ticks, attempt) {
@@ -219,7 +219,7 @@ pub fn started_at(ticks: &[Listing], attempt: u32) -> Option<u64>
 }
 
 /// The moment at which the attempt exited, in seconds.
-pub fn exited_at(ticks: &[Listing], attempt: u32) -> Option<u64>
+pub fn exited_at(ticks: &[ContainerTick], attempt: u32) -> Option<u64>
     ensures { IsFirstMoment (history ticks.now) (Ends (history ticks.now) attempt) result }
 {
     match exit_place(ticks, attempt) {
@@ -229,7 +229,7 @@ pub fn exited_at(ticks: &[Listing], attempt: u32) -> Option<u64>
 }
 
 /// How long the attempt ran, in seconds, once it has exited; 0 if it never started.
-pub fn run(ticks: &[Listing], attempt: u32) -> Option<u64>
+pub fn run(ticks: &[ContainerTick], attempt: u32) -> Option<u64>
     ensures { IsRunOf (history ticks.now) attempt result }
 {
     match exited_at(ticks, attempt) {
@@ -249,7 +249,7 @@ fn code_in(attempt: u32, seen: Option<Seen>) -> Option<i32>
 }
 
 /// The exit code that the tick at a place gives the attempt.
-fn code_at(ticks: &[Listing], attempt: u32, place: usize) -> Option<i32>
+fn code_at(ticks: &[ContainerTick], attempt: u32, place: usize) -> Option<i32>
     ensures { result ≡ code_in attempt (seen_at (history ticks.now) place) }
 {
     match ticks.get(place) {
@@ -259,7 +259,7 @@ fn code_at(ticks: &[Listing], attempt: u32, place: usize) -> Option<i32>
 }
 
 /// The code with which the attempt exited, if it has.
-pub fn exit_code(ticks: &[Listing], attempt: u32) -> Option<i32>
+pub fn exit_code(ticks: &[ContainerTick], attempt: u32) -> Option<i32>
     ensures { (code : ℤ) → ((result ≡ Some code) ↔ IsExitCode (history ticks.now) attempt code) }
 {
     match exit_place(ticks, attempt) {
@@ -269,14 +269,14 @@ pub fn exit_code(ticks: &[Listing], attempt: u32) -> Option<i32>
 }
 
 /// Whether the attempt has started or exited.
-fn is_set_up_by(ticks: &[Listing], attempt: u32) -> bool
+fn is_set_up_by(ticks: &[ContainerTick], attempt: u32) -> bool
     ensures { IsTrue result ↔ IsSetUpBy (history ticks.now) attempt }
 {
     start_place(ticks, attempt).is_some() || exit_place(ticks, attempt).is_some()
 }
 
 /// Whether the listed attempt has started or exited.
-fn is_set_up_in(ticks: &[Listing], seen: Option<Seen>) -> bool
+fn is_set_up_in(ticks: &[ContainerTick], seen: Option<Seen>) -> bool
     ensures { IsTrue result ↔ IsSomeAnd seen (λ s. IsSetUpBy (history ticks.now) s.attempt) }
 {
     match seen {
@@ -286,7 +286,7 @@ fn is_set_up_in(ticks: &[Listing], seen: Option<Seen>) -> bool
 }
 
 /// Whether some instance has started or exited.
-pub fn is_set_up(ticks: &[Listing]) -> bool
+pub fn is_set_up(ticks: &[ContainerTick]) -> bool
     ensures { IsTrue result ↔ IsSetUp (history ticks.now) }
 {
     for tick in ticks {

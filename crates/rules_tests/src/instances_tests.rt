@@ -2,8 +2,8 @@ ghost use Rattle.std.specs.Prelude.{◌↔◌, IsTrue};
 ghost use Rattle.state_diff.specs.Differ.{IsBefore};
 
 use listing_scan::{
-    Listing, effective_state, exit_code, exit_place, exited_at, is_acceptable, is_set_up, last_at,
-    newest_attempt, run, start_place, started_at,
+    ContainerTick, effective_state, exit_code, exit_place, exited_at, is_acceptable, is_set_up,
+    last_at, newest_attempt, run, start_place, started_at,
 };
 use state_diff::CriState::{Created, Exited, Running, Unknown};
 use state_diff::{Changes, CriState, Differ, Seen};
@@ -224,7 +224,7 @@ fn attempt_of(seen: Option<Seen>) -> Option<u32> {
 }
 
 /// The state of the attempt as all ticks show it.
-fn scanned_state(ticks: &[Listing], attempt: u32) -> CriState {
+fn scanned_state(ticks: &[ContainerTick], attempt: u32) -> CriState {
     match exit_place(ticks, attempt) {
         Some(_) => Exited,
         None => effective_state(ticks, attempt),
@@ -232,7 +232,7 @@ fn scanned_state(ticks: &[Listing], attempt: u32) -> CriState {
 }
 
 /// Compares what the differ says of the newest instance with a scan of all ticks.
-fn compare(rt: &impl Abort, ticks: &[Listing], differ: &Differ) {
+fn compare(rt: &impl Abort, ticks: &[ContainerTick], differ: &Differ) {
     assert_eq!(rt; differ.last_at(), last_at(ticks));
     assert_eq!(rt; differ.set_up(), is_set_up(ticks));
     let newest = differ.newest();
@@ -250,7 +250,7 @@ fn compare(rt: &impl Abort, ticks: &[Listing], differ: &Differ) {
 /// it lists.
 fn compare_changes(
     rt: &impl Abort,
-    ticks: &[Listing],
+    ticks: &[ContainerTick],
     before: Option<Seen>,
     listed: Option<Seen>,
     changes: Changes,
@@ -298,7 +298,7 @@ fn differ_agrees_with_a_scan_of_all_ticks(rt: HostRuntime) -> Result<(), Fail> {
         assert_eq!(rt; differ.accepts(listed), is_acceptable(&ticks, listed));
         if differ.accepts(listed) {
             let changes = take(&rt, &mut differ, at, listed);
-            ticks.push(Listing { at, seen: listed })?;
+            ticks.push(ContainerTick { at, seen: listed })?;
             compare(&rt, &ticks, &differ);
             compare_changes(&rt, &ticks, before, listed, changes);
             before = listed;
