@@ -4,7 +4,7 @@ use Rattle.std.specs.Prelude.{slice_index, ◌==◌, codes, nat_lt}
 use Rattle.std.specs.Char.{is_ascii_digit}
 use Rattle.std.specs.Str.Parse.{digits_value}
 use Rattle.std.specs.Str.{bytes_eq}
-use Rattle.std.proofs.lemmas.Bool.{false≢true}
+use Rattle.std.proofs.lemmas.Bool.{false≢true, and_parts}
 use Rattle.std.proofs.lemmas.Bool.Decides.{nat_tests}
 use Rattle.std.proofs.lemmas.Slice.Eq.{bytes_eq-Decides}
 use Rattle.quantity.specs.Digits.{after_digits}
@@ -48,10 +48,6 @@ read_parts text split = record {
   had = λ is. ⊎_elim (λ (n : (split.point ≡ []) × (fraction_of text ≡ []) × (has_point text ≡ false)). absurd (false≢true (sym n.2 ∙ is))) (λ (p : (split.point ≡ codes ".") × (has_point text ≡ true)). p.0) split.point_is;
 }
 
-and_true : (a b : Bool) → (a && b) ≡ true → (a ≡ true) × (b ≡ true)
-and_true true b h = (refl, h)
-and_true false b h = absurd (false≢true h)
-
 or_true : (a b : Bool) → (a || b) ≡ true → (a ≡ true) ⊎ (b ≡ true)
 or_true true b h = inl refl
 or_true false b h = inr h
@@ -60,7 +56,7 @@ digit_faults : (whole fraction : ℕ) (has : Bool) → (whole == 0 || (has && fr
 digit_faults whole fraction has h =
     ⊎_elim (λ (a : (whole == 0) ≡ true). inl (grind (arith, nat_tests)))
     (λ (b : (has && fraction == 0) ≡ true).
-    let c = and_true has (fraction == 0) b in
+    let c = and_parts has (fraction == 0) b in
     let none : (fraction == 0) ≡ true = c.1 in
     inr (c.0, grind (arith, nat_tests)))
     (or_true (whole == 0) (has && fraction == 0) h)

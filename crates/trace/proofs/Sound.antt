@@ -1,7 +1,7 @@
 -- The ticks of a trace are acceptable, and their moments rise.
 use Rattle.std.proofs.Common.{◌≡◌, ◌∙◌, ℕ, zero, suc, ◌+◌, ◌||◌, not, Bool, true, false, List, [], ◌∷◌, ◌++◌, Option, Some, None, Result, Ok, Err, refl, ap, sym, subst, inl, inr, arith}
 use Rattle.std.specs.Prelude.{⊤, slice_get, option_and_then, nat_lt, nat_le, length, codes, IfOk}
-use Rattle.std.proofs.lemmas.Bool.{cases_Bool}
+use Rattle.std.proofs.lemmas.Bool.{cases_Bool, or_parts}
 use Rattle.std.proofs.lemmas.List.{map_push}
 use Rattle.serde_json.specs.Data.{Data}
 use Rattle.histories.specs.Histories.{recorded}
@@ -46,10 +46,6 @@ first_holds : (a rest : Bool) → (not a || rest) ≡ false → (a ≡ true) × 
 first_holds true rest e = (refl, e)
 first_holds false rest e = absurd (cc)
 
-neither : (a rest : Bool) → (a || rest) ≡ false → (a ≡ false) × (rest ≡ false)
-neither false rest e = (refl, e)
-neither true rest e = absurd (cc)
-
 -- of containers none of which goes back, numbered from n on
 containers_forwards : (ticks : List TickObs) (pod n : ℕ) (os : List ContainerObs) → some_container_backwards ticks pod n os ≡ false
     → (c : ℕ) → is_acceptable (history ticks pod (n + c)) (option_and_then (λ (o : ContainerObs). o.seen) (slice_get os c)) ≡ true
@@ -70,13 +66,13 @@ pub pods_forwards : (ticks : List TickObs) (n : ℕ) (ps : List PodObs) → some
     → (p c : ℕ) → is_acceptable (history ticks (n + p) c) (seen_in_pod (slice_get ps p) c) ≡ true
 pods_forwards ticks n [] e p c = refl
 pods_forwards ticks n (q ∷ qs) e zero c =
-    let here = containers_forwards ticks n 0 q.containers (neither (some_container_backwards ticks n 0 q.containers) (some_pod_backwards ticks (n + 1) qs) e).0 c in
+    let here = containers_forwards ticks n 0 q.containers (or_parts (some_container_backwards ticks n 0 q.containers) (some_pod_backwards ticks (n + 1) qs) e).0 c in
     let same : n + 0 ≡ n = omega arith in
     let place : 0 + c ≡ c = omega arith in
     subst (λ (k : ℕ). is_acceptable (history ticks k c) (seen_in_pod (Some q) c) ≡ true) (sym same)
     (subst (λ (k : ℕ). is_acceptable (history ticks n k) (seen_in_pod (Some q) c) ≡ true) place here)
 pods_forwards ticks n (q ∷ qs) e (suc p) c =
-    let rest = (neither (some_container_backwards ticks n 0 q.containers) (some_pod_backwards ticks (n + 1) qs) e).1 in
+    let rest = (or_parts (some_container_backwards ticks n 0 q.containers) (some_pod_backwards ticks (n + 1) qs) e).1 in
     let same : n + 1 + p ≡ n + suc p = omega arith in
     subst (λ (k : ℕ). is_acceptable (history ticks k c) (seen_in_pod (slice_get qs p) c) ≡ true) same (pods_forwards ticks (n + 1) qs rest p c)
 

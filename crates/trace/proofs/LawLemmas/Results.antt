@@ -2,7 +2,7 @@
 use Rattle.std.proofs.Common.{◌≡◌, ◌∙◌, ℕ, zero, suc, Bool, true, false, List, [], ◌∷◌, slice_get, Some, refl, ap, sym, inl, inr}
 use Rattle.std.specs.Prelude.{◌==◌, ◌&&◌, ◌||◌}
 use Rattle.std.specs.List.{list_any}
-use Rattle.std.proofs.lemmas.Bool.{cases_Bool, eqb-true, eq-eqb}
+use Rattle.std.proofs.lemmas.Bool.{cases_Bool, and_parts, or_parts, eqb-true, eq-eqb}
 use Rattle.trace.specs.declared.outcome.Outcome.{Outcome}
 use Rattle.trace.specs.declared.outcome.ProbeKind.{ProbeKind}
 use Rattle.trace.specs.declared.outcome.ProbeKind.TheVariants.{Startup, Liveness, Readiness}
@@ -23,17 +23,13 @@ same_probe Readiness Startup e = absurd (cc)
 same_probe Readiness Liveness e = absurd (cc)
 same_probe Readiness Readiness e = refl
 
-both : (a b : Bool) → (a && b) ≡ true → (a ≡ true) × (b ≡ true)
-both true b e = (refl, e)
-both false b e = absurd (cc)
-
 abbrev result : ℕ → ProbeKind → Outcome → PlacedResult
 result n probe outcome = record { container = n; probe = probe; outcome = outcome }
 
 -- a result of the probe is this one
 is_result : (r : PlacedResult) (n : ℕ) (probe : ProbeKind) → is_of_probe r n probe ≡ true → r ≡ result n probe r.outcome
 is_result r n probe e =
-    let of = both (r.container == n) (place r.probe == place probe) e in
+    let of = and_parts (r.container == n) (place r.probe == place probe) e in
     ap (λ (c : ℕ). result c r.probe r.outcome) (eqb-true r.container n of.0)
     ∙ ap (λ (p : ProbeKind). result n p r.outcome) (same_probe r.probe probe of.1)
 
@@ -65,10 +61,6 @@ shown (r ∷ rs) n probe outcome e = elim (cases_Bool (is_of_probe r n probe)) [
       (suc later.0, later.1)
 ]
 
-apart : (a b : Bool) → (a || b) ≡ false → (a ≡ false) × (b ≡ false)
-apart true b e = absurd (cc)
-apart false b e = (refl, e)
-
 given : (rs : List PlacedResult) (n : ℕ) (probe : ProbeKind) (outcome : Outcome) → has_twice are_of_one_probe rs ≡ false → (m : ℕ) → slice_get rs m ≡ Some (result n probe outcome)
     → outcome_in rs n probe ≡ Some outcome
 given [] n probe outcome once m here = absurd (cc)
@@ -78,7 +70,7 @@ given (r ∷ rs) n probe outcome once zero here =
     let same : r.outcome ≡ outcome = ap (λ (s : PlacedResult). s.outcome) is in
     rw first (ap Some same)
 given (r ∷ rs) n probe outcome once (suc m) here =
-    let none = apart (list_any (λ s. are_of_one_probe s r) rs) (has_twice are_of_one_probe rs) once in
+    let none = or_parts (list_any (λ s. are_of_one_probe s r) rs) (has_twice are_of_one_probe rs) once in
     elim (cases_Bool (is_of_probe r n probe)) [
       | inl first ↦
           let alike : are_of_one_probe (result n probe outcome) r ≡ true = ap (are_of_one_probe (result n probe outcome)) (is_result r n probe first) ∙ of_itself n probe in
