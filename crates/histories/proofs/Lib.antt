@@ -5,3 +5,5 @@ pub mod Growth
 pub mod Transitions
 pub mod Lasting
 pub mod Decide
+pub mod Last
+pub mod Ahead

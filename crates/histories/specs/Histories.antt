@@ -79,3 +79,8 @@ pub record IsSteady (n : ℕ) (C : ℕ → Type 0) (u : ℕ) : Type 0 where
 -- the moment of C's last transition: that of the least place from which on it is the same
 abbrev pub IsTransition : {A : Type 0} → List (Recorded A) → (ℕ → Type 0) → Option ℕ → Type 0
 IsTransition h C m = IsFirstMoment h (IsSteady (length h) C) m
+
+-- P holds at place t, and at no place after it
+pub record IsLast (P : ℕ → Type 0) (t : ℕ) : Type 0 where
+  pub holds : P t
+  pub none_after : (u : ℕ) → t < u → P u → ⊥

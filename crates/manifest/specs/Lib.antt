@@ -9,3 +9,4 @@ pub mod Resources
 pub mod ResourceFields
 pub mod Containers
 pub mod Manifest
+pub mod Policy

@@ -1,15 +1,14 @@
 -- Each case of the raw phase of views holds or does not, so one of them is the first that does.
-use Rattle.std.proofs.Common.{◌≡◌, ◌≢◌, ◌⊎◌, inl, inr, suc, zero, ℤ, pos, ◌<◌, Bool, true, false, List, [], ◌∷◌, Option, Some, None, refl, ap, subst, sym, ◌∙◌, arith}
-use Rattle.std.specs.Prelude.{All, Any, IsTrue}
-use Rattle.std.specs.Bool.{Decides}
+use Rattle.std.proofs.Common.{◌≡◌, ◌≢◌, inl, inr, ℤ, pos, Bool, true, false, List, Option, Some, None, refl, ap, subst, sym, ◌∙◌, arith}
+use Rattle.std.specs.Prelude.{IsTrue}
 use Rattle.std.proofs.lemmas.Bool.Decides.{Decides-int_eq}
 use Rattle.histories.proofs.Decide.{OrNot, of_test, negated, both, either, all_or_not, any_or_not}
 use Rattle.manifest.specs.declared.policy.Policy.{Policy}
 use Rattle.manifest.specs.declared.policy.Policy.TheVariants.{Always, OnFailure, Never}
+use Rattle.manifest.specs.Policy.{WantsRestart}
 use Rattle.phase.specs.declared.phase.Phase.{Phase}
 use Rattle.phase.specs.declared.phase.Phase.TheVariants.{Pending, Running, Succeeded, Failed}
 use Rattle.phase.specs.declared.view.ContainerView.{ContainerView}
-use Rattle.phase.specs.Policies.{WantsRestart}
 use Rattle.phase.specs.Facts.{of_view, exit_code, HasCompleted, HasFailed, HasFinished}
 use Rattle.phase.specs.RawPhase.{IsRawPhase}
 
@@ -34,7 +33,7 @@ failed_or_not view = there (exit_code view)
       | inr n ↦ inl (code, refl, n)
     ]
 
-wants_or_not : (policy : Policy) (code : ℤ) → OrNot (WantsRestart policy code)
+wants_or_not : (policy : Policy) (code : ℤ) → OrNot (WantsRestart policy false code)
 wants_or_not Always code = inl tt
 wants_or_not OnFailure code = negated (zero_or_not code)
 wants_or_not Never code = inr (λ w. w)
@@ -49,7 +48,7 @@ finished_or_not policy view = there (exit_code view) refl
           let x : exit_code view ≡ Some w.code = w.exited in
           let y : Some code ≡ Some w.code = sym e ∙ x in
           let same : code ≡ w.code = cc in
-          let P : ℤ → Type 0 = λ k. WantsRestart policy k in
+          let P : ℤ → Type 0 = λ k. WantsRestart policy false k in
           w.wants_none (subst P same wants))
       | inr none ↦ inl (record { code = code; exited = e; wants_none = none })
     ]

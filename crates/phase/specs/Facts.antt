@@ -1,11 +1,11 @@
 -- What the rules ask of one container (Kubernetes, "Pod Lifecycle", "Pod phase" and "Container restart policy"). C is what describes it: a
 -- view, or the listings of all its instances.
-use Rattle.std.specs.Prelude.{◌≡◌, ◌≢◌, ℕ, ℤ, pos, List, Option, Some, IsSomeAnd, IsTrue, option_and_then}
+use Rattle.std.specs.Prelude.{◌≡◌, ◌≢◌, ℕ, ℤ, pos, false, List, Option, Some, IsSomeAnd, IsTrue, option_and_then}
 use Rattle.state_diff.specs.declared.seen.CriState.TheVariants.{Running}
 use Rattle.state_diff.specs.Instances.{Tick, IsNewest, IsState, IsExitCode, IsSetUp}
 use Rattle.manifest.specs.declared.policy.Policy.{Policy}
+use Rattle.manifest.specs.Policy.{WantsRestart}
 use Rattle.phase.specs.declared.view.ContainerView.{ContainerView}
-use Rattle.phase.specs.Policies.{WantsRestart}
 
 pub record Facts (C : Type 0) : Type 1 where
   -- its newest instance has exited with the code
@@ -43,8 +43,8 @@ HasCompleted facts container = facts.exited container (pos 0)
 abbrev pub HasFailed : {C : Type 0} → Facts C → C → Type 0
 HasFailed facts container = (code : ℤ) × facts.exited container code × (code ≢ pos 0)
 
--- its newest instance has exited, and wants no restart
+-- its newest instance has exited, and as one of an app container wants no restart
 pub record HasFinished {C : Type 0} (facts : Facts C) (policy : Policy) (container : C) : Type 0 where
   pub code : ℤ
   pub exited : facts.exited container code
-  pub wants_none : WantsRestart policy code → ⊥
+  pub wants_none : WantsRestart policy false code → ⊥

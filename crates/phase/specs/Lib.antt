@@ -1,4 +1,3 @@
-pub mod Policies
 pub mod Facts
 pub mod RawPhase
 pub mod Conditions

@@ -1,5 +1,5 @@
-ghost use Rattle.std.specs.Prelude.{◌≡◌, ◌↔◌, IsTrue};
-ghost use Rattle.phase.specs.Policies.{WantsRestart};
+ghost use Rattle.std.specs.Prelude.{◌≡◌, ◌↔◌, IsTrue, false};
+ghost use Rattle.manifest.specs.Policy.{WantsRestart};
 ghost use Rattle.manifest.specs.declared.policy.Policy.TheVariants.{Never};
 
 use manifest::Policy;
@@ -14,7 +14,7 @@ pub fn is_never(policy: Policy) -> bool
 /// Whether an exit of an app container with the code wants a restart.
 /// (Kubernetes, "Pod Lifecycle", "Container restart policy".)
 pub fn is_restart_wanted(policy: Policy, code: i32) -> bool
-    ensures { IsTrue result ↔ WantsRestart policy code }
+    ensures { IsTrue result ↔ WantsRestart policy false code }
 {
     match policy {
         Policy::Always => true,

@@ -17,11 +17,11 @@ no_period_is_met_now h = (
 )
 
 pub true_for_the_period : TrueForThePeriod
-true_for_the_period period place moment now h rising last at is_now =
-    let before : place < length h - 1 = last.earlier in
+true_for_the_period period place moment now h rising was at is_now =
+    let before : place < length h - 1 = was.earlier in
     let passed : moment < now = rising place (length h - 1) moment now before at is_now in (
       (λ w. elim w [
-        | inl met ↦ absurd (last.none_later (length h - 1) before met)
+        | inl met ↦ absurd (was.last.none_after (length h - 1) before met)
         | inr l ↦
             let same : Some l.now ≡ Some now = sym l.is_now ∙ is_now in
             let e : l.now ≡ now = cc in
@@ -32,7 +32,7 @@ true_for_the_period period place moment now h rising last at is_now =
       (λ lt. inr (record {
         place = place;
         earlier = before;
-        met = last.met;
+        met = was.last.holds;
         moment = moment;
         is_moment = at;
         now = now;
@@ -50,7 +50,7 @@ true_for_the_period period place moment now h rising last at is_now =
           omega arith
       | inr w ↦ elim w [
         | inl lt ↦ let less : m < moment = rising t place m moment lt at' at in omega arith
-        | inr gt ↦ absurd (last.none_later t gt met)
+        | inr gt ↦ absurd (was.last.none_after t gt met)
       ]
     ]
 

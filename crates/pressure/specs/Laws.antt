@@ -1,6 +1,6 @@
 -- The statements of the laws.
 use Rattle.std.specs.Prelude.{◌≡◌, ◌↔◌, ℕ, ◌+◌, ◌-◌, ◌<◌, List, length, Some}
-use Rattle.histories.specs.Histories.{moment_at, IsRising}
+use Rattle.histories.specs.Histories.{moment_at, IsRising, IsLast}
 use Rattle.pressure.specs.Pressures.{Observation, IsMetAt, IsUnderPressure, IsSince}
 
 abbrev pub NoPeriodIsMetNow : Type 0
@@ -8,9 +8,8 @@ NoPeriodIsMetNow = (h : List Observation) → (IsUnderPressure 0 h ↔ IsMetAt h
 
 -- it was last met at this place, which is before the last one
 pub record WasLastMet (h : List Observation) (place : ℕ) : Type 0 where
-  pub met : IsMetAt h place
+  pub last : IsLast (IsMetAt h) place
   pub earlier : place < length h - 1
-  pub none_later : (t : ℕ) → place < t → IsMetAt h t → ⊥
 
 -- where moments rise: it is true while less than the period has passed since it was last met, and false from then on
 abbrev pub TrueForThePeriod : Type 0

@@ -1,9 +1,10 @@
 -- The laws of the delays.
 use Rattle.std.proofs.Common.{◌≡◌, ℕ, ◌+◌, ◌≤◌, List, [], ◌∷◌, ◌++◌, Option, Some, None, refl, ap, ◌∙◌, sym, min, ◌*◌, arith}
+use Rattle.histories.specs.Histories.{recorded}
 use Rattle.restarts.specs.Exits.{Exit}
 use Rattle.restarts.specs.Delays.{IsDue, delay_of}
 use Rattle.restarts.specs.Laws.{EveryListHasOneDelay, DelayIsOneOfSeven, LongRunResets, DelayDoesNotFall, DelayDoubles, LongRunForgets}
-use Rattle.restarts.proofs.Places.{last_exit-after}
+use Rattle.restarts.proofs.Places.{last_moment-after}
 use Rattle.restarts.proofs.Numbers.{number_of, number_unique, number_short, number_long, number_forgets, number_remembers}
 use Rattle.restarts.proofs.DelayLemmas.{delay_of-rises, delay_of-among, delay_of-doubles}
 
@@ -18,11 +19,13 @@ pub one_of_seven : DelayIsOneOfSeven
 one_of_seven exits delay p = rw p.2 (delay_of-among p.0)
 
 pub resets : LongRunResets
-resets greatest exits last delay long p =
+resets greatest exits moment run delay long p =
+    let last = recorded moment run in
     p.2 ∙ ap (delay_of greatest) (number_unique (exits ++ last ∷ []) p.0 1 p.1 (number_long exits last long))
 
 pub does_not_fall : DelayDoesNotFall
-does_not_fall greatest exits last before after short p q =
+does_not_fall greatest exits moment run before after short p q =
+    let last = recorded moment run in
     let next : q.0 ≡ p.0 + 1 = number_unique (exits ++ last ∷ []) q.0 (p.0 + 1) q.1 (number_short exits last p.0 short p.1) in
     let rises : delay_of greatest p.0 ≤ delay_of greatest q.0 = delay_of-rises greatest p.0 q.0 (omega arith) in
     let from : before ≡ delay_of greatest p.0 = p.2 in
@@ -30,7 +33,8 @@ does_not_fall greatest exits last before after short p q =
     omega arith
 
 pub doubles : DelayDoubles
-doubles greatest exits last before after short some p q =
+doubles greatest exits moment run before after short some p q =
+    let last = recorded moment run in
     let next : q.0 ≡ p.0 + 1 = number_unique (exits ++ last ∷ []) q.0 (p.0 + 1) q.1 (number_short exits last p.0 short p.1) in
     let from : before ≡ delay_of greatest p.0 = p.2 in
     let to : after ≡ delay_of greatest q.0 = q.2 in
@@ -41,26 +45,27 @@ some_exit : (earlier later : List Exit) (x : Exit) → earlier ++ x ∷ later �
 some_exit [] later x is = cc
 some_exit (y ∷ earlier) later x is = cc
 
-due_forgets : (greatest : ℕ) (earlier later : List Exit) (long : Exit) (due : Option ℕ) → 600 ≤ long.run
+due_forgets : (greatest : ℕ) (earlier later : List Exit) (long : Exit) (due : Option ℕ) → 600 ≤ long.entry
     → IsDue greatest (earlier ++ long ∷ later) due → IsDue greatest (long ∷ later) due
 due_forgets greatest earlier later long None is none = absurd (some_exit earlier later long none)
 due_forgets greatest earlier later long (Some due) is (last, delay, ends, (n, num, by), so) =
-    (last, delay, sym (last_exit-after earlier long later) ∙ ends, (n, number_forgets earlier later long n is num, by), so)
+    (last, delay, sym (last_moment-after earlier long later) ∙ ends, (n, number_forgets earlier later long n is num, by), so)
 
-due_remembers : (greatest : ℕ) (earlier later : List Exit) (long : Exit) (due : Option ℕ) → 600 ≤ long.run
+due_remembers : (greatest : ℕ) (earlier later : List Exit) (long : Exit) (due : Option ℕ) → 600 ≤ long.entry
     → IsDue greatest (long ∷ later) due → IsDue greatest (earlier ++ long ∷ later) due
 due_remembers greatest earlier later long None is none = absurd (some_exit [] later long none)
 due_remembers greatest earlier later long (Some due) is (last, delay, ends, (n, num, by), so) =
-    (last, delay, last_exit-after earlier long later ∙ ends, (n, number_remembers earlier later long n is num, by), so)
+    (last, delay, last_moment-after earlier long later ∙ ends, (n, number_remembers earlier later long n is num, by), so)
 
 pub forgets : LongRunForgets
-forgets earlier later long backoff is = (
-  λ st. record {
-    count = let of = st.count in (of.0, number_forgets earlier later long of.0 is of.1, of.2);
-    due = due_forgets 300 earlier later long backoff.due is st.due;
-  },
-  λ st. record {
-    count = let of = st.count in (of.0, number_remembers earlier later long of.0 is of.1, of.2);
-    due = due_remembers 300 earlier later long backoff.due is st.due;
-  },
-)
+forgets earlier later moment run backoff is =
+    let long = recorded moment run in (
+      λ st. record {
+        count = let of = st.count in (of.0, number_forgets earlier later long of.0 is of.1, of.2);
+        due = due_forgets 300 earlier later long backoff.due is st.due;
+      },
+      λ st. record {
+        count = let of = st.count in (of.0, number_remembers earlier later long of.0 is of.1, of.2);
+        due = due_remembers 300 earlier later long backoff.due is st.due;
+      },
+    )

@@ -1,41 +1,57 @@
--- Which exits came after a long run, when others stand before or after.
-use Rattle.std.proofs.Common.{◌≡◌, ◌⊎◌, inl, inr, ℕ, zero, suc, ◌+◌, ◌<◌, ◌≤◌, List, [], ◌∷◌, ◌++◌, length, refl, ap, subst, arith}
-use Rattle.restarts.specs.Exits.{Exit, IsLong, last_exit}
+-- From where the exits count, when others stand before or after.
+use Rattle.std.proofs.Common.{◌≡◌, inl, inr, ℕ, ◌+◌, ◌-◌, ◌<◌, ◌≤◌, List, [], ◌∷◌, ◌++◌, length, subst, sym, ◌∙◌, arith, length-append}
+use Rattle.std.specs.Prelude.{◌↔◌}
+use Rattle.std.proofs.lemmas.Bool.{cases_lt}
+use Rattle.histories.specs.Histories.{IsLast}
+use Rattle.histories.proofs.First.{Grows, none_more}
+use Rattle.histories.proofs.Growth.{grows_entry}
+use Rattle.histories.proofs.Last.{IsLast-unique, IsLast-old, IsLast-new, IsLast-moved, IsLast-moved_back}
+use Rattle.histories.proofs.Ahead.{ahead, moment_at-ahead}
+use Rattle.restarts.specs.Exits.{Exit, IsLong, IsBeginning, last_moment}
 
--- a place after a long run is within the list
-pub IsLong-within : (exits : List Exit) (t : ℕ) → IsLong exits t → t < length exits
-IsLong-within [] t long = absurd long
-IsLong-within (x ∷ exits) zero long = omega arith
-IsLong-within (x ∷ exits) (suc t) long = omega (arith, IsLong-within exits t long)
+grows : (exits : List Exit) (x : Exit) → Grows (length exits) (IsLong exits) (IsLong (exits ++ x ∷ [])) (600 ≤ x.entry)
+grows exits x = grows_entry (λ run. 600 ≤ run) exits x
 
--- more exits at the end change nothing before
-pub IsLong-more : (exits later : List Exit) (t : ℕ) → IsLong exits t → IsLong (exits ++ later) t
-IsLong-more [] later t long = absurd long
-IsLong-more (x ∷ exits) later zero long = long
-IsLong-more (x ∷ exits) later (suc t) long = IsLong-more exits later t long
+moved : (earlier exits : List Exit) (t : ℕ) → (IsLong exits t ↔ IsLong (earlier ++ exits) (length earlier + t))
+moved earlier exits t = ahead (λ run. 600 ≤ run) earlier exits t
 
--- exits at the front move the others
-pub IsLong-moved : (earlier exits : List Exit) (t u : ℕ) → u ≡ length earlier + t → IsLong exits t → IsLong (earlier ++ exits) u
-IsLong-moved [] exits t u is long = let e : t ≡ u = omega arith in subst (IsLong exits) e long
-IsLong-moved (x ∷ earlier) exits t zero is long = absurd (omega arith)
-IsLong-moved (x ∷ earlier) exits t (suc u) is long = IsLong-moved earlier exits t u (omega arith) long
+-- after a short run the exits count from where they did
+pub beginning_short : (exits : List Exit) (x : Exit) (start : ℕ) → x.entry < 600 → IsBeginning exits start → IsBeginning (exits ++ x ∷ []) start
+beginning_short exits x start short from = elim from [
+  | inl f ↦ inl (IsLast-old (length exits) _ _ _ (grows exits x) (λ long. let far : 600 ≤ x.entry = long in absurd (omega arith)) start f)
+  | inr w ↦ inr (w.0, none_more (length exits) _ _ _ (grows exits x) w.1 (λ long. let far : 600 ≤ x.entry = long in absurd (omega arith)))
+]
 
--- and back
-pub IsLong-moved_back : (earlier exits : List Exit) (t u : ℕ) → u ≡ length earlier + t → IsLong (earlier ++ exits) u → IsLong exits t
-IsLong-moved_back [] exits t u is long = let e : u ≡ t = omega arith in subst (IsLong exits) e long
-IsLong-moved_back (x ∷ earlier) exits t zero is long = absurd (omega arith)
-IsLong-moved_back (x ∷ earlier) exits t (suc u) is long = IsLong-moved_back earlier exits t u (omega arith) long
+-- after a long one from its own place
+pub beginning_long : (exits : List Exit) (x : Exit) → 600 ≤ x.entry → IsBeginning (exits ++ x ∷ []) (length exits)
+beginning_long exits x long = inl (IsLast-new (length exits) _ _ _ (grows exits x) long)
 
--- with one more exit a place was long before, or it is that exit's
-pub IsLong-split : (exits : List Exit) (last : Exit) (t : ℕ) → IsLong (exits ++ last ∷ []) t → IsLong exits t ⊎ ((t ≡ length exits) × (600 ≤ last.run))
-IsLong-split [] last zero long = inr (refl, long)
-IsLong-split [] last (suc t) long = absurd long
-IsLong-split (x ∷ exits) last zero long = inl long
-IsLong-split (x ∷ exits) last (suc t) long =
-    elim (IsLong-split exits last t long) [ inl old ↦ inl old | inr w ↦ inr (ap suc w.0, w.1) ]
+-- they count from one place
+pub beginning_unique : (exits : List Exit) (s t : ℕ) → IsBeginning exits s → IsBeginning exits t → s ≡ t
+beginning_unique exits s t (inl f) (inl g) = IsLast-unique (IsLong exits) s t f g
+beginning_unique exits s t (inl f) (inr w) = absurd (w.1 s f.holds)
+beginning_unique exits s t (inr w) (inl g) = absurd (w.1 t g.holds)
+beginning_unique exits s t (inr v) (inr w) = v.0 ∙ sym w.0
+
+-- exits before a long run play no part
+pub beginning_forgets : (earlier later : List Exit) (x : Exit) (start : ℕ) → 600 ≤ x.entry → IsBeginning (earlier ++ x ∷ later) start
+    → (t : ℕ) × (start ≡ length earlier + t) × IsBeginning (x ∷ later) t
+beginning_forgets earlier later x start long (inl f) =
+    let from : length earlier ≤ start = elim (cases_lt start (length earlier)) [
+      | inl lt ↦ absurd (f.none_after (length earlier + 0) (omega arith) ((moved earlier (x ∷ later) 0).0 long))
+      | inr le ↦ le
+    ] in
+    let e : start ≡ length earlier + (start - length earlier) = omega arith in
+    let P : ℕ → Type 0 = λ k. IsLast (IsLong (earlier ++ x ∷ later)) k in
+    (start - length earlier, e, inl (IsLast-moved_back (length earlier) _ _ (moved earlier (x ∷ later)) (start - length earlier) (subst P e f)))
+beginning_forgets earlier later x start long (inr w) = absurd (w.1 (length earlier + 0) ((moved earlier (x ∷ later) 0).0 long))
+
+pub beginning_remembers : (earlier later : List Exit) (x : Exit) (t : ℕ) → 600 ≤ x.entry → IsBeginning (x ∷ later) t
+    → IsBeginning (earlier ++ x ∷ later) (length earlier + t)
+beginning_remembers earlier later x t long (inl f) = inl (IsLast-moved (length earlier) _ _ (moved earlier (x ∷ later)) t f)
+beginning_remembers earlier later x t long (inr w) = absurd (w.1 0 long)
 
 -- the last exit of a list that goes on is that of what follows
-pub last_exit-after : (earlier : List Exit) (x : Exit) (later : List Exit) → last_exit (earlier ++ x ∷ later) ≡ last_exit (x ∷ later)
-last_exit-after [] x later = refl
-last_exit-after (y ∷ []) x later = refl
-last_exit-after (y ∷ z ∷ earlier) x later = last_exit-after (z ∷ earlier) x later
+pub last_moment-after : (earlier : List Exit) (x : Exit) (later : List Exit) → last_moment (earlier ++ x ∷ later) ≡ last_moment (x ∷ later)
+last_moment-after earlier x later =
+    moment_at-ahead earlier (x ∷ later) (length (x ∷ later) - 1) (length (earlier ++ x ∷ later) - 1) (omega (arith, length-append earlier (x ∷ later)))

@@ -1,7 +1,7 @@
 -- How long a restart is put off (Kubernetes, "Pod Lifecycle", "Container restart policy"; that the first exit has no
 -- delay and that a run of 600 s begins the count anew is this profile's reading).
 use Rattle.std.specs.Prelude.{◌≡◌, ℕ, zero, suc, ◌+◌, ◌*◌, ◌^◌, List, [], Option, Some, None, min}
-use Rattle.restarts.specs.Exits.{Exit, IsNumber, last_exit}
+use Rattle.restarts.specs.Exits.{Exit, IsNumber, last_moment}
 
 -- no delay is greater, in seconds
 abbrev pub greatest_delay : ℕ
@@ -21,4 +21,4 @@ IsDelay greatest exits delay = (number : ℕ) × IsNumber exits number × (delay
 abbrev pub IsDue : ℕ → List Exit → Option ℕ → Type 0
 IsDue greatest exits None = exits ≡ []
 IsDue greatest exits (Some due) =
-    (last : Exit) × (delay : ℕ) × (last_exit exits ≡ Some last) × IsDelay greatest exits delay × (due ≡ last.moment + delay)
+    (last : ℕ) × (delay : ℕ) × (last_moment exits ≡ Some last) × IsDelay greatest exits delay × (due ≡ last + delay)

@@ -1,5 +1,6 @@
 -- What holds of the delays whatever the exits were.
 use Rattle.std.specs.Prelude.{◌≡◌, ◌↔◌, ℕ, ◌<◌, ◌≤◌, List, [], ◌∷◌, ◌++◌, Contains, min, ◌*◌}
+use Rattle.histories.specs.Histories.{recorded}
 use Rattle.restarts.specs.declared.backoff.Backoff.{Backoff}
 use Rattle.restarts.specs.Exits.{Exit}
 use Rattle.restarts.specs.Delays.{IsDelay, greatest_delay}
@@ -18,20 +19,20 @@ DelayIsOneOfSeven =
 
 abbrev pub LongRunResets : Type 0
 LongRunResets =
-    (greatest : ℕ) (exits : List Exit) (last : Exit) (delay : ℕ) → 600 ≤ last.run
-    → IsDelay greatest (exits ++ last ∷ []) delay → delay ≡ 0
+    (greatest : ℕ) (exits : List Exit) (moment run delay : ℕ) → 600 ≤ run
+    → IsDelay greatest (exits ++ recorded moment run ∷ []) delay → delay ≡ 0
 
 abbrev pub DelayDoesNotFall : Type 0
 DelayDoesNotFall =
-    (greatest : ℕ) (exits : List Exit) (last : Exit) (before after : ℕ) → last.run < 600
-    → IsDelay greatest exits before → IsDelay greatest (exits ++ last ∷ []) after → before ≤ after
+    (greatest : ℕ) (exits : List Exit) (moment run before after : ℕ) → run < 600
+    → IsDelay greatest exits before → IsDelay greatest (exits ++ recorded moment run ∷ []) after → before ≤ after
 
 abbrev pub DelayDoubles : Type 0
 DelayDoubles =
-    (greatest : ℕ) (exits : List Exit) (last : Exit) (before after : ℕ) → last.run < 600 → 0 < before
-    → IsDelay greatest exits before → IsDelay greatest (exits ++ last ∷ []) after → after ≡ min greatest (2 * before)
+    (greatest : ℕ) (exits : List Exit) (moment run before after : ℕ) → run < 600 → 0 < before
+    → IsDelay greatest exits before → IsDelay greatest (exits ++ recorded moment run ∷ []) after → after ≡ min greatest (2 * before)
 
 abbrev pub LongRunForgets : Type 0
 LongRunForgets =
-    (earlier later : List Exit) (long : Exit) (backoff : Backoff) → 600 ≤ long.run
-    → (IsStateOf (earlier ++ long ∷ later) backoff ↔ IsStateOf (long ∷ later) backoff)
+    (earlier later : List Exit) (moment run : ℕ) (backoff : Backoff) → 600 ≤ run
+    → (IsStateOf (earlier ++ recorded moment run ∷ later) backoff ↔ IsStateOf (recorded moment run ∷ later) backoff)

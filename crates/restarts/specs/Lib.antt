@@ -3,4 +3,3 @@ pub mod Counts
 pub mod Delays
 pub mod Exits
 pub mod Laws
-pub mod Wanted

@@ -1,6 +1,7 @@
 //! How long a restart is put off.
 
-ghost use Rattle.std.specs.Prelude.{◌≡◌, ◌+◌, ◌^◌, ◌<◌, ◌≤◌, ◌↔◌, List, [], ◌∷◌, ◌++◌, IsTrue};
+ghost use Rattle.std.specs.Prelude.{◌≡◌, ◌+◌, ◌^◌, ◌<◌, ◌≤◌, ◌↔◌, ℕ, List, [], ◌∷◌, ◌++◌, IsTrue};
+ghost use Rattle.histories.specs.Histories.{recorded};
 ghost use Rattle.restarts.specs.Exits.{Exit};
 ghost use Rattle.restarts.specs.Delays.{delay_of};
 ghost use Rattle.restarts.specs.Counts.{IsCountOf};
@@ -29,7 +30,6 @@ pub struct Backoff {
 }
 
 impl Backoff {
-    ghost use Rattle.restarts.specs.Exits.{exit};
     ghost use Rattle.restarts.specs.Delays.{IsDelay, IsDue, greatest_delay};
     ghost use Rattle.restarts.specs.Backoff.{IsStateOf};
 
@@ -49,8 +49,8 @@ impl Backoff {
     /// that of their attempts.
     pub fn exited(&mut self, run_seconds: u64, at: u64) -> u64
         requires { at < 2 ^ 40 }
-        ensures state { (exits : List Exit) → IsStateOf exits self.old → IsStateOf (exits ++ exit at run_seconds ∷ []) self.new }
-        ensures delay { (exits : List Exit) → IsStateOf exits self.old → IsDelay greatest_delay (exits ++ exit at run_seconds ∷ []) result }
+        ensures state { (exits : List Exit) → IsStateOf exits self.old → IsStateOf (exits ++ recorded at run_seconds ∷ []) self.new }
+        ensures delay { (exits : List Exit) → IsStateOf exits self.old → IsDelay greatest_delay (exits ++ recorded at run_seconds ∷ []) result }
     {
         self.count = count_after(self.count, run_seconds);
         let delay = delay_after(self.count, GREATEST_DELAY);
@@ -70,7 +70,7 @@ impl Backoff {
 fn count_after(count: u32, run_seconds: u64) -> u32
     requires { count ≤ 7 }
     ensures within { result ≤ 7 }
-    ensures counts { (exits : List Exit) (next : Exit) → next.run ≡ run_seconds → IsCountOf exits count → IsCountOf (exits ++ next ∷ []) result }
+    ensures counts { (exits : List Exit) (at : ℕ) → IsCountOf exits count → IsCountOf (exits ++ recorded at run_seconds ∷ []) result }
 {
     if is_long(run_seconds) {
         1
