@@ -13,6 +13,7 @@ use Rattle.phase.specs.declared.pod.PodShape.{PodShape}
 use Rattle.phase.specs.Facts.{of_listings, of_view, exit_code}
 use Rattle.phase.specs.Pods.{PodTick, listings, IsViewOf, IsEnd, counted, EndsEvicted}
 use Rattle.phase.specs.Containers.{shown_as, state_shown, restarts_of, IsContainerState, IsRestarts, IsContainerStatus}
+use Rattle.state_diff.proofs.Places.{state_known}
 use Rattle.phase.proofs.ViewLemmas.{view_facts}
 
 -- the state that a view shows
@@ -25,7 +26,7 @@ state_is h (Some s) is = there s.state is.state
     there IsRunning st = inr (s.attempt, is.newest, st)
     there Exited st = inr (s.attempt, is.newest, st)
     there Unknown (inl w) = let e : Unknown ≡ Exited = w.1 in cc
-    there Unknown (inr (none, inl (t, k))) = absurd (k.known refl)
+    there Unknown (inr (none, inl (t, k))) = absurd (state_known h s.attempt Unknown t k refl)
     there Unknown (inr (none, inr w)) = let e : Unknown ≡ Created = w.1 in cc
 
 -- the restarts that it shows

@@ -1,8 +1,8 @@
 -- The exits of one container, oldest first.
-use Rattle.std.specs.Prelude.{◌≡◌, ◌⊎◌, ℕ, ◌+◌, ◌-◌, ◌≤◌, List, length, Option, IsSomeAnd}
-use Rattle.histories.specs.Histories.{Recorded, entry_at, moment_at, IsLast}
+use Rattle.std.specs.Prelude.{◌≡◌, ◌⊎◌, ℕ, ◌+◌, ◌≤◌, List, length, IsSomeAnd}
+use Rattle.histories.specs.Histories.{Recorded, entry_at, IsLast}
 
--- one exit: its moment, and for how many seconds the container had run
+-- one exit: its moment, and as its entry for how many seconds the container had run
 abbrev pub Exit : Type 0
 Exit = Recorded ℕ
 
@@ -19,7 +19,3 @@ pub record IsNumber (exits : List Exit) (number : ℕ) : Type 0 where
   pub start : ℕ
   pub beginning : IsBeginning exits start
   pub counted : start + number ≡ length exits
-
--- the moment of the last exit
-abbrev pub last_moment : List Exit → Option ℕ
-last_moment exits = moment_at exits (length exits - 1)

@@ -6,16 +6,16 @@ ghost use Rattle.restarts.specs.Exits.{Exit};
 ghost use Rattle.restarts.specs.Delays.{delay_of};
 ghost use Rattle.restarts.specs.Counts.{IsCountOf};
 
-// A run of so many seconds or more begins the count anew.
+/// A run of so many seconds or more begins the count anew.
 const LONG_RUN: u64 = 600;
 
-// The delay of the second exit, in seconds, which each further one doubles.
+/// The delay of the second exit, in seconds, which each further one doubles.
 const FIRST_DELAY: u64 = 10;
 
-// No delay is greater, in seconds.
+/// No delay is greater, in seconds.
 const GREATEST_DELAY: u64 = 300;
 
-// From this number on each delay is the greatest, so the count stops there.
+/// From this number on each delay is the greatest, so the count stops there.
 const LAST_COUNT: u32 = 7;
 
 /// The back-off of one container: how long its restarts are put off, by the exits so far.
@@ -66,7 +66,7 @@ impl Backoff {
     }
 }
 
-// The count after one more exit.
+/// The count after one more exit.
 fn count_after(count: u32, run_seconds: u64) -> u32
     requires { count ≤ 7 }
     ensures within { result ≤ 7 }
@@ -81,14 +81,14 @@ fn count_after(count: u32, run_seconds: u64) -> u32
     }
 }
 
-// Whether a run begins the count anew.
+/// Whether a run begins the count anew.
 fn is_long(run_seconds: u64) -> bool
     ensures { IsTrue result ↔ (600 ≤ run_seconds) }
 {
     run_seconds >= LONG_RUN
 }
 
-// The delay of an exit with this number.
+/// The delay of an exit with this number.
 fn delay_after(number: u32, greatest: u64) -> u64
     requires { number ≤ 7 }
     ensures { result ≡ delay_of greatest number }

@@ -11,6 +11,7 @@ use Rattle.state_diff.specs.declared.seen.CriState.{CriState}
 use Rattle.state_diff.specs.declared.seen.CriState.TheVariants.{Created, Running, Exited, Unknown}
 use Rattle.state_diff.specs.Instances.{Tick, seen_at, IsOf, IsOfAs, IsOfKnown, Listed, IsLastKnown, IsEffective, IsAcceptable}
 use Rattle.state_diff.specs.Acceptable.{is_of, is_at_most, known_after, last_known, effective_state, is_not_older, is_not_gone, is_not_back, is_acceptable}
+use Rattle.state_diff.proofs.Places.{known_of}
 use Rattle.state_diff.proofs.Steps.{IsEffective-unique}
 
 -- two tests of one fact are equal
@@ -110,12 +111,12 @@ IsLastFrom h a before state =
 last_from : (h : List Tick) (a : ℕ) (before : CriState) → IsLastFrom h a before (last_known a before h)
 last_from [] a before = inr ((λ t q. q), refl)
 last_from (y ∷ h) a before = elim (last_from h a (known_after a before y.entry)) [
-  | inl k ↦ inl (suc k.0, record { here = k.1.here; known = k.1.known; last = λ u lt q. later k.0 k.1.last u lt q })
+  | inl k ↦ inl (suc k.0, record { here = k.1.here; last = record { holds = k.1.last.holds; none_after = λ u lt q. later k.0 k.1.last.none_after u lt q } })
   | inr none ↦ elim (taken_or_kept a before y.entry) [
     | inl taken ↦
         let P : CriState → Type 0 = λ s. IsTaken a y.entry s in
         let w = subst P (sym none.1) taken in
-        inl (zero, record { here = w.here; known = w.known; last = λ u lt q. after none.0 u lt q })
+        inl (zero, record { here = w.here; last = record { holds = known_of a (last_known a (known_after a before y.entry) h) y.entry w.here w.known; none_after = λ u lt q. after none.0 u lt q } })
     | inr kept ↦ inr ((λ t q. never kept.0 none.0 t q), none.1 ∙ kept.1)
   ]
 ]

@@ -6,7 +6,7 @@ use Rattle.state_diff.specs.declared.seen.CriState.{CriState}
 use Rattle.state_diff.specs.declared.seen.CriState.TheVariants.{Created, Running, Exited, Unknown}
 use Rattle.state_diff.specs.declared.seen.Seen.{Seen}
 use Rattle.state_diff.specs.States.{rank}
-use Rattle.histories.specs.Histories.{Recorded, recorded, entry_at, IsFirst, IsFirstMoment}
+use Rattle.histories.specs.Histories.{Recorded, recorded, entry_at, IsFirst, IsFirstMoment, IsLast}
 
 -- one tick of one container: its moment, and the instance that it lists, if any
 abbrev pub Tick : Type 0
@@ -44,22 +44,25 @@ Listed h a t = IsSomeAnd (seen_at h t) (IsOf a)
 abbrev pub ListedAs : List Tick → ℕ → CriState → ℕ → Type 0
 ListedAs h a state t = IsSomeAnd (seen_at h t) (IsOfAs a state)
 
+-- tick t lists the attempt in a state that is known
+abbrev pub ListedKnown : List Tick → ℕ → ℕ → Type 0
+ListedKnown h a t = IsSomeAnd (seen_at h t) (IsOfKnown a)
+
 -- the greatest attempt that some tick lists
 pub record IsNewest (h : List Tick) (a : ℕ) : Type 0 where
   pub listed : (t : ℕ) × Listed h a t
   pub greatest : (b t : ℕ) → Listed h b t → b ≤ a
 
--- the state of the last listing of the attempt that isn't unknown
+-- the state of the last listing of the attempt whose state is known
 pub record IsLastKnown (h : List Tick) (a : ℕ) (state : CriState) (t : ℕ) : Type 0 where
+  pub last : IsLast (ListedKnown h a) t
   pub here : ListedAs h a state t
-  pub known : state ≢ Unknown
-  pub last : (u : ℕ) → t < u → IsSomeAnd (seen_at h u) (IsOfKnown a) → ⊥
 
 -- the effective state: that of the last known listing, and created if there is none
 abbrev pub IsEffective : List Tick → ℕ → CriState → Type 0
 IsEffective h a state =
     ((t : ℕ) × IsLastKnown h a state t)
-    ⊎ (((t : ℕ) → IsSomeAnd (seen_at h t) (IsOfKnown a) → ⊥) × (state ≡ Created))
+    ⊎ (((t : ℕ) → ListedKnown h a t → ⊥) × (state ≡ Created))
 
 -- tick t lists the attempt as exited, or doesn't list it after an earlier tick did
 abbrev pub Ends : List Tick → ℕ → ℕ → Type 0
