@@ -135,6 +135,13 @@ fn of_container(alloc: Global, fields: &str) -> Result<String, AllocError> {
     )
 }
 
+/// A manifest of this namespace, with one container of this name.
+fn of_names(alloc: Global, namespace: &str, container: &str) -> Result<String, AllocError> {
+    format!(in alloc;
+        "{{\"metadata\":{{\"name\":\"a\",\"namespace\":\"{namespace}\"}},\"spec\":{{\"containers\":[{{\"name\":\"{container}\"}}]}}}}"
+    )
+}
+
 #[test]
 fn manifest_is_read_back(rt: HostRuntime) -> Result<(), Fail> {
     let value = Value::from_str(rt.alloc(), WHOLE)?;
@@ -275,6 +282,22 @@ fn faults_of_a_manifest_come_in_the_order_of_its_fields(rt: HostRuntime) -> Resu
     Ok(())
 }
 
+#[test]
+fn names_of_containers_and_namespaces_have_up_to_63_bytes(rt: HostRuntime) -> Result<(), Fail> {
+    let alloc = rt.alloc();
+    let (longest, too_long) = ("x".repeat(alloc, 63)?, "x".repeat(alloc, 64)?);
+    let (longest, too_long) = (longest.as_str(), too_long.as_str());
+    let text = of_names(alloc, longest, longest)?;
+    let summary = format!(in alloc;
+        "{longest}/a Always, priority 0, 30 s, 0 init\napp {longest}\n"
+    )?;
+    expect_pod(&rt, alloc, text.as_str(), summary.as_str())?;
+    let text = of_names(alloc, too_long, longest)?;
+    expect_fault(&rt, alloc, text.as_str(), WrongKind(Namespace))?;
+    let text = of_names(alloc, longest, too_long)?;
+    expect_fault(&rt, alloc, text.as_str(), WrongKind(ContainerName))
+}
+
 /// Contents of `spec`, with the first fault beside the one after it.
 #[test]
 fn faults_of_a_specification_come_in_the_order_of_its_fields(rt: HostRuntime) -> Result<(), Fail> {
@@ -398,6 +421,9 @@ fn faults_of_a_container_come_in_the_order_of_its_fields(rt: HostRuntime) -> Res
             r#"{"name":"c","startupProbe":7},{"name":"c"}"#,
             WrongKind(Probe),
         ),
+        // a container is checked to its end before the next one
+        (r#"{"name":"c","readinessProbe":7},7"#, WrongKind(Probe)),
+        (r#"{"name":"c","readinessProbe":7},{}"#, WrongKind(Probe)),
     ] {
         let fields = format!(in rt.alloc(); "\"containers\":[{container}]")?;
         let text = of_spec(rt.alloc(), fields.as_str())?;
@@ -426,6 +452,14 @@ fn requests_are_read_before_limits_and_compared_last(rt: HostRuntime) -> Result<
         (
             r#""requests":{"cpu":"2"},"limits":{"cpu":"1","ephemeral-storage":"-1"}"#,
             ManifestFault::Quantity(Negative),
+        ),
+        (
+            r#""limits":{"cpu":"1K","memory":"x"}"#,
+            ManifestFault::Quantity(BadSuffix),
+        ),
+        (
+            r#""limits":{"memory":"x","ephemeral-storage":"1K"}"#,
+            ManifestFault::Quantity(BadDigit),
         ),
         (
             r#""requests":{"cpu":"x"},"limits":{"cpu":"1K"}"#,
@@ -592,6 +626,10 @@ fn init_container_has_no_probes(rt: HostRuntime) -> Result<(), Fail> {
             r#"{"name":"i","readinessProbe":false},{"name":"i"}"#,
             InitProbe,
         ),
+        // a container is checked to its end before the next one
+        (r#"{"name":"i","readinessProbe":{}},7"#, InitProbe),
+        (r#"{"name":"i","readinessProbe":{}},{}"#, InitProbe),
+        (r#"{"name":"i","resources":7},{}"#, WrongKind(Resources)),
         (
             r#"{"name":"i","resources":{"limits":{"cpu":1},"requests":{"cpu":2}},"startupProbe":7}"#,
             RequestAboveLimit,
@@ -608,22 +646,4 @@ fn init_container_has_no_probes(rt: HostRuntime) -> Result<(), Fail> {
         expect_fault(&rt, rt.alloc(), text.as_str(), fault)?;
     }
     Ok(())
-}
-
-#[test]
-fn faults_of_a_manifest_have_their_numbers(rt: HostRuntime) {
-    for (fault, number) in [
-        (Missing(Pod), 11),
-        (WrongKind(Pod), 12),
-        (ManifestFault::Quantity(BadDigit), 13),
-        (ProbeRange, 14),
-        (InitProbe, 15),
-        (RequestAboveLimit, 16),
-        (DuplicateContainer, 17),
-        (Sidecar, 18),
-        (TooMany, 19),
-        (ManifestFault::OutOfMemory, 20),
-    ] {
-        assert_eq!(rt; fault.number(), number);
-    }
 }

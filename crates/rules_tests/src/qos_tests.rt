@@ -65,6 +65,9 @@ fn a_zero_limit_is_none(rt: HostRuntime) -> Result<(), Fail> {
     expect_class(&rt, alloc, "", half_held, Burstable)?;
     let zeros = r#"{"name":"a","resources":{"limits":{"cpu":"0n"},"requests":{"memory":0}}}"#;
     expect_class(&rt, alloc, "", zeros, BestEffort)?;
+    let zero_limit =
+        r#"{"name":"a","resources":{"limits":{"cpu":"0"},"requests":{"cpu":"1001m"}}}"#;
+    expect_class(&rt, alloc, "", zero_limit, Burstable)?;
     let zero_request =
         r#"{"name":"a","resources":{"limits":{"cpu":1,"memory":1},"requests":{"cpu":0,"memory":"0"}}}"#;
     expect_class(&rt, alloc, "", zero_request, Guaranteed)

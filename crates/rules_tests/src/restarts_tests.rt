@@ -2,6 +2,7 @@
 
 ghost use Rattle.std.specs.Prelude.{◌^◌, ◌<◌};
 
+use crate::random::next;
 use manifest::Policy;
 use restarts::{Backoff, wants_restart};
 use std::test::Fail;
@@ -86,7 +87,7 @@ fn moment_of(number: u64, random: u64) -> u64
     requires { number < 10000 }
     ensures { result < 2 ^ 40 }
 {
-    number * 5000 + (random >> 20) % 5000
+    number * 5000 + random % 5000
 }
 
 #[test]
@@ -94,15 +95,12 @@ fn many_exits_are_put_off_as_the_whole_list_says(rt: HostRuntime) -> Result<(), 
     let lengths = [
         0, 1, 5, 60, 599, 600, 601, 300, 12, 599, 2, 100000, 30, 7, 1, 0,
     ];
-    let mut random = 20261122u64;
+    let mut random = 20_261_122;
     let mut runs = Vec::new(rt.alloc());
     let mut backoff = Backoff::new();
     for i in 0..10000u64 {
-        random = random
-            .wrapping_mul(6364136223846793005)
-            .wrapping_add(1442695040888963407);
-        let at = moment_of(i, random);
-        let run = lengths[(random >> 40) as usize % lengths.len()];
+        let at = moment_of(i, next(&mut random));
+        let run = lengths[next(&mut random) as usize % lengths.len()];
         runs.push(run)?;
         let delay = slow_delay(&runs);
         assert_eq!(rt; backoff.exited(run, at), delay, "exit {i}");
