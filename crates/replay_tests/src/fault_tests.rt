@@ -1,6 +1,6 @@
 //! Texts that are no trace, and how a refusal is told.
 
-use crate::support::{POD, after_node, expect_fault, expect_report};
+use crate::support::{POD, TWO_CONTAINERS, after_node, expect_fault, expect_report};
 use kubelet_replay::{RunFault, fault_line, status_of};
 use manifest::Field::{Containers, InitContainers, Pod, Probe};
 use manifest::ManifestFault;
@@ -238,10 +238,7 @@ fn pods_that_are_not_replayed_yet_are_refused(rt: HostRuntime) -> Result<(), Fai
     Ok(())
 }
 
-/// A pod with two containers, and a tick at 10 that lists attempt 1 of both: `c` running, `d` exited.
-const TWO_CONTAINERS: &str =
-    r#"{"kind":"pod","pod":{"metadata":{"name":"a"},"spec":{"containers":[{"name":"c"},{"name":"d"}]}}}"#;
-
+/// A tick at 10 that lists attempt 1 of both containers: `c` running, `d` exited.
 const LISTS_BOTH: &str =
     r#"{"kind":"tick","at":10,"pods":[{"pod":"default/a","containers":[{"name":"c","attempt":1,"state":1},{"name":"d","attempt":1,"state":2,"exitCode":0}]}]}"#;
 

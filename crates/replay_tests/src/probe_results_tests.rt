@@ -1,18 +1,15 @@
 //! Results of probes in tick lines.
 
-use crate::support::{FIRST_REPORT, after_node, expect_fault, expect_report};
+use crate::support::{FIRST_REPORT, POD, TWO_CONTAINERS, after_node, expect_fault, expect_report};
 use std::alloc::{AllocError, Global};
 use std::test::Fail;
 use trace::{ContainerObs, LineKind, Outcome, ProbeKind, Trace, read_trace};
 
-/// A pod with two containers, and a tick at 10 that lists attempt 1 of both.
-const TWO_CONTAINERS: &str =
-    r#"{"kind":"pod","pod":{"metadata":{"name":"a"},"spec":{"containers":[{"name":"c"},{"name":"d"}]}}}"#;
-
+/// A tick at 10 that lists attempt 1 of both containers.
 const LISTS_BOTH: &str =
     r#"{"kind":"tick","at":10,"pods":[{"pod":"default/a","containers":[{"name":"c","attempt":1,"state":1},{"name":"d","attempt":1,"state":1}]}]}"#;
 
-/// That trace, with one more tick line: its moment and its pod entries.
+/// A trace of two containers and that tick, with one more tick line: its moment and its pod entries.
 fn with_tick(alloc: Global, at: u64, entries: &str) -> Result<String, AllocError> {
     let line = format!(in alloc; "{{\"kind\":\"tick\",\"at\":{at},\"pods\":[{entries}]}}")?;
     after_node(alloc, &[TWO_CONTAINERS, LISTS_BOTH, line.as_str()])
@@ -250,7 +247,7 @@ fn results_of_probes_that_a_container_lacks_change_no_report(rt: HostRuntime) ->
     let text = after_node(
         rt.alloc(),
         &[
-            r#"{"kind":"pod","pod":{"metadata":{"name":"a"},"spec":{"containers":[{"name":"c"}]}}}"#,
+            POD,
             r#"{"kind":"tick","at":100,"pods":[{"pod":"default/a","containers":[{"name":"c","state":1}],"probes":[{"container":"c","probe":"readiness","result":"failure"}]}]}"#,
         ],
     )?;
