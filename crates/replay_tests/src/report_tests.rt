@@ -102,48 +102,60 @@ condition 0 Ready False 0
 container 0 c state=Waiting code=- restarts=0 ready=false started=false
 ";
 
+const AGAIN: &str = r#"{"name":"c","attempt":1,"state":"CONTAINER_RUNNING"}"#;
+
+const FAILED_WITH_1: &str = r#"{"name":"c","state":"CONTAINER_EXITED","exitCode":1}"#;
+
+const SECOND_EXIT: &str = r#"{"name":"c","attempt":1,"state":"CONTAINER_EXITED","exitCode":1}"#;
+
+const LATE_CODE: &str = r#"{"name":"c","attempt":1,"state":"CONTAINER_EXITED","exitCode":9}"#;
+
+const JUMP: &str = r#"{"name":"c","attempt":2,"state":"CONTAINER_RUNNING"}"#;
+
+/// A pod, its report, and the moments and listings of its ticks.
+const CASES: [(&str, &str, &[(u64, &str)]); 8] = [
+    (POD, PENDING_REPORT, &[]),
+    (NEVER_POD, SUCCEEDED_REPORT, &[(0, RUNNING), (5, EXITED)]),
+    // once it has ended, later ticks change nothing
+    (
+        NEVER_POD,
+        SUCCEEDED_REPORT,
+        &[(0, RUNNING), (5, EXITED), (10, AGAIN), (15, "")],
+    ),
+    (NEVER_POD, FAILED_REPORT, &[(0, RUNNING), (5, FAILED)]),
+    (
+        NEVER_POD,
+        FAILED_REPORT,
+        &[(0, RUNNING), (5, FAILED), (10, JUMP), (15, JUMP)],
+    ),
+    (
+        POD,
+        RESTARTED_REPORT,
+        &[
+            (0, RUNNING),
+            (5, FAILED_WITH_1),
+            (10, AGAIN),
+            (20, SECOND_EXIT),
+            // a later code is ignored
+            (29, LATE_CODE),
+            (30, SECOND_EXIT),
+        ],
+    ),
+    (POD, JUMPED_REPORT, &[(0, RUNNING), (10, JUMP)]),
+    (POD, GONE_REPORT, &[(0, RUNNING), (7, ""), (9, "")]),
+];
+
 #[test]
 fn reports_follow_the_listings(rt: HostRuntime) -> Result<(), Fail> {
-    let again = r#"{"name":"c","attempt":1,"state":"CONTAINER_RUNNING"}"#;
-    let exit = r#"{"name":"c","state":"CONTAINER_EXITED","exitCode":1}"#;
-    let second_exit = r#"{"name":"c","attempt":1,"state":"CONTAINER_EXITED","exitCode":1}"#;
-    let late_code = r#"{"name":"c","attempt":1,"state":"CONTAINER_EXITED","exitCode":9}"#;
-    let jump = r#"{"name":"c","attempt":2,"state":"CONTAINER_RUNNING"}"#;
-    let cases: [(&str, &str, &[(u64, &str)]); 8] = [
-        (POD, PENDING_REPORT, &[]),
-        (NEVER_POD, SUCCEEDED_REPORT, &[(0, RUNNING), (5, EXITED)]),
-        // once it has ended, later ticks change nothing
-        (
-            NEVER_POD,
-            SUCCEEDED_REPORT,
-            &[(0, RUNNING), (5, EXITED), (10, again), (15, "")],
-        ),
-        (NEVER_POD, FAILED_REPORT, &[(0, RUNNING), (5, FAILED)]),
-        (
-            NEVER_POD,
-            FAILED_REPORT,
-            &[(0, RUNNING), (5, FAILED), (10, jump), (15, jump)],
-        ),
-        (
-            POD,
-            RESTARTED_REPORT,
-            &[
-                (0, RUNNING),
-                (5, exit),
-                (10, again),
-                (20, second_exit),
-                // a later code is ignored
-                (29, late_code),
-                (30, second_exit),
-            ],
-        ),
-        (POD, JUMPED_REPORT, &[(0, RUNNING), (10, jump)]),
-        (POD, GONE_REPORT, &[(0, RUNNING), (7, ""), (9, "")]),
-    ];
-    for (pod, report, ticks) in cases {
+    for (pod, report, ticks) in CASES {
         let text = trace_of(rt.alloc(), pod, ticks)?;
         expect_report(&rt, rt.alloc(), text.as_bytes(), 100, report);
     }
+    Ok(())
+}
+
+#[test]
+fn pods_with_a_container_that_was_never_listed_are_pending(rt: HostRuntime) -> Result<(), Fail> {
     let half = after_node(rt.alloc(), &[PROD_POD, HALF_LISTED])?;
     expect_report(&rt, rt.alloc(), half.as_bytes(), 100, HALF_LISTED_REPORT);
     Ok(())

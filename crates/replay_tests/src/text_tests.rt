@@ -7,7 +7,7 @@ use manifest::Policy;
 use state_diff::{CriState, Seen};
 use std::alloc::{AllocError, Global};
 use std::test::Fail;
-use trace::{LineKind, read_trace, seen_of};
+use trace::{LineKind, Trace, read_trace, seen_of};
 
 const PROD_POD: &str =
     r#"{"kind":"pod","pod":{"metadata":{"name":"b","namespace":"prod"},"spec":{"restartPolicy":"OnFailure","containers":[{"name":"c"},{"name":"d"}]}}}"#;
@@ -20,13 +20,16 @@ const LISTS_NONE: &str = r#"{"kind":"tick","at":7,"other":[],"pods":null}"#;
 const LISTS_ONE: &str =
     r#"{"kind":"tick","at":1099511627775,"pods":[{"pod":"prod/b","containers":[{"name":"d","attempt":1,"state":2,"exitCode":-2147483648}]}]}"#;
 
-#[test]
-fn trace_holds_what_its_lines_say(rt: HostRuntime) -> Result<(), Fail> {
+/// The trace of these lines.
+fn prod_trace(alloc: Global) -> Result<Trace, Fail> {
     let lines = [PROD_POD, "", LISTS_BOTH, " \t\r", LISTS_NONE, LISTS_ONE];
-    let text = after_node(rt.alloc(), &lines)?;
-    let trace = read_trace(rt.alloc(), text.as_bytes())
-        .ok()
-        .ok_or("a trace")?;
+    let text = after_node(alloc, &lines)?;
+    Ok(read_trace(alloc, text.as_bytes()).ok().ok_or("a trace")?)
+}
+
+#[test]
+fn trace_holds_the_node_and_the_pods_of_its_lines(rt: HostRuntime) -> Result<(), Fail> {
+    let trace = prod_trace(rt.alloc())?;
     assert_eq!(rt; trace.node.name.as_str(), "n1");
     assert_eq!(rt; trace.pods.as_slice().len(), 1);
     for pod in trace.pods.as_slice() {
@@ -36,28 +39,39 @@ fn trace_holds_what_its_lines_say(rt: HostRuntime) -> Result<(), Fail> {
         assert_eq!(rt; pod.containers.as_slice().len(), 2);
         assert_eq!(rt; pod.containers.number_of("d"), Some(1));
     }
-    let unknown = Seen {
+    Ok(())
+}
+
+/// What `LISTS_BOTH` lists of `c` and of `d`.
+const BOTH: (Option<Seen>, Option<Seen>) = (
+    Some(Seen {
         attempt: 2_147_483_647,
         state: CriState::Unknown,
         code: None,
-    };
-    let created = Seen {
+    }),
+    Some(Seen {
         attempt: 0,
         state: CriState::Created,
         code: None,
-    };
-    let exited = Seen {
+    }),
+);
+
+/// What `LISTS_ONE` lists of them.
+const ONE: (Option<Seen>, Option<Seen>) = (
+    None,
+    Some(Seen {
         attempt: 1,
         state: CriState::Exited,
         code: Some(i32::MIN),
-    };
-    let wanted = [
-        (0, Some(unknown), Some(created)),
-        (7, None, None),
-        (1_099_511_627_775, None, Some(exited)),
-    ];
+    }),
+);
+
+#[test]
+fn trace_holds_the_listings_of_its_lines(rt: HostRuntime) -> Result<(), Fail> {
+    let trace = prod_trace(rt.alloc())?;
+    let wanted = [(0, BOTH), (7, (None, None)), (1_099_511_627_775, ONE)];
     assert_eq!(rt; trace.ticks.as_slice().len(), 3);
-    for (tick, (at, c, d)) in trace.ticks.as_slice().iter().zip(wanted) {
+    for (tick, (at, (c, d))) in trace.ticks.as_slice().iter().zip(wanted) {
         assert_eq!(rt; tick.at, at);
         assert_eq!(rt; tick.pods.as_slice().len(), 1);
         assert_eq!(rt; seen_of(tick, 0, 0), c, "at {at}");

@@ -5,6 +5,7 @@ ghost use Rattle.std.specs.Prelude.{◌^◌, ◌<◌};
 use crate::random::next;
 use manifest::Policy;
 use restarts::{Backoff, wants_restart};
+use std::process::Abort;
 use std::test::Fail;
 
 #[test]
@@ -37,6 +38,17 @@ fn eight_short_runs_reach_the_greatest_delay(rt: HostRuntime) {
     assert_eq!(rt; backoff.due(), Some(1099511627785));
 }
 
+/// Whether a restart is wanted after each code but 0.
+fn expect_after_failures(rt: &impl Abort, policy: Policy, is_init: bool, wanted: bool) {
+    for code in [1, 137, -1, i32::MAX, i32::MIN] {
+        assert_eq!(rt;
+            wants_restart(policy, is_init, code),
+            wanted,
+            "{policy:?} {is_init} {code}"
+        );
+    }
+}
+
 #[test]
 fn policy_init_and_code_decide_a_restart(rt: HostRuntime) {
     // (policy, app container with code 0, with another, init container with code 0, with another)
@@ -48,18 +60,8 @@ fn policy_init_and_code_decide_a_restart(rt: HostRuntime) {
     for (policy, app_success, app_failure, init_success, init_failure) in table {
         assert_eq!(rt; wants_restart(policy, false, 0), app_success, "{policy:?}");
         assert_eq!(rt; wants_restart(policy, true, 0), init_success, "{policy:?}");
-        for code in [1, 137, -1, i32::MAX, i32::MIN] {
-            assert_eq!(rt;
-                wants_restart(policy, false, code),
-                app_failure,
-                "{policy:?} {code}"
-            );
-            assert_eq!(rt;
-                wants_restart(policy, true, code),
-                init_failure,
-                "{policy:?} {code}"
-            );
-        }
+        expect_after_failures(&rt, policy, false, app_failure);
+        expect_after_failures(&rt, policy, true, init_failure);
     }
 }
 
