@@ -76,7 +76,7 @@ fn refusals_for_no_line_have_status_1(rt: HostRuntime) -> Result<(), Fail> {
 }
 
 #[test]
-fn refusals_for_a_line_have_status_2(rt: HostRuntime) -> Result<(), Fail> {
+fn refusals_have_a_status_and_a_line(rt: HostRuntime) -> Result<(), Fail> {
     for (line, kind, text) in LINE_FAULTS {
         let fault = RunFault::Line(LineFault { line, kind });
         assert_eq!(rt; status_of(&fault), 2, "{text}");

@@ -67,7 +67,7 @@ const ONE: (Option<Seen>, Option<Seen>) = (
 );
 
 #[test]
-fn trace_holds_the_listings_of_its_lines(rt: HostRuntime) -> Result<(), Fail> {
+fn trace_holds_what_its_lines_say(rt: HostRuntime) -> Result<(), Fail> {
     let trace = prod_trace(rt.alloc())?;
     let wanted = [(0, BOTH), (7, (None, None)), (1_099_511_627_775, ONE)];
     assert_eq!(rt; trace.ticks.as_slice().len(), 3);
