@@ -5,10 +5,8 @@ use crate::support::{
     UNKNOWN, after_node, expect_fault, expect_report, trace_of,
 };
 use kubelet_replay::{Counted, MemSink, MemSource, RunFault, Stop, replay_alone};
-use std::alloc::Global;
 use std::io;
 use std::io::Read;
-use std::process::Abort;
 use std::test::Fail;
 use trace::{LineFault, LineKind};
 
@@ -52,7 +50,7 @@ condition 0 Ready False 7
 container 0 c state=Terminated code=137 restarts=0 ready=false started=false
 ";
 
-const TWO_CONTAINERS: &str =
+const PROD_POD: &str =
     r#"{"kind":"pod","pod":{"metadata":{"name":"b.x","namespace":"prod"},"spec":{"containers":[{"name":"c"},{"name":"d"}]}}}"#;
 
 const HALF_LISTED: &str =
@@ -104,49 +102,61 @@ condition 0 Ready False 0
 container 0 c state=Waiting code=- restarts=0 ready=false started=false
 ";
 
+const AGAIN: &str = r#"{"name":"c","attempt":1,"state":"CONTAINER_RUNNING"}"#;
+
+const FAILED_WITH_1: &str = r#"{"name":"c","state":"CONTAINER_EXITED","exitCode":1}"#;
+
+const SECOND_EXIT: &str = r#"{"name":"c","attempt":1,"state":"CONTAINER_EXITED","exitCode":1}"#;
+
+const LATE_CODE: &str = r#"{"name":"c","attempt":1,"state":"CONTAINER_EXITED","exitCode":9}"#;
+
+const JUMP: &str = r#"{"name":"c","attempt":2,"state":"CONTAINER_RUNNING"}"#;
+
+/// A pod, its report, and the moments and listings of its ticks.
+const CASES: [(&str, &str, &[(u64, &str)]); 8] = [
+    (POD, PENDING_REPORT, &[]),
+    (NEVER_POD, SUCCEEDED_REPORT, &[(0, RUNNING), (5, EXITED)]),
+    // once it has ended, later ticks change nothing
+    (
+        NEVER_POD,
+        SUCCEEDED_REPORT,
+        &[(0, RUNNING), (5, EXITED), (10, AGAIN), (15, "")],
+    ),
+    (NEVER_POD, FAILED_REPORT, &[(0, RUNNING), (5, FAILED)]),
+    (
+        NEVER_POD,
+        FAILED_REPORT,
+        &[(0, RUNNING), (5, FAILED), (10, JUMP), (15, JUMP)],
+    ),
+    (
+        POD,
+        RESTARTED_REPORT,
+        &[
+            (0, RUNNING),
+            (5, FAILED_WITH_1),
+            (10, AGAIN),
+            (20, SECOND_EXIT),
+            // a later code is ignored
+            (29, LATE_CODE),
+            (30, SECOND_EXIT),
+        ],
+    ),
+    (POD, JUMPED_REPORT, &[(0, RUNNING), (10, JUMP)]),
+    (POD, GONE_REPORT, &[(0, RUNNING), (7, ""), (9, "")]),
+];
+
 #[test]
 fn reports_follow_the_listings(rt: HostRuntime) -> Result<(), Fail> {
-    let again = r#"{"name":"c","attempt":1,"state":"CONTAINER_RUNNING"}"#;
-    let exit = r#"{"name":"c","state":"CONTAINER_EXITED","exitCode":1}"#;
-    let second_exit = r#"{"name":"c","attempt":1,"state":"CONTAINER_EXITED","exitCode":1}"#;
-    let late_code = r#"{"name":"c","attempt":1,"state":"CONTAINER_EXITED","exitCode":9}"#;
-    let jump = r#"{"name":"c","attempt":2,"state":"CONTAINER_RUNNING"}"#;
-    let cases: [(&str, &str, &[(u64, &str)]); 8] = [
-        (POD, PENDING_REPORT, &[]),
-        (NEVER_POD, SUCCEEDED_REPORT, &[(0, RUNNING), (5, EXITED)]),
-        // once it has ended, later ticks change nothing
-        (
-            NEVER_POD,
-            SUCCEEDED_REPORT,
-            &[(0, RUNNING), (5, EXITED), (10, again), (15, "")],
-        ),
-        (NEVER_POD, FAILED_REPORT, &[(0, RUNNING), (5, FAILED)]),
-        (
-            NEVER_POD,
-            FAILED_REPORT,
-            &[(0, RUNNING), (5, FAILED), (10, jump), (15, jump)],
-        ),
-        (
-            POD,
-            RESTARTED_REPORT,
-            &[
-                (0, RUNNING),
-                (5, exit),
-                (10, again),
-                (20, second_exit),
-                // a later code is ignored
-                (29, late_code),
-                (30, second_exit),
-            ],
-        ),
-        (POD, JUMPED_REPORT, &[(0, RUNNING), (10, jump)]),
-        (POD, GONE_REPORT, &[(0, RUNNING), (7, ""), (9, "")]),
-    ];
-    for (pod, report, ticks) in cases {
+    for (pod, report, ticks) in CASES {
         let text = trace_of(rt.alloc(), pod, ticks)?;
         expect_report(&rt, rt.alloc(), text.as_bytes(), 100, report);
     }
-    let half = after_node(rt.alloc(), &[TWO_CONTAINERS, HALF_LISTED])?;
+    Ok(())
+}
+
+#[test]
+fn pods_with_a_container_that_was_never_listed_are_pending(rt: HostRuntime) -> Result<(), Fail> {
+    let half = after_node(rt.alloc(), &[PROD_POD, HALF_LISTED])?;
     expect_report(&rt, rt.alloc(), half.as_bytes(), 100, HALF_LISTED_REPORT);
     Ok(())
 }
@@ -168,6 +178,43 @@ fn listings_that_go_backwards_are_refused(rt: HostRuntime) -> Result<(), Fail> {
         expect_fault(&rt, rt.alloc(), bytes, 9, LineKind::Backwards, pod);
         let middle = bytes.len().saturating_sub(60);
         expect_fault(&rt, rt.alloc(), &bytes[..middle], 9, LineKind::NotJson, pod);
+    }
+    Ok(())
+}
+
+#[test]
+fn instances_that_went_unlisted_are_not_listed_again(rt: HostRuntime) -> Result<(), Fail> {
+    // the second pod has failed at 10
+    for pod in [POD, NEVER_POD] {
+        let text = trace_of(rt.alloc(), pod, &[(0, RUNNING), (10, ""), (20, RUNNING)])?;
+        expect_fault(
+            &rt,
+            rt.alloc(),
+            text.as_bytes(),
+            5,
+            LineKind::Backwards,
+            pod,
+        );
+    }
+    Ok(())
+}
+
+#[test]
+fn exits_have_a_code_in_an_ended_pod_too(rt: HostRuntime) -> Result<(), Fail> {
+    for uncoded in [
+        r#"{"name":"c","attempt":0,"state":"CONTAINER_EXITED"}"#,
+        r#"{"name":"c","attempt":1,"state":"CONTAINER_EXITED"}"#,
+    ] {
+        let ticks = [(0, RUNNING), (5, EXITED), (10, uncoded)];
+        let text = trace_of(rt.alloc(), NEVER_POD, &ticks)?;
+        expect_fault(
+            &rt,
+            rt.alloc(),
+            text.as_bytes(),
+            5,
+            LineKind::ExitCode,
+            uncoded,
+        );
     }
     Ok(())
 }
@@ -238,39 +285,6 @@ fn failing_writers_keep_the_beginning_of_the_report(rt: HostRuntime) {
     assert_eq!(rt; answer, Err(RunFault::Write));
     assert_eq!(rt; output.written(), b"pod 0 defa".as_slice());
 }
-
-/// Replays the text into the report or the refusal, or answers that memory was refused with nothing written.
-fn expect_whole_or_out_of_memory(
-    rt: &impl Abort,
-    alloc: Global,
-    text: &str,
-    wanted: Result<(), RunFault>,
-    report: &str,
-) {
-    let mut room = [0u8; 1000];
-    let mut input = MemSource::new(text.as_bytes(), 100);
-    let mut output = MemSink::new(&mut room, 100);
-    let answer = replay_alone(alloc, &mut input, &mut output);
-    if answer == Err(RunFault::OutOfMemory) {
-        assert!(rt; output.written().is_empty());
-    } else {
-        assert_eq!(rt; answer, wanted);
-        assert_eq!(rt; output.written(), report.as_bytes());
-    }
-}
-
-#[test]
-fn answers_whole_or_out_of_memory(rt: HostRuntime) {
-    expect_whole_or_out_of_memory(&rt, rt.alloc(), FIRST_TICK, Ok(()), FIRST_REPORT);
-    let fault = LineFault {
-        line: 2,
-        kind: LineKind::NotJson,
-    };
-    let refused = Err(RunFault::Line(fault));
-    expect_whole_or_out_of_memory(&rt, rt.alloc(), FAULTY, refused, "");
-}
-
-const FAULTY: &str = "{\"kind\":\"node\",\"name\":\"n1\"}\n{\"kind\":\"pod\",";
 
 /// So many spaces, which nobody keeps.
 #[derive(Drop)]

@@ -14,7 +14,11 @@ pub(crate) const NODE: &str = "{\"kind\":\"node\",\"name\":\"n1\"}\n";
 pub(crate) const POD: &str =
     r#"{"kind":"pod","pod":{"metadata":{"name":"a"},"spec":{"containers":[{"name":"c"}]}}}"#;
 
-/// The same pod, where no container is started again.
+/// The same pod, with two containers.
+pub(crate) const TWO_CONTAINERS: &str =
+    r#"{"kind":"pod","pod":{"metadata":{"name":"a"},"spec":{"containers":[{"name":"c"},{"name":"d"}]}}}"#;
+
+/// The pod of one container, which is not started again.
 pub(crate) const NEVER_POD: &str =
     r#"{"kind":"pod","pod":{"metadata":{"name":"a"},"spec":{"restartPolicy":"Never","containers":[{"name":"c"}]}}}"#;
 

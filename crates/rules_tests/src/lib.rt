@@ -16,6 +16,8 @@ mod qos_tests;
 #[cfg(test)]
 mod quantity_tests;
 #[cfg(test)]
+mod random;
+#[cfg(test)]
 mod replay_stream_tests;
 #[cfg(test)]
 mod restarts_tests;

@@ -135,6 +135,13 @@ fn of_container(alloc: Global, fields: &str) -> Result<String, AllocError> {
     )
 }
 
+/// A manifest of this namespace, with one container of this name.
+fn of_names(alloc: Global, namespace: &str, container: &str) -> Result<String, AllocError> {
+    format!(in alloc;
+        "{{\"metadata\":{{\"name\":\"a\",\"namespace\":\"{namespace}\"}},\"spec\":{{\"containers\":[{{\"name\":\"{container}\"}}]}}}}"
+    )
+}
+
 #[test]
 fn manifest_is_read_back(rt: HostRuntime) -> Result<(), Fail> {
     let value = Value::from_str(rt.alloc(), WHOLE)?;
@@ -275,93 +282,111 @@ fn faults_of_a_manifest_come_in_the_order_of_its_fields(rt: HostRuntime) -> Resu
     Ok(())
 }
 
+#[test]
+fn names_of_containers_and_namespaces_have_up_to_63_bytes(rt: HostRuntime) -> Result<(), Fail> {
+    let alloc = rt.alloc();
+    let (longest, too_long) = ("x".repeat(alloc, 63)?, "x".repeat(alloc, 64)?);
+    let (longest, too_long) = (longest.as_str(), too_long.as_str());
+    let text = of_names(alloc, longest, longest)?;
+    let summary = format!(in alloc;
+        "{longest}/a Always, priority 0, 30 s, 0 init\napp {longest}\n"
+    )?;
+    expect_pod(&rt, alloc, text.as_str(), summary.as_str())?;
+    let text = of_names(alloc, too_long, longest)?;
+    expect_fault(&rt, alloc, text.as_str(), WrongKind(Namespace))?;
+    let text = of_names(alloc, longest, too_long)?;
+    expect_fault(&rt, alloc, text.as_str(), WrongKind(ContainerName))
+}
+
 /// Contents of `spec`, with the first fault beside the one after it.
+const SPEC_FAULTS: [(&str, ManifestFault); 25] = [
+    (
+        r#""restartPolicy":"Sometimes","priority":"0""#,
+        WrongKind(RestartPolicy),
+    ),
+    (
+        r#""restartPolicy":0,"priority":2147483648"#,
+        WrongKind(RestartPolicy),
+    ),
+    (
+        r#""priority":"0","terminationGracePeriodSeconds":-1"#,
+        WrongKind(Priority),
+    ),
+    (r#""priority":2147483648"#, WrongKind(Priority)),
+    (r#""priority":-2147483649"#, WrongKind(Priority)),
+    (r#""priority":9223372036854775808"#, WrongKind(Priority)),
+    (r#""priority":1.0"#, WrongKind(Priority)),
+    (
+        r#""priority":2147483647,"terminationGracePeriodSeconds":-1,"initContainers":{}"#,
+        WrongKind(GracePeriod),
+    ),
+    (
+        r#""priority":-2147483648,"terminationGracePeriodSeconds":1099511627776"#,
+        WrongKind(GracePeriod),
+    ),
+    (
+        r#""terminationGracePeriodSeconds":"30""#,
+        WrongKind(GracePeriod),
+    ),
+    (
+        r#""terminationGracePeriodSeconds":1099511627775,"initContainers":{},"containers":{}"#,
+        WrongKind(InitContainers),
+    ),
+    (r#""initContainers":[7]"#, Missing(Containers)),
+    (r#""containers":null"#, Missing(Containers)),
+    (
+        r#""initContainers":[0,0,0,0,0,0,0,0,0,0,0,0,0,0,0,0,0],"containers":[]"#,
+        Missing(Containers),
+    ),
+    (
+        r#""initContainers":[0,0,0,0,0,0,0,0,0,0,0,0,0,0,0,0,0],"containers":{}"#,
+        WrongKind(Containers),
+    ),
+    (
+        r#""initContainers":[0],"containers":[0,0,0,0,0,0,0,0,0,0,0,0,0,0,0,0]"#,
+        TooMany,
+    ),
+    (
+        r#""initContainers":[0,0,0,0,0,0,0,0,0,0,0,0,0,0,0,0],"containers":[0]"#,
+        TooMany,
+    ),
+    (
+        r#""initContainers":[0],"containers":[0,0,0,0,0,0,0,0,0,0,0,0,0,0,0]"#,
+        WrongKind(InitContainers),
+    ),
+    (
+        r#""containers":[0,0,0,0,0,0,0,0,0,0,0,0,0,0,0,0]"#,
+        WrongKind(Containers),
+    ),
+    (
+        r#""initContainers":[null],"containers":[{"name":"c"}]"#,
+        WrongKind(InitContainers),
+    ),
+    (
+        r#""initContainers":[{"name":"i"}],"containers":[null]"#,
+        WrongKind(Containers),
+    ),
+    (
+        r#""initContainers":[{"name":"i"},{"name":"i"}],"containers":[{"name":"c","startupProbe":7}]"#,
+        WrongKind(Probe),
+    ),
+    (
+        r#""initContainers":[{"name":"i"}],"containers":[{"name":"c"},{"name":"i"}]"#,
+        DuplicateContainer,
+    ),
+    (
+        r#""initContainers":[{"name":"i"},{"name":"i"}],"containers":[{"name":"c"}]"#,
+        DuplicateContainer,
+    ),
+    (
+        r#""containers":[{"name":"c"},{"name":"d"},{"name":"c"}]"#,
+        DuplicateContainer,
+    ),
+];
+
 #[test]
 fn faults_of_a_specification_come_in_the_order_of_its_fields(rt: HostRuntime) -> Result<(), Fail> {
-    for (fields, fault) in [
-        (
-            r#""restartPolicy":"Sometimes","priority":"0""#,
-            WrongKind(RestartPolicy),
-        ),
-        (
-            r#""restartPolicy":0,"priority":2147483648"#,
-            WrongKind(RestartPolicy),
-        ),
-        (
-            r#""priority":"0","terminationGracePeriodSeconds":-1"#,
-            WrongKind(Priority),
-        ),
-        (r#""priority":2147483648"#, WrongKind(Priority)),
-        (r#""priority":-2147483649"#, WrongKind(Priority)),
-        (r#""priority":9223372036854775808"#, WrongKind(Priority)),
-        (r#""priority":1.0"#, WrongKind(Priority)),
-        (
-            r#""priority":2147483647,"terminationGracePeriodSeconds":-1,"initContainers":{}"#,
-            WrongKind(GracePeriod),
-        ),
-        (
-            r#""priority":-2147483648,"terminationGracePeriodSeconds":1099511627776"#,
-            WrongKind(GracePeriod),
-        ),
-        (
-            r#""terminationGracePeriodSeconds":"30""#,
-            WrongKind(GracePeriod),
-        ),
-        (
-            r#""terminationGracePeriodSeconds":1099511627775,"initContainers":{},"containers":{}"#,
-            WrongKind(InitContainers),
-        ),
-        (r#""initContainers":[7]"#, Missing(Containers)),
-        (r#""containers":null"#, Missing(Containers)),
-        (
-            r#""initContainers":[0,0,0,0,0,0,0,0,0,0,0,0,0,0,0,0,0],"containers":[]"#,
-            Missing(Containers),
-        ),
-        (
-            r#""initContainers":[0,0,0,0,0,0,0,0,0,0,0,0,0,0,0,0,0],"containers":{}"#,
-            WrongKind(Containers),
-        ),
-        (
-            r#""initContainers":[0],"containers":[0,0,0,0,0,0,0,0,0,0,0,0,0,0,0,0]"#,
-            TooMany,
-        ),
-        (
-            r#""initContainers":[0,0,0,0,0,0,0,0,0,0,0,0,0,0,0,0],"containers":[0]"#,
-            TooMany,
-        ),
-        (
-            r#""initContainers":[0],"containers":[0,0,0,0,0,0,0,0,0,0,0,0,0,0,0]"#,
-            WrongKind(InitContainers),
-        ),
-        (
-            r#""containers":[0,0,0,0,0,0,0,0,0,0,0,0,0,0,0,0]"#,
-            WrongKind(Containers),
-        ),
-        (
-            r#""initContainers":[null],"containers":[{"name":"c"}]"#,
-            WrongKind(InitContainers),
-        ),
-        (
-            r#""initContainers":[{"name":"i"}],"containers":[null]"#,
-            WrongKind(Containers),
-        ),
-        (
-            r#""initContainers":[{"name":"i"},{"name":"i"}],"containers":[{"name":"c","startupProbe":7}]"#,
-            WrongKind(Probe),
-        ),
-        (
-            r#""initContainers":[{"name":"i"}],"containers":[{"name":"c"},{"name":"i"}]"#,
-            DuplicateContainer,
-        ),
-        (
-            r#""initContainers":[{"name":"i"},{"name":"i"}],"containers":[{"name":"c"}]"#,
-            DuplicateContainer,
-        ),
-        (
-            r#""containers":[{"name":"c"},{"name":"d"},{"name":"c"}]"#,
-            DuplicateContainer,
-        ),
-    ] {
+    for (fields, fault) in SPEC_FAULTS {
         let text = of_spec(rt.alloc(), fields)?;
         expect_fault(&rt, rt.alloc(), text.as_str(), fault)?;
     }
@@ -398,6 +423,9 @@ fn faults_of_a_container_come_in_the_order_of_its_fields(rt: HostRuntime) -> Res
             r#"{"name":"c","startupProbe":7},{"name":"c"}"#,
             WrongKind(Probe),
         ),
+        // a container is checked to its end before the next one
+        (r#"{"name":"c","readinessProbe":7},7"#, WrongKind(Probe)),
+        (r#"{"name":"c","readinessProbe":7},{}"#, WrongKind(Probe)),
     ] {
         let fields = format!(in rt.alloc(); "\"containers\":[{container}]")?;
         let text = of_spec(rt.alloc(), fields.as_str())?;
@@ -407,57 +435,67 @@ fn faults_of_a_container_come_in_the_order_of_its_fields(rt: HostRuntime) -> Res
 }
 
 /// Contents of `resources`, with the first fault beside the one after it.
+const RESOURCE_FAULTS: [(&str, ManifestFault); 16] = [
+    (r#""requests":[],"limits":7"#, WrongKind(Resources)),
+    (
+        r#""requests":{"cpu":"1K","memory":"x"},"limits":7"#,
+        ManifestFault::Quantity(BadSuffix),
+    ),
+    (
+        r#""requests":{"ephemeral-storage":"x"},"limits":7"#,
+        ManifestFault::Quantity(BadDigit),
+    ),
+    (
+        r#""requests":{"cpu":"1","memory":"x","ephemeral-storage":"1K"}"#,
+        ManifestFault::Quantity(BadDigit),
+    ),
+    (
+        r#""requests":{"cpu":"2"},"limits":{"cpu":"1","ephemeral-storage":"-1"}"#,
+        ManifestFault::Quantity(Negative),
+    ),
+    (
+        r#""limits":{"cpu":"1K","memory":"x"}"#,
+        ManifestFault::Quantity(BadSuffix),
+    ),
+    (
+        r#""limits":{"memory":"x","ephemeral-storage":"1K"}"#,
+        ManifestFault::Quantity(BadDigit),
+    ),
+    (
+        r#""requests":{"cpu":"x"},"limits":{"cpu":"1K"}"#,
+        ManifestFault::Quantity(BadDigit),
+    ),
+    (r#""requests":{"cpu":"2"},"limits":7"#, WrongKind(Resources)),
+    (
+        r#""requests":{"cpu":-1,"memory":"x"}"#,
+        ManifestFault::Quantity(Negative),
+    ),
+    (
+        r#""requests":{"cpu":true,"memory":"x"}"#,
+        WrongKind(Resources),
+    ),
+    (r#""limits":{"memory":1.5}"#, WrongKind(Resources)),
+    (
+        r#""limits":{"memory":18446744073709551616}"#,
+        WrongKind(Resources),
+    ),
+    (
+        r#""limits":{"cpu":"1"},"requests":{"cpu":"1001m"}"#,
+        RequestAboveLimit,
+    ),
+    (
+        r#""limits":{"memory":"1Ki"},"requests":{"memory":1025}"#,
+        RequestAboveLimit,
+    ),
+    (
+        r#""limits":{"ephemeral-storage":1},"requests":{"ephemeral-storage":2}"#,
+        RequestAboveLimit,
+    ),
+];
+
 #[test]
 fn requests_are_read_before_limits_and_compared_last(rt: HostRuntime) -> Result<(), Fail> {
-    for (fields, fault) in [
-        (r#""requests":[],"limits":7"#, WrongKind(Resources)),
-        (
-            r#""requests":{"cpu":"1K","memory":"x"},"limits":7"#,
-            ManifestFault::Quantity(BadSuffix),
-        ),
-        (
-            r#""requests":{"ephemeral-storage":"x"},"limits":7"#,
-            ManifestFault::Quantity(BadDigit),
-        ),
-        (
-            r#""requests":{"cpu":"1","memory":"x","ephemeral-storage":"1K"}"#,
-            ManifestFault::Quantity(BadDigit),
-        ),
-        (
-            r#""requests":{"cpu":"2"},"limits":{"cpu":"1","ephemeral-storage":"-1"}"#,
-            ManifestFault::Quantity(Negative),
-        ),
-        (
-            r#""requests":{"cpu":"x"},"limits":{"cpu":"1K"}"#,
-            ManifestFault::Quantity(BadDigit),
-        ),
-        (r#""requests":{"cpu":"2"},"limits":7"#, WrongKind(Resources)),
-        (
-            r#""requests":{"cpu":-1,"memory":"x"}"#,
-            ManifestFault::Quantity(Negative),
-        ),
-        (
-            r#""requests":{"cpu":true,"memory":"x"}"#,
-            WrongKind(Resources),
-        ),
-        (r#""limits":{"memory":1.5}"#, WrongKind(Resources)),
-        (
-            r#""limits":{"memory":18446744073709551616}"#,
-            WrongKind(Resources),
-        ),
-        (
-            r#""limits":{"cpu":"1"},"requests":{"cpu":"1001m"}"#,
-            RequestAboveLimit,
-        ),
-        (
-            r#""limits":{"memory":"1Ki"},"requests":{"memory":1025}"#,
-            RequestAboveLimit,
-        ),
-        (
-            r#""limits":{"ephemeral-storage":1},"requests":{"ephemeral-storage":2}"#,
-            RequestAboveLimit,
-        ),
-    ] {
+    for (fields, fault) in RESOURCE_FAULTS {
         let container = format!(in rt.alloc(); "\"resources\":{{{fields}}}")?;
         let text = of_container(rt.alloc(), container.as_str())?;
         expect_fault(&rt, rt.alloc(), text.as_str(), fault)?;
@@ -503,48 +541,50 @@ fn zero_counts_as_unset_where_requests_and_limits_are_compared(
 }
 
 /// Contents of a readiness probe, with the first fault beside the one after it.
+const PROBE_FAULTS: [(&str, ManifestFault); 17] = [
+    (
+        r#""initialDelaySeconds":"0","periodSeconds":0"#,
+        WrongKind(Probe),
+    ),
+    (
+        r#""initialDelaySeconds":-1,"periodSeconds":"1""#,
+        ProbeRange,
+    ),
+    (r#""initialDelaySeconds":2147483648"#, ProbeRange),
+    (
+        r#""initialDelaySeconds":18446744073709551616"#,
+        WrongKind(Probe),
+    ),
+    (r#""initialDelaySeconds":-0"#, WrongKind(Probe)),
+    (
+        r#""periodSeconds":1.0,"timeoutSeconds":0"#,
+        WrongKind(Probe),
+    ),
+    (r#""periodSeconds":0,"timeoutSeconds":[]"#, ProbeRange),
+    (r#""periodSeconds":2147483648"#, ProbeRange),
+    (
+        r#""timeoutSeconds":[],"successThreshold":0"#,
+        WrongKind(Probe),
+    ),
+    (r#""timeoutSeconds":0,"successThreshold":{}"#, ProbeRange),
+    (r#""timeoutSeconds":2147483648"#, ProbeRange),
+    (
+        r#""successThreshold":{},"failureThreshold":0"#,
+        WrongKind(Probe),
+    ),
+    (
+        r#""successThreshold":0,"failureThreshold":true"#,
+        ProbeRange,
+    ),
+    (r#""successThreshold":2147483648"#, ProbeRange),
+    (r#""failureThreshold":true"#, WrongKind(Probe)),
+    (r#""failureThreshold":0"#, ProbeRange),
+    (r#""failureThreshold":18446744073709551615"#, ProbeRange),
+];
+
 #[test]
 fn numbers_of_a_probe_are_checked_one_after_the_other(rt: HostRuntime) -> Result<(), Fail> {
-    for (fields, fault) in [
-        (
-            r#""initialDelaySeconds":"0","periodSeconds":0"#,
-            WrongKind(Probe),
-        ),
-        (
-            r#""initialDelaySeconds":-1,"periodSeconds":"1""#,
-            ProbeRange,
-        ),
-        (r#""initialDelaySeconds":2147483648"#, ProbeRange),
-        (
-            r#""initialDelaySeconds":18446744073709551616"#,
-            WrongKind(Probe),
-        ),
-        (r#""initialDelaySeconds":-0"#, WrongKind(Probe)),
-        (
-            r#""periodSeconds":1.0,"timeoutSeconds":0"#,
-            WrongKind(Probe),
-        ),
-        (r#""periodSeconds":0,"timeoutSeconds":[]"#, ProbeRange),
-        (r#""periodSeconds":2147483648"#, ProbeRange),
-        (
-            r#""timeoutSeconds":[],"successThreshold":0"#,
-            WrongKind(Probe),
-        ),
-        (r#""timeoutSeconds":0,"successThreshold":{}"#, ProbeRange),
-        (r#""timeoutSeconds":2147483648"#, ProbeRange),
-        (
-            r#""successThreshold":{},"failureThreshold":0"#,
-            WrongKind(Probe),
-        ),
-        (
-            r#""successThreshold":0,"failureThreshold":true"#,
-            ProbeRange,
-        ),
-        (r#""successThreshold":2147483648"#, ProbeRange),
-        (r#""failureThreshold":true"#, WrongKind(Probe)),
-        (r#""failureThreshold":0"#, ProbeRange),
-        (r#""failureThreshold":18446744073709551615"#, ProbeRange),
-    ] {
+    for (fields, fault) in PROBE_FAULTS {
         let container = format!(in rt.alloc(); "\"readinessProbe\":{{{fields}}}")?;
         let text = of_container(rt.alloc(), container.as_str())?;
         expect_fault(&rt, rt.alloc(), text.as_str(), fault)?;
@@ -592,6 +632,10 @@ fn init_container_has_no_probes(rt: HostRuntime) -> Result<(), Fail> {
             r#"{"name":"i","readinessProbe":false},{"name":"i"}"#,
             InitProbe,
         ),
+        // a container is checked to its end before the next one
+        (r#"{"name":"i","readinessProbe":{}},7"#, InitProbe),
+        (r#"{"name":"i","readinessProbe":{}},{}"#, InitProbe),
+        (r#"{"name":"i","resources":7},{}"#, WrongKind(Resources)),
         (
             r#"{"name":"i","resources":{"limits":{"cpu":1},"requests":{"cpu":2}},"startupProbe":7}"#,
             RequestAboveLimit,
@@ -608,22 +652,4 @@ fn init_container_has_no_probes(rt: HostRuntime) -> Result<(), Fail> {
         expect_fault(&rt, rt.alloc(), text.as_str(), fault)?;
     }
     Ok(())
-}
-
-#[test]
-fn faults_of_a_manifest_have_their_numbers(rt: HostRuntime) {
-    for (fault, number) in [
-        (Missing(Pod), 11),
-        (WrongKind(Pod), 12),
-        (ManifestFault::Quantity(BadDigit), 13),
-        (ProbeRange, 14),
-        (InitProbe, 15),
-        (RequestAboveLimit, 16),
-        (DuplicateContainer, 17),
-        (Sidecar, 18),
-        (TooMany, 19),
-        (ManifestFault::OutOfMemory, 20),
-    ] {
-        assert_eq!(rt; fault.number(), number);
-    }
 }

@@ -1,5 +1,6 @@
 //! Node conditions: worked values, and the counters beside a program that looks through all observations.
 
+use crate::random::next;
 use pressure::Pressure;
 use sample_scan::{Observation, is_true, true_since};
 use std::process::Abort;
@@ -45,14 +46,6 @@ fn condition_that_was_never_met_is_false_since_the_first_observation(rt: HostRun
     let mut disk = Pressure::new(300);
     take(&rt, &mut disk, 100, false, (false, 100));
     take(&rt, &mut disk, 500, false, (false, 100));
-}
-
-/// The next of a fixed sequence of pseudo-random numbers below 2^31.
-fn next(random: &mut u64) -> u64 {
-    *random = random
-        .wrapping_mul(6_364_136_223_846_793_005)
-        .wrapping_add(1_442_695_040_888_963_407);
-    *random >> 33
 }
 
 /// Compares a condition with a scan of all observations.

@@ -3,9 +3,10 @@
 ghost use Rattle.std.specs.Prelude.{IfOk};
 ghost use Rattle.probes.specs.ProbeSet.{HasBegun};
 
-use manifest::{PodSpec, Probes};
+use crate::random::next;
+use manifest::{PodSpec, Probe, Probes};
 use probes::{Cause, ProbeSet, Verdicts};
-use result_scan::{TickResults, is_kill_ordered, is_ready, is_started, pass_place};
+use result_scan::{TickResults, counted_from, is_kill_ordered, is_ready, is_started, pass_place};
 use serde_json::Value;
 use std::alloc::Global;
 use std::process::Abort;
@@ -256,14 +257,6 @@ fn new_instance_begins_with_no_results(rt: HostRuntime) -> Result<(), Fail> {
     expect_new_instance(&rt, rt.alloc())
 }
 
-/// The next of a fixed sequence of pseudo-random numbers below 2^31.
-fn next(random: &mut u64) -> u64 {
-    *random = random
-        .wrapping_mul(6_364_136_223_846_793_005)
-        .wrapping_add(1_442_695_040_888_963_407);
-    *random >> 33
-}
-
 fn draw(random: &mut u64) -> Option<Outcome> {
     match next(random) % 8 {
         0 => None,
@@ -271,6 +264,33 @@ fn draw(random: &mut u64) -> Option<Outcome> {
         2..=4 => Some(Failure),
         _ => Some(Success),
     }
+}
+
+/// Compares what the set says of startup after the last tick of an instance with a scan of all its results.
+fn compare_startup(
+    rt: &impl Abort,
+    alloc: Global,
+    startup: Option<Probe>,
+    start: u64,
+    ticks: &[TickResults],
+    set: &ProbeSet,
+    verdicts: Verdicts,
+) -> Result<(), Fail> {
+    let place = match startup {
+        Some(probe) => pass_place(alloc, probe, start, ticks)?,
+        None => None,
+    };
+    let last = ticks.len().saturating_sub(1);
+    assert_eq!(rt; verdicts.passed, place == Some(last));
+    assert_eq!(rt; set.started(), is_started(alloc, startup, start, ticks)?);
+    // the other probes' results count after the tick in which startup passes
+    let from = match (startup, place) {
+        (None, _) => 0,
+        (Some(_), Some(place)) => place.saturating_add(1),
+        (Some(_), None) => ticks.len(),
+    };
+    assert_eq!(rt; counted_from(alloc, startup, start, ticks)?, from);
+    Ok(())
 }
 
 /// Compares what the set says after the last tick of an instance with a scan of all its results.
@@ -283,12 +303,8 @@ fn compare(
     set: &ProbeSet,
     verdicts: Verdicts,
 ) -> Result<(), Fail> {
+    compare_startup(rt, alloc, probes.startup(), start, ticks, set, verdicts)?;
     let earlier = &ticks[..ticks.len().saturating_sub(1)];
-    let passed = match probes.startup() {
-        Some(probe) => pass_place(alloc, probe, start, ticks)? == Some(earlier.len()),
-        None => false,
-    };
-    assert_eq!(rt; verdicts.passed, passed);
     let mut ordered = false;
     for cause in [Cause::Startup, Cause::Liveness] {
         let now = is_kill_ordered(alloc, probes, start, ticks, cause)?;
@@ -297,10 +313,6 @@ fn compare(
         ordered |= now;
     }
     assert_eq!(rt; set.kill_ordered(), ordered);
-    assert_eq!(rt;
-        set.started(),
-        is_started(alloc, probes.startup(), start, ticks)?
-    );
     let ready = is_ready(alloc, probes, start, ticks)?;
     assert_eq!(rt; (verdicts.ready, set.ready()), (ready, ready));
     Ok(())

@@ -1,7 +1,7 @@
 //! QoS classes and effective requests, also of manifests as `kubectl` writes them.
 
 use manifest::Resource::{Cpu, EphemeralStorage, Memory};
-use manifest::{PodSpec, Policy, Resource, Role};
+use manifest::{PodSpec, Policy, Role};
 use qos::Qos::{BestEffort, Burstable, Guaranteed};
 use qos::{Qos, effective_request, qos_class};
 use serde_json::Value;
@@ -65,6 +65,9 @@ fn a_zero_limit_is_none(rt: HostRuntime) -> Result<(), Fail> {
     expect_class(&rt, alloc, "", half_held, Burstable)?;
     let zeros = r#"{"name":"a","resources":{"limits":{"cpu":"0n"},"requests":{"memory":0}}}"#;
     expect_class(&rt, alloc, "", zeros, BestEffort)?;
+    let zero_limit =
+        r#"{"name":"a","resources":{"limits":{"cpu":"0"},"requests":{"cpu":"1001m"}}}"#;
+    expect_class(&rt, alloc, "", zero_limit, Burstable)?;
     let zero_request =
         r#"{"name":"a","resources":{"limits":{"cpu":1,"memory":1},"requests":{"cpu":0,"memory":"0"}}}"#;
     expect_class(&rt, alloc, "", zero_request, Guaranteed)
@@ -142,93 +145,63 @@ fn a_sum_of_requests_is_not_capped(rt: HostRuntime) -> Result<(), Fail> {
     Ok(())
 }
 
-/// A manifest as `kubectl` writes it, with what is read of it.
-fn expect_real(
-    rt: &impl Abort,
-    alloc: Global,
-    text: &str,
-    key: (&str, &str),
-    policy: Policy,
-    class: Qos,
-    memory: u128,
-) -> Result<(), Fail> {
-    let pod = pod_of(alloc, text)?;
-    assert_eq!(rt; (pod.namespace.as_str(), pod.name.as_str()), key);
-    assert_eq!(rt; pod.policy, policy);
-    assert_eq!(rt; qos_class(&pod), class);
-    assert_eq!(rt; effective_request(&pod, Memory), memory);
+/// Manifests as `kubectl` writes them: namespace, name, policy, class and the effective request of memory.
+const KUBECTL: [(&str, &str, &str, Policy, Qos, u128); 4] = [
+    (RUN_WEB, "default", "web", Policy::Always, BestEffort, 0),
+    (RUN_ONCE, "default", "once", Policy::Never, BestEffort, 0),
+    (
+        RUN_HELD,
+        "default",
+        "held",
+        Policy::Always,
+        Guaranteed,
+        67_108_864_000,
+    ),
+    (
+        CREATE_SERVICE,
+        "shop",
+        "service",
+        Policy::Always,
+        Burstable,
+        209_715_200_000,
+    ),
+];
+
+#[test]
+fn manifests_of_kubectl_are_read(rt: HostRuntime) -> Result<(), Fail> {
+    for (text, namespace, name, policy, class, memory) in KUBECTL {
+        let pod = pod_of(rt.alloc(), text)?;
+        assert_eq!(rt;
+            (pod.namespace.as_str(), pod.name.as_str()),
+            (namespace, name)
+        );
+        assert_eq!(rt; pod.policy, policy, "{name}");
+        assert_eq!(rt; qos_class(&pod), class, "{name}");
+        assert_eq!(rt; effective_request(&pod, Memory), memory, "{name}");
+    }
     Ok(())
 }
 
 #[test]
-fn manifests_of_kubectl_are_read(rt: HostRuntime) -> Result<(), Fail> {
-    let alloc = rt.alloc();
-    expect_real(
-        &rt,
-        alloc,
-        RUN_WEB,
-        ("default", "web"),
-        Policy::Always,
-        BestEffort,
-        0,
-    )?;
-    expect_real(
-        &rt,
-        alloc,
-        RUN_ONCE,
-        ("default", "once"),
-        Policy::Never,
-        BestEffort,
-        0,
-    )?;
-    expect_real(
-        &rt,
-        alloc,
-        RUN_HELD,
-        ("default", "held"),
-        Policy::Always,
-        Guaranteed,
-        67_108_864_000,
-    )?;
-    expect_real(
-        &rt,
-        alloc,
-        CREATE_SERVICE,
-        ("shop", "service"),
-        Policy::Always,
-        Burstable,
-        209_715_200_000,
-    )?;
-    let pod = pod_of(alloc, CREATE_SERVICE)?;
+fn service_of_kubectl_is_read_to_its_probes(rt: HostRuntime) -> Result<(), Fail> {
+    let pod = pod_of(rt.alloc(), CREATE_SERVICE)?;
     assert_eq!(rt; pod.priority, 1000);
     assert_eq!(rt; pod.grace_period_seconds.get(), 45);
     assert_eq!(rt; pod.containers.init_count(), 1);
-    let Some(app) = pod.containers.as_slice().get(1) else {
-        assert!(rt; false);
-        return Ok(());
-    };
+    let app = pod.containers.as_slice().get(1).ok_or("an app container")?;
     assert_eq!(rt; app.role, Role::App);
-    assert_eq!(rt;
-        app.probes.startup().map(|probe| probe.failure_threshold()),
-        Some(30)
-    );
-    assert_eq!(rt;
-        app.probes.liveness().map(|probe| probe.timeout_seconds()),
-        Some(2)
-    );
-    assert_eq!(rt;
-        app.probes
-            .readiness()
-            .map(|probe| probe.success_threshold()),
-        Some(2)
-    );
-    assert_eq!(rt;
-        app.resources
-            .requests()
-            .of(Resource::EphemeralStorage)
-            .map(|q| q.milli()),
-        Some(1_073_741_824_000)
-    );
+    let startup = app.probes.startup().ok_or("a startup probe")?;
+    assert_eq!(rt; startup.failure_threshold(), 30);
+    let liveness = app.probes.liveness().ok_or("a liveness probe")?;
+    assert_eq!(rt; liveness.timeout_seconds(), 2);
+    let readiness = app.probes.readiness().ok_or("a readiness probe")?;
+    assert_eq!(rt; readiness.success_threshold(), 2);
+    let storage = app
+        .resources
+        .requests()
+        .of(EphemeralStorage)
+        .ok_or("a request")?;
+    assert_eq!(rt; storage.milli(), 1_073_741_824_000);
     Ok(())
 }
 

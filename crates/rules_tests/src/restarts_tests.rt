@@ -2,8 +2,10 @@
 
 ghost use Rattle.std.specs.Prelude.{◌^◌, ◌<◌};
 
+use crate::random::next;
 use manifest::Policy;
 use restarts::{Backoff, wants_restart};
+use std::process::Abort;
 use std::test::Fail;
 
 #[test]
@@ -36,6 +38,17 @@ fn eight_short_runs_reach_the_greatest_delay(rt: HostRuntime) {
     assert_eq!(rt; backoff.due(), Some(1099511627785));
 }
 
+/// Whether a restart is wanted after each code but 0.
+fn expect_after_failures(rt: &impl Abort, policy: Policy, is_init: bool, wanted: bool) {
+    for code in [1, 137, -1, i32::MAX, i32::MIN] {
+        assert_eq!(rt;
+            wants_restart(policy, is_init, code),
+            wanted,
+            "{policy:?} {is_init} {code}"
+        );
+    }
+}
+
 #[test]
 fn policy_init_and_code_decide_a_restart(rt: HostRuntime) {
     // (policy, app container with code 0, with another, init container with code 0, with another)
@@ -47,18 +60,8 @@ fn policy_init_and_code_decide_a_restart(rt: HostRuntime) {
     for (policy, app_success, app_failure, init_success, init_failure) in table {
         assert_eq!(rt; wants_restart(policy, false, 0), app_success, "{policy:?}");
         assert_eq!(rt; wants_restart(policy, true, 0), init_success, "{policy:?}");
-        for code in [1, 137, -1, i32::MAX, i32::MIN] {
-            assert_eq!(rt;
-                wants_restart(policy, false, code),
-                app_failure,
-                "{policy:?} {code}"
-            );
-            assert_eq!(rt;
-                wants_restart(policy, true, code),
-                init_failure,
-                "{policy:?} {code}"
-            );
-        }
+        expect_after_failures(&rt, policy, false, app_failure);
+        expect_after_failures(&rt, policy, true, init_failure);
     }
 }
 
@@ -86,7 +89,7 @@ fn moment_of(number: u64, random: u64) -> u64
     requires { number < 10000 }
     ensures { result < 2 ^ 40 }
 {
-    number * 5000 + (random >> 20) % 5000
+    number * 5000 + random % 5000
 }
 
 #[test]
@@ -94,15 +97,12 @@ fn many_exits_are_put_off_as_the_whole_list_says(rt: HostRuntime) -> Result<(), 
     let lengths = [
         0, 1, 5, 60, 599, 600, 601, 300, 12, 599, 2, 100000, 30, 7, 1, 0,
     ];
-    let mut random = 20261122u64;
+    let mut random = 20_261_122;
     let mut runs = Vec::new(rt.alloc());
     let mut backoff = Backoff::new();
     for i in 0..10000u64 {
-        random = random
-            .wrapping_mul(6364136223846793005)
-            .wrapping_add(1442695040888963407);
-        let at = moment_of(i, random);
-        let run = lengths[(random >> 40) as usize % lengths.len()];
+        let at = moment_of(i, next(&mut random));
+        let run = lengths[next(&mut random) as usize % lengths.len()];
         runs.push(run)?;
         let delay = slow_delay(&runs);
         assert_eq!(rt; backoff.exited(run, at), delay, "exit {i}");

@@ -1,5 +1,6 @@
 //! Eviction thresholds: worked values, and the watch beside a program that looks through all samples.
 
+use crate::random::next;
 use quantity::{Limit, Percent, Quantity};
 use sample_scan::{Sample, is_active, is_due};
 use std::process::Abort;
@@ -107,14 +108,6 @@ fn zero_threshold_is_never_active(rt: HostRuntime) {
     take(&rt, &mut zero, 0, Some(0), OFF);
     take(&rt, &mut zero, 10, None, OFF);
     take(&rt, &mut zero, 20, Some(1), OFF);
-}
-
-/// The next of a fixed sequence of pseudo-random numbers below 2^31.
-fn next(random: &mut u64) -> u64 {
-    *random = random
-        .wrapping_mul(6_364_136_223_846_793_005)
-        .wrapping_add(1_442_695_040_888_963_407);
-    *random >> 33
 }
 
 /// A value drawn from a random number: absent, or below 800 MiB.
