@@ -1,6 +1,6 @@
 -- What holds or does not, of all items of a list and of some.
 use Rattle.std.proofs.Common.{◌≡◌, ◌⊎◌, inl, inr, suc, zero, ◌<◌, Bool, true, false, List, [], ◌∷◌, refl, subst, sym, arith}
-use Rattle.std.specs.Prelude.{All, Any}
+use Rattle.std.specs.Prelude.{All, Any, IsTrue, ◌↔◌}
 use Rattle.std.specs.Bool.{Decides}
 use Rattle.std.proofs.lemmas.List.Elements.{All-nil, All-cons, All-tail}
 
@@ -52,3 +52,9 @@ any_or_not P each (x ∷ xs) = elim (each x) [
     | inr m ↦ inr (λ any. elim (any_split P x xs any) [ inl p ↦ n p | inr q ↦ m q ])
   ]
 ]
+
+-- two tests that hold alike are one value
+pub same_bool : (a b : Bool) → (IsTrue a ↔ IsTrue b) → a ≡ b
+same_bool true b is = sym (is.0 refl)
+same_bool false true is = is.1 refl
+same_bool false false is = refl

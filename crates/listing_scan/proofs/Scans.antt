@@ -94,14 +94,7 @@ follows_is h s = (
     both true b e f = f
     both false b e f = absurd (cc)
 
--- no tick before the next has it, where none did and the one here has not
-pub none_next : (P : ℕ → Type 0) (i : ℕ) → ((t : ℕ) → t < i → P t → ⊥) → (P i → ⊥) → (t : ℕ) → t < i + 1 → P t → ⊥
-none_next P i none here t lt p = elim (cases_lt t i) [
-  | inl old ↦ none t old p
-  | inr ge ↦ let e : t ≡ i = omega arith in here (subst P e p)
-]
-
--- nor any, where none within the list has it, and none beyond can
+-- no tick has it, where none within the list has it, and none beyond can
 pub none_all : (P : ℕ → Type 0) (n : ℕ) → ((t : ℕ) → P t → t < n) → ((t : ℕ) → t < n → P t → ⊥) → (t : ℕ) → P t → ⊥
 none_all P n below none t p = none t (below t p) p
 

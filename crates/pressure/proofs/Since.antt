@@ -5,6 +5,7 @@ use Rattle.std.specs.Option.{unwrap_or}
 use Rattle.std.proofs.lemmas.List.{take_all}
 use Rattle.histories.specs.Histories.{Recorded, up_to, IsSo, IsSteady, IsTransition}
 use Rattle.histories.proofs.First.{IsFirstMoment-unique}
+use Rattle.histories.proofs.Decide.{same_bool}
 use Rattle.histories.proofs.Growth.{grows_so}
 use Rattle.histories.proofs.Transitions.{Extends, IsSteady-last, transition_first, transition_stays, transition_new}
 use Rattle.pressure.specs.Pressures.{Observation, IsUnderPressure, IsSince}
@@ -65,11 +66,6 @@ since_stays P (y ∷ h) x m same tr =
 pub none_recorded : {A : Type 0} (P : List (Recorded A) → Type 0) (h : List (Recorded A)) → IsTransition h (IsSo P h) None → h ≡ []
 none_recorded P [] none = refl
 none_recorded P (y ∷ h) none = absurd (none (length h) (IsSteady-last (length h) (IsSo P (y ∷ h))))
-
-same_bool : (a b : Bool) → (IsTrue a ↔ IsTrue b) → a ≡ b
-same_bool true b is = sym (is.0 refl)
-same_bool false true is = is.1 refl
-same_bool false false is = refl
 
 -- the same of two tests
 pub since_changed : {A : Type 0} (P : List (Recorded A) → Type 0) (h : List (Recorded A)) (x : Recorded A) (was is : Bool) (since : Option ℕ)

@@ -2,6 +2,7 @@
 use Rattle.std.proofs.Common.{◌≡◌, ◌⊎◌, inl, inr, ℕ, ◌-◌, ◌<◌, ◌≤◌, Bool, List, [], ◌∷◌, ◌++◌, length, Option, Some, None, subst, sym, ◌∙◌, arith}
 use Rattle.std.specs.Prelude.{◌↔◌, IsTrue, IsSomeAnd}
 use Rattle.histories.specs.Histories.{recorded, moment_at}
+use Rattle.histories.proofs.Moments.{last_moment-more}
 use Rattle.histories.proofs.Places.{length-more, kept, added, split, entry_at-below, moment_at-old, moment_at-new}
 use Rattle.pressure.specs.Pressures.{Observation, IsMetAt, WasMetLately, IsUnderPressure}
 use Rattle.pressure.specs.State.{IsLatestMet}
@@ -10,9 +11,6 @@ use Rattle.pressure.proofs.Latest.{moment_at-back}
 -- the last place of one more
 last_place : (h : List Observation) (x : Observation) → length h ≡ length (h ++ x ∷ []) - 1
 last_place h x = omega (arith, length-more h x)
-
-last_moment : (h : List Observation) (x : Observation) → moment_at (h ++ x ∷ []) (length (h ++ x ∷ []) - 1) ≡ Some x.moment
-last_moment h x = let P : ℕ → Type 0 = λ k. moment_at (h ++ x ∷ []) k ≡ Some x.moment in subst P (last_place h x) (moment_at-new h x)
 
 -- it is met at the last place exactly if the new observation says so
 pub met_now : (h : List Observation) (x : Observation) → (IsMetAt (h ++ x ∷ []) (length (h ++ x ∷ []) - 1) ↔ IsTrue x.entry)
@@ -51,7 +49,7 @@ lately_by period h x (Some latest) is = (
     moment = latest;
     is_moment = moment_at-old h x is.place latest is.moment;
     now = x.moment;
-    is_now = last_moment h x;
+    is_now = last_moment-more h x;
     lately = p;
   }),
   (λ w.
@@ -60,7 +58,7 @@ lately_by period h x (Some latest) is = (
       let lt : w.place < length h = omega arith in
       let old : IsMetAt h w.place = elim (split IsTrue h x w.place w.met) [ inl old ↦ old | inr v ↦ let same : w.place ≡ length h = v.0 in absurd (omega arith) ] in
       let le : w.moment ≤ latest = is.none_later w.place w.moment old (moment_at-back h x w.place w.moment lt w.is_moment) in
-      let now : Some x.moment ≡ Some w.now = sym (last_moment h x) ∙ w.is_now in
+      let now : Some x.moment ≡ Some w.now = sym (last_moment-more h x) ∙ w.is_now in
       let last : x.moment ≡ w.now = cc in
       let lately : w.now - w.moment < period = w.lately in
       let goal : x.moment - latest < period = omega arith in

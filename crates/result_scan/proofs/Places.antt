@@ -16,13 +16,6 @@ found P t p = ((λ _. (t, p)), (λ _. refl))
 pub nowhere : (P : ℕ → Type 0) (n : ℕ) → ((t : ℕ) → P t → t < n) → ((t : ℕ) → t < n → P t → ⊥) → (IsTrue false ↔ ((u : ℕ) × P u))
 nowhere P n below none = ((λ t. absurd (cc)), (λ (t, p). absurd (none t (below t p) p)))
 
--- at no place up to here, where it was at none before
-pub none_next : (P : ℕ → Type 0) (i : ℕ) → ((t : ℕ) → t < i → P t → ⊥) → (P i → ⊥) → (t : ℕ) → t < i + 1 → P t → ⊥
-none_next P i none here t lt p = elim (cases_lt t i) [
-  | inl old ↦ none t old p
-  | inr ge ↦ let e : t ≡ i = omega arith in here (subst P e p)
-]
-
 pub passes_below : (limit : ℕ) (xs : List Outcome) (t : ℕ) → PassesAt limit xs t → t < length xs
 passes_below limit xs t p = slice_get_within xs t Success p.1
 

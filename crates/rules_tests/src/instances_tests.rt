@@ -1,6 +1,7 @@
 ghost use Rattle.std.specs.Prelude.{◌↔◌, IsTrue};
 ghost use Rattle.state_diff.specs.Differ.{IsBefore};
 
+use crate::random::next;
 use listing_scan::{
     ContainerTick, effective_state, exit_code, exit_place, exited_at, is_acceptable, is_set_up,
     last_at, newest_attempt, run, start_place, started_at,
@@ -183,14 +184,6 @@ fn last_moment_is_that_of_the_last_tick(rt: HostRuntime) -> Result<(), Fail> {
         assert_eq!(rt; differ.last_at(), Some(at));
     }
     Ok(())
-}
-
-/// The next of a fixed sequence of pseudo-random numbers below 2^31.
-fn next(random: &mut u64) -> u64 {
-    *random = random
-        .wrapping_mul(6_364_136_223_846_793_005)
-        .wrapping_add(1_442_695_040_888_963_407);
-    *random >> 33
 }
 
 /// A listing drawn from a random number: mostly of the newest attempt, and sometimes of a later or an older one.

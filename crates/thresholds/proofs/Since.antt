@@ -5,6 +5,7 @@ use Rattle.std.specs.Option.{option_or}
 use Rattle.std.proofs.lemmas.Bool.{cases_lt}
 use Rattle.std.proofs.lemmas.List.{take_all}
 use Rattle.histories.specs.Histories.{IsSo, up_to, moment_at}
+use Rattle.histories.proofs.Moments.{last_moment-more}
 use Rattle.histories.proofs.Places.{length-more, moment_at-new}
 use Rattle.histories.proofs.First.{Grows, IsFirstMoment-more, IsFirstMoment-unique}
 use Rattle.histories.proofs.Growth.{grows_so}
@@ -100,13 +101,6 @@ since_none limit reclaim h off = λ u f. off (from_active limit reclaim h u f)
 pub since_unique : (limit reclaim : ℕ) (h : List Sample) (one other : Option ℕ) → IsActiveSince limit reclaim h one → IsActiveSince limit reclaim h other → one ≡ other
 since_unique limit reclaim h one other p q = IsFirstMoment-unique h (IsActiveFrom limit reclaim h) one other p q
 
--- the moment of the last sample
-last_moment : (h : List Sample) (x : Sample) → moment_at (h ++ x ∷ []) (length (h ++ x ∷ []) - 1) ≡ Some x.moment
-last_moment h x =
-    let e : length h ≡ length (h ++ x ∷ []) - 1 = omega (arith, length-more h x) in
-    let P : ℕ → Type 0 = λ k. moment_at (h ++ x ∷ []) k ≡ Some x.moment in
-    subst P e (moment_at-new h x)
-
 -- due, by the moment since which it is active
 pub due_by : (limit reclaim grace : ℕ) (h : List Sample) (x : Sample) (since : Option ℕ) → IsActiveSince limit reclaim (h ++ x ∷ []) since
     → (IsSomeAnd since (λ moment. grace ≤ x.moment - moment) ↔ IsDue limit reclaim grace (h ++ x ∷ []))
@@ -120,12 +114,12 @@ due_by limit reclaim grace h x (Some m) is = (
     since = m;
     is_since = is;
     now = x.moment;
-    is_now = last_moment h x;
+    is_now = last_moment-more h x;
     passed = p;
   }),
   (λ d.
       let same : Some m ≡ Some d.since = since_unique limit reclaim (h ++ x ∷ []) (Some m) (Some d.since) is d.is_since in
-      let now : Some x.moment ≡ Some d.now = sym (last_moment h x) ∙ d.is_now in
+      let now : Some x.moment ≡ Some d.now = sym (last_moment-more h x) ∙ d.is_now in
       let first : m ≡ d.since = cc in
       let last : x.moment ≡ d.now = cc in
       let passed : grace ≤ d.now - d.since = d.passed in

@@ -1,8 +1,9 @@
 use Rattle.std.proofs.Common.{◌<◌, length, arith}
 use Rattle.std.proofs.lemmas.Bool.{iff_false}
 use Rattle.state_diff.specs.Instances.{Ends}
+use Rattle.histories.proofs.First.{none_next}
 use Rattle.listing_scan.specs.Listings.{history}
-use Rattle.listing_scan.proofs.Scans.{ends_here, ends_below, listed_next, none_next, none_all}
+use Rattle.listing_scan.proofs.Scans.{ends_here, ends_below, listed_next, none_all}
 use Rattle.listing_scan.proofs.scan.exit_place.Goals as goal
 
 pub returns-then-ends : goal.returns-then-ends

@@ -2,8 +2,9 @@ use Rattle.std.proofs.Common.{◌<◌, length, arith}
 use Rattle.std.proofs.lemmas.Bool.{iff_false}
 use Rattle.state_diff.specs.declared.seen.CriState.TheVariants.{Running}
 use Rattle.state_diff.specs.Instances.{IsOfAs, ListedAs}
+use Rattle.histories.proofs.First.{none_next}
 use Rattle.listing_scan.specs.Listings.{history}
-use Rattle.listing_scan.proofs.Scans.{item_has, none_next, none_all, seen_below}
+use Rattle.listing_scan.proofs.Scans.{item_has, none_all, seen_below}
 use Rattle.listing_scan.proofs.scan.start_place.Goals as goal
 
 pub returns-then-runs : goal.returns-then-runs

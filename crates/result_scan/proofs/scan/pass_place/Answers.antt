@@ -3,7 +3,7 @@ use Rattle.std.proofs.lemmas.Bool.{iff_false}
 use Rattle.histories.specs.Histories.{IsSo}
 use Rattle.probes.specs.Ticks.{HasPassed}
 use Rattle.result_scan.specs.Scans.{history}
-use Rattle.result_scan.proofs.Places.{none_next}
+use Rattle.histories.proofs.First.{none_next}
 use Rattle.result_scan.proofs.Scans.{so_below}
 use Rattle.result_scan.proofs.scan.pass_place.Goals as goal
 
