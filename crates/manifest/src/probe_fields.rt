@@ -5,7 +5,7 @@ ghost use Rattle.serde_json.specs.View.{view};
 ghost use Rattle.manifest.specs.declared.pod.Role.TheVariants.{Init};
 ghost use Rattle.manifest.specs.Gives.{Gives};
 ghost use Rattle.manifest.specs.Probe.{SucceedsByOne, no_probes};
-ghost use Rattle.manifest.specs.ProbeFields.{number_of, probe_in, probe_of, app_probes, init_probes, probes_of};
+ghost use Rattle.manifest.specs.ProbeFields.{number_of, probe_in, probe_of, some_probes, unprobed, probes_of};
 
 use crate::fault::{Field, ManifestFault};
 use crate::fields::{absent, object};
@@ -67,9 +67,9 @@ fn probe_of(most_successes: u32, found: Option<&Value>) -> Result<Option<Probe>,
     Ok(Some(probe_in(most_successes, value)?))
 }
 
-#[tactic(auto, unfolding(crate::specs::ProbeFields::app_probes))]
-fn app_probes(container: &Value) -> Result<Probes, ManifestFault>
-    ensures { Gives (λ p. p) result (app_probes (view container.now)) }
+#[tactic(auto, unfolding(crate::specs::ProbeFields::some_probes))]
+fn some_probes(container: &Value) -> Result<Probes, ManifestFault>
+    ensures { Gives (λ p. p) result (some_probes (view container.now)) }
 {
     let startup = probe_of(1, field(container, "startupProbe"))?;
     let liveness = probe_of(1, field(container, "livenessProbe"))?;
@@ -77,9 +77,9 @@ fn app_probes(container: &Value) -> Result<Probes, ManifestFault>
     Ok(Probes::new(startup, liveness, readiness))
 }
 
-#[tactic(auto, unfolding(crate::specs::ProbeFields::init_probes))]
-fn init_probes(container: &Value) -> Result<Probes, ManifestFault>
-    ensures gives { Gives (λ p. p) result (init_probes (view container.now)) }
+#[tactic(auto, unfolding(crate::specs::ProbeFields::unprobed))]
+fn unprobed(container: &Value) -> Result<Probes, ManifestFault>
+    ensures gives { Gives (λ p. p) result (unprobed (view container.now)) }
     ensures none { IfOk result (λ p. p ≡ no_probes) }
 {
     absent(ManifestFault::InitProbe, field(container, "startupProbe"))?;
@@ -93,7 +93,7 @@ pub(crate) fn probes_of(role: Role, container: &Value) -> Result<Probes, Manifes
     ensures unprobed { role ≡ Init → IfOk result (λ p. p ≡ no_probes) }
 {
     match role {
-        Role::Init => init_probes(container),
-        Role::App => app_probes(container),
+        Role::Init => unprobed(container),
+        Role::Sidecar | Role::App => some_probes(container),
     }
 }

@@ -5,13 +5,11 @@ ghost use Rattle.std.specs.List.{list_any};
 ghost use Rattle.serde_json.specs.View.{view};
 ghost use Rattle.json_fields.specs.Reading.{each};
 ghost use Rattle.manifest.specs.Gives.{Gives};
-ghost use Rattle.manifest.specs.Containers.{has_twice, IsOf, AllOf};
-ghost use Rattle.manifest.specs.Manifest.{policy_of, priority_of, grace_period_of, place_of, container_of, few, apart, containers_of, app_items_of, containers_in, metadata_of, settings_in, spec_of, pod_at};
+ghost use Rattle.manifest.specs.Containers.{has_twice, MayHave, IsOf, AllOf};
+ghost use Rattle.manifest.specs.Manifest.{policy_of, priority_of, grace_period_of, field_of, role_of, container_of, few, apart, containers_of, app_items_of, containers_in, metadata_of, settings_in, spec_of, pod_at};
 
 use crate::fault::{Field, ManifestFault};
-use crate::fields::{
-    Grammar, absent, array, array_or_none, object, required_text, some_items, text_or,
-};
+use crate::fields::{Grammar, array, array_or_none, object, required_text, some_items, text_or};
 use crate::grace::GracePeriod;
 use crate::pod::{ContainerList, ContainerSpec, PodSpec, Role};
 use crate::policy::Policy;
@@ -60,29 +58,50 @@ fn grace_period_of(found: Option<&Value>) -> Result<GracePeriod, ManifestFault>
     }
 }
 
-/// The array that a container of this role stands in.
-fn place_of(role: Role) -> Field
-    ensures { result ≡ place_of role }
+/// The two arrays of containers in a pod's `spec`.
+#[derive(Clone, Copy)]
+enum Place {
+    InitContainers,
+    Containers,
+}
+
+fn field_of(place: Place) -> Field
+    ensures { result ≡ field_of place }
 {
-    match role {
-        Role::Init => Field::InitContainers,
-        Role::App => Field::Containers,
+    match place {
+        Place::InitContainers => Field::InitContainers,
+        Place::Containers => Field::Containers,
+    }
+}
+
+/// What a container is to its pod, by where it is written and by its own restart policy.
+fn role_of(place: Place, own_policy: Option<&Value>) -> Result<Role, ManifestFault>
+    ensures gives { Gives (λ r. r) result (role_of place (option_map (λ v. view v.now) own_policy.entry)) }
+    ensures may_have { IfOk result (MayHave place) }
+{
+    match (place, own_policy) {
+        (Place::InitContainers, None) => Ok(Role::Init),
+        (Place::Containers, None) => Ok(Role::App),
+        (Place::InitContainers, Some(policy)) if policy.as_str() == Some("Always") => {
+            Ok(Role::Sidecar)
+        }
+        _ => Err(ManifestFault::Sidecar),
     }
 }
 
 #[tactic(auto, unfolding(crate::specs::Manifest::container_of))]
-fn container_of(alloc: Global, role: Role, value: &Value) -> Result<ContainerSpec, ManifestFault>
-    ensures gives { Gives (λ c. c) result (container_of role (view value.now)) }
-    ensures of { IfOk result (IsOf role) }
+fn container_of(alloc: Global, place: Place, value: &Value) -> Result<ContainerSpec, ManifestFault>
+    ensures gives { Gives (λ c. c) result (container_of place (view value.now)) }
+    ensures of { IfOk result (IsOf place) }
 {
-    let object = object(place_of(role), Some(value))?;
+    let object = object(field_of(place), Some(value))?;
     let name = required_text(
         alloc,
         Grammar::Label,
         Field::ContainerName,
         field(object, "name"),
     )?;
-    absent(ManifestFault::Sidecar, field(object, "restartPolicy"))?;
+    let role = role_of(place, field(object, "restartPolicy"))?;
     let resources = resources_of(field(object, "resources"))?;
     let probes = probes_of(role, object)?;
     Ok(ContainerSpec {
@@ -93,19 +112,19 @@ fn container_of(alloc: Global, role: Role, value: &Value) -> Result<ContainerSpe
     })
 }
 
-#[tactic(auto, using(crate::proofs::Roles::all_of_none))]
+#[tactic(auto, using(crate::proofs::Placed::all_of_none))]
 fn containers(
     alloc: Global,
-    role: Role,
+    place: Place,
     values: &[Value],
 ) -> Result<Vec<ContainerSpec>, ManifestFault>
-    ensures gives { Gives (λ cs. cs.items) result (each (container_of role) (map view values.now)) }
+    ensures gives { Gives (λ cs. cs.items) result (each (container_of place) (map view values.now)) }
     ensures as_many { IfOk result (λ cs. length cs.items ≡ length values.now) }
-    ensures roles { IfOk result (λ cs. AllOf role cs.items) }
+    ensures of { IfOk result (λ cs. AllOf place cs.items) }
 {
     let mut all = Vec::new(alloc);
     for value in values {
-        let container = container_of(alloc, role, value)?;
+        let container = container_of(alloc, place, value)?;
         all.push(container)?;
     }
     Ok(all)
@@ -173,8 +192,8 @@ fn containers_of(
     ensures { Gives (λ cs. cs) result (containers_of (map view init_items.now) (map view items.now)) }
 {
     few(init_items, items)?;
-    let init = containers(alloc, Role::Init, init_items)?;
-    let apps = containers(alloc, Role::App, items)?;
+    let init = containers(alloc, Place::InitContainers, init_items)?;
+    let apps = containers(alloc, Place::Containers, items)?;
     let all = joined(init, apps)?;
     apart(&all)?;
     Ok(ContainerList::new(alloc, all)?)
