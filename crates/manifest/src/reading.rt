@@ -4,7 +4,7 @@ ghost use Rattle.std.specs.Prelude.{◌≡◌, ◌≤◌, ◌<◌, ◌+◌, ◌+
 ghost use Rattle.std.specs.List.{list_any};
 ghost use Rattle.serde_json.specs.View.{view};
 ghost use Rattle.json_fields.specs.Reading.{each};
-ghost use Rattle.manifest.specs.Gives.{Gives};
+ghost use Rattle.manifest.specs.Gives.{Gives, GivesExactly};
 ghost use Rattle.manifest.specs.Containers.{has_twice, MayHave, IsOf, AllOf};
 ghost use Rattle.manifest.specs.Manifest.{policy_of, priority_of, grace_period_of, field_of, role_of, container_of, few, apart, containers_of, app_items_of, containers_in, metadata_of, settings_in, spec_of, pod_at};
 
@@ -21,7 +21,7 @@ use serde_json::Value;
 use std::alloc::{AllocError, Global};
 
 fn policy_of(found: Option<&Value>) -> Result<Policy, ManifestFault>
-    ensures { Gives (λ p. p) result (policy_of (option_map (λ v. view v.now) found.entry)) }
+    ensures { GivesExactly (λ p. p) result (policy_of (option_map (λ v. view v.now) found.entry)) }
 {
     let Some(value) = found else {
         return Ok(Policy::Always);
@@ -35,7 +35,7 @@ fn policy_of(found: Option<&Value>) -> Result<Policy, ManifestFault>
 }
 
 fn priority_of(found: Option<&Value>) -> Result<i32, ManifestFault>
-    ensures { Gives (λ n. n) result (priority_of (option_map (λ v. view v.now) found.entry)) }
+    ensures { GivesExactly (λ n. n) result (priority_of (option_map (λ v. view v.now) found.entry)) }
 {
     let Some(value) = found else {
         return Ok(0);
@@ -47,7 +47,7 @@ fn priority_of(found: Option<&Value>) -> Result<i32, ManifestFault>
 }
 
 fn grace_period_of(found: Option<&Value>) -> Result<GracePeriod, ManifestFault>
-    ensures { Gives (λ n. n) result (grace_period_of (option_map (λ v. view v.now) found.entry)) }
+    ensures { GivesExactly (λ n. n) result (grace_period_of (option_map (λ v. view v.now) found.entry)) }
 {
     let Some(value) = found else {
         return Ok(GracePeriod::new(30));
@@ -76,7 +76,7 @@ fn field_of(place: Place) -> Field
 
 /// What a container is to its pod, by where it is written and by its own restart policy.
 fn role_of(place: Place, own_policy: Option<&Value>) -> Result<Role, ManifestFault>
-    ensures gives { Gives (λ r. r) result (role_of place (option_map (λ v. view v.now) own_policy.entry)) }
+    ensures gives { GivesExactly (λ r. r) result (role_of place (option_map (λ v. view v.now) own_policy.entry)) }
     ensures may_have { IfOk result (MayHave place) }
 {
     match (place, own_policy) {
@@ -150,7 +150,7 @@ fn has_twice(containers: &[ContainerSpec]) -> bool
 }
 
 fn few(init: &[Value], apps: &[Value]) -> Result<(), ManifestFault>
-    ensures gives { Gives (λ t. t) result (few (map view init.now) (map view apps.now)) }
+    ensures gives { GivesExactly (λ t. t) result (few (map view init.now) (map view apps.now)) }
     ensures within { OnOk result (length init.now + length apps.now ≤ 16) }
 {
     if init.len() + apps.len() > 16 {
@@ -160,7 +160,7 @@ fn few(init: &[Value], apps: &[Value]) -> Result<(), ManifestFault>
 }
 
 fn apart(containers: &[ContainerSpec]) -> Result<(), ManifestFault>
-    ensures gives { Gives (λ t. t) result (apart containers.now) }
+    ensures gives { GivesExactly (λ t. t) result (apart containers.now) }
     ensures apart { OnOk result (has_twice containers.now ≡ false) }
 {
     if has_twice(containers) {
@@ -202,7 +202,7 @@ fn containers_of(
 /// The items of an array of app containers, of which there is at least one.
 #[tactic(auto, unfolding(crate::specs::Manifest::app_items_of))]
 fn app_items_of(found: Option<&Value>) -> Result<&[Value], ManifestFault>
-    ensures gives { Gives (λ v. map view v.now) result (app_items_of (option_map (λ v. view v.now) found.entry)) }
+    ensures gives { GivesExactly (λ v. map view v.now) result (app_items_of (option_map (λ v. view v.now) found.entry)) }
     ensures some { IfOk result (λ v. 0 < length v.now) }
 {
     let listed = array(Field::Containers, found)?;
@@ -251,7 +251,7 @@ struct Settings {
 
 #[tactic(auto, unfolding(crate::specs::Manifest::settings_in))]
 fn settings_in(spec: &Value) -> Result<Settings, ManifestFault>
-    ensures { Gives (λ s. s) result (settings_in (view spec.now)) }
+    ensures { GivesExactly (λ s. s) result (settings_in (view spec.now)) }
 {
     let policy = policy_of(field(spec, "restartPolicy"))?;
     let priority = priority_of(field(spec, "priority"))?;
