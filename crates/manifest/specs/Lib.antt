@@ -11,3 +11,4 @@ pub mod Containers
 pub mod Manifest
 pub mod Policy
 pub mod ProbeKinds
+pub mod RestartDelay

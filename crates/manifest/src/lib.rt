@@ -13,6 +13,7 @@ mod probe_fields;
 mod reading;
 mod resource_fields;
 mod resources;
+mod restart_delay;
 mod text;
 
 pub use fault::{Field, ManifestFault};
@@ -23,4 +24,5 @@ pub use pod::{ContainerList, ContainerSpec, PodSpec, Role};
 pub use policy::Policy;
 pub use probe::{Probe, Probes};
 pub use resources::{Amounts, Resource, Resources};
+pub use restart_delay::MaxRestartDelay;
 pub use text::Text;

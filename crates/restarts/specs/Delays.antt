@@ -4,10 +4,6 @@ use Rattle.std.specs.Prelude.{◌≡◌, ℕ, zero, suc, ◌+◌, ◌*◌, ◌^�
 use Rattle.histories.specs.Histories.{last_moment}
 use Rattle.restarts.specs.Exits.{Exit, IsNumber}
 
--- a node's greatest delay is at most this, in seconds
-abbrev pub most_greatest_delay : ℕ
-most_greatest_delay = 300
-
 -- the delay in seconds of the exit with this number: none for the first, then 10, 20, 40 and so on, up to the greatest
 abbrev pub delay_of : ℕ → ℕ → ℕ
 delay_of greatest zero = 0

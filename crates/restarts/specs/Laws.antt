@@ -1,9 +1,10 @@
 -- What holds of the delays whatever the exits were.
 use Rattle.std.specs.Prelude.{◌≡◌, ◌↔◌, ℕ, ◌<◌, ◌≤◌, List, [], ◌∷◌, ◌++◌, Contains, min, ◌*◌, map}
 use Rattle.histories.specs.Histories.{recorded}
+use Rattle.manifest.specs.RestartDelay.{most_max_delay}
 use Rattle.restarts.specs.declared.backoff.Backoff.{Backoff}
 use Rattle.restarts.specs.Exits.{Exit, long_run}
-use Rattle.restarts.specs.Delays.{IsDelay, most_greatest_delay}
+use Rattle.restarts.specs.Delays.{IsDelay}
 use Rattle.restarts.specs.Backoff.{IsStateOf}
 
 abbrev pub EveryListHasOneDelay : Type 0
@@ -14,7 +15,7 @@ EveryListHasOneDelay =
 
 abbrev pub DelayIsOneOfSeven : Type 0
 DelayIsOneOfSeven =
-    (greatest : ℕ) (exits : List Exit) (delay : ℕ) → greatest ≤ most_greatest_delay → IsDelay greatest exits delay
+    (greatest : ℕ) (exits : List Exit) (delay : ℕ) → greatest ≤ most_max_delay → IsDelay greatest exits delay
     → Contains (0 ∷ map (min greatest) (10 ∷ 20 ∷ 40 ∷ 80 ∷ 160 ∷ 300 ∷ [])) delay
 
 abbrev pub LongRunResets : Type 0

@@ -2,9 +2,12 @@
 
 ghost use Rattle.std.specs.Prelude.{◌≡◌, ◌+◌, ◌^◌, ◌<◌, ◌≤◌, ◌↔◌, ℕ, List, [], ◌∷◌, ◌++◌, IsTrue};
 ghost use Rattle.histories.specs.Histories.{recorded};
+ghost use Rattle.manifest.specs.RestartDelay.{most_max_delay};
 ghost use Rattle.restarts.specs.Exits.{Exit, long_run};
 ghost use Rattle.restarts.specs.Delays.{delay_of};
 ghost use Rattle.restarts.specs.Counts.{IsCountOf};
+
+use manifest::MaxRestartDelay;
 
 /// A run of so many seconds or more begins the count anew.
 const LONG_RUN: u64 = 600;
@@ -24,21 +27,20 @@ pub struct Backoff {
     greatest: u64,
     count: u32,
     due: Option<u64>,
-    ghost within: { greatest ≤ 300 },
+    ghost within: { greatest ≤ most_max_delay },
     ghost counted: { count ≤ 7 },
 }
 
 impl Backoff {
-    ghost use Rattle.restarts.specs.Delays.{IsDelay, IsDue, most_greatest_delay};
+    ghost use Rattle.restarts.specs.Delays.{IsDelay, IsDue};
     ghost use Rattle.restarts.specs.Backoff.{IsStateOf};
 
-    /// No exit yet, on a node whose greatest delay is so many seconds, from 1 to 300.
-    pub fn new(greatest: u64) -> Backoff
-        requires { (1 ≤ greatest) × (greatest ≤ most_greatest_delay) }
+    /// No exit yet, on a node with this greatest delay.
+    pub fn new(greatest: MaxRestartDelay) -> Backoff
         ensures { IsStateOf greatest [] result }
     {
         Backoff {
-            greatest,
+            greatest: greatest.get(),
             count: 0,
             due: None,
         }
