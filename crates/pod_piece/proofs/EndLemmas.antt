@@ -185,6 +185,13 @@ ready_is pod evicted h x q is = (
   (λ w. (some_more h x, lives pod evicted (h ++ x ∷ []) q is w.0, w.1)),
 )
 
+-- as long as the pod hasn't ended the views show its containers after all ticks
+pub shown_all : (pod : PodSpec) (evicted : Option ℕ) (h : List PodTick) (p : Phase) (views : List ContainerView) → IsPhase pod evicted h p → (IsTerminal p → ⊥)
+    → AreShown pod evicted h views → AreViewsOf pod h views
+shown_all pod evicted h p views is not shown =
+    let P : Option ℕ → Type 0 = λ o. AreViewsOf pod (counted h o) views in
+    subst P (IsEnd-unique pod evicted h shown.end None shown.is_end (lives pod evicted h p is not)) shown.shown
+
 -- once the pod has ended, the same views go on to show its containers
 pub shown_ended : (pod : PodSpec) (evicted : Option ℕ) (h : List PodTick) (x : PodTick) (p : Phase) (views : List ContainerView) → IsPhase pod evicted h p → IsTerminal p
     → AreShown pod evicted h views → AreShown pod evicted (h ++ x ∷ []) views

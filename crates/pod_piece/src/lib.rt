@@ -9,4 +9,4 @@ mod view;
 
 pub use container::{ContainerStatus, container_status};
 pub use lifecycle::Lifecycle;
-pub use view::{first_view, next_view};
+pub use view::{first_views, next_view};

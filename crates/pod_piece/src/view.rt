@@ -1,16 +1,17 @@
-ghost use Rattle.std.specs.Prelude.{◌≡◌, ◌↔◌, ℕ, List, [], ◌∷◌, ◌++◌, Option, IsSomeAnd, IsTrue};
+ghost use Rattle.std.specs.Prelude.{◌≡◌, ◌↔◌, ℕ, List, [], ◌∷◌, ◌++◌, Option, IsSomeAnd, IsTrue, IfOk};
 ghost use Rattle.state_diff.specs.Differ.{IsStateOf};
 ghost use Rattle.state_diff.specs.declared.seen.CriState.TheVariants.{Running};
 ghost use Rattle.manifest.specs.declared.pod.PodSpec.{PodSpec};
 ghost use Rattle.manifest.specs.declared.pod.Role.TheVariants.{Init};
-ghost use Rattle.pod_piece.specs.Pods.{PodTick, listings, HasRole, IsViewOf};
+ghost use Rattle.pod_piece.specs.Pods.{PodTick, listings, HasRole, IsViewOf, AreViewsOf};
 
-use manifest::Role;
+use manifest::{ContainerSpec, Role};
 use phase::ContainerView;
 use state_diff::{Differ, Seen};
+use std::alloc::{AllocError, Global};
 
 /// A container of this role that no tick has shown yet.
-pub fn first_view(role: Role) -> ContainerView
+fn first_view(role: Role) -> ContainerView
     ensures { (pod : PodSpec) (container : ℕ) → HasRole pod container role → IsViewOf pod [] container result }
 {
     let differ = Differ::new();
@@ -20,6 +21,20 @@ pub fn first_view(role: Role) -> ContainerView
         set_up: differ.set_up(),
         was_started: false,
     }
+}
+
+/// The containers of a pod that no tick has shown yet.
+pub fn first_views(
+    alloc: Global,
+    containers: &[ContainerSpec],
+) -> Result<Vec<ContainerView>, AllocError>
+    ensures { IfOk result (λ views. (pod : PodSpec) → pod.containers ≡ containers.now → AreViewsOf pod [] views.items) }
+{
+    let mut views = Vec::new(alloc);
+    for container in containers {
+        views.push(first_view(container.role))?;
+    }
+    Ok(views)
 }
 
 /// Whether a container of this role, without probes, is started where its newest instance is this.

@@ -5,6 +5,7 @@ use Rattle.serde_json.specs.Find.{as_number, as_u64}
 use Rattle.json_fields.specs.Fields.{field_at, text_at}
 use Rattle.json_fields.specs.Reading.{◌>>=◌, refused_if}
 use Rattle.manifest.specs.Names.{is_name}
+use Rattle.manifest.specs.RestartDelay.{most_max_delay, max_delay_of}
 use Rattle.trace.specs.declared.fault.LineKind.{LineKind}
 use Rattle.trace.specs.declared.fault.LineKind.TheVariants.{Config}
 use Rattle.trace.specs.declared.node.NodeConfig.{NodeConfig}
@@ -21,6 +22,15 @@ version_of (Some d) = version_from (option_and_then as_u64 (as_number d))
 abbrev pub name_from : Option (List ℕ) → Result (List ℕ) LineKind
 name_from None = Err Config
 name_from (Some s) = if is_name s then Ok s else Err Config
+
+abbrev pub or_config : {A : Type 0} → Option A → Result A LineKind
+or_config None = Err Config
+or_config (Some x) = Ok x
+
+-- the greatest restart delay, in seconds: a whole number in its range, and the most of it where none is written
+abbrev pub restart_delay_of : Option Data → Result ℕ LineKind
+restart_delay_of None = Ok most_max_delay
+restart_delay_of (Some d) = or_config (option_and_then max_delay_of (option_and_then as_u64 (as_number d)))
 
 abbrev pub absent : LineKind → Option Data → Result ⊤ LineKind
 absent kind found = refused_if (is_some found) kind
@@ -42,4 +52,5 @@ node_of d = do
   capacity ← absent Config (field_at (codes "capacity") d)
   dedicated ← absent Config (field_at (codes "dedicatedImagefs") d)
   eviction ← eviction_unset d
-  Ok (record { name = name })
+  max_restart_delay ← restart_delay_of (field_at (codes "maxRestartDelay") d)
+  Ok (record { name = name; max_restart_delay = max_restart_delay })

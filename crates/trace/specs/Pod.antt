@@ -1,5 +1,5 @@
 -- What a pod line says.
-use Rattle.std.specs.Prelude.{ℕ, Bool, ◌||◌, List, ◌∷◌, ◌++◌, map, count_by, nat_lt, Option, Some, None, is_some, if◌then◌else◌, Result, Ok, Err}
+use Rattle.std.specs.Prelude.{ℕ, Bool, not, ◌||◌, List, ◌∷◌, ◌++◌, map, Option, Some, None, is_some, if◌then◌else◌, Result, Ok, Err}
 use Rattle.std.specs.List.{list_any}
 use Rattle.serde_json.specs.Data.{Data}
 use Rattle.manifest.specs.declared.fault.ManifestFault.{ManifestFault}
@@ -7,7 +7,7 @@ use Rattle.manifest.specs.declared.fault.ManifestFault.TheVariants.{Missing, Wro
 use Rattle.manifest.specs.declared.fault.Field.TheVariants as fields
 use Rattle.manifest.specs.declared.pod.PodSpec.{PodSpec}
 use Rattle.manifest.specs.declared.pod.ContainerSpec.{ContainerSpec}
-use Rattle.manifest.specs.Containers.{is_init_container}
+use Rattle.manifest.specs.Containers.{has_only_apps}
 use Rattle.manifest.specs.Manifest.{pod_at}
 use Rattle.json_fields.specs.Reading.{◌>>=◌}
 use Rattle.trace.specs.declared.fault.LineKind.{LineKind}
@@ -24,19 +24,16 @@ abbrev pub of_manifest : {A : Type 0} → Result A ManifestFault → Result A Li
 of_manifest (Ok x) = Ok x
 of_manifest (Err fault) = Err (Manifest fault)
 
-abbrev pub has_init_containers : PodSpec → Bool
-has_init_containers pod = nat_lt 0 (count_by is_init_container pod.containers)
-
 abbrev pub is_probed : ContainerSpec → Bool
 is_probed container = is_some container.probes.startup || is_some container.probes.liveness || is_some container.probes.readiness
 
 abbrev pub has_probe : PodSpec → Bool
 has_probe pod = list_any is_probed pod.containers
 
--- which of its fields keeps a pod from being replayed: for now its init containers, and else a probe
+-- which of its fields keeps a pod from being replayed: for now its init containers, sidecars among them, and else a probe
 abbrev pub refusal_of : PodSpec → Option ManifestFault
 refusal_of pod =
-    if has_init_containers pod then Some (WrongKind fields.InitContainers)
+    if not (has_only_apps pod.containers) then Some (WrongKind fields.InitContainers)
     else (if has_probe pod then Some (WrongKind fields.Probe) else None)
 
 abbrev pub unless : {A E : Type 0} → Option E → A → Result A E

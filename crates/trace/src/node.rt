@@ -4,11 +4,11 @@ ghost use Rattle.std.specs.Prelude.{◌≡◌, option_map, is_some};
 ghost use Rattle.serde_json.specs.View.{view};
 ghost use Rattle.json_fields.specs.Reading.{refused_if};
 ghost use Rattle.trace.specs.Gives.{Gives};
-ghost use Rattle.trace.specs.Node.{version_of, name_from, eviction_unset, node_of};
+ghost use Rattle.trace.specs.Node.{version_of, name_from, restart_delay_of, eviction_unset, node_of};
 
 use crate::fault::LineKind;
 use json_fields::{field, text_at};
-use manifest::{Text, is_name};
+use manifest::{MaxRestartDelay, Text, is_name};
 use serde_json::Value;
 use std::alloc::Global;
 
@@ -17,6 +17,8 @@ use std::alloc::Global;
 pub struct NodeConfig {
     /// 1 to 253 bytes.
     pub name: Text,
+    /// By how much a restart is put off at most; 300 seconds where none is written.
+    pub max_restart_delay: MaxRestartDelay,
 }
 
 fn version(found: Option<&Value>) -> Result<(), LineKind>
@@ -37,6 +39,21 @@ fn node_name(alloc: Global, found: Option<&str>) -> Result<Text, LineKind>
     match found {
         Some(name) if is_name(name.as_bytes()) => Ok(Text::new(String::from_str(alloc, name)?)),
         _ => Err(LineKind::Config),
+    }
+}
+
+fn restart_delay(found: Option<&Value>) -> Result<MaxRestartDelay, LineKind>
+    ensures { Gives (λ d. d) result (restart_delay_of (option_map (λ v. view v.now) found.entry)) }
+{
+    let Some(value) = found else {
+        return Ok(MaxRestartDelay::unset());
+    };
+    let Some(seconds) = value.as_u64() else {
+        return Err(LineKind::Config);
+    };
+    match MaxRestartDelay::new(seconds) {
+        Some(delay) => Ok(delay),
+        None => Err(LineKind::Config),
     }
 }
 
@@ -75,5 +92,9 @@ pub(crate) fn node_of(alloc: Global, node: &Value) -> Result<NodeConfig, LineKin
     absent(LineKind::Config, field(node, "capacity"))?;
     absent(LineKind::Config, field(node, "dedicatedImagefs"))?;
     eviction_unset(node)?;
-    Ok(NodeConfig { name })
+    let max_restart_delay = restart_delay(field(node, "maxRestartDelay"))?;
+    Ok(NodeConfig {
+        name,
+        max_restart_delay,
+    })
 }

@@ -29,7 +29,7 @@ fn has_probe(containers: &[ContainerSpec]) -> bool
 fn refusal(pod: &PodSpec) -> Option<ManifestFault>
     ensures { result ≡ refusal_of pod.now }
 {
-    if pod.containers.init_count() > 0 {
+    if !pod.containers.has_only_apps() {
         Some(ManifestFault::WrongKind(Field::InitContainers))
     } else if has_probe(pod.containers.as_slice()) {
         Some(ManifestFault::WrongKind(Field::Probe))

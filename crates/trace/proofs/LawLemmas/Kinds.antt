@@ -17,7 +17,8 @@ use Rattle.manifest.specs.declared.outcome.Outcome.TheVariants.{Success, Failure
 use Rattle.manifest.specs.declared.outcome.Outcome.TheVariants as outcomes
 use Rattle.manifest.specs.declared.outcome.ProbeKind.TheVariants.{Startup, Liveness, Readiness}
 use Rattle.trace.specs.Lines.{lines_of}
-use Rattle.trace.specs.Node.{version_from, version_of, name_from, absent, eviction_unset, node_of}
+use Rattle.manifest.specs.RestartDelay.{most_max_delay, max_delay_of}
+use Rattle.trace.specs.Node.{version_from, version_of, name_from, or_config, restart_delay_of, absent, eviction_unset, node_of}
 use Rattle.manifest.specs.declared.fault.ManifestFault.{ManifestFault}
 use Rattle.manifest.specs.declared.fault.ManifestFault.TheVariants.{Missing, WrongKind, DuplicateContainer, Sidecar}
 use Rattle.manifest.specs.declared.fault.ManifestFault.TheVariants as faults
@@ -71,6 +72,14 @@ eviction_only d =
     only_bind P _ _ (absent_only Config (field_at (codes "evictionMinimumReclaim") d)) (λ reclaim.
     absent_only Config (field_at (codes "evictionPressureTransitionPeriod") d))))))
 
+or_config_only : {A : Type 0} (found : Option A) → Only (Is Config) (or_config found)
+or_config_only None = only_err (Is Config) Config refl
+or_config_only (Some x) = only_ok (Is Config) x
+
+restart_delay_only : (found : Option Data) → Only (Is Config) (restart_delay_of found)
+restart_delay_only None = only_ok (Is Config) most_max_delay
+restart_delay_only (Some d) = or_config_only (option_and_then max_delay_of (option_and_then as_u64 (as_number d)))
+
 node_only : (d : Data) → Only (Is Config) (node_of d)
 unfolding node_of
 node_only d =
@@ -79,7 +88,8 @@ node_only d =
     only_bind P _ _ (name_only (text_at (codes "name") d)) (λ name.
     only_bind P _ _ (absent_only Config (field_at (codes "capacity") d)) (λ capacity.
     only_bind P _ _ (absent_only Config (field_at (codes "dedicatedImagefs") d)) (λ dedicated.
-    only_bind P _ _ (eviction_only d) (λ eviction. only_ok P _)))))
+    only_bind P _ _ (eviction_only d) (λ eviction.
+    only_bind P _ _ (restart_delay_only (field_at (codes "maxRestartDelay") d)) (λ delay. only_ok P _))))))
 
 json_only : (line : List ℕ) → Only (Is NotJson) (json_of line)
 unfolding json_of
