@@ -10,4 +10,6 @@ pub mod ResourceFields
 pub mod Containers
 pub mod Manifest
 pub mod Policy
+pub mod Table
+pub mod Laws
 pub mod ProbeKinds
