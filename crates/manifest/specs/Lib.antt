@@ -10,5 +10,7 @@ pub mod ResourceFields
 pub mod Containers
 pub mod Manifest
 pub mod Policy
+pub mod Table
+pub mod Laws
 pub mod ProbeKinds
 pub mod RestartDelay

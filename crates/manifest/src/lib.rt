@@ -4,6 +4,7 @@
 mod fault;
 mod fields;
 mod grace;
+pub mod laws;
 mod names;
 mod outcome;
 mod pod;

@@ -8,7 +8,7 @@ use manifest::ManifestFault::{
     self, DuplicateContainer, InitProbe, Missing, ProbeRange, RequestAboveLimit, Sidecar, TooMany,
     WrongKind,
 };
-use manifest::{Amounts, PodSpec, Policy, Role};
+use manifest::{Amounts, ContainerSpec, PodSpec, Policy, Role};
 use quantity::Quantity;
 use quantity::QuantityFault::{BadDigit, BadSuffix, Negative};
 use serde_json::Value;
@@ -44,13 +44,13 @@ fn summary_of(alloc: Global, pod: &PodSpec) -> Result<String, AllocError> {
     let (namespace, name) = (pod.namespace.as_str(), pod.name.as_str());
     let policy = policy_word(pod.policy);
     let (priority, grace) = (pod.priority, pod.grace_period_seconds.get());
-    let init = pod.containers.init_count();
+    let init = count_before_apps(pod.containers.as_slice());
     let mut text = format!(in alloc;
         "{namespace}/{name} {policy}, priority {priority}, {grace} s, {init} init\n"
     )?;
     for container in pod.containers.as_slice() {
         let name = container.name.as_str();
-        let role = role_word(container.role);
+        let role = role_word(container.role());
         text.push_str(format!(in alloc; "{role} {name}\n")?.as_str())?;
         let resources = container.resources;
         push_amounts(&mut text, alloc, "requests", resources.requests())?;
@@ -61,6 +61,14 @@ fn summary_of(alloc: Global, pod: &PodSpec) -> Result<String, AllocError> {
         push_probe(&mut text, alloc, "readiness", probes.readiness())?;
     }
     Ok(text)
+}
+
+/// How many containers stand before the first app container.
+fn count_before_apps(containers: &[ContainerSpec]) -> usize {
+    containers
+        .iter()
+        .filter(|container| container.role() != Role::App)
+        .count()
 }
 
 fn policy_word(policy: Policy) -> &'static str {
@@ -74,6 +82,7 @@ fn policy_word(policy: Policy) -> &'static str {
 fn role_word(role: Role) -> &'static str {
     match role {
         Role::Init => "init",
+        Role::Sidecar => "sidecar",
         Role::App => "app",
     }
 }
@@ -641,8 +650,8 @@ fn init_container_has_no_probes(rt: HostRuntime) -> Result<(), Fail> {
             RequestAboveLimit,
         ),
         (
-            r#"{"name":"i","restartPolicy":"Always","startupProbe":{}}"#,
-            Sidecar,
+            r#"{"name":"i","restartPolicy":null,"startupProbe":{}}"#,
+            InitProbe,
         ),
     ] {
         let fields = format!(in rt.alloc();
@@ -652,4 +661,40 @@ fn init_container_has_no_probes(rt: HostRuntime) -> Result<(), Fail> {
         expect_fault(&rt, rt.alloc(), text.as_str(), fault)?;
     }
     Ok(())
+}
+
+/// The one restart policy of its own that an item of `initContainers` may have is `Always`, and it comes before its
+/// resources and probes.
+#[test]
+fn restart_policy_of_its_own_makes_a_sidecar(rt: HostRuntime) -> Result<(), Fail> {
+    for own_policy in [
+        r#""OnFailure""#,
+        r#""Never""#,
+        r#""always""#,
+        r#""""#,
+        "7",
+        "{}",
+        "false",
+    ] {
+        let fields = format!(in rt.alloc();
+            "\"initContainers\":[{{\"name\":\"s\",\"restartPolicy\":{own_policy},\"resources\":7}}],\"containers\":[{{\"name\":\"c\"}}]"
+        )?;
+        let text = of_spec(rt.alloc(), fields.as_str())?;
+        expect_fault(&rt, rt.alloc(), text.as_str(), Sidecar)?;
+    }
+    Ok(())
+}
+
+#[test]
+fn sidecars_have_probes(rt: HostRuntime) -> Result<(), Fail> {
+    let text = of_spec(
+        rt.alloc(),
+        r#""initContainers":[{"name":"i"},{"name":"s","restartPolicy":"Always","startupProbe":{}},{"name":"j"}],"containers":[{"name":"c"}]"#,
+    )?;
+    expect_pod(
+        &rt,
+        rt.alloc(),
+        text.as_str(),
+        "default/a Always, priority 0, 30 s, 3 init\ninit i\nsidecar s\n  startup delay 0 period 10 timeout 1 successes 1 failures 3\ninit j\napp c\n",
+    )
 }

@@ -124,6 +124,19 @@ fn the_greatest_init_request_stands_against_the_sum(rt: HostRuntime) -> Result<(
     Ok(())
 }
 
+/// A sidecar runs beside the app containers, so its request counts in their sum; the class asks it as any container.
+#[test]
+fn a_sidecar_counts_in_the_sum(rt: HostRuntime) -> Result<(), Fail> {
+    let alloc = rt.alloc();
+    let first =
+        r#"{"name":"s","restartPolicy":"Always","resources":{"requests":{"memory":"100Mi"}}},{"name":"i","resources":{"requests":{"memory":"120Mi"}}}"#;
+    let app = r#"{"name":"c","resources":{"requests":{"memory":"50Mi"}}}"#;
+    let pod = pod_with(alloc, first, app)?;
+    assert_eq!(rt; effective_request(&pod, Memory), 157_286_400_000);
+    let bare = r#"{"name":"s","restartPolicy":"Always"}"#;
+    expect_class(&rt, alloc, bare, HELD, Burstable)
+}
+
 /// Sixteen containers that request the greatest quantity: sums are not capped.
 #[test]
 fn a_sum_of_requests_is_not_capped(rt: HostRuntime) -> Result<(), Fail> {
@@ -187,9 +200,9 @@ fn service_of_kubectl_is_read_to_its_probes(rt: HostRuntime) -> Result<(), Fail>
     let pod = pod_of(rt.alloc(), CREATE_SERVICE)?;
     assert_eq!(rt; pod.priority, 1000);
     assert_eq!(rt; pod.grace_period_seconds.get(), 45);
-    assert_eq!(rt; pod.containers.init_count(), 1);
+    assert!(rt; !pod.containers.has_only_apps());
     let app = pod.containers.as_slice().get(1).ok_or("an app container")?;
-    assert_eq!(rt; app.role, Role::App);
+    assert_eq!(rt; app.role(), Role::App);
     let startup = app.probes.startup().ok_or("a startup probe")?;
     assert_eq!(rt; startup.failure_threshold(), 30);
     let liveness = app.probes.liveness().ok_or("a liveness probe")?;

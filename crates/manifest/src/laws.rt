@@ -1,0 +1,13 @@
+//! What the definition of a manifest implies, in the words of the table of its checks. The functions do nothing; their
+//! contracts are the laws.
+ghost use Rattle.manifest.specs.Laws.{FirstCheck, EveryCheck};
+
+/// A manifest is refused exactly with the fault of the first check of the table that it fails.
+pub fn first_check()
+    ensures { FirstCheck }
+{}
+
+/// A manifest describes a pod exactly where it passes every check of the table.
+pub fn every_check()
+    ensures { EveryCheck }
+{}
