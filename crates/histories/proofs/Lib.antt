@@ -7,3 +7,4 @@ pub mod Lasting
 pub mod Decide
 pub mod Last
 pub mod Ahead
+pub mod Items

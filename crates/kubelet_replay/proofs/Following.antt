@@ -5,12 +5,12 @@ use Rattle.histories.specs.Histories.{recorded}
 use Rattle.state_diff.specs.declared.differ.Differ.{Differ}
 use Rattle.state_diff.specs.Instances.{Tick, IsAcceptableHistory}
 use Rattle.state_diff.specs.Differ.{IsStateOf}
-use Rattle.phase.specs.declared.pod.PodShape.{PodShape}
+use Rattle.manifest.specs.declared.pod.PodSpec.{PodSpec}
 use Rattle.phase.specs.declared.view.ContainerView.{ContainerView}
-use Rattle.phase.specs.Pods.{PodTick, IsViewOf, AreViewsOf, AreShown}
+use Rattle.pod_piece.specs.Pods.{PodTick, listings, IsViewOf, AreViewsOf, AreShown}
 use Rattle.phase.specs.RawPhase.{IsTerminal}
-use Rattle.phase.specs.Status.{IsProgressOf}
-use Rattle.phase.proofs.EndLemmas.{IsPhase-unique, phase_ended, shown_ended, shown_lives}
+use Rattle.pod_piece.specs.Lifecycles.{IsProgressOf}
+use Rattle.pod_piece.proofs.EndLemmas.{IsPhase-unique, phase_ended, shown_ended, shown_all, shown_lives}
 use Rattle.trace.specs.declared.observation.TickObs.{TickObs}
 use Rattle.trace.specs.Observations.{seen_of, history}
 use Rattle.trace.specs.Sound.{AreRising}
@@ -29,65 +29,59 @@ not_evicted n = ((λ e. absurd (cc)), (λ e. absurd (cc)))
 abbrev pub entry : TickObs → ℕ → PodTick
 entry tick pod = recorded tick.at (listed (slice_get tick.pods pod))
 
--- views of all ticks, one container after the other
-pub are_views : (ticks : List TickObs) (pod count : ℕ) (views : List ContainerView) → length views ≡ count
-    → ((c : ℕ) (v : ContainerView) → c < count → IsViewOf (history ticks pod c) (slice_index_or views c v)) → AreViewsOf (pod_history ticks pod) count views
-are_views ticks pod count views many each = record {
-  as_many = many;
-  each = λ c v lt. subst (λ (h : List Tick). IsViewOf h (slice_index_or views c v)) (sym (listings-pod_history ticks pod c)) (each c v lt);
-}
-
--- the same with the last tick apart
-pub are_views_more : (ticks : List TickObs) (tick : TickObs) (pod count : ℕ) (views : List ContainerView) → length views ≡ count
-    → ((c : ℕ) (v : ContainerView) → c < count → IsViewOf (history ticks pod c ++ recorded tick.at (seen_of tick pod c) ∷ []) (slice_index_or views c v))
-    → AreViewsOf (pod_history ticks pod ++ entry tick pod ∷ []) count views
-are_views_more ticks tick pod count views many each =
-    let all = are_views (ticks ++ tick ∷ []) pod count views many (λ c v lt. subst (λ (h : List Tick). IsViewOf h (slice_index_or views c v)) (sym (history-more ticks tick pod c)) (each c v lt)) in
-    subst (λ (h : List PodTick). AreViewsOf h count views) (pod_history-more ticks tick pod) all
+-- the listings of a container, with the last tick apart
+pub listings_next : (ticks : List TickObs) (tick : TickObs) (pod c : ℕ) → listings (pod_history ticks pod ++ entry tick pod ∷ []) c ≡ history ticks pod c ++ recorded tick.at (seen_of tick pod c) ∷ []
+listings_next ticks tick pod c =
+    ap (λ (h : List PodTick). listings h c) (sym (pod_history-more ticks tick pod)) ∙ listings-pod_history (ticks ++ tick ∷ []) pod c ∙ history-more ticks tick pod c
 
 -- once the pod has ended
-pub after_end : (shape : PodShape) (pod : ℕ) (ticks : List TickObs) (tick : TickObs) (old new : Followed) → IsFollowed shape pod ticks old → IsTerminal old.status.phase
-    → new.differs ≡ old.differs → new.views ≡ old.views → IsProgressOf shape None (pod_history ticks pod ++ entry tick pod ∷ []) new.status
-    → IsFollowed shape pod (ticks ++ tick ∷ []) new
-after_end shape pod ticks tick old new f ended differs views progress =
+pub after_end : (spec : PodSpec) (pod : ℕ) (ticks : List TickObs) (tick : TickObs) (old new : Followed) → IsFollowed spec pod ticks old → IsTerminal old.lifecycle.phase
+    → new.differs ≡ old.differs → new.views ≡ old.views → IsProgressOf spec None (pod_history ticks pod ++ entry tick pod ∷ []) new.lifecycle
+    → IsFollowed spec pod (ticks ++ tick ∷ []) new
+after_end spec pod ticks tick old new f ended differs views progress =
     let h = pod_history ticks pod in
     let next = sym (pod_history-more ticks tick pod) in
     let is_phase = f.progress.so_far.phase in
-    let same : new.status.phase ≡ old.status.phase =
-    IsPhase-unique shape None (h ++ entry tick pod ∷ []) new.status.phase old.status.phase progress.so_far.phase (phase_ended shape None h (entry tick pod) old.status.phase is_phase ended) in
-    let still : IsTerminal new.status.phase = subst IsTerminal (sym same) ended in
-    let shown = shown_ended shape None h (entry tick pod) old.status.phase old.views.items is_phase ended f.shown in
+    let same : new.lifecycle.phase ≡ old.lifecycle.phase =
+    IsPhase-unique spec None (h ++ entry tick pod ∷ []) new.lifecycle.phase old.lifecycle.phase progress.so_far.phase (phase_ended spec None h (entry tick pod) old.lifecycle.phase is_phase ended) in
+    let still : IsTerminal new.lifecycle.phase = subst IsTerminal (sym same) ended in
+    let shown = shown_ended spec None h (entry tick pod) old.lifecycle.phase old.views.items is_phase ended f.shown in
     let views_are : old.views.items ≡ new.views.items = ap (λ vs. vs.items) (sym views) in
     record {
-      progress = subst (λ (k : List PodTick). IsProgressOf shape None k new.status) next progress;
-      shown = subst (λ (vs : List ContainerView). AreShown shape None (pod_history (ticks ++ tick ∷ []) pod) vs) views_are (subst (λ (k : List PodTick). AreShown shape None k old.views.items) next shown);
+      progress = subst (λ (k : List PodTick). IsProgressOf spec None k new.lifecycle) next progress;
+      shown = subst (λ (vs : List ContainerView). AreShown spec None (pod_history (ticks ++ tick ∷ []) pod) vs) views_are (subst (λ (k : List PodTick). AreShown spec None k old.views.items) next shown);
       differs = λ not. absurd (not still);
       differ_count = ap (λ ds. length ds.items) differs ∙ f.differ_count;
       view_count = ap (λ vs. length vs.items) views ∙ f.view_count;
     }
 
 -- until then, where its differs are ds and its views vs after the tick
-pub before_end : (shape : PodShape) (pod : ℕ) (ticks : List TickObs) (tick : TickObs) (old new : Followed) (ds : List Differ) (vs : List ContainerView)
-    → new.differs.items ≡ ds → new.views.items ≡ vs → IsFollowed shape pod ticks old → (IsTerminal old.status.phase → ⊥)
-    → AreSteppedBy tick pod old.differs.items ds → AreShownBy ds vs → length vs ≡ length ds
-    → (AreViewsOf (pod_history ticks pod ++ entry tick pod ∷ []) shape.container_count vs → IsProgressOf shape None (pod_history ticks pod ++ entry tick pod ∷ []) new.status)
-    → IsFollowed shape pod (ticks ++ tick ∷ []) new
-before_end shape pod ticks tick old new ds vs are_ds are_vs f lives stepped shows as_many advances =
+pub before_end : (spec : PodSpec) (pod : ℕ) (ticks : List TickObs) (tick : TickObs) (old new : Followed) (ds : List Differ) (vs : List ContainerView)
+    → new.differs.items ≡ ds → new.views.items ≡ vs → IsFollowed spec pod ticks old → (IsTerminal old.lifecycle.phase → ⊥)
+    → AreSteppedBy tick pod old.differs.items ds → AreShownBy ds old.views.items vs → length vs ≡ length ds
+    → (AreViewsOf spec (pod_history ticks pod ++ entry tick pod ∷ []) vs → IsProgressOf spec None (pod_history ticks pod ++ entry tick pod ∷ []) new.lifecycle)
+    → IsFollowed spec pod (ticks ++ tick ∷ []) new
+before_end spec pod ticks tick old new ds vs are_ds are_vs f lives stepped shows as_many advances =
     let d : Differ = record { newest = None; listed = false; set_up = false; last_at = None } in
     let h = pod_history ticks pod in
     let next = sym (pod_history-more ticks tick pod) in
     let is_phase = f.progress.so_far.phase in
-    let differ_count : length ds ≡ shape.container_count = stepped.as_many ∙ f.differ_count in
-    let view_count : length vs ≡ shape.container_count = as_many ∙ differ_count in
-    let states : (c : ℕ) (e : Differ) → c < shape.container_count → IsStateOf (history ticks pod c ++ recorded tick.at (seen_of tick pod c) ∷ []) (slice_index_or ds c e) =
+    let differ_count : length ds ≡ length spec.containers = stepped.as_many ∙ f.differ_count in
+    let view_count : length vs ≡ length spec.containers = as_many ∙ differ_count in
+    let states : (c : ℕ) (e : Differ) → c < length spec.containers → IsStateOf (history ticks pod c ++ recorded tick.at (seen_of tick pod c) ∷ []) (slice_index_or ds c e) =
     λ c e lt. stepped.each c e (history ticks pod c) (omega (arith, f.differ_count)) (f.differs lives c e lt) in
-    let views = are_views_more ticks tick pod shape.container_count vs view_count
-    (λ c v lt. shows c d v (history ticks pod c ++ recorded tick.at (seen_of tick pod c) ∷ []) (omega (arith, differ_count)) (states c d lt)) in
+    let before : AreViewsOf spec h old.views.items = shown_all spec None h old.lifecycle.phase old.views.items is_phase lives f.shown in
+    let views : AreViewsOf spec (h ++ entry tick pod ∷ []) vs = record {
+      as_many = view_count;
+      each = λ c v lt. shows c d v v spec h (entry tick pod) (omega (arith, differ_count))
+          (subst (λ (k : List Tick). IsStateOf k (slice_index_or ds c d)) (sym (listings_next ticks tick pod c)) (states c d lt))
+          (before.each c v lt);
+    } in
     let progress = advances views in
-    let shown = shown_lives shape None h (entry tick pod) old.status.phase new.status.phase vs is_phase lives progress.so_far.phase views in
+    let shown = shown_lives spec None h (entry tick pod) old.lifecycle.phase new.lifecycle.phase vs is_phase lives progress.so_far.phase views in
     record {
-      progress = subst (λ (k : List PodTick). IsProgressOf shape None k new.status) next progress;
-      shown = subst (λ (ws : List ContainerView). AreShown shape None (pod_history (ticks ++ tick ∷ []) pod) ws) (sym are_vs) (subst (λ (k : List PodTick). AreShown shape None k vs) next shown);
+      progress = subst (λ (k : List PodTick). IsProgressOf spec None k new.lifecycle) next progress;
+      shown = subst (λ (ws : List ContainerView). AreShown spec None (pod_history (ticks ++ tick ∷ []) pod) ws) (sym are_vs) (subst (λ (k : List PodTick). AreShown spec None k vs) next shown);
       differs = λ not c e lt. subst (λ (es : List Differ). IsStateOf (history (ticks ++ tick ∷ []) pod c) (slice_index_or es c e)) (sym are_ds)
           (subst (λ (k : List Tick). IsStateOf k (slice_index_or ds c e)) (sym (history-more ticks tick pod c)) (states c e lt));
       differ_count = ap length are_ds ∙ differ_count;
@@ -95,13 +89,12 @@ before_end shape pod ticks tick old new ds vs are_ds are_vs f lives stepped show
     }
 
 -- the next tick's listings are accepted, and its moment is later
-pub ready : (shape : PodShape) (pod : ℕ) (ticks : List TickObs) (i : ℕ) (tick : TickObs) (f : Followed) → i < length ticks → tick ≡ get_or ticks i tick
-    → ((c : ℕ) → IsAcceptableHistory (history ticks pod c)) → AreRising ticks → IsFollowed shape pod (take i ticks) f → IsReady shape pod tick f
-ready shape pod ticks i tick f lt is acceptable rising followed = record {
-  accepts = λ lives c d within. (let both = (followed.differs lives c d within).accepts (seen_of tick pod c) in both.1 (acceptable_at ticks pod c i tick lt is (acceptable c)));
+pub ready : (spec : PodSpec) (pod : ℕ) (ticks : List TickObs) (i : ℕ) (tick : TickObs) (f : Followed) → i < length ticks → tick ≡ get_or ticks i tick
+    → ((c : ℕ) → IsAcceptableHistory (history ticks pod c)) → AreRising ticks → IsFollowed spec pod (take i ticks) f → IsReady pod tick f
+ready spec pod ticks i tick f lt is acceptable rising followed = record {
+  accepts = λ lives c d within. (let both = (followed.differs lives c d (omega (arith, followed.differ_count))).accepts (seen_of tick pod c) in both.1 (acceptable_at ticks pod c i tick lt is (acceptable c)));
   before = λ lives c d within. is_before (history (take i ticks) pod c) (slice_index_or f.differs.items c d) tick.at
       (followed.differs lives c d (omega (arith, followed.differ_count)))
       (ends_before_at ticks pod c i tick lt is rising);
-  differ_count = followed.differ_count;
-  view_count = followed.view_count;
+  as_many = followed.view_count ∙ sym followed.differ_count;
 }

@@ -1,4 +1,3 @@
-pub mod Places
 pub mod Listings
 pub mod Following
 pub mod Parts

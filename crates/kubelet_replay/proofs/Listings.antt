@@ -7,7 +7,7 @@ use Rattle.histories.specs.Histories.{recorded, moment_at, EndsBefore}
 use Rattle.histories.proofs.Moments.{ends_before}
 use Rattle.state_diff.specs.declared.seen.Seen.{Seen}
 use Rattle.state_diff.specs.Instances.{Tick, listing_of, seen_at, IsAcceptable, IsAcceptableHistory}
-use Rattle.phase.specs.Pods.{listings}
+use Rattle.pod_piece.specs.Pods.{listings}
 use Rattle.trace.specs.declared.observation.ContainerObs.{ContainerObs}
 use Rattle.trace.specs.declared.observation.PodObs.{PodObs}
 use Rattle.trace.specs.declared.observation.TickObs.{TickObs}

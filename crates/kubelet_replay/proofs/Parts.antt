@@ -6,7 +6,7 @@ use Rattle.trace.specs.declared.observation.TickObs.{TickObs}
 use Rattle.std.specs.List.{concat}
 use Rattle.std.proofs.lemmas.List.Folds.{concat-append}
 use Rattle.kubelet_replay.specs.Report.{ArePodLines, IsReport}
-use Rattle.trace.proofs.FollowedLemmas.{pushed_each}
+use Rattle.histories.proofs.Items.{pushed_each}
 
 pub four_parts : (s p q r t a b c d : List ℕ) → p ≡ s ++ a → q ≡ p ++ b → r ≡ q ++ c → t ≡ r ++ d → t ≡ s ++ (a ++ (b ++ (c ++ d)))
 four_parts s p q r t a b c d ep eq er et =

@@ -5,7 +5,8 @@ use Rattle.state_diff.specs.Instances.{Tick}
 use Rattle.state_diff.specs.Differ.{IsStateOf}
 use Rattle.state_diff.specs.declared.differ.Differ.{Differ}
 use Rattle.phase.specs.declared.view.ContainerView.{ContainerView}
-use Rattle.phase.specs.Pods.{IsViewOf}
+use Rattle.manifest.specs.declared.pod.PodSpec.{PodSpec}
+use Rattle.pod_piece.specs.Pods.{PodTick, listings, IsViewOf}
 use Rattle.trace.specs.declared.observation.TickObs.{TickObs}
 use Rattle.trace.specs.Observations.{seen_of}
 
@@ -15,6 +16,10 @@ pub record AreSteppedBy (tick : TickObs) (pod : ℕ) (old new : List Differ) : T
   pub each : (c : ℕ) (d : Differ) (h : List Tick) → c < length old → IsStateOf h (slice_index_or old c d)
       → IsStateOf (h ++ recorded tick.at (seen_of tick pod c) ∷ []) (slice_index_or new c d)
 
--- each view shows the listings that its differ has followed
-abbrev pub AreShownBy : List Differ → List ContainerView → Type 0
-AreShownBy differs views = (c : ℕ) (d : Differ) (v : ContainerView) (h : List Tick) → c < length differs → IsStateOf h (slice_index_or differs c d) → IsViewOf h (slice_index_or views c v)
+-- each view shows its container after one tick more, whose listings so far its differ has followed
+abbrev pub AreShownBy : List Differ → List ContainerView → List ContainerView → Type 0
+AreShownBy differs old new =
+    (c : ℕ) (d : Differ) (v w : ContainerView) (pod : PodSpec) (h : List PodTick) (next : PodTick) → c < length differs
+    → IsStateOf (listings (h ++ next ∷ []) c) (slice_index_or differs c d)
+    → IsViewOf pod h c (slice_index_or old c v)
+    → IsViewOf pod (h ++ next ∷ []) c (slice_index_or new c w)

@@ -2,7 +2,7 @@
 use Rattle.std.specs.Prelude.{ℕ, List, [], map, Option, Some, None, slice_get}
 use Rattle.histories.specs.Histories.{recorded}
 use Rattle.state_diff.specs.declared.seen.Seen.{Seen}
-use Rattle.phase.specs.Pods.{PodTick}
+use Rattle.pod_piece.specs.Pods.{PodTick}
 use Rattle.trace.specs.declared.observation.ContainerObs.{ContainerObs}
 use Rattle.trace.specs.declared.observation.PodObs.{PodObs}
 use Rattle.trace.specs.declared.observation.TickObs.{TickObs}

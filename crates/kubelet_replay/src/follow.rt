@@ -5,26 +5,27 @@ ghost use Rattle.histories.specs.Histories.{recorded};
 ghost use Rattle.state_diff.specs.Instances.{Tick, IsAcceptableHistory};
 ghost use Rattle.state_diff.specs.Differ.{Accepts, IsBefore, IsStateOf};
 ghost use Rattle.state_diff.specs.declared.differ.Differ.{Differ};
-ghost use Rattle.phase.specs.declared.view.ContainerView.{ContainerView};
-ghost use Rattle.phase.specs.Pods.{IsViewOf};
+ghost use Rattle.manifest.specs.declared.pod.PodSpec.{PodSpec};
 ghost use Rattle.trace.specs.declared.observation.TickObs.{TickObs};
 ghost use Rattle.trace.specs.Followed.{AreBefore};
 ghost use Rattle.trace.specs.Observations.{seen_of, history};
 ghost use Rattle.trace.specs.Sound.{AreRising};
 ghost use Rattle.kubelet_replay.specs.Follow.{AreSteppedBy, AreShownBy};
 
-use phase::{ContainerView, PodShape, PodStatus};
+use manifest::{PodSpec, Policy};
+use phase::ContainerView;
+use pod_piece::{Lifecycle, first_views, next_view};
 use state_diff::{Differ, Seen};
 use std::alloc::{AllocError, Global};
 use trace::{TickObs, seen_of};
 
 /// A pod on its way through the ticks: one differ for each container, the containers as the ticks that count show them, and
-/// the pod's status.
+/// the pod's phase and conditions.
 #[derive(Drop)]
 pub(crate) struct Followed {
     differs: Vec<Differ>,
     pub(crate) views: Vec<ContainerView>,
-    pub(crate) status: PodStatus,
+    pub(crate) lifecycle: Lifecycle,
 }
 
 fn stepped(differ: Differ, at: u64, seen: Option<Seen>) -> Differ
@@ -53,10 +54,11 @@ fn step_all(differs: &mut [Differ], tick: &TickObs, pod: usize)
 fn show_all(views: &mut [ContainerView], differs: &[Differ])
     requires { length views.old ≡ length differs.now }
     ensures as_many { length views.new ≡ length differs.now }
-    ensures shown { AreShownBy differs.now views.new }
+    ensures shown { AreShownBy differs.now views.old views.new }
 {
-    for (container, differ) in differs.iter().enumerate() {
-        views[container] = ContainerView::of(differ);
+    for container in 0..differs.len() {
+        let view = views[container];
+        views[container] = next_view(&view, &differs[container]);
     }
 }
 
@@ -64,32 +66,36 @@ impl Followed {
     ghost use Rattle.kubelet_replay.specs.Followed.{IsFollowed, IsReady};
 
     /// A pod that no tick has shown yet.
-    fn new(alloc: Global, shape: PodShape) -> Result<Followed, AllocError>
-        ensures { IfOk result (λ f. (pod : ℕ) → IsFollowed shape pod [] f) }
+    fn new(alloc: Global, spec: &PodSpec) -> Result<Followed, AllocError>
+        ensures { IfOk result (λ f. (pod : ℕ) → IsFollowed spec.now pod [] f) }
     {
+        let containers = spec.containers.as_slice();
         let differ = Differ::new();
-        let view = ContainerView::of(&differ);
-        let differs = vec![in alloc; differ; shape.container_count]?;
-        let views = vec![in alloc; view; shape.container_count]?;
+        let differs = vec![in alloc; differ; containers.len()]?;
+        let views = first_views(alloc, containers)?;
+        let lifecycle = Lifecycle::new(&views);
         Ok(Followed {
             differs,
             views,
-            status: PodStatus::new(shape),
+            lifecycle,
         })
     }
 
     /// Takes the pod over one tick. Once it has ended its records aren't looked at.
-    fn take(&mut self, shape: PodShape, pod: usize, tick: &TickObs)
-        requires { IsReady shape pod tick.now self.old }
-        ensures { (ticks : List TickObs) → IsFollowed shape pod ticks self.old → IsFollowed shape pod (ticks ++ tick.now ∷ []) self.new }
+    fn take(&mut self, policy: Policy, pod: usize, tick: &TickObs)
+        requires { IsReady pod tick.now self.old }
+        ensures { (spec : PodSpec) (ticks : List TickObs)
+            → spec.policy ≡ policy
+            → IsFollowed spec pod ticks self.old
+            → IsFollowed spec pod (ticks ++ tick.now ∷ []) self.new }
     {
-        if self.status.has_ended() {
-            self.status.advance(shape, tick.at, &self.views, false);
+        if self.lifecycle.has_ended() {
+            self.lifecycle.advance(policy, tick.at, &self.views, false);
             return;
         }
         step_all(&mut self.differs, tick, pod);
         show_all(&mut self.views, &self.differs);
-        self.status.advance(shape, tick.at, &self.views, false);
+        self.lifecycle.advance(policy, tick.at, &self.views, false);
     }
 }
 
@@ -98,17 +104,17 @@ ghost use Rattle.kubelet_replay.specs.Followed.{IsFollowed};
 /// The pod with the number, as these ticks leave it.
 pub(crate) fn follow(
     alloc: Global,
-    shape: PodShape,
+    spec: &PodSpec,
     pod: usize,
     ticks: &[TickObs],
 ) -> Result<Followed, AllocError>
     requires acceptable { (c : ℕ) → IsAcceptableHistory (history ticks.now pod c) }
     requires rising { AreRising ticks.now }
-    ensures { IfOk result (λ f. IsFollowed shape pod ticks.now f) }
+    ensures { IfOk result (λ f. IsFollowed spec.now pod ticks.now f) }
 {
-    let mut followed = Followed::new(alloc, shape)?;
+    let mut followed = Followed::new(alloc, spec)?;
     for tick in ticks {
-        followed.take(shape, pod, tick);
+        followed.take(spec.policy, pod, tick);
     }
     Ok(followed)
 }

@@ -1,42 +1,34 @@
 //! The report of a trace: what the ticks make of each pod, as text.
 
 ghost use Rattle.std.specs.Prelude.{◌≡◌, ◌<◌, ℕ, List, length, None, slice_index_or, IfOk, string_bytes};
-ghost use Rattle.phase.specs.Pods.{PodTick, AreShown};
-ghost use Rattle.phase.specs.Containers.{IsContainerStatus};
-ghost use Rattle.phase.specs.declared.container.ContainerStatus.{ContainerStatus};
+ghost use Rattle.manifest.specs.declared.pod.PodSpec.{PodSpec};
+ghost use Rattle.pod_piece.specs.Pods.{PodTick, AreShown};
+ghost use Rattle.pod_piece.specs.Containers.{IsContainerStatus};
+ghost use Rattle.pod_piece.specs.declared.container.ContainerStatus.{ContainerStatus};
 ghost use Rattle.trace.specs.Sound.{AreAcceptable, AreRising};
-ghost use Rattle.kubelet_replay.specs.Report.{IsShapeOf, ArePodLines, IsReport};
+ghost use Rattle.kubelet_replay.specs.Report.{ArePodLines, IsReport};
 
 use crate::follow::follow;
 use crate::text::pod_text;
 use manifest::PodSpec;
-use phase::{ContainerStatus, ContainerView, PodShape, container_status};
+use phase::ContainerView;
+use pod_piece::{ContainerStatus, container_status};
 use qos::qos_class;
 use std::alloc::{AllocError, Global};
 use trace::{TickObs, Trace};
 
-fn shape_of(pod: &PodSpec) -> PodShape
-    ensures { IsShapeOf pod.now result }
-{
-    PodShape {
-        policy: pod.policy,
-        container_count: pod.containers.as_slice().len(),
-        init_count: pod.containers.init_count(),
-    }
-}
-
 /// What the status shows of each container.
 fn statuses(
     alloc: Global,
-    shape: PodShape,
     views: &[ContainerView],
 ) -> Result<Vec<ContainerStatus>, AllocError>
     ensures as_many { IfOk result (λ v. length v.items ≡ length views.now) }
-    ensures statuses { IfOk result (λ v. (h : List PodTick) → AreShown shape None h views.now → (c : ℕ) (d : ContainerStatus) → c < length views.now → IsContainerStatus shape None h c (slice_index_or v.items c d)) }
+    ensures statuses { IfOk result (λ v. (pod : PodSpec) (h : List PodTick) → AreShown pod None h views.now
+        → (c : ℕ) (d : ContainerStatus) → c < length views.now → IsContainerStatus pod None h c (slice_index_or v.items c d)) }
 {
     let mut all = Vec::new(alloc);
-    for (container, view) in views.iter().enumerate() {
-        all.push(container_status(shape, container, view, false))?;
+    for view in views {
+        all.push(container_status(view, false))?;
     }
     Ok(all)
 }
@@ -52,17 +44,16 @@ fn pod_lines(
     requires rising { AreRising ticks.now }
     ensures { IfOk result (λ s. ArePodLines ticks.now number pod.now (string_bytes s)) }
 {
-    let shape = shape_of(pod);
-    let followed = follow(alloc, shape, number, ticks)?;
-    let containers = statuses(alloc, shape, &followed.views)?;
-    let status = followed.status;
+    let followed = follow(alloc, pod, number, ticks)?;
+    let containers = statuses(alloc, &followed.views)?;
+    let lifecycle = followed.lifecycle;
     let text = pod_text(
         alloc,
         number,
         pod,
         qos_class(pod),
-        status.phase,
-        status.conditions,
+        lifecycle.phase,
+        lifecycle.conditions,
         &containers,
     )?;
     Ok(text)

@@ -5,7 +5,8 @@ ghost use Rattle.kubelet_replay.specs.Texts.{joined};
 ghost use Rattle.kubelet_replay.specs.Lines.{phase_word, state_word, qos_word, truth, code_text, pod_words, pod_line, condition_line, container_words, flag_words, container_line, conditions_text, containers_text, pod_text};
 
 use manifest::{ContainerSpec, PodSpec};
-use phase::{Condition, Conditions, ContainerState, ContainerStatus, Phase};
+use phase::{Condition, Conditions, ContainerState, Phase};
+use pod_piece::ContainerStatus;
 use qos::Qos;
 use std::alloc::{AllocError, Global};
 

@@ -4,3 +4,4 @@ pub mod Placed
 pub mod EachItem
 pub mod Rows
 pub mod RowLemmas
+pub mod NeverMemory

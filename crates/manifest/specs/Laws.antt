@@ -1,7 +1,8 @@
 -- What the definition of a manifest implies, in the words of the table of its checks.
-use Rattle.std.specs.Prelude.{◌≡◌, ◌↔◌, ◌<◌, ℕ, List, slice_get, Some, None, Ok, Err}
+use Rattle.std.specs.Prelude.{◌≡◌, ◌≢◌, ◌↔◌, ◌<◌, ℕ, List, slice_get, Some, None, Ok, Err}
 use Rattle.serde_json.specs.Data.{Data}
 use Rattle.manifest.specs.declared.fault.ManifestFault.{ManifestFault}
+use Rattle.manifest.specs.declared.fault.ManifestFault.TheVariants.{OutOfMemory}
 use Rattle.manifest.specs.declared.pod.PodSpec.{PodSpec}
 use Rattle.manifest.specs.Manifest.{pod_at}
 use Rattle.manifest.specs.Table.{Row, rows_of}
@@ -21,3 +22,7 @@ FirstCheck = (d : Data) (fault : ManifestFault) → (pod_at d ≡ Err fault ↔ 
 -- and it describes a pod exactly where it passes every check
 abbrev pub EveryCheck : Type 0
 EveryCheck = (d : Data) → (((pod : PodSpec) × (pod_at d ≡ Ok pod)) ↔ ((n : ℕ) (row : Row) → slice_get (rows_of d) n ≡ Some row → row ≡ None))
+
+-- no manifest is refused for want of memory
+abbrev pub NeverMemory : Type 0
+NeverMemory = (d : Data) (fault : ManifestFault) → pod_at d ≡ Err fault → fault ≢ OutOfMemory

@@ -3,7 +3,7 @@ use Rattle.std.proofs.Common.{◌≡◌, ◌⊎◌, inl, inr, ℕ, ℤ, ◌+◌,
 use Rattle.std.specs.Prelude.{◌↔◌, ◌||◌, IsSomeAnd, IsTrue, All, option_and_then, slice_get, slice_index_or}
 use Rattle.std.proofs.lemmas.List.{get_or_default}
 use Rattle.std.proofs.lemmas.List.FromFn.{length-range_with_len, get_or-range_with_len}
-use Rattle.std.proofs.lemmas.Option.{slice_get_within}
+use Rattle.std.proofs.lemmas.Option.{slice_get_within, slice_get_read}
 use Rattle.histories.specs.Histories.{IsSo}
 use Rattle.histories.proofs.First.{Grows}
 use Rattle.histories.proofs.Growth.{grows_so}
@@ -33,6 +33,14 @@ role_one (Some spec) r s a b = sym a ∙ b
 
 pub one_role : (pod : PodSpec) (container : ℕ) (r s : Role) → HasRole pod container r → HasRole pod container s → r ≡ s
 one_role pod container r s a b = role_one (slice_get pod.containers container) r s a b
+
+-- the role of the container at a place
+pub role_at : (pod : PodSpec) (n : ℕ) (containers : List ContainerSpec) (spec : ContainerSpec) (role : Role) → pod.containers ≡ containers → n < length containers → spec ≡ get_or containers n spec
+    → role ≡ spec.role → HasRole pod n role
+role_at pod n containers spec role same lt is role_is =
+    let P : List ContainerSpec → Type 0 = λ cs. IsSomeAnd (slice_get cs n) (λ s. s.role ≡ role) in
+    let Q : Option ContainerSpec → Type 0 = λ o. IsSomeAnd o (λ s. s.role ≡ role) in
+    subst P (sym same) (subst Q (sym (slice_get_read containers (length containers) n spec refl lt is)) (sym role_is))
 
 -- one that serves is no init container, and the other way round
 serving_role : (r : Role) → (r ≡ Sidecar) ⊎ (r ≡ App) → r ≡ Init → ⊥

@@ -32,7 +32,7 @@ pub fn first_views(
 {
     let mut views = Vec::new(alloc);
     for container in containers {
-        views.push(first_view(container.role))?;
+        views.push(first_view(container.role()))?;
     }
     Ok(views)
 }

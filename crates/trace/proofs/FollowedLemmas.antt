@@ -6,6 +6,7 @@ use Rattle.std.proofs.Math.Seq.{get_or-append_seam}
 use Rattle.std.proofs.lemmas.Bool.{cases_Bool, cases_lt}
 use Rattle.std.proofs.lemmas.List.{map_push, length-append, get_or_append_left}
 use Rattle.histories.specs.Histories.{recorded}
+use Rattle.histories.proofs.Items.{pushed_each, any_default}
 use Rattle.json_fields.specs.Reading.{refused_if}
 use Rattle.manifest.specs.declared.pod.PodSpec.{PodSpec}
 use Rattle.state_diff.specs.declared.seen.Seen.{Seen}
@@ -33,25 +34,6 @@ use Rattle.trace.proofs.Moments.{history-ends_before}
 
 blank : Differ
 blank = record { newest = None; listed = false; set_up = false; last_at = None }
-
--- an item more at the end
-pub pushed_each : {A : Type 0} (P : ℕ → A → Type 0) (xs : List A) (x : A) (n : ℕ) → length xs ≡ n → ((c : ℕ) (d : A) → c < n → P c (get_or xs c d)) → P n x
-    → (c : ℕ) (d : A) → c < n + 1 → P c (get_or (xs ++ x ∷ []) c d)
-pushed_each P xs x n len before last c d lt =
-    elim (cases_lt c n) [
-      | inl below ↦ subst (P c) (sym (get_or_append_left xs (x ∷ []) d c (omega arith))) (before c d below)
-      | inr above ↦
-          let here : n ≡ c = omega arith in
-          let place : length xs ≡ c = omega arith in
-          let at : get_or (xs ++ x ∷ []) c d ≡ x = subst (λ (k : ℕ). get_or (xs ++ x ∷ []) k d ≡ x) place (get_or-append_seam xs x [] d) in
-          subst (P c) (sym at) (subst (λ (k : ℕ). P k x) here last)
-    ]
-
--- a place within the list needs no default
-pub any_default : {A : Type 0} (xs : List A) (i : ℕ) (d e : A) → i < length xs → get_or xs i d ≡ get_or xs i e
-any_default [] i d e lt = absurd (omega arith)
-any_default (x ∷ xs) zero d e lt = refl
-any_default (x ∷ xs) (suc i) d e lt = any_default xs i d e (omega arith)
 
 -- one differ more has followed the tick
 pub differ_more : (tick : TickObs) (pod n : ℕ) (old new : List Differ) (from next : Differ) (seen : Option Seen) → n < length old → from ≡ get_or old n from → seen ≡ seen_of tick pod n

@@ -1,8 +1,6 @@
 -- The trace of a text is what its lines say, or its first fault.
 pub mod Checks
 pub mod Kinds
-pub mod ManifestKinds
-pub mod Only
 pub mod Results
 pub mod Strangers
 use Rattle.std.proofs.Common.{◌≡◌, ◌≢◌, ◌∙◌, ◌⊎◌, ◌↔◌, ℕ, zero, suc, ◌+◌, ◌≤◌, ◌<◌, Bool, true, false, List, [], ◌∷◌, ◌++◌, length, drop, get_or, slice_get, Option, Some, None, Result, Ok, Err, refl, ap, sym, subst, inl, inr, arith, is_some, drop-cons}

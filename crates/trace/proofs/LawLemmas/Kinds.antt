@@ -1,6 +1,6 @@
 -- The kinds of fault that the checks of a line answer.
-use Rattle.std.proofs.Common.{◌≡◌, ◌⊎◌, ℕ, Bool, List, [], length, slice_get, Option, Some, None, Result, Ok, Err, refl, sym, subst, inl, inr, is_some}
-use Rattle.std.specs.Prelude.{◌==◌, ◌&&◌, ◌-◌, ◌^◌, if◌then◌else◌, option_and_then, nat_lt, codes}
+use Rattle.std.proofs.Common.{◌≡◌, ◌⊎◌, ℕ, Bool, true, false, List, [], length, slice_get, Option, Some, None, Result, Ok, Err, refl, sym, subst, inl, inr, is_some}
+use Rattle.std.specs.Prelude.{not, ◌==◌, ◌&&◌, ◌-◌, ◌^◌, if◌then◌else◌, option_and_then, nat_lt, codes}
 use Rattle.serde_json.specs.Data.{Data, Items}
 use Rattle.serde_json.specs.Find.{as_str, as_number, as_u64, as_array}
 use Rattle.manifest.specs.Names.{is_name}
@@ -30,7 +30,9 @@ use Rattle.std.specs.Str.{is_utf8}
 use Rattle.state_diff.specs.declared.seen.CriState.TheVariants.{Created, Running, Exited, Unknown}
 use Rattle.trace.specs.declared.listing.Listing.{Listing}
 use Rattle.json_fields.specs.Fields.{items_list}
-use Rattle.trace.specs.Pod.{keys_of, of_manifest, pod_of, pod_from}
+use Rattle.trace.specs.Pod.{keys_of, of_manifest, has_probe, refusal_of, unless, replayed, pod_of, pod_from}
+use Rattle.manifest.specs.Containers.{has_only_apps}
+use Rattle.manifest.specs.Manifest.{pod_at}
 use Rattle.trace.specs.Listings.{attempt_from, attempt_of, state_named, state_numbered, state_from, state_of, listing_of, items_from, items_of, entry_of, entries_of}
 use Rattle.trace.specs.Results.{probe_named, outcome_named, result_of}
 use Rattle.trace.specs.Placing.{number_in, container_number, placed_listing, placed_result, placed_entry, placed_of}
@@ -40,8 +42,8 @@ use Rattle.trace.specs.Trace.{json_of}
 use Rattle.trace.specs.Laws.{IsFirstFault, Fails, too_long, not_json, unknown_kind, misplaced, wrong_node, many_pods, wrong_pod, many_ticks, wrong_moment, wrong_entry, stranger, doubled, backwards, no_code, KindsOfChecks, IsNotMemory, NeverMemory}
 use Rattle.trace.proofs.LawLemmas.{first_fault}
 use Rattle.trace.proofs.LawLemmas.Checks.{line_fails}
-use Rattle.trace.proofs.LawLemmas.Only.{Only, only_ok, only_err, only_bind, only_if, only_refused, only_some, only_each}
-use Rattle.trace.proofs.LawLemmas.ManifestKinds.{IsFound, missing, pod_of_only}
+use Rattle.json_fields.proofs.Only.{Only, only_ok, only_err, only_bind, only_if, only_refused, only_some, only_each}
+use Rattle.manifest.proofs.NeverMemory.{IsFound, missing, wrong, pod_at_only}
 
 abbrev Is : LineKind → LineKind → Type 0
 Is given kind = kind ≡ given
@@ -103,6 +105,25 @@ IsManifest kind = (fault : ManifestFault) × (kind ≡ Manifest fault) × IsFoun
 manifest_only : {A : Type 0} (r : Result A ManifestFault) → Only IsFound r → Only IsManifest (of_manifest r)
 manifest_only (Ok x) only = only_ok IsManifest x
 manifest_only (Err fault) only = only_err IsManifest (Manifest fault) (fault, refl, only.has fault refl)
+
+-- a pod that is not replayed yet
+refusal_found : (pod : PodSpec) (fault : ManifestFault) → refusal_of pod ≡ Some fault → IsFound fault
+refusal_found pod fault = there (not (has_only_apps pod.containers)) (has_probe pod)
+  where
+    there : (a b : Bool) → (if a then Some (WrongKind fields.InitContainers) else (if b then Some (WrongKind fields.Probe) else None)) ≡ Some fault → IsFound fault
+    there true b e is = absurd (cc)
+    there false true e is = absurd (cc)
+    there false false e is = absurd (cc)
+
+replayed_only : (pod : PodSpec) → Only IsFound (replayed pod)
+replayed_only pod = there (refusal_of pod) (refusal_found pod)
+  where
+    there : (o : Option ManifestFault) → ((fault : ManifestFault) → o ≡ Some fault → IsFound fault) → Only IsFound (unless o pod)
+    there None found = only_ok IsFound pod
+    there (Some fault) found = only_err IsFound fault (found fault refl)
+
+pod_of_only : (d : Data) → Only IsFound (pod_of d)
+pod_of_only d = only_bind IsFound (pod_at d) replayed (pod_at_only d) replayed_only
 
 pod_only : (found : Option Data) → Only IsManifest (pod_from found)
 pod_only None = only_err IsManifest (Manifest (Missing fields.Pod)) (Missing fields.Pod, refl, missing fields.Pod)

@@ -5,8 +5,7 @@ use Rattle.state_diff.specs.Instances.{Tick}
 use Rattle.state_diff.specs.Differ.{IsStateOf, Accepts, IsBefore}
 use Rattle.state_diff.specs.declared.differ.Differ.{Differ}
 use Rattle.trace.specs.Observations.{seen_of}
-use Rattle.trace.proofs.FollowedLemmas.{any_default}
-use Rattle.kubelet_replay.proofs.Places.{set_each, set_rest}
+use Rattle.histories.proofs.Items.{any_default, set_each, set_rest}
 use Rattle.kubelet_replay.proofs.follow.step_all.Goals as goal
 
 pub stepped-requires-clause-accepts : goal.stepped-requires-clause-accepts

@@ -10,19 +10,16 @@ follow-requires-clause-acceptable c = λ k. c.requires.acceptable c.args.number 
 pub returns : goal.returns
 returns c =
     let followed = c.in_ok-followed.ensures in
-    let shape = c.shape_of-shape.ensures in
     let value = c.deref.ensures.value in
-    let count : length c.deref.result.now ≡ length c.args.pod.now.containers = ap length value ∙ followed.view_count ∙ shape.containers in
-    let shown = views_of c.shape_of-shape.result (pod_history c.args.ticks.now c.args.number) c.in_ok-followed.followed.views.items c.deref.result.now value followed.shown in
+    let count : length c.deref.result.now ≡ length c.args.pod.now.containers = ap length value ∙ followed.view_count in
+    let shown = views_of c.args.pod.now (pod_history c.args.ticks.now c.args.number) c.in_ok-followed.followed.views.items c.deref.result.now value followed.shown in
     record {
-      shape = c.shape_of-shape.result;
-      is_shape = shape;
-      status = c.in_ok-followed.followed.status;
-      is_status = followed.progress.so_far;
+      lifecycle = c.in_ok-followed.followed.lifecycle;
+      is_lifecycle = followed.progress.so_far;
       containers = c.in_ok-containers.containers.items;
       as_many = c.in_ok-containers.ensures.as_many ∙ count;
-      each = λ k d lt. c.in_ok-containers.ensures.statuses (pod_history c.args.ticks.now c.args.number) shown k d (omega (arith, count));
+      each = λ k d lt. c.in_ok-containers.ensures.statuses c.args.pod.now (pod_history c.args.ticks.now c.args.number) shown k d (omega (arith, count));
       qos = c.qos_class.result;
       is_qos = c.qos_class.ensures;
-      text = c.in_ok-text.ensures ∙ ap (pod_text c.args.number c.args.pod.now c.qos_class.result c.in_ok-followed.followed.status.phase c.in_ok-followed.followed.status.conditions) c.deref-2.ensures.value;
+      text = c.in_ok-text.ensures ∙ ap (pod_text c.args.number c.args.pod.now c.qos_class.result c.in_ok-followed.followed.lifecycle.phase c.in_ok-followed.followed.lifecycle.conditions) c.deref-2.ensures.value;
     }

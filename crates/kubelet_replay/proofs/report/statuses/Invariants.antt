@@ -1,11 +1,12 @@
 use Rattle.std.proofs.Common.{◌≡◌, ℕ, ◌<◌, List, length, None, slice_index_or}
-use Rattle.phase.specs.declared.container.ContainerStatus.{ContainerStatus}
-use Rattle.phase.specs.Containers.{IsContainerStatus}
-use Rattle.phase.specs.Pods.{PodTick, AreShown}
+use Rattle.manifest.specs.declared.pod.PodSpec.{PodSpec}
+use Rattle.pod_piece.specs.declared.container.ContainerStatus.{ContainerStatus}
+use Rattle.pod_piece.specs.Containers.{IsContainerStatus}
+use Rattle.pod_piece.specs.Pods.{PodTick, AreShown}
 use Rattle.kubelet_replay.proofs.report.statuses.Given as goal
 
-abbrev pub invariant-loop-container : goal.invariant-loop-container
-invariant-loop-container l = record {
-  as_many : length l.all.items ≡ l.container;
-  statuses : (c : ℕ) (d : ContainerStatus) → c < l.container → (h : List PodTick) → AreShown l.shape None h l.views → IsContainerStatus l.shape None h c (slice_index_or l.all.items c d);
+abbrev pub invariant-loop-view : goal.invariant-loop-view
+invariant-loop-view l = record {
+  as_many : length l.all.items ≡ l.view-index;
+  statuses : (c : ℕ) (d : ContainerStatus) → c < l.view-index → (pod : PodSpec) (h : List PodTick) → AreShown pod None h l.views → IsContainerStatus pod None h c (slice_index_or l.all.items c d);
 }

@@ -1,26 +1,26 @@
-use Rattle.std.proofs.Common.{◌≡◌, ◌∙◌, [], ap, length, sym, subst}
+use Rattle.std.proofs.Common.{◌≡◌, ◌∙◌, [], List, ap, length, refl, sym, subst}
 use Rattle.std.specs.Prelude.{None, replicate, slice_index_or}
 use Rattle.std.proofs.lemmas.List.{length-replicate, get_or-replicate}
 use Rattle.state_diff.specs.Differ.{IsStateOf}
-use Rattle.phase.specs.Pods.{IsViewOf}
-use Rattle.phase.proofs.EndLemmas.{shown_none}
+use Rattle.manifest.specs.declared.pod.ContainerSpec.{ContainerSpec}
+use Rattle.phase.specs.declared.view.ContainerView.{ContainerView}
+use Rattle.pod_piece.specs.Pods.{AreViewsOf}
+use Rattle.pod_piece.proofs.EndLemmas.{shown_none}
 use Rattle.kubelet_replay.proofs.follow.Followed.new.Goals as goal
 
 pub returns : goal.returns
 returns c = λ pod.
-    let n = c.args.shape.container_count in
+    let spec = c.args.spec.now in
+    let same = c.as_slice-containers.ensures.same in
+    let n = length c.as_slice-containers.result.now in
     let differ = c.new-differ.result in
-    let view = c.of-view.result in
     let differs : c.in_ok-differs.differs.items ≡ replicate n differ = c.in_ok-differs.ensures.items_if_clones_equal (λ y is. is) in
-    let views : c.in_ok-views.views.items ≡ replicate n view = c.in_ok-views.ensures.items_if_clones_equal (λ y is. is) in
-    let count = ap length views ∙ length-replicate n view in
+    let count : n ≡ length spec.containers = ap length same in
+    let are : AreViewsOf spec [] c.in_ok-views.views.items = c.in_ok-views.ensures spec (sym same) in
     record {
-      progress = c.new.ensures None;
-      shown = shown_none c.args.shape None c.in_ok-views.views.items (record {
-        as_many = count;
-        each = λ k d lt. subst (IsViewOf []) (sym (ap (λ vs. slice_index_or vs k d) views ∙ get_or-replicate n k view d lt)) (c.of-view.ensures [] c.new-differ.ensures);
-      });
-      differs = λ lives k d lt. subst (IsStateOf []) (sym (ap (λ ds. slice_index_or ds k d) differs ∙ get_or-replicate n k differ d lt)) c.new-differ.ensures;
-      differ_count = ap length differs ∙ length-replicate n differ;
-      view_count = count;
+      progress = c.new.ensures spec None (subst (λ (vs : List ContainerView). AreViewsOf spec [] vs) (sym c.deref.ensures.value) are);
+      shown = shown_none spec None c.in_ok-views.views.items are;
+      differs = λ lives k d lt. subst (IsStateOf []) (sym (ap (λ ds. slice_index_or ds k d) differs ∙ get_or-replicate n k differ d (subst (λ m. k < m) (sym count) lt))) c.new-differ.ensures;
+      differ_count = ap length differs ∙ length-replicate n differ ∙ count;
+      view_count = are.as_many;
     }

@@ -13,18 +13,18 @@ use Rattle.manifest.specs.declared.fault.ManifestFault.TheVariants.{Missing, Wro
 use Rattle.manifest.specs.declared.fault.Field.{Field}
 use Rattle.manifest.specs.declared.fault.Field.TheVariants as fields
 use Rattle.manifest.specs.declared.policy.Policy.TheVariants.{Always, OnFailure, Never}
-use Rattle.manifest.specs.declared.pod.PodSpec.{PodSpec}
+use Rattle.manifest.specs.declared.reading.Place.{Place}
+use Rattle.manifest.specs.declared.reading.Place.TheVariants.{InitContainers, Containers}
 use Rattle.manifest.specs.declared.pod.Role.{Role}
-use Rattle.manifest.specs.declared.pod.Role.TheVariants.{Init, App}
+use Rattle.manifest.specs.declared.pod.Role.TheVariants.{Init, Sidecar as IsSidecar, App}
 use Rattle.manifest.specs.Fields.{object_of, tested_text, required_text, text_or, items_or, array_of, array_or_none, some_items, absent}
 use Rattle.manifest.specs.Probe.{no_probes}
-use Rattle.manifest.specs.ProbeFields.{not_from_0, number_from, number_of, probe_in, probe_of, app_probes, init_probes, probes_of}
+use Rattle.manifest.specs.ProbeFields.{not_from_0, number_from, number_of, probe_in, probe_of, some_probes, unprobed, probes_of}
 use Rattle.manifest.specs.Resources.{nothing, no_resources, some_above}
 use Rattle.manifest.specs.ResourceFields.{quantity_read, quantity_numbered, quantity_from, quantity_at, amounts_in, amounts_of, resources_in, resources_of}
-use Rattle.manifest.specs.Manifest.{policy_from, policy_of, priority_from, priority_of, grace_period_from, grace_period_of, place_of, container_of, containers_of, app_items_of, containers_in, metadata_of, settings_in, spec_of, pod_at}
+use Rattle.manifest.specs.Manifest.{policy_from, policy_of, priority_from, priority_of, grace_period_from, grace_period_of, field_of, sidecar_from, role_of, container_of, containers_of, app_items_of, containers_in, metadata_of, settings_in, spec_of, pod_at}
 use Rattle.manifest.specs.Containers.{has_twice}
-use Rattle.trace.specs.Pod.{has_init_containers, has_probe, refusal_of, unless, replayed, pod_of}
-use Rattle.trace.proofs.LawLemmas.Only.{Only, only_ok, only_err, only_bind, only_if, only_refused, only_each}
+use Rattle.json_fields.proofs.Only.{Only, only_ok, only_err, only_bind, only_if, only_refused, only_each}
 
 abbrev pub IsFound : ManifestFault → Type 0
 IsFound fault = fault ≢ OutOfMemory
@@ -169,17 +169,17 @@ probe_only : (most : ℕ) (found : Option Data) → Only IsFound (probe_of most 
 probe_only most None = only_ok IsFound None
 probe_only most (Some d) = only_bind IsFound (probe_in most d) _ (probe_in_only most d) (λ p. only_ok IsFound (Some p))
 
-app_probes_only : (d : Data) → Only IsFound (app_probes d)
-unfolding app_probes
-app_probes_only d =
+some_probes_only : (d : Data) → Only IsFound (some_probes d)
+unfolding some_probes
+some_probes_only d =
     let P = IsFound in
     only_bind P _ _ (probe_only _ (field_at (codes "startupProbe") d)) (λ startup.
     only_bind P _ _ (probe_only _ (field_at (codes "livenessProbe") d)) (λ liveness.
     only_bind P _ _ (probe_only _ (field_at (codes "readinessProbe") d)) (λ readiness. only_ok P _)))
 
-init_probes_only : (d : Data) → Only IsFound (init_probes d)
-unfolding init_probes
-init_probes_only d =
+unprobed_only : (d : Data) → Only IsFound (unprobed d)
+unfolding unprobed
+unprobed_only d =
     let P = IsFound in
     let found : IsFound InitProbe = λ is. absurd (cc) in
     only_bind P _ _ (absent_only InitProbe (field_at (codes "startupProbe") d) found) (λ startup.
@@ -187,17 +187,28 @@ init_probes_only d =
     only_bind P _ _ (absent_only InitProbe (field_at (codes "readinessProbe") d) found) (λ readiness. only_ok P no_probes)))
 
 probes_only : (role : Role) (d : Data) → Only IsFound (probes_of role d)
-probes_only Init d = init_probes_only d
-probes_only App d = app_probes_only d
+probes_only Init d = unprobed_only d
+probes_only IsSidecar d = some_probes_only d
+probes_only App d = some_probes_only d
 
 -- containers
-container_only : (role : Role) (d : Data) → Only IsFound (container_of role d)
+sidecar_from_only : (found : Option (List ℕ)) → Only IsFound (sidecar_from found)
+sidecar_from_only None = only_err IsFound Sidecar (λ is. absurd (cc))
+sidecar_from_only (Some text) = only_if IsFound _ (Ok IsSidecar) _ (only_ok IsFound IsSidecar) (only_err IsFound Sidecar (λ is. absurd (cc)))
+
+role_only : (place : Place) (found : Option Data) → Only IsFound (role_of place found)
+role_only InitContainers None = only_ok IsFound Init
+role_only InitContainers (Some d) = sidecar_from_only (as_str d)
+role_only Containers None = only_ok IsFound App
+role_only Containers (Some d) = only_err IsFound Sidecar (λ is. absurd (cc))
+
+container_only : (place : Place) (d : Data) → Only IsFound (container_of place d)
 unfolding container_of
-container_only role d =
+container_only place d =
     let P = IsFound in
-    only_bind P _ _ (object_only (place_of role) (Some d)) (λ object.
+    only_bind P _ _ (object_only (field_of place) (Some d)) (λ object.
     only_bind P _ _ (required_only is_label fields.ContainerName (field_at (codes "name") object)) (λ name.
-    only_bind P _ _ (absent_only Sidecar (field_at (codes "restartPolicy") object) (λ is. absurd (cc))) (λ own.
+    only_bind P _ _ (role_only place (field_at (codes "restartPolicy") object)) (λ role.
     only_bind P _ _ (resources_only (field_at (codes "resources") object)) (λ resources.
     only_bind P _ _ (probes_only role object) (λ probes. only_ok P _)))))
 
@@ -206,8 +217,8 @@ unfolding containers_of
 containers_only init_items items =
     let P = IsFound in
     only_bind P _ _ (only_refused P (nat_lt 16 (length init_items + length items)) TooMany (λ is. absurd (cc))) (λ few.
-    only_bind P _ _ (only_each P (container_of Init) (container_only Init) init_items) (λ init.
-    only_bind P _ _ (only_each P (container_of App) (container_only App) items) (λ apps.
+    only_bind P _ _ (only_each P (container_of InitContainers) (container_only InitContainers) init_items) (λ init.
+    only_bind P _ _ (only_each P (container_of Containers) (container_only Containers) items) (λ apps.
     only_bind P _ _ (only_refused P (has_twice (init ++ apps)) DuplicateContainer (λ is. absurd (cc))) (λ apart. only_ok P (init ++ apps)))))
 
 app_items_only : (found : Option Data) → Only IsFound (app_items_of found)
@@ -245,29 +256,10 @@ spec_only found =
     only_bind P _ _ (settings_only spec) (λ settings.
     only_bind P _ _ (containers_in_only spec) (λ containers. only_ok P _)))
 
-pod_at_only : (d : Data) → Only IsFound (pod_at d)
+pub pod_at_only : (d : Data) → Only IsFound (pod_at d)
 unfolding pod_at
 pod_at_only d =
     let P = IsFound in
     only_bind P _ _ (object_only fields.Pod (Some d)) (λ pod.
     only_bind P _ _ (metadata_only (field_at (codes "metadata") pod)) (λ metadata.
     only_bind P _ _ (spec_only (field_at (codes "spec") pod)) (λ spec. only_ok P _)))
-
--- a pod that is not replayed yet
-refusal_found : (pod : PodSpec) (fault : ManifestFault) → refusal_of pod ≡ Some fault → IsFound fault
-refusal_found pod fault = there (has_init_containers pod) (has_probe pod)
-  where
-    there : (a b : Bool) → (if a then Some (WrongKind fields.InitContainers) else (if b then Some (WrongKind fields.Probe) else None)) ≡ Some fault → IsFound fault
-    there true b e is = absurd (cc)
-    there false true e is = absurd (cc)
-    there false false e is = absurd (cc)
-
-replayed_only : (pod : PodSpec) → Only IsFound (replayed pod)
-replayed_only pod = there (refusal_of pod) (refusal_found pod)
-  where
-    there : (o : Option ManifestFault) → ((fault : ManifestFault) → o ≡ Some fault → IsFound fault) → Only IsFound (unless o pod)
-    there None found = only_ok IsFound pod
-    there (Some fault) found = only_err IsFound fault (found fault refl)
-
-pub pod_of_only : (d : Data) → Only IsFound (pod_of d)
-pod_of_only d = only_bind IsFound (pod_at d) replayed (pod_at_only d) replayed_only
