@@ -18,10 +18,7 @@ use std::alloc::{AllocError, Global};
 use trace::{TickObs, Trace};
 
 /// What the status shows of each container.
-fn statuses(
-    alloc: Global,
-    views: &[ContainerView],
-) -> Result<Vec<ContainerStatus>, AllocError>
+fn statuses(alloc: Global, views: &[ContainerView]) -> Result<Vec<ContainerStatus>, AllocError>
     ensures as_many { IfOk result (λ v. length v.items ≡ length views.now) }
     ensures statuses { IfOk result (λ v. (pod : PodSpec) (h : List PodTick) → AreShown pod None h views.now
         → (c : ℕ) (d : ContainerStatus) → c < length views.now → IsContainerStatus pod None h c (slice_index_or v.items c d)) }

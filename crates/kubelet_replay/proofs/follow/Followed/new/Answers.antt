@@ -1,4 +1,4 @@
-use Rattle.std.proofs.Common.{◌≡◌, ◌∙◌, [], List, ap, length, refl, sym, subst}
+use Rattle.std.proofs.Common.{◌≡◌, ◌∙◌, ◌<◌, [], List, ap, length, refl, sym, subst}
 use Rattle.std.specs.Prelude.{None, replicate, slice_index_or}
 use Rattle.std.proofs.lemmas.List.{length-replicate, get_or-replicate}
 use Rattle.state_diff.specs.Differ.{IsStateOf}
@@ -18,7 +18,7 @@ returns c = λ pod.
     let count : n ≡ length spec.containers = ap length same in
     let are : AreViewsOf spec [] c.in_ok-views.views.items = c.in_ok-views.ensures spec (sym same) in
     record {
-      progress = c.new.ensures spec None (subst (λ (vs : List ContainerView). AreViewsOf spec [] vs) (sym c.deref.ensures.value) are);
+      progress = c.new-lifecycle.ensures spec None (subst (λ (vs : List ContainerView). AreViewsOf spec [] vs) (sym c.deref.ensures.value) are);
       shown = shown_none spec None c.in_ok-views.views.items are;
       differs = λ lives k d lt. subst (IsStateOf []) (sym (ap (λ ds. slice_index_or ds k d) differs ∙ get_or-replicate n k differ d (subst (λ m. k < m) (sym count) lt))) c.new-differ.ensures;
       differ_count = ap length differs ∙ length-replicate n differ ∙ count;

@@ -50,5 +50,5 @@ returns c = λ spec ticks policy f.
     let are_vs : (with_items old.views vs).items ≡ vs = with_items_is old.views vs room in
     let seen_vs : c.deref-3.result.now ≡ vs = c.deref-3.ensures.value ∙ are_vs in
     before_end spec c.args.pod ticks c.args.tick.now old _ ds vs are_ds are_vs f lives stepped shows as_many
-    (λ views. c.advance-2.ensures None h (listed (slice_get c.args.tick.now.pods c.args.pod)) policy
+    (λ views. c.advance-2.ensures spec None h (listed (slice_get c.args.tick.now.pods c.args.pod)) policy
     (λ not. subst (λ (ws : List ContainerView). AreViewsOf spec (h ++ entry c.args.tick.now c.args.pod ∷ []) ws) (sym seen_vs) views) (not_evicted (length h)) f.progress)
