@@ -1,5 +1,5 @@
 -- Containers with no two of one name.
-use Rattle.std.proofs.Common.{◌≡◌, ℕ, zero, suc, ◌<◌, ◌||◌, Bool, true, false, List, [], ◌∷◌, length, take, get_or, None, bytes_eq, refl, arith}
+use Rattle.std.proofs.Common.{◌≡◌, ℕ, zero, suc, ◌<◌, Bool, false, List, [], ◌∷◌, length, take, get_or, None, bytes_eq, refl, arith}
 use Rattle.std.specs.List.{list_any}
 use Rattle.name_list.specs.Names.{place_of}
 use Rattle.std.proofs.lemmas.Bool.{or_parts}

@@ -1,5 +1,4 @@
 pub mod Arrays
 pub mod Apart
-pub mod Roles
+pub mod Placed
 pub mod EachItem
-pub mod InitCount

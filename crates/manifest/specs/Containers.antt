@@ -1,9 +1,11 @@
--- The containers of a pod (Kubernetes, "Init Containers").
-use Rattle.std.specs.Prelude.{◌≡◌, ℕ, ◌<◌, ◌≤◌, ◌||◌, Bool, true, false, List, [], ◌∷◌, ◌++◌, All, length, map, bytes_eq}
-use Rattle.std.specs.List.{list_any}
+-- The containers of a pod (Kubernetes, "Init Containers", "Sidecar Containers").
+use Rattle.std.specs.Prelude.{◌≡◌, ◌≢◌, ℕ, ◌<◌, ◌≤◌, ◌||◌, Bool, true, false, List, [], ◌∷◌, ◌++◌, All, length, map, bytes_eq}
+use Rattle.std.specs.List.{list_any, list_all}
 use Rattle.manifest.specs.declared.pod.Role.{Role}
-use Rattle.manifest.specs.declared.pod.Role.TheVariants.{Init, App}
+use Rattle.manifest.specs.declared.pod.Role.TheVariants.{Init, Sidecar, App}
 use Rattle.manifest.specs.declared.pod.ContainerSpec.{ContainerSpec}
+use Rattle.manifest.specs.declared.reading.Place.{Place}
+use Rattle.manifest.specs.declared.reading.Place.TheVariants.{InitContainers, Containers}
 use Rattle.manifest.specs.Probe.{no_probes}
 
 abbrev pub names_of : List ContainerSpec → List (List ℕ)
@@ -14,29 +16,36 @@ abbrev pub has_twice : List ContainerSpec → Bool
 has_twice [] = false
 has_twice (c ∷ cs) = list_any (λ other. bytes_eq other.name c.name) cs || has_twice cs
 
--- a container of this role; an init container has no probes
-pub record IsOf (role : Role) (c : ContainerSpec) : Type 0 where
-  pub role_is : c.role ≡ role
-  pub unprobed : role ≡ Init → c.probes ≡ no_probes
+abbrev pub is_app : Role → Bool
+is_app Init = false
+is_app Sidecar = false
+is_app App = true
 
--- all of one role
-unfoldable pub AllOf : Role → List ContainerSpec → Type 0
-AllOf role containers = All (IsOf role) containers
+-- none of them is an init container or a sidecar
+abbrev pub has_only_apps : List ContainerSpec → Bool
+has_only_apps containers = list_all (λ c. is_app c.role) containers
 
-abbrev pub is_init : Role → Bool
-is_init Init = true
-is_init App = false
+-- an item of `initContainers` is an init container or a sidecar, one of `containers` an app container
+abbrev pub MayHave : Place → Role → Type 0
+MayHave InitContainers role = role ≢ App
+MayHave Containers role = role ≡ App
 
-abbrev pub is_init_container : ContainerSpec → Bool
-is_init_container c = is_init c.role
+-- a container that is written in this place; an init container has no probes
+pub record IsOf (place : Place) (c : ContainerSpec) : Type 0 where
+  pub role : MayHave place c.role
+  pub unprobed : c.role ≡ Init → c.probes ≡ no_probes
 
--- init containers, then at least one app container; at most 16 together, no two of one name
+-- all are written there
+unfoldable pub AllOf : Place → List ContainerSpec → Type 0
+AllOf place containers = All (IsOf place) containers
+
+-- init containers and sidecars, then at least one app container; at most 16 together, no two of one name
 pub record AreContainers (containers : List ContainerSpec) : Type 0 where
   pub init : List ContainerSpec
   pub apps : List ContainerSpec
   pub in_order : containers ≡ init ++ apps
-  pub init_first : All (IsOf Init) init
-  pub apps_last : All (IsOf App) apps
+  pub init_first : All (IsOf InitContainers) init
+  pub apps_last : All (IsOf Containers) apps
   pub some : 0 < length apps
   pub few : length containers ≤ 16
   pub apart : has_twice containers ≡ false

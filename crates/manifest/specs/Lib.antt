@@ -10,3 +10,5 @@ pub mod ResourceFields
 pub mod Containers
 pub mod Manifest
 pub mod Policy
+pub mod ProbeKinds
+pub mod RestartDelay

@@ -8,18 +8,21 @@ use Rattle.json_fields.specs.Reading.{◌>>=◌, refused_if, each}
 use Rattle.manifest.specs.declared.fault.Field.{Field}
 use Rattle.manifest.specs.declared.fault.Field.TheVariants as fields
 use Rattle.manifest.specs.declared.fault.ManifestFault.{ManifestFault}
-use Rattle.manifest.specs.declared.fault.ManifestFault.TheVariants.{WrongKind, TooMany, DuplicateContainer, Sidecar}
+use Rattle.manifest.specs.declared.fault.ManifestFault.TheVariants.{WrongKind, TooMany, DuplicateContainer}
+use Rattle.manifest.specs.declared.fault.ManifestFault.TheVariants as faults
 use Rattle.manifest.specs.declared.policy.Policy.{Policy}
 use Rattle.manifest.specs.declared.policy.Policy.TheVariants.{Always, OnFailure, Never}
 use Rattle.manifest.specs.declared.pod.Role.{Role}
-use Rattle.manifest.specs.declared.pod.Role.TheVariants.{Init, App}
+use Rattle.manifest.specs.declared.pod.Role.TheVariants.{Init, Sidecar, App}
 use Rattle.manifest.specs.declared.pod.ContainerSpec.{ContainerSpec}
 use Rattle.manifest.specs.declared.pod.PodSpec.{PodSpec}
+use Rattle.manifest.specs.declared.reading.Place.{Place}
+use Rattle.manifest.specs.declared.reading.Place.TheVariants.{InitContainers, Containers}
 use Rattle.manifest.specs.declared.reading.Metadata.{Metadata}
 use Rattle.manifest.specs.declared.reading.Settings.{Settings}
 use Rattle.manifest.specs.declared.reading.Spec.{Spec}
 use Rattle.manifest.specs.Names.{is_name, is_label}
-use Rattle.manifest.specs.Fields.{object_of, array_of, array_or_none, some_items, required_text, text_or, absent}
+use Rattle.manifest.specs.Fields.{object_of, array_of, array_or_none, some_items, required_text, text_or}
 use Rattle.manifest.specs.ProbeFields.{probes_of}
 use Rattle.manifest.specs.ResourceFields.{resources_of}
 use Rattle.manifest.specs.Containers.{has_twice}
@@ -53,17 +56,29 @@ abbrev pub grace_period_of : Option Data → Result ℕ ManifestFault
 grace_period_of None = Ok 30
 grace_period_of (Some d) = grace_period_from (option_and_then as_u64 (as_number d))
 
--- the array that a container of this role stands in
-abbrev pub place_of : Role → Field
-place_of Init = fields.InitContainers
-place_of App = fields.Containers
+-- the field of an array of containers
+abbrev pub field_of : Place → Field
+field_of InitContainers = fields.InitContainers
+field_of Containers = fields.Containers
 
--- one container; a restart policy of its own would make it a sidecar
-unfoldable pub container_of : Role → Data → Result ContainerSpec ManifestFault
-container_of role d = do
-  object ← object_of (place_of role) (Some d)
+-- of the restart policies of its own that an item of `initContainers` may have there is one, which makes it a sidecar
+abbrev pub sidecar_from : Option (List ℕ) → Result Role ManifestFault
+sidecar_from None = Err faults.Sidecar
+sidecar_from (Some text) = if bytes_eq text (codes "Always") then Ok Sidecar else Err faults.Sidecar
+
+-- what a container is to its pod, by where it is written and by its own restart policy
+abbrev pub role_of : Place → Option Data → Result Role ManifestFault
+role_of InitContainers None = Ok Init
+role_of InitContainers (Some d) = sidecar_from (as_str d)
+role_of Containers None = Ok App
+role_of Containers (Some d) = Err faults.Sidecar
+
+-- one container
+unfoldable pub container_of : Place → Data → Result ContainerSpec ManifestFault
+container_of place d = do
+  object ← object_of (field_of place) (Some d)
   name ← required_text is_label fields.ContainerName (field_at (codes "name") object)
-  own_policy ← absent Sidecar (field_at (codes "restartPolicy") object)
+  role ← role_of place (field_at (codes "restartPolicy") object)
   resources ← resources_of (field_at (codes "resources") object)
   probes ← probes_of role object
   Ok (record { name = name; role = role; resources = resources; probes = probes })
@@ -76,12 +91,12 @@ few init apps = refused_if (nat_lt 16 (length init + length apps)) TooMany
 abbrev pub apart : List ContainerSpec → Result ⊤ ManifestFault
 apart cs = refused_if (has_twice cs) DuplicateContainer
 
--- the containers of the two arrays' items, the init containers first
+-- the containers of the two arrays' items, those of `initContainers` first
 unfoldable pub containers_of : List Data → List Data → Result (List ContainerSpec) ManifestFault
 containers_of init_items items = do
   within_limit ← few init_items items
-  init ← each (container_of Init) init_items
-  apps ← each (container_of App) items
+  init ← each (container_of InitContainers) init_items
+  apps ← each (container_of Containers) items
   names_apart ← apart (init ++ apps)
   Ok (init ++ apps)
 

@@ -8,7 +8,7 @@ use Rattle.manifest.specs.declared.fault.Field.TheVariants as fields
 use Rattle.manifest.specs.declared.fault.ManifestFault.{ManifestFault}
 use Rattle.manifest.specs.declared.fault.ManifestFault.TheVariants.{WrongKind, ProbeRange, InitProbe}
 use Rattle.manifest.specs.declared.pod.Role.{Role}
-use Rattle.manifest.specs.declared.pod.Role.TheVariants.{Init, App}
+use Rattle.manifest.specs.declared.pod.Role.TheVariants.{Init, Sidecar, App}
 use Rattle.manifest.specs.Probe.{Probe, Probes, no_probes}
 use Rattle.manifest.specs.Fields.{object_of, absent}
 
@@ -46,22 +46,23 @@ abbrev pub probe_of : ℕ → Option Data → Result (Option Probe) ManifestFaul
 probe_of most_successes None = Ok None
 probe_of most_successes (Some d) = probe_in most_successes d >>= λ p. Ok (Some p)
 
--- an app container's probes: one success is enough for startup and liveness
-unfoldable pub app_probes : Data → Result Probes ManifestFault
-app_probes d = do
+-- the probes of an app container or a sidecar: one success is enough for startup and liveness
+unfoldable pub some_probes : Data → Result Probes ManifestFault
+some_probes d = do
   startup ← probe_of 1 (field_at (codes "startupProbe") d)
   liveness ← probe_of 1 (field_at (codes "livenessProbe") d)
   readiness ← probe_of greatest (field_at (codes "readinessProbe") d)
   Ok (record { startup = startup; liveness = liveness; readiness = readiness })
 
 -- an init container has none
-unfoldable pub init_probes : Data → Result Probes ManifestFault
-init_probes d = do
+unfoldable pub unprobed : Data → Result Probes ManifestFault
+unprobed d = do
   startup ← absent InitProbe (field_at (codes "startupProbe") d)
   liveness ← absent InitProbe (field_at (codes "livenessProbe") d)
   readiness ← absent InitProbe (field_at (codes "readinessProbe") d)
   Ok no_probes
 
 abbrev pub probes_of : Role → Data → Result Probes ManifestFault
-probes_of Init d = init_probes d
-probes_of App d = app_probes d
+probes_of Init d = unprobed d
+probes_of Sidecar d = some_probes d
+probes_of App d = some_probes d

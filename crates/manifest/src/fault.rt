@@ -47,13 +47,13 @@ pub enum ManifestFault {
     Quantity(QuantityFault),
     #[error("a number of a probe is out of its range")]
     ProbeRange,
-    #[error("an init container has a probe")]
+    #[error("an init container that is no sidecar has a probe")]
     InitProbe,
     #[error("a resource's request is above its limit")]
     RequestAboveLimit,
     #[error("two containers have one name")]
     DuplicateContainer,
-    #[error("a container has a restart policy of its own")]
+    #[error("a container has a restart policy of its own that doesn't make it a sidecar")]
     Sidecar,
     #[error("more than 16 containers")]
     TooMany,

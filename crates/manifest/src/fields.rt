@@ -2,7 +2,7 @@
 
 ghost use Rattle.std.specs.Prelude.{◌≡◌, ◌<◌, length, map, option_map, IfOk};
 ghost use Rattle.serde_json.specs.View.{view};
-ghost use Rattle.manifest.specs.Gives.{Gives};
+ghost use Rattle.manifest.specs.Gives.{Gives, GivesExactly};
 ghost use Rattle.manifest.specs.Fields.{object_of, array_of, array_or_none, some_items, text_of, required_text, text_or, absent};
 ghost use Rattle.manifest.specs.Grammar.{passes};
 
@@ -13,7 +13,7 @@ use serde_json::Value;
 use std::alloc::Global;
 
 pub(crate) fn object(field: Field, found: Option<&Value>) -> Result<&Value, ManifestFault>
-    ensures { Gives (λ v. view v.now) result (object_of field (option_map (λ v. view v.now) found.entry)) }
+    ensures { GivesExactly (λ v. view v.now) result (object_of field (option_map (λ v. view v.now) found.entry)) }
 {
     match found {
         None => Err(ManifestFault::Missing(field)),
@@ -23,7 +23,7 @@ pub(crate) fn object(field: Field, found: Option<&Value>) -> Result<&Value, Mani
 }
 
 pub(crate) fn array(field: Field, found: Option<&Value>) -> Result<&[Value], ManifestFault>
-    ensures { Gives (λ v. map view v.now) result (array_of field (option_map (λ v. view v.now) found.entry)) }
+    ensures { GivesExactly (λ v. map view v.now) result (array_of field (option_map (λ v. view v.now) found.entry)) }
 {
     let Some(value) = found else {
         return Err(ManifestFault::Missing(field));
@@ -35,7 +35,7 @@ pub(crate) fn array(field: Field, found: Option<&Value>) -> Result<&[Value], Man
 }
 
 pub(crate) fn array_or_none(field: Field, found: Option<&Value>) -> Result<&[Value], ManifestFault>
-    ensures { Gives (λ v. map view v.now) result (array_or_none field (option_map (λ v. view v.now) found.entry)) }
+    ensures { GivesExactly (λ v. map view v.now) result (array_or_none field (option_map (λ v. view v.now) found.entry)) }
 {
     if found.is_none() {
         return Ok(&[]);
@@ -44,7 +44,7 @@ pub(crate) fn array_or_none(field: Field, found: Option<&Value>) -> Result<&[Val
 }
 
 pub(crate) fn some_items(field: Field, values: &[Value]) -> Result<&[Value], ManifestFault>
-    ensures gives { Gives (λ v. map view v.now) result (some_items field (map view values.now)) }
+    ensures gives { GivesExactly (λ v. map view v.now) result (some_items field (map view values.now)) }
     ensures same { IfOk result (λ v. (v.now ≡ values.now) × (0 < length v.now)) }
 {
     if values.is_empty() {
@@ -55,7 +55,7 @@ pub(crate) fn some_items(field: Field, values: &[Value]) -> Result<&[Value], Man
 
 /// A field that has to be absent.
 pub(crate) fn absent(fault: ManifestFault, found: Option<&Value>) -> Result<(), ManifestFault>
-    ensures { Gives (λ t. t) result (absent fault (option_map (λ v. view v.now) found.entry)) }
+    ensures { GivesExactly (λ t. t) result (absent fault (option_map (λ v. view v.now) found.entry)) }
 {
     match found {
         None => Ok(()),

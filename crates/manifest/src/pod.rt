@@ -13,11 +13,15 @@ use std::alloc::{AllocError, Global};
 use std::marker::Model;
 
 /// What a container is to its pod.
-/// (Kubernetes, "Init Containers".)
 #[derive(Clone, Copy, Debug, PartialEq, Eq)]
 pub enum Role {
-    /// It has to end well before the containers after it start.
+    /// An item of `initContainers` that has to end well before the containers after it start.
+    /// (Kubernetes, "Init Containers".)
     Init,
+    /// An item of `initContainers` with the restart policy `Always` of its own: once it has started, the containers
+    /// after it start, and it goes on running beside them. (Kubernetes, "Sidecar Containers".)
+    Sidecar,
+    /// An item of `containers`.
     App,
 }
 
@@ -26,13 +30,22 @@ pub enum Role {
 pub struct ContainerSpec {
     /// At most 63 bytes, with no point.
     pub name: Text,
-    pub role: Role,
+    pub(crate) role: Role,
     pub resources: Resources,
     pub probes: Probes,
 }
 
-/// The containers of a pod: init containers, then at least one app container, at most 16 together, no two of one name.
-/// An init container has no probes. Contracts see them as a list.
+impl ContainerSpec {
+    /// What the container is to its pod.
+    pub fn role(&self) -> Role
+        ensures { result ≡ self.now.role }
+    {
+        self.role
+    }
+}
+
+/// The containers of a pod: init containers and sidecars in their order, then at least one app container, at most 16
+/// together, no two of one name. An init container has no probes. Contracts see them as a list.
 #[derive(Drop)]
 pub struct ContainerList {
     items: Vec<ContainerSpec>,
@@ -52,8 +65,7 @@ impl Model for ContainerList {
 }
 
 impl ContainerList {
-    ghost use Rattle.std.specs.Prelude.{count_by};
-    ghost use Rattle.manifest.specs.Containers.{AreContainers, names_of, is_init_container};
+    ghost use Rattle.manifest.specs.Containers.{AreContainers, names_of, has_only_apps};
 
     /// The containers, numbered by their places.
     pub(crate) fn new(alloc: Global, items: Vec<ContainerSpec>) -> Result<ContainerList, AllocError>
@@ -72,12 +84,11 @@ impl ContainerList {
         self.items.as_slice()
     }
 
-    /// How many of them are init containers: they have the lowest numbers.
-    pub fn init_count(&self) -> usize
-        ensures count { result ≡ count_by is_init_container self.now }
-        ensures first { (are : AreContainers self.now) → result ≡ length are.init }
+    /// Whether none of them is an init container or a sidecar.
+    pub fn has_only_apps(&self) -> bool
+        ensures { result ≡ has_only_apps self.now }
     {
-        init_count_of(&self.items)
+        has_only_apps(&self.items)
     }
 
     /// The number of the container with this name, if there is one.
@@ -88,17 +99,18 @@ impl ContainerList {
     }
 }
 
-ghost use Rattle.std.specs.Prelude.{count_by};
-ghost use Rattle.manifest.specs.Containers.{AreContainers, names_of, is_init_container};
+ghost use Rattle.manifest.specs.Containers.{AreContainers, names_of, has_only_apps, is_app};
 
-/// How many of the containers are init containers.
-fn init_count_of(containers: &[ContainerSpec]) -> usize
-    ensures { result ≡ count_by is_init_container containers.now }
+fn is_app(role: Role) -> bool
+    ensures { result ≡ is_app role }
 {
-    containers
-        .iter()
-        .filter(|container| container.role == Role::Init)
-        .count()
+    matches!(role, Role::App)
+}
+
+fn has_only_apps(containers: &[ContainerSpec]) -> bool
+    ensures { result ≡ has_only_apps containers.now }
+{
+    containers.iter().all(|container| is_app(container.role))
 }
 
 /// The names of the containers, each with its container's number.

@@ -3,9 +3,9 @@
 ghost use Rattle.std.specs.Prelude.{◌≡◌, ◌≤◌, ◌<◌, ◌^◌, option_map, IfOk};
 ghost use Rattle.serde_json.specs.View.{view};
 ghost use Rattle.manifest.specs.declared.pod.Role.TheVariants.{Init};
-ghost use Rattle.manifest.specs.Gives.{Gives};
+ghost use Rattle.manifest.specs.Gives.{GivesExactly};
 ghost use Rattle.manifest.specs.Probe.{SucceedsByOne, no_probes};
-ghost use Rattle.manifest.specs.ProbeFields.{number_of, probe_in, probe_of, app_probes, init_probes, probes_of};
+ghost use Rattle.manifest.specs.ProbeFields.{number_of, probe_in, probe_of, some_probes, unprobed, probes_of};
 
 use crate::fault::{Field, ManifestFault};
 use crate::fields::{absent, object};
@@ -24,7 +24,7 @@ fn number_of(
     found: Option<&Value>,
 ) -> Result<u32, ManifestFault>
     requires { (least ≤ default) × (default ≤ most) }
-    ensures gives { Gives (λ n. n) result (number_of least most default (option_map (λ v. view v.now) found.entry)) }
+    ensures gives { GivesExactly (λ n. n) result (number_of least most default (option_map (λ v. view v.now) found.entry)) }
     ensures range { IfOk result (λ n. (least ≤ n) × (n ≤ most)) }
 {
     let Some(value) = found else {
@@ -43,7 +43,7 @@ fn number_of(
 #[tactic(auto, unfolding(crate::specs::ProbeFields::probe_in))]
 fn probe_in(most_successes: u32, value: &Value) -> Result<Probe, ManifestFault>
     requires { (1 ≤ most_successes) × (most_successes < 2 ^ 31) }
-    ensures gives { Gives (λ p. p) result (probe_in most_successes (view value.now)) }
+    ensures gives { GivesExactly (λ p. p) result (probe_in most_successes (view value.now)) }
     ensures most { IfOk result (λ p. p.success_threshold ≤ most_successes) }
     ensures least { IfOk result (λ p. 1 ≤ p.success_threshold) }
 {
@@ -58,7 +58,7 @@ fn probe_in(most_successes: u32, value: &Value) -> Result<Probe, ManifestFault>
 
 fn probe_of(most_successes: u32, found: Option<&Value>) -> Result<Option<Probe>, ManifestFault>
     requires { (1 ≤ most_successes) × (most_successes < 2 ^ 31) }
-    ensures gives { Gives (λ p. p) result (probe_of most_successes (option_map (λ v. view v.now) found.entry)) }
+    ensures gives { GivesExactly (λ p. p) result (probe_of most_successes (option_map (λ v. view v.now) found.entry)) }
     ensures by_one { most_successes ≡ 1 → IfOk result SucceedsByOne }
 {
     let Some(value) = found else {
@@ -67,9 +67,9 @@ fn probe_of(most_successes: u32, found: Option<&Value>) -> Result<Option<Probe>,
     Ok(Some(probe_in(most_successes, value)?))
 }
 
-#[tactic(auto, unfolding(crate::specs::ProbeFields::app_probes))]
-fn app_probes(container: &Value) -> Result<Probes, ManifestFault>
-    ensures { Gives (λ p. p) result (app_probes (view container.now)) }
+#[tactic(auto, unfolding(crate::specs::ProbeFields::some_probes))]
+fn some_probes(container: &Value) -> Result<Probes, ManifestFault>
+    ensures { GivesExactly (λ p. p) result (some_probes (view container.now)) }
 {
     let startup = probe_of(1, field(container, "startupProbe"))?;
     let liveness = probe_of(1, field(container, "livenessProbe"))?;
@@ -77,9 +77,9 @@ fn app_probes(container: &Value) -> Result<Probes, ManifestFault>
     Ok(Probes::new(startup, liveness, readiness))
 }
 
-#[tactic(auto, unfolding(crate::specs::ProbeFields::init_probes))]
-fn init_probes(container: &Value) -> Result<Probes, ManifestFault>
-    ensures gives { Gives (λ p. p) result (init_probes (view container.now)) }
+#[tactic(auto, unfolding(crate::specs::ProbeFields::unprobed))]
+fn unprobed(container: &Value) -> Result<Probes, ManifestFault>
+    ensures gives { GivesExactly (λ p. p) result (unprobed (view container.now)) }
     ensures none { IfOk result (λ p. p ≡ no_probes) }
 {
     absent(ManifestFault::InitProbe, field(container, "startupProbe"))?;
@@ -89,11 +89,11 @@ fn init_probes(container: &Value) -> Result<Probes, ManifestFault>
 }
 
 pub(crate) fn probes_of(role: Role, container: &Value) -> Result<Probes, ManifestFault>
-    ensures gives { Gives (λ p. p) result (probes_of role (view container.now)) }
+    ensures gives { GivesExactly (λ p. p) result (probes_of role (view container.now)) }
     ensures unprobed { role ≡ Init → IfOk result (λ p. p ≡ no_probes) }
 {
     match role {
-        Role::Init => init_probes(container),
-        Role::App => app_probes(container),
+        Role::Init => unprobed(container),
+        Role::Sidecar | Role::App => some_probes(container),
     }
 }

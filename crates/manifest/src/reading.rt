@@ -4,14 +4,12 @@ ghost use Rattle.std.specs.Prelude.{◌≡◌, ◌≤◌, ◌<◌, ◌+◌, ◌+
 ghost use Rattle.std.specs.List.{list_any};
 ghost use Rattle.serde_json.specs.View.{view};
 ghost use Rattle.json_fields.specs.Reading.{each};
-ghost use Rattle.manifest.specs.Gives.{Gives};
-ghost use Rattle.manifest.specs.Containers.{has_twice, IsOf, AllOf};
-ghost use Rattle.manifest.specs.Manifest.{policy_of, priority_of, grace_period_of, place_of, container_of, few, apart, containers_of, app_items_of, containers_in, metadata_of, settings_in, spec_of, pod_at};
+ghost use Rattle.manifest.specs.Gives.{Gives, GivesExactly};
+ghost use Rattle.manifest.specs.Containers.{has_twice, MayHave, IsOf, AllOf};
+ghost use Rattle.manifest.specs.Manifest.{policy_of, priority_of, grace_period_of, field_of, role_of, container_of, few, apart, containers_of, app_items_of, containers_in, metadata_of, settings_in, spec_of, pod_at};
 
 use crate::fault::{Field, ManifestFault};
-use crate::fields::{
-    Grammar, absent, array, array_or_none, object, required_text, some_items, text_or,
-};
+use crate::fields::{Grammar, array, array_or_none, object, required_text, some_items, text_or};
 use crate::grace::GracePeriod;
 use crate::pod::{ContainerList, ContainerSpec, PodSpec, Role};
 use crate::policy::Policy;
@@ -23,7 +21,7 @@ use serde_json::Value;
 use std::alloc::{AllocError, Global};
 
 fn policy_of(found: Option<&Value>) -> Result<Policy, ManifestFault>
-    ensures { Gives (λ p. p) result (policy_of (option_map (λ v. view v.now) found.entry)) }
+    ensures { GivesExactly (λ p. p) result (policy_of (option_map (λ v. view v.now) found.entry)) }
 {
     let Some(value) = found else {
         return Ok(Policy::Always);
@@ -37,7 +35,7 @@ fn policy_of(found: Option<&Value>) -> Result<Policy, ManifestFault>
 }
 
 fn priority_of(found: Option<&Value>) -> Result<i32, ManifestFault>
-    ensures { Gives (λ n. n) result (priority_of (option_map (λ v. view v.now) found.entry)) }
+    ensures { GivesExactly (λ n. n) result (priority_of (option_map (λ v. view v.now) found.entry)) }
 {
     let Some(value) = found else {
         return Ok(0);
@@ -49,7 +47,7 @@ fn priority_of(found: Option<&Value>) -> Result<i32, ManifestFault>
 }
 
 fn grace_period_of(found: Option<&Value>) -> Result<GracePeriod, ManifestFault>
-    ensures { Gives (λ n. n) result (grace_period_of (option_map (λ v. view v.now) found.entry)) }
+    ensures { GivesExactly (λ n. n) result (grace_period_of (option_map (λ v. view v.now) found.entry)) }
 {
     let Some(value) = found else {
         return Ok(GracePeriod::new(30));
@@ -60,29 +58,50 @@ fn grace_period_of(found: Option<&Value>) -> Result<GracePeriod, ManifestFault>
     }
 }
 
-/// The array that a container of this role stands in.
-fn place_of(role: Role) -> Field
-    ensures { result ≡ place_of role }
+/// The two arrays of containers in a pod's `spec`.
+#[derive(Clone, Copy)]
+enum Place {
+    InitContainers,
+    Containers,
+}
+
+fn field_of(place: Place) -> Field
+    ensures { result ≡ field_of place }
 {
-    match role {
-        Role::Init => Field::InitContainers,
-        Role::App => Field::Containers,
+    match place {
+        Place::InitContainers => Field::InitContainers,
+        Place::Containers => Field::Containers,
+    }
+}
+
+/// What a container is to its pod, by where it is written and by its own restart policy.
+fn role_of(place: Place, own_policy: Option<&Value>) -> Result<Role, ManifestFault>
+    ensures gives { GivesExactly (λ r. r) result (role_of place (option_map (λ v. view v.now) own_policy.entry)) }
+    ensures may_have { IfOk result (MayHave place) }
+{
+    match (place, own_policy) {
+        (Place::InitContainers, None) => Ok(Role::Init),
+        (Place::Containers, None) => Ok(Role::App),
+        (Place::InitContainers, Some(policy)) if policy.as_str() == Some("Always") => {
+            Ok(Role::Sidecar)
+        }
+        _ => Err(ManifestFault::Sidecar),
     }
 }
 
 #[tactic(auto, unfolding(crate::specs::Manifest::container_of))]
-fn container_of(alloc: Global, role: Role, value: &Value) -> Result<ContainerSpec, ManifestFault>
-    ensures gives { Gives (λ c. c) result (container_of role (view value.now)) }
-    ensures of { IfOk result (IsOf role) }
+fn container_of(alloc: Global, place: Place, value: &Value) -> Result<ContainerSpec, ManifestFault>
+    ensures gives { Gives (λ c. c) result (container_of place (view value.now)) }
+    ensures of { IfOk result (IsOf place) }
 {
-    let object = object(place_of(role), Some(value))?;
+    let object = object(field_of(place), Some(value))?;
     let name = required_text(
         alloc,
         Grammar::Label,
         Field::ContainerName,
         field(object, "name"),
     )?;
-    absent(ManifestFault::Sidecar, field(object, "restartPolicy"))?;
+    let role = role_of(place, field(object, "restartPolicy"))?;
     let resources = resources_of(field(object, "resources"))?;
     let probes = probes_of(role, object)?;
     Ok(ContainerSpec {
@@ -93,19 +112,19 @@ fn container_of(alloc: Global, role: Role, value: &Value) -> Result<ContainerSpe
     })
 }
 
-#[tactic(auto, using(crate::proofs::Roles::all_of_none))]
+#[tactic(auto, using(crate::proofs::Placed::all_of_none))]
 fn containers(
     alloc: Global,
-    role: Role,
+    place: Place,
     values: &[Value],
 ) -> Result<Vec<ContainerSpec>, ManifestFault>
-    ensures gives { Gives (λ cs. cs.items) result (each (container_of role) (map view values.now)) }
+    ensures gives { Gives (λ cs. cs.items) result (each (container_of place) (map view values.now)) }
     ensures as_many { IfOk result (λ cs. length cs.items ≡ length values.now) }
-    ensures roles { IfOk result (λ cs. AllOf role cs.items) }
+    ensures of { IfOk result (λ cs. AllOf place cs.items) }
 {
     let mut all = Vec::new(alloc);
     for value in values {
-        let container = container_of(alloc, role, value)?;
+        let container = container_of(alloc, place, value)?;
         all.push(container)?;
     }
     Ok(all)
@@ -131,7 +150,7 @@ fn has_twice(containers: &[ContainerSpec]) -> bool
 }
 
 fn few(init: &[Value], apps: &[Value]) -> Result<(), ManifestFault>
-    ensures gives { Gives (λ t. t) result (few (map view init.now) (map view apps.now)) }
+    ensures gives { GivesExactly (λ t. t) result (few (map view init.now) (map view apps.now)) }
     ensures within { OnOk result (length init.now + length apps.now ≤ 16) }
 {
     if init.len() + apps.len() > 16 {
@@ -141,7 +160,7 @@ fn few(init: &[Value], apps: &[Value]) -> Result<(), ManifestFault>
 }
 
 fn apart(containers: &[ContainerSpec]) -> Result<(), ManifestFault>
-    ensures gives { Gives (λ t. t) result (apart containers.now) }
+    ensures gives { GivesExactly (λ t. t) result (apart containers.now) }
     ensures apart { OnOk result (has_twice containers.now ≡ false) }
 {
     if has_twice(containers) {
@@ -173,8 +192,8 @@ fn containers_of(
     ensures { Gives (λ cs. cs) result (containers_of (map view init_items.now) (map view items.now)) }
 {
     few(init_items, items)?;
-    let init = containers(alloc, Role::Init, init_items)?;
-    let apps = containers(alloc, Role::App, items)?;
+    let init = containers(alloc, Place::InitContainers, init_items)?;
+    let apps = containers(alloc, Place::Containers, items)?;
     let all = joined(init, apps)?;
     apart(&all)?;
     Ok(ContainerList::new(alloc, all)?)
@@ -183,7 +202,7 @@ fn containers_of(
 /// The items of an array of app containers, of which there is at least one.
 #[tactic(auto, unfolding(crate::specs::Manifest::app_items_of))]
 fn app_items_of(found: Option<&Value>) -> Result<&[Value], ManifestFault>
-    ensures gives { Gives (λ v. map view v.now) result (app_items_of (option_map (λ v. view v.now) found.entry)) }
+    ensures gives { GivesExactly (λ v. map view v.now) result (app_items_of (option_map (λ v. view v.now) found.entry)) }
     ensures some { IfOk result (λ v. 0 < length v.now) }
 {
     let listed = array(Field::Containers, found)?;
@@ -232,7 +251,7 @@ struct Settings {
 
 #[tactic(auto, unfolding(crate::specs::Manifest::settings_in))]
 fn settings_in(spec: &Value) -> Result<Settings, ManifestFault>
-    ensures { Gives (λ s. s) result (settings_in (view spec.now)) }
+    ensures { GivesExactly (λ s. s) result (settings_in (view spec.now)) }
 {
     let policy = policy_of(field(spec, "restartPolicy"))?;
     let priority = priority_of(field(spec, "priority"))?;

@@ -3,7 +3,7 @@
 ghost use Rattle.std.specs.Prelude.{◌≡◌, false, option_map, OnOk};
 ghost use Rattle.serde_json.specs.Find.{as_str};
 ghost use Rattle.serde_json.specs.View.{view};
-ghost use Rattle.manifest.specs.Gives.{Gives};
+ghost use Rattle.manifest.specs.Gives.{GivesExactly};
 ghost use Rattle.manifest.specs.Resources.{some_above};
 ghost use Rattle.manifest.specs.ResourceFields.{quantity_read, quantity_from, quantity_at, amounts_in, amounts_of, within, resources_in, resources_of};
 ghost use Rattle.quantity.specs.Quantity.{quantity_of};
@@ -16,7 +16,7 @@ use quantity::{Quantity, QuantityFault};
 use serde_json::Value;
 
 fn quantity_read(text: &[u8]) -> Result<Quantity, ManifestFault>
-    ensures { Gives (λ q. q) result (quantity_read (quantity_of text.now)) }
+    ensures { GivesExactly (λ q. q) result (quantity_read (quantity_of text.now)) }
 {
     match Quantity::parse(text) {
         Ok(quantity) => Ok(quantity),
@@ -25,7 +25,7 @@ fn quantity_read(text: &[u8]) -> Result<Quantity, ManifestFault>
 }
 
 fn quantity_from(value: &Value) -> Result<Quantity, ManifestFault>
-    ensures { Gives (λ q. q) result (quantity_from (view value.now) (as_str (view value.now))) }
+    ensures { GivesExactly (λ q. q) result (quantity_from (view value.now) (as_str (view value.now))) }
 {
     if let Some(text) = value.as_str() {
         return quantity_read(text.as_bytes());
@@ -38,7 +38,7 @@ fn quantity_from(value: &Value) -> Result<Quantity, ManifestFault>
 }
 
 fn quantity_at(found: Option<&Value>) -> Result<Option<Quantity>, ManifestFault>
-    ensures { Gives (λ q. q) result (quantity_at (option_map (λ v. view v.now) found.entry)) }
+    ensures { GivesExactly (λ q. q) result (quantity_at (option_map (λ v. view v.now) found.entry)) }
 {
     let Some(value) = found else {
         return Ok(None);
@@ -48,7 +48,7 @@ fn quantity_at(found: Option<&Value>) -> Result<Option<Quantity>, ManifestFault>
 
 #[tactic(auto, unfolding(crate::specs::ResourceFields::amounts_in))]
 fn amounts_in(value: &Value) -> Result<Amounts, ManifestFault>
-    ensures { Gives (λ a. a) result (amounts_in (view value.now)) }
+    ensures { GivesExactly (λ a. a) result (amounts_in (view value.now)) }
 {
     let amounts = object(Field::Resources, Some(value))?;
     let cpu = quantity_at(field(amounts, "cpu"))?;
@@ -62,7 +62,7 @@ fn amounts_in(value: &Value) -> Result<Amounts, ManifestFault>
 }
 
 fn amounts_of(found: Option<&Value>) -> Result<Amounts, ManifestFault>
-    ensures { Gives (λ a. a) result (amounts_of (option_map (λ v. view v.now) found.entry)) }
+    ensures { GivesExactly (λ a. a) result (amounts_of (option_map (λ v. view v.now) found.entry)) }
 {
     match found {
         None => Ok(Amounts::nothing()),
@@ -71,7 +71,7 @@ fn amounts_of(found: Option<&Value>) -> Result<Amounts, ManifestFault>
 }
 
 fn within(requests: &Amounts, limits: &Amounts) -> Result<(), ManifestFault>
-    ensures gives { Gives (λ t. t) result (within requests.now limits.now) }
+    ensures gives { GivesExactly (λ t. t) result (within requests.now limits.now) }
     ensures within { OnOk result (some_above requests.now limits.now ≡ false) }
 {
     if requests.some_above(limits) {
@@ -82,7 +82,7 @@ fn within(requests: &Amounts, limits: &Amounts) -> Result<(), ManifestFault>
 
 #[tactic(auto, unfolding(crate::specs::ResourceFields::resources_in))]
 fn resources_in(value: &Value) -> Result<Resources, ManifestFault>
-    ensures { Gives (λ r. r) result (resources_in (view value.now)) }
+    ensures { GivesExactly (λ r. r) result (resources_in (view value.now)) }
 {
     let resources = object(Field::Resources, Some(value))?;
     let requests = amounts_of(field(resources, "requests"))?;
@@ -92,7 +92,7 @@ fn resources_in(value: &Value) -> Result<Resources, ManifestFault>
 }
 
 pub(crate) fn resources_of(found: Option<&Value>) -> Result<Resources, ManifestFault>
-    ensures { Gives (λ r. r) result (resources_of (option_map (λ v. view v.now) found.entry)) }
+    ensures { GivesExactly (λ r. r) result (resources_of (option_map (λ v. view v.now) found.entry)) }
 {
     match found {
         None => Ok(Resources::none()),

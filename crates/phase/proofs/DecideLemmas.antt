@@ -1,16 +1,19 @@
--- Each case of the raw phase of views holds or does not, so one of them is the first that does.
+-- Each case of the raw phase holds or does not, where each container's part in it does, so one of them is the first
+-- that holds.
 use Rattle.std.proofs.Common.{◌≡◌, ◌≢◌, inl, inr, ℤ, pos, Bool, true, false, List, Option, Some, None, refl, ap, subst, sym, ◌∙◌, arith}
 use Rattle.std.specs.Prelude.{IsTrue}
 use Rattle.std.proofs.lemmas.Bool.Decides.{Decides-int_eq}
 use Rattle.histories.proofs.Decide.{OrNot, of_test, negated, both, either, all_or_not, any_or_not}
 use Rattle.manifest.specs.declared.policy.Policy.{Policy}
 use Rattle.manifest.specs.declared.policy.Policy.TheVariants.{Always, OnFailure, Never}
+use Rattle.manifest.specs.declared.pod.Role.{Role}
+use Rattle.manifest.specs.declared.pod.Role.TheVariants.{Init, Sidecar, App}
 use Rattle.manifest.specs.Policy.{WantsRestart}
 use Rattle.phase.specs.declared.phase.Phase.{Phase}
 use Rattle.phase.specs.declared.phase.Phase.TheVariants.{Pending, Running, Succeeded, Failed}
 use Rattle.phase.specs.declared.view.ContainerView.{ContainerView}
-use Rattle.phase.specs.Facts.{of_view, exit_code, HasCompleted, HasFailed, HasFinished}
-use Rattle.phase.specs.RawPhase.{IsRawPhase}
+use Rattle.phase.specs.Facts.{Facts, of_view, exit_code, HasCompleted, HasFailed, HasFinished}
+use Rattle.phase.specs.RawPhase.{IsRawPhase, IsFailedInit, IsAwaited, HaveFinished}
 
 -- the codes
 zero_or_not : (code : ℤ) → OrNot (code ≡ pos 0)
@@ -33,7 +36,7 @@ failed_or_not view = there (exit_code view)
       | inr n ↦ inl (code, refl, n)
     ]
 
-wants_or_not : (policy : Policy) (code : ℤ) → OrNot (WantsRestart policy false code)
+wants_or_not : (policy : Policy) (code : ℤ) → OrNot (WantsRestart policy App code)
 wants_or_not Always code = inl tt
 wants_or_not OnFailure code = negated (zero_or_not code)
 wants_or_not Never code = inr (λ w. w)
@@ -48,7 +51,7 @@ finished_or_not policy view = there (exit_code view) refl
           let x : exit_code view ≡ Some w.code = w.exited in
           let y : Some code ≡ Some w.code = sym e ∙ x in
           let same : code ≡ w.code = cc in
-          let P : ℤ → Type 0 = λ k. WantsRestart policy false k in
+          let P : ℤ → Type 0 = λ k. WantsRestart policy App k in
           w.wants_none (subst P same wants))
       | inr none ↦ inl (record { code = code; exited = e; wants_none = none })
     ]
@@ -58,26 +61,68 @@ never_or_not Never = inl refl
 never_or_not Always = inr (λ e. cc)
 never_or_not OnFailure = inr (λ e. cc)
 
-set_up_or_not : (view : ContainerView) → OrNot (of_view.set_up view)
-set_up_or_not view = there view.set_up
-  where
-    there : (b : Bool) → OrNot (IsTrue b)
-    there true = inl refl
-    there false = inr (λ e. let x : IsTrue false = e in cc)
+true_or_not : (b : Bool) → OrNot (IsTrue b)
+true_or_not true = inl refl
+true_or_not false = inr (λ e. let x : IsTrue false = e in cc)
+
+init_or_not : (role : Role) → OrNot (role ≡ Init)
+init_or_not Init = inl refl
+init_or_not Sidecar = inr (λ e. cc)
+init_or_not App = inr (λ e. cc)
+
+sidecar_or_not : (role : Role) → OrNot (role ≡ Sidecar)
+sidecar_or_not Sidecar = inl refl
+sidecar_or_not Init = inr (λ e. cc)
+sidecar_or_not App = inr (λ e. cc)
+
+app_or_not : (role : Role) → OrNot (role ≡ App)
+app_or_not App = inl refl
+app_or_not Init = inr (λ e. cc)
+app_or_not Sidecar = inr (λ e. cc)
+
+implied : {P Q : Type 0} → OrNot P → OrNot Q → OrNot (P → Q)
+implied p (inl q) = inl (λ x. q)
+implied (inl p) (inr n) = inr (λ f. n (f p))
+implied (inr m) (inr n) = inl (λ p. absurd (m p))
+
+-- a container's part in each case holds or does not
+pub record IsDecided {C : Type 0} (facts : Facts C) (policy : Policy) (container : C) : Type 0 where
+  pub failed_init : OrNot (IsFailedInit facts container)
+  pub awaited : OrNot (IsAwaited facts container)
+  pub finishes : OrNot (facts.is container App → HasFinished facts policy container)
+  pub completes : OrNot (facts.is container App → HasCompleted facts container)
+  pub failed_app : OrNot (facts.is container App × HasFailed facts container)
+
+-- that of a view
+view_decided : (policy : Policy) (view : ContainerView) → IsDecided of_view policy view
+view_decided policy view = record {
+  failed_init = both (init_or_not view.role) (failed_or_not view);
+  awaited = either (both (init_or_not view.role) (negated (completed_or_not view)))
+      (either (both (sidecar_or_not view.role) (negated (true_or_not view.was_started))) (both (app_or_not view.role) (negated (true_or_not view.set_up))));
+  finishes = implied (app_or_not view.role) (finished_or_not policy view);
+  completes = implied (app_or_not view.role) (completed_or_not view);
+  failed_app = both (app_or_not view.role) (failed_or_not view);
+}
 
 -- the first case that holds
-pub some_raw_phase : (policy : Policy) (inits apps : List ContainerView) → (p : Phase) × IsRawPhase of_view policy inits apps p
-some_raw_phase policy inits apps = elim (both (never_or_not policy) (any_or_not (HasFailed of_view) failed_or_not inits)) [
+pub some_raw_phase : {C : Type 0} (facts : Facts C) (policy : Policy) → ((container : C) → IsDecided facts policy container)
+    → (containers : List C) → (p : Phase) × IsRawPhase facts policy containers p
+some_raw_phase facts policy each containers = elim (both (never_or_not policy) (any_or_not _ (λ c. (each c).failed_init) containers)) [
   | inl one ↦ (Failed, inl (one, refl))
-  | inr not_one ↦ elim (either (any_or_not (λ c. HasCompleted of_view c → ⊥) (λ c. negated (completed_or_not c)) inits)
-      (any_or_not (λ c. of_view.set_up c → ⊥) (λ c. negated (set_up_or_not c)) apps)) [
-        | inl two ↦ (Pending, inr (not_one, inl (two, refl)))
-        | inr not_two ↦ elim (both (all_or_not (HasFinished of_view policy) (finished_or_not policy) apps) (all_or_not (HasCompleted of_view) completed_or_not apps)) [
-          | inl three ↦ (Succeeded, inr (not_one, inr (not_two, inl (three, refl))))
-          | inr not_three ↦ elim (both (all_or_not (HasFinished of_view policy) (finished_or_not policy) apps) (any_or_not (HasFailed of_view) failed_or_not apps)) [
-            | inl four ↦ (Failed, inr (not_one, inr (not_two, inr (not_three, inl (four, refl)))))
-            | inr not_four ↦ (Running, inr (not_one, inr (not_two, inr (not_three, inr (not_four, refl)))))
-          ]
-        ]
+  | inr not_one ↦ elim (any_or_not _ (λ c. (each c).awaited) containers) [
+    | inl two ↦ (Pending, inr (not_one, inl (two, refl)))
+    | inr not_two ↦ elim (both finished (all_or_not _ (λ c. (each c).completes) containers)) [
+      | inl three ↦ (Succeeded, inr (not_one, inr (not_two, inl (three, refl))))
+      | inr not_three ↦ elim (both finished (any_or_not _ (λ c. (each c).failed_app) containers)) [
+        | inl four ↦ (Failed, inr (not_one, inr (not_two, inr (not_three, inl (four, refl)))))
+        | inr not_four ↦ (Running, inr (not_one, inr (not_two, inr (not_three, inr (not_four, refl)))))
       ]
+    ]
+  ]
 ]
+  where
+    finished : OrNot (HaveFinished facts policy containers)
+    finished = all_or_not _ (λ c. (each c).finishes) containers
+
+pub some_of_views : (policy : Policy) (views : List ContainerView) → (p : Phase) × IsRawPhase of_view policy views p
+some_of_views policy views = some_raw_phase of_view policy (view_decided policy) views

@@ -1,10 +1,3 @@
 pub mod ConditionLemmas
 pub mod PhaseLemmas
-pub mod ViewLemmas
-pub mod EndLemmas
-pub mod StatusLemmas
-pub mod ContainerLemmas
-pub mod HistoryLemmas
 pub mod DecideLemmas
-pub mod UniqueLemmas
-pub mod LawLemmas

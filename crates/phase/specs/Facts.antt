@@ -1,38 +1,38 @@
--- What the rules ask of one container (Kubernetes, "Pod Lifecycle", "Pod phase" and "Container restart policy"). C is what describes it: a
--- view, or the listings of all its instances.
-use Rattle.std.specs.Prelude.{◌≡◌, ◌≢◌, ℕ, ℤ, pos, false, List, Option, Some, IsSomeAnd, IsTrue, option_and_then}
+-- What the rules ask of one container (Kubernetes, "Pod Lifecycle", "Pod phase" and "Container restart policy"; "Init
+-- Containers"; "Sidecar Containers"). C is what describes it: a view, or its number in a pod with a history.
+use Rattle.std.specs.Prelude.{◌≡◌, ◌≢◌, ℤ, pos, Option, Some, IsSomeAnd, IsTrue, option_and_then}
 use Rattle.state_diff.specs.declared.seen.CriState.TheVariants.{Running}
-use Rattle.state_diff.specs.Instances.{Tick, IsNewest, IsState, IsExitCode, IsSetUp}
 use Rattle.manifest.specs.declared.policy.Policy.{Policy}
+use Rattle.manifest.specs.declared.pod.Role.{Role}
+use Rattle.manifest.specs.declared.pod.Role.TheVariants.{App}
 use Rattle.manifest.specs.Policy.{WantsRestart}
 use Rattle.phase.specs.declared.view.ContainerView.{ContainerView}
 
 pub record Facts (C : Type 0) : Type 1 where
+  -- it has this role in its pod
+  pub is : C → Role → Type 0
   -- its newest instance has exited with the code
   pub exited : C → ℤ → Type 0
-  -- its newest instance is running
-  pub running : C → Type 0
   -- one of its instances has started or exited
   pub set_up : C → Type 0
+  -- at some tick it was started, its startup probe passed
+  pub was_started : C → Type 0
 
 -- the exit code of the newest instance, if it has exited
 abbrev pub exit_code : ContainerView → Option ℤ
 exit_code view = option_and_then (λ seen. seen.code) view.seen
 
+-- the newest instance is running
+abbrev pub IsRunning : ContainerView → Type 0
+IsRunning view = IsSomeAnd view.seen (λ seen. seen.state ≡ Running)
+
 -- the facts that a view shows
 abbrev pub of_view : Facts ContainerView
 of_view = record {
+  is = λ view role. view.role ≡ role;
   exited = λ view code. exit_code view ≡ Some code;
-  running = λ view. IsSomeAnd view.seen (λ seen. seen.state ≡ Running);
   set_up = λ view. IsTrue view.set_up;
-}
-
--- the facts that a container's listings show
-abbrev pub of_listings : Facts (List Tick)
-of_listings = record {
-  exited = λ h code. (a : ℕ) × IsNewest h a × IsExitCode h a code;
-  running = λ h. (a : ℕ) × IsNewest h a × IsState h a Running;
-  set_up = IsSetUp;
+  was_started = λ view. IsTrue view.was_started;
 }
 
 -- its newest instance has exited with 0
@@ -47,4 +47,4 @@ HasFailed facts container = (code : ℤ) × facts.exited container code × (code
 pub record HasFinished {C : Type 0} (facts : Facts C) (policy : Policy) (container : C) : Type 0 where
   pub code : ℤ
   pub exited : facts.exited container code
-  pub wants_none : WantsRestart policy false code → ⊥
+  pub wants_none : WantsRestart policy App code → ⊥

@@ -1,7 +1,5 @@
 pub mod Facts
 pub mod RawPhase
 pub mod Conditions
-pub mod Pods
-pub mod Containers
-pub mod Status
+pub mod Views
 pub mod Laws

@@ -1,43 +1,69 @@
--- The phase of a pod by the present state of its containers alone (Kubernetes, "Pod Lifecycle", "Pod phase"; the order of the cases is
--- this profile's).
+-- The phase of a pod by the present state of its containers alone (Kubernetes, "Pod Lifecycle", "Pod phase"; "Init
+-- Containers"; "Sidecar Containers"; the order of the cases is this profile's).
 use Rattle.std.specs.Prelude.{◌≡◌, ◌⊎◌, List, All, Any}
 use Rattle.manifest.specs.declared.policy.Policy.{Policy}
 use Rattle.manifest.specs.declared.policy.Policy.TheVariants.{Never}
+use Rattle.manifest.specs.declared.pod.Role.TheVariants.{Init, Sidecar, App}
 use Rattle.phase.specs.declared.phase.Phase.{Phase}
 use Rattle.phase.specs.declared.phase.Phase.TheVariants.{Pending, Running, Succeeded, Failed}
 use Rattle.phase.specs.Facts.{Facts, HasCompleted, HasFailed, HasFinished}
 
+-- an init container that has failed
+abbrev pub IsFailedInit : {C : Type 0} → Facts C → C → Type 0
+IsFailedInit facts container = facts.is container Init × HasFailed facts container
+
 -- some init container has failed for good
 abbrev pub InitHasFailed : {C : Type 0} → Facts C → Policy → List C → Type 0
-InitHasFailed facts policy inits = (policy ≡ Never) × Any (HasFailed facts) inits
+InitHasFailed facts policy containers = (policy ≡ Never) × Any (IsFailedInit facts) containers
 
--- some init container hasn't completed, or some app container isn't set up
-abbrev pub IsStarting : {C : Type 0} → Facts C → List C → List C → Type 0
-IsStarting facts inits apps =
-    Any (λ container. HasCompleted facts container → ⊥) inits
-    ⊎ Any (λ container. facts.set_up container → ⊥) apps
+-- the pod waits for it: an init container that hasn't completed, a sidecar that was never started, or an app container
+-- that isn't set up
+abbrev pub IsAwaited : {C : Type 0} → Facts C → C → Type 0
+IsAwaited facts container =
+    (facts.is container Init × (HasCompleted facts container → ⊥))
+    ⊎ ((facts.is container Sidecar × (facts.was_started container → ⊥))
+    ⊎ (facts.is container App × (facts.set_up container → ⊥)))
 
--- every app container has finished, and each has completed
+-- the pod waits for some container
+abbrev pub IsStarting : {C : Type 0} → Facts C → List C → Type 0
+IsStarting facts containers = Any (IsAwaited facts) containers
+
+-- every app container has finished
+abbrev pub HaveFinished : {C : Type 0} → Facts C → Policy → List C → Type 0
+HaveFinished facts policy containers = All (λ container. facts.is container App → HasFinished facts policy container) containers
+
+-- and each has completed
 abbrev pub HaveSucceeded : {C : Type 0} → Facts C → Policy → List C → Type 0
-HaveSucceeded facts policy apps = All (HasFinished facts policy) apps × All (HasCompleted facts) apps
+HaveSucceeded facts policy containers =
+    HaveFinished facts policy containers × All (λ container. facts.is container App → HasCompleted facts container) containers
 
--- every app container has finished, and some has failed
+-- and some has failed
 abbrev pub HaveFailed : {C : Type 0} → Facts C → Policy → List C → Type 0
-HaveFailed facts policy apps = All (HasFinished facts policy) apps × Any (HasFailed facts) apps
+HaveFailed facts policy containers =
+    HaveFinished facts policy containers × Any (λ container. facts.is container App × HasFailed facts container) containers
 
 -- `here` where P holds, else `otherwise`
 abbrev pub Where : Type 0 → Type 0 → Type 0 → Type 0
 Where P here otherwise = (P × here) ⊎ ((P → ⊥) × otherwise)
 
--- the first case that holds says the phase
-abbrev pub IsRawPhase : {C : Type 0} → Facts C → Policy → List C → List C → Phase → Type 0
-IsRawPhase facts policy inits apps phase =
-    Where (InitHasFailed facts policy inits) (phase ≡ Failed)
-    (Where (IsStarting facts inits apps) (phase ≡ Pending)
-    (Where (HaveSucceeded facts policy apps) (phase ≡ Succeeded)
-    (Where (HaveFailed facts policy apps) (phase ≡ Failed)
+-- the first case that holds says the phase; a sidecar that still runs holds no pod in Running
+abbrev pub IsRawPhase : {C : Type 0} → Facts C → Policy → List C → Phase → Type 0
+IsRawPhase facts policy containers phase =
+    Where (InitHasFailed facts policy containers) (phase ≡ Failed)
+    (Where (IsStarting facts containers) (phase ≡ Pending)
+    (Where (HaveSucceeded facts policy containers) (phase ≡ Succeeded)
+    (Where (HaveFailed facts policy containers) (phase ≡ Failed)
     (phase ≡ Running))))
 
 -- a pod of this phase has ended
 abbrev pub IsTerminal : Phase → Type 0
 IsTerminal phase = (phase ≡ Succeeded) ⊎ (phase ≡ Failed)
+
+-- nothing before the app containers is still to be done for it: an init container has completed, and a sidecar was started
+pub record HasInitialized {C : Type 0} (facts : Facts C) (container : C) : Type 0 where
+  pub init : facts.is container Init → HasCompleted facts container
+  pub sidecar : facts.is container Sidecar → facts.was_started container
+
+-- the pod is initialized
+abbrev pub AreInitialized : {C : Type 0} → Facts C → List C → Type 0
+AreInitialized facts containers = All (HasInitialized facts) containers

@@ -1,4 +1,4 @@
-//! A pod's phase, its conditions and the states of its containers, by the newest instance of each container.
+//! A pod's phase by the newest instance of each container, the pod's conditions, and the states of its containers.
 //! (Kubernetes, "Pod Lifecycle".)
 #![tactic(auto)]
 
@@ -6,15 +6,9 @@ mod conditions;
 mod container;
 pub mod laws;
 mod phase;
-mod pod;
-mod policy;
-mod status;
 mod view;
 
 pub use conditions::{Condition, Conditions, Values};
-pub use container::{ContainerState, ContainerStatus, container_state, container_status};
-pub use phase::{Phase, raw_phase};
-pub use pod::PodShape;
-pub use policy::{is_never, is_restart_wanted};
-pub use status::PodStatus;
+pub use container::{ContainerState, container_state};
+pub use phase::{Phase, are_initialized, raw_phase};
 pub use view::ContainerView;

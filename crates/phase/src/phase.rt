@@ -1,17 +1,18 @@
-ghost use Rattle.std.specs.Prelude.{◌≡◌, ◌↔◌, ◌≤◌, ℕ, length, take, drop, All, Any, IsTrue};
+ghost use Rattle.std.specs.Prelude.{◌≡◌, ◌↔◌, All, Any, IsTrue};
+ghost use Rattle.manifest.specs.declared.policy.Policy.TheVariants.{Never};
+ghost use Rattle.manifest.specs.declared.pod.Role.TheVariants.{App};
 ghost use Rattle.phase.specs.Facts.{of_view, HasFailed, HasCompleted, HasFinished};
-ghost use Rattle.phase.specs.RawPhase.{IsRawPhase, InitHasFailed, IsStarting, HaveSucceeded, HaveFailed, IsTerminal};
+ghost use Rattle.phase.specs.RawPhase.{IsRawPhase, IsFailedInit, IsAwaited, InitHasFailed, IsStarting, HaveFinished, HaveSucceeded, HaveFailed, IsTerminal, AreInitialized};
 
-use crate::policy::is_never;
 use crate::view::ContainerView;
 use manifest::Policy;
 
 /// Where a pod stands in its life. (Kubernetes, "Pod Lifecycle", "Pod phase".)
 #[derive(Clone, Copy, Debug, PartialEq, Eq)]
 pub enum Phase {
-    /// Some init container has not completed, or some app container has not been set up.
+    /// Some init container has not completed, some sidecar was never started, or some app container has not been set up.
     Pending,
-    /// All containers have been set up, and some still runs or is to be restarted.
+    /// All containers have been set up, and some app container still runs or is to be restarted.
     Running,
     /// All app containers have exited with 0, and none is to be restarted.
     Succeeded,
@@ -29,86 +30,115 @@ impl Phase {
     }
 }
 
-fn any_failed(containers: &[ContainerView]) -> bool
-    ensures { IsTrue result ↔ Any (HasFailed of_view) containers.now }
+/// Whether no exit of a container without a policy of its own is followed by a restart.
+fn is_never(policy: Policy) -> bool
+    ensures { IsTrue result ↔ (policy ≡ Never) }
 {
-    containers.iter().any(|container| container.has_failed())
+    matches!(policy, Policy::Never)
 }
 
-pub fn all_completed(containers: &[ContainerView]) -> bool
-    ensures { IsTrue result ↔ All (HasCompleted of_view) containers.now }
+fn is_failed_init(container: &ContainerView) -> bool
+    ensures { IsTrue result ↔ IsFailedInit of_view container.now }
 {
-    containers.iter().all(|container| container.has_completed())
+    container.is_init() && container.has_failed()
 }
 
-pub fn all_running(containers: &[ContainerView]) -> bool
-    ensures { IsTrue result ↔ All of_view.running containers.now }
+fn is_failed_app(container: &ContainerView) -> bool
+    ensures { IsTrue result ↔ (of_view.is container.now App × HasFailed of_view container.now) }
 {
-    containers.iter().all(|container| container.is_running())
+    container.is_app() && container.has_failed()
 }
 
-fn any_incomplete(containers: &[ContainerView]) -> bool
-    ensures { IsTrue result ↔ Any (λ container. HasCompleted of_view container → ⊥) containers.now }
+/// No app container, or a finished one.
+fn finishes(policy: Policy, container: &ContainerView) -> bool
+    ensures { IsTrue result ↔ (of_view.is container.now App → HasFinished of_view policy container.now) }
+{
+    !container.is_app() || container.has_finished(policy)
+}
+
+/// No app container, or a completed one.
+fn completes(container: &ContainerView) -> bool
+    ensures { IsTrue result ↔ (of_view.is container.now App → HasCompleted of_view container.now) }
+{
+    !container.is_app() || container.has_completed()
+}
+
+fn any_failed_init(containers: &[ContainerView]) -> bool
+    ensures { IsTrue result ↔ Any (IsFailedInit of_view) containers.now }
+{
+    containers.iter().any(|container| is_failed_init(container))
+}
+
+fn any_failed_app(containers: &[ContainerView]) -> bool
+    ensures { IsTrue result
+        ↔ Any (λ container. of_view.is container App × HasFailed of_view container) containers.now }
+{
+    containers.iter().any(|container| is_failed_app(container))
+}
+
+fn all_complete(containers: &[ContainerView]) -> bool
+    ensures { IsTrue result
+        ↔ All (λ container. of_view.is container App → HasCompleted of_view container) containers.now }
+{
+    containers.iter().all(|container| completes(container))
+}
+
+fn have_finished(policy: Policy, containers: &[ContainerView]) -> bool
+    ensures { IsTrue result ↔ HaveFinished of_view policy containers.now }
 {
     containers
         .iter()
-        .any(|container| !container.has_completed())
+        .all(|container| finishes(policy, container))
 }
 
-fn any_not_set_up(containers: &[ContainerView]) -> bool
-    ensures { IsTrue result ↔ Any (λ container. of_view.set_up container → ⊥) containers.now }
+fn init_has_failed(policy: Policy, containers: &[ContainerView]) -> bool
+    ensures { IsTrue result ↔ InitHasFailed of_view policy containers.now }
 {
-    containers.iter().any(|container| !container.set_up)
+    is_never(policy) && any_failed_init(containers)
 }
 
-fn all_finished(policy: Policy, containers: &[ContainerView]) -> bool
-    ensures { IsTrue result ↔ All (HasFinished of_view policy) containers.now }
+fn is_starting(containers: &[ContainerView]) -> bool
+    ensures { IsTrue result ↔ IsStarting of_view containers.now }
 {
-    containers
-        .iter()
-        .all(|container| container.has_finished(policy))
+    containers.iter().any(|container| container.is_awaited())
 }
 
-fn init_has_failed(policy: Policy, inits: &[ContainerView]) -> bool
-    ensures { IsTrue result ↔ InitHasFailed of_view policy inits.now }
+fn have_succeeded(policy: Policy, containers: &[ContainerView]) -> bool
+    ensures { IsTrue result ↔ HaveSucceeded of_view policy containers.now }
 {
-    is_never(policy) && any_failed(inits)
+    have_finished(policy, containers) && all_complete(containers)
 }
 
-fn is_starting(inits: &[ContainerView], apps: &[ContainerView]) -> bool
-    ensures { IsTrue result ↔ IsStarting of_view inits.now apps.now }
+fn have_failed(policy: Policy, containers: &[ContainerView]) -> bool
+    ensures { IsTrue result ↔ HaveFailed of_view policy containers.now }
 {
-    any_incomplete(inits) || any_not_set_up(apps)
+    have_finished(policy, containers) && any_failed_app(containers)
 }
 
-fn have_succeeded(policy: Policy, apps: &[ContainerView]) -> bool
-    ensures { IsTrue result ↔ HaveSucceeded of_view policy apps.now }
+/// The phase of a pod with these containers by the present alone: a pod that has ended keeps its phase, which only the
+/// pod's history knows. (Kubernetes, "Pod Lifecycle", "Pod phase".)
+pub fn raw_phase(policy: Policy, containers: &[ContainerView]) -> Phase
+    ensures { IsRawPhase of_view policy containers.now result }
 {
-    all_finished(policy, apps) && all_completed(apps)
-}
-
-fn have_failed(policy: Policy, apps: &[ContainerView]) -> bool
-    ensures { IsTrue result ↔ HaveFailed of_view policy apps.now }
-{
-    all_finished(policy, apps) && any_failed(apps)
-}
-
-/// The phase of a pod with these containers, the first `init_count` of which are init containers, by the present alone: a
-/// pod that has ended keeps its phase, which `PodStatus` knows. (Kubernetes, "Pod Lifecycle", "Pod phase".)
-pub fn raw_phase(policy: Policy, containers: &[ContainerView], init_count: usize) -> Phase
-    requires { init_count ≤ length containers.now }
-    ensures { IsRawPhase of_view policy (take init_count containers.now) (drop init_count containers.now) result }
-{
-    let (inits, apps) = containers.split_at(init_count);
-    if init_has_failed(policy, inits) {
+    if init_has_failed(policy, containers) {
         Phase::Failed
-    } else if is_starting(inits, apps) {
+    } else if is_starting(containers) {
         Phase::Pending
-    } else if have_succeeded(policy, apps) {
+    } else if have_succeeded(policy, containers) {
         Phase::Succeeded
-    } else if have_failed(policy, apps) {
+    } else if have_failed(policy, containers) {
         Phase::Failed
     } else {
         Phase::Running
     }
+}
+
+/// Whether the pod is initialized: every init container has completed, and every sidecar was started.
+/// (Kubernetes, "Pod Lifecycle", "Pod conditions"; "Init Containers".)
+pub fn are_initialized(containers: &[ContainerView]) -> bool
+    ensures { IsTrue result ↔ AreInitialized of_view containers.now }
+{
+    containers
+        .iter()
+        .all(|container| container.has_initialized())
 }

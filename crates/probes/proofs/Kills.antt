@@ -1,7 +1,7 @@
 -- Kill orders, as ticks are added: they last, and exclude each other.
 use Rattle.std.proofs.Common.{◌≡◌, inl, inr, ℕ, ◌-◌, ◌<◌, ◌≤◌, List, [], ◌++◌, Option, Some, None, arith}
 use Rattle.std.proofs.lemmas.List.Elements.{filter_map-append}
-use Rattle.trace.specs.declared.outcome.Outcome.TheVariants.{Failure}
+use Rattle.manifest.specs.declared.outcome.Outcome.TheVariants.{Failure}
 use Rattle.manifest.specs.Probe.{Probe, Probes, HasNumbersInRange}
 use Rattle.probes.specs.declared.probe_set.Cause.{Cause}
 use Rattle.probes.specs.declared.probe_set.Cause.TheVariants.{Startup, Liveness}

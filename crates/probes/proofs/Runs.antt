@@ -4,8 +4,8 @@ use Rattle.std.specs.Prelude.{◌↔◌, slice_get}
 use Rattle.std.proofs.lemmas.Bool.{cases_lt}
 use Rattle.std.proofs.lemmas.List.{length_push}
 use Rattle.std.proofs.lemmas.Option.{same_Some}
-use Rattle.trace.specs.declared.outcome.Outcome.{Outcome}
-use Rattle.trace.specs.declared.outcome.Outcome.TheVariants.{Success, Failure}
+use Rattle.manifest.specs.declared.outcome.Outcome.{Outcome}
+use Rattle.manifest.specs.declared.outcome.Outcome.TheVariants.{Success, Failure}
 use Rattle.probes.specs.Outcomes.{EndsRun, FailsInARow, HoldsAfter, IsRunLength}
 
 -- more elements leave those before as they are

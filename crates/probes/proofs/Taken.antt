@@ -5,8 +5,8 @@ use Rattle.std.specs.List.{filter_map, cons_option}
 use Rattle.std.proofs.lemmas.Bool.{or_cases, or_left, or_right, eqb-true, eq-eqb}
 use Rattle.std.proofs.lemmas.List.{append-nil}
 use Rattle.std.proofs.lemmas.List.Elements.{filter_map-append}
-use Rattle.trace.specs.declared.outcome.Outcome.{Outcome}
-use Rattle.trace.specs.declared.outcome.Outcome.TheVariants.{Success, Failure}
+use Rattle.manifest.specs.declared.outcome.Outcome.{Outcome}
+use Rattle.manifest.specs.declared.outcome.Outcome.TheVariants.{Success, Failure}
 use Rattle.manifest.specs.Probe.{Probe}
 use Rattle.probes.specs.declared.startup.Progress.{Progress}
 use Rattle.probes.specs.Outcomes.{EndsRun, FailsInARow, HoldsAfter, IsRunLength}

@@ -1,6 +1,6 @@
 -- Where the results of a liveness probe lead.
 use Rattle.std.specs.Prelude.{◌≡◌, ◌↔◌, ℕ, Bool, false, IsTrue, List, Option, Some, None}
-use Rattle.trace.specs.declared.outcome.Outcome.TheVariants.{Failure}
+use Rattle.manifest.specs.declared.outcome.Outcome.TheVariants.{Failure}
 use Rattle.manifest.specs.Probe.{Probe}
 use Rattle.probes.specs.declared.liveness.Liveness.{Liveness}
 use Rattle.probes.specs.Outcomes.{IsRunLength, FailsInARow}

@@ -1,8 +1,8 @@
 -- What a list of results says, oldest first. A place is counted from 0; the e-th result is counted from 1.
 -- (Kubernetes, "Configure Liveness, Readiness and Startup Probes", "Configure Probes": successThreshold, failureThreshold.)
 use Rattle.std.specs.Prelude.{◌≡◌, ◌↔◌, ℕ, ◌+◌, ◌<◌, ◌≤◌, Bool, true, false, List, length, slice_get, Some}
-use Rattle.trace.specs.declared.outcome.Outcome.{Outcome}
-use Rattle.trace.specs.declared.outcome.Outcome.TheVariants.{Success, Failure, Unknown}
+use Rattle.manifest.specs.declared.outcome.Outcome.{Outcome}
+use Rattle.manifest.specs.declared.outcome.Outcome.TheVariants.{Success, Failure, Unknown}
 
 -- whether the result is a success or a failure; no action is taken on any other
 -- ("Pod Lifecycle", "Probe outcome")

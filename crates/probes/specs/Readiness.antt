@@ -1,7 +1,7 @@
 -- Where the results of a readiness probe lead.
 use Rattle.std.specs.Prelude.{◌≡◌, ◌↔◌, ℕ, Bool, true, IsTrue, List, Option, Some, None}
-use Rattle.trace.specs.declared.outcome.Outcome.TheVariants.{Success, Failure}
-use Rattle.trace.specs.declared.outcome.Outcome.{Outcome}
+use Rattle.manifest.specs.declared.outcome.Outcome.TheVariants.{Success, Failure}
+use Rattle.manifest.specs.declared.outcome.Outcome.{Outcome}
 use Rattle.manifest.specs.Probe.{Probe}
 use Rattle.probes.specs.declared.readiness.Readiness.{Readiness}
 use Rattle.probes.specs.Outcomes.{IsRunLength, HoldsAfter}

@@ -1,7 +1,7 @@
 -- Where the results of a startup probe lead.
 use Rattle.std.specs.Prelude.{◌≡◌, ℕ, ◌<◌, List, length, slice_get, Option, Some, None}
-use Rattle.trace.specs.declared.outcome.Outcome.{Outcome}
-use Rattle.trace.specs.declared.outcome.Outcome.TheVariants.{Failure}
+use Rattle.manifest.specs.declared.outcome.Outcome.{Outcome}
+use Rattle.manifest.specs.declared.outcome.Outcome.TheVariants.{Failure}
 use Rattle.manifest.specs.Probe.{Probe}
 use Rattle.probes.specs.declared.startup.Startup.{Startup}
 use Rattle.probes.specs.declared.startup.Progress.{Progress}

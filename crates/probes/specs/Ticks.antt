@@ -2,7 +2,7 @@
 -- counted from 0. (Kubernetes, "Configure Liveness, Readiness and Startup Probes".)
 use Rattle.std.specs.Prelude.{ℕ, ◌-◌, ◌&&◌, nat_le, if◌then◌else◌, List, slice_index_or, Option, Some, None, IsSomeAnd, MatchOption}
 use Rattle.std.specs.List.{filter_map}
-use Rattle.trace.specs.declared.outcome.Outcome.{Outcome}
+use Rattle.manifest.specs.declared.outcome.Outcome.{Outcome}
 use Rattle.manifest.specs.Probe.{Probe}
 use Rattle.histories.specs.Histories.{Recorded, recorded}
 use Rattle.probes.specs.Outcomes.{is_known, PassesWithin, FailsWithin, FailsInARow, HoldsAfter}

@@ -4,8 +4,7 @@ ghost use Rattle.probes.specs.Liveness.{IsLivenessOf};
 
 use crate::outcome::{belonging, is_failure};
 use crate::run_length::longer;
-use manifest::Probe;
-use trace::Outcome;
+use manifest::{Outcome, Probe};
 
 /// Follows the liveness probe of one instance over the ticks that count.
 #[derive(Clone, Copy, Debug, PartialEq, Eq)]

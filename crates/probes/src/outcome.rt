@@ -1,12 +1,11 @@
 //! Results of probes, and which of them belong to an instance.
 
 ghost use Rattle.std.specs.Prelude.{◌≡◌, ◌↔◌, IsTrue};
-ghost use Rattle.trace.specs.declared.outcome.Outcome.TheVariants.{Success, Failure};
+ghost use Rattle.manifest.specs.declared.outcome.Outcome.TheVariants.{Success, Failure};
 ghost use Rattle.probes.specs.Outcomes.{is_known};
 ghost use Rattle.probes.specs.Ticks.{belonging};
 
-use manifest::Probe;
-use trace::Outcome;
+use manifest::{Outcome, Probe};
 
 pub(crate) fn is_success(outcome: Outcome) -> bool
     ensures { IsTrue result ↔ (outcome ≡ Success) }

@@ -7,8 +7,7 @@ ghost use Rattle.probes.specs.ProbeSet.{Follows, HasBegun, HasNotBegun, IsStateO
 use crate::liveness::Liveness;
 use crate::readiness::Readiness;
 use crate::startup::Startup;
-use manifest::ContainerSpec;
-use trace::Outcome;
+use manifest::{ContainerSpec, Outcome};
 
 /// Why an instance is to be killed: which of its probes failed.
 /// (Kubernetes, "Pod Lifecycle", "Types of probe".)

@@ -4,8 +4,7 @@ ghost use Rattle.probes.specs.Readiness.{IsReadinessOf};
 
 use crate::outcome::{belonging, is_failure, is_success};
 use crate::run_length::longer;
-use manifest::Probe;
-use trace::Outcome;
+use manifest::{Outcome, Probe};
 
 /// Follows the readiness probe of one instance over the ticks that count; without a probe it is ready.
 #[derive(Clone, Copy, Debug, PartialEq, Eq)]

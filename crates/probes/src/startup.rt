@@ -1,11 +1,10 @@
 ghost use Rattle.std.specs.Prelude.{◌≡◌, ◌≢◌, ◌-◌, ◌≤◌, ◌↔◌, ℕ, List, ◌∷◌, [], ◌++◌, IsTrue};
-ghost use Rattle.trace.specs.declared.outcome.Outcome.{Outcome};
+ghost use Rattle.manifest.specs.declared.outcome.Outcome.{Outcome};
 ghost use Rattle.probes.specs.Ticks.{Tick, IsStarted, HasStartupFailed};
 ghost use Rattle.probes.specs.Startup.{IsProgressOf, IsStartupOf};
 
 use crate::outcome::{belonging, is_success};
-use manifest::Probe;
-use trace::Outcome;
+use manifest::{Outcome, Probe};
 
 /// How far the startup of an instance has come.
 #[derive(Clone, Copy, Debug, PartialEq, Eq)]

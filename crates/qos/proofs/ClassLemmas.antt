@@ -8,7 +8,7 @@ use Rattle.manifest.specs.declared.resources.Resource.{Resource}
 use Rattle.manifest.specs.declared.resources.Resource.TheVariants.{Cpu, Memory}
 use Rattle.qos.specs.declared.class.Qos.{Qos}
 use Rattle.qos.specs.declared.class.Qos.TheVariants.{Guaranteed, Burstable, BestEffort}
-use Rattle.qos.specs.Container.{limit_of, request_of, IsHeldTo, IsGuaranteed, AsksFor, AsksForSome}
+use Rattle.qos.specs.Container.{own_request_of, limit_of, request_of, IsHeldTo, IsGuaranteed, AsksFor, AsksForSome}
 use Rattle.qos.specs.Class.{IsOfClass}
 
 held_or_not : (resource : Resource) (container : ContainerSpec) → OrNot (IsHeldTo resource container)
@@ -31,7 +31,7 @@ some_or_not None = inr (λ w. let e : IsSome {T = ℕ} None = w in cc)
 some_or_not (Some n) = inl refl
 
 asks_or_not : (resource : Resource) (container : ContainerSpec) → OrNot (AsksFor resource container)
-asks_or_not resource container = either (some_or_not (request_of container resource)) (some_or_not (limit_of container resource))
+asks_or_not resource container = either (some_or_not (own_request_of container resource)) (some_or_not (limit_of container resource))
 
 some_asked_or_not : (container : ContainerSpec) → OrNot (AsksForSome container)
 some_asked_or_not container = either (asks_or_not Cpu container) (asks_or_not Memory container)

@@ -12,14 +12,17 @@ abbrev pub set_amount : Option ℕ → Option ℕ
 set_amount None = None
 set_amount (Some amount) = if amount == 0 then None else Some amount
 
+-- the request of a resource that is written for a container
+abbrev pub own_request_of : ContainerSpec → Resource → Option ℕ
+own_request_of container resource = set_amount (amount_of container.resources.requests resource)
+
 -- a container's limit of a resource
 abbrev pub limit_of : ContainerSpec → Resource → Option ℕ
 limit_of container resource = set_amount (amount_of container.resources.limits resource)
 
 -- a container's request of a resource: a limit without a request gives the request the limit's value
 abbrev pub request_of : ContainerSpec → Resource → Option ℕ
-request_of container resource =
-    option_or (set_amount (amount_of container.resources.requests resource)) (limit_of container resource)
+request_of container resource = option_or (own_request_of container resource) (limit_of container resource)
 
 -- the amount that a container requests, and 0 where it requests none
 abbrev pub requested : Resource → ContainerSpec → ℕ
@@ -33,9 +36,9 @@ IsHeldTo resource container = (limit : ℕ) × (limit_of container resource ≡ 
 unfoldable pub IsGuaranteed : ContainerSpec → Type 0
 IsGuaranteed container = IsHeldTo Cpu container × IsHeldTo Memory container
 
--- the container has a request or a limit of the resource
+-- a request or a limit of the resource is written for the container
 abbrev pub AsksFor : Resource → ContainerSpec → Type 0
-AsksFor resource container = IsSome (request_of container resource) ⊎ IsSome (limit_of container resource)
+AsksFor resource container = IsSome (own_request_of container resource) ⊎ IsSome (limit_of container resource)
 
 -- so for cpu or for memory
 abbrev pub AsksForSome : ContainerSpec → Type 0

@@ -21,7 +21,7 @@ NothingAskedFor =
     (container : ContainerSpec) (others : List ContainerSpec)
     → All (λ c. AsksForSome c → ⊥) (container ∷ others) → IsOfClass (container ∷ others) BestEffort
 
--- an effective request is at least that of each container, init or app
+-- an effective request is at least that of each container, whatever its role is
 abbrev pub EffectiveRequestCovers : Type 0
 EffectiveRequestCovers =
     (resource : Resource) (containers : List ContainerSpec) (container : ContainerSpec)

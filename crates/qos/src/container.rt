@@ -64,11 +64,11 @@ pub(crate) fn is_guaranteed(container: &ContainerSpec) -> bool
     is_held_to(container, Resource::Cpu) && is_held_to(container, Resource::Memory)
 }
 
-/// Whether the container has a request or a limit of the resource.
+/// Whether a request or a limit of the resource is written for the container: a limit gives a request too.
 fn asks_for(container: &ContainerSpec, resource: Resource) -> bool
     ensures { IsTrue result ↔ AsksFor resource container.now }
 {
-    request_of(container, resource).is_some() || limit_of(container, resource).is_some()
+    request_of(container, resource).is_some()
 }
 
 /// Whether that is so for cpu or for memory.

@@ -13,7 +13,7 @@ pub fn nothing_asked_for()
     ensures { NothingAskedFor }
 {}
 
-/// An effective request is at least that of each container, init or app.
+/// An effective request is at least that of each container, whatever its role is.
 pub fn effective_request_covers()
     ensures { EffectiveRequestCovers }
 {}

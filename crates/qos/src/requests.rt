@@ -2,19 +2,19 @@
 
 ghost use Rattle.std.specs.Prelude.{◌≡◌, ◌≤◌, ◌*◌, length};
 ghost use Rattle.quantity.specs.Quantity.{greatest};
-ghost use Rattle.qos.specs.Requests.{requested_by_app, requested_by_init, sum_of_apps, greatest_of_inits, effective_request_of};
+ghost use Rattle.qos.specs.Requests.{requested_by_app_or_sidecar, requested_by_init, sum_of_apps_and_sidecars, greatest_of_inits, effective_request_of};
 
 use crate::container::requested;
 use manifest::{ContainerSpec, PodSpec, Resource, Role};
 
-/// What the container requests, if it is an app container.
-fn requested_by_app(container: &ContainerSpec, resource: Resource) -> u128
-    ensures value { result ≡ requested_by_app resource container.now }
+/// What the container requests, if it is an app container or a sidecar.
+fn requested_by_app_or_sidecar(container: &ContainerSpec, resource: Resource) -> u128
+    ensures value { result ≡ requested_by_app_or_sidecar resource container.now }
     ensures bound { result ≤ greatest }
 {
-    match container.role {
+    match container.role() {
         Role::Init => 0,
-        Role::App => requested(container, resource),
+        Role::Sidecar | Role::App => requested(container, resource),
     }
 }
 
@@ -22,20 +22,20 @@ fn requested_by_app(container: &ContainerSpec, resource: Resource) -> u128
 fn requested_by_init(container: &ContainerSpec, resource: Resource) -> u128
     ensures { result ≡ requested_by_init resource container.now }
 {
-    match container.role {
+    match container.role() {
         Role::Init => requested(container, resource),
-        Role::App => 0,
+        Role::Sidecar | Role::App => 0,
     }
 }
 
-/// What the app containers request together.
-fn sum_of_apps(containers: &[ContainerSpec], resource: Resource) -> u128
+/// What the app containers and sidecars request together.
+fn sum_of_apps_and_sidecars(containers: &[ContainerSpec], resource: Resource) -> u128
     requires { length containers.now ≤ 16 }
-    ensures { result ≡ sum_of_apps resource containers.now }
+    ensures { result ≡ sum_of_apps_and_sidecars resource containers.now }
 {
     let mut sum = 0;
     for container in containers {
-        sum += requested_by_app(container, resource);
+        sum += requested_by_app_or_sidecar(container, resource);
     }
     sum
 }
@@ -51,12 +51,13 @@ fn greatest_of_inits(containers: &[ContainerSpec], resource: Resource) -> u128
     greatest
 }
 
-/// What the pod asks for of a resource in effect, in thousandths: the greater of what its app containers request
-/// together and of the greatest request of an init container. (Kubernetes, "Init Containers", "Resource sharing within
-/// containers".) A zero amount counts as unset, and a limit without a request gives the request the limit's value.
+/// What the pod asks for of a resource in effect, in thousandths: the greater of what its app containers and sidecars
+/// request together and of the greatest request of an init container. (Kubernetes, "Init Containers" and "Sidecar
+/// Containers", "Resource sharing within containers".) A zero amount counts as unset, and a limit without a request gives
+/// the request the limit's value.
 pub fn effective_request(pod: &PodSpec, resource: Resource) -> u128
     ensures { result ≡ effective_request_of resource pod.now.containers }
 {
     let containers = pod.containers.as_slice();
-    sum_of_apps(containers, resource).max(greatest_of_inits(containers, resource))
+    sum_of_apps_and_sidecars(containers, resource).max(greatest_of_inits(containers, resource))
 }

@@ -1,9 +1,10 @@
 //! Results of probes in tick lines.
 
 use crate::support::{FIRST_REPORT, POD, TWO_CONTAINERS, after_node, expect_fault, expect_report};
+use manifest::{Outcome, ProbeKind};
 use std::alloc::{AllocError, Global};
 use std::test::Fail;
-use trace::{ContainerObs, LineKind, Outcome, ProbeKind, Trace, read_trace};
+use trace::{ContainerObs, LineKind, Trace, read_trace};
 
 /// A tick at 10 that lists attempt 1 of both containers.
 const LISTS_BOTH: &str =

@@ -3,7 +3,7 @@ use Rattle.std.proofs.Common.{◌<◌, ◌+◌, ◌*◌, ◌≡◌, ℕ, zero, s
 use Rattle.std.proofs.Math.Nat.{pow-le-pow_right}
 use Rattle.std.proofs.lemmas.Bool.{cases_lt}
 use Rattle.std.proofs.lemmas.Grind.{pow_more}
-use Rattle.std.specs.Prelude.{Contains}
+use Rattle.std.specs.Prelude.{Contains, map}
 use Rattle.restarts.specs.Exits.{Exit}
 use Rattle.restarts.specs.Delays.{delay_of, IsDelay}
 use Rattle.restarts.specs.Counts.{IsCountOf}
@@ -43,27 +43,29 @@ delay_of-counted greatest n few = elim (cases_lt n 7) [
       ap (delay_of greatest) e ∙ delay_of-greatest greatest 7 few (omega arith) ∙ sym (delay_of-greatest greatest n few ge)
 ]
 
-abbrev pub Seven : List ℕ
-Seven = 0 ∷ 10 ∷ 20 ∷ 40 ∷ 80 ∷ 160 ∷ 300 ∷ []
+abbrev pub Seven : ℕ → List ℕ
+Seven greatest = 0 ∷ map (min greatest) (10 ∷ 20 ∷ 40 ∷ 80 ∷ 160 ∷ 300 ∷ [])
 
 -- the delays up to 7
-among : (n : ℕ) → n ≤ 7 → Contains Seven (delay_of 300 n)
-among zero le = (0, omega arith, refl)
-among (suc zero) le = (0, omega arith, refl)
-among (suc (suc zero)) le = (1, omega arith, refl)
-among (suc (suc (suc zero))) le = (2, omega arith, refl)
-among (suc (suc (suc (suc zero)))) le = (3, omega arith, refl)
-among (suc (suc (suc (suc (suc zero))))) le = (4, omega arith, refl)
-among (suc (suc (suc (suc (suc (suc zero)))))) le = (5, omega arith, refl)
-among (suc (suc (suc (suc (suc (suc (suc zero))))))) le = (6, omega arith, refl)
-among (suc (suc (suc (suc (suc (suc (suc (suc n)))))))) le = absurd (omega arith)
+among : (greatest n : ℕ) → greatest ≤ 300 → n ≤ 7 → Contains (Seven greatest) (delay_of greatest n)
+among greatest zero few le = (0, omega arith, refl)
+among greatest (suc zero) few le = (0, omega arith, refl)
+among greatest (suc (suc zero)) few le = (1, omega arith, refl)
+among greatest (suc (suc (suc zero))) few le = (2, omega arith, refl)
+among greatest (suc (suc (suc (suc zero)))) few le = (3, omega arith, refl)
+among greatest (suc (suc (suc (suc (suc zero))))) few le = (4, omega arith, refl)
+among greatest (suc (suc (suc (suc (suc (suc zero)))))) few le = (5, omega arith, refl)
+among greatest (suc (suc (suc (suc (suc (suc (suc zero))))))) few le =
+    let same : min greatest 300 ≡ min greatest 320 = omega arith in (6, omega arith, same)
+among greatest (suc (suc (suc (suc (suc (suc (suc (suc n)))))))) few le = absurd (omega arith)
 
-pub delay_of-among : (n : ℕ) → Contains Seven (delay_of 300 n)
-delay_of-among n =
-    let few : 300 ≤ 320 = omega arith in
-    let P : ℕ → Type 0 = λ d. Contains Seven d in
-    subst P (delay_of-counted 300 n few) (among (min n 7) (omega arith))
+pub delay_of-among : (greatest n : ℕ) → greatest ≤ 300 → Contains (Seven greatest) (delay_of greatest n)
+delay_of-among greatest n few =
+    let P : ℕ → Type 0 = λ d. Contains (Seven greatest) d in
+    subst P (delay_of-counted greatest n (omega arith)) (among greatest (min n 7) few (omega arith))
 
--- the delay of the count is that of the exits
-pub IsDelay-of_count : (greatest : ℕ) (exits : List Exit) (count delay : ℕ) → greatest ≤ 320 → IsCountOf exits count → delay ≡ delay_of greatest count → IsDelay greatest exits delay
-IsDelay-of_count greatest exits count delay few of is = (of.0, of.1, is ∙ ap (delay_of greatest) of.2 ∙ delay_of-counted greatest of.0 few)
+-- the delay of the count is that of the exits, on the node with this greatest delay
+pub IsDelay-of_count : (kept greatest : ℕ) (exits : List Exit) (count delay : ℕ) → kept ≤ 300 → kept ≡ greatest → IsCountOf exits count → delay ≡ delay_of kept count
+    → IsDelay greatest exits delay
+IsDelay-of_count kept greatest exits count delay few same of is =
+    (of.0, of.1, is ∙ ap (delay_of kept) of.2 ∙ delay_of-counted kept of.0 (omega arith) ∙ ap (λ g. delay_of g of.0) same)

@@ -16,7 +16,7 @@ one_delay greatest exits =
     )
 
 pub one_of_seven : DelayIsOneOfSeven
-one_of_seven exits delay p = rw p.2 (delay_of-among p.0)
+one_of_seven greatest exits delay few p = rw p.2 (delay_of-among greatest p.0 few)
 
 pub resets : LongRunResets
 resets greatest exits moment run delay long p =
@@ -58,14 +58,16 @@ due_remembers greatest earlier later long (Some due) is (last, delay, ends, (n, 
     (last, delay, last_moment-after earlier long later ∙ ends, (n, number_remembers earlier later long n is num, by), so)
 
 pub forgets : LongRunForgets
-forgets earlier later moment run backoff is =
+forgets greatest earlier later moment run backoff is =
     let long = recorded moment run in (
       λ st. record {
+        kept = st.kept;
         count = let of = st.count in (of.0, number_forgets earlier later long of.0 is of.1, of.2);
-        due = due_forgets 300 earlier later long backoff.due is st.due;
+        due = due_forgets greatest earlier later long backoff.due is st.due;
       },
       λ st. record {
+        kept = st.kept;
         count = let of = st.count in (of.0, number_remembers earlier later long of.0 is of.1, of.2);
-        due = due_remembers 300 earlier later long backoff.due is st.due;
+        due = due_remembers greatest earlier later long backoff.due is st.due;
       },
     )

@@ -1,12 +1,8 @@
--- How long a restart is put off (Kubernetes, "Pod Lifecycle", "Container restart policy"; that the first exit has no
--- delay and that a run of 600 s begins the count anew is this profile's reading).
+-- How long a restart is put off, on a node with a greatest delay (Kubernetes, "Pod Lifecycle", "Container restart
+-- policy"; that the first exit has no delay and that a run of 600 s begins the count anew is this profile's reading).
 use Rattle.std.specs.Prelude.{◌≡◌, ℕ, zero, suc, ◌+◌, ◌*◌, ◌^◌, List, [], Option, Some, None, min}
 use Rattle.histories.specs.Histories.{last_moment}
 use Rattle.restarts.specs.Exits.{Exit, IsNumber}
-
--- no delay is greater, in seconds
-abbrev pub greatest_delay : ℕ
-greatest_delay = 300
 
 -- the delay in seconds of the exit with this number: none for the first, then 10, 20, 40 and so on, up to the greatest
 abbrev pub delay_of : ℕ → ℕ → ℕ

@@ -6,9 +6,13 @@ use Rattle.histories.specs.Histories.{Recorded, entry_at, IsLast}
 abbrev pub Exit : Type 0
 Exit = Recorded ℕ
 
--- the run before the exit at a place was long: at least 600 s
+-- a run of so many seconds or more begins the count anew
+abbrev pub long_run : ℕ
+long_run = 600
+
+-- the run before the exit at a place was long
 abbrev pub IsLong : List Exit → ℕ → Type 0
-IsLong exits t = IsSomeAnd (entry_at exits t) (λ run. 600 ≤ run)
+IsLong exits t = IsSomeAnd (entry_at exits t) (λ run. long_run ≤ run)
 
 -- the place from which the exits count: the last one after a long run, or the first if there is none
 abbrev pub IsBeginning : List Exit → ℕ → Type 0

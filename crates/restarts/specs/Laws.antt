@@ -1,9 +1,10 @@
 -- What holds of the delays whatever the exits were.
-use Rattle.std.specs.Prelude.{◌≡◌, ◌↔◌, ℕ, ◌<◌, ◌≤◌, List, [], ◌∷◌, ◌++◌, Contains, min, ◌*◌}
+use Rattle.std.specs.Prelude.{◌≡◌, ◌↔◌, ℕ, ◌<◌, ◌≤◌, List, [], ◌∷◌, ◌++◌, Contains, min, ◌*◌, map}
 use Rattle.histories.specs.Histories.{recorded}
+use Rattle.manifest.specs.RestartDelay.{most_max_delay}
 use Rattle.restarts.specs.declared.backoff.Backoff.{Backoff}
-use Rattle.restarts.specs.Exits.{Exit}
-use Rattle.restarts.specs.Delays.{IsDelay, greatest_delay}
+use Rattle.restarts.specs.Exits.{Exit, long_run}
+use Rattle.restarts.specs.Delays.{IsDelay}
 use Rattle.restarts.specs.Backoff.{IsStateOf}
 
 abbrev pub EveryListHasOneDelay : Type 0
@@ -14,25 +15,25 @@ EveryListHasOneDelay =
 
 abbrev pub DelayIsOneOfSeven : Type 0
 DelayIsOneOfSeven =
-    (exits : List Exit) (delay : ℕ) → IsDelay greatest_delay exits delay
-    → Contains (0 ∷ 10 ∷ 20 ∷ 40 ∷ 80 ∷ 160 ∷ 300 ∷ []) delay
+    (greatest : ℕ) (exits : List Exit) (delay : ℕ) → greatest ≤ most_max_delay → IsDelay greatest exits delay
+    → Contains (0 ∷ map (min greatest) (10 ∷ 20 ∷ 40 ∷ 80 ∷ 160 ∷ 300 ∷ [])) delay
 
 abbrev pub LongRunResets : Type 0
 LongRunResets =
-    (greatest : ℕ) (exits : List Exit) (moment run delay : ℕ) → 600 ≤ run
+    (greatest : ℕ) (exits : List Exit) (moment run delay : ℕ) → long_run ≤ run
     → IsDelay greatest (exits ++ recorded moment run ∷ []) delay → delay ≡ 0
 
 abbrev pub DelayDoesNotFall : Type 0
 DelayDoesNotFall =
-    (greatest : ℕ) (exits : List Exit) (moment run before after : ℕ) → run < 600
+    (greatest : ℕ) (exits : List Exit) (moment run before after : ℕ) → run < long_run
     → IsDelay greatest exits before → IsDelay greatest (exits ++ recorded moment run ∷ []) after → before ≤ after
 
 abbrev pub DelayDoubles : Type 0
 DelayDoubles =
-    (greatest : ℕ) (exits : List Exit) (moment run before after : ℕ) → run < 600 → 0 < before
+    (greatest : ℕ) (exits : List Exit) (moment run before after : ℕ) → run < long_run → 0 < before
     → IsDelay greatest exits before → IsDelay greatest (exits ++ recorded moment run ∷ []) after → after ≡ min greatest (2 * before)
 
 abbrev pub LongRunForgets : Type 0
 LongRunForgets =
-    (earlier later : List Exit) (moment run : ℕ) (backoff : Backoff) → 600 ≤ run
-    → (IsStateOf (earlier ++ recorded moment run ∷ later) backoff ↔ IsStateOf (recorded moment run ∷ later) backoff)
+    (greatest : ℕ) (earlier later : List Exit) (moment run : ℕ) (backoff : Backoff) → long_run ≤ run
+    → (IsStateOf greatest (earlier ++ recorded moment run ∷ later) backoff ↔ IsStateOf greatest (recorded moment run ∷ later) backoff)

@@ -2,9 +2,12 @@
 
 ghost use Rattle.std.specs.Prelude.{◌≡◌, ◌+◌, ◌^◌, ◌<◌, ◌≤◌, ◌↔◌, ℕ, List, [], ◌∷◌, ◌++◌, IsTrue};
 ghost use Rattle.histories.specs.Histories.{recorded};
-ghost use Rattle.restarts.specs.Exits.{Exit};
+ghost use Rattle.manifest.specs.RestartDelay.{most_max_delay};
+ghost use Rattle.restarts.specs.Exits.{Exit, long_run};
 ghost use Rattle.restarts.specs.Delays.{delay_of};
 ghost use Rattle.restarts.specs.Counts.{IsCountOf};
+
+use manifest::MaxRestartDelay;
 
 /// A run of so many seconds or more begins the count anew.
 const LONG_RUN: u64 = 600;
@@ -12,32 +15,32 @@ const LONG_RUN: u64 = 600;
 /// The delay of the second exit, in seconds, which each further one doubles.
 const FIRST_DELAY: u64 = 10;
 
-/// No delay is greater, in seconds.
-const GREATEST_DELAY: u64 = 300;
-
-/// From this number on each delay is the greatest, so the count stops there.
+/// From this number on each delay is the greatest, whatever that is, so the count stops there.
 const LAST_COUNT: u32 = 7;
 
 /// The back-off of one container: how long its restarts are put off, by the exits so far.
 ///
-/// (Kubernetes, "Pod Lifecycle", "Container restart policy": a delay of 10 s, 20 s, 40 s and so on,
-/// at most 300 s. The first exit has none, and a run of 600 s begins the count anew.)
+/// (Kubernetes, "Pod Lifecycle", "Container restart policy": a delay of 10 s, 20 s, 40 s and so on, up to a greatest
+/// of the node's. The first exit has none, and a run of 600 s begins the count anew.)
 #[derive(Clone, Copy, Debug, PartialEq, Eq)]
 pub struct Backoff {
+    greatest: u64,
     count: u32,
     due: Option<u64>,
+    ghost within: { greatest ≤ most_max_delay },
     ghost counted: { count ≤ 7 },
 }
 
 impl Backoff {
-    ghost use Rattle.restarts.specs.Delays.{IsDelay, IsDue, greatest_delay};
+    ghost use Rattle.restarts.specs.Delays.{IsDelay, IsDue};
     ghost use Rattle.restarts.specs.Backoff.{IsStateOf};
 
-    /// No exit yet.
-    pub fn new() -> Backoff
-        ensures { IsStateOf [] result }
+    /// No exit yet, on a node with this greatest delay.
+    pub fn new(greatest: MaxRestartDelay) -> Backoff
+        ensures { IsStateOf greatest [] result }
     {
         Backoff {
+            greatest: greatest.get(),
             count: 0,
             due: None,
         }
@@ -49,18 +52,22 @@ impl Backoff {
     /// that of their attempts.
     pub fn exited(&mut self, run_seconds: u64, at: u64) -> u64
         requires { at < 2 ^ 40 }
-        ensures state { (exits : List Exit) → IsStateOf exits self.old → IsStateOf (exits ++ recorded at run_seconds ∷ []) self.new }
-        ensures delay { (exits : List Exit) → IsStateOf exits self.old → IsDelay greatest_delay (exits ++ recorded at run_seconds ∷ []) result }
+        ensures state { (greatest : ℕ) (exits : List Exit)
+            → IsStateOf greatest exits self.old
+            → IsStateOf greatest (exits ++ recorded at run_seconds ∷ []) self.new }
+        ensures delay { (greatest : ℕ) (exits : List Exit)
+            → IsStateOf greatest exits self.old
+            → IsDelay greatest (exits ++ recorded at run_seconds ∷ []) result }
     {
         self.count = count_after(self.count, run_seconds);
-        let delay = delay_after(self.count, GREATEST_DELAY);
+        let delay = delay_after(self.count, self.greatest);
         self.due = Some(at + delay);
         delay
     }
 
     /// From which moment on the restart after the last exit is due; `None` before any exit.
     pub fn due(&self) -> Option<u64>
-        ensures { (exits : List Exit) → IsStateOf exits self.now → IsDue greatest_delay exits result }
+        ensures { (greatest : ℕ) (exits : List Exit) → IsStateOf greatest exits self.now → IsDue greatest exits result }
     {
         self.due
     }
@@ -83,7 +90,7 @@ fn count_after(count: u32, run_seconds: u64) -> u32
 
 /// Whether a run begins the count anew.
 fn is_long(run_seconds: u64) -> bool
-    ensures { IsTrue result ↔ (600 ≤ run_seconds) }
+    ensures { IsTrue result ↔ (long_run ≤ run_seconds) }
 {
     run_seconds >= LONG_RUN
 }

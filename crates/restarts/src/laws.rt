@@ -7,7 +7,7 @@ pub fn every_list_has_one_delay()
     ensures { EveryListHasOneDelay }
 {}
 
-/// A delay is 0, 10, 20, 40, 80, 160 or 300 s.
+/// A delay is 0, or one of 10, 20, 40, 80, 160 and 300 s, or the greatest where that is less.
 pub fn delay_is_one_of_seven()
     ensures { DelayIsOneOfSeven }
 {}

@@ -3,18 +3,18 @@
 ghost use Rattle.std.specs.Prelude.{◌↔◌, IsTrue};
 ghost use Rattle.manifest.specs.Policy.{WantsRestart};
 
-use manifest::Policy;
+use manifest::{Policy, Role};
 
-/// Whether a container of a pod with this policy is to be started again after an exit with this code.
+/// Whether a container of this role, in a pod with this policy, is to be started again after an exit with this code.
 ///
-/// (Kubernetes, "Pod Lifecycle", "Container restart policy", and "Init Containers": init containers of a
-/// pod with the policy `Always` are started again as with `OnFailure`.)
-pub fn wants_restart(policy: Policy, is_init: bool, code: i32) -> bool
-    ensures { IsTrue result ↔ WantsRestart policy is_init code }
+/// (Kubernetes, "Pod Lifecycle", "Container restart policy"; "Init Containers": init containers of a pod with the policy
+/// `Always` are started again as with `OnFailure`; "Sidecar Containers": a sidecar is started again after each exit.)
+pub fn wants_restart(policy: Policy, role: Role, code: i32) -> bool
+    ensures { IsTrue result ↔ WantsRestart policy role code }
 {
-    match policy {
-        Policy::Always => !is_init || code != 0,
-        Policy::OnFailure => code != 0,
-        Policy::Never => false,
+    match (role, policy) {
+        (Role::Sidecar, _) | (Role::App, Policy::Always) => true,
+        (_, Policy::Never) => false,
+        (Role::Init, Policy::Always) | (_, Policy::OnFailure) => code != 0,
     }
 }

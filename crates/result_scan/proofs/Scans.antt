@@ -3,8 +3,8 @@ use Rattle.std.proofs.Common.{◌≡◌, ℕ, suc, ◌+◌, ◌-◌, ◌<◌, Bo
 use Rattle.std.specs.Prelude.{◌↔◌, IsTrue, IfOk}
 use Rattle.std.specs.List.{filter_map, cons_option}
 use Rattle.std.proofs.lemmas.List.{take-map, drop-map, length-map, drop_all}
-use Rattle.trace.specs.declared.outcome.Outcome.{Outcome}
-use Rattle.trace.specs.declared.outcome.ProbeKind.TheVariants as kinds
+use Rattle.manifest.specs.declared.outcome.Outcome.{Outcome}
+use Rattle.manifest.specs.declared.outcome.ProbeKind.TheVariants as kinds
 use Rattle.manifest.specs.Probe.{Probe}
 use Rattle.histories.specs.Histories.{IsFirst, IsSo}
 use Rattle.histories.proofs.Growth.{so_last}

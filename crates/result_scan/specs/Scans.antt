@@ -1,9 +1,9 @@
 -- The results as the definitions of probes see them.
 use Rattle.std.specs.Prelude.{◌≡◌, ℕ, ◌-◌, ◌<◌, ◌≤◌, List, map, drop, length, slice_get, Option, Some}
-use Rattle.trace.specs.declared.outcome.Outcome.{Outcome}
-use Rattle.trace.specs.declared.outcome.Outcome.TheVariants.{Success, Failure}
-use Rattle.trace.specs.declared.outcome.ProbeKind.{ProbeKind}
-use Rattle.trace.specs.declared.outcome.ProbeKind.TheVariants as kinds
+use Rattle.manifest.specs.declared.outcome.Outcome.{Outcome}
+use Rattle.manifest.specs.declared.outcome.Outcome.TheVariants.{Success, Failure}
+use Rattle.manifest.specs.declared.outcome.ProbeKind.{ProbeKind}
+use Rattle.manifest.specs.declared.outcome.ProbeKind.TheVariants as kinds
 use Rattle.manifest.specs.Probe.{Probe}
 use Rattle.histories.specs.Histories.{recorded}
 use Rattle.probes.specs.Outcomes.{EndsRun}

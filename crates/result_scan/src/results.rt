@@ -6,9 +6,8 @@ ghost use Rattle.probes.specs.Outcomes.{is_known as known};
 ghost use Rattle.probes.specs.Ticks.{belonging as belonging_of};
 ghost use Rattle.result_scan.specs.Scans.{result_in, belonging_in as belongs_in};
 
-use manifest::Probe;
+use manifest::{Outcome, Probe, ProbeKind};
 use std::alloc::{AllocError, Global};
-use trace::{Outcome, ProbeKind};
 
 /// What the probes of an instance found in one tick.
 #[derive(Clone, Copy, Debug, PartialEq, Eq)]

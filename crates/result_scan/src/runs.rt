@@ -1,11 +1,11 @@
 //! Runs of one outcome in a list of results.
 
 ghost use Rattle.std.specs.Prelude.{◌≡◌, ◌↔◌, ◌≤◌, ◌<◌, ℕ, List, length, Some, IsTrue, slice_get};
-ghost use Rattle.trace.specs.declared.outcome.Outcome.TheVariants.{Success, Failure};
+ghost use Rattle.manifest.specs.declared.outcome.Outcome.TheVariants.{Success, Failure};
 ghost use Rattle.probes.specs.Outcomes.{EndsRun, FailsInARow, HoldsAfter, PassesWithin, FailsWithin};
 ghost use Rattle.result_scan.specs.Scans.{AreAll, FailsAt, FailsAfter, HoldsFrom, PassesAt};
 
-use trace::Outcome;
+use manifest::Outcome;
 
 /// Whether the result at a place is this one.
 fn is_at(outcome: Outcome, results: &[Outcome], place: usize) -> bool

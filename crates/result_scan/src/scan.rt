@@ -8,10 +8,9 @@ ghost use Rattle.result_scan.specs.Scans.{history, IsCountedFrom};
 
 use crate::results::{TickResults, results_of};
 use crate::runs::{fails_in_a_row, fails_within, holds_after, passes_within};
-use manifest::{Probe, Probes};
+use manifest::{Probe, ProbeKind, Probes};
 use probes::Cause;
 use std::alloc::{AllocError, Global};
-use trace::ProbeKind;
 
 fn has_passed(
     alloc: Global,

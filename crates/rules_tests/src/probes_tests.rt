@@ -4,6 +4,7 @@ ghost use Rattle.std.specs.Prelude.{IfOk};
 ghost use Rattle.probes.specs.ProbeSet.{HasBegun};
 
 use crate::random::next;
+use manifest::Outcome::{self, Failure, Success, Unknown};
 use manifest::{PodSpec, Probe, Probes};
 use probes::{Cause, ProbeSet, Verdicts};
 use result_scan::{TickResults, counted_from, is_kill_ordered, is_ready, is_started, pass_place};
@@ -11,7 +12,6 @@ use serde_json::Value;
 use std::alloc::Global;
 use std::process::Abort;
 use std::test::Fail;
-use trace::Outcome::{self, Failure, Success, Unknown};
 
 /// The probes that a container with these fields has, and their set.
 fn read(rt: &impl Abort, alloc: Global, fields: &str) -> Result<(Probes, ProbeSet), Fail> {

@@ -14,8 +14,8 @@ use Rattle.trace.specs.declared.listing.Entry.{Entry}
 use Rattle.trace.specs.declared.probing.ProbeResult.{ProbeResult}
 use Rattle.name_list.specs.Names.{place_of}
 use Rattle.manifest.specs.Containers.{names_of}
-use Rattle.trace.specs.declared.outcome.Outcome.{Outcome}
-use Rattle.trace.specs.declared.outcome.ProbeKind.{ProbeKind}
+use Rattle.manifest.specs.declared.outcome.Outcome.{Outcome}
+use Rattle.manifest.specs.declared.outcome.ProbeKind.{ProbeKind}
 use Rattle.trace.specs.declared.placing.PlacedResult.{PlacedResult}
 use Rattle.trace.specs.declared.placing.PlacedEntry.{PlacedEntry}
 use Rattle.trace.specs.Lines.{lines_of, is_blank}

@@ -10,12 +10,12 @@ use Rattle.trace.specs.declared.fault.LineKind.TheVariants.{StrangerPod, Strange
 use Rattle.trace.specs.declared.listing.Listing.{Listing}
 use Rattle.trace.specs.declared.listing.Entry.{Entry}
 use Rattle.trace.specs.declared.probing.ProbeResult.{ProbeResult}
-use Rattle.trace.specs.declared.outcome.ProbeKind.{ProbeKind}
+use Rattle.manifest.specs.declared.outcome.ProbeKind.{ProbeKind}
 use Rattle.trace.specs.declared.placing.PlacedListing.{PlacedListing}
 use Rattle.trace.specs.declared.placing.PlacedResult.{PlacedResult}
 use Rattle.trace.specs.declared.placing.PlacedEntry.{PlacedEntry}
 use Rattle.trace.specs.Pod.{keys_of}
-use Rattle.trace.specs.Results.{place}
+use Rattle.manifest.specs.ProbeKinds.{place}
 
 -- the number of the pod that an entry names
 abbrev pub number_in : List (List ℕ) → Entry → Result ℕ LineKind

@@ -5,17 +5,11 @@ use Rattle.json_fields.specs.Fields.{text_at}
 use Rattle.json_fields.specs.Reading.{◌>>=◌, some_or}
 use Rattle.trace.specs.declared.fault.LineKind.{LineKind}
 use Rattle.trace.specs.declared.fault.LineKind.TheVariants.{Usage}
-use Rattle.trace.specs.declared.outcome.Outcome.{Outcome}
-use Rattle.trace.specs.declared.outcome.Outcome.TheVariants.{Success, Failure, Unknown}
-use Rattle.trace.specs.declared.outcome.ProbeKind.{ProbeKind}
-use Rattle.trace.specs.declared.outcome.ProbeKind.TheVariants.{Startup, Liveness, Readiness}
+use Rattle.manifest.specs.declared.outcome.Outcome.{Outcome}
+use Rattle.manifest.specs.declared.outcome.Outcome.TheVariants.{Success, Failure, Unknown}
+use Rattle.manifest.specs.declared.outcome.ProbeKind.{ProbeKind}
+use Rattle.manifest.specs.declared.outcome.ProbeKind.TheVariants.{Startup, Liveness, Readiness}
 use Rattle.trace.specs.declared.probing.ProbeResult.{ProbeResult}
-
--- a probe's place in the order startup, liveness, readiness
-abbrev pub place : ProbeKind → ℕ
-place Startup = 0
-place Liveness = 1
-place Readiness = 2
 
 -- the probe of this name
 abbrev pub probe_named : Option (List ℕ) → Result ProbeKind LineKind

@@ -3,8 +3,8 @@
 ghost use Rattle.std.specs.Prelude.{◌≡◌};
 ghost use Rattle.trace.specs.Observations.{seen_of};
 
-use crate::outcome::Outcome;
 use crate::sequence::Sequence;
+use manifest::Outcome;
 use state_diff::Seen;
 
 /// What a tick shows of one container.

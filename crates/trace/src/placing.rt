@@ -10,10 +10,9 @@ ghost use Rattle.std.specs.List.{list_any};
 
 use crate::fault::LineKind;
 use crate::listing::{Entry, ListedInstance, Listing};
-use crate::outcome::{Outcome, ProbeKind};
 use crate::probing::ProbeResult;
 use crate::sequence::Sequence;
-use manifest::PodSpec;
+use manifest::{Outcome, PodSpec, ProbeKind};
 use name_list::NameList;
 use std::alloc::Global;
 

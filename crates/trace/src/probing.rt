@@ -8,9 +8,8 @@ ghost use Rattle.trace.specs.Results.{probe_named, outcome_named, result_of};
 
 use crate::fault::LineKind;
 use crate::listing::text_of;
-use crate::outcome::{Outcome, ProbeKind};
 use json_fields::text_at;
-use manifest::Text;
+use manifest::{Outcome, ProbeKind, Text};
 use serde_json::Value;
 use std::alloc::Global;
 

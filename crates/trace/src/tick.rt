@@ -15,14 +15,13 @@ use crate::fault::LineKind;
 use crate::following::differs_after;
 use crate::listing::{Entry, ListedInstance, entries_of};
 use crate::observation::{ContainerObs, PodObs, TickObs};
-use crate::outcome::{Outcome, ProbeKind};
 use crate::past::Reader;
 use crate::placing::{
     PlacedEntry, PlacedListing, PlacedResult, is_doubled, is_of_probe, placed_entries, pod_numbers,
 };
 use crate::sequence::Sequence;
 use json_fields::field;
-use manifest::{ContainerSpec, PodSpec};
+use manifest::{ContainerSpec, Outcome, PodSpec, ProbeKind};
 use serde_json::Value;
 use state_diff::{CriState, Differ, Seen};
 use std::alloc::{AllocError, Global};

@@ -13,9 +13,9 @@ use Rattle.trace.specs.declared.fault.LineFault.{LineFault}
 use Rattle.trace.specs.declared.observation.TickObs.{TickObs}
 use Rattle.trace.specs.declared.listing.Entry.{Entry}
 use Rattle.trace.specs.declared.probing.ProbeResult.{ProbeResult}
-use Rattle.trace.specs.declared.outcome.Outcome.TheVariants.{Success, Failure}
-use Rattle.trace.specs.declared.outcome.Outcome.TheVariants as outcomes
-use Rattle.trace.specs.declared.outcome.ProbeKind.TheVariants.{Startup, Liveness, Readiness}
+use Rattle.manifest.specs.declared.outcome.Outcome.TheVariants.{Success, Failure}
+use Rattle.manifest.specs.declared.outcome.Outcome.TheVariants as outcomes
+use Rattle.manifest.specs.declared.outcome.ProbeKind.TheVariants.{Startup, Liveness, Readiness}
 use Rattle.trace.specs.Lines.{lines_of}
 use Rattle.trace.specs.Node.{version_from, version_of, name_from, absent, eviction_unset, node_of}
 use Rattle.manifest.specs.declared.fault.ManifestFault.{ManifestFault}

@@ -3,11 +3,11 @@ use Rattle.std.proofs.Common.{◌≡◌, ◌∙◌, ℕ, zero, suc, Bool, true, 
 use Rattle.std.specs.Prelude.{◌==◌, ◌&&◌, ◌||◌}
 use Rattle.std.specs.List.{list_any}
 use Rattle.std.proofs.lemmas.Bool.{cases_Bool, and_parts, or_parts, eqb-true, eq-eqb}
-use Rattle.trace.specs.declared.outcome.Outcome.{Outcome}
-use Rattle.trace.specs.declared.outcome.ProbeKind.{ProbeKind}
-use Rattle.trace.specs.declared.outcome.ProbeKind.TheVariants.{Startup, Liveness, Readiness}
+use Rattle.manifest.specs.declared.outcome.Outcome.{Outcome}
+use Rattle.manifest.specs.declared.outcome.ProbeKind.{ProbeKind}
+use Rattle.manifest.specs.declared.outcome.ProbeKind.TheVariants.{Startup, Liveness, Readiness}
 use Rattle.trace.specs.declared.placing.PlacedResult.{PlacedResult}
-use Rattle.trace.specs.Results.{place}
+use Rattle.manifest.specs.ProbeKinds.{place}
 use Rattle.trace.specs.Placing.{has_twice, is_of_probe, are_of_one_probe}
 use Rattle.trace.specs.Observed.{outcome_in}
 use Rattle.trace.specs.Laws.{IsGiven, ResultsShown}

@@ -1,7 +1,7 @@
 use Rattle.std.proofs.Common.{arith, rules}
 use Rattle.std.proofs.lemmas.Grind.{common_steps}
-use Rattle.manifest.specs.declared.pod.Role.TheVariants.{Init, App}
-use Rattle.manifest.proofs.Roles.{each_of}
+use Rattle.manifest.specs.declared.reading.Place.TheVariants.{InitContainers, Containers}
+use Rattle.manifest.proofs.Placed.{each_of}
 use Rattle.manifest.proofs.reading.containers_of.Goals as goal
 
 pub new-requires : goal.new-requires
@@ -9,8 +9,8 @@ new-requires c = record {
   init = c.in_ok-init.init.items;
   apps = c.in_ok-apps.apps.items;
   in_order = c.in_ok-all.ensures;
-  init_first = each_of Init _ c.in_ok-init.ensures.roles;
-  apps_last = each_of App _ c.in_ok-apps.ensures.roles;
+  init_first = each_of InitContainers _ c.in_ok-init.ensures.of;
+  apps_last = each_of Containers _ c.in_ok-apps.ensures.of;
   some = grind (arith, common_steps);
   few = grind (arith, common_steps);
   apart = search rules;

@@ -1,5 +1,5 @@
 use Rattle.std.proofs.Common.{ℕ, ◌<◌}
-use Rattle.trace.specs.declared.outcome.Outcome.TheVariants.{Failure}
+use Rattle.manifest.specs.declared.outcome.Outcome.TheVariants.{Failure}
 use Rattle.probes.specs.Outcomes.{EndsRun}
 use Rattle.result_scan.proofs.runs.fails_in_a_row.Given as goal
 

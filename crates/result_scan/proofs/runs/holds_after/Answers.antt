@@ -1,6 +1,6 @@
 use Rattle.std.proofs.Common.{◌+◌, ◌<◌, length, arith}
 use Rattle.std.proofs.lemmas.Bool.{iff_false}
-use Rattle.trace.specs.declared.outcome.Outcome.TheVariants.{Success}
+use Rattle.manifest.specs.declared.outcome.Outcome.TheVariants.{Success}
 use Rattle.histories.proofs.First.{none_next}
 use Rattle.result_scan.specs.Scans.{HoldsFrom}
 use Rattle.result_scan.proofs.Places as places

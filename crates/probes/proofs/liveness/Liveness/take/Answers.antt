@@ -1,4 +1,4 @@
-use Rattle.trace.specs.declared.outcome.Outcome.TheVariants.{Failure}
+use Rattle.manifest.specs.declared.outcome.Outcome.TheVariants.{Failure}
 use Rattle.probes.proofs.Taken as taken
 use Rattle.probes.proofs.liveness.Liveness.take.Goals as goal
 

@@ -1,4 +1,4 @@
-use Rattle.trace.specs.declared.outcome.Outcome.TheVariants.{Success, Failure}
+use Rattle.manifest.specs.declared.outcome.Outcome.TheVariants.{Success, Failure}
 use Rattle.probes.proofs.Taken as taken
 use Rattle.probes.proofs.readiness.Readiness.take.Goals as goal
 
