@@ -87,7 +87,7 @@ fn field_of(place: Place) -> Field
     }
 }
 
-/// An item of `initContainers` with a restart policy of its own is a sidecar.
+/// The role of an item of `initContainers` with a restart policy of its own, which has to be `Always`.
 fn sidecar_from(own_policy: Option<&str>) -> Result<Role, ManifestFault>
     ensures gives { GivesExactly (λ r. r) result (sidecar_from (option_map (λ s. s.now) own_policy.entry)) }
     ensures is { IfOk result (λ role. role ≡ Sidecar) }
