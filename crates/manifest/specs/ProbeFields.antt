@@ -21,9 +21,12 @@ abbrev pub not_from_0 : Option ℤ → Result ℕ ManifestFault
 not_from_0 None = Err (WrongKind fields.Probe)
 not_from_0 (Some z) = Err ProbeRange
 
+abbrev pub in_range : ℕ → ℕ → ℕ → Result ℕ ManifestFault
+in_range least most n = if nat_le least n && nat_le n most then Ok n else Err ProbeRange
+
 abbrev pub number_from : ℕ → ℕ → Data → Option ℕ → Result ℕ ManifestFault
 number_from least most d None = not_from_0 (option_and_then as_i64 (as_number d))
-number_from least most d (Some n) = if nat_le least n && nat_le n most then Ok n else Err ProbeRange
+number_from least most d (Some n) = in_range least most n
 
 -- a number of a probe in its range, or its default where none is written
 abbrev pub number_of : ℕ → ℕ → ℕ → Option Data → Result ℕ ManifestFault

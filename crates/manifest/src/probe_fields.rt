@@ -5,7 +5,7 @@ ghost use Rattle.serde_json.specs.View.{view};
 ghost use Rattle.manifest.specs.declared.pod.Role.TheVariants.{Init};
 ghost use Rattle.manifest.specs.Gives.{GivesExactly};
 ghost use Rattle.manifest.specs.Probe.{SucceedsByOne, no_probes};
-ghost use Rattle.manifest.specs.ProbeFields.{number_of, probe_in, probe_of, some_probes, unprobed, probes_of};
+ghost use Rattle.manifest.specs.ProbeFields.{in_range, number_of, probe_in, probe_of, some_probes, unprobed, probes_of};
 
 use crate::fault::{Field, ManifestFault};
 use crate::fields::{absent, object};
@@ -16,6 +16,17 @@ use serde_json::Value;
 
 /// No number of a probe is greater.
 const GREATEST: u32 = (1 << 31) - 1;
+
+fn in_range(least: u32, most: u32, number: u64) -> Result<u32, ManifestFault>
+    ensures gives { GivesExactly (λ n. n) result (in_range least most number) }
+    ensures range { IfOk result (λ n. (least ≤ n) × (n ≤ most)) }
+{
+    if u64::from(least) <= number && number <= u64::from(most) {
+        Ok(number as u32)
+    } else {
+        Err(ManifestFault::ProbeRange)
+    }
+}
 
 fn number_of(
     least: u32,
@@ -31,10 +42,7 @@ fn number_of(
         return Ok(default);
     };
     match value.as_u64() {
-        Some(number) if u64::from(least) <= number && number <= u64::from(most) => {
-            Ok(number as u32)
-        }
-        Some(_) => Err(ManifestFault::ProbeRange),
+        Some(number) => in_range(least, most, number),
         None if value.is_i64() => Err(ManifestFault::ProbeRange),
         None => Err(ManifestFault::WrongKind(Field::Probe)),
     }

@@ -4,9 +4,10 @@ ghost use Rattle.std.specs.Prelude.{◌≡◌, ◌≤◌, ◌<◌, ◌+◌, ◌+
 ghost use Rattle.std.specs.List.{list_any};
 ghost use Rattle.serde_json.specs.View.{view};
 ghost use Rattle.json_fields.specs.Reading.{each};
+ghost use Rattle.manifest.specs.declared.pod.Role.TheVariants.{Sidecar};
 ghost use Rattle.manifest.specs.Gives.{Gives, GivesExactly};
 ghost use Rattle.manifest.specs.Containers.{has_twice, MayHave, IsOf, AllOf};
-ghost use Rattle.manifest.specs.Manifest.{policy_of, priority_of, grace_period_of, field_of, role_of, container_of, few, apart, containers_of, app_items_of, containers_in, metadata_of, settings_in, spec_of, pod_at};
+ghost use Rattle.manifest.specs.Manifest.{policy_of, priority_from, priority_of, grace_period_from, grace_period_of, field_of, sidecar_from, role_of, container_of, few, apart, containers_of, app_items_of, containers_in, metadata_of, settings_in, spec_of, pod_at};
 
 use crate::fault::{Field, ManifestFault};
 use crate::fields::{Grammar, array, array_or_none, object, required_text, some_items, text_or};
@@ -34,27 +35,39 @@ fn policy_of(found: Option<&Value>) -> Result<Policy, ManifestFault>
     }
 }
 
+fn priority_from(number: Option<i64>) -> Result<i32, ManifestFault>
+    ensures { GivesExactly (λ n. n) result (priority_from number) }
+{
+    match number {
+        Some(number) if i32::MIN as i64 <= number && number <= i32::MAX as i64 => Ok(number as i32),
+        _ => Err(ManifestFault::WrongKind(Field::Priority)),
+    }
+}
+
 fn priority_of(found: Option<&Value>) -> Result<i32, ManifestFault>
     ensures { GivesExactly (λ n. n) result (priority_of (option_map (λ v. view v.now) found.entry)) }
 {
-    let Some(value) = found else {
-        return Ok(0);
-    };
-    match value.as_i64() {
-        Some(number) if i32::MIN as i64 <= number && number <= i32::MAX as i64 => Ok(number as i32),
-        _ => Err(ManifestFault::WrongKind(Field::Priority)),
+    match found {
+        None => Ok(0),
+        Some(value) => priority_from(value.as_i64()),
+    }
+}
+
+fn grace_period_from(seconds: Option<u64>) -> Result<GracePeriod, ManifestFault>
+    ensures { GivesExactly (λ n. n) result (grace_period_from seconds) }
+{
+    match seconds {
+        Some(seconds) if seconds < 1 << 40 => Ok(GracePeriod::new(seconds)),
+        _ => Err(ManifestFault::WrongKind(Field::GracePeriod)),
     }
 }
 
 fn grace_period_of(found: Option<&Value>) -> Result<GracePeriod, ManifestFault>
     ensures { GivesExactly (λ n. n) result (grace_period_of (option_map (λ v. view v.now) found.entry)) }
 {
-    let Some(value) = found else {
-        return Ok(GracePeriod::new(30));
-    };
-    match value.as_u64() {
-        Some(seconds) if seconds < 1 << 40 => Ok(GracePeriod::new(seconds)),
-        _ => Err(ManifestFault::WrongKind(Field::GracePeriod)),
+    match found {
+        None => Ok(GracePeriod::new(30)),
+        Some(value) => grace_period_from(value.as_u64()),
     }
 }
 
@@ -74,6 +87,17 @@ fn field_of(place: Place) -> Field
     }
 }
 
+/// The role of an item of `initContainers` with a restart policy of its own, which has to be `Always`.
+fn sidecar_from(own_policy: Option<&str>) -> Result<Role, ManifestFault>
+    ensures gives { GivesExactly (λ r. r) result (sidecar_from (option_map (λ s. s.now) own_policy.entry)) }
+    ensures is { IfOk result (λ role. role ≡ Sidecar) }
+{
+    match own_policy {
+        Some("Always") => Ok(Role::Sidecar),
+        _ => Err(ManifestFault::Sidecar),
+    }
+}
+
 /// What a container is to its pod, by where it is written and by its own restart policy.
 fn role_of(place: Place, own_policy: Option<&Value>) -> Result<Role, ManifestFault>
     ensures gives { GivesExactly (λ r. r) result (role_of place (option_map (λ v. view v.now) own_policy.entry)) }
@@ -81,11 +105,9 @@ fn role_of(place: Place, own_policy: Option<&Value>) -> Result<Role, ManifestFau
 {
     match (place, own_policy) {
         (Place::InitContainers, None) => Ok(Role::Init),
+        (Place::InitContainers, Some(policy)) => sidecar_from(policy.as_str()),
         (Place::Containers, None) => Ok(Role::App),
-        (Place::InitContainers, Some(policy)) if policy.as_str() == Some("Always") => {
-            Ok(Role::Sidecar)
-        }
-        _ => Err(ManifestFault::Sidecar),
+        (Place::Containers, Some(_)) => Err(ManifestFault::Sidecar),
     }
 }
 
