@@ -1,15 +1,12 @@
-//! Tests of the replay, from the bytes of a trace to the bytes of its report: expected values worked out by hand.
+//! Tests of what no text of a case reaches: single calls, traces as values, inputs that are cut, large or stop, and
+//! writers that stop.
 #![tactic(auto)]
 
 #[cfg(test)]
-mod fault_tests;
-#[cfg(test)]
 mod lists_tests;
 #[cfg(test)]
-mod probe_results_tests;
+mod replay_tests;
 #[cfg(test)]
-mod report_tests;
+mod size_tests;
 #[cfg(test)]
-mod support;
-#[cfg(test)]
-mod text_tests;
+mod trace_tests;

@@ -1,12 +1,8 @@
 //! The back-off over lists of exits, and after which exits a container is started again.
 
-ghost use Rattle.std.specs.Prelude.{◌^◌, ◌<◌};
-
-use crate::random::next;
 use manifest::Policy;
 use restarts::{Backoff, wants_restart};
 use std::process::Abort;
-use std::test::Fail;
 
 #[test]
 fn delays_double_until_a_long_run(rt: HostRuntime) {
@@ -63,50 +59,4 @@ fn policy_init_and_code_decide_a_restart(rt: HostRuntime) {
         expect_after_failures(&rt, policy, false, app_failure);
         expect_after_failures(&rt, policy, true, init_failure);
     }
-}
-
-/// The delay of the last of some exits, given by their runs, from the rule alone.
-fn slow_delay(runs: &[u64]) -> u64 {
-    let mut start = 0;
-    for (place, run) in runs.iter().enumerate() {
-        if *run >= 600 {
-            start = place;
-        }
-    }
-    let number = runs.len().saturating_sub(start);
-    if number < 2 {
-        return 0;
-    }
-    let mut delay = 10u64;
-    for _ in 2..number {
-        delay = delay.saturating_mul(2).min(300);
-    }
-    delay
-}
-
-/// A moment after those of smaller numbers.
-fn moment_of(number: u64, random: u64) -> u64
-    requires { number < 10000 }
-    ensures { result < 2 ^ 40 }
-{
-    number * 5000 + random % 5000
-}
-
-#[test]
-fn many_exits_are_put_off_as_the_whole_list_says(rt: HostRuntime) -> Result<(), Fail> {
-    let lengths = [
-        0, 1, 5, 60, 599, 600, 601, 300, 12, 599, 2, 100000, 30, 7, 1, 0,
-    ];
-    let mut random = 20_261_122;
-    let mut runs = Vec::new(rt.alloc());
-    let mut backoff = Backoff::new();
-    for i in 0..10000u64 {
-        let at = moment_of(i, next(&mut random));
-        let run = lengths[next(&mut random) as usize % lengths.len()];
-        runs.push(run)?;
-        let delay = slow_delay(&runs);
-        assert_eq!(rt; backoff.exited(run, at), delay, "exit {i}");
-        assert_eq!(rt; backoff.due(), Some(at.saturating_add(delay)), "exit {i}");
-    }
-    Ok(())
 }

@@ -1,11 +1,13 @@
-//! Eviction thresholds: worked values, and the watch beside a program that looks through all samples.
+//! Eviction thresholds, over samples worked out by hand.
 
-use crate::random::next;
 use quantity::{Limit, Percent, Quantity};
-use sample_scan::{Sample, is_active, is_due};
 use std::process::Abort;
-use std::test::Fail;
 use thresholds::{Threshold, Watch};
+
+/// So many mebibytes, in thousandths of a byte.
+fn mebibytes(count: u32) -> u128 {
+    u128::from(count) * 1_048_576_000
+}
 
 /// A threshold of so many mebibytes, with a reclaim in mebibytes and a grace in seconds.
 fn watch(limit: u32, reclaim: u32, grace: u64) -> Watch {
@@ -17,19 +19,20 @@ fn watch(limit: u32, reclaim: u32, grace: u64) -> Watch {
     Watch::new(threshold, None)
 }
 
-/// So many mebibytes, in thousandths of a byte.
-fn mebibytes(count: u32) -> u128 {
-    u128::from(count) * 1_048_576_000
-}
+/// A sample: moment, value in mebibytes, and then whether the threshold is active and due.
+type Sample = (u64, Option<u32>, (bool, bool));
 
-/// Takes a sample of so many mebibytes, and compares whether the threshold is active and due.
-fn take(rt: &impl Abort, watch: &mut Watch, at: u64, value: Option<u32>, wanted: (bool, bool)) {
-    let value = match value {
-        Some(count) => Some(mebibytes(count)),
-        None => None,
-    };
-    watch.sample(at, value);
-    assert_eq!(rt; (watch.active(), watch.due()), wanted, "at {at}");
+/// Takes the samples, and compares what the watch says after each.
+fn follow(rt: &impl Abort, mut watch: Watch, samples: &[Sample]) {
+    assert_eq!(rt; (watch.active(), watch.due()), OFF);
+    for (at, value, wanted) in samples {
+        let value = match value {
+            Some(count) => Some(mebibytes(*count)),
+            None => None,
+        };
+        watch.sample(*at, value);
+        assert_eq!(rt; (watch.active(), watch.due()), *wanted, "at {at}");
+    }
 }
 
 const OFF: (bool, bool) = (false, false);
@@ -40,47 +43,51 @@ const DUE: (bool, bool) = (true, true);
 
 #[test]
 fn threshold_clears_at_limit_plus_reclaim(rt: HostRuntime) {
-    let mut low = watch(100, 500, 0);
-    assert_eq!(rt; (low.active(), low.due()), OFF);
-    take(&rt, &mut low, 0, Some(90), DUE);
-    take(&rt, &mut low, 10, Some(400), DUE);
-    take(&rt, &mut low, 20, Some(599), DUE);
-    take(&rt, &mut low, 30, Some(600), OFF);
-    take(&rt, &mut low, 40, Some(400), OFF);
-    let mut high = watch(100, 500, 0);
-    take(&rt, &mut high, 0, Some(100), OFF);
-    take(&rt, &mut high, 10, Some(400), OFF);
+    let below = [
+        (0, Some(90), DUE),
+        (10, Some(400), DUE),
+        (20, Some(599), DUE),
+        (30, Some(600), OFF),
+        (40, Some(400), OFF),
+    ];
+    follow(&rt, watch(100, 500, 0), &below);
+    let at_the_limit = [(0, Some(100), OFF), (10, Some(400), OFF)];
+    follow(&rt, watch(100, 500, 0), &at_the_limit);
+    let zero = [(0, Some(0), OFF), (10, None, OFF), (20, Some(1), OFF)];
+    follow(&rt, watch(0, 500, 0), &zero);
 }
 
 #[test]
 fn absent_value_clears_a_threshold(rt: HostRuntime) {
-    let mut memory = watch(100, 500, 0);
-    take(&rt, &mut memory, 0, None, OFF);
-    take(&rt, &mut memory, 5, Some(90), DUE);
-    take(&rt, &mut memory, 10, None, OFF);
-    take(&rt, &mut memory, 20, Some(400), OFF);
-    take(&rt, &mut memory, 30, Some(99), DUE);
+    let samples = [
+        (0, None, OFF),
+        (5, Some(90), DUE),
+        (10, None, OFF),
+        (20, Some(400), OFF),
+        (30, Some(99), DUE),
+    ];
+    follow(&rt, watch(100, 500, 0), &samples);
 }
 
 #[test]
 fn soft_threshold_is_due_after_its_grace(rt: HostRuntime) {
-    let mut soft = watch(1024, 0, 90);
-    take(&rt, &mut soft, 0, Some(500), ACTIVE);
-    take(&rt, &mut soft, 89, Some(400), ACTIVE);
-    take(&rt, &mut soft, 90, Some(500), DUE);
-    take(&rt, &mut soft, 100, Some(1024), OFF);
-    take(&rt, &mut soft, 110, Some(1023), ACTIVE);
-    take(&rt, &mut soft, 199, Some(1023), ACTIVE);
-    take(&rt, &mut soft, 200, Some(1023), DUE);
-}
-
-#[test]
-fn grace_runs_on_between_limit_and_reclaim(rt: HostRuntime) {
-    let mut soft = watch(100, 500, 60);
-    take(&rt, &mut soft, 7, Some(90), ACTIVE);
-    take(&rt, &mut soft, 40, Some(550), ACTIVE);
-    take(&rt, &mut soft, 50, Some(10), ACTIVE);
-    take(&rt, &mut soft, 67, Some(550), DUE);
+    let samples = [
+        (0, Some(500), ACTIVE),
+        (89, Some(400), ACTIVE),
+        (90, Some(500), DUE),
+        (100, Some(1024), OFF),
+        (110, Some(1023), ACTIVE),
+        (199, Some(1023), ACTIVE),
+        (200, Some(1023), DUE),
+    ];
+    follow(&rt, watch(1024, 0, 90), &samples);
+    let between_limit_and_reclaim = [
+        (7, Some(90), ACTIVE),
+        (40, Some(550), ACTIVE),
+        (50, Some(10), ACTIVE),
+        (67, Some(550), DUE),
+    ];
+    follow(&rt, watch(100, 500, 60), &between_limit_and_reclaim);
 }
 
 #[test]
@@ -92,60 +99,13 @@ fn percentage_is_of_the_capacity(rt: HostRuntime) {
     };
     // of 10,001 thousandths: below 1000, and until 1333
     let mut disk = Watch::new(threshold, Some(10001));
-    disk.sample(0, Some(1000));
-    assert!(rt; !disk.active());
-    disk.sample(1, Some(999));
-    assert!(rt; disk.active());
-    disk.sample(2, Some(1332));
-    assert!(rt; disk.active());
-    disk.sample(3, Some(1333));
-    assert!(rt; !disk.active());
-}
-
-#[test]
-fn zero_threshold_is_never_active(rt: HostRuntime) {
-    let mut zero = watch(0, 500, 0);
-    take(&rt, &mut zero, 0, Some(0), OFF);
-    take(&rt, &mut zero, 10, None, OFF);
-    take(&rt, &mut zero, 20, Some(1), OFF);
-}
-
-/// A value drawn from a random number: absent, or below 800 MiB.
-fn draw(random: u64) -> Option<u128> {
-    match random % 16 {
-        0 => None,
-        step => Some(mebibytes(50 * (step as u32))),
+    for (at, value, active) in [
+        (0, 1000, false),
+        (1, 999, true),
+        (2, 1332, true),
+        (3, 1333, false),
+    ] {
+        disk.sample(at, Some(value));
+        assert_eq!(rt; disk.active(), active, "at {at}");
     }
-}
-
-/// Compares a watch with a scan of all samples; the limit and the reclaim are in mebibytes.
-fn compare(
-    rt: &impl Abort,
-    samples: &[Sample],
-    watch: &Watch,
-    (limit, reclaim, grace): (u32, u32, u64),
-) {
-    let (limit, reclaim) = (mebibytes(limit), mebibytes(reclaim));
-    assert_eq!(rt; watch.active(), is_active(samples, limit, reclaim));
-    assert_eq!(rt; watch.due(), is_due(samples, limit, reclaim, grace));
-}
-
-#[test]
-fn watch_agrees_with_a_scan_of_all_samples(rt: HostRuntime) -> Result<(), Fail> {
-    let mut random = 20_261_122;
-    let mut at = 0u64;
-    let mut samples = Vec::new(rt.alloc());
-    let mut hard = watch(300, 0, 0);
-    let mut soft = watch(200, 500, 60);
-    for _ in 0..10_000 {
-        at = at.saturating_add(1 + next(&mut random) % 30);
-        let value = draw(next(&mut random));
-        samples.push(Sample { at, value })?;
-        hard.sample(at, value);
-        soft.sample(at, value);
-        compare(&rt, &samples, &hard, (300, 0, 0));
-        compare(&rt, &samples, &soft, (200, 500, 60));
-    }
-    assert_eq!(rt; samples.len(), 10_000);
-    Ok(())
 }

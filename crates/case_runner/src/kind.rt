@@ -1,0 +1,66 @@
+//! What the texts of a table are.
+
+use crate::replays::{Answer, answer_of};
+use crate::{manifest_text, texts};
+use anyhow::Result;
+use std::alloc::Global;
+
+/// What the texts of a table are.
+#[derive(Drop)]
+pub(crate) enum Kind {
+    /// The last line of a trace, after these lines.
+    LineAfter(String),
+    Quantity,
+    PrintedQuantity,
+    Percentage,
+    PrintedPercentage,
+    Duration,
+    Limit,
+    Name,
+    Manifest,
+    Class,
+}
+
+impl Kind {
+    /// The kind of the table of this name in `texts/`.
+    pub(crate) fn of_name(name: &str) -> Option<Kind> {
+        match name {
+            "quantity" => Some(Kind::Quantity),
+            "printed_quantity" => Some(Kind::PrintedQuantity),
+            "percentage" => Some(Kind::Percentage),
+            "printed_percentage" => Some(Kind::PrintedPercentage),
+            "duration" => Some(Kind::Duration),
+            "limit" => Some(Kind::Limit),
+            "name" => Some(Kind::Name),
+            "manifest" => Some(Kind::Manifest),
+            "class" => Some(Kind::Class),
+            _ => None,
+        }
+    }
+
+    /// What the text is answered.
+    pub(crate) fn answer_of(&self, alloc: Global, text: &str) -> Result<String> {
+        let bytes = text.as_bytes();
+        Ok(match self {
+            Kind::LineAfter(before) => return after(alloc, before.as_str(), text),
+            Kind::Quantity => texts::quantity(alloc, bytes)?,
+            Kind::PrintedQuantity => texts::printed_quantity(alloc, bytes)?,
+            Kind::Percentage => texts::percentage(alloc, bytes)?,
+            Kind::PrintedPercentage => texts::printed_percentage(alloc, bytes)?,
+            Kind::Duration => texts::duration(alloc, bytes)?,
+            Kind::Limit => texts::limit(alloc, bytes)?,
+            Kind::Name => texts::name(alloc, bytes)?,
+            Kind::Manifest => return manifest_text::pod(alloc, text),
+            Kind::Class => return manifest_text::class(alloc, text),
+        })
+    }
+}
+
+/// How a trace is answered that ends in this line.
+fn after(alloc: Global, before: &str, line: &str) -> Result<String> {
+    let trace = format!(in alloc; "{before}{line}\n")?;
+    match answer_of(alloc, trace.as_bytes())? {
+        Answer::Report(_) => Ok(String::from_str(alloc, "accepted")?),
+        Answer::Refusal(refusal) => Ok(refusal),
+    }
+}

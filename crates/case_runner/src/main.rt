@@ -1,0 +1,58 @@
+//! Runs the cases that lie in its folder, and prints how many there are: traces beside their answers, manifests beside
+//! what is read of them, and tables of texts. It ends at the first that is answered otherwise, and names it.
+#![tactic(auto)]
+
+mod compare;
+mod files;
+mod kind;
+mod manifest_text;
+mod manifests;
+mod replays;
+mod table;
+mod texts;
+mod traces;
+
+use anyhow::{Context, Result};
+use kind::Kind;
+use std::alloc::Global;
+use std::rt::Runtime;
+
+/// Replays the traces of each folder of `traces/`.
+fn run_traces(rt: &(impl Runtime + AllocGlobal)) -> Result<()> {
+    for family in files::names_in(rt, "traces", "")? {
+        let folder = format!(in rt.alloc(); "traces/{family}")?;
+        let count = traces::run_all(rt, folder.as_str())?;
+        println!(rt; "{folder}: {count} traces")?;
+    }
+    Ok(())
+}
+
+/// Runs each table of `lines/`, whose texts are lines that come after those of a file.
+fn run_lines(rt: &(impl Runtime + AllocGlobal)) -> Result<()> {
+    for name in files::names_in(rt, "lines", ".table")? {
+        let path = format!(in rt.alloc(); "lines/{name}")?;
+        let before = files::text_of(rt, path.as_str(), "before")?;
+        let count = table::run(rt, path.as_str(), &Kind::LineAfter(before))?;
+        println!(rt; "{path}: {count} lines")?;
+    }
+    Ok(())
+}
+
+/// Runs each table of `texts/`, whose name says what is read.
+fn run_texts(rt: &(impl Runtime + AllocGlobal)) -> Result<()> {
+    for name in files::names_in(rt, "texts", ".table")? {
+        let path = format!(in rt.alloc(); "texts/{name}")?;
+        let kind = Kind::of_name(name.as_str()).context("a table of an unknown name")?;
+        let count = table::run(rt, path.as_str(), &kind)?;
+        println!(rt; "{path}: {count} texts")?;
+    }
+    Ok(())
+}
+
+fn main(rt: HostRuntime) -> Result<()> {
+    run_traces(&rt)?;
+    run_lines(&rt)?;
+    let count = manifests::run_all(&rt, "manifests")?;
+    println!(rt; "manifests: {count} manifests")?;
+    run_texts(&rt)
+}

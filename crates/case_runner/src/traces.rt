@@ -1,0 +1,32 @@
+//! Traces, each beside its report or its refusal.
+
+use crate::compare::expect;
+use crate::files::{bytes_of, names_in, text_of};
+use crate::replays::{Answer, answer_of};
+use anyhow::Result;
+use std::rt::Runtime;
+
+/// Replays the trace of this path.
+fn run_one(rt: &(impl Runtime + AllocGlobal), path: &str) -> Result<()> {
+    let trace = bytes_of(rt, path, "trace")?;
+    match answer_of(rt.alloc(), &trace)? {
+        Answer::Report(report) => {
+            let wanted = text_of(rt, path, "report")?;
+            expect(rt, path, report.as_str(), wanted.as_str())
+        }
+        Answer::Refusal(refusal) => {
+            let wanted = text_of(rt, path, "refusal")?;
+            expect(rt, path, refusal.as_str(), wanted.trim_end())
+        }
+    }
+}
+
+/// Replays the traces of a folder, and says how many there are.
+pub(crate) fn run_all(rt: &(impl Runtime + AllocGlobal), folder: &str) -> Result<usize> {
+    let names = names_in(rt, folder, ".trace")?;
+    for name in names.as_slice() {
+        let path = format!(in rt.alloc(); "{folder}/{name}")?;
+        run_one(rt, path.as_str())?;
+    }
+    Ok(names.len())
+}

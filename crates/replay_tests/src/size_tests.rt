@@ -1,0 +1,105 @@
+//! The greatest lines, traces and inputs.
+
+use crate::replay_tests::{expect, refused};
+use kubelet_replay::{Counted, MemSink, RunFault, replay_alone};
+use std::alloc::{AllocError, Global};
+use std::io;
+use std::io::Read;
+use std::test::Fail;
+use trace::LineKind;
+
+/// A node line, with its newline.
+const NODE: &str = "{\"kind\":\"node\",\"name\":\"n1\"}\n";
+
+/// So many spaces, and this behind them.
+fn after_spaces(alloc: Global, spaces: usize, end: &str) -> Result<String, AllocError> {
+    let mut text = " ".repeat(alloc, spaces)?;
+    text.push_str(end)?;
+    Ok(text)
+}
+
+#[test]
+fn lines_may_have_one_mebibyte(rt: HostRuntime) -> Result<(), Fail> {
+    let blank = "\n{\"kind\":\"node\",\"name\":\"n1\"}\n";
+    for (spaces, end, wanted) in [
+        // a node line has 27 bytes
+        (1_048_549, NODE, Ok(())),
+        (1_048_550, NODE, refused(1, LineKind::TooLong)),
+        (1_048_577, blank, Ok(())),
+        // no JSON either, which is said of a line of one byte less
+        (1_048_576, "{", refused(1, LineKind::TooLong)),
+        (1_048_575, "{", refused(1, LineKind::NotJson)),
+    ] {
+        let text = after_spaces(rt.alloc(), spaces, end)?;
+        expect(&rt, rt.alloc(), text.as_bytes(), wanted, "");
+    }
+    Ok(())
+}
+
+/// A pod, and ticks a second apart from 0 on, which list none of its containers.
+fn idle_ticks(alloc: Global, count: u64) -> Result<String, AllocError> {
+    let mut text = String::from_str(alloc, NODE)?;
+    text.push_str(
+        "{\"kind\":\"pod\",\"pod\":{\"metadata\":{\"name\":\"a\"},\"spec\":{\"containers\":[{\"name\":\"c\"}]}}}\n",
+    )?;
+    for at in 0..count {
+        let tick = format!(in alloc;
+            "{{\"kind\":\"tick\",\"at\":{at},\"pods\":[{{\"pod\":\"default/a\",\"containers\":[]}}]}}\n"
+        )?;
+        text.push_str(tick.as_str())?;
+    }
+    Ok(text)
+}
+
+/// The report where the last of 20,000 ticks alone lists the container.
+const LAST_TICK_REPORT: &str = "pod 0 default/a phase=Running reason=- qos=BestEffort
+condition 0 PodScheduled True 0
+condition 0 Initialized True 0
+condition 0 ContainersReady True 19999
+condition 0 Ready True 19999
+container 0 c state=Running code=- restarts=0 ready=true started=true
+";
+
+#[test]
+fn traces_may_have_20_000_ticks(rt: HostRuntime) -> Result<(), Fail> {
+    let mut text = idle_ticks(rt.alloc(), 19_999)?;
+    text.push_str(
+        r#"{"kind":"tick","at":19999,"pods":[{"pod":"default/a","containers":[{"name":"c","state":1}]}]}"#,
+    )?;
+    expect(&rt, rt.alloc(), text.as_bytes(), Ok(()), LAST_TICK_REPORT);
+    // one more tick, whose moment is faulty too
+    text.push_str("\n{\"kind\":\"tick\",\"at\":0}\n")?;
+    let wanted = refused(20_003, LineKind::TooMany);
+    expect(&rt, rt.alloc(), text.as_bytes(), wanted, "");
+    Ok(())
+}
+
+/// So many spaces, which nobody keeps.
+#[derive(Drop)]
+struct Spaces {
+    left: usize,
+}
+
+impl Read for Spaces {
+    fn read(&mut self, buffer: &mut [u8]) -> io::Result<usize> {
+        let n = self.left.min(buffer.len());
+        buffer[..n].fill(b' ');
+        self.left -= n;
+        Ok(n)
+    }
+}
+
+#[test]
+fn inputs_may_have_64_mebibytes(rt: HostRuntime) {
+    for (left, wanted) in [
+        (67_108_864, refused(2, LineKind::Order)),
+        (67_108_865, Err(RunFault::TooLong)),
+    ] {
+        let mut room = [0u8; 10];
+        let mut input = Counted::new(Spaces { left });
+        let mut output = MemSink::new(&mut room, 10);
+        let answer = replay_alone(rt.alloc(), &mut input, &mut output);
+        assert_eq!(rt; answer, wanted, "{left} bytes");
+        assert!(rt; output.written().is_empty());
+    }
+}
