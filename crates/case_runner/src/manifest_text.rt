@@ -70,7 +70,7 @@ impl Pieces<'_> {
         alloc: Global,
         container: &ContainerSpec,
     ) -> Result<(), AllocError> {
-        let (role, name) = (container.role, container.name.as_str());
+        let (role, name) = (container.role(), container.name.as_str());
         let piece = format!(in alloc; "{role:?} {name}")?;
         self.push(piece.as_str())?;
         self.push_amounts(alloc, "requests", container.resources.requests())?;

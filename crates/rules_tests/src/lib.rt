@@ -6,6 +6,8 @@ mod instances_tests;
 #[cfg(test)]
 mod phase_tests;
 #[cfg(test)]
+mod pod_tests;
+#[cfg(test)]
 mod pressure_tests;
 #[cfg(test)]
 mod probes_tests;
@@ -17,3 +19,5 @@ mod replay_stream_tests;
 mod restarts_tests;
 #[cfg(test)]
 mod thresholds_tests;
+#[cfg(test)]
+mod views;

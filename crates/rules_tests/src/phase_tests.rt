@@ -1,73 +1,15 @@
-use crate::instances_tests::take;
-use manifest::Policy::{self, Always, Never, OnFailure};
-use phase::Phase::{Failed, Pending, Succeeded};
+//! The phase by roles, and conditions, over views and values worked out by hand.
+
+use crate::views::{ABSENT, as_role, created, exited, running};
+use manifest::Policy::{Always, Never, OnFailure};
+use manifest::Role::{Init, Sidecar};
+use phase::Phase::{self, Failed, Pending, Succeeded};
 use phase::{
-    Conditions, ContainerState, ContainerView, Phase, PodShape, PodStatus, Values, container_state,
-    container_status, is_never, is_restart_wanted, raw_phase,
+    Conditions, ContainerState, ContainerView, Values, are_initialized, container_state, raw_phase,
 };
-use state_diff::{CriState, Differ, Seen};
-use std::process::Abort;
-use std::test::Fail;
-
-const ABSENT: ContainerView = ContainerView {
-    seen: None,
-    set_up: false,
-};
-
-fn view(state: CriState, set_up: bool) -> ContainerView {
-    ContainerView {
-        seen: Some(Seen {
-            attempt: 0,
-            state,
-            code: state.is_exited().then_some(0),
-        }),
-        set_up,
-    }
-}
-
-fn created() -> ContainerView {
-    view(CriState::Created, false)
-}
-
-fn running() -> ContainerView {
-    view(CriState::Running, true)
-}
-
-fn exited(code: i32) -> ContainerView {
-    ContainerView {
-        seen: Some(Seen {
-            attempt: 0,
-            state: CriState::Exited,
-            code: Some(code),
-        }),
-        set_up: true,
-    }
-}
-
-fn shape(policy: Policy, init_count: u8, app_count: u8) -> PodShape {
-    let init_count = usize::from(init_count);
-    PodShape {
-        policy,
-        container_count: init_count + usize::from(app_count),
-        init_count,
-    }
-}
-
-/// Advances over a tick.
-fn tick(
-    rt: &impl Abort,
-    status: &mut PodStatus,
-    pod: PodShape,
-    at: u64,
-    containers: &[ContainerView],
-    is_evicted: bool,
-) {
-    assert_eq!(rt; containers.len(), pod.container_count);
-    status.advance(pod, at, containers, is_evicted);
-}
 
 #[test]
-fn raw_phase_of_one_app_container(rt: HostRuntime) -> Result<(), Fail> {
+fn raw_phase_of_one_app_container(rt: HostRuntime) {
     let cases = [
         (Always, ABSENT, Pending),
         (Always, created(), Pending),
@@ -77,227 +19,118 @@ fn raw_phase_of_one_app_container(rt: HostRuntime) -> Result<(), Fail> {
         (OnFailure, exited(0), Succeeded),
         (OnFailure, exited(1), Phase::Running),
         (OnFailure, exited(-1), Phase::Running),
-        (Never, exited(0), Succeeded),
-        (Never, exited(137), Failed),
         (Never, running(), Phase::Running),
+        (Never, exited(0), Succeeded),
+        (Never, exited(1), Failed),
+        (Never, exited(-1), Failed),
     ];
     for (policy, container, phase) in cases {
         assert_eq!(rt;
-            raw_phase(policy, &[container], 0),
+            raw_phase(policy, &[container]),
             phase,
             "{policy:?} {container:?}"
         );
     }
-    Ok(())
 }
 
 #[test]
-fn raw_phase_of_several_containers(rt: HostRuntime) -> Result<(), Fail> {
+fn raw_phase_of_several_containers(rt: HostRuntime) {
+    let init = |view| as_role(Init, view);
+    let sidecar = |view| as_role(Sidecar, view);
     let cases = [
-        (Never, [exited(1), ABSENT], 1, Failed),
-        (Never, [exited(1), exited(0)], 1, Failed),
-        (Always, [exited(1), ABSENT], 1, Pending),
-        (OnFailure, [exited(1), running()], 1, Pending),
-        (Never, [running(), exited(0)], 1, Pending),
-        (Never, [exited(0), ABSENT], 1, Pending),
-        (Never, [exited(0), exited(0)], 1, Succeeded),
-        (Never, [exited(0), exited(1)], 0, Failed),
-        (Never, [exited(1), running()], 0, Phase::Running),
-        (OnFailure, [exited(1), exited(0)], 0, Phase::Running),
-        (Never, [exited(0), ABSENT], 0, Pending),
+        (Never, [init(exited(1)), ABSENT], Failed),
+        (Never, [init(exited(1)), exited(0)], Failed),
+        (Always, [init(exited(1)), ABSENT], Pending),
+        (OnFailure, [init(exited(1)), running()], Pending),
+        (Never, [init(running()), exited(0)], Pending),
+        (Never, [init(exited(0)), ABSENT], Pending),
+        (Never, [init(exited(0)), exited(0)], Succeeded),
+        (Never, [exited(0), exited(1)], Failed),
+        (Never, [exited(1), running()], Phase::Running),
+        (OnFailure, [exited(1), exited(0)], Phase::Running),
+        (Never, [exited(0), ABSENT], Pending),
+        // A sidecar that was never started is waited for; one that runs or has exited holds no pod.
+        (Never, [sidecar(created()), exited(0)], Pending),
+        (Never, [sidecar(running()), ABSENT], Pending),
+        (Never, [sidecar(running()), running()], Phase::Running),
+        (Never, [sidecar(running()), exited(0)], Succeeded),
+        (Never, [sidecar(running()), exited(1)], Failed),
+        (Never, [sidecar(exited(1)), running()], Phase::Running),
+        (Never, [sidecar(exited(1)), exited(0)], Succeeded),
     ];
-    for (policy, containers, n_init, phase) in cases {
-        assert!(rt; n_init <= containers.len());
+    for (policy, containers, phase) in cases {
         assert_eq!(rt;
-            raw_phase(policy, &containers, n_init),
+            raw_phase(policy, &containers),
             phase,
             "{policy:?} {containers:?}"
         );
     }
-    Ok(())
 }
 
 #[test]
-fn pod_succeeds(rt: HostRuntime) -> Result<(), Fail> {
-    let pod = shape(Never, 0, 1);
-    let mut status = PodStatus::new(pod);
-    assert_eq!(rt; status.phase, Pending);
-    assert!(rt; status.conditions.initialized.value);
-    assert!(rt; !status.conditions.containers_ready.value);
-    assert_eq!(rt; status.conditions.initialized.since, None);
-    tick(&rt, &mut status, pod, 0, &[running()], false);
-    assert_eq!(rt; status.phase, Phase::Running);
-    assert!(rt; !status.has_ended());
-    tick(&rt, &mut status, pod, 5, &[exited(0)], false);
-    assert_eq!(rt; status.phase, Succeeded);
-    assert!(rt; status.has_ended());
-    assert_eq!(rt; status.conditions.pod_scheduled.since, Some(0));
-    assert_eq!(rt; status.conditions.initialized.since, Some(0));
-    assert!(rt; !status.conditions.containers_ready.value);
-    assert_eq!(rt; status.conditions.containers_ready.since, Some(5));
-    Ok(())
-}
-
-#[test]
-fn failed_pod_stays_failed(rt: HostRuntime) -> Result<(), Fail> {
-    let pod = shape(Never, 0, 1);
-    let mut status = PodStatus::new(pod);
-    tick(&rt, &mut status, pod, 0, &[running()], false);
-    tick(&rt, &mut status, pod, 5, &[exited(1)], false);
-    tick(&rt, &mut status, pod, 10, &[running()], false);
-    assert_eq!(rt; status.phase, Failed);
-    assert!(rt; !status.conditions.containers_ready.value);
-    assert_eq!(rt; status.conditions.containers_ready.since, Some(5));
-    Ok(())
-}
-
-#[test]
-fn failed_init_container_ends_a_pod_that_never_restarts(rt: HostRuntime) -> Result<(), Fail> {
-    for (policy, phase) in [(Never, Failed), (Always, Pending), (OnFailure, Pending)] {
-        let pod = shape(policy, 1, 1);
-        let mut status = PodStatus::new(pod);
-        assert!(rt; !status.conditions.initialized.value);
-        tick(&rt, &mut status, pod, 0, &[running(), ABSENT], false);
-        assert_eq!(rt; status.phase, Pending);
-        tick(&rt, &mut status, pod, 5, &[exited(1), ABSENT], false);
-        assert_eq!(rt; status.phase, phase);
-        assert!(rt; !status.conditions.initialized.value);
-        assert_eq!(rt; status.conditions.initialized.since, Some(0));
-    }
-    Ok(())
-}
-
-#[test]
-fn restarts_move_the_transition_of_ready(rt: HostRuntime) -> Result<(), Fail> {
-    let pod = shape(Always, 0, 1);
-    let mut status = PodStatus::new(pod);
-    let ticks = [
-        (0, running(), true, 0),
-        (5, exited(1), false, 5),
-        (10, running(), true, 10),
-        (20, exited(1), false, 20),
-        (29, exited(1), false, 20),
-        (30, exited(1), false, 20),
+fn pod_is_initialized_by_roles(rt: HostRuntime) {
+    let never_started = ContainerView {
+        role: Sidecar,
+        seen: exited(0).seen,
+        set_up: true,
+        was_started: false,
+    };
+    let cases = [
+        (ABSENT, true),
+        (as_role(Init, ABSENT), false),
+        (as_role(Init, running()), false),
+        (as_role(Init, exited(1)), false),
+        (as_role(Init, exited(0)), true),
+        (as_role(Sidecar, created()), false),
+        (as_role(Sidecar, running()), true),
+        (as_role(Sidecar, exited(1)), true),
+        (never_started, false),
     ];
-    for (at, container, ready, since) in ticks {
-        tick(&rt, &mut status, pod, at, &[container], false);
-        assert_eq!(rt; status.phase, Phase::Running);
-        assert_eq!(rt; status.conditions.containers_ready.value, ready, "at {at}");
+    for (container, initialized) in cases {
         assert_eq!(rt;
-            status.conditions.containers_ready.since,
-            Some(since),
-            "at {at}"
+            are_initialized(&[container, ABSENT]),
+            initialized,
+            "{container:?}"
         );
     }
-    Ok(())
 }
 
 #[test]
-fn evicted_pod_has_failed(rt: HostRuntime) -> Result<(), Fail> {
-    let pod = shape(Always, 0, 1);
-    let mut status = PodStatus::new(pod);
-    tick(&rt, &mut status, pod, 0, &[running()], false);
-    tick(&rt, &mut status, pod, 89, &[running()], false);
-    tick(&rt, &mut status, pod, 90, &[running()], true);
-    assert_eq!(rt; status.phase, Failed);
-    assert_eq!(rt; status.conditions.initialized.since, Some(0));
-    assert!(rt; !status.conditions.containers_ready.value);
-    assert_eq!(rt; status.conditions.containers_ready.since, Some(90));
-    let evicted = container_status(pod, 0, &running(), true);
-    assert_eq!(rt; evicted.state, ContainerState::Running);
-    assert!(rt; !evicted.ready);
-    assert!(rt; !evicted.started);
-    Ok(())
-}
-
-#[test]
-fn container_states_by_the_newest_instance(rt: HostRuntime) -> Result<(), Fail> {
+fn container_states_by_the_newest_instance(rt: HostRuntime) {
     for (view, state) in [
         (ABSENT, ContainerState::Waiting),
         (created(), ContainerState::Waiting),
         (running(), ContainerState::Running),
-        (exited(0), ContainerState::Terminated),
+        (exited(137), ContainerState::Terminated),
     ] {
         assert_eq!(rt; container_state(&view), state, "{view:?}");
     }
-    Ok(())
 }
 
 #[test]
-fn container_status_follows_the_listings(rt: HostRuntime) -> Result<(), Fail> {
-    let pod = shape(Always, 1, 1);
-    let mut differ = Differ::new();
-    for (at, attempt) in [(0, 0), (10, 2)] {
-        let listed = Some(Seen {
-            attempt,
-            state: CriState::Running,
-            code: None,
-        });
-        take(&rt, &mut differ, at, listed);
-    }
-    let app = container_status(pod, 1, &ContainerView::of(&differ), false);
-    assert_eq!(rt; app.state, ContainerState::Running);
-    assert_eq!(rt; app.restarts, 2);
-    assert!(rt; app.ready);
-    assert!(rt; app.started);
-    let init = container_status(pod, 0, &ContainerView::of(&differ), false);
-    assert!(rt; !init.ready);
-    assert!(rt; !init.started);
-    take(&rt, &mut differ, 20, None);
-    let gone = container_status(pod, 1, &ContainerView::of(&differ), false);
-    assert_eq!(rt; gone.state, ContainerState::Terminated);
-    assert_eq!(rt; gone.code, Some(137));
-    assert_eq!(rt; gone.restarts, 2);
-    assert!(rt; !gone.ready);
-    Ok(())
-}
-
-#[test]
-fn exits_that_want_a_restart(rt: HostRuntime) -> Result<(), Fail> {
-    for (policy, after_zero, after_one) in [
-        (Always, true, true),
-        (OnFailure, false, true),
-        (Never, false, false),
-    ] {
-        assert_eq!(rt; is_restart_wanted(policy, 0), after_zero, "{policy:?}");
-        assert_eq!(rt; is_restart_wanted(policy, 1), after_one, "{policy:?}");
-        assert_eq!(rt; is_restart_wanted(policy, -1), after_one, "{policy:?}");
-        assert_eq!(rt; is_never(policy), !after_one, "{policy:?}");
-    }
-    Ok(())
-}
-
-#[test]
-fn transition_moments_of_conditions(rt: HostRuntime) -> Result<(), Fail> {
+fn transition_moments_of_conditions(rt: HostRuntime) {
     let mut conditions = Conditions::new(true);
-    assert!(rt; !conditions.initialized.value);
     assert_eq!(rt; conditions.pod_scheduled.since, None);
     for (at, initialized, containers_ready, initialized_since, ready_since) in [
         (3, false, false, 3, 3),
-        (4, true, false, 4, 3),
-        (6, true, true, 4, 6),
-        (9, true, true, 4, 6),
-        (12, true, false, 4, 12),
+        (7, true, false, 7, 3),
+        (8, true, true, 7, 8),
+        (9, true, false, 7, 9),
+        (12, true, false, 7, 9),
     ] {
         let values = Values {
             initialized,
             containers_ready,
         };
         conditions.advance(at, values);
-        assert!(rt; conditions.pod_scheduled.value);
-        assert_eq!(rt; conditions.pod_scheduled.since, Some(3));
-        assert_eq!(rt; conditions.initialized.value, initialized);
-        assert_eq!(rt;
+        let moments = [
+            conditions.pod_scheduled.since,
             conditions.initialized.since,
-            Some(initialized_since),
-            "at {at}"
-        );
-        assert_eq!(rt; conditions.containers_ready.value, containers_ready);
-        assert_eq!(rt;
             conditions.containers_ready.since,
-            Some(ready_since),
-            "at {at}"
-        );
+        ];
+        let wanted = [Some(3), Some(initialized_since), Some(ready_since)];
+        assert_eq!(rt; moments, wanted, "at {at}");
+        assert_eq!(rt; conditions.initialized.value, initialized);
+        assert_eq!(rt; conditions.containers_ready.value, containers_ready);
     }
-    Ok(())
 }
