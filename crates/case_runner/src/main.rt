@@ -1,5 +1,10 @@
-//! Runs the cases that lie in its folder, and prints how many there are: traces beside their answers, manifests beside
-//! what is read of them, and tables of texts. It ends at the first that is answered otherwise, and names it.
+//! Runs the cases that lie in its folder, and prints how many there are. It ends at the first that is answered otherwise,
+//! and names it. A new case is two files or a row of a table, and its count in the file `stdout`:
+//!
+//! - `traces/FAMILY/NAME.trace` beside `NAME.report`, the bytes of the report, or `NAME.refusal`, the status and the line.
+//! - `lines/NAME.table`: a row's text is the last line of a trace, after the lines of `NAME.before`.
+//! - `manifests/NAME.json` beside `NAME.read`, what is read of it.
+//! - `texts/KIND.table`: a row's text is of that kind.
 #![tactic(auto)]
 
 mod compare;

@@ -3,7 +3,7 @@
 use crate::compare::expect;
 use crate::files::{bytes_of, names_in, text_of};
 use crate::replays::{Answer, answer_of};
-use anyhow::Result;
+use anyhow::{Context, Result};
 use std::rt::Runtime;
 
 /// Replays the trace of this path.
@@ -11,11 +11,11 @@ fn run_one(rt: &(impl Runtime + AllocGlobal), path: &str) -> Result<()> {
     let trace = bytes_of(rt, path, "trace")?;
     match answer_of(rt.alloc(), &trace)? {
         Answer::Report(report) => {
-            let wanted = text_of(rt, path, "report")?;
+            let wanted = text_of(rt, path, "report").context("the trace is accepted")?;
             expect(rt, path, report.as_str(), wanted.as_str())
         }
         Answer::Refusal(refusal) => {
-            let wanted = text_of(rt, path, "refusal")?;
+            let wanted = text_of(rt, path, "refusal").context("the trace is refused")?;
             expect(rt, path, refusal.as_str(), wanted.trim_end())
         }
     }

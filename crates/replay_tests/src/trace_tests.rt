@@ -31,23 +31,31 @@ fn trace_holds_the_node_and_the_pod_of_its_lines(rt: HostRuntime) -> Result<(), 
     Ok(())
 }
 
-fn seen(attempt: u32, state: CriState, code: Option<i32>) -> Option<Seen> {
-    Some(Seen {
-        attempt,
-        state,
-        code,
-    })
-}
+const UNKNOWN_INSTANCE: Option<Seen> = Some(Seen {
+    attempt: 2_147_483_647,
+    state: CriState::Unknown,
+    code: None,
+});
+
+const CREATED_INSTANCE: Option<Seen> = Some(Seen {
+    attempt: 0,
+    state: CriState::Created,
+    code: None,
+});
+
+const EXITED_INSTANCE: Option<Seen> = Some(Seen {
+    attempt: 1,
+    state: CriState::Exited,
+    code: Some(i32::MIN),
+});
 
 #[test]
 fn trace_holds_what_its_lines_list(rt: HostRuntime) -> Result<(), Fail> {
     let trace = trace_of(rt.alloc(), LISTINGS)?;
-    let unknown = seen(2_147_483_647, CriState::Unknown, None);
-    let exited = seen(1, CriState::Exited, Some(i32::MIN));
     let wanted = [
-        (0, unknown, seen(0, CriState::Created, None)),
+        (0, UNKNOWN_INSTANCE, CREATED_INSTANCE),
         (7, None, None),
-        (1_099_511_627_775, None, exited),
+        (1_099_511_627_775, None, EXITED_INSTANCE),
     ];
     assert_eq!(rt; trace.ticks.as_slice().len(), 3);
     for (tick, (at, c, d)) in trace.ticks.as_slice().iter().zip(wanted) {
