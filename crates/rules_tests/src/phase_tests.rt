@@ -7,7 +7,6 @@ use phase::{
 };
 use state_diff::{CriState, Differ, Seen};
 use std::process::Abort;
-use std::test::Fail;
 
 const ABSENT: ContainerView = ContainerView {
     seen: None,
@@ -53,21 +52,34 @@ fn shape(policy: Policy, init_count: u8, app_count: u8) -> PodShape {
     }
 }
 
-/// Advances over a tick.
-fn tick(
-    rt: &impl Abort,
-    status: &mut PodStatus,
-    pod: PodShape,
-    at: u64,
-    containers: &[ContainerView],
-    is_evicted: bool,
-) {
-    assert_eq!(rt; containers.len(), pod.container_count);
-    status.advance(pod, at, containers, is_evicted);
+/// A tick: its moment, and whether the pod is evicted in it.
+type Tick<'a> = (u64, &'a [ContainerView], bool);
+
+/// The status of a pod after some ticks.
+fn follow(rt: &impl Abort, pod: PodShape, ticks: &[Tick]) -> PodStatus {
+    let mut status = PodStatus::new(pod);
+    for (at, containers, is_evicted) in ticks {
+        assert_eq!(rt; containers.len(), pod.container_count);
+        status.advance(pod, *at, containers, *is_evicted);
+    }
+    status
+}
+
+/// What is shown of a status: its phase, and then Initialized and ContainersReady, each with its moment.
+type Shown = (Phase, (bool, Option<u64>), (bool, Option<u64>));
+
+fn shown(status: &PodStatus) -> Shown {
+    let initialized = status.conditions.initialized;
+    let containers_ready = status.conditions.containers_ready;
+    (
+        status.phase,
+        (initialized.value, initialized.since),
+        (containers_ready.value, containers_ready.since),
+    )
 }
 
 #[test]
-fn raw_phase_of_one_app_container(rt: HostRuntime) -> Result<(), Fail> {
+fn raw_phase_of_one_app_container(rt: HostRuntime) {
     let cases = [
         (Always, ABSENT, Pending),
         (Always, created(), Pending),
@@ -88,11 +100,10 @@ fn raw_phase_of_one_app_container(rt: HostRuntime) -> Result<(), Fail> {
             "{policy:?} {container:?}"
         );
     }
-    Ok(())
 }
 
 #[test]
-fn raw_phase_of_several_containers(rt: HostRuntime) -> Result<(), Fail> {
+fn raw_phase_of_several_containers(rt: HostRuntime) {
     let cases = [
         (Never, [exited(1), ABSENT], 1, Failed),
         (Never, [exited(1), exited(0)], 1, Failed),
@@ -114,104 +125,86 @@ fn raw_phase_of_several_containers(rt: HostRuntime) -> Result<(), Fail> {
             "{policy:?} {containers:?}"
         );
     }
-    Ok(())
 }
 
 #[test]
-fn pod_succeeds(rt: HostRuntime) -> Result<(), Fail> {
+fn pod_succeeds(rt: HostRuntime) {
     let pod = shape(Never, 0, 1);
-    let mut status = PodStatus::new(pod);
-    assert_eq!(rt; status.phase, Pending);
-    assert!(rt; status.conditions.initialized.value);
-    assert!(rt; !status.conditions.containers_ready.value);
-    assert_eq!(rt; status.conditions.initialized.since, None);
-    tick(&rt, &mut status, pod, 0, &[running()], false);
-    assert_eq!(rt; status.phase, Phase::Running);
-    assert!(rt; !status.has_ended());
-    tick(&rt, &mut status, pod, 5, &[exited(0)], false);
-    assert_eq!(rt; status.phase, Succeeded);
-    assert!(rt; status.has_ended());
-    assert_eq!(rt; status.conditions.pod_scheduled.since, Some(0));
-    assert_eq!(rt; status.conditions.initialized.since, Some(0));
-    assert!(rt; !status.conditions.containers_ready.value);
-    assert_eq!(rt; status.conditions.containers_ready.since, Some(5));
-    Ok(())
+    let before = follow(&rt, pod, &[]);
+    assert_eq!(rt; shown(&before), (Pending, (true, None), (false, None)));
+    let ticks: [Tick; 2] = [(0, &[running()], false), (5, &[exited(0)], false)];
+    let first = follow(&rt, pod, &ticks[..1]);
+    let wanted = (Phase::Running, (true, Some(0)), (true, Some(0)));
+    assert_eq!(rt; (shown(&first), first.has_ended()), (wanted, false));
+    let last = follow(&rt, pod, &ticks);
+    let wanted = (Succeeded, (true, Some(0)), (false, Some(5)));
+    assert_eq!(rt; (shown(&last), last.has_ended()), (wanted, true));
+    assert_eq!(rt; last.conditions.pod_scheduled.since, Some(0));
 }
 
 #[test]
-fn failed_pod_stays_failed(rt: HostRuntime) -> Result<(), Fail> {
-    let pod = shape(Never, 0, 1);
-    let mut status = PodStatus::new(pod);
-    tick(&rt, &mut status, pod, 0, &[running()], false);
-    tick(&rt, &mut status, pod, 5, &[exited(1)], false);
-    tick(&rt, &mut status, pod, 10, &[running()], false);
-    assert_eq!(rt; status.phase, Failed);
-    assert!(rt; !status.conditions.containers_ready.value);
-    assert_eq!(rt; status.conditions.containers_ready.since, Some(5));
-    Ok(())
+fn failed_pod_stays_failed(rt: HostRuntime) {
+    let ticks: [Tick; 3] = [
+        (0, &[running()], false),
+        (5, &[exited(1)], false),
+        (10, &[running()], false),
+    ];
+    let status = follow(&rt, shape(Never, 0, 1), &ticks);
+    assert_eq!(rt; shown(&status), (Failed, (true, Some(0)), (false, Some(5))));
 }
 
 #[test]
-fn failed_init_container_ends_a_pod_that_never_restarts(rt: HostRuntime) -> Result<(), Fail> {
+fn failed_init_container_ends_a_pod_that_never_restarts(rt: HostRuntime) {
+    let ticks: [Tick; 2] = [
+        (0, &[running(), ABSENT], false),
+        (5, &[exited(1), ABSENT], false),
+    ];
     for (policy, phase) in [(Never, Failed), (Always, Pending), (OnFailure, Pending)] {
-        let pod = shape(policy, 1, 1);
-        let mut status = PodStatus::new(pod);
-        assert!(rt; !status.conditions.initialized.value);
-        tick(&rt, &mut status, pod, 0, &[running(), ABSENT], false);
-        assert_eq!(rt; status.phase, Pending);
-        tick(&rt, &mut status, pod, 5, &[exited(1), ABSENT], false);
-        assert_eq!(rt; status.phase, phase);
-        assert!(rt; !status.conditions.initialized.value);
-        assert_eq!(rt; status.conditions.initialized.since, Some(0));
+        let status = follow(&rt, shape(policy, 1, 1), &ticks);
+        assert_eq!(rt; shown(&status), (phase, (false, Some(0)), (false, Some(0))));
     }
-    Ok(())
 }
 
 #[test]
-fn restarts_move_the_transition_of_ready(rt: HostRuntime) -> Result<(), Fail> {
+fn restarts_move_the_transition_of_ready(rt: HostRuntime) {
     let pod = shape(Always, 0, 1);
     let mut status = PodStatus::new(pod);
-    let ticks = [
+    for (at, container, ready, since) in [
         (0, running(), true, 0),
         (5, exited(1), false, 5),
         (10, running(), true, 10),
         (20, exited(1), false, 20),
         (29, exited(1), false, 20),
         (30, exited(1), false, 20),
-    ];
-    for (at, container, ready, since) in ticks {
-        tick(&rt, &mut status, pod, at, &[container], false);
-        assert_eq!(rt; status.phase, Phase::Running);
-        assert_eq!(rt; status.conditions.containers_ready.value, ready, "at {at}");
-        assert_eq!(rt;
-            status.conditions.containers_ready.since,
-            Some(since),
-            "at {at}"
-        );
+    ] {
+        let containers = [container];
+        assert_eq!(rt; containers.len(), pod.container_count);
+        status.advance(pod, at, &containers, false);
+        let wanted = (Phase::Running, (true, Some(0)), (ready, Some(since)));
+        assert_eq!(rt; shown(&status), wanted, "at {at}");
     }
-    Ok(())
 }
 
 #[test]
-fn evicted_pod_has_failed(rt: HostRuntime) -> Result<(), Fail> {
+fn evicted_pod_has_failed(rt: HostRuntime) {
+    let ticks: [Tick; 3] = [
+        (0, &[running()], false),
+        (89, &[running()], false),
+        (90, &[running()], true),
+    ];
     let pod = shape(Always, 0, 1);
-    let mut status = PodStatus::new(pod);
-    tick(&rt, &mut status, pod, 0, &[running()], false);
-    tick(&rt, &mut status, pod, 89, &[running()], false);
-    tick(&rt, &mut status, pod, 90, &[running()], true);
-    assert_eq!(rt; status.phase, Failed);
-    assert_eq!(rt; status.conditions.initialized.since, Some(0));
-    assert!(rt; !status.conditions.containers_ready.value);
-    assert_eq!(rt; status.conditions.containers_ready.since, Some(90));
+    let status = follow(&rt, pod, &ticks);
+    assert_eq!(rt;
+        shown(&status),
+        (Failed, (true, Some(0)), (false, Some(90)))
+    );
     let evicted = container_status(pod, 0, &running(), true);
     assert_eq!(rt; evicted.state, ContainerState::Running);
-    assert!(rt; !evicted.ready);
-    assert!(rt; !evicted.started);
-    Ok(())
+    assert!(rt; !evicted.ready && !evicted.started);
 }
 
 #[test]
-fn container_states_by_the_newest_instance(rt: HostRuntime) -> Result<(), Fail> {
+fn container_states_by_the_newest_instance(rt: HostRuntime) {
     for (view, state) in [
         (ABSENT, ContainerState::Waiting),
         (created(), ContainerState::Waiting),
@@ -220,11 +213,10 @@ fn container_states_by_the_newest_instance(rt: HostRuntime) -> Result<(), Fail> 
     ] {
         assert_eq!(rt; container_state(&view), state, "{view:?}");
     }
-    Ok(())
 }
 
 #[test]
-fn container_status_follows_the_listings(rt: HostRuntime) -> Result<(), Fail> {
+fn container_status_follows_the_listings(rt: HostRuntime) {
     let pod = shape(Always, 1, 1);
     let mut differ = Differ::new();
     for (at, attempt) in [(0, 0), (10, 2)] {
@@ -249,11 +241,10 @@ fn container_status_follows_the_listings(rt: HostRuntime) -> Result<(), Fail> {
     assert_eq!(rt; gone.code, Some(137));
     assert_eq!(rt; gone.restarts, 2);
     assert!(rt; !gone.ready);
-    Ok(())
 }
 
 #[test]
-fn exits_that_want_a_restart(rt: HostRuntime) -> Result<(), Fail> {
+fn exits_that_want_a_restart(rt: HostRuntime) {
     for (policy, after_zero, after_one) in [
         (Always, true, true),
         (OnFailure, false, true),
@@ -264,13 +255,11 @@ fn exits_that_want_a_restart(rt: HostRuntime) -> Result<(), Fail> {
         assert_eq!(rt; is_restart_wanted(policy, -1), after_one, "{policy:?}");
         assert_eq!(rt; is_never(policy), !after_one, "{policy:?}");
     }
-    Ok(())
 }
 
 #[test]
-fn transition_moments_of_conditions(rt: HostRuntime) -> Result<(), Fail> {
+fn transition_moments_of_conditions(rt: HostRuntime) {
     let mut conditions = Conditions::new(true);
-    assert!(rt; !conditions.initialized.value);
     assert_eq!(rt; conditions.pod_scheduled.since, None);
     for (at, initialized, containers_ready, initialized_since, ready_since) in [
         (3, false, false, 3, 3),
@@ -284,20 +273,14 @@ fn transition_moments_of_conditions(rt: HostRuntime) -> Result<(), Fail> {
             containers_ready,
         };
         conditions.advance(at, values);
-        assert!(rt; conditions.pod_scheduled.value);
-        assert_eq!(rt; conditions.pod_scheduled.since, Some(3));
-        assert_eq!(rt; conditions.initialized.value, initialized);
-        assert_eq!(rt;
+        let moments = [
+            conditions.pod_scheduled.since,
             conditions.initialized.since,
-            Some(initialized_since),
-            "at {at}"
-        );
-        assert_eq!(rt; conditions.containers_ready.value, containers_ready);
-        assert_eq!(rt;
             conditions.containers_ready.since,
-            Some(ready_since),
-            "at {at}"
-        );
+        ];
+        let wanted = [Some(3), Some(initialized_since), Some(ready_since)];
+        assert_eq!(rt; moments, wanted, "at {at}");
+        assert_eq!(rt; conditions.initialized.value, initialized);
+        assert_eq!(rt; conditions.containers_ready.value, containers_ready);
     }
-    Ok(())
 }
