@@ -20,35 +20,29 @@ fn set_of(rt: &impl Abort, alloc: Global, fields: &str) -> Result<ProbeSet, Fail
     Ok(ProbeSet::new(&containers[0]))
 }
 
-/// The results of startup, liveness and readiness.
-type Results = [Option<Outcome>; 3];
+/// A tick: its moment, the results of startup, liveness and readiness, and its verdicts.
+type Tick = (
+    u64,
+    Option<Outcome>,
+    Option<Outcome>,
+    Option<Outcome>,
+    Verdicts,
+);
 
-/// A tick: its moment, its results and its verdicts.
-type Tick = (u64, Results, Verdicts);
+/// An instance: its start, its ticks, and then whether it has started and is to be killed.
+type Instance = (u64, &'static [Tick], (bool, bool));
 
-/// Follows an instance over its ticks, and then compares whether it has started and is to be killed.
-fn follow(rt: &impl Abort, set: &mut ProbeSet, start: u64, ticks: &[Tick], wanted: (bool, bool)) {
+/// Follows an instance.
+fn follow(rt: &impl Abort, set: &mut ProbeSet, instance: &Instance) {
+    let (start, ticks, wanted) = *instance;
     set.begin_instance(start);
     for tick in ticks {
-        let (at, results, verdicts) = *tick;
-        assert_eq!(rt; set.take(at, results), verdicts, "at {at}");
+        let (at, startup, liveness, readiness, verdicts) = *tick;
+        let found = set.take(at, [startup, liveness, readiness]);
+        assert_eq!(rt; found, verdicts, "at {at}");
         assert_eq!(rt; set.ready(), verdicts.ready, "at {at}");
     }
-    assert_eq!(rt; (set.started(), set.kill_ordered()), wanted);
-}
-
-/// Follows the first instance of a container with these fields.
-fn follow_first(
-    rt: &impl Abort,
-    alloc: Global,
-    fields: &str,
-    start: u64,
-    ticks: &[Tick],
-    wanted: (bool, bool),
-) -> Result<(), Fail> {
-    let mut set = set_of(rt, alloc, fields)?;
-    follow(rt, &mut set, start, ticks, wanted);
-    Ok(())
+    assert_eq!(rt; (set.started(), set.kill_ordered()), wanted, "from {start}");
 }
 
 const NOTHING: Verdicts = Verdicts {
@@ -87,132 +81,149 @@ const STARTED_AND_KILLED: (bool, bool) = (true, true);
 
 const KILLED: (bool, bool) = (false, true);
 
-fn startup(outcome: Outcome) -> Results {
-    [Some(outcome), None, None]
-}
+const PASS: Option<Outcome> = Some(Success);
 
-fn liveness(outcome: Outcome) -> Results {
-    [None, Some(outcome), None]
-}
+const FAIL: Option<Outcome> = Some(Failure);
 
-fn readiness(outcome: Outcome) -> Results {
-    [None, None, Some(outcome)]
-}
+const UNSURE: Option<Outcome> = Some(Unknown);
 
-const TWO_UNTIL_THREE: &str = r#""readinessProbe":{"successThreshold":2,"failureThreshold":3}"#;
+/// What a container shows: a name for it, its fields, and its instances one after the other.
+type History = (&'static str, &'static str, &'static [Instance]);
 
-#[test]
-fn ready_after_two_successes_until_three_failures(rt: HostRuntime) -> Result<(), Fail> {
-    let ticks = [
-        (0, readiness(Success), NOTHING),
-        (1, readiness(Success), READY),
-        (2, readiness(Failure), READY),
-        (3, readiness(Failure), READY),
-        (4, readiness(Success), READY),
-        (5, readiness(Failure), READY),
-        (6, readiness(Failure), READY),
-        (7, readiness(Failure), NOTHING),
-    ];
-    follow_first(&rt, rt.alloc(), TWO_UNTIL_THREE, 0, &ticks, STARTED)
-}
+const HISTORIES: [History; 8] = [
+    (
+        "without probes an instance is ready from its beginning",
+        r#""image":"i""#,
+        &[(5, &[(5, None, None, None, READY)], STARTED)],
+    ),
+    (
+        "ready after two successes, until three failures",
+        r#""readinessProbe":{"successThreshold":2,"failureThreshold":3}"#,
+        &[(
+            0,
+            &[
+                (0, None, None, PASS, NOTHING),
+                (1, None, None, PASS, READY),
+                (2, None, None, FAIL, READY),
+                (3, None, None, FAIL, READY),
+                (4, None, None, PASS, READY),
+                (5, None, None, FAIL, READY),
+                (6, None, None, FAIL, READY),
+                (7, None, None, FAIL, NOTHING),
+            ],
+            STARTED,
+        )],
+    ),
+    (
+        "liveness counts after the tick in which startup passed",
+        r#""startupProbe":{"failureThreshold":3},"livenessProbe":{"failureThreshold":1}"#,
+        &[(
+            0,
+            &[
+                (0, FAIL, None, None, NOTHING),
+                (1, FAIL, None, None, NOTHING),
+                (2, PASS, FAIL, None, PASSED),
+                (3, None, FAIL, None, KILLED_BY_LIVENESS),
+                (4, None, FAIL, None, READY),
+                (5, None, PASS, None, READY),
+            ],
+            STARTED_AND_KILLED,
+        )],
+    ),
+    (
+        "an unknown result neither extends nor ends a run",
+        r#""livenessProbe":{"failureThreshold":2}"#,
+        &[(
+            0,
+            &[
+                (0, None, FAIL, None, READY),
+                (10, None, UNSURE, None, READY),
+                (20, None, FAIL, None, KILLED_BY_LIVENESS),
+            ],
+            STARTED_AND_KILLED,
+        )],
+    ),
+    (
+        "startup fails once its first results failed",
+        r#""startupProbe":{"failureThreshold":2}"#,
+        &[(
+            0,
+            &[
+                (0, FAIL, None, None, NOTHING),
+                (10, FAIL, None, None, KILLED_BY_STARTUP),
+                (20, PASS, None, None, NOTHING),
+            ],
+            KILLED,
+        )],
+    ),
+    (
+        "startup passes over an unknown result",
+        r#""startupProbe":{"failureThreshold":2}"#,
+        &[(
+            0,
+            &[
+                (0, FAIL, None, None, NOTHING),
+                (10, UNSURE, None, None, NOTHING),
+                (20, PASS, None, None, PASSED),
+                (30, PASS, None, None, READY),
+            ],
+            STARTED,
+        )],
+    ),
+    (
+        "a result counts from the initial delay on",
+        r#""livenessProbe":{"initialDelaySeconds":10,"failureThreshold":1}"#,
+        &[(
+            1000,
+            &[
+                (1009, None, FAIL, None, READY),
+                (1010, None, FAIL, None, KILLED_BY_LIVENESS),
+            ],
+            STARTED_AND_KILLED,
+        )],
+    ),
+    (
+        "a new instance begins with no results",
+        r#""startupProbe":{"failureThreshold":3},"livenessProbe":{"failureThreshold":1}"#,
+        &[
+            (
+                0,
+                &[
+                    (0, PASS, None, None, PASSED),
+                    (1, None, FAIL, None, KILLED_BY_LIVENESS),
+                ],
+                STARTED_AND_KILLED,
+            ),
+            (
+                20,
+                &[
+                    (20, FAIL, None, None, NOTHING),
+                    (21, FAIL, None, None, NOTHING),
+                    (22, PASS, None, None, PASSED),
+                    (23, None, PASS, None, READY),
+                ],
+                STARTED,
+            ),
+        ],
+    ),
+];
 
-const STARTUP_THREE_LIVENESS_ONE: &str =
-    r#""startupProbe":{"failureThreshold":3},"livenessProbe":{"failureThreshold":1}"#;
-
-#[test]
-fn liveness_counts_after_the_tick_in_which_startup_passed(rt: HostRuntime) -> Result<(), Fail> {
-    let ticks = [
-        (0, startup(Failure), NOTHING),
-        (1, startup(Failure), NOTHING),
-        (2, [Some(Success), Some(Failure), None], PASSED),
-        (3, liveness(Failure), KILLED_BY_LIVENESS),
-        (4, liveness(Failure), READY),
-        (5, liveness(Success), READY),
-    ];
-    let fields = STARTUP_THREE_LIVENESS_ONE;
-    follow_first(&rt, rt.alloc(), fields, 0, &ticks, STARTED_AND_KILLED)
-}
-
-#[test]
-fn unknown_result_neither_extends_nor_ends_a_run(rt: HostRuntime) -> Result<(), Fail> {
-    let ticks = [
-        (0, liveness(Failure), READY),
-        (10, liveness(Unknown), READY),
-        (20, liveness(Failure), KILLED_BY_LIVENESS),
-    ];
-    let fields = r#""livenessProbe":{"failureThreshold":2}"#;
-    follow_first(&rt, rt.alloc(), fields, 0, &ticks, STARTED_AND_KILLED)
-}
-
-const STARTUP_TWO: &str = r#""startupProbe":{"failureThreshold":2}"#;
-
-#[test]
-fn startup_fails_once_its_first_results_failed(rt: HostRuntime) -> Result<(), Fail> {
-    let ticks = [
-        (0, startup(Failure), NOTHING),
-        (10, startup(Failure), KILLED_BY_STARTUP),
-        (20, startup(Success), NOTHING),
-    ];
-    follow_first(&rt, rt.alloc(), STARTUP_TWO, 0, &ticks, KILLED)
-}
-
-#[test]
-fn startup_passes_over_an_unknown_result(rt: HostRuntime) -> Result<(), Fail> {
-    let ticks = [
-        (0, startup(Failure), NOTHING),
-        (10, startup(Unknown), NOTHING),
-        (20, startup(Success), PASSED),
-        (30, startup(Success), READY),
-    ];
-    follow_first(&rt, rt.alloc(), STARTUP_TWO, 0, &ticks, STARTED)
-}
-
-#[test]
-fn result_counts_from_the_initial_delay_on(rt: HostRuntime) -> Result<(), Fail> {
-    let ticks = [
-        (1009, liveness(Failure), READY),
-        (1010, liveness(Failure), KILLED_BY_LIVENESS),
-    ];
-    let fields = r#""livenessProbe":{"initialDelaySeconds":10,"failureThreshold":1}"#;
-    follow_first(&rt, rt.alloc(), fields, 1000, &ticks, STARTED_AND_KILLED)
-}
-
-// These two hand on to a function over any runtime that can abort: the kit does not prove a set of probes held beside the
-// whole runtime.
-
-fn expect_nothing_before_the_first_instance(rt: &impl Abort, alloc: Global) -> Result<(), Fail> {
-    for fields in [r#""image":"i""#, STARTUP_TWO, TWO_UNTIL_THREE] {
-        let set = set_of(rt, alloc, fields)?;
-        let shown = (set.started(), set.ready(), set.kill_ordered());
-        assert_eq!(rt; shown, (false, false, false), "{fields}");
+/// Follows the instances of a container; before the first nothing holds.
+fn follow_all(rt: &impl Abort, alloc: Global, history: &History) -> Result<(), Fail> {
+    let (name, fields, instances) = *history;
+    let mut set = set_of(rt, alloc, fields)?;
+    let shown = (set.started(), set.ready(), set.kill_ordered());
+    assert_eq!(rt; shown, (false, false, false), "{name}");
+    for instance in instances {
+        follow(rt, &mut set, instance);
     }
-    let ticks = [(5, [None, None, None], READY)];
-    follow_first(rt, alloc, r#""image":"i""#, 5, &ticks, STARTED)
-}
-
-#[test]
-fn nothing_holds_before_the_first_instance(rt: HostRuntime) -> Result<(), Fail> {
-    expect_nothing_before_the_first_instance(&rt, rt.alloc())
-}
-
-fn expect_new_instance(rt: &impl Abort, alloc: Global) -> Result<(), Fail> {
-    let mut set = set_of(rt, alloc, STARTUP_THREE_LIVENESS_ONE)?;
-    let first = [
-        (0, startup(Success), PASSED),
-        (1, liveness(Failure), KILLED_BY_LIVENESS),
-    ];
-    follow(rt, &mut set, 0, &first, STARTED_AND_KILLED);
-    let second = [
-        (20, startup(Failure), NOTHING),
-        (21, startup(Failure), NOTHING),
-        (22, startup(Success), PASSED),
-        (23, liveness(Success), READY),
-    ];
-    follow(rt, &mut set, 20, &second, STARTED);
     Ok(())
 }
 
 #[test]
-fn new_instance_begins_with_no_results(rt: HostRuntime) -> Result<(), Fail> {
-    expect_new_instance(&rt, rt.alloc())
+fn probes_give_the_verdicts_of_their_results(rt: HostRuntime) -> Result<(), Fail> {
+    for history in &HISTORIES {
+        follow_all(&rt, rt.alloc(), history)?;
+    }
+    Ok(())
 }

@@ -70,11 +70,9 @@ const TEXT: &[u8] = b"a short text";
 #[test]
 fn reads_all_bytes_in_pieces_of_any_size(rt: HostRuntime) -> Result<(), Fail> {
     for step in 1..14usize {
-        let mut source = MemSource::new(TEXT, step);
-        let all = read_all(rt.alloc(), &mut source, 12)?;
+        let all = read_all(rt.alloc(), &mut MemSource::new(TEXT, step), 12)?;
         assert_eq!(rt; all.as_slice(), TEXT, "{step} bytes a call");
-        let mut long = MemSource::new(TEXT, step);
-        let answer = read_all(rt.alloc(), &mut long, 11);
+        let answer = read_all(rt.alloc(), &mut MemSource::new(TEXT, step), 11);
         assert!(rt;
             matches!(answer, Err(ReadAllFault::TooLong)),
             "{step} bytes a call"
@@ -85,10 +83,12 @@ fn reads_all_bytes_in_pieces_of_any_size(rt: HostRuntime) -> Result<(), Fail> {
     Ok(())
 }
 
+/// How many calls read the text, and the end: 5, 5 and 2 bytes, and the call that finds none.
+const READS: usize = 4;
+
 #[test]
-fn reads_fail_or_end_at_each_call(rt: HostRuntime) -> Result<(), Fail> {
-    // 5, 5 and 2 bytes, and the call that finds the end
-    for calls in 0..4usize {
+fn reads_fail_at_each_call(rt: HostRuntime) -> Result<(), Fail> {
+    for calls in 0..READS {
         let mut failing = MemSource::stopping(TEXT, 5, calls, Stop::Fail);
         let answer = read_all(rt.alloc(), &mut failing, 100);
         assert!(rt;
@@ -96,9 +96,14 @@ fn reads_fail_or_end_at_each_call(rt: HostRuntime) -> Result<(), Fail> {
             "after {calls} calls"
         );
     }
-    let mut late = MemSource::stopping(TEXT, 5, 4, Stop::Fail);
+    let mut late = MemSource::stopping(TEXT, 5, READS, Stop::Fail);
     assert_eq!(rt; read_all(rt.alloc(), &mut late, 100)?.as_slice(), TEXT);
-    let ends: [&[u8]; 4] = [b"", b"a sho", b"a short te", b"a short text"];
+    Ok(())
+}
+
+#[test]
+fn reads_end_at_each_call(rt: HostRuntime) -> Result<(), Fail> {
+    let ends: [&[u8]; 4] = [b"", b"a sho", b"a short te", TEXT];
     for (calls, end) in ends.iter().enumerate() {
         let mut ending = MemSource::stopping(TEXT, 5, calls, Stop::Nothing);
         let all = read_all(rt.alloc(), &mut ending, 100)?;
@@ -128,14 +133,15 @@ fn writes_stop_at_each_call(rt: HostRuntime) {
         for stop in [Stop::Fail, Stop::Nothing] {
             let mut room = [0u8; 100];
             let mut sink = MemSink::stopping(&mut room, 4, calls, stop);
-            assert_eq!(rt;
-                write_all(&mut sink, TEXT),
-                Err(WriteFailed),
-                "{stop:?} after {calls}"
-            );
+            let answer = write_all(&mut sink, TEXT);
+            assert_eq!(rt; answer, Err(WriteFailed), "{stop:?} after {calls}");
             assert_eq!(rt; sink.written(), *part, "{stop:?} after {calls}");
         }
     }
+}
+
+#[test]
+fn calls_that_are_left_write_the_whole(rt: HostRuntime) {
     let mut room = [0u8; 100];
     let mut sink = MemSink::stopping(&mut room, 4, 3, Stop::Fail);
     assert_eq!(rt; write_all(&mut sink, TEXT), Ok(()));
@@ -153,38 +159,40 @@ fn a_full_writer_keeps_what_fits(rt: HostRuntime) {
     assert_eq!(rt; sink.write(b"more").ok(), Some(0));
 }
 
+const FAILURES: [ErrorKind; 3] = [
+    ErrorKind::Interrupted,
+    ErrorKind::WouldBlock,
+    ErrorKind::Other,
+];
+
 #[test]
-fn an_error_of_any_kind_is_a_failed_call(rt: HostRuntime) -> Result<(), Fail> {
-    for kind in [
-        ErrorKind::Interrupted,
-        ErrorKind::WouldBlock,
-        ErrorKind::Other,
-    ] {
+fn an_error_of_any_kind_is_a_failed_read(rt: HostRuntime) -> Result<(), Fail> {
+    for kind in FAILURES {
         let mut source = Counted::new(Flaky::new(2, Some(kind)));
         let answer = read_all(rt.alloc(), &mut source, 100);
         assert!(rt; matches!(answer, Err(ReadAllFault::Read)));
         assert_eq!(rt; source.into_inner().calls, 3);
+    }
+    let mut ending = Counted::new(Flaky::new(2, None));
+    let all = read_all(rt.alloc(), &mut ending, 100)?;
+    assert_eq!(rt; all.as_slice(), b"xx".as_slice());
+    let mut endless = Counted::new(Flaky::new(u32::MAX, None));
+    let answer = read_all(rt.alloc(), &mut endless, 100);
+    assert!(rt; matches!(answer, Err(ReadAllFault::TooLong)));
+    Ok(())
+}
+
+#[test]
+fn an_error_of_any_kind_is_a_failed_write(rt: HostRuntime) {
+    for kind in FAILURES {
         let mut sink = Counted::new(Flaky::new(2, Some(kind)));
         assert_eq!(rt; write_all(&mut sink, b"abcd"), Err(WriteFailed));
         assert_eq!(rt; sink.into_inner().calls, 3);
     }
-    let mut ending = Counted::new(Flaky::new(2, None));
-    assert_eq!(rt;
-        read_all(rt.alloc(), &mut ending, 100)?.as_slice(),
-        b"xx".as_slice()
-    );
-    let mut endless = Counted::new(Flaky::new(u32::MAX, None));
-    assert!(rt;
-        matches!(
-            read_all(rt.alloc(), &mut endless, 100),
-            Err(ReadAllFault::TooLong)
-        )
-    );
-    let mut stalled = Counted::new(Flaky::new(2, None));
-    assert_eq!(rt; write_all(&mut stalled, b"abcd"), Err(WriteFailed));
-    let mut enough = Counted::new(Flaky::new(4, None));
-    assert_eq!(rt; write_all(&mut enough, b"abcd"), Ok(()));
-    Ok(())
+    for (stop_at, wanted) in [(2, Err(WriteFailed)), (4, Ok(()))] {
+        let mut sink = Counted::new(Flaky::new(stop_at, None));
+        assert_eq!(rt; write_all(&mut sink, b"abcd"), wanted, "{stop_at} calls");
+    }
 }
 
 #[test]

@@ -1,7 +1,6 @@
 //! Eviction thresholds, over samples worked out by hand.
 
 use quantity::{Limit, Percent, Quantity};
-use std::process::Abort;
 use thresholds::{Threshold, Watch};
 
 /// So many mebibytes, in thousandths of a byte.
@@ -22,72 +21,94 @@ fn watch(limit: u32, reclaim: u32, grace: u64) -> Watch {
 /// A sample: moment, value in mebibytes, and then whether the threshold is active and due.
 type Sample = (u64, Option<u32>, (bool, bool));
 
-/// Takes the samples, and compares what the watch says after each.
-fn follow(rt: &impl Abort, mut watch: Watch, samples: &[Sample]) {
-    assert_eq!(rt; (watch.active(), watch.due()), OFF);
-    for (at, value, wanted) in samples {
-        let value = match value {
-            Some(count) => Some(mebibytes(*count)),
-            None => None,
-        };
-        watch.sample(*at, value);
-        assert_eq!(rt; (watch.active(), watch.due()), *wanted, "at {at}");
-    }
-}
-
 const OFF: (bool, bool) = (false, false);
 
 const ACTIVE: (bool, bool) = (true, false);
 
 const DUE: (bool, bool) = (true, true);
 
-#[test]
-fn threshold_clears_at_limit_plus_reclaim(rt: HostRuntime) {
-    let below = [
-        (0, Some(90), DUE),
-        (10, Some(400), DUE),
-        (20, Some(599), DUE),
-        (30, Some(600), OFF),
-        (40, Some(400), OFF),
-    ];
-    follow(&rt, watch(100, 500, 0), &below);
-    let at_the_limit = [(0, Some(100), OFF), (10, Some(400), OFF)];
-    follow(&rt, watch(100, 500, 0), &at_the_limit);
-    let zero = [(0, Some(0), OFF), (10, None, OFF), (20, Some(1), OFF)];
-    follow(&rt, watch(0, 500, 0), &zero);
-}
+/// What samples show: a limit and a reclaim in mebibytes, a grace in seconds, and the samples.
+type History = (u32, u32, u64, &'static [Sample]);
+
+const HISTORIES: [History; 6] = [
+    // a threshold clears at limit plus reclaim
+    (
+        100,
+        500,
+        0,
+        &[
+            (0, Some(90), DUE),
+            (10, Some(400), DUE),
+            (20, Some(599), DUE),
+            (30, Some(600), OFF),
+            (40, Some(400), OFF),
+        ],
+    ),
+    // and is not active at the limit
+    (100, 500, 0, &[(0, Some(100), OFF), (10, Some(400), OFF)]),
+    // an absent value clears it
+    (
+        100,
+        500,
+        0,
+        &[
+            (0, None, OFF),
+            (5, Some(90), DUE),
+            (10, None, OFF),
+            (20, Some(400), OFF),
+            (30, Some(99), DUE),
+        ],
+    ),
+    // a soft one is due after its grace
+    (
+        1024,
+        0,
+        90,
+        &[
+            (0, Some(500), ACTIVE),
+            (89, Some(400), ACTIVE),
+            (90, Some(500), DUE),
+            (100, Some(1024), OFF),
+            (110, Some(1023), ACTIVE),
+            (199, Some(1023), ACTIVE),
+            (200, Some(1023), DUE),
+        ],
+    ),
+    // the grace runs on between limit and reclaim
+    (
+        100,
+        500,
+        60,
+        &[
+            (7, Some(90), ACTIVE),
+            (40, Some(550), ACTIVE),
+            (50, Some(10), ACTIVE),
+            (67, Some(550), DUE),
+        ],
+    ),
+    // a limit of 0 is never active
+    (
+        0,
+        500,
+        0,
+        &[(0, Some(0), OFF), (10, None, OFF), (20, Some(1), OFF)],
+    ),
+];
 
 #[test]
-fn absent_value_clears_a_threshold(rt: HostRuntime) {
-    let samples = [
-        (0, None, OFF),
-        (5, Some(90), DUE),
-        (10, None, OFF),
-        (20, Some(400), OFF),
-        (30, Some(99), DUE),
-    ];
-    follow(&rt, watch(100, 500, 0), &samples);
-}
-
-#[test]
-fn soft_threshold_is_due_after_its_grace(rt: HostRuntime) {
-    let samples = [
-        (0, Some(500), ACTIVE),
-        (89, Some(400), ACTIVE),
-        (90, Some(500), DUE),
-        (100, Some(1024), OFF),
-        (110, Some(1023), ACTIVE),
-        (199, Some(1023), ACTIVE),
-        (200, Some(1023), DUE),
-    ];
-    follow(&rt, watch(1024, 0, 90), &samples);
-    let between_limit_and_reclaim = [
-        (7, Some(90), ACTIVE),
-        (40, Some(550), ACTIVE),
-        (50, Some(10), ACTIVE),
-        (67, Some(550), DUE),
-    ];
-    follow(&rt, watch(100, 500, 60), &between_limit_and_reclaim);
+fn thresholds_are_active_and_due_by_their_samples(rt: HostRuntime) {
+    for (limit, reclaim, grace, samples) in HISTORIES {
+        let mut watch = watch(limit, reclaim, grace);
+        assert_eq!(rt; (watch.active(), watch.due()), OFF);
+        for (at, value, wanted) in samples {
+            let value = match value {
+                Some(count) => Some(mebibytes(*count)),
+                None => None,
+            };
+            watch.sample(*at, value);
+            assert_eq!(rt; (watch.active(), watch.due()), *wanted, "at {at}");
+        }
+    }
 }
 
 #[test]
