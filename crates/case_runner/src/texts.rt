@@ -1,54 +1,63 @@
 //! Quantities, percentages, durations, limits and names, each with its answer.
 
 use manifest::is_name;
-use quantity::{Limit, Percent, Quantity, seconds_of};
+use quantity::{Limit, Percent, Quantity, QuantityFault, seconds_of};
 use std::alloc::{AllocError, Global};
+use std::fmt::Display;
 
-/// The thousandths of a quantity, or its fault.
+/// The number that was read, or the fault.
+fn answer(alloc: Global, read: Result<u128, QuantityFault>) -> Result<String, AllocError> {
+    match read {
+        Ok(number) => number.to_string(alloc),
+        Err(fault) => format!(in alloc; "{fault:?}"),
+    }
+}
+
+/// What is printed of what was read, or of the fault.
+fn printed<T: Display + Drop>(
+    alloc: Global,
+    read: Result<T, QuantityFault>,
+) -> Result<String, AllocError> {
+    match read {
+        Ok(value) => value.to_string(alloc),
+        Err(fault) => fault.to_string(alloc),
+    }
+}
+
+/// The thousandths of a quantity.
 pub(crate) fn quantity(alloc: Global, text: &[u8]) -> Result<String, AllocError> {
-    match Quantity::parse(text) {
-        Ok(quantity) => quantity.milli().to_string(alloc),
-        Err(fault) => format!(in alloc; "{fault:?}"),
-    }
+    answer(
+        alloc,
+        Quantity::parse(text).map(|quantity| quantity.milli()),
+    )
 }
 
-/// A quantity as it is printed, or its fault in words.
+/// A quantity as it is printed.
 pub(crate) fn printed_quantity(alloc: Global, text: &[u8]) -> Result<String, AllocError> {
-    match Quantity::parse(text) {
-        Ok(quantity) => format!(in alloc; "{quantity}"),
-        Err(fault) => format!(in alloc; "{fault}"),
-    }
+    printed(alloc, Quantity::parse(text))
 }
 
-/// The hundredths of a percentage, or its fault.
+/// The hundredths of a percentage.
 pub(crate) fn percentage(alloc: Global, text: &[u8]) -> Result<String, AllocError> {
-    match Percent::parse(text) {
-        Ok(percent) => percent.hundredths().to_string(alloc),
-        Err(fault) => format!(in alloc; "{fault:?}"),
-    }
+    let read = Percent::parse(text);
+    answer(alloc, read.map(|percent| u128::from(percent.hundredths())))
 }
 
-/// A percentage as it is printed, or its fault in words.
+/// A percentage as it is printed.
 pub(crate) fn printed_percentage(alloc: Global, text: &[u8]) -> Result<String, AllocError> {
-    match Percent::parse(text) {
-        Ok(percent) => format!(in alloc; "{percent}"),
-        Err(fault) => format!(in alloc; "{fault}"),
-    }
+    printed(alloc, Percent::parse(text))
 }
 
-/// The seconds of a duration, or its fault.
+/// The seconds of a duration.
 pub(crate) fn duration(alloc: Global, text: &[u8]) -> Result<String, AllocError> {
-    match seconds_of(text) {
-        Ok(seconds) => seconds.to_string(alloc),
-        Err(fault) => format!(in alloc; "{fault:?}"),
-    }
+    answer(alloc, seconds_of(text).map(u128::from))
 }
 
-/// A quantity in thousandths or a percentage in hundredths, or the fault.
+/// A quantity in thousandths or a percentage in hundredths.
 pub(crate) fn limit(alloc: Global, text: &[u8]) -> Result<String, AllocError> {
     match Limit::parse(text) {
         Ok(limit) => format!(in alloc; "{limit:?}"),
-        Err(fault) => format!(in alloc; "{fault:?}"),
+        Err(fault) => answer(alloc, Err(fault)),
     }
 }
 
