@@ -47,7 +47,8 @@ pub record IsSo {A : Type 0} (P : List (Recorded A) → Type 0) (h : List (Recor
   pub within : t < length h
   pub so : P (up_to h t)
 
--- what holds of a history once goes on to hold, whatever is recorded later; and it does not hold of none
+-- what holds of a history once goes on to hold, whatever is recorded later; and it does not hold of
+-- none
 pub record Lasts {A : Type 0} (P : List (Recorded A) → Type 0) : Type 0 where
   pub none : P [] → ⊥
   pub more : (h later : List (Recorded A)) → P h → P (h ++ later)

@@ -6,7 +6,8 @@ ghost use Rattle.json_fields.specs.Fields.{field_at, text_at};
 
 use serde_json::Value;
 
-/// The value of an object's field, where null counts as absent. A value that is no object has no fields.
+/// The value of an object's field, where null counts as absent. A value that is no object has no
+/// fields.
 pub fn field<'v>(object: &'v Value, name: &str) -> Option<&'v Value>
     ensures { option_map (λ v. view v.now) result ≡ field_at name.now (view object.now) }
 {

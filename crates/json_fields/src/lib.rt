@@ -1,4 +1,5 @@
-//! Fields of JSON objects, and the words in which a reader's answer is compared with the definition of what it reads.
+//! Fields of JSON objects, and the words in which a reader's answer is compared with the definition
+//! of what it reads.
 #![tactic(auto)]
 
 mod fields;

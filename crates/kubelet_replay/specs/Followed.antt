@@ -12,8 +12,8 @@ use Rattle.trace.specs.Observations.{seen_of, history}
 use Rattle.kubelet_replay.specs.declared.follow.Followed.{Followed}
 use Rattle.kubelet_replay.specs.PodHistory.{pod_history}
 
--- the phase and conditions, the containers as the ticks that count show them, and, until the pod has ended, a differ that
--- has followed each container
+-- the phase and conditions, the containers as the ticks that count show them, and, until the pod
+-- has ended, a differ that has followed each container
 pub record IsFollowed (spec : PodSpec) (pod : ℕ) (ticks : List TickObs) (f : Followed) : Type 0 where
   pub progress : IsProgressOf spec None (pod_history ticks pod) f.lifecycle
   pub shown : AreShown spec None (pod_history ticks pod) f.views.items
@@ -21,7 +21,8 @@ pub record IsFollowed (spec : PodSpec) (pod : ℕ) (ticks : List TickObs) (f : F
   pub differ_count : length f.differs.items ≡ length spec.containers
   pub view_count : length f.views.items ≡ length spec.containers
 
--- until the pod has ended, each differ accepts what the tick lists, and its last tick is before this one
+-- until the pod has ended, each differ accepts what the tick lists, and its last tick is before
+-- this one
 pub record IsReady (pod : ℕ) (tick : TickObs) (f : Followed) : Type 0 where
   pub accepts : (IsTerminal f.lifecycle.phase → ⊥) → (c : ℕ) (d : Differ) → c < length f.differs.items → Accepts (slice_index_or f.differs.items c d) (seen_of tick pod c)
   pub before : (IsTerminal f.lifecycle.phase → ⊥) → AreBefore f.differs.items tick.at

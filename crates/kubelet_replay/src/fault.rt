@@ -27,7 +27,8 @@ pub enum RunFault {
     Write,
 }
 
-/// The status with which the program ends: 1 for input, output and memory, and 2 for a text that is no trace.
+/// The status with which the program ends: 1 for input, output and memory, and 2 for a text that is
+/// no trace.
 pub fn status_of(fault: &RunFault) -> u8
     ensures { result ≡ status fault.now }
 {

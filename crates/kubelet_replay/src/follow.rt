@@ -19,8 +19,8 @@ use state_diff::{Differ, Seen};
 use std::alloc::{AllocError, Global};
 use trace::{TickObs, seen_of};
 
-/// A pod on its way through the ticks: one differ for each container, the containers as the ticks that count show them, and
-/// the pod's phase and conditions.
+/// A pod on its way through the ticks: one differ for each container, the containers as the ticks
+/// that count show them, and the pod's phase and conditions.
 #[derive(Drop)]
 pub(crate) struct Followed {
     differs: Vec<Differ>,

@@ -62,10 +62,11 @@ fn write_text<W: Sink>(output: &mut W, text: &str) -> Result<(), RunFault>
 
 /// Replays a trace on one thread and writes the pod lines of its report.
 ///
-/// The input is read to its end and the report is made whole before the first write. So nothing is written where the
-/// reader failed (`Read`), the input has more than 64 MiB (`TooLong`), the text is no trace (`Line`, with its first
-/// faulty line) or a growth of memory was refused (`OutOfMemory`). Where the writer failed or took nothing (`Write`), a
-/// part of the report from its beginning is written.
+/// The input is read to its end and the report is made whole before the first write. So nothing is
+/// written where the reader failed (`Read`), the input has more than 64 MiB (`TooLong`), the text
+/// is no trace (`Line`, with its first faulty line) or a growth of memory was refused
+/// (`OutOfMemory`). Where the writer failed or took nothing (`Write`), a part of the report from
+/// its beginning is written.
 pub fn replay_alone<R: Source, W: Sink>(
     alloc: Global,
     input: &mut R,

@@ -1,4 +1,5 @@
--- Rows of a table of checks, beside reading step by step: the first row that is failed is the first step that is refused.
+-- Rows of a table of checks, beside reading step by step: the first row that is failed is the first
+-- step that is refused.
 use Rattle.std.proofs.Common.{◌≡◌, ◌∙◌, ℕ, zero, suc, ◌<◌, Bool, true, false, List, [], ◌∷◌, ◌++◌, Some, None, Result, Ok, Err, refl, ap, sym, arith}
 use Rattle.std.specs.Prelude.{◌↔◌, slice_get, if◌then◌else◌}
 use Rattle.std.specs.List.{flat_map}

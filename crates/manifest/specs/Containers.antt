@@ -25,7 +25,8 @@ is_app App = true
 abbrev pub has_only_apps : List ContainerSpec → Bool
 has_only_apps containers = list_all (λ c. is_app c.role) containers
 
--- an item of `initContainers` is an init container or a sidecar, one of `containers` an app container
+-- an item of `initContainers` is an init container or a sidecar, one of `containers` an app
+-- container
 abbrev pub MayHave : Place → Role → Type 0
 MayHave InitContainers role = role ≢ App
 MayHave Containers role = role ≡ App
@@ -39,7 +40,8 @@ pub record IsOf (place : Place) (c : ContainerSpec) : Type 0 where
 unfoldable pub AllOf : Place → List ContainerSpec → Type 0
 AllOf place containers = All (IsOf place) containers
 
--- init containers and sidecars, then at least one app container; at most 16 together, no two of one name
+-- init containers and sidecars, then at least one app container; at most 16 together, no two of one
+-- name
 pub record AreContainers (containers : List ContainerSpec) : Type 0 where
   pub init : List ContainerSpec
   pub apps : List ContainerSpec

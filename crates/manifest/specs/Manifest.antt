@@ -1,5 +1,6 @@
--- What a manifest says of a pod, or its first fault: one line for each field, in the order in which they are read
--- (Kubernetes API, `Pod`; "Pod Lifecycle", "Container restart policy"; "Pod Priority and Preemption").
+-- What a manifest says of a pod, or its first fault: one line for each field, in the order in which
+-- they are read (Kubernetes API, `Pod`; "Pod Lifecycle", "Container restart policy"; "Pod Priority
+-- and Preemption").
 use Rattle.std.specs.Prelude.{ℕ, ℤ, pos, negsuc, int_le, ⊤, ◌^◌, ◌+◌, ◌&&◌, List, ◌++◌, length, nat_lt, Option, Some, None, option_and_then, if◌then◌else◌, Result, Ok, Err, bytes_eq, codes}
 use Rattle.serde_json.specs.Data.{Data}
 use Rattle.serde_json.specs.Find.{as_str, as_number, as_i64, as_u64}
@@ -61,7 +62,8 @@ abbrev pub field_of : Place → Field
 field_of InitContainers = fields.InitContainers
 field_of Containers = fields.Containers
 
--- of the restart policies of its own that an item of `initContainers` may have there is one, which makes it a sidecar
+-- of the restart policies of its own that an item of `initContainers` may have there is one, which
+-- makes it a sidecar
 abbrev pub sidecar_from : Option (List ℕ) → Result Role ManifestFault
 sidecar_from None = Err faults.Sidecar
 sidecar_from (Some text) = if bytes_eq text (codes "Always") then Ok Sidecar else Err faults.Sidecar

@@ -1,4 +1,5 @@
--- After which exits a container is started again (Kubernetes, "Pod Lifecycle", "Container restart policy").
+-- After which exits a container is started again (Kubernetes, "Pod Lifecycle", "Container restart
+-- policy").
 use Rattle.std.specs.Prelude.{◌≢◌, ℤ, pos}
 use Rattle.manifest.specs.declared.policy.Policy.{Policy}
 use Rattle.manifest.specs.declared.policy.Policy.TheVariants.{Always, OnFailure, Never}
@@ -21,7 +22,8 @@ WantsInitRestart Always code = HasFailed code
 WantsInitRestart OnFailure code = HasFailed code
 WantsInitRestart Never code = ⊥
 
--- by the container's role; a sidecar's own policy is Always, whatever the pod's is ("Sidecar Containers")
+-- by the container's role; a sidecar's own policy is Always, whatever the pod's is ("Sidecar
+-- Containers")
 abbrev pub WantsRestart : Policy → Role → ℤ → Type 0
 WantsRestart policy Init code = WantsInitRestart policy code
 WantsRestart policy Sidecar code = Unit {0}

@@ -1,4 +1,5 @@
--- The probes that a manifest writes (Kubernetes, "Configure Liveness, Readiness and Startup Probes").
+-- The probes that a manifest writes (Kubernetes, "Configure Liveness, Readiness and Startup
+-- Probes").
 use Rattle.std.specs.Prelude.{ℕ, ◌^◌, ◌-◌, ◌&&◌, ℤ, nat_le, Option, Some, None, option_and_then, if◌then◌else◌, Result, Ok, Err, codes}
 use Rattle.serde_json.specs.Data.{Data}
 use Rattle.serde_json.specs.Find.{as_number, as_i64, as_u64}

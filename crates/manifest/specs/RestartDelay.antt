@@ -1,5 +1,5 @@
--- The greatest delay of a restart on a node (Kubernetes, "Pod Lifecycle", "Container restart policy" and "Configurable
--- container restart delay").
+-- The greatest delay of a restart on a node (Kubernetes, "Pod Lifecycle", "Container restart
+-- policy" and "Configurable container restart delay").
 use Rattle.std.specs.Prelude.{ℕ, ◌&&◌, nat_le, Option, Some, None, if◌then◌else◌}
 
 -- in seconds

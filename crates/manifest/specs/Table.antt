@@ -1,5 +1,6 @@
--- The table of a manifest's checks, a line for each row. Each row is told by itself, by the field that it looks at: what
--- stands in no object has no fields, so a row says nothing of what earlier rows refuse. (Kubernetes API, `Pod`.)
+-- The table of a manifest's checks, a line for each row. Each row is told by itself, by the field
+-- that it looks at: what stands in no object has no fields, so a row says nothing of what earlier
+-- rows refuse. (Kubernetes API, `Pod`.)
 use Rattle.std.specs.Prelude.{ℕ, pos, negsuc, int_le, nat_lt, ◌^◌, ◌+◌, ◌&&◌, ◌||◌, Bool, true, false, not, List, [], ◌∷◌, ◌++◌, length, map, Option, Some, None, is_some, unwrap_or, option_and_then, if◌then◌else◌, Result, Ok, Err, bytes_eq, codes}
 use Rattle.std.specs.List.{flat_map, list_any}
 use Rattle.serde_json.specs.Data.{Data, Items}
@@ -129,7 +130,8 @@ probe_rows most_successes found =
     ∷ number_row 1 greatest 3 (at (codes "failureThreshold") found)
     ∷ []
 
--- an item of `containers` has no restart policy of its own; one of `initContainers` has `Always` alone, which makes it a sidecar
+-- an item of `containers` has no restart policy of its own; one of `initContainers` has `Always`
+-- alone, which makes it a sidecar
 abbrev pub own_policy_row : Place → Option Data → Row
 own_policy_row InitContainers None = None
 own_policy_row InitContainers (Some d) = fails_if (not (is_text (λ text. bytes_eq text (codes "Always")) d)) Sidecar

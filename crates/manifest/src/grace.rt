@@ -4,8 +4,8 @@ ghost use Rattle.std.specs.Prelude.{◌≡◌, ◌<◌, ◌^◌};
 
 use std::marker::Model;
 
-/// The seconds that a pod's containers have to end after they were told to, fewer than 2^40. Contracts see the number.
-/// (Kubernetes, "Pod Lifecycle", "Termination of Pods".)
+/// The seconds that a pod's containers have to end after they were told to, fewer than 2^40.
+/// Contracts see the number. (Kubernetes, "Pod Lifecycle", "Termination of Pods".)
 #[derive(Clone, Copy, Debug, PartialEq, Eq)]
 pub struct GracePeriod(u64);
 

@@ -1,5 +1,5 @@
-//! What the definition of a manifest implies, in the words of the table of its checks. The functions do nothing; their
-//! contracts are the laws.
+//! What the definition of a manifest implies, in the words of the table of its checks. The
+//! functions do nothing; their contracts are the laws.
 ghost use Rattle.manifest.specs.Laws.{FirstCheck, EveryCheck, NeverMemory};
 
 /// A manifest is refused exactly with the fault of the first check of the table that it fails.

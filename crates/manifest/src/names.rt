@@ -44,8 +44,8 @@ fn has_label_bytes(text: &[u8]) -> bool
     text.iter().all(|byte| is_label_byte(*byte))
 }
 
-/// Whether the text is the name of an object: 1 to 253 bytes from `a` to `z`, `0` to `9`, `-` and `.`, with a letter or
-/// digit at both ends.
+/// Whether the text is the name of an object: 1 to 253 bytes from `a` to `z`, `0` to `9`, `-` and
+/// `.`, with a letter or digit at both ends.
 #[tactic(auto, unfolding(crate::specs::Names::is_name))]
 pub fn is_name(text: &[u8]) -> bool
     ensures { result ≡ is_name text.now }
@@ -53,7 +53,8 @@ pub fn is_name(text: &[u8]) -> bool
     0 < text.len() && text.len() <= 253 && has_name_bytes(text) && has_ends(text)
 }
 
-/// Whether the text is the name of a namespace or a container: a name of at most 63 bytes with no point.
+/// Whether the text is the name of a namespace or a container: a name of at most 63 bytes with no
+/// point.
 #[tactic(auto, unfolding(crate::specs::Names::is_label))]
 pub(crate) fn is_label(text: &[u8]) -> bool
     ensures { result ≡ is_label text.now }

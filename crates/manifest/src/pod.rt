@@ -18,8 +18,9 @@ pub enum Role {
     /// An item of `initContainers` that has to end well before the containers after it start.
     /// (Kubernetes, "Init Containers".)
     Init,
-    /// An item of `initContainers` with the restart policy `Always` of its own: once it has started, the containers
-    /// after it start, and it goes on running beside them. (Kubernetes, "Sidecar Containers".)
+    /// An item of `initContainers` with the restart policy `Always` of its own: once it has
+    /// started, the containers after it start, and it goes on running beside them. (Kubernetes,
+    /// "Sidecar Containers".)
     Sidecar,
     /// An item of `containers`.
     App,
@@ -44,8 +45,9 @@ impl ContainerSpec {
     }
 }
 
-/// The containers of a pod: init containers and sidecars in their order, then at least one app container, at most 16
-/// together, no two of one name. An init container has no probes. Contracts see them as a list.
+/// The containers of a pod: init containers and sidecars in their order, then at least one app
+/// container, at most 16 together, no two of one name. An init container has no probes. Contracts
+/// see them as a list.
 #[derive(Drop)]
 pub struct ContainerList {
     items: Vec<ContainerSpec>,
@@ -125,7 +127,8 @@ fn names_of(alloc: Global, containers: &[ContainerSpec]) -> Result<NameList, All
     Ok(names)
 }
 
-/// The specification of one pod (Kubernetes, "Pod Lifecycle"; the fields of the manifest's `metadata` and `spec`).
+/// The specification of one pod (Kubernetes, "Pod Lifecycle"; the fields of the manifest's
+/// `metadata` and `spec`).
 #[derive(Drop)]
 pub struct PodSpec {
     /// `metadata.name`, 1 to 253 bytes.
@@ -134,9 +137,9 @@ pub struct PodSpec {
     pub namespace: Text,
     /// `spec.restartPolicy`; `Always` where none is written.
     pub policy: Policy,
-    /// `spec.priority`, 0 where none is written. Under memory or disk pressure, of pods alike in whether they use more than
-    /// they request, one of lower priority is evicted first. (Kubernetes, "Node-pressure Eviction", "Pod selection for
-    /// kubelet eviction".)
+    /// `spec.priority`, 0 where none is written. Under memory or disk pressure, of pods alike in
+    /// whether they use more than they request, one of lower priority is evicted first.
+    /// (Kubernetes, "Node-pressure Eviction", "Pod selection for kubelet eviction".)
     pub priority: i32,
     /// `spec.terminationGracePeriodSeconds`, in seconds; 30 where none is written.
     pub grace_period_seconds: GracePeriod,

@@ -55,7 +55,8 @@ impl Probe {
         self.initial_delay_seconds
     }
 
-    /// `periodSeconds`: the seconds from one check to the next. A trace has the results alone, so the replay doesn't use it.
+    /// `periodSeconds`: the seconds from one check to the next. A trace has the results alone, so
+    /// the replay doesn't use it.
     pub fn period_seconds(self) -> u32
         ensures value { result ≡ self.period_seconds }
         ensures least { 1 ≤ result }
@@ -64,8 +65,8 @@ impl Probe {
         self.period_seconds
     }
 
-    /// `timeoutSeconds`: the seconds after which a check has failed. A trace has the results alone, so the replay doesn't use
-    /// it.
+    /// `timeoutSeconds`: the seconds after which a check has failed. A trace has the results alone,
+    /// so the replay doesn't use it.
     pub fn timeout_seconds(self) -> u32
         ensures value { result ≡ self.timeout_seconds }
         ensures least { 1 ≤ result }
@@ -93,7 +94,8 @@ impl Probe {
     }
 }
 
-/// The probes of a container. For startup and liveness one success is enough. Contracts see the three.
+/// The probes of a container. For startup and liveness one success is enough. Contracts see the
+/// three.
 #[derive(Clone, Copy, Debug, PartialEq, Eq)]
 pub struct Probes {
     startup: Option<Probe>,

@@ -87,7 +87,8 @@ fn field_of(place: Place) -> Field
     }
 }
 
-/// The role of an item of `initContainers` with a restart policy of its own, which has to be `Always`.
+/// The role of an item of `initContainers` with a restart policy of its own, which has to be
+/// `Always`.
 fn sidecar_from(own_policy: Option<&str>) -> Result<Role, ManifestFault>
     ensures gives { GivesExactly (λ r. r) result (sidecar_from (option_map (λ s. s.now) own_policy.entry)) }
     ensures is { IfOk result (λ role. role ≡ Sidecar) }
@@ -307,8 +308,8 @@ fn spec_of(alloc: Global, found: Option<&Value>) -> Result<Spec, ManifestFault>
 
 impl PodSpec {
     /// The pod that a manifest describes, or the manifest's first fault in the order of its fields
-    /// (`metadata`, its `name` and `namespace`, `spec`, its `restartPolicy`, `priority`, `terminationGracePeriodSeconds`,
-    /// `initContainers` and `containers`; then each container).
+    /// (`metadata`, its `name` and `namespace`, `spec`, its `restartPolicy`, `priority`,
+    /// `terminationGracePeriodSeconds`, `initContainers` and `containers`; then each container).
     #[tactic(auto, unfolding(crate::specs::Manifest::pod_at))]
     pub fn from_value(alloc: Global, value: &Value) -> Result<PodSpec, ManifestFault>
         ensures { Gives (λ p. p) result (pod_at (view value.now)) }

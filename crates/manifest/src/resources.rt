@@ -71,8 +71,9 @@ impl Amounts {
     }
 }
 
-/// The requests and limits of a container, as they are written: nothing is made of a zero or of a limit without its
-/// request. No request is above its limit where both are set and neither is zero. Contracts see the two.
+/// The requests and limits of a container, as they are written: nothing is made of a zero or of a
+/// limit without its request. No request is above its limit where both are set and neither is zero.
+/// Contracts see the two.
 #[derive(Clone, Copy, Debug, PartialEq, Eq)]
 pub struct Resources {
     requests: Amounts,

@@ -6,7 +6,8 @@ ghost use Rattle.manifest.specs.RestartDelay.{least_max_delay, most_max_delay, m
 use std::marker::Model;
 
 /// The greatest delay of a restart on a node, in seconds, from 1 to 300. Contracts see the number.
-/// (Kubernetes, "Pod Lifecycle", "Container restart policy" and "Configurable container restart delay".)
+/// (Kubernetes, "Pod Lifecycle", "Container restart policy" and "Configurable container restart
+/// delay".)
 #[derive(Clone, Copy, Debug, PartialEq, Eq)]
 pub struct MaxRestartDelay(u64);
 

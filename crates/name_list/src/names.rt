@@ -7,7 +7,8 @@ use indexmap::IndexSet;
 use std::alloc::{AllocError, Global};
 use std::marker::Model;
 
-/// Names without repetition, each with its place as its number. Contracts see the list of their bytes.
+/// Names without repetition, each with its place as its number. Contracts see the list of their
+/// bytes.
 #[derive(Drop)]
 pub struct NameList {
     set: IndexSet<String>,

@@ -1,5 +1,5 @@
--- Each case of the raw phase holds or does not, where each container's part in it does, so one of them is the first
--- that holds.
+-- Each case of the raw phase holds or does not, where each container's part in it does, so one of
+-- them is the first that holds.
 use Rattle.std.proofs.Common.{◌≡◌, ◌≢◌, inl, inr, ℤ, pos, Bool, true, false, List, Option, Some, None, refl, ap, subst, sym, ◌∙◌, arith}
 use Rattle.std.specs.Prelude.{IsTrue}
 use Rattle.std.proofs.lemmas.Bool.Decides.{Decides-int_eq}

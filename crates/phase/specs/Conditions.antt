@@ -1,5 +1,5 @@
--- A condition's value, and the moment of its last transition, after a list of values (Kubernetes, "Pod Lifecycle", "Pod conditions":
--- `lastTransitionTime`).
+-- A condition's value, and the moment of its last transition, after a list of values (Kubernetes,
+-- "Pod Lifecycle", "Pod conditions": `lastTransitionTime`).
 use Rattle.std.specs.Prelude.{◌≡◌, List, [], ◌∷◌, Bool, not, true, false, IsSomeAnd, IsTrue}
 use Rattle.histories.specs.Histories.{Recorded, entry_at, project, IsTransition}
 use Rattle.phase.specs.declared.conditions.Condition.{Condition}
@@ -15,8 +15,8 @@ pub record IsConditionOf (initially : Bool) (h : List (Recorded Bool)) (c : Cond
   pub value : c.value ≡ last_or initially h
   pub since : IsTransition h (λ t. IsSomeAnd (entry_at h t) IsTrue) c.since
 
--- the conditions after these values: it is always true that the pod is scheduled; before any value the pod is
--- initialized only if it has no init container
+-- the conditions after these values: it is always true that the pod is scheduled; before any value
+-- the pod is initialized only if it has no init container
 pub record IsStateOf (has_init : Bool) (h : List (Recorded Values)) (conditions : Conditions) : Type 0 where
   pub pod_scheduled : IsConditionOf true (project (λ values. true) h) conditions.pod_scheduled
   pub initialized : IsConditionOf (not has_init) (project (λ values. values.initialized) h) conditions.initialized

@@ -1,5 +1,6 @@
--- What the rules ask of one container (Kubernetes, "Pod Lifecycle", "Pod phase" and "Container restart policy"; "Init
--- Containers"; "Sidecar Containers"). C is what describes it: a view, or its number in a pod with a history.
+-- What the rules ask of one container (Kubernetes, "Pod Lifecycle", "Pod phase" and "Container
+-- restart policy"; "Init Containers"; "Sidecar Containers"). C is what describes it: a view, or its
+-- number in a pod with a history.
 use Rattle.std.specs.Prelude.{◌≡◌, ◌≢◌, ℤ, pos, Option, Some, IsSomeAnd, IsTrue, option_and_then}
 use Rattle.state_diff.specs.declared.seen.CriState.TheVariants.{Running}
 use Rattle.manifest.specs.declared.policy.Policy.{Policy}

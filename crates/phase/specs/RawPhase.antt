@@ -1,5 +1,5 @@
--- The phase of a pod by the present state of its containers alone (Kubernetes, "Pod Lifecycle", "Pod phase"; "Init
--- Containers"; "Sidecar Containers"; the order of the cases is this profile's).
+-- The phase of a pod by the present state of its containers alone (Kubernetes, "Pod Lifecycle",
+-- "Pod phase"; "Init Containers"; "Sidecar Containers"; the order of the cases is this profile's).
 use Rattle.std.specs.Prelude.{◌≡◌, ◌⊎◌, List, All, Any}
 use Rattle.manifest.specs.declared.policy.Policy.{Policy}
 use Rattle.manifest.specs.declared.policy.Policy.TheVariants.{Never}
@@ -16,8 +16,8 @@ IsFailedInit facts container = facts.is container Init × HasFailed facts contai
 abbrev pub InitHasFailed : {C : Type 0} → Facts C → Policy → List C → Type 0
 InitHasFailed facts policy containers = (policy ≡ Never) × Any (IsFailedInit facts) containers
 
--- the pod waits for it: an init container that hasn't completed, a sidecar that was never started, or an app container
--- that isn't set up
+-- the pod waits for it: an init container that hasn't completed, a sidecar that was never started,
+-- or an app container that isn't set up
 abbrev pub IsAwaited : {C : Type 0} → Facts C → C → Type 0
 IsAwaited facts container =
     (facts.is container Init × (HasCompleted facts container → ⊥))
@@ -59,7 +59,8 @@ IsRawPhase facts policy containers phase =
 abbrev pub IsTerminal : Phase → Type 0
 IsTerminal phase = (phase ≡ Succeeded) ⊎ (phase ≡ Failed)
 
--- nothing before the app containers is still to be done for it: an init container has completed, and a sidecar was started
+-- nothing before the app containers is still to be done for it: an init container has completed,
+-- and a sidecar was started
 pub record HasInitialized {C : Type 0} (facts : Facts C) (container : C) : Type 0 where
   pub init : facts.is container Init → HasCompleted facts container
   pub sidecar : facts.is container Sidecar → facts.was_started container

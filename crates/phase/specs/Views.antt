@@ -1,5 +1,5 @@
--- What a view shows of a container (Kubernetes, "Pod Lifecycle", "Container states"; restarts by the greatest attempt are
--- this profile's rule).
+-- What a view shows of a container (Kubernetes, "Pod Lifecycle", "Container states"; restarts by
+-- the greatest attempt are this profile's rule).
 use Rattle.std.specs.Prelude.{ℕ, Option, Some, None}
 use Rattle.state_diff.specs.declared.seen.Seen.{Seen}
 use Rattle.state_diff.specs.declared.seen.CriState.{CriState}

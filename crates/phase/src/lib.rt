@@ -1,5 +1,5 @@
-//! A pod's phase by the newest instance of each container, the pod's conditions, and the states of its containers.
-//! (Kubernetes, "Pod Lifecycle".)
+//! A pod's phase by the newest instance of each container, the pod's conditions, and the states of
+//! its containers. (Kubernetes, "Pod Lifecycle".)
 #![tactic(auto)]
 
 mod conditions;

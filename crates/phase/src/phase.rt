@@ -10,14 +10,15 @@ use manifest::Policy;
 /// Where a pod stands in its life. (Kubernetes, "Pod Lifecycle", "Pod phase".)
 #[derive(Clone, Copy, Debug, PartialEq, Eq)]
 pub enum Phase {
-    /// Some init container has not completed, some sidecar was never started, or some app container has not been set up.
+    /// Some init container has not completed, some sidecar was never started, or some app container
+    /// has not been set up.
     Pending,
     /// All containers have been set up, and some app container still runs or is to be restarted.
     Running,
     /// All app containers have exited with 0, and none is to be restarted.
     Succeeded,
-    /// All app containers have exited, none is to be restarted, and some failed; or an init container failed for good;
-    /// or the pod was evicted.
+    /// All app containers have exited, none is to be restarted, and some failed; or an init
+    /// container failed for good; or the pod was evicted.
     Failed,
 }
 
@@ -115,8 +116,8 @@ fn have_failed(policy: Policy, containers: &[ContainerView]) -> bool
     have_finished(policy, containers) && any_failed_app(containers)
 }
 
-/// The phase of a pod with these containers by the present alone: a pod that has ended keeps its phase, which only the
-/// pod's history knows. (Kubernetes, "Pod Lifecycle", "Pod phase".)
+/// The phase of a pod with these containers by the present alone: a pod that has ended keeps its
+/// phase, which only the pod's history knows. (Kubernetes, "Pod Lifecycle", "Pod phase".)
 pub fn raw_phase(policy: Policy, containers: &[ContainerView]) -> Phase
     ensures { IsRawPhase of_view policy containers.now result }
 {
@@ -133,8 +134,8 @@ pub fn raw_phase(policy: Policy, containers: &[ContainerView]) -> Phase
     }
 }
 
-/// Whether the pod is initialized: every init container has completed, and every sidecar was started.
-/// (Kubernetes, "Pod Lifecycle", "Pod conditions"; "Init Containers".)
+/// Whether the pod is initialized: every init container has completed, and every sidecar was
+/// started. (Kubernetes, "Pod Lifecycle", "Pod conditions"; "Init Containers".)
 pub fn are_initialized(containers: &[ContainerView]) -> bool
     ensures { IsTrue result ↔ AreInitialized of_view containers.now }
 {

@@ -17,7 +17,8 @@ pub struct ContainerView {
     pub seen: Option<Seen>,
     /// Whether one of its instances has started or exited.
     pub set_up: bool,
-    /// Whether it was started at some tick: an instance was running, and its startup probe, if it has one, had passed.
+    /// Whether it was started at some tick: an instance was running, and its startup probe, if it
+    /// has one, had passed.
     pub was_started: bool,
 }
 
@@ -83,7 +84,8 @@ impl ContainerView {
         }
     }
 
-    /// Whether the newest instance has exited, and as one of an app container isn't to be started again.
+    /// Whether the newest instance has exited, and as one of an app container isn't to be started
+    /// again.
     pub(crate) fn has_finished(&self, policy: Policy) -> bool
         ensures { IsTrue result ↔ HasFinished of_view policy self.now }
     {

@@ -1,5 +1,5 @@
--- What a status shows of one container (Kubernetes, "Pod Lifecycle", "Container states"; restarts by the greatest attempt are this
--- profile's rule).
+-- What a status shows of one container (Kubernetes, "Pod Lifecycle", "Container states"; restarts
+-- by the greatest attempt are this profile's rule).
 use Rattle.std.specs.Prelude.{◌≡◌, ◌⊎◌, ◌↔◌, ℕ, ℤ, List, Option, Some, IsTrue}
 use Rattle.state_diff.specs.declared.seen.CriState.{CriState}
 use Rattle.state_diff.specs.declared.seen.CriState.TheVariants.{Created, Running as IsRunning, Exited}
@@ -28,7 +28,8 @@ IsRestarts h restarts =
     (((a t : ℕ) → Listed h a t → ⊥) × (restarts ≡ 0))
     ⊎ IsNewest h restarts
 
--- what is shown of the container after these ticks, which count: in a pod that was evicted none is ready or started
+-- what is shown of the container after these ticks, which count: in a pod that was evicted none is
+-- ready or started
 pub record IsShown (pod : PodSpec) (is_evicted : Type 0) (h : List PodTick) (container : ℕ) (status : ContainerStatus) : Type 0 where
   pub state : IsContainerState (listings h container) status.state
   pub code : (code : ℤ) → ((status.code ≡ Some code) ↔ (facts pod h).exited container code)

@@ -27,8 +27,8 @@ pub record EndedStaysEnded : Type 0 where
   pub no_other : (pod : PodSpec) (evicted : Option ℕ) (h later : List PodTick) (p q : Phase)
       → IsPhase pod evicted h p → IsTerminal p → IsPhase pod evicted (h ++ later) q → q ≡ p
 
--- m is the moment of a tick, which is the first, or C was otherwise one tick before; and where moments rise it isn't
--- later than the last tick's
+-- m is the moment of a tick, which is the first, or C was otherwise one tick before; and where
+-- moments rise it isn't later than the last tick's
 pub record ChangesAt (h : List PodTick) (C : List PodTick → Type 0) (m : ℕ) : Type 0 where
   pub place : ℕ
   pub moment : moment_at h place ≡ Some m

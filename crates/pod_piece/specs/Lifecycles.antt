@@ -1,5 +1,5 @@
--- A pod's phase, and its conditions with their moments, after a list of ticks (Kubernetes, "Pod Lifecycle", "Pod phase" and
--- "Pod conditions").
+-- A pod's phase, and its conditions with their moments, after a list of ticks (Kubernetes, "Pod
+-- Lifecycle", "Pod phase" and "Pod conditions").
 use Rattle.std.specs.Prelude.{◌≡◌, ◌↔◌, ℕ, ◌<◌, List, [], ◌∷◌, ◌++◌, length, Option, Some, Bool, true, IsSomeAnd, IsTrue}
 use Rattle.histories.specs.Histories.{Recorded, recorded, project, entry_at, moment_at, IsSo, IsTransition}
 use Rattle.phase.specs.declared.conditions.Condition.{Condition}
@@ -14,7 +14,8 @@ use Rattle.phase.specs.RawPhase.{IsTerminal}
 use Rattle.phase.specs.Conditions.{IsStateOf}
 use Rattle.pod_piece.specs.Pods.{PodTick, AreViewsOf, IsPhase, IsInitialized, AreContainersReady}
 
--- the condition is true where C holds after the ticks, and its moment is that of C's last transition
+-- the condition is true where C holds after the ticks, and its moment is that of C's last
+-- transition
 pub record IsConditionAfter (C : List PodTick → Type 0) (h : List PodTick) (c : Condition) : Type 0 where
   pub value : IsTrue c.value ↔ C h
   pub since : IsTransition h (IsSo C h) c.since
@@ -42,8 +43,9 @@ pub record IsProgressOf (pod : PodSpec) (evicted : Option ℕ) (h : List PodTick
   pub initialized : AreValuesOf (IsInitialized pod evicted) h (project (λ v. v.initialized) values)
   pub containers_ready : AreValuesOf (AreContainersReady pod evicted) h (project (λ v. v.containers_ready) values)
 
--- over every history of a pod with the policy: a tick follows it, after which the containers are as the views show them
--- unless the pod had ended, and which evicts the pod exactly if the flag says so; then p, if it was the phase, becomes q
+-- over every history of a pod with the policy: a tick follows it, after which the containers are as
+-- the views show them unless the pod had ended, and which evicts the pod exactly if the flag says
+-- so; then p, if it was the phase, becomes q
 abbrev pub IsNextPhase : Policy → List ContainerView → Bool → Phase → Phase → Type 0
 IsNextPhase policy views is_evicted p q =
     (pod : PodSpec) (evicted : Option ℕ) (h : List PodTick) (at : ℕ) (entry : List (Option Seen))

@@ -22,7 +22,8 @@ pub struct ContainerStatus {
     pub started: bool,
 }
 
-/// Whether the container is an app container or a sidecar that is running, in a pod that was not evicted.
+/// Whether the container is an app container or a sidecar that is running, in a pod that was not
+/// evicted.
 fn is_up(view: &ContainerView, is_evicted: bool) -> bool
     ensures { IsTrue result
         ↔ ((IsTrue is_evicted → ⊥) × ((of_view.is view.now Init → ⊥) × IsRunning view.now)) }
@@ -30,8 +31,9 @@ fn is_up(view: &ContainerView, is_evicted: bool) -> bool
     !is_evicted && !view.is_init() && view.is_running()
 }
 
-/// What a pod's status shows of a container, as the ticks that count leave it, which are those up to the end of the pod.
-/// `is_evicted` says whether the pod has ended by its eviction. (Kubernetes, "Pod Lifecycle", "Container states".)
+/// What a pod's status shows of a container, as the ticks that count leave it, which are those up
+/// to the end of the pod. `is_evicted` says whether the pod has ended by its eviction. (Kubernetes,
+/// "Pod Lifecycle", "Container states".)
 pub fn container_status(view: &ContainerView, is_evicted: bool) -> ContainerStatus
     ensures { (pod : PodSpec) (evicted end : Option ℕ) (h : List PodTick) (container : ℕ)
         → IsEnd pod evicted h end

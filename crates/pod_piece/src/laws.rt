@@ -1,5 +1,5 @@
-//! What the definitions of phases, conditions and container states imply. The functions do nothing; their contracts are
-//! the laws.
+//! What the definitions of phases, conditions and container states imply. The functions do nothing;
+//! their contracts are the laws.
 ghost use Rattle.pod_piece.specs.Laws.{OneRawPhase, OnePhase, EndedStaysEnded, TransitionsAreChanges, OneStatus};
 
 /// Of the listings of a pod there is one raw phase, and no other.

@@ -9,8 +9,9 @@ ghost use Rattle.pod_piece.specs.Lifecycles.{IsLifecycleOf, IsProgressOf, IsNext
 use manifest::Policy;
 use phase::{Conditions, ContainerView, Phase, Values, are_initialized, raw_phase};
 
-/// A pod's phase and conditions, from tick to tick. A pod that has succeeded, failed or been evicted has ended: from then
-/// on it keeps its phase, whatever its containers do. (Kubernetes, "Pod Lifecycle", "Pod phase" and "Pod conditions".)
+/// A pod's phase and conditions, from tick to tick. A pod that has succeeded, failed or been
+/// evicted has ended: from then on it keeps its phase, whatever its containers do. (Kubernetes,
+/// "Pod Lifecycle", "Pod phase" and "Pod conditions".)
 #[derive(Clone, Copy, Debug, PartialEq, Eq)]
 pub struct Lifecycle {
     /// The phase.
@@ -65,8 +66,9 @@ impl Lifecycle {
         }
     }
 
-    /// A tick comes, at the moment, in seconds, after which the containers are as these views show them; `is_evicted` says
-    /// whether the tick evicts the pod. Once the pod has ended the views are not looked at.
+    /// A tick comes, at the moment, in seconds, after which the containers are as these views show
+    /// them; `is_evicted` says whether the tick evicts the pod. Once the pod has ended the views
+    /// are not looked at.
     pub fn advance(
         &mut self,
         policy: Policy,

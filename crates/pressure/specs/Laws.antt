@@ -11,7 +11,8 @@ pub record WasLastMet (h : List Observation) (place : ℕ) : Type 0 where
   pub last : IsLast (IsMetAt h) place
   pub earlier : place < length h - 1
 
--- where moments rise: it is true while less than the period has passed since it was last met, and false from then on
+-- where moments rise: it is true while less than the period has passed since it was last met, and
+-- false from then on
 abbrev pub TrueForThePeriod : Type 0
 TrueForThePeriod =
     (period place moment now : ℕ) (h : List Observation) → IsRising h → WasLastMet h place

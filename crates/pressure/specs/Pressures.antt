@@ -1,9 +1,10 @@
--- When a node condition is true, and since when (Kubernetes, "Node-pressure Eviction", "Node conditions" and "Node condition
--- oscillation"). Moments and the period are in seconds.
+-- When a node condition is true, and since when (Kubernetes, "Node-pressure Eviction", "Node
+-- conditions" and "Node condition oscillation"). Moments and the period are in seconds.
 use Rattle.std.specs.Prelude.{◌≡◌, ◌⊎◌, ℕ, ◌-◌, ◌<◌, List, [], length, Bool, Some, IsTrue, IsSomeAnd}
 use Rattle.histories.specs.Histories.{Recorded, entry_at, moment_at, IsSo, IsTransition}
 
--- one observation: its moment, and whether the condition is met, which it is while one of its thresholds is active
+-- one observation: its moment, and whether the condition is met, which it is while one of its
+-- thresholds is active
 abbrev pub Observation : Type 0
 Observation = Recorded Bool
 
@@ -26,6 +27,7 @@ pub record WasMetLately (period : ℕ) (h : List Observation) : Type 0 where
 abbrev pub IsUnderPressure : ℕ → List Observation → Type 0
 IsUnderPressure period h = IsMetAt h (length h - 1) ⊎ WasMetLately period h
 
--- the moment since which it is the same: that of the least place from which on it was so at every place; 0 without any
+-- the moment since which it is the same: that of the least place from which on it was so at every
+-- place; 0 without any
 abbrev pub IsSince : ℕ → List Observation → ℕ → Type 0
 IsSince period h since = ((h ≡ []) × (since ≡ 0)) ⊎ IsTransition h (IsSo (IsUnderPressure period) h) (Some since)

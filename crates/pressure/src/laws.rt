@@ -1,4 +1,5 @@
-//! What is true of every condition, for every list of observations. The functions do nothing; their contracts are the laws.
+//! What is true of every condition, for every list of observations. The functions do nothing; their
+//! contracts are the laws.
 
 ghost use Rattle.pressure.specs.Laws.{NoPeriodIsMetNow, TrueForThePeriod, OneSince};
 
@@ -7,7 +8,8 @@ pub fn no_period_is_met_now()
     ensures { NoPeriodIsMetNow }
 {}
 
-/// Once it is no longer met a condition is true for less than the period after it was last met, and then is not.
+/// Once it is no longer met a condition is true for less than the period after it was last met, and
+/// then is not.
 pub fn true_for_the_period()
     ensures { TrueForThePeriod }
 {}

@@ -5,9 +5,10 @@ ghost use Rattle.histories.specs.Histories.{recorded, IsSo, IsTransition};
 ghost use Rattle.pressure.specs.Pressures.{Observation, IsUnderPressure, IsSince};
 ghost use Rattle.pressure.specs.State.{IsLatestMet, later_of, IsStateOf};
 
-/// Follows one node condition, as MemoryPressure, over its observations: whether the condition is met, which it is while
-/// one of its thresholds is active. It stays true until it has not been met for the transition period. It keeps the
-/// latest moment at which it was met and the moment of its last transition, and none of the observations.
+/// Follows one node condition, as MemoryPressure, over its observations: whether the condition is
+/// met, which it is while one of its thresholds is active. It stays true until it has not been met
+/// for the transition period. It keeps the latest moment at which it was met and the moment of its
+/// last transition, and none of the observations.
 ///
 /// None of its answers needs moments that rise, so it asks for no order.
 ///
@@ -21,8 +22,8 @@ pub struct Pressure {
 }
 
 impl Pressure {
-    /// A condition without any observation so far, with its transition period in seconds. With a period of 0 the condition
-    /// is what is met now.
+    /// A condition without any observation so far, with its transition period in seconds. With a
+    /// period of 0 the condition is what is met now.
     pub fn new(period: u64) -> Pressure
         ensures { IsStateOf period [] result }
     {
@@ -46,8 +47,8 @@ impl Pressure {
         self.is_true = is_true;
     }
 
-    /// Whether the condition is true: it is met, or was met at an earlier observation, less than the period before the last
-    /// one. Without any observation it is not.
+    /// Whether the condition is true: it is met, or was met at an earlier observation, less than
+    /// the period before the last one. Without any observation it is not.
     pub fn is_true(&self) -> bool
         ensures { (period : ℕ) (h : List Observation)
             → IsStateOf period h self.now
@@ -56,8 +57,8 @@ impl Pressure {
         self.is_true
     }
 
-    /// Since when the condition has been true, or has not been, in seconds: the moment of the first observation from which
-    /// on it was the same. Without any observation 0.
+    /// Since when the condition has been true, or has not been, in seconds: the moment of the first
+    /// observation from which on it was the same. Without any observation 0.
     pub fn since(&self) -> u64
         ensures { (period : ℕ) (h : List Observation)
             → IsStateOf period h self.now
@@ -92,7 +93,8 @@ impl Pressure {
         self.since.is_none() || self.is_true != is_true
     }
 
-    /// Since when the condition has had its value, once an observation at the moment `at` gives it this one.
+    /// Since when the condition has had its value, once an observation at the moment `at` gives it
+    /// this one.
     fn since_after(&self, at: u64, is_true: bool) -> Option<u64>
         ensures { (period : ℕ) (h : List Observation) (met : Bool)
             → IsStateOf period h self.now

@@ -133,7 +133,8 @@ FailsInARow-more f xs x = (
   (λ w. elim w [ inl old ↦ (old.0, EndsRun-old Failure f xs (x ∷ []) old.0 old.1) | inr now ↦ (length (xs ++ x ∷ []), now) ]),
 )
 
--- readiness holds after one more result: enough successes end with it, or it held and not enough failures do
+-- readiness holds after one more result: enough successes end with it, or it held and not enough
+-- failures do
 pub HoldsAfter-more : (s f : ℕ) (xs : List Outcome) (x : Outcome)
     → (HoldsAfter s f (xs ++ x ∷ []) ↔ (EndsRun Success s (xs ++ x ∷ []) (length (xs ++ x ∷ []))
     ⊎ (HoldsAfter s f xs × (EndsRun Failure f (xs ++ x ∷ []) (length (xs ++ x ∷ [])) → ⊥))))

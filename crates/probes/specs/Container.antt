@@ -1,6 +1,7 @@
--- What the results of an instance make of it: started, ready, to be killed.
--- (Kubernetes, "Pod Lifecycle", "Types of probe": with a startup probe the others are disabled until it succeeds; where a
--- startup or liveness probe fails the container is killed; where readiness fails it is not ready.)
+-- What the results of an instance make of it: started, ready, to be killed. (Kubernetes, "Pod
+-- Lifecycle", "Types of probe": with a startup probe the others are disabled until it succeeds;
+-- where a startup or liveness probe fails the container is killed; where readiness fails it is not
+-- ready.)
 use Rattle.std.specs.Prelude.{◌≡◌, ◌⊎◌, ℕ, suc, List, [], drop, Option, Some, None}
 use Rattle.manifest.specs.Probe.{Probe, Probes, HasNumbersInRange}
 use Rattle.probes.specs.declared.probe_set.Cause.{Cause}
@@ -18,8 +19,8 @@ pub record AreInRange (probes : Probes) : Type 0 where
 abbrev pub IsPassTick : Probe → ℕ → List Tick → ℕ → Type 0
 IsPassTick probe start ticks t = ComesTrue (HasPassed probe start) ticks t
 
--- the ticks whose liveness and readiness results count: all without a startup probe, and with one those after the tick
--- at which it passes, and none while it has not passed
+-- the ticks whose liveness and readiness results count: all without a startup probe, and with one
+-- those after the tick at which it passes, and none while it has not passed
 abbrev pub AreCounted : Option Probe → ℕ → List Tick → List Tick → Type 0
 AreCounted None start ticks counted = counted ≡ ticks
 AreCounted (Some probe) start ticks counted =
@@ -40,7 +41,8 @@ IsOrdered probes start ticks = (cause : Cause) × IsKillOrdered probes start cau
 abbrev pub IsKillTick : Probes → ℕ → Cause → List Tick → ℕ → Type 0
 IsKillTick probes start cause ticks t = ComesTrue (IsKillOrdered probes start cause) ticks t
 
--- the instance is ready: startup has passed, and the readiness probe holds over the ticks that count
+-- the instance is ready: startup has passed, and the readiness probe holds over the ticks that
+-- count
 abbrev pub IsReady : Probes → ℕ → List Tick → Type 0
 IsReady probes start ticks =
     IsStarted probes.startup start ticks

@@ -1,4 +1,5 @@
--- Laws of the rules on probes, over the definitions alone: for every container and every list of ticks.
+-- Laws of the rules on probes, over the definitions alone: for every container and every list of
+-- ticks.
 use Rattle.std.specs.Prelude.{◌≡◌, ◌↔◌, ℕ, List, ◌++◌, Option, None}
 use Rattle.manifest.specs.Probe.{Probe, Probes}
 use Rattle.probes.specs.declared.probe_set.Cause.{Cause}

@@ -1,5 +1,6 @@
--- What a list of results says, oldest first. A place is counted from 0; the e-th result is counted from 1.
--- (Kubernetes, "Configure Liveness, Readiness and Startup Probes", "Configure Probes": successThreshold, failureThreshold.)
+-- What a list of results says, oldest first. A place is counted from 0; the e-th result is counted
+-- from 1. (Kubernetes, "Configure Liveness, Readiness and Startup Probes", "Configure Probes":
+-- successThreshold, failureThreshold.)
 use Rattle.std.specs.Prelude.{◌≡◌, ◌↔◌, ℕ, ◌+◌, ◌<◌, ◌≤◌, Bool, true, false, List, length, slice_get, Some}
 use Rattle.manifest.specs.declared.outcome.Outcome.{Outcome}
 use Rattle.manifest.specs.declared.outcome.Outcome.TheVariants.{Success, Failure, Unknown}

@@ -1,5 +1,6 @@
--- The results of the probes of one instance of a container, tick after tick, oldest first. A tick is named by its place,
--- counted from 0. (Kubernetes, "Configure Liveness, Readiness and Startup Probes".)
+-- The results of the probes of one instance of a container, tick after tick, oldest first. A tick
+-- is named by its place, counted from 0. (Kubernetes, "Configure Liveness, Readiness and Startup
+-- Probes".)
 use Rattle.std.specs.Prelude.{ℕ, ◌-◌, ◌&&◌, nat_le, if◌then◌else◌, List, slice_index_or, Option, Some, None, IsSomeAnd, MatchOption}
 use Rattle.std.specs.List.{filter_map}
 use Rattle.manifest.specs.declared.outcome.Outcome.{Outcome}
@@ -41,7 +42,8 @@ liveness_results probe start ticks = filter_map (λ t. belonging probe (t.moment
 abbrev pub readiness_results : Probe → ℕ → List Tick → List Outcome
 readiness_results probe start ticks = filter_map (λ t. belonging probe (t.moment - start) t.entry.readiness) ticks
 
--- the startup probe has passed: one of its first results, as many as its failure threshold says, is a success
+-- the startup probe has passed: one of its first results, as many as its failure threshold says, is
+-- a success
 abbrev pub HasPassed : Probe → ℕ → List Tick → Type 0
 HasPassed probe start ticks = PassesWithin probe.failure_threshold (startup_results probe start ticks)
 
@@ -54,7 +56,8 @@ abbrev pub HasStartupFailed : Option Probe → ℕ → List Tick → Type 0
 HasStartupFailed startup start ticks =
     IsSomeAnd startup (λ probe. FailsWithin probe.failure_threshold (startup_results probe start ticks))
 
--- liveness has failed over these ticks: as many failures as its threshold says stand next to each other
+-- liveness has failed over these ticks: as many failures as its threshold says stand next to each
+-- other
 abbrev pub HasLivenessFailed : Option Probe → ℕ → List Tick → Type 0
 HasLivenessFailed liveness start ticks =
     IsSomeAnd liveness (λ probe. FailsInARow probe.failure_threshold (liveness_results probe start ticks))

@@ -1,5 +1,5 @@
-//! What the definitions of probes imply, for every container and every list of ticks. The functions do nothing; their
-//! contracts are the laws.
+//! What the definitions of probes imply, for every container and every list of ticks. The functions
+//! do nothing; their contracts are the laws.
 ghost use Rattle.probes.specs.Laws.{OneCause, KillOrderStands, StartupPassesOnce, SomeCounted, OneCounted, ReadyWithoutProbe};
 
 /// No instance is to be killed for two causes.

@@ -1,5 +1,5 @@
-//! The startup, liveness and readiness probes of one container.
-//! (Kubernetes, "Configure Liveness, Readiness and Startup Probes"; "Pod Lifecycle", "Container probes".)
+//! The startup, liveness and readiness probes of one container. (Kubernetes, "Configure Liveness,
+//! Readiness and Startup Probes"; "Pod Lifecycle", "Container probes".)
 #![tactic(auto)]
 
 pub mod laws;

@@ -25,7 +25,8 @@ fn is_known(outcome: Outcome) -> bool
     !matches!(outcome, Outcome::Unknown)
 }
 
-/// The outcome, if it belongs to an instance of this age in seconds: it is known, and the initial delay is over.
+/// The outcome, if it belongs to an instance of this age in seconds: it is known, and the initial
+/// delay is over.
 pub(crate) fn belonging(probe: Probe, age: u64, outcome: Option<Outcome>) -> Option<Outcome>
     ensures { result ≡ belonging probe age outcome }
 {

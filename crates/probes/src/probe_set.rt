@@ -30,8 +30,8 @@ pub struct Verdicts {
     pub ready: bool,
 }
 
-/// Follows the probes of one container, one instance after the other. It keeps counters, and no results.
-/// (Kubernetes, "Configure Liveness, Readiness and Startup Probes".)
+/// Follows the probes of one container, one instance after the other. It keeps counters, and no
+/// results. (Kubernetes, "Configure Liveness, Readiness and Startup Probes".)
 #[derive(Clone, Copy, Debug, PartialEq, Eq)]
 pub struct ProbeSet {
     start: Option<u64>,
@@ -41,7 +41,8 @@ pub struct ProbeSet {
 }
 
 impl ProbeSet {
-    /// Follows the probes of this container. No instance has begun, so nothing is started, ready or to be killed.
+    /// Follows the probes of this container. No instance has begun, so nothing is started, ready or
+    /// to be killed.
     pub fn new(container: &ContainerSpec) -> Self
         ensures follows { Follows result container.now.probes }
         ensures before { HasNotBegun result }
@@ -66,8 +67,8 @@ impl ProbeSet {
         self.readiness = Readiness::new(self.readiness.probe);
     }
 
-    /// Takes the results of the next tick, at this moment in seconds, in the order startup, liveness, readiness. An
-    /// instance must have begun.
+    /// Takes the results of the next tick, at this moment in seconds, in the order startup,
+    /// liveness, readiness. An instance must have begun.
     pub fn take(&mut self, at: u64, results: [Option<Outcome>; 3]) -> Verdicts
         requires { HasBegun self.old }
         ensures begun { HasBegun self.new }
@@ -85,8 +86,8 @@ impl ProbeSet {
         }
     }
 
-    /// Whether startup has passed; without a startup probe it has from the instance's start on. Before the first instance
-    /// it has not.
+    /// Whether startup has passed; without a startup probe it has from the instance's start on.
+    /// Before the first instance it has not.
     pub fn started(&self) -> bool
         ensures before { HasNotBegun self.now → result ≡ false }
         ensures state { (probes : Probes) (start : ℕ) (ticks : List Tick) → IsStateOf probes start ticks self.now → (IsTrue result ↔ IsStarted probes.startup start ticks) }
@@ -94,8 +95,8 @@ impl ProbeSet {
         self.start.is_some() && self.startup.has_passed()
     }
 
-    /// Whether startup has passed and the readiness probe, if there is one, holds. Before the first instance it is not
-    /// ready.
+    /// Whether startup has passed and the readiness probe, if there is one, holds. Before the first
+    /// instance it is not ready.
     pub fn ready(&self) -> bool
         ensures before { HasNotBegun self.now → result ≡ false }
         ensures state { (probes : Probes) (start : ℕ) (ticks : List Tick) → IsStateOf probes start ticks self.now → (IsTrue result ↔ IsReady probes start ticks) }
@@ -127,7 +128,8 @@ impl ProbeSet {
         }
     }
 
-    /// Hands each probe its result; liveness and readiness count only where startup had passed before.
+    /// Hands each probe its result; liveness and readiness count only where startup had passed
+    /// before.
     fn follow(
         &mut self,
         at: u64,

@@ -6,7 +6,8 @@ use crate::outcome::{belonging, is_failure, is_success};
 use crate::run_length::longer;
 use manifest::{Outcome, Probe};
 
-/// Follows the readiness probe of one instance over the ticks that count; without a probe it is ready.
+/// Follows the readiness probe of one instance over the ticks that count; without a probe it is
+/// ready.
 #[derive(Clone, Copy, Debug, PartialEq, Eq)]
 pub struct Readiness {
     pub probe: Option<Probe>,
@@ -63,7 +64,8 @@ impl Readiness {
     }
 }
 
-/// Whether it is ready after a result with which enough successes, or enough failures, came in a row.
+/// Whether it is ready after a result with which enough successes, or enough failures, came in a
+/// row.
 fn stays_ready(ready: bool, succeeds: bool, fails: bool) -> bool
     ensures { IsTrue result ↔ (IsTrue succeeds ⊎ (IsTrue ready × (IsTrue fails → ⊥))) }
 {

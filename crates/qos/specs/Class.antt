@@ -5,8 +5,9 @@ use Rattle.qos.specs.declared.class.Qos.{Qos}
 use Rattle.qos.specs.declared.class.Qos.TheVariants.{Guaranteed, Burstable, BestEffort}
 use Rattle.qos.specs.Container.{IsGuaranteed, AsksForSome}
 
--- Guaranteed: every container, init containers and sidecars too, has cpu and memory limits, and requests that equal them.
--- Burstable: not so, and some container has a cpu or memory request or limit. BestEffort: neither.
+-- Guaranteed: every container, init containers and sidecars too, has cpu and memory limits, and
+-- requests that equal them. Burstable: not so, and some container has a cpu or memory request or
+-- limit. BestEffort: neither.
 abbrev pub IsOfClass : List ContainerSpec → Qos → Type 0
 IsOfClass containers Guaranteed = All IsGuaranteed containers
 IsOfClass containers Burstable = (All IsGuaranteed containers → ⊥) × Any AsksForSome containers

@@ -1,5 +1,6 @@
--- What one container asks for, and what it is held to (Kubernetes, "Resource Management for Pods and Containers"; "Pod
--- Quality of Service Classes"; that a zero counts as unset is this profile's rule).
+-- What one container asks for, and what it is held to (Kubernetes, "Resource Management for Pods
+-- and Containers"; "Pod Quality of Service Classes"; that a zero counts as unset is this profile's
+-- rule).
 use Rattle.std.specs.Prelude.{◌≡◌, ◌⊎◌, ◌==◌, ℕ, if◌then◌else◌, Option, Some, None, unwrap_or, IsSome}
 use Rattle.std.specs.Option.{option_or}
 use Rattle.manifest.specs.declared.pod.ContainerSpec.{ContainerSpec}
@@ -20,7 +21,8 @@ own_request_of container resource = set_amount (amount_of container.resources.re
 abbrev pub limit_of : ContainerSpec → Resource → Option ℕ
 limit_of container resource = set_amount (amount_of container.resources.limits resource)
 
--- a container's request of a resource: a limit without a request gives the request the limit's value
+-- a container's request of a resource: a limit without a request gives the request the limit's
+-- value
 abbrev pub request_of : ContainerSpec → Resource → Option ℕ
 request_of container resource = option_or (own_request_of container resource) (limit_of container resource)
 

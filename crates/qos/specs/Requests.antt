@@ -1,5 +1,6 @@
--- What a pod asks for of a resource in effect (Kubernetes, "Init Containers", "Resource sharing within containers";
--- "Sidecar Containers", "Resource sharing within containers"; that a sidecar counts in the sum alone is this profile's rule).
+-- What a pod asks for of a resource in effect (Kubernetes, "Init Containers", "Resource sharing
+-- within containers"; "Sidecar Containers", "Resource sharing within containers"; that a sidecar
+-- counts in the sum alone is this profile's rule).
 use Rattle.std.specs.Prelude.{ℕ, max, List, [], ◌∷◌, map, sum_by}
 use Rattle.manifest.specs.declared.pod.Role.{Role}
 use Rattle.manifest.specs.declared.pod.Role.TheVariants.{Init, Sidecar, App}

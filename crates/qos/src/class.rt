@@ -42,8 +42,9 @@ fn class_of(containers: &[ContainerSpec]) -> Qos
     }
 }
 
-/// The class of a pod. Init containers and sidecars count as well; a zero amount counts as unset, and a limit without a request
-/// gives the request the limit's value (Kubernetes, "Pod Quality of Service Classes").
+/// The class of a pod. Init containers and sidecars count as well; a zero amount counts as unset,
+/// and a limit without a request gives the request the limit's value (Kubernetes, "Pod Quality of
+/// Service Classes").
 pub fn qos_class(pod: &PodSpec) -> Qos
     ensures { IsOfClass pod.now.containers result }
 {

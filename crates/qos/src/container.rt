@@ -64,7 +64,8 @@ pub(crate) fn is_guaranteed(container: &ContainerSpec) -> bool
     is_held_to(container, Resource::Cpu) && is_held_to(container, Resource::Memory)
 }
 
-/// Whether a request or a limit of the resource is written for the container: a limit gives a request too.
+/// Whether a request or a limit of the resource is written for the container: a limit gives a
+/// request too.
 fn asks_for(container: &ContainerSpec, resource: Resource) -> bool
     ensures { IsTrue result ↔ AsksFor resource container.now }
 {

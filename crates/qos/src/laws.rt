@@ -1,5 +1,5 @@
-//! What the definitions of classes and effective requests imply, for every pod. The functions do nothing; their contracts
-//! are the laws.
+//! What the definitions of classes and effective requests imply, for every pod. The functions do
+//! nothing; their contracts are the laws.
 ghost use Rattle.qos.specs.Laws.{SomeClass, OneClass, NothingAskedFor, EffectiveRequestCovers};
 
 /// Every pod is of exactly one class.
@@ -8,7 +8,8 @@ pub fn one_class()
     ensures one { OneClass }
 {}
 
-/// A pod none of whose containers has anything of cpu and memory is BestEffort, if it has a container.
+/// A pod none of whose containers has anything of cpu and memory is BestEffort, if it has a
+/// container.
 pub fn nothing_asked_for()
     ensures { NothingAskedFor }
 {}

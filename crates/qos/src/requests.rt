@@ -51,10 +51,11 @@ fn greatest_of_inits(containers: &[ContainerSpec], resource: Resource) -> u128
     greatest
 }
 
-/// What the pod asks for of a resource in effect, in thousandths: the greater of what its app containers and sidecars
-/// request together and of the greatest request of an init container. (Kubernetes, "Init Containers" and "Sidecar
-/// Containers", "Resource sharing within containers".) A zero amount counts as unset, and a limit without a request gives
-/// the request the limit's value.
+/// What the pod asks for of a resource in effect, in thousandths: the greater of what its app
+/// containers and sidecars request together and of the greatest request of an init container.
+/// (Kubernetes, "Init Containers" and "Sidecar Containers", "Resource sharing within containers".)
+/// A zero amount counts as unset, and a limit without a request gives the request the limit's
+/// value.
 pub fn effective_request(pod: &PodSpec, resource: Resource) -> u128
     ensures { result ≡ effective_request_of resource pod.now.containers }
 {

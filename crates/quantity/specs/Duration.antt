@@ -1,5 +1,5 @@
--- Durations, as `1h`, `1m30s` and `0` (Kubernetes, "Node-pressure Eviction", "Soft eviction thresholds":
--- `evictionSoftGracePeriod`).
+-- Durations, as `1h`, `1m30s` and `0` (Kubernetes, "Node-pressure Eviction", "Soft eviction
+-- thresholds": `evictionSoftGracePeriod`).
 use Rattle.std.specs.Prelude.{◌≡◌, ◌≢◌, slice_index, false, ℕ, ◌+◌, ◌*◌, ◌^◌, ◌<◌, ◌≤◌, ◌⊎◌, List, [], ◌∷◌, ◌++◌, length, slice_get, Option, Some, None, option_and_then, Result, Ok, Err, nat_lt, nat_le, ◌==◌, if◌then◌else◌, IsSome, unwrap_or, All, sum_by, codes}
 use Rattle.std.specs.List.{prefix_len, flat_map}
 use Rattle.std.specs.Char.{is_ascii_digit}

@@ -9,8 +9,8 @@ use Rattle.quantity.specs.Steps.{◌>>=◌, refused_if}
 use Rattle.quantity.specs.declared.fault.QuantityFault.{QuantityFault}
 use Rattle.quantity.specs.declared.fault.QuantityFault.TheVariants.{Empty, BadDigit, BadSuffix, TooManyDigits, Negative}
 
--- What a text means: 1 to 3 digits, perhaps a point with 1 or 2 digits, and `%`. The hundredths are 100 times
--- the number before the sign, and at most 10000.
+-- What a text means: 1 to 3 digits, perhaps a point with 1 or 2 digits, and `%`. The hundredths are
+-- 100 times the number before the sign, and at most 10000.
 pub record HasHundredths (text : List ℕ) (hundredths : ℕ) : Type 0 where
   pub whole : List ℕ
   pub point : List ℕ
@@ -25,7 +25,8 @@ pub record HasHundredths (text : List ℕ) (hundredths : ℕ) : Type 0 where
 
 -- Why a text has no value: the first fault that holds.
 
--- a text from its first byte on: digits, perhaps a point and digits, and what follows, which goes on with none of them
+-- a text from its first byte on: digits, perhaps a point and digits, and what follows, which goes
+-- on with none of them
 pub record HasParts (text whole point fraction rest : List ℕ) : Type 0 where
   pub text_is : text ≡ whole ++ (point ++ (fraction ++ rest))
   pub whole_digits : AllDigits whole
@@ -33,8 +34,8 @@ pub record HasParts (text whole point fraction rest : List ℕ) : Type 0 where
   pub point_is : ((point ≡ []) × (fraction ≡ []) × (slice_index rest 0 ≢ 46)) ⊎ (point ≡ codes ".")
   pub no_more_digits : is_ascii_digit (slice_index rest 0) ≡ false
 
--- no digit at the beginning, or none after the point; else more than 3 before it or 2 after it; else another rest
--- than `%`; else a number above 100
+-- no digit at the beginning, or none after the point; else more than 3 before it or 2 after it;
+-- else another rest than `%`; else a number above 100
 abbrev pub HasPartsFault : List ℕ → List ℕ → List ℕ → List ℕ → QuantityFault → Type 0
 HasPartsFault whole point fraction rest fault =
     (((length whole ≡ 0) ⊎ ((point ≡ codes ".") × (length fraction ≡ 0))) × (fault ≡ BadDigit)) ⊎

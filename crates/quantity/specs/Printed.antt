@@ -38,7 +38,8 @@ scale_numerator Gibi = 2 ^ 30
 scale_numerator Mebi = 2 ^ 20
 scale_numerator Kibi = 2 ^ 10
 
--- the scales in the order in which they are tried: units first, then decimal and binary ones, the largest first
+-- the scales in the order in which they are tried: units first, then decimal and binary ones, the
+-- largest first
 abbrev pub scale_at : ℕ → Scale
 scale_at place =
     if place == 0 then Units
@@ -55,7 +56,8 @@ scale_at place =
     else if place == 11 then Mebi
     else Kibi
 
--- The least number with so many digits after its point whose value is not below a quantity, as its digits without the point.
+-- The least number with so many digits after its point whose value is not below a quantity, as its
+-- digits without the point.
 abbrev pub least_number : ℕ → ℕ → ℕ → ℕ
 least_number thousandths places numerator = (thousandths - 1) * 10 ^ places / (1000 * numerator) + 1
 
@@ -63,7 +65,8 @@ least_number thousandths places numerator = (thousandths - 1) * 10 ^ places / (1
 abbrev pub few_digits : ℕ → Option ℕ
 few_digits number = if nat_lt number (10 ^ 17) then Some number else None
 
--- a number of at most 17 digits, so many of them after the point, that has exactly the quantity as its value in a scale
+-- a number of at most 17 digits, so many of them after the point, that has exactly the quantity as
+-- its value in a scale
 abbrev pub exact_number : ℕ → ℕ → ℕ → Option ℕ
 exact_number thousandths places numerator =
     let number = least_number thousandths places numerator in
@@ -89,7 +92,8 @@ first_form thousandths (suc n) = option_or (first_form thousandths n) (form_at t
 abbrev pub zero_padded : ℕ → ℕ → List ℕ
 zero_padded places n = replicate (places - length (decimal n)) 48 ++ decimal n
 
--- the text of a form: with no point where no digit follows it, and no digit before the point where that were a zero
+-- the text of a form: with no point where no digit follows it, and no digit before the point where
+-- that were a zero
 abbrev pub form_text : Form → List ℕ
 form_text form =
     if form.places == 0 then decimal form.whole ++ scale_suffix form.scale

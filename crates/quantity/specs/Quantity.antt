@@ -1,5 +1,5 @@
--- Quantities, as `1.5Gi`, `100m` and `1e3`, in thousandths of a unit (Kubernetes, "Resource Management for Pods and
--- Containers", "Resource units in Kubernetes").
+-- Quantities, as `1.5Gi`, `100m` and `1e3`, in thousandths of a unit (Kubernetes, "Resource
+-- Management for Pods and Containers", "Resource units in Kubernetes").
 use Rattle.std.specs.Prelude.{◌≡◌, ◌≢◌, ◌<◌, ◌∷◌, count_by, ℕ, ◌+◌, ◌*◌, ◌-◌, ◌^◌, ◌≤◌, ◌⊎◌, min, List, [], ◌++◌, length, drop, slice_index, Result, Ok, nat_lt, ◌==◌, if◌then◌else◌, codes}
 use Rattle.std.specs.Char.{is_ascii_digit}
 use Rattle.std.specs.Int.{div_ceil}
@@ -23,9 +23,10 @@ pub record IsLeastNotBelow (m a b : ℕ) : Type 0 where
   pub not_below : a ≤ m * b
   pub least : (n : ℕ) → a ≤ n * b → m ≤ n
 
--- Perhaps a plus, a number of 1 to 17 digits with at most one point, and a suffix. The number is its digits
--- divided by ten for each digit after the point. The thousandths are the least whole number that is not below
--- 1000 times number times factor, and the greatest quantity where that is more.
+-- Perhaps a plus, a number of 1 to 17 digits with at most one point, and a suffix. The number is
+-- its digits divided by ten for each digit after the point. The thousandths are the least whole
+-- number that is not below 1000 times number times factor, and the greatest quantity where that is
+-- more.
 pub record HasThousandths (text : List ℕ) (thousandths : ℕ) : Type 0 where
   pub plus : List ℕ
   pub whole : List ℕ
@@ -51,7 +52,8 @@ pub record HasThousandths (text : List ℕ) (thousandths : ℕ) : Type 0 where
 abbrev pub after_plus : List ℕ → List ℕ
 after_plus text = if slice_index text 0 == 43 then drop 1 text else text
 
--- A number and its suffix: the number has no digit; it has more than 17; or no factor belongs to what follows it.
+-- A number and its suffix: the number has no digit; it has more than 17; or no factor belongs to
+-- what follows it.
 pub record HasNumberFault (text : List ℕ) (fault : QuantityFault) : Type 0 where
   pub run : List ℕ
   pub rest : List ℕ
@@ -61,7 +63,8 @@ pub record HasNumberFault (text : List ℕ) (fault : QuantityFault) : Type 0 whe
       (((17 < count_by is_ascii_digit run) × (fault ≡ TooManyDigits)) ⊎
       ((0 < count_by is_ascii_digit run) × (count_by is_ascii_digit run ≤ 17) × ((factor : Factor) → ¬ HasFactor rest factor) × (fault ≡ suffix_fault rest)))
 
--- the text is empty; it begins with `-`, 45; or the fault is that of what follows the plus, if there is one
+-- the text is empty; it begins with `-`, 45; or the fault is that of what follows the plus, if
+-- there is one
 abbrev pub HasQuantityFault : List ℕ → QuantityFault → Type 0
 HasQuantityFault text fault =
     ((text ≡ []) × (fault ≡ Empty)) ⊎

@@ -1,5 +1,5 @@
--- The suffix of a quantity: which texts are one, and by what factor it scales (Kubernetes, "Resource Management for Pods
--- and Containers", "Resource units in Kubernetes").
+-- The suffix of a quantity: which texts are one, and by what factor it scales (Kubernetes,
+-- "Resource Management for Pods and Containers", "Resource units in Kubernetes").
 use Rattle.std.specs.Prelude.{◌≡◌, ℕ, ◌^◌, ◌<◌, ◌≤◌, ◌⊎◌, List, [], ◌∷◌, ◌++◌, length, drop, slice_index, Option, Some, None, option_map, Bool, ◌&&◌, ◌||◌, nat_le, ◌==◌, if◌then◌else◌, codes, Contains}
 use Rattle.std.specs.Str.Parse.{digits_value}
 use Rattle.quantity.specs.Digits.{AllDigits, after_digits}

@@ -11,12 +11,13 @@ use crate::fault::QuantityFault;
 /// Durations end below this many seconds.
 const LIMIT: u64 = 1 << 40;
 
-/// The seconds of a duration: the text `0`, or parts of digits and a unit `h`, `m` or `s`, which are added up.
-/// (Kubernetes, "Kubelet Configuration", whose durations are written so; the limits are this project's own.)
+/// The seconds of a duration: the text `0`, or parts of digits and a unit `h`, `m` or `s`, which
+/// are added up. (Kubernetes, "Kubelet Configuration", whose durations are written so; the limits
+/// are this project's own.)
 ///
-/// The fault is the first from left to right: `Empty`; `BadDigit` where a part has no digit; `TooManyDigits`
-/// where it has more than 12; `BadSuffix` where no unit follows them; `TooManyDigits` where the sum so far
-/// reaches 2^40.
+/// The fault is the first from left to right: `Empty`; `BadDigit` where a part has no digit;
+/// `TooManyDigits` where it has more than 12; `BadSuffix` where no unit follows them;
+/// `TooManyDigits` where the sum so far reaches 2^40.
 pub fn seconds_of(text: &[u8]) -> Result<u64, QuantityFault>
     ensures reading { result ≡ duration_of text.now }
     ensures meaning { IfOk result (HasSeconds text.now) }

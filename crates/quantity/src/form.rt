@@ -106,7 +106,8 @@ pub(crate) struct Form {
 impl fmt::Display for Form {
     ghost output = { λ form. Some (form_text form) };
 
-    /// The number, with no point where no digit follows it and no digit before it where that were a zero, and the suffix.
+    /// The number, with no point where no digit follows it and no digit before it where that were a
+    /// zero, and the suffix.
     fn fmt<W: fmt::Write>(&self, f: &mut fmt::Formatter<W>) -> fmt::Result {
         let Form {
             whole,
@@ -127,7 +128,8 @@ impl fmt::Display for Form {
 /// How many forms there are: 18 numbers of digits after the point, with 13 scales each.
 const FORMS: u32 = 18 * 13;
 
-/// The form that is printed of a quantity: none below 10^17 thousandths, and none where no form writes it.
+/// The form that is printed of a quantity: none below 10^17 thousandths, and none where no form
+/// writes it.
 pub(crate) fn printed_form(thousandths: u128) -> Option<Form>
     requires bound { thousandths ≤ greatest }
     ensures { result ≡ printed_form thousandths }
@@ -139,7 +141,8 @@ pub(crate) fn printed_form(thousandths: u128) -> Option<Form>
     }
 }
 
-/// The first form that writes a quantity exactly: by the digits after the point, and then by the scale.
+/// The first form that writes a quantity exactly: by the digits after the point, and then by the
+/// scale.
 fn exact_form(thousandths: u128) -> Option<Form>
     requires some { 0 < thousandths }
     requires bound { thousandths ≤ greatest }
@@ -173,7 +176,8 @@ fn form_at(thousandths: u128, place: u32) -> Option<Form>
     })
 }
 
-/// The number of at most 17 digits, so many of them after the point, whose value is exactly the quantity.
+/// The number of at most 17 digits, so many of them after the point, whose value is exactly the
+/// quantity.
 fn exact_number(thousandths: u128, places: u32, numerator: u128) -> Option<u128>
     requires some { 0 < thousandths }
     requires bound { thousandths ≤ greatest }
@@ -189,7 +193,8 @@ fn exact_number(thousandths: u128, places: u32, numerator: u128) -> Option<u128>
     (scaled(number, places, factor) == thousandths).then_some(number)
 }
 
-/// The least number with so many digits after its point whose value is not below the quantity, if it has at most 17 digits.
+/// The least number with so many digits after its point whose value is not below the quantity, if
+/// it has at most 17 digits.
 fn least_number(thousandths: u128, places: u32, numerator: u128) -> Option<u128>
     requires some { 0 < thousandths }
     requires bound { thousandths ≤ greatest }

@@ -46,7 +46,8 @@ pub fn written_quantities_read_back()
     ensures { (text : List ℕ) (thousandths : ℕ) → WrittenQuantitiesReadBack text thousandths }
 {}
 
-/// What is printed of a quantity is a text of that quantity, if its units or its thousandths have at most 17 digits.
+/// What is printed of a quantity is a text of that quantity, if its units or its thousandths have
+/// at most 17 digits.
 pub fn printed_quantities_read_back()
     ensures { (thousandths : ℕ) → PrintedQuantitiesReadBack thousandths }
 {}

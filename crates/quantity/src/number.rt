@@ -6,7 +6,8 @@ ghost use Rattle.quantity.specs.Number.{whole_of, has_point, fraction_of, after_
 
 use crate::digits::split_digits;
 
-/// A run of digits with at most one point, the longest that a text begins with, and what follows it.
+/// A run of digits with at most one point, the longest that a text begins with, and what follows
+/// it.
 #[derive(Clone, Copy)]
 pub(crate) struct Number<'a> {
     /// The digits before the point.

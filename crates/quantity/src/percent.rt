@@ -28,9 +28,9 @@ impl Model for Percent {
 impl Percent {
     /// Reads one to three digits, perhaps a point with one or two digits, and `%`.
     ///
-    /// The fault is the first of these: `Empty`; `Negative`; `BadDigit` where no digit stands first, or none
-    /// after the point; `TooManyDigits` for more than three digits before the point or two after it; `BadSuffix`
-    /// where the rest is not `%`; `TooManyDigits` above 100.
+    /// The fault is the first of these: `Empty`; `Negative`; `BadDigit` where no digit stands
+    /// first, or none after the point; `TooManyDigits` for more than three digits before the point
+    /// or two after it; `BadSuffix` where the rest is not `%`; `TooManyDigits` above 100.
     pub fn parse(text: &[u8]) -> Result<Percent, QuantityFault>
         ensures reading { result ≡ percent_of text.now }
         ensures meaning { IfOk result (HasHundredths text.now) }

@@ -33,11 +33,13 @@ impl Model for Quantity {
 }
 
 impl Quantity {
-    /// Reads an optional `+`, a number of at most 17 digits with at most one point, and a suffix. What is no
-    /// whole number of thousandths is rounded up, and what is above 2^63 - 1 units is that.
+    /// Reads an optional `+`, a number of at most 17 digits with at most one point, and a suffix.
+    /// What is no whole number of thousandths is rounded up, and what is above 2^63 - 1 units is
+    /// that.
     ///
-    /// The fault is the first of these: `Empty`; `Negative`; `BadDigit` where the number has no digit;
-    /// `TooManyDigits`; `Exponent` for an unknown suffix that begins with `e` or `E`, and `BadSuffix` for any other.
+    /// The fault is the first of these: `Empty`; `Negative`; `BadDigit` where the number has no
+    /// digit; `TooManyDigits`; `Exponent` for an unknown suffix that begins with `e` or `E`, and
+    /// `BadSuffix` for any other.
     pub fn parse(text: &[u8]) -> Result<Quantity, QuantityFault>
         ensures reading { result ≡ quantity_of text.now }
         ensures meaning { IfOk result (HasThousandths text.now) }
@@ -120,7 +122,8 @@ fn digits_of(whole: &[u8], fraction: &[u8]) -> u128
     u128::from(decimal(whole)) * 10u128.pow(fraction.len() as u32) + u128::from(decimal(fraction))
 }
 
-/// 1000 times a number with so many digits after its point, times a factor, rounded up and at most the greatest quantity.
+/// 1000 times a number with so many digits after its point, times a factor, rounded up and at most
+/// the greatest quantity.
 pub(crate) fn scaled(number: u128, places: u32, factor: Factor) -> u128
     requires number { number < 10 ^ 17 }
     requires places { places ≤ 17 }
@@ -147,8 +150,9 @@ impl fmt::Display for Quantity {
 
     ghost output = { λ q. Some (quantity_text q) };
 
-    /// The units, as `5`, or the thousandths, as `1500m`, where they are no whole number of units. Where that has more than
-    /// 17 digits, which no text has, a number of at most 17 digits with a suffix, as `3Ei`, if one is exactly the quantity.
+    /// The units, as `5`, or the thousandths, as `1500m`, where they are no whole number of units.
+    /// Where that has more than 17 digits, which no text has, a number of at most 17 digits with a
+    /// suffix, as `3Ei`, if one is exactly the quantity.
     fn fmt<W: fmt::Write>(&self, f: &mut fmt::Formatter<W>) -> fmt::Result {
         let thousandths = self.0;
         if let Some(form) = printed_form(thousandths) {

@@ -1,4 +1,5 @@
-//! Reads the trace of a node from standard input, and writes the pod lines of its report on standard output.
+//! Reads the trace of a node from standard input, and writes the pod lines of its report on
+//! standard output.
 #![tactic(auto)]
 
 use kubelet_replay::{Counted, RunFault, fault_line, replay_alone, status_of};
@@ -8,8 +9,8 @@ use std::{env, io};
 /// The status of a call with words, which the program doesn't take yet.
 const USAGE: u8 = 3;
 
-/// Ends with status 0 where the whole report was written, and with 1, 2 or 3 otherwise. (An entry function can have no
-/// clause.)
+/// Ends with status 0 where the whole report was written, and with 1, 2 or 3 otherwise. (An entry
+/// function can have no clause.)
 fn main(rt: HostRuntime) -> ExitCode {
     let has_words = match env::args(&rt) {
         Ok(mut words) => Ok(words.nth(1).is_some()),

@@ -8,7 +8,8 @@ abbrev pub one_fewer : Option ℕ → Option ℕ
 one_fewer None = None
 one_fewer (Some calls) = Some (calls - 1)
 
--- the bytes that a reader has which stops after the first n of them: by giving nothing it ends there
+-- the bytes that a reader has which stops after the first n of them: by giving nothing it ends
+-- there
 abbrev pub bytes_before : Stop → ℕ → List ℕ → List ℕ
 bytes_before Fail n bytes = bytes
 bytes_before Nothing n bytes = take n bytes

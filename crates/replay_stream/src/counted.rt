@@ -8,8 +8,8 @@ use std::io::{Read, Write};
 
 /// Makes a [`Source`] of std's `Read`, and a [`Sink`] of std's `Write`.
 ///
-/// An error of any kind, `Interrupted` too, is a failed call. Of the bytes contracts know what the inner
-/// reader or writer tells, which is nothing for files and terminals.
+/// An error of any kind, `Interrupted` too, is a failed call. Of the bytes contracts know what the
+/// inner reader or writer tells, which is nothing for files and terminals.
 #[derive(Drop)]
 pub struct Counted<T: Drop> {
     inner: T,

@@ -6,7 +6,8 @@ use crate::fault::WriteFailed;
 use crate::stop::{Stop, is_over};
 use crate::stream::Sink;
 
-/// Writes into a slice, a set number of bytes a call: fewer where no more are there or fit, and none once it is full.
+/// Writes into a slice, a set number of bytes a call: fewer where no more are there or fit, and
+/// none once it is full.
 #[derive(Drop)]
 pub struct MemSink<'a> {
     room: &'a mut [u8],

@@ -40,7 +40,8 @@ impl<'a> MemSource<'a> {
 
     /// Reads `bytes`, `step` bytes a call, and stops after `calls` calls.
     ///
-    /// With `Stop::Nothing` that is the end of the input: only the bytes of `calls` full calls are there.
+    /// With `Stop::Nothing` that is the end of the input: only the bytes of `calls` full calls are
+    /// there.
     pub fn stopping(bytes: &'a [u8], step: usize, calls: usize, stop: Stop) -> MemSource<'a>
         requires { 0 < step }
         ensures left { source_bytes result ≡ bytes_before stop (calls * step) bytes.now }

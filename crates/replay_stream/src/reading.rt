@@ -10,8 +10,9 @@ use std::alloc::Global;
 
 /// All bytes that were left, of which there may be `limit`.
 ///
-/// `Read` comes only where the reader failed in this call, and `TooLong` only where more than `limit` bytes were
-/// left; without memory for the bytes the answer is `OutOfMemory`. After a refusal the reader has lost some of its bytes.
+/// `Read` comes only where the reader failed in this call, and `TooLong` only where more than
+/// `limit` bytes were left; without memory for the bytes the answer is `OutOfMemory`. After a
+/// refusal the reader has lost some of its bytes.
 pub fn read_all<S: Source>(
     alloc: Global,
     source: &mut S,

@@ -6,7 +6,8 @@ ghost use Rattle.replay_stream.specs.Stream.{has_stalled};
 
 use crate::fault::{ReadFailed, WriteFailed};
 
-/// A reader that tells contracts its bytes and how many of its calls failed. A failed call moves no byte.
+/// A reader that tells contracts its bytes and how many of its calls failed. A failed call moves no
+/// byte.
 pub trait Source {
     // The bytes that reads will give from here on, where they are known.
     ghost left: { Self → Option (List ℕ) };
@@ -14,7 +15,8 @@ pub trait Source {
     // How many calls failed.
     ghost failures: { Self → ℕ };
 
-    /// Reads some bytes into the front of `buffer`, and answers how many; none only at the end or without room.
+    /// Reads some bytes into the front of `buffer`, and answers how many; none only at the end or
+    /// without room.
     fn read(&mut self, buffer: &mut [u8]) -> Result<usize, ReadFailed>
         requires { failures self.old < 2 ^ 63 }
         ensures within { IfOk result (λ n. n ≤ length buffer.old) }
@@ -23,7 +25,8 @@ pub trait Source {
         ensures room { length buffer.new ≡ length buffer.old };
 }
 
-/// A writer that tells contracts its bytes and how many of its calls failed. A failed call takes no byte.
+/// A writer that tells contracts its bytes and how many of its calls failed. A failed call takes no
+/// byte.
 pub trait Sink {
     // The bytes that were written so far, where they are known.
     ghost written: { Self → Option (List ℕ) };

@@ -1,5 +1,5 @@
-//! Tests of what no text of a case reaches: single calls, traces as values, inputs that are cut, large or stop, and
-//! writers that stop.
+//! Tests of what no text of a case reaches: single calls, traces as values, inputs that are cut,
+//! large or stop, and writers that stop.
 #![tactic(auto)]
 
 #[cfg(test)]

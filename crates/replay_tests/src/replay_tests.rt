@@ -1,4 +1,5 @@
-//! Replays of texts that are cut, over readers and writers that stop, and refusals that no text reaches.
+//! Replays of texts that are cut, over readers and writers that stop, and refusals that no text
+//! reaches.
 
 use kubelet_replay::{MemSink, MemSource, RunFault, Stop, fault_line, replay_alone, status_of};
 use manifest::ManifestFault;
@@ -31,7 +32,8 @@ condition 0 Ready False 0
 container 0 c state=Waiting code=- restarts=0 ready=false started=false
 ";
 
-/// Replays a text from a reader into a writer of 1000 bytes, and compares the answer and what was written.
+/// Replays a text from a reader into a writer of 1000 bytes, and compares the answer and what was
+/// written.
 pub(crate) fn expect(
     rt: &impl Abort,
     alloc: Global,

@@ -7,7 +7,8 @@ use std::alloc::Global;
 use std::test::Fail;
 use trace::{Outcome, ProbeKind, Trace, read_trace, seen_of};
 
-/// A pod of the containers `c` and `d`, a tick that lists both, one that lists none, and one that lists `d`.
+/// A pod of the containers `c` and `d`, a tick that lists both, one that lists none, and one that
+/// lists `d`.
 const LISTINGS: &str = r#"{"kind":"node","name":"n1"}
 {"kind":"pod","pod":{"metadata":{"name":"b","namespace":"prod"},"spec":{"restartPolicy":"OnFailure","containers":[{"name":"c"},{"name":"d"}]}}}
 

@@ -14,7 +14,8 @@ long_run = 600
 abbrev pub IsLong : List Exit → ℕ → Type 0
 IsLong exits t = IsSomeAnd (entry_at exits t) (λ run. long_run ≤ run)
 
--- the place from which the exits count: the last one after a long run, or the first if there is none
+-- the place from which the exits count: the last one after a long run, or the first if there is
+-- none
 abbrev pub IsBeginning : List Exit → ℕ → Type 0
 IsBeginning exits start = IsLast (IsLong exits) start ⊎ ((start ≡ 0) × ((t : ℕ) → IsLong exits t → ⊥))
 

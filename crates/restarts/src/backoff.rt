@@ -20,8 +20,9 @@ const LAST_COUNT: u32 = 7;
 
 /// The back-off of one container: how long its restarts are put off, by the exits so far.
 ///
-/// (Kubernetes, "Pod Lifecycle", "Container restart policy": a delay of 10 s, 20 s, 40 s and so on, up to a greatest
-/// of the node's. The first exit has none, and a run of 600 s begins the count anew.)
+/// (Kubernetes, "Pod Lifecycle", "Container restart policy": a delay of 10 s, 20 s, 40 s and so on,
+/// up to a greatest of the node's. The first exit has none, and a run of 600 s begins the count
+/// anew.)
 #[derive(Clone, Copy, Debug, PartialEq, Eq)]
 pub struct Backoff {
     greatest: u64,
@@ -46,10 +47,10 @@ impl Backoff {
         }
     }
 
-    /// Takes the next exit, at the moment `at` (in seconds) and after a run of so many seconds (0 without a
-    /// start), and answers by how many seconds its restart is put off. Every exit counts, also one after
-    /// which no restart is wanted. Exits come in the order of their moments, and those of one moment in
-    /// that of their attempts.
+    /// Takes the next exit, at the moment `at` (in seconds) and after a run of so many seconds (0
+    /// without a start), and answers by how many seconds its restart is put off. Every exit counts,
+    /// also one after which no restart is wanted. Exits come in the order of their moments, and
+    /// those of one moment in that of their attempts.
     pub fn exited(&mut self, run_seconds: u64, at: u64) -> u64
         requires { at < 2 ^ 40 }
         ensures state { (greatest : ℕ) (exits : List Exit)

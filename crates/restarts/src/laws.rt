@@ -22,7 +22,8 @@ pub fn delay_does_not_fall()
     ensures { DelayDoesNotFall }
 {}
 
-/// A delay that is not 0 doubles at the next exit, up to the greatest, unless the run between was at least 600 s.
+/// A delay that is not 0 doubles at the next exit, up to the greatest, unless the run between was
+/// at least 600 s.
 pub fn delay_doubles()
     ensures { DelayDoubles }
 {}

@@ -5,10 +5,12 @@ ghost use Rattle.manifest.specs.Policy.{WantsRestart};
 
 use manifest::{Policy, Role};
 
-/// Whether a container of this role, in a pod with this policy, is to be started again after an exit with this code.
+/// Whether a container of this role, in a pod with this policy, is to be started again after an
+/// exit with this code.
 ///
-/// (Kubernetes, "Pod Lifecycle", "Container restart policy"; "Init Containers": init containers of a pod with the policy
-/// `Always` are started again as with `OnFailure`; "Sidecar Containers": a sidecar is started again after each exit.)
+/// (Kubernetes, "Pod Lifecycle", "Container restart policy"; "Init Containers": init containers of
+/// a pod with the policy `Always` are started again as with `OnFailure`; "Sidecar Containers": a
+/// sidecar is started again after each exit.)
 pub fn wants_restart(policy: Policy, role: Role, code: i32) -> bool
     ensures { IsTrue result ↔ WantsRestart policy role code }
 {

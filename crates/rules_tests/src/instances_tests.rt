@@ -50,7 +50,8 @@ const NOTHING: Changes = Changes {
     died: None,
 };
 
-/// What a differ says of the newest instance: itself, since when it ran first, when it exited, and after which run.
+/// What a differ says of the newest instance: itself, since when it ran first, when it exited, and
+/// after which run.
 fn shown(differ: &Differ) -> (Option<Seen>, Option<u64>, Option<u64>, Option<u64>) {
     let newest = differ.newest();
     (

@@ -1,4 +1,5 @@
-//! Tests of what no text reaches: rules over histories worked out by hand, and readers and writers that stop.
+//! Tests of what no text reaches: rules over histories worked out by hand, and readers and writers
+//! that stop.
 #![tactic(auto)]
 
 #[cfg(test)]

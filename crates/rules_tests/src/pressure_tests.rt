@@ -2,7 +2,8 @@
 
 use pressure::Pressure;
 
-/// A transition period, and observations: moment, whether it is met, and then whether the condition is true and since when.
+/// A transition period, and observations: moment, whether it is met, and then whether the condition
+/// is true and since when.
 type History = (u64, &'static [(u64, bool, bool, u64)]);
 
 const HISTORIES: [History; 4] = [

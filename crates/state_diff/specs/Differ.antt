@@ -42,7 +42,8 @@ pub record IsStateOf (h : List Tick) (d : Differ) : Type 0 where
   pub accepts : (seen : Option Seen) → (Accepts d seen ↔ IsAcceptable h seen)
   pub last_at : d.last_at ≡ last_moment h
 
--- the listing is of the newest attempt, with its state and exit code; none is listed where there is none
+-- the listing is of the newest attempt, with its state and exit code; none is listed where there is
+-- none
 pub record IsSeenOf (h : List Tick) (seen : Seen) : Type 0 where
   pub newest : IsNewest h seen.attempt
   pub state : IsState h seen.attempt seen.state

@@ -1,6 +1,7 @@
--- What the records of one container say of its instances (Container Runtime Interface, `ContainerState` and
--- `ContainerMetadata.attempt`; Kubernetes, "Pod Lifecycle", "Container states"). A record is a tick, named by its place in the list of all
--- ticks so far, oldest first. Each definition speaks of the whole list.
+-- What the records of one container say of its instances (Container Runtime Interface,
+-- `ContainerState` and `ContainerMetadata.attempt`; Kubernetes, "Pod Lifecycle", "Container
+-- states"). A record is a tick, named by its place in the list of all ticks so far, oldest first.
+-- Each definition speaks of the whole list.
 use Rattle.std.specs.Prelude.{◌≡◌, ◌≢◌, ◌⊎◌, ℕ, ℤ, pos, ◌-◌, ◌<◌, ◌≤◌, List, length, take, unwrap_or, Option, Some, None, IsSomeAnd}
 use Rattle.state_diff.specs.declared.seen.CriState.{CriState}
 use Rattle.state_diff.specs.declared.seen.CriState.TheVariants.{Created, Running, Exited, Unknown}
@@ -78,7 +79,8 @@ IsExit h a t = IsFirst (Ends h a) t
 abbrev pub IsStart : List Tick → ℕ → ℕ → Type 0
 IsStart h a t = IsFirst (ListedAs h a Running) t
 
--- the code of the tick at a place: the one recorded there for the attempt, and 137 if it isn't listed there
+-- the code of the tick at a place: the one recorded there for the attempt, and 137 if it isn't
+-- listed there
 abbrev pub IsCodeAt : List Tick → ℕ → ℤ → ℕ → Type 0
 IsCodeAt h a code t =
     IsSomeAnd (seen_at h t) (λ seen. (seen.attempt ≡ a) × (seen.code ≡ Some code))
@@ -116,7 +118,8 @@ IsAcceptable h (Some seen) = MayFollow h seen
 abbrev pub IsAcceptableHistory : List Tick → Type 0
 IsAcceptableHistory h = (t : ℕ) → t < length h → IsAcceptable (take t h) (seen_at h t)
 
--- the run of an instance that has exited: from its start to its exit, in seconds, and 0 without a start
+-- the run of an instance that has exited: from its start to its exit, in seconds, and 0 without a
+-- start
 pub record IsRun (h : List Tick) (a : ℕ) (run : ℕ) : Type 0 where
   pub exit : ℕ
   pub exits : IsFirstMoment h (Ends h a) (Some exit)

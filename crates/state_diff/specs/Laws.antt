@@ -6,7 +6,8 @@ use Rattle.state_diff.specs.declared.seen.CriState.TheVariants.{Exited}
 use Rattle.state_diff.specs.Instances.{Tick, tick, IsNewest, IsState, IsExit, IsExitCode, IsStart, IsAcceptable, IsAcceptableHistory}
 use Rattle.state_diff.specs.Acceptable.{is_acceptable}
 
--- there is at most one newest attempt, and an instance has at most one start, exit, exit code and state
+-- there is at most one newest attempt, and an instance has at most one start, exit, exit code and
+-- state
 pub record OneOfEach : Type 0 where
   pub newest : (h : List Tick) (a b : ℕ) → IsNewest h a → IsNewest h b → a ≡ b
   pub start : (h : List Tick) (a t u : ℕ) → IsStart h a t → IsStart h a u → t ≡ u

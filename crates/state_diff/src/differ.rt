@@ -24,8 +24,9 @@ pub struct Changes {
     pub died: Option<(u32, i32)>,
 }
 
-/// Follows the listings of one container, of which each tick has at most one, the newest instance. It keeps what the
-/// listings so far say of the newest instance, and the moment of the last tick, but none of the listings.
+/// Follows the listings of one container, of which each tick has at most one, the newest instance.
+/// It keeps what the listings so far say of the newest instance, and the moment of the last tick,
+/// but none of the listings.
 #[derive(Clone, Copy, Debug, PartialEq, Eq)]
 pub struct Differ {
     newest: Option<Instance>,
@@ -47,9 +48,9 @@ impl Differ {
         }
     }
 
-    /// Whether the listing may come next: its attempt is not below one that was listed before; if it is the newest, the
-    /// last tick listed it; and its state is not below the known one in the order created, running, exited. An unknown
-    /// state always may, and so may no listing at all.
+    /// Whether the listing may come next: its attempt is not below one that was listed before; if
+    /// it is the newest, the last tick listed it; and its state is not below the known one in the
+    /// order created, running, exited. An unknown state always may, and so may no listing at all.
     pub fn accepts(&self, seen: Option<Seen>) -> bool
         ensures value { IsTrue result ↔ Accepts self.now seen }
         ensures acceptable { (h : List Tick) → IsStateOf h self.now → (IsTrue result ↔ IsAcceptable h seen) }
@@ -58,7 +59,8 @@ impl Differ {
         self.follows(seen)
     }
 
-    /// Whether the listing is of a later attempt, or goes on with the newest instance, if that was listed.
+    /// Whether the listing is of a later attempt, or goes on with the newest instance, if that was
+    /// listed.
     fn follows(&self, seen: Option<Seen>) -> bool
         ensures { IsTrue result ↔ Accepts self.now seen }
     {
@@ -76,8 +78,8 @@ impl Differ {
         }
     }
 
-    /// The newest instance ever listed, with its state and exit code: exited once it has an exit, with 137 if it went
-    /// unlisted, and never unknown.
+    /// The newest instance ever listed, with its state and exit code: exited once it has an exit,
+    /// with 137 if it went unlisted, and never unknown.
     pub fn newest(&self) -> Option<Seen>
         ensures { (h : List Tick) → IsStateOf h self.now → IsNewestSeen h result }
     {
@@ -229,8 +231,8 @@ impl Differ {
         }
     }
 
-    /// A tick comes, at the moment, in seconds, with what it lists of the container: a listing that `accepts` takes, at
-    /// a moment later than `last_at`, if there is one.
+    /// A tick comes, at the moment, in seconds, with what it lists of the container: a listing that
+    /// `accepts` takes, at a moment later than `last_at`, if there is one.
     pub fn step(&mut self, at: u64, seen: Option<Seen>) -> Changes
         requires accepted { Accepts self.old seen }
         requires later { IsBefore self.old at }

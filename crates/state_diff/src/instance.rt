@@ -17,7 +17,8 @@ pub struct Instance {
     pub code: Option<i32>,
     /// The moment of the first listing as running, in seconds.
     pub start: Option<u64>,
-    /// The moment of the first listing as exited, or of the first tick that no longer lists it, in seconds.
+    /// The moment of the first listing as exited, or of the first tick that no longer lists it, in
+    /// seconds.
     pub exit: Option<u64>,
     ghost code_given: { is_some code ≡ exited state },
 }
@@ -103,7 +104,8 @@ impl Instance {
         }
     }
 
-    /// How long it ran, in seconds, once it has exited: from its start to its exit, and 0 without a start.
+    /// How long it ran, in seconds, once it has exited: from its start to its exit, and 0 without a
+    /// start.
     pub fn run(&self) -> Option<u64>
         ensures none { (result ≡ None) ↔ (self.now.exit ≡ None) }
         ensures some { IfSome result (λ run.

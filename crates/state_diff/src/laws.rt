@@ -1,7 +1,8 @@
 //! What the definitions of instances imply. The functions do nothing; their contracts are the laws.
 ghost use Rattle.state_diff.specs.Laws.{OneOfEach, StartsBeforeExit, ExitedStaysExited, NewestNeverFalls, AcceptableIsNewest, AcceptableComputes};
 
-/// There is at most one newest attempt, and an instance has at most one start, exit, exit code and state.
+/// There is at most one newest attempt, and an instance has at most one start, exit, exit code and
+/// state.
 pub fn one_of_each()
     ensures { OneOfEach }
 {}

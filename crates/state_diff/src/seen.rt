@@ -1,8 +1,8 @@
 ghost use Rattle.std.specs.Prelude.{◌≡◌, ◌≢◌, ◌↔◌, is_some, IsTrue};
 ghost use Rattle.state_diff.specs.States.{is_exited as exited, rank as rank_of};
 
-/// The state of an instance, as the container runtime lists it: the `ContainerState` of the Container Runtime Interface
-/// (CRI v1).
+/// The state of an instance, as the container runtime lists it: the `ContainerState` of the
+/// Container Runtime Interface (CRI v1).
 #[derive(Clone, Copy, Debug, PartialEq, Eq)]
 pub enum CriState {
     /// `CONTAINER_CREATED`: it hasn't been started.
@@ -53,7 +53,8 @@ impl CriState {
 /// An instance of a container, as one tick lists it (a `ContainerStatus` of CRI v1).
 #[derive(Clone, Copy, Debug, PartialEq, Eq)]
 pub struct Seen {
-    /// Which instance of the container it is, counted from 0: the attempt of its `ContainerMetadata`.
+    /// Which instance of the container it is, counted from 0: the attempt of its
+    /// `ContainerMetadata`.
     pub attempt: u32,
     /// Its state.
     pub state: CriState,

@@ -1,4 +1,5 @@
--- The samples of one signal, oldest first (Kubernetes, "Node-pressure Eviction", "Eviction signals").
+-- The samples of one signal, oldest first (Kubernetes, "Node-pressure Eviction", "Eviction
+-- signals").
 use Rattle.std.specs.Prelude.{ℕ, ◌<◌, List, Option, IsSomeAnd}
 use Rattle.histories.specs.Histories.{Recorded, recorded, entry_at}
 

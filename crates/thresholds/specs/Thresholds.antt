@@ -1,13 +1,14 @@
--- When a threshold is active, and when it is due. The limit, the reclaim and the values are in thousandths, moments and
--- the grace in seconds.
+-- When a threshold is active, and when it is due. The limit, the reclaim and the values are in
+-- thousandths, moments and the grace in seconds.
 use Rattle.std.specs.Prelude.{◌≡◌, ℕ, ◌+◌, ◌-◌, ◌<◌, ◌≤◌, List, length, Option, Some}
 use Rattle.histories.specs.Histories.{IsSo, IsFirstMoment, moment_at}
 use Rattle.thresholds.specs.declared.threshold.Threshold.{Threshold}
 use Rattle.thresholds.specs.Amounts.{amount_of}
 use Rattle.thresholds.specs.Samples.{Sample, IsBelowAt}
 
--- Active after these samples (Kubernetes, "Node-pressure Eviction", "Eviction thresholds" and "Minimum eviction reclaim"):
--- at some place the value was below the limit, and there and at every place since it was below the limit plus the reclaim.
+-- Active after these samples (Kubernetes, "Node-pressure Eviction", "Eviction thresholds" and
+-- "Minimum eviction reclaim"): at some place the value was below the limit, and there and at every
+-- place since it was below the limit plus the reclaim.
 pub record IsActive (limit reclaim : ℕ) (h : List Sample) : Type 0 where
   pub place : ℕ
   pub below : IsBelowAt h limit place
@@ -22,8 +23,8 @@ pub record IsActiveFrom (limit reclaim : ℕ) (h : List Sample) (u : ℕ) : Type
 abbrev pub IsActiveSince : ℕ → ℕ → List Sample → Option ℕ → Type 0
 IsActiveSince limit reclaim h since = IsFirstMoment h (IsActiveFrom limit reclaim h) since
 
--- Due after these samples ("Soft eviction thresholds"; a hard one has no grace): it is active, and from the first sample of
--- the unbroken stretch to the last sample at least the grace has passed.
+-- Due after these samples ("Soft eviction thresholds"; a hard one has no grace): it is active, and
+-- from the first sample of the unbroken stretch to the last sample at least the grace has passed.
 pub record IsDue (limit reclaim grace : ℕ) (h : List Sample) : Type 0 where
   pub active : IsActive limit reclaim h
   pub since : ℕ

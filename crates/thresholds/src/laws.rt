@@ -1,4 +1,5 @@
-//! What is true of every threshold, for every list of samples. The functions do nothing; their contracts are the laws.
+//! What is true of every threshold, for every list of samples. The functions do nothing; their
+//! contracts are the laws.
 
 ghost use Rattle.thresholds.specs.Laws.{DueIsActive, HardIsDueWhenActive, NoReclaimIsBelowNow, ActiveGoesOn, OneActiveSince};
 
@@ -17,8 +18,8 @@ pub fn no_reclaim_is_below_now()
     ensures { NoReclaimIsBelowNow }
 {}
 
-/// After one more sample a threshold is active exactly when the new value is below the limit, or it was active and the
-/// new value is below the limit plus the reclaim.
+/// After one more sample a threshold is active exactly when the new value is below the limit, or it
+/// was active and the new value is below the limit plus the reclaim.
 pub fn active_goes_on()
     ensures { ActiveGoesOn }
 {}

@@ -6,9 +6,9 @@ ghost use Rattle.thresholds.specs.Amounts.{amount_of, HasItsCapacity};
 
 use quantity::Limit;
 
-/// An eviction threshold: it becomes active below the limit, and clears once the value has reached the limit plus the
-/// reclaim. (Kubernetes, "Node-pressure Eviction", "Eviction thresholds" and "Minimum eviction
-/// reclaim".)
+/// An eviction threshold: it becomes active below the limit, and clears once the value has reached
+/// the limit plus the reclaim. (Kubernetes, "Node-pressure Eviction", "Eviction thresholds" and
+/// "Minimum eviction reclaim".)
 #[derive(Clone, Copy, Debug, PartialEq, Eq)]
 pub struct Threshold {
     /// The value below which the threshold becomes active.
@@ -19,8 +19,8 @@ pub struct Threshold {
     pub grace: u64,
 }
 
-/// The amount that a limit stands for, in thousandths: a quantity itself, and of a percentage that share of the
-/// capacity, rounded down.
+/// The amount that a limit stands for, in thousandths: a quantity itself, and of a percentage that
+/// share of the capacity, rounded down.
 pub(crate) fn amount(limit: Limit, capacity: Option<u128>) -> u128
     requires percentage { HasItsCapacity capacity limit }
     requires capacity { IfSome capacity (λ c. c ≤ greatest) }

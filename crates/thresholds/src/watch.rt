@@ -11,11 +11,11 @@ ghost use Rattle.thresholds.specs.Watch.{LeavesActive, IsStateOf};
 
 use crate::threshold::{Threshold, amount};
 
-/// Follows one eviction threshold over the samples of its signal. It keeps since when the threshold is active, and none of
-/// the samples.
+/// Follows one eviction threshold over the samples of its signal. It keeps since when the threshold
+/// is active, and none of the samples.
 ///
-/// None of its answers needs moments that rise, so it asks for no order: where a sample's moment is not later than the
-/// beginning of the active stretch, no second of the grace has passed.
+/// None of its answers needs moments that rise, so it asks for no order: where a sample's moment is
+/// not later than the beginning of the active stretch, no second of the grace has passed.
 #[derive(Clone, Copy, Debug, PartialEq, Eq)]
 pub struct Watch {
     limit: u128,
@@ -26,8 +26,8 @@ pub struct Watch {
 }
 
 impl Watch {
-    /// A threshold without any sample so far. `capacity` is that of the signal, in thousandths: a percentage is of it, so
-    /// a threshold with a percentage needs it.
+    /// A threshold without any sample so far. `capacity` is that of the signal, in thousandths: a
+    /// percentage is of it, so a threshold with a percentage needs it.
     pub fn new(threshold: Threshold, capacity: Option<u128>) -> Watch
         requires limit { HasItsCapacity capacity threshold.limit }
         requires reclaim { HasItsCapacity capacity threshold.reclaim }
@@ -44,8 +44,8 @@ impl Watch {
         }
     }
 
-    /// A sample comes, of the moment `at`, in seconds, with the signal's value in thousandths, if it has one. An absent
-    /// value is below nothing.
+    /// A sample comes, of the moment `at`, in seconds, with the signal's value in thousandths, if
+    /// it has one. An absent value is below nothing.
     pub fn sample(&mut self, at: u64, value: Option<u128>)
         ensures { (threshold : Threshold) (capacity : Option ℕ) (h : List Sample)
             → IsStateOf threshold capacity h self.old
@@ -55,8 +55,9 @@ impl Watch {
         self.due = has_lasted(self.grace, self.active_since, at);
     }
 
-    /// Whether the threshold is active: the value was below the limit, and has been below the limit plus the reclaim since.
-    /// (Kubernetes, "Node-pressure Eviction", "Eviction thresholds" and "Minimum eviction reclaim".)
+    /// Whether the threshold is active: the value was below the limit, and has been below the limit
+    /// plus the reclaim since. (Kubernetes, "Node-pressure Eviction", "Eviction thresholds" and
+    /// "Minimum eviction reclaim".)
     pub fn active(&self) -> bool
         ensures { (threshold : Threshold) (capacity : Option ℕ) (h : List Sample)
             → IsStateOf threshold capacity h self.now
@@ -65,8 +66,9 @@ impl Watch {
         self.is_active_so_far()
     }
 
-    /// Whether the threshold is due: it is active, and at the last sample has been for at least its grace.
-    /// (Kubernetes, "Node-pressure Eviction", "Soft eviction thresholds" and "Hard eviction thresholds".)
+    /// Whether the threshold is due: it is active, and at the last sample has been for at least its
+    /// grace. (Kubernetes, "Node-pressure Eviction", "Soft eviction thresholds" and "Hard eviction
+    /// thresholds".)
     pub fn due(&self) -> bool
         ensures { (threshold : Threshold) (capacity : Option ℕ) (h : List Sample)
             → IsStateOf threshold capacity h self.now

@@ -1,5 +1,5 @@
--- What the trace of a text is, in the words of its format. The lines of a text have the places 0, 1, .. and, in an
--- answer, the numbers 1, 2, ...
+-- What the trace of a text is, in the words of its format. The lines of a text have the places 0,
+-- 1, .. and, in an answer, the numbers 1, 2, ...
 use Rattle.std.specs.Prelude.{◌≡◌, ◌≢◌, ◌⊎◌, ◌↔◌, ◌+◌, ◌≤◌, ◌<◌, ℕ, zero, suc, true, false, List, [], ◌∷◌, ◌++◌, length, slice_get, Option, Some, None, is_some, Ok, Err, codes}
 use Rattle.serde_json.specs.Data.{Data}
 use Rattle.json_fields.specs.Fields.{field_at, text_at}
@@ -34,7 +34,8 @@ use Rattle.trace.specs.Past.{Past, with_pod, with_tick}
 use Rattle.trace.specs.Tick.{moment_of, most_ticks}
 use Rattle.trace.specs.Trace.{json_of, kind_from, line_at, nothing, trace_of}
 
--- after what is said before it, the line leaves this said: a blank line adds nothing, any other line counts and has no fault
+-- after what is said before it, the line leaves this said: a blank line adds nothing, any other
+-- line counts and has no fault
 abbrev pub Leaves : Past → List ℕ → Past → Type 0
 Leaves before line past = ((is_blank line ≡ true) × (past ≡ before)) ⊎ ((is_blank line ≡ false) × (line_at before line ≡ Ok past))
 
@@ -56,7 +57,8 @@ pub record IsFaultAt (lines : List (List ℕ)) (n : ℕ) (kind : LineKind) : Typ
 abbrev pub NoneCounts : List (List ℕ) → Type 0
 NoneCounts lines = (n : ℕ) (line : List ℕ) → slice_get lines n ≡ Some line → is_blank line ≡ true
 
--- the answer names the first line that has a fault, or the line after the last one where no line counts
+-- the answer names the first line that has a fault, or the line after the last one where no line
+-- counts
 abbrev pub IsFirstFault : List (List ℕ) → LineFault → Type 0
 IsFirstFault lines fault =
     ((n : ℕ) × IsFaultAt lines n fault.kind × (fault.line ≡ n + 1))
@@ -74,7 +76,8 @@ pub record IsWhole (lines : List (List ℕ)) (trace : Trace) : Type 0 where
 abbrev pub FirstFault : Type 0
 FirstFault = (text : List ℕ) (fault : LineFault) → (trace_of text ≡ Err fault ↔ IsFirstFault (lines_of text) fault)
 
--- a text has a trace exactly where no line has a fault and some line counts; it is what the lines say
+-- a text has a trace exactly where no line has a fault and some line counts; it is what the lines
+-- say
 abbrev pub WholeTrace : Type 0
 WholeTrace = (text : List ℕ) (trace : Trace) → (trace_of text ≡ Ok trace ↔ IsWhole (lines_of text) trace)
 
@@ -131,8 +134,8 @@ pub record IsForwards (past : Past) (line : List ℕ) (d : Data) (at : ℕ) (pla
   pub is_apart : IsApart past line d at placed
   pub forwards : is_backwards past.ticks (observed at placed past.pods) ≡ false
 
--- the first check that a line fails after what is said before it, with the fault that it answers: the checks of every
--- line, and then those of a node line, of a pod line, or of a tick line
+-- the first check that a line fails after what is said before it, with the fault that it answers:
+-- the checks of every line, and then those of a node line, of a pod line, or of a tick line
 pub data Fails (past : Past) (line : List ℕ) : LineKind → Type 0 where
   too_long : 1048576 < length line → Fails past line TooLong
   not_json : (kind : LineKind) → length line ≤ 1048576 → json_of line ≡ Err kind → Fails past line kind
@@ -209,7 +212,8 @@ pub record Strangers : Type 0 where
 abbrev pub IsGiven : List PlacedResult → ℕ → ProbeKind → Outcome → Type 0
 IsGiven rs n probe outcome = (m : ℕ) × (slice_get rs m ≡ Some (record { container = n; probe = probe; outcome = outcome }))
 
--- where no probe has two results, what is shown of a probe is exactly the result that is given, wherever it stands
+-- where no probe has two results, what is shown of a probe is exactly the result that is given,
+-- wherever it stands
 abbrev pub ResultsShown : Type 0
 ResultsShown = (rs : List PlacedResult) (n : ℕ) (probe : ProbeKind) (outcome : Outcome) → has_twice are_of_one_probe rs ≡ false
     → (outcome_in rs n probe ≡ Some outcome ↔ IsGiven rs n probe outcome)

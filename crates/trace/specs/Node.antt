@@ -27,7 +27,8 @@ abbrev pub or_config : {A : Type 0} → Option A → Result A LineKind
 or_config None = Err Config
 or_config (Some x) = Ok x
 
--- the greatest restart delay, in seconds: a whole number in its range, and the most of it where none is written
+-- the greatest restart delay, in seconds: a whole number in its range, and the most of it where
+-- none is written
 abbrev pub restart_delay_of : Option Data → Result ℕ LineKind
 restart_delay_of None = Ok most_max_delay
 restart_delay_of (Some d) = or_config (option_and_then max_delay_of (option_and_then as_u64 (as_number d)))

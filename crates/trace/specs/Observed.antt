@@ -25,7 +25,8 @@ seen_as Running r = record { attempt = r.attempt; state = Running; code = None; 
 seen_as Exited r = record { attempt = r.attempt; state = Exited; code = Some (unwrap_or r.code (pos 0)); code_given = refl }
 seen_as Unknown r = record { attempt = r.attempt; state = Unknown; code = None; code_given = refl }
 
--- the instance that a listing says; while a missing exit code isn't refused yet, 0 stands in its place
+-- the instance that a listing says; while a missing exit code isn't refused yet, 0 stands in its
+-- place
 abbrev pub seen_listed : ListedInstance → Seen
 seen_listed r = seen_as r.state r
 

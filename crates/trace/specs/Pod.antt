@@ -30,7 +30,8 @@ is_probed container = is_some container.probes.startup || is_some container.prob
 abbrev pub has_probe : PodSpec → Bool
 has_probe pod = list_any is_probed pod.containers
 
--- which of its fields keeps a pod from being replayed: for now its init containers, sidecars among them, and else a probe
+-- which of its fields keeps a pod from being replayed: for now its init containers, sidecars among
+-- them, and else a probe
 abbrev pub refusal_of : PodSpec → Option ManifestFault
 refusal_of pod =
     if not (has_only_apps pod.containers) then Some (WrongKind fields.InitContainers)

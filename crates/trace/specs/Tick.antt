@@ -1,4 +1,5 @@
--- What a tick line says after the lines before it: each check is made over the whole line before the next.
+-- What a tick line says after the lines before it: each check is made over the whole line before
+-- the next.
 use Rattle.std.specs.Prelude.{ℕ, ◌-◌, ◌^◌, ◌&&◌, Bool, true, List, length, nat_lt, nat_le, slice_get, Option, Some, None, option_and_then, if◌then◌else◌, Result, Ok, Err, codes}
 use Rattle.serde_json.specs.Data.{Data}
 use Rattle.serde_json.specs.Find.{as_number, as_u64}

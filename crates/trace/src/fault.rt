@@ -7,7 +7,8 @@ use manifest::ManifestFault;
 use std::alloc::{AllocError, AllocFailed};
 use thiserror::Error;
 
-/// What is wrong with a line. The kinds stand by their numbers; the order of checks is that of `laws::first_check`.
+/// What is wrong with a line. The kinds stand by their numbers; the order of checks is that of
+/// `laws::first_check`.
 #[derive(Clone, Copy, Debug, PartialEq, Eq, Error)]
 pub enum LineKind {
     #[error("the line is longer than 1 MiB")]

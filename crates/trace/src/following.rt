@@ -71,7 +71,8 @@ fn pods_after(
     Ok(all)
 }
 
-/// The differs after a tick, unless some listing of it may not come after those of the earlier ticks.
+/// The differs after a tick, unless some listing of it may not come after those of the earlier
+/// ticks.
 pub(crate) fn differs_after(
     alloc: Global,
     reader: &Reader,

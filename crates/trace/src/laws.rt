@@ -1,12 +1,15 @@
-//! What the definition of a trace implies, in the words of the format. The functions do nothing; their contracts are the laws.
+//! What the definition of a trace implies, in the words of the format. The functions do nothing;
+//! their contracts are the laws.
 ghost use Rattle.trace.specs.Laws.{FirstFault, WholeTrace, OneFault, FirstCheck, AllChecks, KindsOfChecks, Strangers, ResultsShown, NeverMemory};
 
-/// A text is refused exactly with the fault of its first line that has one, or behind its last line where no line counts.
+/// A text is refused exactly with the fault of its first line that has one, or behind its last line
+/// where no line counts.
 pub fn first_fault()
     ensures { FirstFault }
 {}
 
-/// A text has a trace exactly where no line has a fault and some line counts; the trace is what the lines say.
+/// A text has a trace exactly where no line has a fault and some line counts; the trace is what the
+/// lines say.
 pub fn whole_trace()
     ensures { WholeTrace }
 {}
@@ -16,12 +19,14 @@ pub fn one_fault()
     ensures { OneFault }
 {}
 
-/// A line's fault is that of the first check that it fails, in the order in which a line is checked.
+/// A line's fault is that of the first check that it fails, in the order in which a line is
+/// checked.
 pub fn first_check()
     ensures { FirstCheck }
 {}
 
-/// A line that passes all its checks says its node, its pod or its tick, behind what is said before it.
+/// A line that passes all its checks says its node, its pod or its tick, behind what is said before
+/// it.
 pub fn all_checks()
     ensures { AllChecks }
 {}

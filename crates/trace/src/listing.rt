@@ -21,7 +21,8 @@ use std::alloc::Global;
 pub(crate) struct ListedInstance {
     pub(crate) attempt: u32,
     pub(crate) state: CriState,
-    /// What the field for the exit code says, if it is a code. In another state than exited nobody looks at it.
+    /// What the field for the exit code says, if it is a code. In another state than exited nobody
+    /// looks at it.
     pub(crate) code: Option<i32>,
 }
 

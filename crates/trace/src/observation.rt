@@ -12,7 +12,8 @@ use state_diff::Seen;
 pub struct ContainerObs {
     /// The instance that the tick lists, if it lists one.
     pub seen: Option<Seen>,
-    /// The results of its probes, in the order startup, liveness, readiness, where the tick has one.
+    /// The results of its probes, in the order startup, liveness, readiness, where the tick has
+    /// one.
     pub results: [Option<Outcome>; 3],
 }
 

@@ -16,8 +16,8 @@ pub(crate) enum Sort {
     Tick,
 }
 
-/// What the lines so far say, with the pods' keys by number, and a differ for each container of each pod that has
-/// followed the ticks.
+/// What the lines so far say, with the pods' keys by number, and a differ for each container of
+/// each pod that has followed the ticks.
 #[derive(Drop)]
 pub(crate) struct Reader {
     pub(crate) node: Option<NodeConfig>,

@@ -173,8 +173,8 @@ fn read_lines(alloc: Global, text: &[u8]) -> Result<Trace, LineFault>
     finished(line, reader)
 }
 
-/// The trace that a text says, or its first faulty line with that line's first fault. A refused growth of memory is
-/// `OutOfMemory` at the line that was being read.
+/// The trace that a text says, or its first faulty line with that line's first fault. A refused
+/// growth of memory is `OutOfMemory` at the line that was being read.
 pub fn read_trace(alloc: Global, text: &[u8]) -> Result<Trace, LineFault>
     ensures gives { GivesAt (λ t. t) result (trace_of text.now) }
     ensures acceptable { IfOk result (λ t. AreAcceptable t.ticks) }

@@ -44,7 +44,8 @@ fn moment(ticks: &[TickObs], found: Option<&Value>) -> Result<u64, LineKind>
     }
 }
 
-/// The instance that a listing says. Where the exit code is missing, 0 stands in its place until that is refused.
+/// The instance that a listing says. Where the exit code is missing, 0 stands in its place until
+/// that is refused.
 fn seen_listed(instance: ListedInstance) -> Seen
     ensures { result ≡ seen_listed instance }
 {

@@ -1,4 +1,5 @@
--- A line's fault is that of its first check that fails; a line without one says its node, its pod or its tick.
+-- A line's fault is that of its first check that fails; a line without one says its node, its pod
+-- or its tick.
 use Rattle.std.proofs.Common.{◌≡◌, ◌≢◌, ◌∙◌, ◌⊎◌, ℕ, ◌≤◌, ◌<◌, Bool, true, false, List, [], ◌∷◌, ◌++◌, length, Option, Some, None, Result, Ok, Err, refl, ap, sym, subst, inl, inr, arith, is_some}
 use Rattle.std.specs.Prelude.{⊤, nat_lt, nat_le, codes}
 use Rattle.std.proofs.lemmas.Bool.{ltb-true, ltb-false, lt-ltb, le-ltb, leb-true, leb-false, le-leb, lt-leb}
