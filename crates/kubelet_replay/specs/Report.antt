@@ -18,7 +18,8 @@ pub record ArePodLines (ticks : List TickObs) (n : ℕ) (pod : PodSpec) (bytes :
   pub is_lifecycle : IsLifecycleOf pod None (pod_history ticks n) lifecycle
   pub containers : List ContainerStatus
   pub as_many : length containers ≡ length pod.containers
-  pub each : (c : ℕ) (d : ContainerStatus) → c < length pod.containers → IsContainerStatus pod None (pod_history ticks n) c (slice_index_or containers c d)
+  pub each : (c : ℕ) (d : ContainerStatus) → c < length pod.containers
+      → IsContainerStatus pod None (pod_history ticks n) c (slice_index_or containers c d)
   pub qos : Qos
   pub is_qos : IsOfClass pod.containers qos
   pub text : bytes ≡ pod_text n pod qos lifecycle.phase lifecycle.conditions containers
@@ -27,5 +28,6 @@ pub record ArePodLines (ticks : List TickObs) (n : ℕ) (pod : PodSpec) (bytes :
 pub record IsReport (ticks : List TickObs) (pods : List PodSpec) (bytes : List ℕ) : Type 0 where
   pub parts : List (List ℕ)
   pub as_many : length parts ≡ length pods
-  pub each : (n : ℕ) (d : PodSpec) (e : List ℕ) → n < length pods → ArePodLines ticks n (slice_index_or pods n d) (slice_index_or parts n e)
+  pub each : (n : ℕ) (d : PodSpec) (e : List ℕ) → n < length pods
+      → ArePodLines ticks n (slice_index_or pods n d) (slice_index_or parts n e)
   pub whole : bytes ≡ concat parts

@@ -40,7 +40,8 @@ fn stepped(differ: Differ, at: u64, seen: Option<Seen>) -> Differ
 
 /// Takes each container of the pod over one tick.
 fn step_all(differs: &mut [Differ], tick: &TickObs, pod: usize)
-    requires accepts { (c : ℕ) (d : Differ) → c < length differs.old → Accepts (slice_index_or differs.old c d) (seen_of tick.now pod c) }
+    requires accepts { (c : ℕ) (d : Differ) → c < length differs.old
+        → Accepts (slice_index_or differs.old c d) (seen_of tick.now pod c) }
     requires later { AreBefore differs.old tick.now.at }
     ensures { AreSteppedBy tick.now pod differs.old differs.new }
 {

@@ -21,7 +21,8 @@ use trace::{TickObs, Trace};
 fn statuses(alloc: Global, views: &[ContainerView]) -> Result<Vec<ContainerStatus>, AllocError>
     ensures as_many { IfOk result (λ v. length v.items ≡ length views.now) }
     ensures statuses { IfOk result (λ v. (pod : PodSpec) (h : List PodTick) → AreShown pod None h views.now
-        → (c : ℕ) (d : ContainerStatus) → c < length views.now → IsContainerStatus pod None h c (slice_index_or v.items c d)) }
+        → (c : ℕ) (d : ContainerStatus) → c < length views.now
+        → IsContainerStatus pod None h c (slice_index_or v.items c d)) }
 {
     let mut all = Vec::new(alloc);
     for view in views {

@@ -9,4 +9,5 @@ use Rattle.phase.specs.RawPhase.{IsRawPhase}
 -- of each list of views there is one raw phase, and no other
 pub record OneRawPhase : Type 0 where
   pub some : (policy : Policy) (views : List ContainerView) → (p : Phase) × IsRawPhase of_view policy views p
-  pub no_other : (policy : Policy) (views : List ContainerView) (p q : Phase) → IsRawPhase of_view policy views p → IsRawPhase of_view policy views q → p ≡ q
+  pub no_other : (policy : Policy) (views : List ContainerView) (p q : Phase) → IsRawPhase of_view policy views p
+      → IsRawPhase of_view policy views q → p ≡ q

@@ -28,19 +28,25 @@ IsAwaited facts container =
 abbrev pub IsStarting : {C : Type 0} → Facts C → List C → Type 0
 IsStarting facts containers = Any (IsAwaited facts) containers
 
+-- P holds of every app container
+abbrev pub AllApps : {C : Type 0} → Facts C → (C → Type 0) → List C → Type 0
+AllApps facts P containers = All (λ container. facts.is container App → P container) containers
+
+-- P holds of some app container
+abbrev pub AnyApp : {C : Type 0} → Facts C → (C → Type 0) → List C → Type 0
+AnyApp facts P containers = Any (λ container. facts.is container App × P container) containers
+
 -- every app container has finished
 abbrev pub HaveFinished : {C : Type 0} → Facts C → Policy → List C → Type 0
-HaveFinished facts policy containers = All (λ container. facts.is container App → HasFinished facts policy container) containers
+HaveFinished facts policy containers = AllApps facts (HasFinished facts policy) containers
 
 -- and each has completed
 abbrev pub HaveSucceeded : {C : Type 0} → Facts C → Policy → List C → Type 0
-HaveSucceeded facts policy containers =
-    HaveFinished facts policy containers × All (λ container. facts.is container App → HasCompleted facts container) containers
+HaveSucceeded facts policy containers = HaveFinished facts policy containers × AllApps facts (HasCompleted facts) containers
 
 -- and some has failed
 abbrev pub HaveFailed : {C : Type 0} → Facts C → Policy → List C → Type 0
-HaveFailed facts policy containers =
-    HaveFinished facts policy containers × Any (λ container. facts.is container App × HasFailed facts container) containers
+HaveFailed facts policy containers = HaveFinished facts policy containers × AnyApp facts (HasFailed facts) containers
 
 -- `here` where P holds, else `otherwise`
 abbrev pub Where : Type 0 → Type 0 → Type 0 → Type 0

@@ -2,7 +2,7 @@ ghost use Rattle.std.specs.Prelude.{◌≡◌, ◌↔◌, All, Any, IsTrue};
 ghost use Rattle.manifest.specs.declared.policy.Policy.TheVariants.{Never};
 ghost use Rattle.manifest.specs.declared.pod.Role.TheVariants.{App};
 ghost use Rattle.phase.specs.Facts.{of_view, HasFailed, HasCompleted, HasFinished};
-ghost use Rattle.phase.specs.RawPhase.{IsRawPhase, IsFailedInit, IsAwaited, InitHasFailed, IsStarting, HaveFinished, HaveSucceeded, HaveFailed, IsTerminal, AreInitialized};
+ghost use Rattle.phase.specs.RawPhase.{IsRawPhase, IsFailedInit, AllApps, AnyApp, InitHasFailed, IsStarting, HaveFinished, HaveSucceeded, HaveFailed, IsTerminal, AreInitialized};
 
 use crate::view::ContainerView;
 use manifest::Policy;
@@ -71,15 +71,13 @@ fn any_failed_init(containers: &[ContainerView]) -> bool
 }
 
 fn any_failed_app(containers: &[ContainerView]) -> bool
-    ensures { IsTrue result
-        ↔ Any (λ container. of_view.is container App × HasFailed of_view container) containers.now }
+    ensures { IsTrue result ↔ AnyApp of_view (HasFailed of_view) containers.now }
 {
     containers.iter().any(|container| is_failed_app(container))
 }
 
 fn all_complete(containers: &[ContainerView]) -> bool
-    ensures { IsTrue result
-        ↔ All (λ container. of_view.is container App → HasCompleted of_view container) containers.now }
+    ensures { IsTrue result ↔ AllApps of_view (HasCompleted of_view) containers.now }
 {
     containers.iter().all(|container| completes(container))
 }

@@ -10,9 +10,15 @@ use Rattle.pod_piece.specs.declared.lifecycle.Lifecycle.{Lifecycle}
 use Rattle.phase.specs.declared.phase.Phase.{Phase}
 use Rattle.phase.specs.declared.view.ContainerView.{ContainerView}
 use Rattle.state_diff.specs.declared.seen.Seen.{Seen}
+use Rattle.manifest.specs.declared.pod.Role.TheVariants.{Init}
+use Rattle.phase.specs.Facts.{of_view, IsRunning}
 use Rattle.phase.specs.RawPhase.{IsTerminal}
 use Rattle.phase.specs.Conditions.{IsStateOf}
 use Rattle.pod_piece.specs.Pods.{PodTick, AreViewsOf, IsPhase, IsInitialized, AreContainersReady}
+
+-- the view is of an init container, or its instance is running
+abbrev pub RunsUnlessInit : ContainerView → Type 0
+RunsUnlessInit view = (of_view.is view Init → ⊥) → IsRunning view
 
 -- the condition is true where C holds after the ticks, and its moment is that of C's last
 -- transition

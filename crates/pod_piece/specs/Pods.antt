@@ -71,7 +71,8 @@ pub record IsViewOf (pod : PodSpec) (h : List PodTick) (container : ℕ) (view :
 
 pub record AreViewsOf (pod : PodSpec) (h : List PodTick) (views : List ContainerView) : Type 0 where
   pub as_many : length views ≡ length pod.containers
-  pub each : (container : ℕ) (d : ContainerView) → container < length pod.containers → IsViewOf pod h container (slice_index_or views container d)
+  pub each : (container : ℕ) (d : ContainerView) → container < length pod.containers
+      → IsViewOf pod h container (slice_index_or views container d)
 
 -- the phase by the containers as the ticks leave them
 abbrev pub IsRawPhaseAfter : PodSpec → List PodTick → Phase → Type 0
@@ -119,7 +120,8 @@ IsPhase pod evicted h phase = (end : Option ℕ) × IsEnd pod evicted h end × I
 
 -- every init container has completed, and every sidecar was started
 abbrev pub IsInitialized : PodSpec → Option ℕ → List PodTick → Type 0
-IsInitialized pod evicted h = (end : Option ℕ) × IsEnd pod evicted h end × AreInitialized (facts pod (counted h end)) (numbers pod)
+IsInitialized pod evicted h = (end : Option ℕ) × IsEnd pod evicted h end
+    × AreInitialized (facts pod (counted h end)) (numbers pod)
 
 -- the pod has not ended, and every app container and sidecar is ready
 abbrev pub AreContainersReady : PodSpec → Option ℕ → List PodTick → Type 0

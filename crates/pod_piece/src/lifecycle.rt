@@ -1,10 +1,9 @@
 ghost use Rattle.std.specs.Prelude.{◌≡◌, ◌↔◌, ℕ, List, [], All, Option, IsTrue};
 ghost use Rattle.manifest.specs.declared.pod.PodSpec.{PodSpec};
-ghost use Rattle.manifest.specs.declared.pod.Role.TheVariants.{Init};
-ghost use Rattle.phase.specs.Facts.{of_view, IsRunning};
+ghost use Rattle.phase.specs.Facts.{of_view};
 ghost use Rattle.phase.specs.RawPhase.{IsTerminal, AreInitialized};
 ghost use Rattle.pod_piece.specs.Pods.{PodTick, HasEnded, AreViewsOf};
-ghost use Rattle.pod_piece.specs.Lifecycles.{IsLifecycleOf, IsProgressOf, IsNextPhase, IsNext};
+ghost use Rattle.pod_piece.specs.Lifecycles.{IsLifecycleOf, IsProgressOf, IsNextPhase, IsNext, RunsUnlessInit};
 
 use manifest::Policy;
 use phase::{Conditions, ContainerView, Phase, Values, are_initialized, raw_phase};
@@ -23,7 +22,8 @@ pub struct Lifecycle {
 impl Lifecycle {
     /// That of a pod that no tick has shown yet, with these containers.
     pub fn new(containers: &[ContainerView]) -> Self
-        ensures { (pod : PodSpec) (evicted : Option ℕ) → AreViewsOf pod [] containers.now → IsProgressOf pod evicted [] result }
+        ensures { (pod : PodSpec) (evicted : Option ℕ) → AreViewsOf pod [] containers.now
+            → IsProgressOf pod evicted [] result }
     {
         Lifecycle {
             phase: Phase::Pending,
@@ -90,14 +90,13 @@ impl Lifecycle {
 
 /// Whether an init container, or one that is ready; without probes these are the running ones.
 fn is_ready_or_init(container: &ContainerView) -> bool
-    ensures { IsTrue result ↔ ((of_view.is container.now Init → ⊥) → IsRunning container.now) }
+    ensures { IsTrue result ↔ RunsUnlessInit container.now }
 {
     container.is_init() || container.is_running()
 }
 
 fn all_ready(containers: &[ContainerView]) -> bool
-    ensures { IsTrue result
-        ↔ All (λ container. (of_view.is container Init → ⊥) → IsRunning container) containers.now }
+    ensures { IsTrue result ↔ All RunsUnlessInit containers.now }
 {
     containers
         .iter()
@@ -106,8 +105,7 @@ fn all_ready(containers: &[ContainerView]) -> bool
 
 /// Whether the containers of a pod of this phase are ready.
 fn are_ready(phase: Phase, containers: &[ContainerView]) -> bool
-    ensures { IsTrue result
-        ↔ ((IsTerminal phase → ⊥) × All (λ container. (of_view.is container Init → ⊥) → IsRunning container) containers.now) }
+    ensures { IsTrue result ↔ ((IsTerminal phase → ⊥) × All RunsUnlessInit containers.now) }
 {
     !phase.is_terminal() && all_ready(containers)
 }

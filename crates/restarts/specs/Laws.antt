@@ -31,9 +31,11 @@ DelayDoesNotFall =
 abbrev pub DelayDoubles : Type 0
 DelayDoubles =
     (greatest : ℕ) (exits : List Exit) (moment run before after : ℕ) → run < long_run → 0 < before
-    → IsDelay greatest exits before → IsDelay greatest (exits ++ recorded moment run ∷ []) after → after ≡ min greatest (2 * before)
+    → IsDelay greatest exits before → IsDelay greatest (exits ++ recorded moment run ∷ []) after
+    → after ≡ min greatest (2 * before)
 
 abbrev pub LongRunForgets : Type 0
 LongRunForgets =
     (greatest : ℕ) (earlier later : List Exit) (moment run : ℕ) (backoff : Backoff) → long_run ≤ run
-    → (IsStateOf greatest (earlier ++ recorded moment run ∷ later) backoff ↔ IsStateOf greatest (recorded moment run ∷ later) backoff)
+    → (IsStateOf greatest (earlier ++ recorded moment run ∷ later) backoff
+    ↔ IsStateOf greatest (recorded moment run ∷ later) backoff)

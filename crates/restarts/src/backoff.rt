@@ -78,7 +78,8 @@ impl Backoff {
 fn count_after(count: u32, run_seconds: u64) -> u32
     requires { count ≤ 7 }
     ensures within { result ≤ 7 }
-    ensures counts { (exits : List Exit) (at : ℕ) → IsCountOf exits count → IsCountOf (exits ++ recorded at run_seconds ∷ []) result }
+    ensures counts { (exits : List Exit) (at : ℕ) → IsCountOf exits count
+        → IsCountOf (exits ++ recorded at run_seconds ∷ []) result }
 {
     if is_long(run_seconds) {
         1
