@@ -1,11 +1,11 @@
 //! Traces that are read back, as values.
 
-use manifest::{PodSpec, Policy};
+use manifest::{Outcome, PodSpec, Policy, ProbeKind};
 use serde_json::Value;
 use state_diff::{CriState, Seen};
 use std::alloc::Global;
 use std::test::Fail;
-use trace::{Outcome, ProbeKind, Trace, read_trace, seen_of};
+use trace::{Trace, read_trace, seen_of};
 
 /// A pod of the containers `c` and `d`, a tick that lists both, one that lists none, and one that
 /// lists `d`.
@@ -140,7 +140,7 @@ fn containers_of_a_manifest_are_found_by_name(rt: HostRuntime) -> Result<(), Fai
         r#"{"metadata":{"name":"a"},"spec":{"initContainers":[{"name":"i"}],"containers":[{"name":"c"}]}}"#;
     let value = Value::from_str(rt.alloc(), text)?;
     let pod = PodSpec::from_value(rt.alloc(), &value)?;
-    assert_eq!(rt; pod.containers.init_count(), 1);
+    assert!(rt; !pod.containers.has_only_apps());
     for (name, number) in [("i", Some(0)), ("c", Some(1)), ("a", None)] {
         assert_eq!(rt; pod.containers.number_of(name), number, "{name}");
     }
