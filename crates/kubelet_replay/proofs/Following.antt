@@ -11,8 +11,8 @@ use Rattle.pod_piece.specs.Pods.{PodTick, listings, IsViewOf, AreViewsOf, AreSho
 use Rattle.phase.specs.RawPhase.{IsTerminal}
 use Rattle.pod_piece.specs.Lifecycles.{IsProgressOf}
 use Rattle.pod_piece.proofs.EndLemmas.{IsPhase-unique, phase_ended, shown_ended, shown_all, shown_lives}
-use Rattle.trace.specs.declared.observation.TickObs.{TickObs}
-use Rattle.trace.specs.Observations.{seen_of, history}
+use Rattle.observations.specs.declared.tick.TickObs.{TickObs}
+use Rattle.observations.specs.Observations.{seen_of, history}
 use Rattle.trace.specs.Sound.{AreRising}
 use Rattle.kubelet_replay.specs.PodHistory.{listed, pod_history}
 use Rattle.kubelet_replay.specs.Follow.{AreSteppedBy, AreShownBy}

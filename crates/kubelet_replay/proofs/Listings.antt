@@ -8,10 +8,10 @@ use Rattle.histories.proofs.Moments.{ends_before}
 use Rattle.state_diff.specs.declared.seen.Seen.{Seen}
 use Rattle.state_diff.specs.Instances.{Tick, listing_of, seen_at, IsAcceptable, IsAcceptableHistory}
 use Rattle.pod_piece.specs.Pods.{listings}
-use Rattle.trace.specs.declared.observation.ContainerObs.{ContainerObs}
-use Rattle.trace.specs.declared.observation.PodObs.{PodObs}
-use Rattle.trace.specs.declared.observation.TickObs.{TickObs}
-use Rattle.trace.specs.Observations.{seen_of, history}
+use Rattle.observations.specs.declared.container.ContainerObs.{ContainerObs}
+use Rattle.observations.specs.declared.pod.PodObs.{PodObs}
+use Rattle.observations.specs.declared.tick.TickObs.{TickObs}
+use Rattle.observations.specs.Observations.{seen_of, history}
 use Rattle.trace.specs.Sound.{AreRising}
 use Rattle.trace.proofs.Listed.{seen_at-history}
 use Rattle.trace.proofs.Moments.{moment_at-history, history-rising}

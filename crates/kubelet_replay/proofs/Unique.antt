@@ -4,7 +4,7 @@ use Rattle.manifest.specs.declared.pod.PodSpec.{PodSpec}
 use Rattle.pod_piece.specs.declared.container.ContainerStatus.{ContainerStatus}
 use Rattle.pod_piece.specs.declared.lifecycle.Lifecycle.{Lifecycle}
 use Rattle.pod_piece.proofs.UniqueLemmas.{status_one, container_one}
-use Rattle.trace.specs.declared.observation.TickObs.{TickObs}
+use Rattle.observations.specs.declared.tick.TickObs.{TickObs}
 use Rattle.trace.specs.declared.past.Trace.{Trace}
 use Rattle.kubelet_replay.specs.Lines.{pod_text}
 use Rattle.kubelet_replay.specs.PodHistory.{pod_history}

@@ -7,8 +7,8 @@ use Rattle.state_diff.specs.declared.differ.Differ.{Differ}
 use Rattle.phase.specs.declared.view.ContainerView.{ContainerView}
 use Rattle.manifest.specs.declared.pod.PodSpec.{PodSpec}
 use Rattle.pod_piece.specs.Pods.{PodTick, listings, IsViewOf}
-use Rattle.trace.specs.declared.observation.TickObs.{TickObs}
-use Rattle.trace.specs.Observations.{seen_of}
+use Rattle.observations.specs.declared.tick.TickObs.{TickObs}
+use Rattle.observations.specs.Observations.{seen_of}
 
 -- each differ has followed one tick more
 pub record AreSteppedBy (tick : TickObs) (pod : ℕ) (old new : List Differ) : Type 0 where

@@ -6,9 +6,9 @@ use Rattle.manifest.specs.declared.pod.PodSpec.{PodSpec}
 use Rattle.phase.specs.RawPhase.{IsTerminal}
 use Rattle.pod_piece.specs.Pods.{AreShown}
 use Rattle.pod_piece.specs.Lifecycles.{IsProgressOf}
-use Rattle.trace.specs.declared.observation.TickObs.{TickObs}
+use Rattle.observations.specs.declared.tick.TickObs.{TickObs}
 use Rattle.trace.specs.Followed.{AreBefore}
-use Rattle.trace.specs.Observations.{seen_of, history}
+use Rattle.observations.specs.Observations.{seen_of, history}
 use Rattle.kubelet_replay.specs.declared.follow.Followed.{Followed}
 use Rattle.kubelet_replay.specs.PodHistory.{pod_history}
 

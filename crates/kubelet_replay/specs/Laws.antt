@@ -1,7 +1,7 @@
 -- Laws of reports, over the definitions alone.
 use Rattle.std.specs.Prelude.{◌≡◌, ℕ, List}
 use Rattle.manifest.specs.declared.pod.PodSpec.{PodSpec}
-use Rattle.trace.specs.declared.observation.TickObs.{TickObs}
+use Rattle.observations.specs.declared.tick.TickObs.{TickObs}
 use Rattle.kubelet_replay.specs.Report.{IsReport}
 use Rattle.kubelet_replay.specs.Run.{IsReportOfText}
 

@@ -3,9 +3,9 @@ use Rattle.std.specs.Prelude.{ℕ, List, [], map, Option, Some, None, slice_get}
 use Rattle.histories.specs.Histories.{recorded}
 use Rattle.state_diff.specs.declared.seen.Seen.{Seen}
 use Rattle.pod_piece.specs.Pods.{PodTick}
-use Rattle.trace.specs.declared.observation.ContainerObs.{ContainerObs}
-use Rattle.trace.specs.declared.observation.PodObs.{PodObs}
-use Rattle.trace.specs.declared.observation.TickObs.{TickObs}
+use Rattle.observations.specs.declared.container.ContainerObs.{ContainerObs}
+use Rattle.observations.specs.declared.pod.PodObs.{PodObs}
+use Rattle.observations.specs.declared.tick.TickObs.{TickObs}
 
 -- what is listed of each container
 abbrev pub listed : Option PodObs → List (Option Seen)

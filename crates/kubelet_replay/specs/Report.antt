@@ -7,7 +7,7 @@ use Rattle.pod_piece.specs.declared.container.ContainerStatus.{ContainerStatus}
 use Rattle.pod_piece.specs.declared.lifecycle.Lifecycle.{Lifecycle}
 use Rattle.pod_piece.specs.Containers.{IsContainerStatus}
 use Rattle.pod_piece.specs.Lifecycles.{IsLifecycleOf}
-use Rattle.trace.specs.declared.observation.TickObs.{TickObs}
+use Rattle.observations.specs.declared.tick.TickObs.{TickObs}
 use Rattle.kubelet_replay.specs.Lines.{pod_text}
 use Rattle.kubelet_replay.specs.PodHistory.{pod_history}
 use Rattle.std.specs.List.{concat}

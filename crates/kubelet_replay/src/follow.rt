@@ -6,18 +6,18 @@ ghost use Rattle.state_diff.specs.Instances.{Tick, IsAcceptableHistory};
 ghost use Rattle.state_diff.specs.Differ.{Accepts, IsBefore, IsStateOf};
 ghost use Rattle.state_diff.specs.declared.differ.Differ.{Differ};
 ghost use Rattle.manifest.specs.declared.pod.PodSpec.{PodSpec};
-ghost use Rattle.trace.specs.declared.observation.TickObs.{TickObs};
+ghost use Rattle.observations.specs.declared.tick.TickObs.{TickObs};
 ghost use Rattle.trace.specs.Followed.{AreBefore};
-ghost use Rattle.trace.specs.Observations.{seen_of, history};
+ghost use Rattle.observations.specs.Observations.{seen_of, history};
 ghost use Rattle.trace.specs.Sound.{AreRising};
 ghost use Rattle.kubelet_replay.specs.Follow.{AreSteppedBy, AreShownBy};
 
 use manifest::{PodSpec, Policy};
+use observations::{TickObs, seen_of};
 use phase::ContainerView;
 use pod_piece::{Lifecycle, first_views, next_view};
 use state_diff::{Differ, Seen};
 use std::alloc::{AllocError, Global};
-use trace::{TickObs, seen_of};
 
 /// A pod on its way through the ticks: one differ for each container, the containers as the ticks
 /// that count show them, and the pod's phase and conditions.

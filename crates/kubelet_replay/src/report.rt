@@ -11,11 +11,12 @@ ghost use Rattle.kubelet_replay.specs.Report.{ArePodLines, IsReport};
 use crate::follow::follow;
 use crate::text::pod_text;
 use manifest::PodSpec;
+use observations::TickObs;
 use phase::ContainerView;
 use pod_piece::{ContainerStatus, container_status};
 use qos::qos_class;
 use std::alloc::{AllocError, Global};
-use trace::{TickObs, Trace};
+use trace::Trace;
 
 /// What the status shows of each container.
 fn statuses(alloc: Global, views: &[ContainerView]) -> Result<Vec<ContainerStatus>, AllocError>

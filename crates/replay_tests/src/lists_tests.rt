@@ -3,9 +3,9 @@
 use json_fields::{field, text_at};
 use manifest::Text;
 use name_list::NameList;
+use sequence::Sequence;
 use serde_json::Value;
 use std::test::Fail;
-use trace::Sequence;
 
 #[test]
 fn names_are_numbered_in_the_order_of_their_coming(rt: HostRuntime) -> Result<(), Fail> {

@@ -1,11 +1,12 @@
 //! Traces that are read back, as values.
 
 use manifest::{Outcome, PodSpec, Policy, ProbeKind};
+use observations::seen_of;
 use serde_json::Value;
 use state_diff::{CriState, Seen};
 use std::alloc::Global;
 use std::test::Fail;
-use trace::{Trace, read_trace, seen_of};
+use trace::{Trace, read_trace};
 
 /// A pod of the containers `c` and `d`, a tick that lists both, one that lists none, and one that
 /// lists `d`.

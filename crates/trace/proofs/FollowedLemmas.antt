@@ -17,14 +17,14 @@ use Rattle.state_diff.proofs.Steps.{is_before}
 use Rattle.state_diff.specs.Instances.{Tick}
 use Rattle.trace.specs.declared.fault.LineKind.{LineKind}
 use Rattle.trace.specs.declared.fault.LineKind.TheVariants.{Backwards}
-use Rattle.trace.specs.declared.observation.ContainerObs.{ContainerObs}
-use Rattle.trace.specs.declared.observation.PodObs.{PodObs}
-use Rattle.trace.specs.declared.observation.TickObs.{TickObs}
+use Rattle.observations.specs.declared.container.ContainerObs.{ContainerObs}
+use Rattle.observations.specs.declared.pod.PodObs.{PodObs}
+use Rattle.observations.specs.declared.tick.TickObs.{TickObs}
 use Rattle.trace.specs.declared.placing.PlacedEntry.{PlacedEntry}
 use Rattle.trace.specs.Backwards.{some_container_backwards, some_pod_backwards, is_backwards}
 use Rattle.trace.specs.Followed.{AreFollowed, AreNew, AreBefore, EndBefore, Shows, Takes, Refuses, HaveTaken, PodsHaveTaken, SomeRefuses, SomePodRefuses, IsRefusal}
 use Rattle.trace.specs.Gives.{is_memory}
-use Rattle.trace.specs.Observations.{seen_of, history}
+use Rattle.observations.specs.Observations.{seen_of, history}
 use Rattle.trace.specs.declared.placing.PlacedListing.{PlacedListing}
 use Rattle.trace.specs.declared.placing.PlacedResult.{PlacedResult}
 use Rattle.manifest.specs.declared.pod.ContainerSpec.{ContainerSpec}

@@ -22,7 +22,7 @@ use Rattle.trace.specs.declared.node.NodeConfig.{NodeConfig}
 use Rattle.trace.specs.declared.past.Trace.{Trace}
 use Rattle.trace.specs.declared.past.Sort.{Sort}
 use Rattle.trace.specs.declared.past.Sort.TheVariants as sorts
-use Rattle.trace.specs.declared.observation.TickObs.{TickObs}
+use Rattle.observations.specs.declared.tick.TickObs.{TickObs}
 use Rattle.trace.specs.declared.listing.Entry.{Entry}
 use Rattle.trace.specs.declared.placing.PlacedEntry.{PlacedEntry}
 use Rattle.trace.specs.Lines.{lines_of, is_blank}

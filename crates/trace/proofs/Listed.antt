@@ -2,8 +2,8 @@
 use Rattle.std.proofs.Common.{◌≡◌, ℕ, zero, suc, List, [], ◌∷◌, refl}
 use Rattle.std.specs.Prelude.{slice_get, option_and_then}
 use Rattle.state_diff.specs.Instances.{seen_at}
-use Rattle.trace.specs.declared.observation.TickObs.{TickObs}
-use Rattle.trace.specs.Observations.{seen_of, history}
+use Rattle.observations.specs.declared.tick.TickObs.{TickObs}
+use Rattle.observations.specs.Observations.{seen_of, history}
 
 pub seen_at-history : (ticks : List TickObs) (pod container t : ℕ) → seen_at (history ticks pod container) t ≡ option_and_then (λ (tick : TickObs). seen_of tick pod container) (slice_get ticks t)
 seen_at-history [] pod container t = refl

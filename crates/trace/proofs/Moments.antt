@@ -9,9 +9,9 @@ use Rattle.histories.specs.Histories.{recorded, moment_at, IsRising, last_moment
 use Rattle.histories.proofs.Moments.{IsRising-more}
 use Rattle.state_diff.specs.Instances.{Tick}
 use Rattle.trace.specs.declared.fault.LineKind.TheVariants.{Moment}
-use Rattle.trace.specs.declared.observation.TickObs.{TickObs}
+use Rattle.observations.specs.declared.tick.TickObs.{TickObs}
 use Rattle.trace.specs.Followed.{EndBefore}
-use Rattle.trace.specs.Observations.{seen_of, history}
+use Rattle.observations.specs.Observations.{seen_of, history}
 use Rattle.trace.specs.Sound.{AreRising}
 use Rattle.trace.specs.Tick.{is_later, moment_from, moment_of}
 

@@ -21,13 +21,13 @@ use Rattle.trace.specs.declared.node.NodeConfig.{NodeConfig}
 use Rattle.trace.specs.declared.past.Trace.{Trace}
 use Rattle.trace.specs.declared.past.Sort.{Sort}
 use Rattle.trace.specs.declared.past.Sort.TheVariants as sorts
-use Rattle.trace.specs.declared.observation.ContainerObs.{ContainerObs}
-use Rattle.trace.specs.declared.observation.PodObs.{PodObs}
-use Rattle.trace.specs.declared.observation.TickObs.{TickObs}
+use Rattle.observations.specs.declared.container.ContainerObs.{ContainerObs}
+use Rattle.observations.specs.declared.pod.PodObs.{PodObs}
+use Rattle.observations.specs.declared.tick.TickObs.{TickObs}
 use Rattle.trace.specs.declared.listing.Entry.{Entry}
 use Rattle.trace.specs.declared.placing.PlacedEntry.{PlacedEntry}
 use Rattle.trace.specs.Gives.{GivesAt}
-use Rattle.trace.specs.Observations.{seen_of, history}
+use Rattle.observations.specs.Observations.{seen_of, history}
 use Rattle.trace.specs.Backwards.{some_container_backwards, some_pod_backwards, is_backwards}
 use Rattle.trace.specs.Node.{node_of}
 use Rattle.trace.specs.Pod.{pod_from}

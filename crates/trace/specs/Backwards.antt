@@ -1,10 +1,10 @@
 -- Whether a tick's listings go back behind those of earlier ticks.
 use Rattle.std.specs.Prelude.{ℕ, ◌+◌, ◌||◌, Bool, false, not, List, [], ◌∷◌}
 use Rattle.state_diff.specs.Acceptable.{is_acceptable}
-use Rattle.trace.specs.declared.observation.ContainerObs.{ContainerObs}
-use Rattle.trace.specs.declared.observation.PodObs.{PodObs}
-use Rattle.trace.specs.declared.observation.TickObs.{TickObs}
-use Rattle.trace.specs.Observations.{history}
+use Rattle.observations.specs.declared.container.ContainerObs.{ContainerObs}
+use Rattle.observations.specs.declared.pod.PodObs.{PodObs}
+use Rattle.observations.specs.declared.tick.TickObs.{TickObs}
+use Rattle.observations.specs.Observations.{history}
 
 -- of a pod's containers, numbered from n on, some listing may not come after these ticks
 abbrev pub some_container_backwards : List TickObs → ℕ → ℕ → List ContainerObs → Bool

@@ -10,9 +10,9 @@ use Rattle.state_diff.specs.Differ.{IsStateOf, IsBefore}
 use Rattle.state_diff.specs.Instances.{Tick}
 use Rattle.trace.specs.declared.fault.LineKind.{LineKind}
 use Rattle.trace.specs.declared.fault.LineKind.TheVariants.{Backwards, OutOfMemory}
-use Rattle.trace.specs.declared.observation.PodObs.{PodObs}
-use Rattle.trace.specs.declared.observation.TickObs.{TickObs}
-use Rattle.trace.specs.Observations.{seen_of, history}
+use Rattle.observations.specs.declared.pod.PodObs.{PodObs}
+use Rattle.observations.specs.declared.tick.TickObs.{TickObs}
+use Rattle.observations.specs.Observations.{seen_of, history}
 
 -- one differ for each container of each pod, as these ticks leave it
 pub record AreFollowed (ticks : List TickObs) (pods : List PodSpec) (differs : List (List Differ)) : Type 0 where

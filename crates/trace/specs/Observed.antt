@@ -14,9 +14,9 @@ use Rattle.manifest.specs.declared.outcome.ProbeKind.TheVariants.{Startup, Liven
 use Rattle.trace.specs.declared.placing.PlacedListing.{PlacedListing}
 use Rattle.trace.specs.declared.placing.PlacedResult.{PlacedResult}
 use Rattle.trace.specs.declared.placing.PlacedEntry.{PlacedEntry}
-use Rattle.trace.specs.declared.observation.ContainerObs.{ContainerObs}
-use Rattle.trace.specs.declared.observation.PodObs.{PodObs}
-use Rattle.trace.specs.declared.observation.TickObs.{TickObs}
+use Rattle.observations.specs.declared.container.ContainerObs.{ContainerObs}
+use Rattle.observations.specs.declared.pod.PodObs.{PodObs}
+use Rattle.observations.specs.declared.tick.TickObs.{TickObs}
 use Rattle.trace.specs.Placing.{is_of_probe}
 
 abbrev pub seen_as : CriState → ListedInstance → Seen
@@ -65,7 +65,7 @@ results_of (Some e) = e.results
 
 -- what its entry says of a pod
 abbrev pub pod_observed : ℕ → Option PlacedEntry → PodSpec → PodObs
-pod_observed at entry pod = record { at = at; containers = containers_from (listings_of entry) (results_of entry) 0 pod.containers }
+pod_observed at entry pod = record { at = at; containers = containers_from (listings_of entry) (results_of entry) 0 pod.containers; usage = None }
 
 -- what the entries say of each of the pods, numbered from n on
 abbrev pub pods_from : ℕ → List PlacedEntry → ℕ → List PodSpec → List PodObs

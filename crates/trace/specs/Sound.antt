@@ -1,8 +1,8 @@
 -- What holds of the ticks of every trace.
 use Rattle.std.specs.Prelude.{◌≡◌, ℕ, ◌<◌, List, slice_get, Some}
 use Rattle.state_diff.specs.Instances.{IsAcceptableHistory}
-use Rattle.trace.specs.declared.observation.TickObs.{TickObs}
-use Rattle.trace.specs.Observations.{history}
+use Rattle.observations.specs.declared.tick.TickObs.{TickObs}
+use Rattle.observations.specs.Observations.{history}
 
 -- each listing of each container may follow those before it
 abbrev pub AreAcceptable : List TickObs → Type 0

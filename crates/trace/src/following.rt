@@ -9,9 +9,9 @@ ghost use Rattle.state_diff.specs.Differ.{IsBefore};
 ghost use Rattle.trace.specs.Followed.{AreFollowed, AreNew, AreBefore, EndBefore, Shows, Takes, Refuses, HaveTaken, PodsHaveTaken, SomeRefuses, SomePodRefuses, IsRefusal};
 
 use crate::fault::LineKind;
-use crate::observation::{TickObs, seen_of};
 use crate::past::Reader;
-use crate::sequence::Sequence;
+use observations::{TickObs, seen_of};
+use sequence::Sequence;
 use state_diff::{Differ, Seen};
 use std::alloc::{AllocError, Global};
 

@@ -9,9 +9,9 @@ ghost use Rattle.trace.specs.Listings.{attempt_of, state_named, state_numbered, 
 use crate::fault::LineKind;
 use crate::node::absent;
 use crate::probing::{ProbeResult, results_of};
-use crate::sequence::Sequence;
 use json_fields::{field, text_at};
 use manifest::Text;
+use sequence::Sequence;
 use serde_json::Value;
 use state_diff::CriState;
 use std::alloc::Global;

@@ -1,10 +1,10 @@
 //! What the lines so far say.
 
 use crate::node::NodeConfig;
-use crate::observation::TickObs;
-use crate::sequence::Sequence;
 use manifest::PodSpec;
 use name_list::NameList;
+use observations::TickObs;
+use sequence::Sequence;
 use state_diff::Differ;
 use std::marker::Model;
 

@@ -11,9 +11,9 @@ ghost use Rattle.std.specs.List.{list_any};
 use crate::fault::LineKind;
 use crate::listing::{Entry, ListedInstance, Listing};
 use crate::probing::ProbeResult;
-use crate::sequence::Sequence;
 use manifest::{Outcome, PodSpec, ProbeKind};
 use name_list::NameList;
+use sequence::Sequence;
 use std::alloc::Global;
 
 /// A listing of the container with the number.

@@ -13,11 +13,11 @@ use crate::lines::{first_line, is_blank};
 use crate::node::node_of;
 use crate::past::{Reader, Sort, Trace};
 use crate::pod::{key_text, pod_in};
-use crate::sequence::Sequence;
 use crate::tick::take_tick;
 use json_fields::{field, text_at};
 use manifest::PodSpec;
 use name_list::NameList;
+use sequence::Sequence;
 use serde_json::Value;
 use std::alloc::Global;
 

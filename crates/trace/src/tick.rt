@@ -14,14 +14,14 @@ ghost use Rattle.trace.specs.Tick.{moment_of, most_ticks, observed_in, tick_at};
 use crate::fault::LineKind;
 use crate::following::differs_after;
 use crate::listing::{Entry, ListedInstance, entries_of};
-use crate::observation::{ContainerObs, PodObs, TickObs};
 use crate::past::Reader;
 use crate::placing::{
     PlacedEntry, PlacedListing, PlacedResult, is_doubled, is_of_probe, placed_entries, pod_numbers,
 };
-use crate::sequence::Sequence;
 use json_fields::field;
 use manifest::{ContainerSpec, Outcome, PodSpec, ProbeKind};
+use observations::{ContainerObs, PodObs, TickObs};
+use sequence::Sequence;
 use serde_json::Value;
 use state_diff::{CriState, Differ, Seen};
 use std::alloc::{AllocError, Global};
@@ -152,6 +152,7 @@ fn pod_observed(
     Ok(PodObs {
         at,
         containers: Sequence::from_vec(containers),
+        usage: None,
     })
 }
 

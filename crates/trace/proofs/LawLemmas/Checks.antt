@@ -13,7 +13,7 @@ use Rattle.trace.specs.declared.fault.LineKind.TheVariants.{TooLong, UnknownKind
 use Rattle.trace.specs.declared.node.NodeConfig.{NodeConfig}
 use Rattle.trace.specs.declared.past.Sort.{Sort}
 use Rattle.trace.specs.declared.past.Sort.TheVariants as sorts
-use Rattle.trace.specs.declared.observation.TickObs.{TickObs}
+use Rattle.observations.specs.declared.tick.TickObs.{TickObs}
 use Rattle.trace.specs.declared.listing.Entry.{Entry}
 use Rattle.trace.specs.declared.placing.PlacedEntry.{PlacedEntry}
 use Rattle.trace.specs.Node.{node_of}

@@ -1,6 +1,6 @@
 use Rattle.std.proofs.Common.{◌≡◌, ◌∙◌, ◌+◌, List, [], ◌∷◌, ◌++◌, refl, subst, sym, ap, take}
 use Rattle.std.proofs.lemmas.List.{take_more}
-use Rattle.trace.specs.declared.observation.TickObs.{TickObs}
+use Rattle.observations.specs.declared.tick.TickObs.{TickObs}
 use Rattle.kubelet_replay.specs.Followed.{IsFollowed}
 use Rattle.kubelet_replay.proofs.Following.{ready}
 use Rattle.kubelet_replay.proofs.follow.follow.Goals as goal

@@ -4,7 +4,7 @@ use Rattle.state_diff.specs.declared.seen.Seen.{Seen}
 use Rattle.state_diff.specs.Instances.{Tick}
 use Rattle.state_diff.specs.Differ.{IsStateOf, Accepts, IsBefore}
 use Rattle.state_diff.specs.declared.differ.Differ.{Differ}
-use Rattle.trace.specs.Observations.{seen_of}
+use Rattle.observations.specs.Observations.{seen_of}
 use Rattle.histories.proofs.Items.{any_default, set_each, set_rest}
 use Rattle.kubelet_replay.proofs.follow.step_all.Goals as goal
 

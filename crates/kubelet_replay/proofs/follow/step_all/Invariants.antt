@@ -3,7 +3,7 @@ use Rattle.histories.specs.Histories.{recorded}
 use Rattle.state_diff.specs.Instances.{Tick}
 use Rattle.state_diff.specs.Differ.{IsStateOf}
 use Rattle.state_diff.specs.declared.differ.Differ.{Differ}
-use Rattle.trace.specs.Observations.{seen_of}
+use Rattle.observations.specs.Observations.{seen_of}
 use Rattle.kubelet_replay.proofs.follow.step_all.Given as goal
 
 abbrev pub invariant-loop-container : goal.invariant-loop-container

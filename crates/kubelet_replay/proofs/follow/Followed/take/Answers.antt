@@ -8,7 +8,7 @@ use Rattle.phase.specs.declared.view.ContainerView.{ContainerView}
 use Rattle.pod_piece.specs.Pods.{AreViewsOf}
 use Rattle.phase.specs.RawPhase.{IsTerminal}
 use Rattle.trace.specs.Followed.{AreBefore}
-use Rattle.trace.specs.Observations.{seen_of}
+use Rattle.observations.specs.Observations.{seen_of}
 use Rattle.kubelet_replay.specs.PodHistory.{listed, pod_history}
 use Rattle.kubelet_replay.specs.Follow.{AreSteppedBy, AreShownBy}
 use Rattle.kubelet_replay.proofs.Following.{entry, after_end, before_end, not_evicted}

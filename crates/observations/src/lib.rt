@@ -1,0 +1,14 @@
+//! What a node's recorder saw: of a container, of a pod and of the node, tick by tick.
+#![tactic(auto)]
+
+mod container;
+mod pod;
+mod signal;
+mod tick;
+mod usage;
+
+pub use container::ContainerObs;
+pub use pod::PodObs;
+pub use signal::{Signal, ThresholdKind};
+pub use tick::{TickObs, seen_of};
+pub use usage::Usage;

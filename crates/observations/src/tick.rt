@@ -1,0 +1,24 @@
+ghost use Rattle.std.specs.Prelude.{◌≡◌};
+ghost use Rattle.observations.specs.Observations.{seen_of};
+
+use crate::pod::PodObs;
+use sequence::Sequence;
+use state_diff::Seen;
+
+/// One tick. A pod of which it has no entry lists none of its containers.
+#[derive(Drop)]
+pub struct TickObs {
+    /// The moment, in seconds, below 2^40 and later than the last tick's.
+    pub at: u64,
+    /// One observation for each pod, by number.
+    pub pods: Sequence<PodObs>,
+}
+
+/// What the tick lists of a container of a pod, both by number.
+pub fn seen_of(tick: &TickObs, pod: usize, container: usize) -> Option<Seen>
+    ensures { result ≡ seen_of tick.now pod container }
+{
+    let pod = tick.pods.as_slice().get(pod)?;
+    let observed = pod.containers.as_slice().get(container)?;
+    observed.seen
+}

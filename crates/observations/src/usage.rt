@@ -1,0 +1,20 @@
+use quantity::Quantity;
+
+/// What a tick tells of a pod's use of the node, by which pods are ranked for eviction. A sample
+/// that the tick lacks is `None`. (Kubernetes, "Node-pressure Eviction", "Pod selection for kubelet
+/// eviction".)
+#[derive(Clone, Copy, Debug, PartialEq, Eq)]
+pub struct Usage {
+    /// Memory, in bytes.
+    pub memory: Option<Quantity>,
+    /// Local volumes, in bytes.
+    pub volumes: Option<Quantity>,
+    /// Logs of the containers, in bytes.
+    pub logs: Option<Quantity>,
+    /// Writable layers of the containers, in bytes.
+    pub writable: Option<Quantity>,
+    /// Inodes.
+    pub inodes: Option<Quantity>,
+    /// Processes.
+    pub pids: Option<Quantity>,
+}

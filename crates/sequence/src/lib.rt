@@ -1,0 +1,6 @@
+//! Vectors that contracts see as lists.
+#![tactic(auto)]
+
+mod sequence;
+
+pub use sequence::Sequence;
