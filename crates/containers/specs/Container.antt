@@ -1,0 +1,41 @@
+-- Where the ticks of a container lead.
+use Rattle.std.specs.Prelude.{◌≡◌, ◌↔◌, ℕ, List, Option, IsTrue}
+use Rattle.histories.specs.Histories.{IsRising}
+use Rattle.manifest.specs.declared.pod.ContainerSpec.{ContainerSpec}
+use Rattle.state_diff.specs.declared.seen.Seen.{Seen}
+use Rattle.state_diff.specs.Instances.{IsNewest}
+use Rattle.state_diff.specs.Differ.{IsStateOf as IsDifferOf, Accepts as DifferAccepts, IsBefore as IsDifferBefore}
+use Rattle.probes.specs.Ticks.{Tick as ProbeTick}
+use Rattle.probes.specs.ProbeSet.{Follows, IsStateOf as IsProbeSetOf}
+use Rattle.restarts.specs.Exits.{Exit}
+use Rattle.restarts.specs.Backoff.{IsStateOf as IsBackoffOf}
+use Rattle.containers.specs.declared.container.Container.{Container}
+use Rattle.containers.specs.Ticks.{ContainerTick, listings, AreTicksOf, StartsAt}
+use Rattle.containers.specs.Probed.{WasStarted}
+use Rattle.containers.specs.Exits.{AreExits}
+
+-- once the newest instance has started, the probe set follows it
+pub record IsFollowedBy (spec : ContainerSpec) (h : List ContainerTick) (c : Container) (start : ℕ) (a : ℕ) : Type 0 where
+  pub ticks : List ProbeTick
+  pub are_ticks : AreTicksOf h a ticks
+  pub followed : IsProbeSetOf spec.probes start ticks c.probes
+
+-- the container's value after these ticks, on a node with a greatest restart delay
+pub record IsStateOf (spec : ContainerSpec) (greatest : ℕ) (h : List ContainerTick) (c : Container) : Type 0 where
+  pub role : c.role ≡ spec.role
+  pub rising : IsRising h
+  pub differ : IsDifferOf (listings h) c.differ
+  pub follows : Follows c.probes spec.probes
+  pub probed : (a start : ℕ) → IsNewest (listings h) a → StartsAt h a start → IsFollowedBy spec h c start a
+  pub exits : List Exit
+  pub are_exits : AreExits (listings h) exits
+  pub backoff : IsBackoffOf greatest exits c.backoff
+  pub was_started : IsTrue c.was_started ↔ WasStarted spec h
+
+-- the listing, or none, may come next
+abbrev pub Accepts : Container → Option Seen → Type 0
+Accepts c seen = DifferAccepts c.differ seen
+
+-- the last tick, if there was one, is before the moment
+abbrev pub IsBefore : Container → ℕ → Type 0
+IsBefore c moment = IsDifferBefore c.differ moment

@@ -1,0 +1,6 @@
+pub mod Ticks
+pub mod Probed
+pub mod Exits
+pub mod Events
+pub mod Shown
+pub mod Container

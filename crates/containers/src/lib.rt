@@ -1,0 +1,13 @@
+//! One container of a pod, tick by tick: its instances, its probes, its restarts and its events.
+//! (Kubernetes, "Pod Lifecycle", "Container probes" and "Container restart policy".)
+#![tactic(auto)]
+
+mod container;
+mod events;
+mod status;
+mod what;
+
+pub use container::Container;
+pub use events::ContainerEvents;
+pub use status::ContainerStatus;
+pub use what::What;
