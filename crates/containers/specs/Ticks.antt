@@ -1,6 +1,6 @@
 -- The ticks of one container, and those that are an instance's. (Kubernetes, "Configure Liveness,
 -- Readiness and Startup Probes"; which results belong to an instance is this profile's rule.)
-use Rattle.std.specs.Prelude.{◌≡◌, ℕ, ◌-◌, List, length, map, Option, Some}
+use Rattle.std.specs.Prelude.{ℕ, ◌-◌, List, length, map, Some}
 use Rattle.histories.specs.Histories.{Recorded, project, IsSo, IsFirstMoment}
 use Rattle.histories.specs.Picked.{ArePicked}
 use Rattle.observations.specs.declared.container.ContainerObs.{ContainerObs}

@@ -1,6 +1,8 @@
 ghost use Rattle.std.specs.Prelude.{◌≡◌, ◌↔◌, ◌^◌, ◌<◌, ℕ, List, [], ◌∷◌, ◌++◌, length, IsTrue};
 ghost use Rattle.histories.specs.Histories.{recorded};
 ghost use Rattle.manifest.specs.declared.pod.ContainerSpec.{ContainerSpec};
+ghost use Rattle.manifest.specs.declared.pod.Role.TheVariants.{Init};
+ghost use Rattle.phase.specs.Facts.{of_view, IsRunning};
 ghost use Rattle.containers.specs.Ticks.{ContainerTick};
 ghost use Rattle.containers.specs.Probed.{Serves, IsStarted, IsReady};
 ghost use Rattle.containers.specs.Events.{AreEvents};
@@ -71,8 +73,8 @@ impl Container {
             state: container_state(&view),
             code: view.exit_code(),
             restarts: view.restarts(),
-            ready: !is_evicted && self.is_ready(),
-            started: !is_evicted && self.is_started(),
+            ready: is_shown(self.is_ready(), is_evicted),
+            started: is_shown(self.is_started(), is_evicted),
         }
     }
 
@@ -81,8 +83,7 @@ impl Container {
         ensures { (spec : ContainerSpec) (greatest : ℕ) (h : List ContainerTick)
             → IsStateOf spec greatest h self.now → (IsTrue result ↔ ((a : ℕ) × Serves spec h a)) }
     {
-        let view = self.view();
-        !view.is_init() && view.is_running()
+        is_up(&self.view())
     }
 
     /// Whether it is started: it serves, and startup has passed.
@@ -92,4 +93,18 @@ impl Container {
     {
         self.serves() && self.probes.started()
     }
+}
+
+/// Whether a view shows an app container or a sidecar that is running.
+fn is_up(view: &ContainerView) -> bool
+    ensures { IsTrue result ↔ ((of_view.is view.now Init → ⊥) × IsRunning view.now) }
+{
+    !view.is_init() && view.is_running()
+}
+
+/// Whether a fact is shown, which none is in a pod that was evicted.
+fn is_shown(is_so: bool, is_evicted: bool) -> bool
+    ensures { IsTrue result ↔ ((IsTrue is_evicted → ⊥) × IsTrue is_so) }
+{
+    is_so && !is_evicted
 }

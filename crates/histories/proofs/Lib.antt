@@ -8,3 +8,4 @@ pub mod Decide
 pub mod Last
 pub mod Ahead
 pub mod Items
+pub mod Picked

@@ -1,0 +1,3 @@
+mod ProbedLemmas
+mod ViewLemmas
+mod FirstLemmas
