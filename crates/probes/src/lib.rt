@@ -2,6 +2,7 @@
 //! Readiness and Startup Probes"; "Pod Lifecycle", "Container probes".)
 #![tactic(auto)]
 
+mod configured;
 pub mod laws;
 mod liveness;
 mod outcome;

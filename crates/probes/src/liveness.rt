@@ -2,21 +2,22 @@ ghost use Rattle.std.specs.Prelude.{◌≡◌, ◌-◌, ◌↔◌, ℕ, List, �
 ghost use Rattle.probes.specs.Ticks.{Tick, HasLivenessFailed};
 ghost use Rattle.probes.specs.Liveness.{IsLivenessOf};
 
+use crate::configured::Configured;
 use crate::outcome::{belonging, is_failure};
 use crate::run_length::longer;
-use manifest::{Outcome, Probe};
+use manifest::Outcome;
 
 /// Follows the liveness probe of one instance over the ticks that count.
 #[derive(Clone, Copy, Debug, PartialEq, Eq)]
 pub struct Liveness {
-    pub probe: Option<Probe>,
+    pub probe: Configured,
     /// The failures at the end, counted up to the failure threshold.
     failures: u32,
     failed: bool,
 }
 
 impl Liveness {
-    pub fn new(probe: Option<Probe>) -> Self
+    pub fn new(probe: Configured) -> Self
         ensures probe { result.probe ≡ probe }
         ensures state { (start : ℕ) → IsLivenessOf start [] result }
     {
@@ -38,7 +39,7 @@ impl Liveness {
         ensures probe { self.new.probe ≡ self.old.probe }
         ensures state { (start : ℕ) (ticks : List Tick) (next : Tick) → next.moment - start ≡ age → next.entry.liveness ≡ outcome → IsLivenessOf start ticks self.old → IsLivenessOf start (ticks ++ next ∷ []) self.new }
     {
-        let Some(probe) = self.probe else {
+        let Some(probe) = self.probe.get() else {
             return;
         };
         let Some(outcome) = belonging(probe, age, outcome) else {

@@ -4,6 +4,7 @@ ghost use Rattle.probes.specs.Ticks.{Tick, tick, IsStarted};
 ghost use Rattle.probes.specs.Container.{IsReady, IsKillOrdered, IsOrdered};
 ghost use Rattle.probes.specs.ProbeSet.{Follows, HasBegun, HasNotBegun, IsStateOf, AreVerdicts};
 
+use crate::configured::Configured;
 use crate::liveness::Liveness;
 use crate::readiness::Readiness;
 use crate::startup::Startup;
@@ -50,9 +51,9 @@ impl ProbeSet {
         let probes = container.probes;
         ProbeSet {
             start: None,
-            startup: Startup::new(probes.startup()),
-            liveness: Liveness::new(probes.liveness()),
-            readiness: Readiness::new(probes.readiness()),
+            startup: Startup::new(Configured::new(probes.startup())),
+            liveness: Liveness::new(Configured::new(probes.liveness())),
+            readiness: Readiness::new(Configured::new(probes.readiness())),
         }
     }
 

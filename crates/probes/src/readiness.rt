@@ -2,15 +2,16 @@ ghost use Rattle.std.specs.Prelude.{◌≡◌, ◌-◌, ◌↔◌, ◌⊎◌, �
 ghost use Rattle.probes.specs.Ticks.{Tick, HoldsReady};
 ghost use Rattle.probes.specs.Readiness.{IsReadinessOf};
 
+use crate::configured::Configured;
 use crate::outcome::{belonging, is_failure, is_success};
 use crate::run_length::longer;
-use manifest::{Outcome, Probe};
+use manifest::Outcome;
 
 /// Follows the readiness probe of one instance over the ticks that count; without a probe it is
 /// ready.
 #[derive(Clone, Copy, Debug, PartialEq, Eq)]
 pub struct Readiness {
-    pub probe: Option<Probe>,
+    pub probe: Configured,
     /// The successes at the end, counted up to the success threshold.
     successes: u32,
     /// The failures at the end, counted up to the failure threshold.
@@ -19,7 +20,7 @@ pub struct Readiness {
 }
 
 impl Readiness {
-    pub fn new(probe: Option<Probe>) -> Self
+    pub fn new(probe: Configured) -> Self
         ensures probe { result.probe ≡ probe }
         ensures state { (start : ℕ) → IsReadinessOf start [] result }
     {
@@ -27,7 +28,7 @@ impl Readiness {
             probe,
             successes: 0,
             failures: 0,
-            ready: probe.is_none(),
+            ready: probe.get().is_none(),
         }
     }
 
@@ -42,7 +43,7 @@ impl Readiness {
         ensures probe { self.new.probe ≡ self.old.probe }
         ensures state { (start : ℕ) (ticks : List Tick) (next : Tick) → next.moment - start ≡ age → next.entry.readiness ≡ outcome → IsReadinessOf start ticks self.old → IsReadinessOf start (ticks ++ next ∷ []) self.new }
     {
-        let Some(probe) = self.probe else {
+        let Some(probe) = self.probe.get() else {
             return;
         };
         let Some(outcome) = belonging(probe, age, outcome) else {

@@ -3,8 +3,9 @@ ghost use Rattle.manifest.specs.declared.outcome.Outcome.{Outcome};
 ghost use Rattle.probes.specs.Ticks.{Tick, IsStarted, HasStartupFailed};
 ghost use Rattle.probes.specs.Startup.{IsProgressOf, IsStartupOf};
 
+use crate::configured::Configured;
 use crate::outcome::{belonging, is_success};
-use manifest::{Outcome, Probe};
+use manifest::Outcome;
 
 /// How far the startup of an instance has come.
 #[derive(Clone, Copy, Debug, PartialEq, Eq)]
@@ -41,16 +42,16 @@ impl Progress {
 /// Follows the startup probe of one instance; without a probe startup has passed from the start on.
 #[derive(Clone, Copy, Debug, PartialEq, Eq)]
 pub struct Startup {
-    pub probe: Option<Probe>,
+    pub probe: Configured,
     progress: Progress,
 }
 
 impl Startup {
-    pub fn new(probe: Option<Probe>) -> Self
+    pub fn new(probe: Configured) -> Self
         ensures probe { result.probe ≡ probe }
         ensures state { (start : ℕ) → IsStartupOf start [] result }
     {
-        match probe {
+        match probe.get() {
             Some(_) => Startup {
                 probe,
                 progress: Progress::Waiting(0),
@@ -79,7 +80,7 @@ impl Startup {
         ensures probe { self.new.probe ≡ self.old.probe }
         ensures state { (start : ℕ) (ticks : List Tick) (next : Tick) → next.moment - start ≡ age → next.entry.startup ≡ outcome → IsStartupOf start ticks self.old → IsStartupOf start (ticks ++ next ∷ []) self.new }
     {
-        let Some(probe) = self.probe else {
+        let Some(probe) = self.probe.get() else {
             return;
         };
         let Some(outcome) = belonging(probe, age, outcome) else {
