@@ -1,3 +1,3 @@
 mod ProbedLemmas
-mod ViewLemmas
+pub mod ViewLemmas
 mod FirstLemmas

@@ -59,6 +59,10 @@ coded h (Some s) is code (a, n, e) =
       | inr w ↦ absurd (w.0 mine.0 mine.1)
     ]
 
+pub view_code : (spec : ContainerSpec) (h : List ContainerTick) (view : ContainerView) → IsViewOf spec h view → (code : ℤ)
+    → ((exit_code view ≡ Some code) ↔ HasExitedWith (listings h) code)
+view_code spec h view is code = (given (listings h) view.seen is.newest code, coded (listings h) view.seen is.newest code)
+
 -- whether its instance is running
 seen_runs : (h : List Tick) (o : Option Seen) → IsNewestSeen h o → (((a : ℕ) × IsNewest h a × IsState h a IsRunning) ↔ IsSomeAnd o (λ seen. seen.state ≡ IsRunning))
 seen_runs h o is = (there o is, back o is)

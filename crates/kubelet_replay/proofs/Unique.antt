@@ -1,7 +1,7 @@
 -- There is one report.
 use Rattle.std.proofs.Common.{◌≡◌, ◌∙◌, ℕ, suc, ◌<◌, ◌≤◌, List, [], ◌∷◌, length, get_or, None, slice_index_or, Ok, refl, ap, sym, subst, arith}
 use Rattle.manifest.specs.declared.pod.PodSpec.{PodSpec}
-use Rattle.pod_piece.specs.declared.container.ContainerStatus.{ContainerStatus}
+use Rattle.containers.specs.declared.status.ContainerStatus.{ContainerStatus}
 use Rattle.pod_piece.specs.declared.lifecycle.Lifecycle.{Lifecycle}
 use Rattle.pod_piece.proofs.UniqueLemmas.{status_one, container_one}
 use Rattle.observations.specs.declared.tick.TickObs.{TickObs}
@@ -29,8 +29,9 @@ lines_one : (ticks : List TickObs) (n : ℕ) (pod : PodSpec) (a b : List ℕ) �
 lines_one ticks n pod a b x y =
     let h = pod_history ticks n in
     let lifecycles : x.lifecycle ≡ y.lifecycle = status_one pod None h x.lifecycle y.lifecycle x.is_lifecycle y.is_lifecycle in
-    let containers : x.containers ≡ y.containers = same_items x.containers y.containers (x.as_many ∙ sym y.as_many)
-    (λ c d lt. container_one pod None h c (slice_index_or x.containers c d) (slice_index_or y.containers c d) (x.each c d (omega (arith, x.as_many))) (y.each c d (omega (arith, x.as_many)))) in
+    let containers : x.containers ≡ y.containers = same_items x.containers y.containers (x.are_statuses.as_many ∙ sym y.are_statuses.as_many)
+    (λ c d lt. container_one pod None h c (slice_index_or x.containers c d) (slice_index_or y.containers c d)
+    (x.are_statuses.each c d (omega (arith, x.are_statuses.as_many))) (y.are_statuses.each c d (omega (arith, x.are_statuses.as_many)))) in
     let classes : x.qos ≡ y.qos = one_class pod.containers x.qos y.qos x.is_qos y.is_qos in
     x.text ∙ ap (λ (q : Qos). pod_text n pod q x.lifecycle.phase x.lifecycle.conditions x.containers) classes ∙ ap (λ (s : Lifecycle). pod_text n pod y.qos s.phase s.conditions x.containers) lifecycles
     ∙ ap (λ (cs : List ContainerStatus). pod_text n pod y.qos y.lifecycle.phase y.lifecycle.conditions cs) containers ∙ sym y.text

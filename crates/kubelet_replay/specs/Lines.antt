@@ -7,7 +7,7 @@ use Rattle.phase.specs.declared.conditions.Condition.{Condition}
 use Rattle.phase.specs.declared.conditions.Conditions.{Conditions}
 use Rattle.phase.specs.declared.container.ContainerState.{ContainerState}
 use Rattle.phase.specs.declared.container.ContainerState.TheVariants as states
-use Rattle.pod_piece.specs.declared.container.ContainerStatus.{ContainerStatus}
+use Rattle.containers.specs.declared.status.ContainerStatus.{ContainerStatus}
 use Rattle.phase.specs.declared.phase.Phase.{Phase}
 use Rattle.phase.specs.declared.phase.Phase.TheVariants.{Pending, Running, Succeeded, Failed}
 use Rattle.qos.specs.declared.class.Qos.{Qos}

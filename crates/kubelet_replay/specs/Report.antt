@@ -3,9 +3,9 @@ use Rattle.std.specs.Prelude.{◌≡◌, ℕ, ◌<◌, List, length, None, slice
 use Rattle.manifest.specs.declared.pod.PodSpec.{PodSpec}
 use Rattle.qos.specs.declared.class.Qos.{Qos}
 use Rattle.qos.specs.Class.{IsOfClass}
-use Rattle.pod_piece.specs.declared.container.ContainerStatus.{ContainerStatus}
+use Rattle.containers.specs.declared.status.ContainerStatus.{ContainerStatus}
 use Rattle.pod_piece.specs.declared.lifecycle.Lifecycle.{Lifecycle}
-use Rattle.pod_piece.specs.Containers.{IsContainerStatus}
+use Rattle.pod_piece.specs.Containers.{AreStatusesOf}
 use Rattle.pod_piece.specs.Lifecycles.{IsLifecycleOf}
 use Rattle.observations.specs.declared.tick.TickObs.{TickObs}
 use Rattle.kubelet_replay.specs.Lines.{pod_text}
@@ -17,9 +17,7 @@ pub record ArePodLines (ticks : List TickObs) (n : ℕ) (pod : PodSpec) (bytes :
   pub lifecycle : Lifecycle
   pub is_lifecycle : IsLifecycleOf pod None (pod_history ticks n) lifecycle
   pub containers : List ContainerStatus
-  pub as_many : length containers ≡ length pod.containers
-  pub each : (c : ℕ) (d : ContainerStatus) → c < length pod.containers
-      → IsContainerStatus pod None (pod_history ticks n) c (slice_index_or containers c d)
+  pub are_statuses : AreStatusesOf pod None (pod_history ticks n) containers
   pub qos : Qos
   pub is_qos : IsOfClass pod.containers qos
   pub text : bytes ≡ pod_text n pod qos lifecycle.phase lifecycle.conditions containers

@@ -9,9 +9,10 @@ use Rattle.histories.proofs.Growth.{grows_so, so_last}
 use Rattle.phase.specs.declared.phase.Phase.{Phase}
 use Rattle.phase.specs.declared.phase.Phase.TheVariants.{Pending, Running, Succeeded, Failed}
 use Rattle.manifest.specs.declared.pod.PodSpec.{PodSpec}
-use Rattle.phase.specs.declared.view.ContainerView.{ContainerView}
 use Rattle.phase.specs.RawPhase.{IsTerminal, AreInitialized}
-use Rattle.pod_piece.specs.Pods.{PodTick, facts, numbers, Serves, IsReady, IsRawPhaseAfter, EndsPod, IsEnd, counted, IsPhaseBy, IsPhase, IsInitialized, AreContainersReady, HasEnded, AreViewsOf, AreShown}
+use Rattle.pod_piece.specs.Pods.{PodTick, facts, numbers, AllReady, IsRawPhaseAfter, EndsPod, IsEnd, counted, IsPhaseBy, IsPhase, IsInitialized, AreContainersReady, HasEnded}
+use Rattle.containers.specs.declared.container.Container.{Container}
+use Rattle.pod_piece.specs.Containers.{AreContainersOf, AreKept}
 use Rattle.phase.proofs.PhaseLemmas.{where_same, IsRawPhase-unique}
 
 pub IsEnd-unique : (pod : PodSpec) (evicted : Option ℕ) (h : List PodTick) (o p : Option ℕ) → IsEnd pod evicted h o → IsEnd pod evicted h p → o ≡ p
@@ -91,7 +92,7 @@ grows : (pod : PodSpec) (evicted : Option ℕ) (h : List PodTick) (x : PodTick)
     → Grows (length h) (IsSo (EndsPod pod evicted) h) (IsSo (EndsPod pod evicted) (h ++ x ∷ [])) (EndsPod pod evicted (h ++ x ∷ []))
 grows pod evicted h x = grows_so (EndsPod pod evicted) h x
 
-end_old : (pod : PodSpec) (evicted : Option ℕ) (h : List PodTick) (x : PodTick) (t : ℕ) → IsEnd pod evicted h (Some t) → IsEnd pod evicted (h ++ x ∷ []) (Some t)
+pub end_old : (pod : PodSpec) (evicted : Option ℕ) (h : List PodTick) (x : PodTick) (t : ℕ) → IsEnd pod evicted h (Some t) → IsEnd pod evicted (h ++ x ∷ []) (Some t)
 end_old pod evicted h x t end = IsFirst-old (length h) _ _ _ (grows pod evicted h x) t end
 
 -- a pod that has ended keeps its phase
@@ -158,7 +159,7 @@ initialized_ended pod evicted h x t end =
     )
 
 -- all ticks count of a pod that hadn't ended before the last
-counted_all : (pod : PodSpec) (evicted : Option ℕ) (h : List PodTick) (x : PodTick) → IsEnd pod evicted h None → (o : Option ℕ) → IsEnd pod evicted (h ++ x ∷ []) o
+pub counted_all : (pod : PodSpec) (evicted : Option ℕ) (h : List PodTick) (x : PodTick) → IsEnd pod evicted h None → (o : Option ℕ) → IsEnd pod evicted (h ++ x ∷ []) o
     → counted (h ++ x ∷ []) o ≡ h ++ x ∷ []
 counted_all pod evicted h x none None end = refl
 counted_all pod evicted h x none (Some t) end =
@@ -179,41 +180,41 @@ initialized_lives pod evicted h x p q is not next =
 
 -- the containers are ready where the pod hasn't ended and each that serves is
 pub ready_is : (pod : PodSpec) (evicted : Option ℕ) (h : List PodTick) (x : PodTick) (q : Phase) → IsPhase pod evicted (h ++ x ∷ []) q
-    → (AreContainersReady pod evicted (h ++ x ∷ []) ↔ ((IsTerminal q → ⊥) × ((container : ℕ) → Serves pod container → IsReady pod (h ++ x ∷ []) container)))
+    → (AreContainersReady pod evicted (h ++ x ∷ []) ↔ ((IsTerminal q → ⊥) × AllReady pod (h ++ x ∷ [])))
 ready_is pod evicted h x q is = (
   (λ w. ((λ term. let e = terminal_end pod evicted (h ++ x ∷ []) q is term in w.1 e.0 e.1.holds), w.2)),
   (λ w. (some_more h x, lives pod evicted (h ++ x ∷ []) q is w.0, w.1)),
 )
 
--- as long as the pod hasn't ended the views show its containers after all ticks
-pub shown_all : (pod : PodSpec) (evicted : Option ℕ) (h : List PodTick) (p : Phase) (views : List ContainerView) → IsPhase pod evicted h p → (IsTerminal p → ⊥)
-    → AreShown pod evicted h views → AreViewsOf pod h views
-shown_all pod evicted h p views is not shown =
-    let P : Option ℕ → Type 0 = λ o. AreViewsOf pod (counted h o) views in
-    subst P (IsEnd-unique pod evicted h shown.end None shown.is_end (lives pod evicted h p is not)) shown.shown
+-- as long as the pod hasn't ended the containers that are kept are those after all ticks
+pub kept_all : (pod : PodSpec) (greatest : ℕ) (evicted : Option ℕ) (h : List PodTick) (p : Phase) (containers : List Container) → IsPhase pod evicted h p → (IsTerminal p → ⊥)
+    → AreKept pod greatest evicted h containers → AreContainersOf pod greatest h containers
+kept_all pod greatest evicted h p containers is not are =
+    let P : Option ℕ → Type 0 = λ o. AreContainersOf pod greatest (counted h o) containers in
+    subst P (IsEnd-unique pod evicted h are.end None are.is_end (lives pod evicted h p is not)) are.kept
 
--- once the pod has ended, the same views go on to show its containers
-pub shown_ended : (pod : PodSpec) (evicted : Option ℕ) (h : List PodTick) (x : PodTick) (p : Phase) (views : List ContainerView) → IsPhase pod evicted h p → IsTerminal p
-    → AreShown pod evicted h views → AreShown pod evicted (h ++ x ∷ []) views
-shown_ended pod evicted h x p views is term shown =
+-- once the pod has ended they stay
+pub kept_ended : (pod : PodSpec) (greatest : ℕ) (evicted : Option ℕ) (h : List PodTick) (x : PodTick) (p : Phase) (containers : List Container) → IsPhase pod evicted h p → IsTerminal p
+    → AreKept pod greatest evicted h containers → AreKept pod greatest evicted (h ++ x ∷ []) containers
+kept_ended pod greatest evicted h x p containers is term are =
     let w = terminal_end pod evicted h p is term in
-    let e : shown.end ≡ Some w.0 = IsEnd-unique pod evicted h shown.end (Some w.0) shown.is_end w.1 in
-    let P : Option ℕ → Type 0 = λ o. AreViewsOf pod (counted h o) views in
-    let Q : List PodTick → Type 0 = λ k. AreViewsOf pod k views in
+    let e : are.end ≡ Some w.0 = IsEnd-unique pod evicted h are.end (Some w.0) are.is_end w.1 in
+    let P : Option ℕ → Type 0 = λ o. AreContainersOf pod greatest (counted h o) containers in
+    let Q : List PodTick → Type 0 = λ k. AreContainersOf pod greatest k containers in
     record {
       end = Some w.0;
       is_end = end_old pod evicted h x w.0 w.1;
-      shown = subst Q (sym (up_to-old h x w.0 w.1.holds.within)) (subst P e shown.shown);
+      kept = subst Q (sym (up_to-old h x w.0 w.1.holds.within)) (subst P e are.kept);
     }
 
--- and until then the views of all ticks show them
-pub shown_lives : (pod : PodSpec) (evicted : Option ℕ) (h : List PodTick) (x : PodTick) (p q : Phase) (views : List ContainerView) → IsPhase pod evicted h p → (IsTerminal p → ⊥)
-    → IsPhase pod evicted (h ++ x ∷ []) q → AreViewsOf pod (h ++ x ∷ []) views → AreShown pod evicted (h ++ x ∷ []) views
-shown_lives pod evicted h x p q views is not next are =
+-- and until then those after all ticks are kept
+pub kept_lives : (pod : PodSpec) (greatest : ℕ) (evicted : Option ℕ) (h : List PodTick) (x : PodTick) (p q : Phase) (containers : List Container) → IsPhase pod evicted h p → (IsTerminal p → ⊥)
+    → IsPhase pod evicted (h ++ x ∷ []) q → AreContainersOf pod greatest (h ++ x ∷ []) containers → AreKept pod greatest evicted (h ++ x ∷ []) containers
+kept_lives pod greatest evicted h x p q containers is not next are =
     let none = lives pod evicted h p is not in
-    let Q : List PodTick → Type 0 = λ k. AreViewsOf pod k views in
-    record { end = next.0; is_end = next.1; shown = subst Q (sym (counted_all pod evicted h x none next.0 next.1)) are }
+    let Q : List PodTick → Type 0 = λ k. AreContainersOf pod greatest k containers in
+    record { end = next.0; is_end = next.1; kept = subst Q (sym (counted_all pod evicted h x none next.0 next.1)) are }
 
 -- before any tick
-pub shown_none : (pod : PodSpec) (evicted : Option ℕ) (views : List ContainerView) → AreViewsOf pod [] views → AreShown pod evicted [] views
-shown_none pod evicted views are = record { end = None; is_end = λ t s. let lt : t < 0 = s.within in absurd (omega arith); shown = are }
+pub kept_none : (pod : PodSpec) (greatest : ℕ) (evicted : Option ℕ) (containers : List Container) → AreContainersOf pod greatest [] containers → AreKept pod greatest evicted [] containers
+kept_none pod greatest evicted containers are = record { end = None; is_end = λ t s. let lt : t < 0 = s.within in absurd (omega arith); kept = are }

@@ -1,6 +1,6 @@
 -- The status of a pod after one more tick.
 use Rattle.std.proofs.Common.{◌≡◌, inl, inr, ℕ, suc, zero, ◌<◌, Bool, true, false, List, [], ◌∷◌, ◌++◌, length, Option, Some, None, refl, ap, subst, sym, ◌∙◌, arith}
-use Rattle.std.specs.Prelude.{◌↔◌, IsTrue, All, not, nat_lt, take, drop}
+use Rattle.std.specs.Prelude.{◌↔◌, IsTrue, not}
 use Rattle.std.proofs.lemmas.Bool.{cases_lt, lt-ltb}
 use Rattle.histories.specs.Histories.{Recorded, recorded, moment_at, IsSo}
 use Rattle.histories.proofs.Places.{length-more, project-append}
@@ -16,15 +16,14 @@ use Rattle.phase.specs.declared.conditions.Values.{Values}
 use Rattle.manifest.specs.declared.pod.PodSpec.{PodSpec}
 use Rattle.pod_piece.specs.declared.lifecycle.Lifecycle.{Lifecycle}
 use Rattle.phase.specs.declared.view.ContainerView.{ContainerView}
-use Rattle.manifest.specs.declared.pod.Role.TheVariants.{Init}
-use Rattle.phase.specs.Facts.{of_view, IsRunning}
+use Rattle.phase.specs.Facts.{of_view}
 use Rattle.phase.specs.RawPhase.{IsTerminal, AreInitialized}
 use Rattle.phase.specs.Conditions.{last_or, IsConditionOf, IsStateOf}
-use Rattle.pod_piece.specs.Pods.{PodTick, facts, numbers, counted, IsPhase, IsInitialized, AreContainersReady, AreViewsOf}
+use Rattle.pod_piece.specs.Pods.{PodTick, facts, numbers, counted, AllReady, IsPhase, IsInitialized, AreContainersReady, AreViewsOf}
 use Rattle.pod_piece.specs.Lifecycles.{IsConditionAfter, IsLifecycleOf, AreValuesOf, IsProgressOf}
 use Rattle.phase.proofs.ConditionLemmas.{IsTrueAt, last_or-more}
 use Rattle.pod_piece.proofs.EndLemmas.{IsPhase-unique, phase_ended, terminal_cases, terminal_end, initialized_ended, initialized_lives, ready_is}
-use Rattle.pod_piece.proofs.ViewLemmas.{initialized_after, ready_after}
+use Rattle.pod_piece.proofs.ViewLemmas.{initialized_after}
 
 moments_more : (vs : List (Recorded Bool)) (h : List PodTick) (v : Recorded Bool) (x : PodTick) → v.moment ≡ x.moment → length vs ≡ length h
     → ((t : ℕ) → moment_at vs t ≡ moment_at h t) → (t : ℕ) → moment_at (vs ++ v ∷ []) t ≡ moment_at (h ++ x ∷ []) t
@@ -169,11 +168,11 @@ initialized_more pod evicted h x status views next b are is then ended living = 
 ]
 
 -- whether its containers are ready
-pub ready_more : (pod : PodSpec) (evicted : Option ℕ) (h : List PodTick) (x : PodTick) (views : List ContainerView) (phase next : Phase) (b : Bool)
-    → ((IsTerminal phase → ⊥) → AreViewsOf pod (h ++ x ∷ []) views) → IsPhase pod evicted h phase → IsPhase pod evicted (h ++ x ∷ []) next
-    → (IsTrue b ↔ ((IsTerminal next → ⊥) × All (λ view. (of_view.is view Init → ⊥) → IsRunning view) views))
+pub ready_more : (pod : PodSpec) (evicted : Option ℕ) (h : List PodTick) (x : PodTick) (ready : Bool) (phase next : Phase) (b : Bool)
+    → ((IsTerminal phase → ⊥) → (IsTrue ready ↔ AllReady pod (h ++ x ∷ []))) → IsPhase pod evicted h phase → IsPhase pod evicted (h ++ x ∷ []) next
+    → (IsTrue b ↔ ((IsTerminal next → ⊥) × IsTrue ready))
     → (IsTrue b ↔ AreContainersReady pod evicted (h ++ x ∷ []))
-ready_more pod evicted h x views phase next b are now then is =
+ready_more pod evicted h x ready phase next b are now then is =
     let r = ready_is pod evicted h x next then in
     elim (terminal_cases phase) [
       | inl term ↦
@@ -181,8 +180,8 @@ ready_more pod evicted h x views phase next b are now then is =
           let ended : IsTerminal next = subst IsTerminal (IsPhase-unique pod evicted (h ++ x ∷ []) phase next stays then) term in
           ((λ t. absurd ((is.0 t).0 ended)), (λ w. absurd ((r.0 w).0 ended)))
       | inr not ↦
-          let a = ready_after pod (h ++ x ∷ []) views (are not) in (
-            (λ t. let w = is.0 t in r.1 (w.0, a.1 w.1)),
-            (λ w. let v = r.0 w in is.1 (v.0, a.0 v.1)),
+          let a = are not in (
+            (λ t. let w = is.0 t in r.1 (w.0, a.0 w.1)),
+            (λ w. let v = r.0 w in is.1 (v.0, a.1 v.1)),
           )
     ]

@@ -11,12 +11,16 @@ use Rattle.phase.specs.declared.conditions.Condition.{Condition}
 use Rattle.phase.specs.declared.conditions.Conditions.{Conditions}
 use Rattle.phase.specs.declared.container.ContainerState.{ContainerState}
 use Rattle.phase.specs.declared.container.ContainerState.TheVariants.{Waiting, Running, Terminated}
-use Rattle.pod_piece.specs.declared.container.ContainerStatus.{ContainerStatus}
+use Rattle.containers.specs.declared.status.ContainerStatus.{ContainerStatus}
 use Rattle.manifest.specs.declared.pod.PodSpec.{PodSpec}
 use Rattle.pod_piece.specs.declared.lifecycle.Lifecycle.{Lifecycle}
-use Rattle.pod_piece.specs.Pods.{PodTick, counted, EndsEvicted}
+use Rattle.containers.specs.Ticks.{ContainerTick}
+use Rattle.containers.specs.Shown.{state_behind, IsContainerState, IsRestarts, IsShown}
+use Rattle.manifest.specs.declared.pod.ContainerSpec.{ContainerSpec}
+use Rattle.pod_piece.specs.Pods.{PodTick, ticks_of, OfSpec, counted, EndsEvicted}
 use Rattle.pod_piece.specs.Lifecycles.{IsConditionAfter, IsLifecycleOf}
-use Rattle.pod_piece.specs.Containers.{state_behind, IsContainerState, IsRestarts, IsShown, IsContainerStatus}
+use Rattle.pod_piece.specs.Containers.{IsContainerStatus}
+use Rattle.pod_piece.proofs.TickLemmas.{together, whatever}
 use Rattle.pod_piece.proofs.EndLemmas.{IsEnd-unique, IsPhase-unique}
 
 condition_same : (c d : Condition) → c.value ≡ d.value → c.since ≡ d.since → c ≡ d
@@ -90,13 +94,18 @@ shown_same s t e f g i j =
     let T : Bool → Type 0 = λ x. s ≡ record { state = s.state; code = s.code; restarts = s.restarts; ready = s.ready; started = x } in
     subst P e (subst Q f (subst R g (subst S i (subst T j refl))))
 
-shown_one : (pod : PodSpec) (is_evicted : Type 0) (h : List PodTick) (container : ℕ) (s t : ContainerStatus) → IsShown pod is_evicted h container s → IsShown pod is_evicted h container t → s ≡ t
-shown_one pod is_evicted h container s t is is' =
+shown_one : (spec : ContainerSpec) (is_evicted : Type 0) (h : List ContainerTick) (s t : ContainerStatus) → IsShown spec is_evicted h s → IsShown spec is_evicted h t → s ≡ t
+shown_one spec is_evicted h s t is is' =
     shown_same s t (state_one _ s.state t.state is.state is'.state) (code_one _ s.code t.code is.code is'.code) (restarts_one _ s.restarts t.restarts is.restarts is'.restarts)
     (same_test s.ready t.ready is.ready is'.ready) (same_test s.started t.started is.started is'.started)
 
 pub container_one : (pod : PodSpec) (evicted : Option ℕ) (h : List PodTick) (container : ℕ) (s t : ContainerStatus)
     → IsContainerStatus pod evicted h container s → IsContainerStatus pod evicted h container t → s ≡ t
 container_one pod evicted h container s t is is' =
-    let P : Option ℕ → Type 0 = λ o. IsShown pod (EndsEvicted evicted o) (counted h o) container s in
-    shown_one pod _ _ container s t (subst P (IsEnd-unique pod evicted h is.end is'.end is.is_end is'.is_end) is.shown) is'.shown
+    let ticks = ticks_of (counted h is'.end) container in
+    let ended : Type 0 = EndsEvicted evicted is'.end in
+    let P : Option ℕ → Type 0 = λ o. OfSpec pod container (λ spec. IsShown spec (EndsEvicted evicted o) (ticks_of (counted h o) container) s) in
+    let first : OfSpec pod container (λ spec. IsShown spec ended ticks s) = subst P (IsEnd-unique pod evicted h is.end is'.end is.is_end is'.is_end) is.shown in
+    let both : OfSpec pod container (λ spec. s ≡ t) =
+    together pod container (λ spec. IsShown spec ended ticks s) (λ spec. IsShown spec ended ticks t) (λ spec. s ≡ t) (λ spec a b. shown_one spec ended ticks s t a b) first is'.shown in
+    whatever pod container (λ spec. s ≡ t) (s ≡ t) (λ spec e. e) both

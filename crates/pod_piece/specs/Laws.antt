@@ -6,7 +6,7 @@ use Rattle.phase.specs.declared.phase.Phase.{Phase}
 use Rattle.phase.specs.declared.view.ContainerView.{ContainerView}
 use Rattle.phase.specs.RawPhase.{IsTerminal}
 use Rattle.pod_piece.specs.declared.lifecycle.Lifecycle.{Lifecycle}
-use Rattle.pod_piece.specs.declared.container.ContainerStatus.{ContainerStatus}
+use Rattle.containers.specs.declared.status.ContainerStatus.{ContainerStatus}
 use Rattle.pod_piece.specs.Pods.{PodTick, AreViewsOf, IsRawPhaseAfter, IsPhase, IsInitialized, AreContainersReady}
 use Rattle.pod_piece.specs.Lifecycles.{IsLifecycleOf}
 use Rattle.pod_piece.specs.Containers.{IsContainerStatus}

@@ -9,16 +9,9 @@ use Rattle.manifest.specs.declared.pod.PodSpec.{PodSpec}
 use Rattle.pod_piece.specs.declared.lifecycle.Lifecycle.{Lifecycle}
 use Rattle.phase.specs.declared.phase.Phase.{Phase}
 use Rattle.phase.specs.declared.view.ContainerView.{ContainerView}
-use Rattle.state_diff.specs.declared.seen.Seen.{Seen}
-use Rattle.manifest.specs.declared.pod.Role.TheVariants.{Init}
-use Rattle.phase.specs.Facts.{of_view, IsRunning}
 use Rattle.phase.specs.RawPhase.{IsTerminal}
 use Rattle.phase.specs.Conditions.{IsStateOf}
-use Rattle.pod_piece.specs.Pods.{PodTick, AreViewsOf, IsPhase, IsInitialized, AreContainersReady}
-
--- the view is of an init container, or its instance is running
-abbrev pub RunsUnlessInit : ContainerView → Type 0
-RunsUnlessInit view = (of_view.is view Init → ⊥) → IsRunning view
+use Rattle.pod_piece.specs.Pods.{PodEntry, PodTick, AreViewsOf, AllReady, IsPhase, IsInitialized, AreContainersReady}
 
 -- the condition is true where C holds after the ticks, and its moment is that of C's last
 -- transition
@@ -54,19 +47,21 @@ pub record IsProgressOf (pod : PodSpec) (evicted : Option ℕ) (h : List PodTick
 -- so; then p, if it was the phase, becomes q
 abbrev pub IsNextPhase : Policy → List ContainerView → Bool → Phase → Phase → Type 0
 IsNextPhase policy views is_evicted p q =
-    (pod : PodSpec) (evicted : Option ℕ) (h : List PodTick) (at : ℕ) (entry : List (Option Seen))
+    (pod : PodSpec) (evicted : Option ℕ) (h : List PodTick) (at : ℕ) (entry : PodEntry)
     → pod.policy ≡ policy
     → ((IsTerminal p → ⊥) → AreViewsOf pod (h ++ recorded at entry ∷ []) views)
     → (IsTrue is_evicted ↔ (evicted ≡ Some (length h)))
     → IsPhase pod evicted h p
     → IsPhase pod evicted (h ++ recorded at entry ∷ []) q
 
--- the same of the lifecycle, with a tick of this moment
-abbrev pub IsNext : Policy → ℕ → List ContainerView → Bool → Lifecycle → Lifecycle → Type 0
-IsNext policy at views is_evicted old new =
-    (pod : PodSpec) (evicted : Option ℕ) (h : List PodTick) (entry : List (Option Seen))
+-- the same of the lifecycle, with a tick of this moment, and a flag that says whether all containers
+-- are ready after it
+abbrev pub IsNext : Policy → ℕ → List ContainerView → Bool → Bool → Lifecycle → Lifecycle → Type 0
+IsNext policy at views ready is_evicted old new =
+    (pod : PodSpec) (evicted : Option ℕ) (h : List PodTick) (entry : PodEntry)
     → pod.policy ≡ policy
     → ((IsTerminal old.phase → ⊥) → AreViewsOf pod (h ++ recorded at entry ∷ []) views)
+    → ((IsTerminal old.phase → ⊥) → (IsTrue ready ↔ AllReady pod (h ++ recorded at entry ∷ [])))
     → (IsTrue is_evicted ↔ (evicted ≡ Some (length h)))
     → IsProgressOf pod evicted h old
     → IsProgressOf pod evicted (h ++ recorded at entry ∷ []) new

@@ -1,13 +1,14 @@
 -- The phase of a pod after a list of ticks (Kubernetes, "Pod Lifecycle", "Pod phase"; that what is
 -- recorded after the end of a pod changes nothing is this profile's rule). A tick is named by its
 -- place in the list, a container by its number.
-use Rattle.std.specs.Prelude.{◌≡◌, ◌≢◌, ◌⊎◌, ◌↔◌, ℕ, suc, ◌<◌, List, [], length, Option, Some, None, IsSomeAnd, IsTrue, slice_get, slice_index_or}
+use Rattle.std.specs.Prelude.{◌≡◌, ◌≢◌, ◌⊎◌, ℕ, suc, ◌<◌, List, [], ◌∷◌, length, Option, Some, None, IsSomeAnd, option_map, unwrap_or, slice_get, slice_index_or}
 use Rattle.std.specs.List.{range_with_len}
-use Rattle.histories.specs.Histories.{Recorded, project, up_to, IsSo, IsFirstPlace}
-use Rattle.state_diff.specs.declared.seen.Seen.{Seen}
-use Rattle.state_diff.specs.declared.seen.CriState.TheVariants.{Running}
-use Rattle.state_diff.specs.Instances.{Tick, listing_of, IsNewest, IsState, IsExitCode, IsSetUp}
-use Rattle.state_diff.specs.Differ.{IsNewestSeen}
+use Rattle.histories.specs.Histories.{Recorded, recorded, project, up_to, IsSo, IsFirstPlace}
+use Rattle.observations.specs.declared.container.ContainerObs.{ContainerObs}
+use Rattle.observations.specs.declared.pod.PodObs.{PodObs}
+use Rattle.observations.specs.declared.usage.Usage.{Usage}
+use Rattle.state_diff.specs.Instances.{IsSetUp}
+use Rattle.manifest.specs.declared.pod.ContainerSpec.{ContainerSpec}
 use Rattle.manifest.specs.declared.pod.Role.{Role}
 use Rattle.manifest.specs.declared.pod.Role.TheVariants.{Sidecar, App}
 use Rattle.manifest.specs.declared.pod.PodSpec.{PodSpec}
@@ -16,46 +17,55 @@ use Rattle.phase.specs.declared.phase.Phase.TheVariants.{Pending, Failed}
 use Rattle.phase.specs.declared.view.ContainerView.{ContainerView}
 use Rattle.phase.specs.Facts.{Facts}
 use Rattle.phase.specs.RawPhase.{Where, IsRawPhase, IsTerminal, AreInitialized}
+use Rattle.containers.specs.Ticks.{ContainerTick, listings}
+use Rattle.containers.specs.Probed as probed
+use Rattle.containers.specs.Shown as shown
 
--- one tick of a pod: what it lists of each container
+-- what a tick shows of a pod: of each container what is listed of it and its probes' results, and
+-- what the pod used
+pub record PodEntry : Type 0 where
+  pub containers : List ContainerObs
+  pub usage : Option Usage
+
+-- one tick of a pod
 abbrev pub PodTick : Type 0
-PodTick = Recorded (List (Option Seen))
+PodTick = Recorded PodEntry
 
--- the listings of one container
-abbrev pub listings : List PodTick → ℕ → List Tick
-listings h container = project (λ entry. listing_of (slice_get entry container)) h
+-- the tick that an observation is
+abbrev pub pod_tick : PodObs → PodTick
+pod_tick observed = recorded observed.at (record { containers = observed.containers; usage = option_map (λ b. b.value) observed.usage })
+
+-- of a container without an entry nothing is seen
+abbrev pub unseen : ContainerObs
+unseen = record { seen = None; results = None ∷ None ∷ None ∷ [] }
+
+-- the ticks of one container
+abbrev pub ticks_of : List PodTick → ℕ → List ContainerTick
+ticks_of h container = project (λ (entry : PodEntry). unwrap_or (slice_get entry.containers container) unseen) h
+
+-- the specification of a container says so
+abbrev pub OfSpec : PodSpec → ℕ → (ContainerSpec → Type 0) → Type 0
+OfSpec pod container P = IsSomeAnd (slice_get pod.containers container) P
 
 -- what the container is to its pod
 abbrev pub HasRole : PodSpec → ℕ → Role → Type 0
-HasRole pod container role = IsSomeAnd (slice_get pod.containers container) (λ spec. spec.role ≡ role)
+HasRole pod container role = OfSpec pod container (λ spec. spec.role ≡ role)
 
 -- it is one that serves: an app container or a sidecar
 abbrev pub Serves : PodSpec → ℕ → Type 0
 Serves pod container = HasRole pod container Sidecar ⊎ HasRole pod container App
 
--- its newest instance is running
-abbrev pub IsRunning : List PodTick → ℕ → Type 0
-IsRunning h container = (a : ℕ) × IsNewest (listings h container) a × IsState (listings h container) a Running
-
--- it is started: it serves and runs; it has no startup probe
-abbrev pub IsStarted : PodSpec → List PodTick → ℕ → Type 0
-IsStarted pod h container = Serves pod container × IsRunning h container
-
--- it is ready: it is started; it has no readiness probe
+-- it is ready
 abbrev pub IsReady : PodSpec → List PodTick → ℕ → Type 0
-IsReady pod h container = IsStarted pod h container
-
--- at some tick it was started
-abbrev pub WasStarted : PodSpec → List PodTick → ℕ → Type 0
-WasStarted pod h container = (t : ℕ) × IsSo (λ k. IsStarted pod k container) h t
+IsReady pod h container = OfSpec pod container (λ spec. probed.IsReady spec (ticks_of h container))
 
 -- what the rules ask of the pod's containers, after these ticks
 abbrev pub facts : PodSpec → List PodTick → Facts ℕ
 facts pod h = record {
   is = HasRole pod;
-  exited = λ container code. (a : ℕ) × IsNewest (listings h container) a × IsExitCode (listings h container) a code;
-  set_up = λ container. IsSetUp (listings h container);
-  was_started = WasStarted pod h;
+  exited = λ container code. shown.HasExitedWith (listings (ticks_of h container)) code;
+  set_up = λ container. IsSetUp (listings (ticks_of h container));
+  was_started = λ container. OfSpec pod container (λ spec. probed.WasStarted spec (ticks_of h container));
 }
 
 -- the numbers of the pod's containers
@@ -63,11 +73,8 @@ abbrev pub numbers : PodSpec → List ℕ
 numbers pod = range_with_len 0 (length pod.containers)
 
 -- the view shows the container, by its newest instance
-pub record IsViewOf (pod : PodSpec) (h : List PodTick) (container : ℕ) (view : ContainerView) : Type 0 where
-  pub role : HasRole pod container view.role
-  pub newest : IsNewestSeen (listings h container) view.seen
-  pub set_up : IsTrue view.set_up ↔ IsSetUp (listings h container)
-  pub was_started : IsTrue view.was_started ↔ WasStarted pod h container
+abbrev pub IsViewOf : PodSpec → List PodTick → ℕ → ContainerView → Type 0
+IsViewOf pod h container view = OfSpec pod container (λ spec. shown.IsViewOf spec (ticks_of h container) view)
 
 pub record AreViewsOf (pod : PodSpec) (h : List PodTick) (views : List ContainerView) : Type 0 where
   pub as_many : length views ≡ length pod.containers
@@ -97,12 +104,6 @@ abbrev pub counted : List PodTick → Option ℕ → List PodTick
 counted h None = h
 counted h (Some t) = up_to h t
 
--- the views show each container as the ticks that count leave it
-pub record AreShown (pod : PodSpec) (evicted : Option ℕ) (h : List PodTick) (views : List ContainerView) : Type 0 where
-  pub end : Option ℕ
-  pub is_end : IsEnd pod evicted h end
-  pub shown : AreViewsOf pod (counted h end) views
-
 -- the pod ends by its eviction
 abbrev pub EndsEvicted : Option ℕ → Option ℕ → Type 0
 EndsEvicted evicted end = IsSomeAnd end (λ t. evicted ≡ Some t)
@@ -123,7 +124,10 @@ abbrev pub IsInitialized : PodSpec → Option ℕ → List PodTick → Type 0
 IsInitialized pod evicted h = (end : Option ℕ) × IsEnd pod evicted h end
     × AreInitialized (facts pod (counted h end)) (numbers pod)
 
+-- every app container and sidecar is ready
+abbrev pub AllReady : PodSpec → List PodTick → Type 0
+AllReady pod h = (container : ℕ) → Serves pod container → IsReady pod h container
+
 -- the pod has not ended, and every app container and sidecar is ready
 abbrev pub AreContainersReady : PodSpec → Option ℕ → List PodTick → Type 0
-AreContainersReady pod evicted h =
-    (h ≢ []) × IsEnd pod evicted h None × ((container : ℕ) → Serves pod container → IsReady pod h container)
+AreContainersReady pod evicted h = (h ≢ []) × IsEnd pod evicted h None × AllReady pod h

@@ -2,11 +2,11 @@
 //! (Kubernetes, "Pod Lifecycle".)
 #![tactic(auto)]
 
-mod container;
+mod following;
 pub mod laws;
 mod lifecycle;
-mod view;
+mod state;
 
-pub use container::{ContainerStatus, container_status};
+pub use containers::ContainerStatus;
 pub use lifecycle::Lifecycle;
-pub use view::{first_views, next_view};
+pub use state::PodState;

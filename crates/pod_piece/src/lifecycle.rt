@@ -1,9 +1,9 @@
-ghost use Rattle.std.specs.Prelude.{◌≡◌, ◌↔◌, ℕ, List, [], All, Option, IsTrue};
+ghost use Rattle.std.specs.Prelude.{◌≡◌, ◌↔◌, ℕ, List, [], Option, IsTrue};
 ghost use Rattle.manifest.specs.declared.pod.PodSpec.{PodSpec};
 ghost use Rattle.phase.specs.Facts.{of_view};
 ghost use Rattle.phase.specs.RawPhase.{IsTerminal, AreInitialized};
 ghost use Rattle.pod_piece.specs.Pods.{PodTick, HasEnded, AreViewsOf};
-ghost use Rattle.pod_piece.specs.Lifecycles.{IsLifecycleOf, IsProgressOf, IsNextPhase, IsNext, RunsUnlessInit};
+ghost use Rattle.pod_piece.specs.Lifecycles.{IsLifecycleOf, IsProgressOf, IsNextPhase, IsNext};
 
 use manifest::Policy;
 use phase::{Conditions, ContainerView, Phase, Values, are_initialized, raw_phase};
@@ -67,45 +67,33 @@ impl Lifecycle {
     }
 
     /// A tick comes, at the moment, in seconds, after which the containers are as these views show
-    /// them; `is_evicted` says whether the tick evicts the pod. Once the pod has ended the views
-    /// are not looked at.
+    /// them; `ready` says whether all app containers and sidecars are ready after it, and
+    /// `is_evicted` whether it evicts the pod. Once the pod has ended, the containers are not
+    /// looked at.
     pub fn advance(
         &mut self,
         policy: Policy,
         at: u64,
         containers: &[ContainerView],
+        ready: bool,
         is_evicted: bool,
     )
-        ensures { IsNext policy at containers.now is_evicted self.old self.new }
+        ensures { IsNext policy at containers.now ready is_evicted self.old self.new }
     {
         let phase = self.next_phase(policy, containers, is_evicted);
         let values = Values {
             initialized: self.next_initialized(containers),
-            containers_ready: are_ready(phase, containers),
+            containers_ready: are_ready(phase, ready),
         };
         self.phase = phase;
         self.conditions.advance(at, values);
     }
 }
 
-/// Whether an init container, or one that is ready; without probes these are the running ones.
-fn is_ready_or_init(container: &ContainerView) -> bool
-    ensures { IsTrue result ↔ RunsUnlessInit container.now }
+/// Whether the containers of a pod of this phase are ready, where the flag says that all app
+/// containers and sidecars are.
+fn are_ready(phase: Phase, all_ready: bool) -> bool
+    ensures { IsTrue result ↔ ((IsTerminal phase → ⊥) × IsTrue all_ready) }
 {
-    container.is_init() || container.is_running()
-}
-
-fn all_ready(containers: &[ContainerView]) -> bool
-    ensures { IsTrue result ↔ All RunsUnlessInit containers.now }
-{
-    containers
-        .iter()
-        .all(|container| is_ready_or_init(container))
-}
-
-/// Whether the containers of a pod of this phase are ready.
-fn are_ready(phase: Phase, containers: &[ContainerView]) -> bool
-    ensures { IsTrue result ↔ ((IsTerminal phase → ⊥) × All RunsUnlessInit containers.now) }
-{
-    !phase.is_terminal() && all_ready(containers)
+    !phase.is_terminal() && all_ready
 }
