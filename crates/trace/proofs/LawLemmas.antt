@@ -16,7 +16,7 @@ use Rattle.json_fields.specs.Reading.{◌>>=◌, refused_if, some_or, each}
 use Rattle.json_fields.proofs.Steps.{bind_ok}
 use Rattle.manifest.specs.declared.pod.PodSpec.{PodSpec}
 use Rattle.trace.specs.declared.fault.LineKind.{LineKind}
-use Rattle.trace.specs.declared.fault.LineKind.TheVariants.{TooLong, NotJson, Config, Manifest, Moment, Usage, StrangerPod, StrangerContainer, OutOfMemory, UnknownKind, Order, TooMany, Doubled, Backwards, ExitCode}
+use Rattle.trace.specs.declared.fault.LineKind.TheVariants.{TooLong, NotJson, Config, Manifest, Moment, Usage, DuplicatePod, StrangerPod, StrangerContainer, OutOfMemory, UnknownKind, Order, TooMany, Doubled, Backwards, ExitCode}
 use Rattle.trace.specs.declared.fault.LineFault.{LineFault}
 use Rattle.trace.specs.declared.node.NodeConfig.{NodeConfig}
 use Rattle.trace.specs.declared.past.Trace.{Trace}
@@ -39,7 +39,7 @@ use Rattle.state_diff.specs.declared.seen.CriState.{CriState}
 use Rattle.state_diff.specs.declared.seen.CriState.TheVariants.{Created, Running, Exited, Unknown}
 use Rattle.trace.specs.declared.listing.Listing.{Listing}
 use Rattle.json_fields.specs.Fields.{items_list}
-use Rattle.trace.specs.Pod.{keys_of, of_manifest, pod_from}
+use Rattle.trace.specs.Pod.{key_of_pod, keys_of, has_key, most_pods, of_manifest, pod_from}
 use Rattle.trace.specs.Listings.{attempt_from, attempt_of, state_named, state_numbered, state_from, state_of, listing_of, items_from, items_of, entry_of, entries_of}
 use Rattle.trace.specs.Placing.{number_in, pod_numbered, placed_listing, placed_entry, placed_of, is_doubled}
 use Rattle.trace.specs.Observed.{observed, some_code_missing}
@@ -47,7 +47,7 @@ use Rattle.trace.specs.Backwards.{is_backwards}
 use Rattle.trace.specs.Past.{Past, with_tick}
 use Rattle.trace.specs.Tick.{is_later, moment_from, moment_of, most_ticks, observed_in, tick_at}
 use Rattle.trace.specs.Trace.{json_of, kind_from, with_node, pod_line_at, in_order, line_at, at_line, finished, read_on, nothing, trace_of}
-use Rattle.trace.specs.Laws.{Leaves, AreSaid, IsFaultAt, NoneCounts, IsFirstFault, IsWhole, FirstFault, WholeTrace, OneFault, IsJson, IsOfKind, MayStand, Stands, HasMoment, HasEntries, HasPlaces, IsApart, IsForwards, Fails, too_long, not_json, unknown_kind, misplaced, wrong_node, many_pods, wrong_pod, many_ticks, wrong_moment, wrong_entry, stranger, doubled, backwards, no_code, FirstCheck, Says, says_node, says_pod, says_tick, AllChecks, KindsOfChecks, NeverMemory}
+use Rattle.trace.specs.Laws.{Leaves, AreSaid, IsFaultAt, NoneCounts, IsFirstFault, IsWhole, FirstFault, WholeTrace, OneFault, IsJson, IsOfKind, MayStand, Stands, HasMoment, HasEntries, HasPlaces, IsApart, IsForwards, Fails, too_long, not_json, unknown_kind, misplaced, wrong_node, many_pods, wrong_pod, duplicate_pod, many_ticks, wrong_moment, wrong_entry, stranger, doubled, backwards, no_code, FirstCheck, Says, says_node, says_pod, says_tick, AllChecks, KindsOfChecks, NeverMemory}
 
 drop_here : (lines : List (List ℕ)) (n : ℕ) (line : List ℕ) → slice_get lines n ≡ Some line → drop n lines ≡ line ∷ drop (suc n) lines
 drop_here lines n line e =
@@ -128,13 +128,15 @@ pod_line_keeps : (past : Past) (d : Data) (next : Past) → pod_line_at past d �
 unfolding pod_line_at
 pod_line_keeps past d next e =
     let with_pod : PodSpec → Past = λ pod. record { node = past.node; pods = past.pods ++ pod ∷ []; ticks = past.ticks } in
-    let last : PodSpec → Result Past LineKind = λ pod. Ok (with_pod pod) in
-    let read : ⊤ → Result Past LineKind = λ u. pod_from (field_at (codes "pod") d) >>= last in
-    let first : ⊤ → Result Past LineKind = λ u. refused_if (nat_lt 0 (length past.pods)) TooMany >>= read in
+    let last : PodSpec → ⊤ → Result Past LineKind = λ pod u. Ok (with_pod pod) in
+    let keyed : PodSpec → Result Past LineKind = λ pod. refused_if (has_key past.pods (key_of_pod pod)) DuplicatePod >>= last pod in
+    let read : ⊤ → Result Past LineKind = λ u. pod_from (field_at (codes "pod") d) >>= keyed in
+    let first : ⊤ → Result Past LineKind = λ u. refused_if (nat_le most_pods (length past.pods)) TooMany >>= read in
     let before = bind_ok (refused_if (nat_lt 0 (length past.ticks)) Order) first next e in
-    let only = bind_ok (refused_if (nat_lt 0 (length past.pods)) TooMany) read next before.2 in
-    let pod = bind_ok (pod_from (field_at (codes "pod") d)) last next only.2 in
-    let given : Ok (with_pod pod.0) ≡ Ok next = pod.2 in
+    let room = bind_ok (refused_if (nat_le most_pods (length past.pods)) TooMany) read next before.2 in
+    let pod = bind_ok (pod_from (field_at (codes "pod") d)) keyed next room.2 in
+    let new = bind_ok (refused_if (has_key past.pods (key_of_pod pod.0)) DuplicatePod) (last pod.0) next pod.2 in
+    let given : Ok (with_pod pod.0) ≡ Ok next = new.2 in
     let is_next : with_pod pod.0 ≡ next = cc in
     ap (λ (p : Past). p.node) is_next
 

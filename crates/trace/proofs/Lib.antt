@@ -1,6 +1,7 @@
 pub mod Cutting
 pub mod FollowedLemmas
 pub mod Found
+pub mod Keys
 pub mod Listed
 pub mod Moments
 pub mod Sound

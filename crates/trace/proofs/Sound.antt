@@ -15,7 +15,7 @@ use Rattle.state_diff.proofs.Acceptable.{is_acceptable_is}
 use Rattle.state_diff.proofs.Order.{acceptable_more}
 use Rattle.manifest.specs.declared.pod.PodSpec.{PodSpec}
 use Rattle.trace.specs.declared.fault.LineKind.{LineKind}
-use Rattle.trace.specs.declared.fault.LineKind.TheVariants.{Order, TooMany, Doubled, Backwards, ExitCode, TooLong, UnknownKind}
+use Rattle.trace.specs.declared.fault.LineKind.TheVariants.{Order, TooMany, DuplicatePod, Doubled, Backwards, ExitCode, TooLong, UnknownKind}
 use Rattle.trace.specs.declared.fault.LineFault.{LineFault}
 use Rattle.trace.specs.declared.node.NodeConfig.{NodeConfig}
 use Rattle.trace.specs.declared.past.Trace.{Trace}
@@ -30,7 +30,7 @@ use Rattle.trace.specs.Gives.{GivesAt}
 use Rattle.observations.specs.Observations.{seen_of, history}
 use Rattle.trace.specs.Backwards.{some_container_backwards, some_pod_backwards, is_backwards}
 use Rattle.trace.specs.Node.{node_of}
-use Rattle.trace.specs.Pod.{pod_from}
+use Rattle.trace.specs.Pod.{key_of_pod, has_key, most_pods, pod_from}
 use Rattle.trace.specs.Listings.{entries_of}
 use Rattle.trace.specs.Placing.{placed_of, is_doubled}
 use Rattle.trace.specs.Observed.{observed, some_code_missing}
@@ -134,13 +134,15 @@ pod_line_sound : (past : Past) (d : Data) (next : Past) → AreSound past.ticks 
 unfolding pod_line_at
 pod_line_sound past d next all e =
     let with_pod : PodSpec → Past = λ pod. record { node = past.node; pods = past.pods ++ pod ∷ []; ticks = past.ticks } in
-    let last : PodSpec → Result Past LineKind = λ pod. Ok (with_pod pod) in
-    let read : ⊤ → Result Past LineKind = λ u. pod_from (field_at (codes "pod") d) >>= last in
-    let first : ⊤ → Result Past LineKind = λ u. refused_if (nat_lt 0 (length past.pods)) TooMany >>= read in
+    let last : PodSpec → ⊤ → Result Past LineKind = λ pod u. Ok (with_pod pod) in
+    let keyed : PodSpec → Result Past LineKind = λ pod. refused_if (has_key past.pods (key_of_pod pod)) DuplicatePod >>= last pod in
+    let read : ⊤ → Result Past LineKind = λ u. pod_from (field_at (codes "pod") d) >>= keyed in
+    let first : ⊤ → Result Past LineKind = λ u. refused_if (nat_le most_pods (length past.pods)) TooMany >>= read in
     let before = bind_ok (refused_if (nat_lt 0 (length past.ticks)) Order) first next e in
-    let only = bind_ok (refused_if (nat_lt 0 (length past.pods)) TooMany) read next before.2 in
-    let pod = bind_ok (pod_from (field_at (codes "pod") d)) last next only.2 in
-    let given : Ok (with_pod pod.0) ≡ Ok next = pod.2 in
+    let room = bind_ok (refused_if (nat_le most_pods (length past.pods)) TooMany) read next before.2 in
+    let pod = bind_ok (pod_from (field_at (codes "pod") d)) keyed next room.2 in
+    let new = bind_ok (refused_if (has_key past.pods (key_of_pod pod.0)) DuplicatePod) (last pod.0) next pod.2 in
+    let given : Ok (with_pod pod.0) ≡ Ok next = new.2 in
     let is_next : with_pod pod.0 ≡ next = cc in
     subst (λ (p : Past). AreSound p.ticks) is_next all
 

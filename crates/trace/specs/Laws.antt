@@ -4,7 +4,7 @@ use Rattle.std.specs.Prelude.{◌≡◌, ◌≢◌, ◌⊎◌, ◌↔◌, ◌+�
 use Rattle.serde_json.specs.Data.{Data}
 use Rattle.json_fields.specs.Fields.{field_at, text_at}
 use Rattle.trace.specs.declared.fault.LineKind.{LineKind}
-use Rattle.trace.specs.declared.fault.LineKind.TheVariants.{TooLong, NotJson, UnknownKind, Order, Manifest, Config, StrangerPod, StrangerContainer, Doubled, Moment, Backwards, ExitCode, TooMany, Usage, OutOfMemory}
+use Rattle.trace.specs.declared.fault.LineKind.TheVariants.{TooLong, NotJson, UnknownKind, Order, Manifest, Config, DuplicatePod, StrangerPod, StrangerContainer, Doubled, Moment, Backwards, ExitCode, TooMany, Usage, OutOfMemory}
 use Rattle.trace.specs.declared.fault.LineFault.{LineFault}
 use Rattle.trace.specs.declared.past.Trace.{Trace}
 use Rattle.trace.specs.declared.past.Sort.{Sort}
@@ -20,7 +20,7 @@ use Rattle.trace.specs.declared.placing.PlacedResult.{PlacedResult}
 use Rattle.trace.specs.declared.placing.PlacedEntry.{PlacedEntry}
 use Rattle.trace.specs.Lines.{lines_of, is_blank}
 use Rattle.trace.specs.Node.{node_of}
-use Rattle.trace.specs.Pod.{keys_of, pod_from}
+use Rattle.trace.specs.Pod.{key_of_pod, keys_of, most_pods, pod_from}
 use Rattle.trace.specs.Listings.{entries_of}
 use Rattle.trace.specs.Placing.{placed_of, has_twice, are_of_one_probe, is_doubled}
 use Rattle.trace.specs.Observed.{outcome_in, observed, some_code_missing}
@@ -107,6 +107,16 @@ pub record Stands (past : Past) (line : List ℕ) (sort : Sort) (d : Data) : Typ
   pub of_kind : IsOfKind line sort d
   pub here : MayStand past sort
 
+-- a pod line for which there is room, with this pod
+pub record HasPod (past : Past) (line : List ℕ) (d : Data) (pod : PodSpec) : Type 0 where
+  pub stands : Stands past line sorts.Pod d
+  pub room : length past.pods < most_pods
+  pub pod_is : pod_from (field_at (codes "pod") d) ≡ Ok pod
+
+-- one of the pods has this key
+abbrev pub HasKey : List PodSpec → List ℕ → Type 0
+HasKey pods key = (n : ℕ) × (pod : PodSpec) × (slice_get pods n ≡ Some pod) × (key_of_pod pod ≡ key)
+
 -- a tick line for which there is room, at this moment
 pub record HasMoment (past : Past) (line : List ℕ) (d : Data) (at : ℕ) : Type 0 where
   pub stands : Stands past line sorts.Tick d
@@ -142,8 +152,9 @@ pub data Fails (past : Past) (line : List ℕ) : LineKind → Type 0 where
   unknown_kind : (d : Data) → IsJson line d → kind_from (text_at (codes "kind") d) ≡ None → Fails past line UnknownKind
   misplaced : (sort : Sort) (d : Data) → IsOfKind line sort d → (MayStand past sort → ⊥) → Fails past line Order
   wrong_node : (d : Data) (kind : LineKind) → Stands past line sorts.Node d → node_of d ≡ Err kind → Fails past line kind
-  many_pods : (d : Data) → Stands past line sorts.Pod d → past.pods ≢ [] → Fails past line TooMany
-  wrong_pod : (d : Data) (kind : LineKind) → Stands past line sorts.Pod d → past.pods ≡ [] → pod_from (field_at (codes "pod") d) ≡ Err kind → Fails past line kind
+  many_pods : (d : Data) → Stands past line sorts.Pod d → most_pods ≤ length past.pods → Fails past line TooMany
+  wrong_pod : (d : Data) (kind : LineKind) → Stands past line sorts.Pod d → length past.pods < most_pods → pod_from (field_at (codes "pod") d) ≡ Err kind → Fails past line kind
+  duplicate_pod : (d : Data) (pod : PodSpec) → HasPod past line d pod → HasKey past.pods (key_of_pod pod) → Fails past line DuplicatePod
   many_ticks : (d : Data) → Stands past line sorts.Tick d → most_ticks ≤ length past.ticks → Fails past line TooMany
   wrong_moment : (d : Data) (kind : LineKind) → Stands past line sorts.Tick d → length past.ticks < most_ticks → moment_of past.ticks (field_at (codes "at") d) ≡ Err kind → Fails past line kind
   wrong_entry : (d : Data) (at : ℕ) (kind : LineKind) → HasMoment past line d at → entries_of d ≡ Err kind → Fails past line kind
@@ -159,7 +170,7 @@ FirstCheck = (past : Past) (line : List ℕ) (kind : LineKind) → (line_at past
 -- what is said after a line that passes all its checks
 pub data Says (past : Past) (line : List ℕ) : Past → Type 0 where
   says_node : (d : Data) (node : NodeConfig) → Stands past line sorts.Node d → node_of d ≡ Ok node → Says past line (record { node = Some node; pods = past.pods; ticks = past.ticks })
-  says_pod : (d : Data) (pod : PodSpec) → Stands past line sorts.Pod d → past.pods ≡ [] → pod_from (field_at (codes "pod") d) ≡ Ok pod → Says past line (with_pod past pod)
+  says_pod : (d : Data) (pod : PodSpec) → HasPod past line d pod → (HasKey past.pods (key_of_pod pod) → ⊥) → Says past line (with_pod past pod)
   says_tick : (d : Data) (at : ℕ) (placed : List PlacedEntry) → IsForwards past line d at placed → some_code_missing placed ≡ false → Says past line (with_tick past (observed at placed past.pods))
 
 -- a line without a fault says its node, its pod or its tick, behind what is said before it

@@ -10,6 +10,7 @@ use Rattle.manifest.specs.declared.pod.ContainerSpec.{ContainerSpec}
 use Rattle.manifest.specs.Containers.{has_only_apps}
 use Rattle.manifest.specs.Manifest.{pod_at}
 use Rattle.json_fields.specs.Reading.{◌>>=◌}
+use Rattle.name_list.specs.Names.{place_of}
 use Rattle.trace.specs.declared.fault.LineKind.{LineKind}
 use Rattle.trace.specs.declared.fault.LineKind.TheVariants.{Manifest}
 
@@ -19,6 +20,13 @@ key_of_pod p = p.namespace ++ 47 ∷ p.name
 
 abbrev pub keys_of : List PodSpec → List (List ℕ)
 keys_of pods = map key_of_pod pods
+
+abbrev pub most_pods : ℕ
+most_pods = 256
+
+-- one of the pods has this key
+abbrev pub has_key : List PodSpec → List ℕ → Bool
+has_key pods key = is_some (place_of (keys_of pods) key)
 
 abbrev pub of_manifest : {A : Type 0} → Result A ManifestFault → Result A LineKind
 of_manifest (Ok x) = Ok x

@@ -1,12 +1,13 @@
 -- What a text says as a trace, or its first faulty line with that line's first fault.
-use Rattle.std.specs.Prelude.{ℕ, ◌+◌, ◌++◌, List, [], ◌∷◌, length, nat_lt, Option, Some, None, if◌then◌else◌, Result, Ok, Err, bytes_eq, codes}
+use Rattle.std.specs.Prelude.{ℕ, ◌+◌, ◌++◌, List, [], ◌∷◌, length, nat_lt, nat_le, Option, Some, None, if◌then◌else◌, Result, Ok, Err, bytes_eq, codes}
 use Rattle.std.specs.Str.{is_utf8}
 use Rattle.serde_json.specs.Data.{Data}
 use Rattle.serde_json.specs.Read.{read}
 use Rattle.json_fields.specs.Fields.{field_at, text_at}
+use Rattle.manifest.specs.declared.pod.PodSpec.{PodSpec}
 use Rattle.json_fields.specs.Reading.{◌>>=◌, refused_if, some_or}
 use Rattle.trace.specs.declared.fault.LineKind.{LineKind}
-use Rattle.trace.specs.declared.fault.LineKind.TheVariants.{TooLong, NotJson, UnknownKind, Order, TooMany}
+use Rattle.trace.specs.declared.fault.LineKind.TheVariants.{TooLong, NotJson, UnknownKind, Order, TooMany, DuplicatePod}
 use Rattle.trace.specs.declared.fault.LineFault.{LineFault}
 use Rattle.trace.specs.declared.node.NodeConfig.{NodeConfig}
 use Rattle.trace.specs.declared.past.Trace.{Trace}
@@ -14,7 +15,7 @@ use Rattle.trace.specs.declared.past.Sort.{Sort}
 use Rattle.trace.specs.declared.past.Sort.TheVariants as sorts
 use Rattle.trace.specs.Lines.{lines_of, is_blank}
 use Rattle.trace.specs.Node.{node_of}
-use Rattle.trace.specs.Pod.{pod_from}
+use Rattle.trace.specs.Pod.{key_of_pod, has_key, most_pods, pod_from}
 use Rattle.trace.specs.Past.{Past, with_pod}
 use Rattle.trace.specs.Tick.{tick_at}
 
@@ -34,13 +35,17 @@ with_node past d = do
   node ← node_of d
   Ok (record { node = Some node; pods = past.pods; ticks = past.ticks })
 
--- a pod line stands before all ticks, and for now there is one at most
+-- a pod goes behind the earlier ones, if none of them has its key
+abbrev pub with_new_pod : Past → PodSpec → Result Past LineKind
+with_new_pod past pod = refused_if (has_key past.pods (key_of_pod pod)) DuplicatePod >>= λ new. Ok (with_pod past pod)
+
+-- a pod line stands before all ticks
 unfoldable pub pod_line_at : Past → Data → Result Past LineKind
 pod_line_at past d = do
   before_ticks ← refused_if (nat_lt 0 (length past.ticks)) Order
-  only ← refused_if (nat_lt 0 (length past.pods)) TooMany
+  room ← refused_if (nat_le most_pods (length past.pods)) TooMany
   pod ← pod_from (field_at (codes "pod") d)
-  Ok (with_pod past pod)
+  with_new_pod past pod
 
 -- a node line stands first, and nowhere else
 abbrev pub in_order : Option NodeConfig → Past → Sort → Data → Result Past LineKind

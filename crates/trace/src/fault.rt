@@ -2,6 +2,8 @@
 
 ghost use Rattle.std.specs.Prelude.{◌≡◌};
 ghost use Rattle.trace.specs.declared.fault.LineKind.TheVariants.{OutOfMemory};
+ghost use Rattle.json_fields.specs.Reading.{refused_if};
+ghost use Rattle.trace.specs.Gives.{Gives};
 
 use manifest::ManifestFault;
 use std::alloc::{AllocError, AllocFailed};
@@ -23,6 +25,8 @@ pub enum LineKind {
     Manifest(ManifestFault),
     #[error("the node's configuration is refused")]
     Config,
+    #[error("an earlier pod has this key")]
+    DuplicatePod,
     #[error("no pod has this key")]
     StrangerPod,
     #[error("no container of the pod has this name")]
@@ -57,6 +61,7 @@ impl LineKind {
             LineKind::Order => 34,
             LineKind::Manifest(_) => 35,
             LineKind::Config => 36,
+            LineKind::DuplicatePod => 38,
             LineKind::StrangerPod => 39,
             LineKind::StrangerContainer => 40,
             LineKind::Doubled => 41,
@@ -80,6 +85,7 @@ impl LineKind {
             LineKind::Order => "Order",
             LineKind::Manifest(_) => "Manifest",
             LineKind::Config => "Config",
+            LineKind::DuplicatePod => "DuplicatePod",
             LineKind::StrangerPod => "StrangerPod",
             LineKind::StrangerContainer => "StrangerContainer",
             LineKind::Doubled => "Doubled",
@@ -107,6 +113,12 @@ impl<T: Drop> From<AllocFailed<T>> for LineKind {
     fn from(_e: AllocFailed<T>) -> LineKind {
         LineKind::OutOfMemory
     }
+}
+
+pub(crate) fn refused_if(test: bool, kind: LineKind) -> Result<(), LineKind>
+    ensures { Gives (λ t. t) result (refused_if test kind) }
+{
+    if test { Err(kind) } else { Ok(()) }
 }
 
 /// The first faulty line, counted from 1, and its first fault.

@@ -1,14 +1,18 @@
 //! Pod lines.
 
-ghost use Rattle.std.specs.Prelude.{◌≡◌, option_map, IfOk, string_bytes};
+ghost use Rattle.std.specs.Prelude.{◌≡◌, option_map, is_some, length, nat_le, None, IfOk, string_bytes};
 ghost use Rattle.std.specs.List.{list_any};
 ghost use Rattle.manifest.specs.Gives as manifests;
 ghost use Rattle.serde_json.specs.View.{view};
+ghost use Rattle.json_fields.specs.Reading.{refused_if};
+ghost use Rattle.name_list.specs.Names.{place_of};
 ghost use Rattle.trace.specs.Gives.{Gives};
-ghost use Rattle.trace.specs.Pod.{key_of_pod, is_probed, refusal_of, replayed, pod_of, pod_from};
+ghost use Rattle.trace.specs.Pod.{key_of_pod, keys_of, most_pods, has_key, is_probed, refusal_of, replayed, pod_of, pod_from};
 
-use crate::fault::LineKind;
+use crate::fault::{LineKind, refused_if};
+use crate::past::Reader;
 use manifest::{ContainerSpec, Field, ManifestFault, PodSpec};
+use name_list::NameList;
 use serde_json::Value;
 use std::alloc::{AllocError, Global};
 
@@ -71,10 +75,34 @@ pub(crate) fn pod_in(alloc: Global, found: Option<&Value>) -> Result<PodSpec, Li
 }
 
 /// A pod's key.
-pub(crate) fn key_text(alloc: Global, pod: &PodSpec) -> Result<String, AllocError>
+fn key_text(alloc: Global, pod: &PodSpec) -> Result<String, AllocError>
     ensures { IfOk result (λ s. string_bytes s ≡ key_of_pod pod.now) }
 {
     let namespace = pod.namespace.as_str();
     let name = pod.name.as_str();
     format!(in alloc; "{namespace}/{name}")
+}
+
+/// There is room for one pod more.
+pub(crate) fn room_for_pod(reader: &Reader) -> Result<(), LineKind>
+    ensures { Gives (λ t. t) result (refused_if (nat_le most_pods (length reader.now.pods)) LineKind.TooMany) }
+{
+    refused_if(reader.pods.as_slice().len() >= 256, LineKind::TooMany)
+}
+
+fn is_known(keys: &NameList, key: &str) -> bool
+    ensures { result ≡ is_some (place_of keys.now key.now) }
+{
+    keys.number_of(key).is_some()
+}
+
+/// The key of a pod, if no earlier pod has it.
+pub(crate) fn new_key(alloc: Global, reader: &Reader, pod: &PodSpec) -> Result<String, LineKind>
+    ensures gives { Gives (λ _. tt) result (refused_if (has_key reader.now.pods (key_of_pod pod.now)) LineKind.DuplicatePod) }
+    ensures key { IfOk result (λ s. string_bytes s ≡ key_of_pod pod.now) }
+    ensures new { IfOk result (λ s. place_of (keys_of reader.now.pods) (string_bytes s) ≡ None) }
+{
+    let key = key_text(alloc, pod)?;
+    refused_if(is_known(&reader.keys, key.as_str()), LineKind::DuplicatePod)?;
+    Ok(key)
 }

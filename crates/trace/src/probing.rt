@@ -24,10 +24,13 @@ pub(crate) struct ProbeResult {
 fn probe_named(found: Option<&str>) -> Result<ProbeKind, LineKind>
     ensures { Gives (λ p. p) result (probe_named (option_map (λ s. s.now) found.entry)) }
 {
-    match found {
-        Some("startup") => Ok(ProbeKind::Startup),
-        Some("liveness") => Ok(ProbeKind::Liveness),
-        Some("readiness") => Ok(ProbeKind::Readiness),
+    let Some(name) = found else {
+        return Err(LineKind::Usage);
+    };
+    match name {
+        "startup" => Ok(ProbeKind::Startup),
+        "liveness" => Ok(ProbeKind::Liveness),
+        "readiness" => Ok(ProbeKind::Readiness),
         _ => Err(LineKind::Usage),
     }
 }
@@ -35,10 +38,13 @@ fn probe_named(found: Option<&str>) -> Result<ProbeKind, LineKind>
 fn outcome_named(found: Option<&str>) -> Result<Outcome, LineKind>
     ensures { Gives (λ o. o) result (outcome_named (option_map (λ s. s.now) found.entry)) }
 {
-    match found {
-        Some("success") => Ok(Outcome::Success),
-        Some("failure") => Ok(Outcome::Failure),
-        Some("unknown") => Ok(Outcome::Unknown),
+    let Some(name) = found else {
+        return Err(LineKind::Usage);
+    };
+    match name {
+        "success" => Ok(Outcome::Success),
+        "failure" => Ok(Outcome::Failure),
+        "unknown" => Ok(Outcome::Unknown),
         _ => Err(LineKind::Usage),
     }
 }

@@ -1,18 +1,20 @@
 //! Reading a whole trace.
 
-ghost use Rattle.std.specs.Prelude.{◌≡◌, [], option_map, Ok, IfOk};
+ghost use Rattle.std.specs.Prelude.{◌≡◌, [], option_map, None, Ok, IfOk, string_bytes};
 ghost use Rattle.serde_json.specs.View.{view};
 ghost use Rattle.trace.specs.Gives.{Gives, GivesAt};
+ghost use Rattle.name_list.specs.Names.{place_of};
 ghost use Rattle.trace.specs.Past.{with_pod};
+ghost use Rattle.trace.specs.Pod.{key_of_pod, keys_of};
 ghost use Rattle.trace.specs.Sound.{AreAcceptable, AreRising};
-ghost use Rattle.trace.specs.Trace.{json_of, kind_from, with_node, pod_line_at, line_at, trace_of, finished, in_order};
+ghost use Rattle.trace.specs.Trace.{json_of, kind_from, with_node, with_new_pod, pod_line_at, line_at, trace_of, finished, in_order};
 
 use crate::fault::{LineFault, LineKind};
 use crate::following::new_differs;
 use crate::lines::{first_line, is_blank};
 use crate::node::node_of;
 use crate::past::{Reader, Sort, Trace};
-use crate::pod::{key_text, pod_in};
+use crate::pod::{new_key, pod_in, room_for_pod};
 use crate::tick::take_tick;
 use json_fields::{field, text_at};
 use manifest::PodSpec;
@@ -64,9 +66,11 @@ fn take_node(alloc: Global, reader: Reader, line: &Value) -> Result<Reader, Line
     })
 }
 
-/// Adds the first pod, before all ticks.
-fn with_pod(alloc: Global, reader: Reader, pod: PodSpec) -> Result<Reader, LineKind>
-    requires { (reader.ticks ≡ []) × (reader.pods ≡ []) }
+/// Adds a pod of a new key, before all ticks.
+fn with_pod(alloc: Global, reader: Reader, pod: PodSpec, key: String) -> Result<Reader, LineKind>
+    requires early { reader.ticks ≡ [] }
+    requires key { string_bytes key ≡ key_of_pod pod }
+    requires new { place_of (keys_of reader.pods) (string_bytes key) ≡ None }
     ensures { Gives (λ r. r) result (Ok (with_pod reader pod)) }
 {
     let Reader {
@@ -76,7 +80,7 @@ fn with_pod(alloc: Global, reader: Reader, pod: PodSpec) -> Result<Reader, LineK
         mut keys,
         mut differs,
     } = reader;
-    keys.push(key_text(alloc, &pod)?)?;
+    keys.push(key)?;
     let new = new_differs(alloc, pod.containers.as_slice().len())?;
     differs.push(Sequence::from_vec(new))?;
     pods.push(pod)?;
@@ -89,7 +93,16 @@ fn with_pod(alloc: Global, reader: Reader, pod: PodSpec) -> Result<Reader, LineK
     })
 }
 
-/// Takes a pod line. For now a trace has at most one pod.
+/// Adds a pod before all ticks, if its key is new.
+fn with_new_pod(alloc: Global, reader: Reader, pod: PodSpec) -> Result<Reader, LineKind>
+    requires { reader.ticks ≡ [] }
+    ensures { Gives (λ r. r) result (with_new_pod reader pod) }
+{
+    let key = new_key(alloc, &reader, &pod)?;
+    with_pod(alloc, reader, pod, key)
+}
+
+/// Takes a pod line.
 #[tactic(auto, unfolding(crate::specs::Trace::pod_line_at))]
 fn take_pod(alloc: Global, reader: Reader, line: &Value) -> Result<Reader, LineKind>
     ensures { Gives (λ r. r) result (pod_line_at reader (view line.now)) }
@@ -97,11 +110,9 @@ fn take_pod(alloc: Global, reader: Reader, line: &Value) -> Result<Reader, LineK
     if !reader.ticks.as_slice().is_empty() {
         return Err(LineKind::Order);
     }
-    if !reader.pods.as_slice().is_empty() {
-        return Err(LineKind::TooMany);
-    }
+    room_for_pod(&reader)?;
     let pod = pod_in(alloc, field(line, "pod"))?;
-    with_pod(alloc, reader, pod)
+    with_new_pod(alloc, reader, pod)
 }
 
 fn take_sort(alloc: Global, reader: Reader, sort: Sort, line: &Value) -> Result<Reader, LineKind>

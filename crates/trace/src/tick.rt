@@ -11,7 +11,7 @@ ghost use Rattle.trace.specs.Observed.{seen_in, outcome_in, results_in, entry_fo
 ghost use Rattle.trace.specs.Followed.{AreFollowed, EndBefore};
 ghost use Rattle.trace.specs.Tick.{moment_of, most_ticks, observed_in, tick_at};
 
-use crate::fault::LineKind;
+use crate::fault::{LineKind, refused_if};
 use crate::following::differs_after;
 use crate::listing::{Entry, ListedInstance, entries_of};
 use crate::past::Reader;
@@ -205,12 +205,6 @@ fn some_code_missing(entries: &[PlacedEntry]) -> bool
     entries
         .iter()
         .any(|e| entry_lacks_code(e.listings.as_slice()))
-}
-
-fn refused_if(test: bool, kind: LineKind) -> Result<(), LineKind>
-    ensures { Gives (λ t. t) result (refused_if test kind) }
-{
-    if test { Err(kind) } else { Ok(()) }
 }
 
 fn room(reader: &Reader) -> Result<(), LineKind>

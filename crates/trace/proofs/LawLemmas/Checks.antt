@@ -9,7 +9,7 @@ use Rattle.json_fields.specs.Reading.{◌>>=◌, refused_if, some_or}
 use Rattle.json_fields.proofs.Steps.{bind_ok}
 use Rattle.manifest.specs.declared.pod.PodSpec.{PodSpec}
 use Rattle.trace.specs.declared.fault.LineKind.{LineKind}
-use Rattle.trace.specs.declared.fault.LineKind.TheVariants.{TooLong, UnknownKind, Order, TooMany, Doubled, Backwards, ExitCode}
+use Rattle.trace.specs.declared.fault.LineKind.TheVariants.{TooLong, UnknownKind, Order, TooMany, DuplicatePod, Doubled, Backwards, ExitCode}
 use Rattle.trace.specs.declared.node.NodeConfig.{NodeConfig}
 use Rattle.trace.specs.declared.past.Sort.{Sort}
 use Rattle.trace.specs.declared.past.Sort.TheVariants as sorts
@@ -17,15 +17,16 @@ use Rattle.observations.specs.declared.tick.TickObs.{TickObs}
 use Rattle.trace.specs.declared.listing.Entry.{Entry}
 use Rattle.trace.specs.declared.placing.PlacedEntry.{PlacedEntry}
 use Rattle.trace.specs.Node.{node_of}
-use Rattle.trace.specs.Pod.{pod_from}
+use Rattle.trace.specs.Pod.{key_of_pod, has_key, most_pods, pod_from}
+use Rattle.trace.proofs.Keys.{key_there, there_key, key_nowhere, nowhere_key}
 use Rattle.trace.specs.Listings.{entries_of}
 use Rattle.trace.specs.Placing.{placed_of, is_doubled}
 use Rattle.trace.specs.Observed.{observed, some_code_missing}
 use Rattle.trace.specs.Backwards.{is_backwards}
-use Rattle.trace.specs.Past.{Past, with_tick}
+use Rattle.trace.specs.Past.{Past, with_pod, with_tick}
 use Rattle.trace.specs.Tick.{moment_of, most_ticks, observed_in, tick_at}
 use Rattle.trace.specs.Trace.{json_of, kind_from, with_node, pod_line_at, in_order, line_at}
-use Rattle.trace.specs.Laws.{IsJson, IsOfKind, MayStand, Stands, HasMoment, HasEntries, HasPlaces, IsApart, IsForwards, Fails, too_long, not_json, unknown_kind, misplaced, wrong_node, many_pods, wrong_pod, many_ticks, wrong_moment, wrong_entry, stranger, doubled, backwards, no_code, FirstCheck, Says, says_node, says_pod, says_tick, AllChecks}
+use Rattle.trace.specs.Laws.{IsJson, IsOfKind, MayStand, Stands, HasPod, HasKey, HasMoment, HasEntries, HasPlaces, IsApart, IsForwards, Fails, too_long, not_json, unknown_kind, misplaced, wrong_node, many_pods, wrong_pod, duplicate_pod, many_ticks, wrong_moment, wrong_entry, stranger, doubled, backwards, no_code, FirstCheck, Says, says_node, says_pod, says_tick, AllChecks}
 
 pub bind_err : {A B E : Type 0} (r : Result A E) (f : A → Result B E) (fault : E) → (r >>= f) ≡ Err fault → (r ≡ Err fault) ⊎ ((x : A) × (r ≡ Ok x) × (f x ≡ Err fault))
 bind_err (Ok x) f fault e = inr (x, refl, e)
@@ -82,14 +83,17 @@ with_forwards past at placed u = refused_if (some_code_missing placed) ExitCode 
 abbrev with_apart : Past → ℕ → List PlacedEntry → ⊤ → Result TickObs LineKind
 with_apart past at placed u = refused_if (is_backwards past.ticks (observed at placed past.pods)) Backwards >>= with_forwards past at placed
 
+abbrev pod_new : Past → PodSpec → ⊤ → Result Past LineKind
+pod_new past pod u = Ok (with_pod past pod)
+
 abbrev pod_said : Past → PodSpec → Result Past LineKind
-pod_said past pod = Ok (record { node = past.node; pods = past.pods ++ pod ∷ []; ticks = past.ticks })
+pod_said past pod = refused_if (has_key past.pods (key_of_pod pod)) DuplicatePod >>= pod_new past pod
 
 abbrev pod_read : Past → Data → ⊤ → Result Past LineKind
 pod_read past d u = pod_from (field_at (codes "pod") d) >>= pod_said past
 
-abbrev pod_alone : Past → Data → ⊤ → Result Past LineKind
-pod_alone past d u = refused_if (nat_lt 0 (length past.pods)) TooMany >>= pod_read past d
+abbrev pod_early : Past → Data → ⊤ → Result Past LineKind
+pod_early past d u = refused_if (nat_le most_pods (length past.pods)) TooMany >>= pod_read past d
 
 none_in : {A : Type 0} (xs : List A) → nat_lt 0 (length xs) ≡ false → xs ≡ []
 none_in [] e = refl
@@ -163,23 +167,29 @@ tick_fails past line d kind is e = elim (tested (nat_le most_ticks (length past.
   | inr later ↦ room_fails past line d kind is (leb-false most_ticks (length past.ticks) later.0) later.1
 ]
 
-read_fails : (past : Past) (line : List ℕ) (d : Data) (kind : LineKind) → Stands past line sorts.Pod d → past.pods ≡ [] → pod_read past d tt ≡ Err kind → Fails past line kind
-read_fails past line d kind is none e = elim (bind_err (pod_from (field_at (codes "pod") d)) (pod_said past) kind e) [
-  | inl here ↦ wrong_pod d kind is none here
-  | inr later ↦ absurd (no_fault (record { node = past.node; pods = past.pods ++ later.0 ∷ []; ticks = past.ticks }) kind later.2)
+said_fails : (past : Past) (line : List ℕ) (d : Data) (pod : PodSpec) (kind : LineKind) → HasPod past line d pod → pod_said past pod ≡ Err kind → Fails past line kind
+said_fails past line d pod kind is e = elim (tested (has_key past.pods (key_of_pod pod)) DuplicatePod (pod_new past pod) kind e) [
+  | inl here ↦ subst (λ (k : LineKind). Fails past line k) here.1 (duplicate_pod d pod is (key_there past.pods (key_of_pod pod) here.0))
+  | inr later ↦ absurd (no_fault (with_pod past pod) kind later.1)
 ]
 
-alone_fails : (past : Past) (line : List ℕ) (d : Data) (kind : LineKind) → Stands past line sorts.Pod d → pod_alone past d tt ≡ Err kind → Fails past line kind
-alone_fails past line d kind is e = elim (tested (nat_lt 0 (length past.pods)) TooMany (pod_read past d) kind e) [
-  | inl here ↦ subst (λ (k : LineKind). Fails past line k) here.1 (many_pods d is (some_in past.pods here.0))
-  | inr later ↦ read_fails past line d kind is (none_in past.pods later.0) later.1
+read_fails : (past : Past) (line : List ℕ) (d : Data) (kind : LineKind) → Stands past line sorts.Pod d → length past.pods < most_pods → pod_read past d tt ≡ Err kind → Fails past line kind
+read_fails past line d kind is room e = elim (bind_err (pod_from (field_at (codes "pod") d)) (pod_said past) kind e) [
+  | inl here ↦ wrong_pod d kind is room here
+  | inr later ↦ said_fails past line d later.0 kind (record { stands = is; room = room; pod_is = later.1 }) later.2
+]
+
+early_fails : (past : Past) (line : List ℕ) (d : Data) (kind : LineKind) → Stands past line sorts.Pod d → pod_early past d tt ≡ Err kind → Fails past line kind
+early_fails past line d kind is e = elim (tested (nat_le most_pods (length past.pods)) TooMany (pod_read past d) kind e) [
+  | inl here ↦ subst (λ (k : LineKind). Fails past line k) here.1 (many_pods d is (leb-true most_pods (length past.pods) here.0))
+  | inr later ↦ read_fails past line d kind is (leb-false most_pods (length past.pods) later.0) later.1
 ]
 
 pod_fails : (past : Past) (line : List ℕ) (d : Data) (kind : LineKind) → is_some past.node ≡ true → IsOfKind line sorts.Pod d → pod_line_at past d ≡ Err kind → Fails past line kind
 unfolding pod_line_at
-pod_fails past line d kind node is e = elim (tested (nat_lt 0 (length past.ticks)) Order (pod_alone past d) kind e) [
+pod_fails past line d kind node is e = elim (tested (nat_lt 0 (length past.ticks)) Order (pod_early past d) kind e) [
   | inl here ↦ subst (λ (k : LineKind). Fails past line k) here.1 (misplaced sorts.Pod d is (λ may. some_in past.ticks here.0 may.1))
-  | inr later ↦ alone_fails past line d kind (record { of_kind = is; here = (node, none_in past.ticks later.0) }) later.1
+  | inr later ↦ early_fails past line d kind (record { of_kind = is; here = (node, none_in past.ticks later.0) }) later.1
 ]
 
 node_fails : (past : Past) (line : List ℕ) (d : Data) (kind : LineKind) → Stands past line sorts.Node d → with_node past d ≡ Err kind → Fails past line kind
@@ -251,7 +261,7 @@ misplaced_kind None past sorts.Tick d none never = refl
 misplaced_kind (Some node) past sorts.Node d some never = refl
 misplaced_kind (Some node) past sorts.Pod d some never =
     let ticks : past.ticks ≢ [] = λ none. never (ap (λ (o : Option NodeConfig). is_some o) some, none) in
-    failed (nat_lt 0 (length past.ticks)) Order (pod_alone past d) (in_some past.ticks ticks)
+    failed (nat_lt 0 (length past.ticks)) Order (pod_early past d) (in_some past.ticks ticks)
 misplaced_kind (Some node) past sorts.Tick d some never = absurd (never (ap (λ (o : Option NodeConfig). is_some o) some))
 
 node_in_order : (node : Option NodeConfig) (past : Past) (d : Data) → node ≡ None → in_order node past sorts.Node d ≡ with_node past d
@@ -272,11 +282,17 @@ of_node past line d kind is e =
     let said : NodeConfig → Result Past LineKind = λ node. Ok (record { node = Some node; pods = past.pods; ticks = past.ticks }) in
     of_kind past line sorts.Node d is.of_kind ∙ node_in_order past.node past d is.here ∙ then_err (node_of d) said kind e
 
-of_pod : (past : Past) (line : List ℕ) (d : Data) → Stands past line sorts.Pod d → line_at past line ≡ pod_alone past d tt
+of_pod : (past : Past) (line : List ℕ) (d : Data) → Stands past line sorts.Pod d → line_at past line ≡ pod_early past d tt
 unfolding pod_line_at
 of_pod past line d is =
     of_kind past line sorts.Pod d is.of_kind ∙ pod_in_order past.node past d is.here.0
-    ∙ passed (nat_lt 0 (length past.ticks)) Order (pod_alone past d) (in_none past.ticks is.here.1)
+    ∙ passed (nat_lt 0 (length past.ticks)) Order (pod_early past d) (in_none past.ticks is.here.1)
+
+of_pod_room : (past : Past) (line : List ℕ) (d : Data) → Stands past line sorts.Pod d → length past.pods < most_pods → line_at past line ≡ pod_read past d tt
+of_pod_room past line d is room = of_pod past line d is ∙ passed (nat_le most_pods (length past.pods)) TooMany (pod_read past d) (lt-leb most_pods (length past.pods) room)
+
+of_pod_said : (past : Past) (line : List ℕ) (d : Data) (pod : PodSpec) → HasPod past line d pod → line_at past line ≡ pod_said past pod
+of_pod_said past line d pod is = of_pod_room past line d is.stands is.room ∙ then_ok (pod_from (field_at (codes "pod") d)) (pod_said past) pod is.pod_is
 
 of_tick : (past : Past) (line : List ℕ) (d : Data) → Stands past line sorts.Tick d → line_at past line ≡ (refused_if (nat_le most_ticks (length past.ticks)) TooMany >>= with_room past d)
 unfolding tick_at
@@ -314,9 +330,9 @@ fails_line past line _ (not_json kind short e) = of_short past line short ∙ th
 fails_line past line _ (unknown_kind d is none) = of_json past line d is ∙ ap (λ (found : Option Sort). with_kind past d found) none
 fails_line past line _ (misplaced sort d is never) = of_kind past line sort d is ∙ misplaced_kind past.node past sort d refl never
 fails_line past line _ (wrong_node d kind is e) = of_node past line d kind is e
-fails_line past line _ (many_pods d is some) = of_pod past line d is ∙ failed (nat_lt 0 (length past.pods)) TooMany (pod_read past d) (in_some past.pods some)
-fails_line past line _ (wrong_pod d kind is none e) =
-    of_pod past line d is ∙ passed (nat_lt 0 (length past.pods)) TooMany (pod_read past d) (in_none past.pods none) ∙ then_err (pod_from (field_at (codes "pod") d)) (pod_said past) kind e
+fails_line past line _ (many_pods d is many) = of_pod past line d is ∙ failed (nat_le most_pods (length past.pods)) TooMany (pod_read past d) (le-leb most_pods (length past.pods) many)
+fails_line past line _ (wrong_pod d kind is room e) = of_pod_room past line d is room ∙ then_err (pod_from (field_at (codes "pod") d)) (pod_said past) kind e
+fails_line past line _ (duplicate_pod d pod is known) = of_pod_said past line d pod is ∙ failed (has_key past.pods (key_of_pod pod)) DuplicatePod (pod_new past pod) (there_key past.pods (key_of_pod pod) known)
 fails_line past line _ (many_ticks d is many) = of_tick past line d is ∙ failed (nat_le most_ticks (length past.ticks)) TooMany (with_room past d) (le-leb most_ticks (length past.ticks) many)
 fails_line past line _ (wrong_moment d kind is room e) = of_room past line d is room ∙ then_err (moment_of past.ticks (field_at (codes "at") d)) (with_moment past d) kind e
 fails_line past line _ (wrong_entry d at kind is e) = of_moment past line d at is ∙ then_err (entries_of d) (with_entries past at) kind e
@@ -362,13 +378,14 @@ tick_says past line d next is e =
 pod_says : (past : Past) (line : List ℕ) (d : Data) (next : Past) → is_some past.node ≡ true → IsOfKind line sorts.Pod d → pod_line_at past d ≡ Ok next → Says past line next
 unfolding pod_line_at
 pod_says past line d next node is e =
-    let before = cleared (nat_lt 0 (length past.ticks)) Order (pod_alone past d) next e in
-    let only = cleared (nat_lt 0 (length past.pods)) TooMany (pod_read past d) next before.1 in
-    let pod = bind_ok (pod_from (field_at (codes "pod") d)) (pod_said past) next only.1 in
-    let with : Past = record { node = past.node; pods = past.pods ++ pod.0 ∷ []; ticks = past.ticks } in
-    let is_next : with ≡ next = same_value {E = LineKind} with next pod.2 in
+    let before = cleared (nat_lt 0 (length past.ticks)) Order (pod_early past d) next e in
+    let room = cleared (nat_le most_pods (length past.pods)) TooMany (pod_read past d) next before.1 in
+    let pod = bind_ok (pod_from (field_at (codes "pod") d)) (pod_said past) next room.1 in
+    let new = cleared (has_key past.pods (key_of_pod pod.0)) DuplicatePod (pod_new past pod.0) next pod.2 in
+    let is_next : with_pod past pod.0 ≡ next = same_value {E = LineKind} (with_pod past pod.0) next new.1 in
     let stands : Stands past line sorts.Pod d = record { of_kind = is; here = (node, none_in past.ticks before.0) } in
-    subst (λ (p : Past). Says past line p) {x = with} is_next (says_pod d pod.0 stands (none_in past.pods only.0) pod.1)
+    let has_pod : HasPod past line d pod.0 = record { stands = stands; room = leb-false most_pods (length past.pods) room.0; pod_is = pod.1 } in
+    subst (λ (p : Past). Says past line p) {x = with_pod past pod.0} is_next (says_pod d pod.0 has_pod (key_nowhere past.pods (key_of_pod pod.0) new.0))
 
 node_says : (past : Past) (line : List ℕ) (d : Data) (next : Past) → Stands past line sorts.Node d → with_node past d ≡ Ok next → Says past line next
 unfolding with_node
@@ -421,8 +438,8 @@ tick_line past line d at placed is coded =
 
 says_line : (past : Past) (line : List ℕ) (next : Past) → Says past line next → line_at past line ≡ Ok next
 says_line past line _ (says_node d node is e) = node_line past line d node is e
-says_line past line _ (says_pod d pod is none e) =
-    of_pod past line d is ∙ passed (nat_lt 0 (length past.pods)) TooMany (pod_read past d) (in_none past.pods none) ∙ then_ok (pod_from (field_at (codes "pod") d)) (pod_said past) pod e
+says_line past line _ (says_pod d pod is new) =
+    of_pod_said past line d pod is ∙ passed (has_key past.pods (key_of_pod pod)) DuplicatePod (pod_new past pod) (nowhere_key past.pods (key_of_pod pod) new)
 says_line past line _ (says_tick d at placed is coded) = tick_line past line d at placed is coded
 
 pub all_checks : AllChecks

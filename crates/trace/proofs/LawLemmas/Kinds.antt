@@ -39,7 +39,7 @@ use Rattle.trace.specs.Placing.{number_in, container_number, placed_listing, pla
 use Rattle.trace.specs.Past.{Past}
 use Rattle.trace.specs.Tick.{is_later, moment_from}
 use Rattle.trace.specs.Trace.{json_of}
-use Rattle.trace.specs.Laws.{IsFirstFault, Fails, too_long, not_json, unknown_kind, misplaced, wrong_node, many_pods, wrong_pod, many_ticks, wrong_moment, wrong_entry, stranger, doubled, backwards, no_code, KindsOfChecks, IsNotMemory, NeverMemory}
+use Rattle.trace.specs.Laws.{IsFirstFault, Fails, too_long, not_json, unknown_kind, misplaced, wrong_node, many_pods, wrong_pod, duplicate_pod, many_ticks, wrong_moment, wrong_entry, stranger, doubled, backwards, no_code, KindsOfChecks, IsNotMemory, NeverMemory}
 use Rattle.trace.proofs.LawLemmas.{first_fault}
 use Rattle.trace.proofs.LawLemmas.Checks.{line_fails}
 use Rattle.json_fields.proofs.Only.{Only, only_ok, only_err, only_bind, only_if, only_refused, only_some, only_each}
@@ -270,6 +270,7 @@ fails_not_memory past line _ (wrong_pod d kind is none e) =
     let fault = given.0 in
     let found : IsFound fault = given.2 in
     is_not kind (Manifest fault) given.1 (λ memory. absurd (cc), λ memory. let same : fault ≡ faults.OutOfMemory = cc in absurd (found same))
+fails_not_memory past line _ (duplicate_pod d pod is known) = (λ memory. absurd (cc), λ memory. absurd (cc))
 fails_not_memory past line _ (many_ticks d is many) = (λ memory. absurd (cc), λ memory. absurd (cc))
 fails_not_memory past line _ (wrong_moment d kind is room e) =
     is_not kind Moment (kinds_of_checks.moment past.ticks (field_at (codes "at") d) kind e) (λ memory. absurd (cc), λ memory. absurd (cc))
