@@ -2,9 +2,8 @@
 use Rattle.std.proofs.Common.{◌≡◌, ◌∙◌, ℕ, zero, suc, ◌+◌, ◌<◌, ◌≤◌, ◌||◌, not, Bool, true, false, List, [], ◌∷◌, ◌++◌, length, map, get_or, Option, Some, None, Ok, Err, refl, ap, sym, subst, inl, inr, arith}
 use Rattle.std.specs.Prelude.{slice_get, option_and_then, MatchBool}
 use Rattle.std.specs.List.{All}
-use Rattle.std.proofs.Math.Seq.{get_or-append_seam}
 use Rattle.std.proofs.lemmas.Bool.{cases_Bool, cases_lt}
-use Rattle.std.proofs.lemmas.List.{map_push, length-append, get_or_append_left}
+use Rattle.std.proofs.lemmas.List.{map_push, length-append}
 use Rattle.histories.specs.Histories.{recorded}
 use Rattle.histories.proofs.Items.{pushed_each, any_default}
 use Rattle.json_fields.specs.Reading.{refused_if}
@@ -29,7 +28,7 @@ use Rattle.trace.specs.declared.placing.PlacedListing.{PlacedListing}
 use Rattle.trace.specs.declared.placing.PlacedResult.{PlacedResult}
 use Rattle.manifest.specs.declared.pod.ContainerSpec.{ContainerSpec}
 use Rattle.trace.specs.Observed.{observed, entry_for, listings_of, results_of, pods_from, containers_from}
-use Rattle.trace.proofs.Sound.{seen_in_pod, pods_forwards}
+use Rattle.trace.proofs.Forwards.{seen_in_pod, pods_forwards}
 use Rattle.trace.proofs.Moments.{history-ends_before}
 
 blank : Differ
@@ -151,7 +150,7 @@ pub differ_before : (differs : List Differ) (n : ℕ) (from : Differ) (moment : 
 differ_before differs n from moment lt is all = subst (λ (d : Differ). IsBefore d moment) (sym is) (all n from lt)
 
 -- a tick shows each container of the pods
-containers_shown : (ls : List PlacedListing) (rs : List PlacedResult) (n : ℕ) (cs : List ContainerSpec) → length (containers_from ls rs n cs) ≡ length cs
+pub containers_shown : (ls : List PlacedListing) (rs : List PlacedResult) (n : ℕ) (cs : List ContainerSpec) → length (containers_from ls rs n cs) ≡ length cs
 containers_shown ls rs n [] = refl
 containers_shown ls rs n (c ∷ cs) = ap suc (containers_shown ls rs (n + 1) cs)
 

@@ -1,22 +1,22 @@
 -- The trace of a text is what its lines say, or its first fault.
 pub mod Checks
+pub mod GoingBack
 pub mod Kinds
+pub mod Listings
 pub mod Results
 pub mod Strangers
-use Rattle.std.proofs.Common.{◌≡◌, ◌≢◌, ◌∙◌, ◌⊎◌, ◌↔◌, ℕ, zero, suc, ◌+◌, ◌≤◌, ◌<◌, Bool, true, false, List, [], ◌∷◌, ◌++◌, length, drop, get_or, slice_get, Option, Some, None, Result, Ok, Err, refl, ap, sym, subst, inl, inr, arith, is_some, drop-cons}
-use Rattle.std.specs.Prelude.{⊤, ◌==◌, ◌&&◌, ◌-◌, ◌^◌, if◌then◌else◌, option_and_then, nat_lt, nat_le, codes}
+use Rattle.std.proofs.Common.{◌≡◌, ◌∙◌, ◌⊎◌, ℕ, zero, suc, ◌+◌, ◌≤◌, ◌<◌, true, false, List, [], ◌∷◌, ◌++◌, length, drop, get_or, slice_get, Option, Some, None, Result, Ok, Err, refl, ap, sym, subst, inl, inr, arith, is_some, drop-cons}
+use Rattle.std.specs.Prelude.{⊤, ◌-◌, nat_lt, nat_le, codes}
 use Rattle.std.proofs.Math.Seq.{drop-length}
-use Rattle.std.proofs.lemmas.Bool.{cases_Bool, ltb-true, ltb-false, lt-ltb, le-ltb, leb-true, leb-false, le-leb, lt-leb}
+use Rattle.std.proofs.lemmas.Bool.{cases_Bool}
 use Rattle.std.proofs.lemmas.Option.{slice_get_within, slice_get-get_or, get_or_from_slice_get}
-use Rattle.serde_json.specs.Data.{Data, Items}
-use Rattle.serde_json.specs.Find.{as_str, as_number, as_u64, as_array}
-use Rattle.manifest.specs.Names.{is_name}
+use Rattle.serde_json.specs.Data.{Data}
 use Rattle.json_fields.specs.Fields.{field_at, text_at}
-use Rattle.json_fields.specs.Reading.{◌>>=◌, refused_if, some_or, each}
+use Rattle.json_fields.specs.Reading.{◌>>=◌, refused_if, some_or}
 use Rattle.json_fields.proofs.Steps.{bind_ok}
 use Rattle.manifest.specs.declared.pod.PodSpec.{PodSpec}
 use Rattle.trace.specs.declared.fault.LineKind.{LineKind}
-use Rattle.trace.specs.declared.fault.LineKind.TheVariants.{TooLong, NotJson, Config, Manifest, Moment, Usage, DuplicatePod, StrangerPod, StrangerContainer, OutOfMemory, UnknownKind, Order, TooMany, Doubled, Backwards, ExitCode}
+use Rattle.trace.specs.declared.fault.LineKind.TheVariants.{TooLong, DuplicatePod, UnknownKind, Order, TooMany}
 use Rattle.trace.specs.declared.fault.LineFault.{LineFault}
 use Rattle.trace.specs.declared.node.NodeConfig.{NodeConfig}
 use Rattle.trace.specs.declared.past.Trace.{Trace}
@@ -26,28 +26,15 @@ use Rattle.observations.specs.declared.tick.TickObs.{TickObs}
 use Rattle.trace.specs.declared.listing.Entry.{Entry}
 use Rattle.trace.specs.declared.placing.PlacedEntry.{PlacedEntry}
 use Rattle.trace.specs.Lines.{lines_of, is_blank}
-use Rattle.trace.specs.Node.{version_from, version_of, name_from, absent, eviction_unset, node_of}
-use Rattle.manifest.specs.declared.fault.ManifestFault.{ManifestFault}
-use Rattle.manifest.specs.declared.fault.ManifestFault.TheVariants.{Missing}
-use Rattle.manifest.specs.declared.fault.Field.TheVariants as fields
-use Rattle.manifest.specs.Manifest.{pod_at}
-use Rattle.manifest.specs.Containers.{names_of}
-use Rattle.name_list.specs.Names.{place_of}
+use Rattle.trace.specs.Node.{node_of}
 use Rattle.serde_json.specs.Read.{read}
-use Rattle.std.specs.Str.{is_utf8}
-use Rattle.state_diff.specs.declared.seen.CriState.{CriState}
-use Rattle.state_diff.specs.declared.seen.CriState.TheVariants.{Created, Running, Exited, Unknown}
-use Rattle.trace.specs.declared.listing.Listing.{Listing}
-use Rattle.json_fields.specs.Fields.{items_list}
-use Rattle.trace.specs.Pod.{key_of_pod, keys_of, has_key, most_pods, of_manifest, pod_from}
-use Rattle.trace.specs.Listings.{attempt_from, attempt_of, state_named, state_numbered, state_from, state_of, listing_of, items_from, items_of, entry_of, entries_of}
-use Rattle.trace.specs.Placing.{number_in, pod_numbered, placed_listing, placed_entry, placed_of, is_doubled}
-use Rattle.trace.specs.Observed.{observed, some_code_missing}
-use Rattle.trace.specs.Backwards.{is_backwards}
+use Rattle.trace.specs.Pod.{key_of_pod, has_key, most_pods, pod_from}
+use Rattle.trace.specs.Listings.{entries_of}
+use Rattle.trace.specs.Placing.{placed_of}
 use Rattle.trace.specs.Past.{Past, with_tick}
-use Rattle.trace.specs.Tick.{is_later, moment_from, moment_of, most_ticks, observed_in, tick_at}
+use Rattle.trace.specs.Tick.{moment_of, most_ticks, observed_in, tick_at}
 use Rattle.trace.specs.Trace.{json_of, kind_from, with_node, pod_line_at, in_order, line_at, at_line, finished, read_on, nothing, trace_of}
-use Rattle.trace.specs.Laws.{Leaves, AreSaid, IsFaultAt, NoneCounts, IsFirstFault, IsWhole, FirstFault, WholeTrace, OneFault, IsJson, IsOfKind, MayStand, Stands, HasMoment, HasEntries, HasPlaces, IsApart, IsForwards, Fails, too_long, not_json, unknown_kind, misplaced, wrong_node, many_pods, wrong_pod, duplicate_pod, many_ticks, wrong_moment, wrong_entry, stranger, doubled, backwards, no_code, FirstCheck, Says, says_node, says_pod, says_tick, AllChecks, KindsOfChecks, NeverMemory}
+use Rattle.trace.specs.Laws.{Leaves, AreSaid, IsFaultAt, NoneCounts, IsFirstFault, IsWhole, FirstFault, WholeTrace, OneFault}
 
 drop_here : (lines : List (List ℕ)) (n : ℕ) (line : List ℕ) → slice_get lines n ≡ Some line → drop n lines ≡ line ∷ drop (suc n) lines
 drop_here lines n line e =

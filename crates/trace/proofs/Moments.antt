@@ -76,3 +76,16 @@ moment_later ticks found at e = of_number (option_and_then as_u64 (option_and_th
         here true true is e = let same : n ≡ at = cc in subst (EndBefore ticks) same (later (slice_get ticks (length ticks - 1)) n (sym is))
         here true false is e = absurd (cc)
         here false late is e = absurd (cc)
+
+-- and in range
+pub moment_low : (ticks : List TickObs) (found : Option Data) (at : ℕ) → moment_of ticks found ≡ Ok at → at < 2 ^ 40
+moment_low ticks found at e = of_number (option_and_then as_u64 (option_and_then as_number found)) e
+  where
+    of_number : (o : Option ℕ) → moment_from ticks o ≡ Ok at → at < 2 ^ 40
+    of_number None e = absurd (cc)
+    of_number (Some n) e = here (nat_lt n (2 ^ 40)) (is_later (slice_get ticks (length ticks - 1)) n) refl e
+      where
+        here : (low late : Bool) → low ≡ nat_lt n (2 ^ 40) → cond (low && late) (Ok n) (Err Moment) ≡ Ok at → at < 2 ^ 40
+        here true true is e = let same : n ≡ at = cc in subst (λ (m : ℕ). m < 2 ^ 40) same (ltb-true n (2 ^ 40) (sym is))
+        here true false is e = absurd (cc)
+        here false late is e = absurd (cc)

@@ -16,6 +16,8 @@ use Rattle.name_list.specs.Names.{place_of}
 use Rattle.manifest.specs.Containers.{names_of}
 use Rattle.manifest.specs.declared.outcome.Outcome.{Outcome}
 use Rattle.manifest.specs.declared.outcome.ProbeKind.{ProbeKind}
+use Rattle.trace.specs.declared.listing.ListedInstance.{ListedInstance}
+use Rattle.trace.specs.declared.placing.PlacedListing.{PlacedListing}
 use Rattle.trace.specs.declared.placing.PlacedResult.{PlacedResult}
 use Rattle.trace.specs.declared.placing.PlacedEntry.{PlacedEntry}
 use Rattle.trace.specs.Lines.{lines_of, is_blank}
@@ -23,12 +25,15 @@ use Rattle.trace.specs.Node.{node_of}
 use Rattle.trace.specs.Pod.{key_of_pod, keys_of, most_pods, pod_from}
 use Rattle.trace.specs.Listings.{entries_of}
 use Rattle.trace.specs.Placing.{placed_of, has_twice, are_of_one_probe, is_doubled}
-use Rattle.trace.specs.Observed.{outcome_in, observed, some_code_missing}
+use Rattle.trace.specs.Observed.{seen_listed, outcome_in, observed, some_code_missing}
 use Rattle.trace.specs.Backwards.{is_backwards}
 use Rattle.manifest.specs.declared.fault.ManifestFault.{ManifestFault}
 use Rattle.manifest.specs.declared.fault.ManifestFault.TheVariants as manifest_faults
 use Rattle.manifest.specs.declared.pod.PodSpec.{PodSpec}
 use Rattle.observations.specs.declared.tick.TickObs.{TickObs}
+use Rattle.observations.specs.Observations.{seen_of, history}
+use Rattle.state_diff.specs.declared.seen.Seen.{Seen}
+use Rattle.state_diff.specs.Instances.{IsAcceptable}
 use Rattle.trace.specs.declared.node.NodeConfig.{NodeConfig}
 use Rattle.trace.specs.Past.{Past, with_pod, with_tick}
 use Rattle.trace.specs.Tick.{moment_of, most_ticks}
@@ -228,6 +233,33 @@ IsGiven rs n probe outcome = (m : ℕ) × (slice_get rs m ≡ Some (record { con
 abbrev pub ResultsShown : Type 0
 ResultsShown = (rs : List PlacedResult) (n : ℕ) (probe : ProbeKind) (outcome : Outcome) → has_twice are_of_one_probe rs ≡ false
     → (outcome_in rs n probe ≡ Some outcome ↔ IsGiven rs n probe outcome)
+
+-- one of the listings is of the container with the number, and says this
+abbrev pub IsListed : List PlacedListing → ℕ → Seen → Type 0
+IsListed ls n seen = (m : ℕ) × (instance : ListedInstance) × (slice_get ls m ≡ Some (record { container = n; instance = instance })) × (seen_listed instance ≡ seen)
+
+-- one of the entries is of the pod with the number, and lists this of its container
+abbrev pub Lists : List PlacedEntry → ℕ → ℕ → Seen → Type 0
+Lists es pod container seen = (k : ℕ) × (entry : PlacedEntry) × (slice_get es k ≡ Some entry) × (entry.pod ≡ pod) × IsListed entry.listings container seen
+
+-- where no pod and no container is listed twice, what a tick shows of a container is exactly what
+-- its line lists, wherever it stands
+abbrev pub ListingsShown : Type 0
+ListingsShown = (at : ℕ) (es : List PlacedEntry) (pods : List PodSpec) (n c : ℕ) (pod : PodSpec) (seen : Seen) → is_doubled es ≡ false
+    → slice_get pods n ≡ Some pod → c < length pod.containers → (seen_of (observed at es pods) n c ≡ Some seen ↔ Lists es n c seen)
+
+-- of some container of some pod, both by number, the tick has a listing that may not come after all
+-- those of the earlier ticks
+pub record GoesBack (ticks : List TickObs) (tick : TickObs) : Type 0 where
+  pub pod : ℕ
+  pub container : ℕ
+  pub seen : Seen
+  pub listed : seen_of tick pod container ≡ Some seen
+  pub behind : IsAcceptable (history ticks pod container) (Some seen) → ⊥
+
+-- a tick is refused as Backwards exactly where some container's listing goes back
+abbrev pub BackwardsListing : Type 0
+BackwardsListing = (ticks : List TickObs) (tick : TickObs) → (is_backwards ticks tick ≡ true ↔ GoesBack ticks tick)
 
 -- not for want of memory
 abbrev pub IsNotMemory : LineKind → Type 0

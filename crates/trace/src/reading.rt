@@ -6,7 +6,7 @@ ghost use Rattle.trace.specs.Gives.{Gives, GivesAt};
 ghost use Rattle.name_list.specs.Names.{place_of};
 ghost use Rattle.trace.specs.Past.{with_pod};
 ghost use Rattle.trace.specs.Pod.{key_of_pod, keys_of};
-ghost use Rattle.trace.specs.Sound.{AreAcceptable, AreRising};
+ghost use Rattle.trace.specs.Sound.{AreAcceptable, AreRising, HasShape};
 ghost use Rattle.trace.specs.Trace.{json_of, kind_from, with_node, with_new_pod, pod_line_at, line_at, trace_of, finished, in_order};
 
 use crate::fault::{LineFault, LineKind};
@@ -184,12 +184,13 @@ fn read_lines(alloc: Global, text: &[u8]) -> Result<Trace, LineFault>
     finished(line, reader)
 }
 
-/// The trace that a text says, or its first faulty line with that line's first fault. A refused
-/// growth of memory is `OutOfMemory` at the line that was being read.
+/// The trace that a text says, or its first faulty line with that line's first fault. Where a
+/// growth of memory is refused the answer is `OutOfMemory`; of its line nothing is promised.
 pub fn read_trace(alloc: Global, text: &[u8]) -> Result<Trace, LineFault>
     ensures gives { GivesAt (λ t. t) result (trace_of text.now) }
     ensures acceptable { IfOk result (λ t. AreAcceptable t.ticks) }
     ensures rising { IfOk result (λ t. AreRising t.ticks) }
+    ensures shape { IfOk result (λ t. HasShape t.pods t.ticks) }
 {
     read_lines(alloc, text)
 }

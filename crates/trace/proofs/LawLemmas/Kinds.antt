@@ -20,7 +20,7 @@ use Rattle.trace.specs.Lines.{lines_of}
 use Rattle.manifest.specs.RestartDelay.{most_max_delay, max_delay_of}
 use Rattle.trace.specs.Node.{version_from, version_of, name_from, or_config, restart_delay_of, absent, eviction_unset, node_of}
 use Rattle.manifest.specs.declared.fault.ManifestFault.{ManifestFault}
-use Rattle.manifest.specs.declared.fault.ManifestFault.TheVariants.{Missing, WrongKind, DuplicateContainer, Sidecar}
+use Rattle.manifest.specs.declared.fault.ManifestFault.TheVariants.{Missing, WrongKind}
 use Rattle.manifest.specs.declared.fault.ManifestFault.TheVariants as faults
 use Rattle.manifest.specs.declared.fault.Field.TheVariants as fields
 use Rattle.manifest.specs.Containers.{names_of}
@@ -43,7 +43,7 @@ use Rattle.trace.specs.Laws.{IsFirstFault, Fails, too_long, not_json, unknown_ki
 use Rattle.trace.proofs.LawLemmas.{first_fault}
 use Rattle.trace.proofs.LawLemmas.Checks.{line_fails}
 use Rattle.json_fields.proofs.Only.{Only, only_ok, only_err, only_bind, only_if, only_refused, only_some, only_each}
-use Rattle.manifest.proofs.NeverMemory.{IsFound, missing, wrong, pod_at_only}
+use Rattle.manifest.proofs.NeverMemory.{IsFound, missing, pod_at_only}
 
 abbrev Is : LineKind → LineKind → Type 0
 Is given kind = kind ≡ given
