@@ -51,9 +51,12 @@ pod_back ticks n (q ∷ qs) e = elim (here_or_later (some_container_backwards ti
   | inl here ↦
       let found = container_back ticks n 0 q.containers here in
       let same : n + 0 ≡ n = omega arith in
-      let place : 0 + found.0 ≡ found.0 = omega arith in
-      (0, found.0, subst (λ (k : ℕ). Refused (history ticks k found.0) (seen_in_pod (Some q) found.0)) (sym same)
-        (subst (λ (k : ℕ). Refused (history ticks n k) (seen_in_pod (Some q) found.0)) place found.1))
+      let place : 0 + found.0 ≡ found.0 = omega arith in (
+        0,
+        found.0,
+        subst (λ (k : ℕ). Refused (history ticks k found.0) (seen_in_pod (Some q) found.0)) (sym same)
+            (subst (λ (k : ℕ). Refused (history ticks n k) (seen_in_pod (Some q) found.0)) place found.1),
+      )
   | inr rest ↦
       let later = pod_back ticks (n + 1) qs rest in
       let same : n + 1 + later.0 ≡ n + suc later.0 = omega arith in
