@@ -14,8 +14,8 @@ use Rattle.state_diff.specs.Acceptable.{is_acceptable}
 use Rattle.state_diff.specs.Differ.{IsStateOf, IsBefore}
 use Rattle.state_diff.proofs.Steps.{is_before}
 use Rattle.state_diff.specs.Instances.{Tick}
-use Rattle.trace.specs.declared.fault.LineKind.{LineKind}
-use Rattle.trace.specs.declared.fault.LineKind.TheVariants.{Backwards}
+use Rattle.trace.specs.declared.fault.FaultKind.{FaultKind}
+use Rattle.trace.specs.declared.fault.FaultKind.TheVariants.{Backwards}
 use Rattle.observations.specs.declared.container.ContainerObs.{ContainerObs}
 use Rattle.observations.specs.declared.pod.PodObs.{PodObs}
 use Rattle.observations.specs.declared.tick.TickObs.{TickObs}
@@ -76,7 +76,7 @@ pod_taken_more tick n old new from shown next kept lt is is_shown is_kept before
       each = λ p ds within. pushed_each P new kept n before.as_many done here p ds within ds;
     }
 
-pub some_pod_refuses : (tick : TickObs) (n : ℕ) (old : List (List Differ)) (from shown : List Differ) (fault : LineKind) → n < length old → from ≡ get_or old n from → shown ≡ from
+pub some_pod_refuses : (tick : TickObs) (n : ℕ) (old : List (List Differ)) (from shown : List Differ) (fault : FaultKind) → n < length old → from ≡ get_or old n from → shown ≡ from
     → IsRefusal (SomeRefuses tick n shown) fault → IsRefusal (SomePodRefuses tick old) fault
 some_pod_refuses tick n old from shown fault lt is is_shown why = elim why [
   | inl memory ↦ inl memory
@@ -256,11 +256,11 @@ pub given_taken : (ticks : List TickObs) (tick : TickObs) (pods : List PodSpec) 
     → refused_if (is_backwards ticks tick) Backwards ≡ Ok tt
 given_taken ticks tick pods old new shown all taken = rw (forwards ticks tick pods old new shown all taken) refl
 
-pub given_refused : (ticks : List TickObs) (tick : TickObs) (pods : List PodSpec) (old : List (List Differ)) (fault : LineKind) → AreFollowed ticks pods old → IsRefusal (SomePodRefuses tick old) fault
+pub given_refused : (ticks : List TickObs) (tick : TickObs) (pods : List PodSpec) (old : List (List Differ)) (fault : FaultKind) → AreFollowed ticks pods old → IsRefusal (SomePodRefuses tick old) fault
     → MatchBool (is_memory fault) (Unit {0}) (refused_if (is_backwards ticks tick) Backwards ≡ Err fault)
 given_refused ticks tick pods old fault all why = elim why [
-  | inl memory ↦ subst (λ (e : LineKind). MatchBool (is_memory e) (Unit {0}) (refused_if (is_backwards ticks tick) Backwards ≡ Err e)) (sym memory) tt
+  | inl memory ↦ subst (λ (e : FaultKind). MatchBool (is_memory e) (Unit {0}) (refused_if (is_backwards ticks tick) Backwards ≡ Err e)) (sym memory) tt
   | inr back ↦
       let is : refused_if (is_backwards ticks tick) Backwards ≡ Err Backwards = rw (backwards ticks tick pods old all back.1) refl in
-      subst (λ (e : LineKind). MatchBool (is_memory e) (Unit {0}) (refused_if (is_backwards ticks tick) Backwards ≡ Err e)) (sym back.0) is
+      subst (λ (e : FaultKind). MatchBool (is_memory e) (Unit {0}) (refused_if (is_backwards ticks tick) Backwards ≡ Err e)) (sym back.0) is
 ]

@@ -8,7 +8,7 @@ use Rattle.serde_json.specs.Find.{as_number, as_u64}
 use Rattle.histories.specs.Histories.{recorded, moment_at, IsRising, last_moment, EndsBefore}
 use Rattle.histories.proofs.Moments.{IsRising-more}
 use Rattle.state_diff.specs.Instances.{Tick}
-use Rattle.trace.specs.declared.fault.LineKind.TheVariants.{Moment}
+use Rattle.trace.specs.declared.fault.FaultKind.TheVariants.{Moment}
 use Rattle.observations.specs.declared.tick.TickObs.{TickObs}
 use Rattle.trace.specs.Followed.{EndBefore}
 use Rattle.observations.specs.Observations.{seen_of, history}

@@ -1,9 +1,9 @@
 -- The numbers and words by which a refusal names the kind of a faulty line.
 use Rattle.std.specs.Prelude.{ℕ, List, codes}
-use Rattle.trace.specs.declared.fault.LineKind.{LineKind}
-use Rattle.trace.specs.declared.fault.LineKind.TheVariants.{TooLong, NotJson, UnknownKind, Order, Manifest, Config, DuplicatePod, StrangerPod, StrangerContainer, Doubled, Moment, Backwards, ExitCode, TooMany, Usage, OutOfMemory}
+use Rattle.trace.specs.declared.fault.FaultKind.{FaultKind}
+use Rattle.trace.specs.declared.fault.FaultKind.TheVariants.{TooLong, NotJson, UnknownKind, Order, Manifest, Config, DuplicatePod, StrangerPod, StrangerContainer, Doubled, Moment, Backwards, ExitCode, TooMany, Usage, OutOfMemory}
 
-abbrev pub number_of : LineKind → ℕ
+abbrev pub number_of : FaultKind → ℕ
 number_of TooLong = 31
 number_of NotJson = 32
 number_of UnknownKind = 33
@@ -21,7 +21,7 @@ number_of TooMany = 45
 number_of Usage = 46
 number_of OutOfMemory = 47
 
-abbrev pub word_of : LineKind → List ℕ
+abbrev pub word_of : FaultKind → List ℕ
 word_of TooLong = codes "TooLong"
 word_of NotJson = codes "NotJson"
 word_of UnknownKind = codes "UnknownKind"

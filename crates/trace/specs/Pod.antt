@@ -11,8 +11,8 @@ use Rattle.manifest.specs.Containers.{has_only_apps}
 use Rattle.manifest.specs.Manifest.{pod_at}
 use Rattle.json_fields.specs.Reading.{◌>>=◌}
 use Rattle.name_list.specs.Names.{place_of}
-use Rattle.trace.specs.declared.fault.LineKind.{LineKind}
-use Rattle.trace.specs.declared.fault.LineKind.TheVariants.{Manifest}
+use Rattle.trace.specs.declared.fault.FaultKind.{FaultKind}
+use Rattle.trace.specs.declared.fault.FaultKind.TheVariants.{Manifest}
 
 -- a pod's key, NAMESPACE/NAME
 abbrev pub key_of_pod : PodSpec → List ℕ
@@ -28,7 +28,7 @@ most_pods = 256
 abbrev pub has_key : List PodSpec → List ℕ → Bool
 has_key pods key = is_some (place_of (keys_of pods) key)
 
-abbrev pub of_manifest : {A : Type 0} → Result A ManifestFault → Result A LineKind
+abbrev pub of_manifest : {A : Type 0} → Result A ManifestFault → Result A FaultKind
 of_manifest (Ok x) = Ok x
 of_manifest (Err fault) = Err (Manifest fault)
 
@@ -57,6 +57,6 @@ abbrev pub pod_of : Data → Result PodSpec ManifestFault
 pod_of d = pod_at d >>= replayed
 
 -- the pod that the line's manifest describes
-abbrev pub pod_from : Option Data → Result PodSpec LineKind
+abbrev pub pod_from : Option Data → Result PodSpec FaultKind
 pod_from None = Err (Manifest (Missing fields.Pod))
 pod_from (Some d) = of_manifest (pod_of d)

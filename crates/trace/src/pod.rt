@@ -9,7 +9,7 @@ ghost use Rattle.name_list.specs.Names.{place_of};
 ghost use Rattle.trace.specs.Gives.{Gives};
 ghost use Rattle.trace.specs.Pod.{key_of_pod, keys_of, most_pods, has_key, is_probed, refusal_of, replayed, pod_of, pod_from};
 
-use crate::fault::{LineKind, refused_if};
+use crate::fault::{FaultKind, refused_if};
 use crate::past::Reader;
 use manifest::{ContainerSpec, Field, ManifestFault, PodSpec};
 use name_list::NameList;
@@ -61,16 +61,16 @@ fn pod_of(alloc: Global, manifest: &Value) -> Result<PodSpec, ManifestFault>
 }
 
 /// The pod that a pod line's manifest describes.
-pub(crate) fn pod_in(alloc: Global, found: Option<&Value>) -> Result<PodSpec, LineKind>
+pub(crate) fn pod_in(alloc: Global, found: Option<&Value>) -> Result<PodSpec, FaultKind>
     ensures { Gives (λ p. p) result (pod_from (option_map (λ v. view v.now) found.entry)) }
 {
     let Some(value) = found else {
-        return Err(LineKind::Manifest(ManifestFault::Missing(Field::Pod)));
+        return Err(FaultKind::Manifest(ManifestFault::Missing(Field::Pod)));
     };
     match pod_of(alloc, value) {
         Ok(pod) => Ok(pod),
-        Err(ManifestFault::OutOfMemory) => Err(LineKind::OutOfMemory),
-        Err(fault) => Err(LineKind::Manifest(fault)),
+        Err(ManifestFault::OutOfMemory) => Err(FaultKind::OutOfMemory),
+        Err(fault) => Err(FaultKind::Manifest(fault)),
     }
 }
 
@@ -84,10 +84,10 @@ fn key_text(alloc: Global, pod: &PodSpec) -> Result<String, AllocError>
 }
 
 /// There is room for one pod more.
-pub(crate) fn room_for_pod(reader: &Reader) -> Result<(), LineKind>
-    ensures { Gives (λ t. t) result (refused_if (nat_le most_pods (length reader.now.pods)) LineKind.TooMany) }
+pub(crate) fn room_for_pod(reader: &Reader) -> Result<(), FaultKind>
+    ensures { Gives (λ t. t) result (refused_if (nat_le most_pods (length reader.now.pods)) FaultKind.TooMany) }
 {
-    refused_if(reader.pods.as_slice().len() >= 256, LineKind::TooMany)
+    refused_if(reader.pods.as_slice().len() >= 256, FaultKind::TooMany)
 }
 
 fn is_known(keys: &NameList, key: &str) -> bool
@@ -97,12 +97,15 @@ fn is_known(keys: &NameList, key: &str) -> bool
 }
 
 /// The key of a pod, if no earlier pod has it.
-pub(crate) fn new_key(alloc: Global, reader: &Reader, pod: &PodSpec) -> Result<String, LineKind>
-    ensures gives { Gives (λ _. tt) result (refused_if (has_key reader.now.pods (key_of_pod pod.now)) LineKind.DuplicatePod) }
+pub(crate) fn new_key(alloc: Global, reader: &Reader, pod: &PodSpec) -> Result<String, FaultKind>
+    ensures gives { Gives (λ _. tt) result (refused_if (has_key reader.now.pods (key_of_pod pod.now)) FaultKind.DuplicatePod) }
     ensures key { IfOk result (λ s. string_bytes s ≡ key_of_pod pod.now) }
     ensures new { IfOk result (λ s. place_of (keys_of reader.now.pods) (string_bytes s) ≡ None) }
 {
     let key = key_text(alloc, pod)?;
-    refused_if(is_known(&reader.keys, key.as_str()), LineKind::DuplicatePod)?;
+    refused_if(
+        is_known(&reader.keys, key.as_str()),
+        FaultKind::DuplicatePod,
+    )?;
     Ok(key)
 }

@@ -9,11 +9,11 @@ ghost use Rattle.trace.specs.Pod.{key_of_pod, keys_of};
 ghost use Rattle.trace.specs.Sound.{AreAcceptable, AreRising, HasShape};
 ghost use Rattle.trace.specs.Trace.{json_of, kind_from, with_node, with_new_pod, pod_line_at, line_at, trace_of, finished, in_order};
 
-use crate::fault::{LineFault, LineKind};
+use crate::fault::{FaultKind, LineFault};
 use crate::following::new_differs;
 use crate::lines::{first_line, is_blank};
 use crate::node::node_of;
-use crate::past::{Reader, Sort, Trace};
+use crate::past::{LineKind, Reader, Trace};
 use crate::pod::{new_key, pod_in, room_for_pod};
 use crate::tick::take_tick;
 use json_fields::{field, text_at};
@@ -23,30 +23,30 @@ use sequence::Sequence;
 use serde_json::Value;
 use std::alloc::Global;
 
-fn json(alloc: Global, line: &[u8]) -> Result<Value, LineKind>
+fn json(alloc: Global, line: &[u8]) -> Result<Value, FaultKind>
     ensures { Gives view result (json_of line.now) }
 {
     match Value::from_slice(alloc, line) {
         Ok(value) => Ok(value),
-        Err(e) if e.is_memory() => Err(LineKind::OutOfMemory),
-        Err(_) => Err(LineKind::NotJson),
+        Err(e) if e.is_memory() => Err(FaultKind::OutOfMemory),
+        Err(_) => Err(FaultKind::NotJson),
     }
 }
 
-fn sort_of(kind: Option<&str>) -> Option<Sort>
+fn kind_from(kind: Option<&str>) -> Option<LineKind>
     ensures { result ≡ kind_from (option_map (λ s. s.now) kind.entry) }
 {
     match kind {
-        Some("node") => Some(Sort::Node),
-        Some("pod") => Some(Sort::Pod),
-        Some("tick") => Some(Sort::Tick),
+        Some("node") => Some(LineKind::Node),
+        Some("pod") => Some(LineKind::Pod),
+        Some("tick") => Some(LineKind::Tick),
         _ => None,
     }
 }
 
 /// Takes a node line.
 #[tactic(auto, unfolding(crate::specs::Trace::with_node))]
-fn take_node(alloc: Global, reader: Reader, line: &Value) -> Result<Reader, LineKind>
+fn take_node(alloc: Global, reader: Reader, line: &Value) -> Result<Reader, FaultKind>
     ensures { Gives (λ r. r) result (with_node reader (view line.now)) }
 {
     let node = node_of(alloc, line)?;
@@ -67,7 +67,7 @@ fn take_node(alloc: Global, reader: Reader, line: &Value) -> Result<Reader, Line
 }
 
 /// Adds a pod of a new key, before all ticks.
-fn with_pod(alloc: Global, reader: Reader, pod: PodSpec, key: String) -> Result<Reader, LineKind>
+fn with_pod(alloc: Global, reader: Reader, pod: PodSpec, key: String) -> Result<Reader, FaultKind>
     requires early { reader.ticks ≡ [] }
     requires key { string_bytes key ≡ key_of_pod pod }
     requires new { place_of (keys_of reader.pods) (string_bytes key) ≡ None }
@@ -94,7 +94,7 @@ fn with_pod(alloc: Global, reader: Reader, pod: PodSpec, key: String) -> Result<
 }
 
 /// Adds a pod before all ticks, if its key is new.
-fn with_new_pod(alloc: Global, reader: Reader, pod: PodSpec) -> Result<Reader, LineKind>
+fn with_new_pod(alloc: Global, reader: Reader, pod: PodSpec) -> Result<Reader, FaultKind>
     requires { reader.ticks ≡ [] }
     ensures { Gives (λ r. r) result (with_new_pod reader pod) }
 {
@@ -104,40 +104,45 @@ fn with_new_pod(alloc: Global, reader: Reader, pod: PodSpec) -> Result<Reader, L
 
 /// Takes a pod line.
 #[tactic(auto, unfolding(crate::specs::Trace::pod_line_at))]
-fn take_pod(alloc: Global, reader: Reader, line: &Value) -> Result<Reader, LineKind>
+fn take_pod(alloc: Global, reader: Reader, line: &Value) -> Result<Reader, FaultKind>
     ensures { Gives (λ r. r) result (pod_line_at reader (view line.now)) }
 {
     if !reader.ticks.as_slice().is_empty() {
-        return Err(LineKind::Order);
+        return Err(FaultKind::Order);
     }
     room_for_pod(&reader)?;
     let pod = pod_in(alloc, field(line, "pod"))?;
     with_new_pod(alloc, reader, pod)
 }
 
-fn take_sort(alloc: Global, reader: Reader, sort: Sort, line: &Value) -> Result<Reader, LineKind>
-    ensures { Gives (λ r. r) result (in_order reader.node reader sort (view line.now)) }
+fn take_in_order(
+    alloc: Global,
+    reader: Reader,
+    line_kind: LineKind,
+    line: &Value,
+) -> Result<Reader, FaultKind>
+    ensures { Gives (λ r. r) result (in_order reader.node reader line_kind (view line.now)) }
 {
-    match (reader.node.is_some(), sort) {
-        (false, Sort::Node) => take_node(alloc, reader, line),
-        (true, Sort::Pod) => take_pod(alloc, reader, line),
-        (true, Sort::Tick) => take_tick(alloc, reader, line),
-        _ => Err(LineKind::Order),
+    match (reader.node.is_some(), line_kind) {
+        (false, LineKind::Node) => take_node(alloc, reader, line),
+        (true, LineKind::Pod) => take_pod(alloc, reader, line),
+        (true, LineKind::Tick) => take_tick(alloc, reader, line),
+        _ => Err(FaultKind::Order),
     }
 }
 
 #[tactic(auto, unfolding(crate::specs::Trace::line_at))]
-fn take_line(alloc: Global, reader: Reader, line: &[u8]) -> Result<Reader, LineKind>
+fn take_line(alloc: Global, reader: Reader, line: &[u8]) -> Result<Reader, FaultKind>
     ensures { Gives (λ r. r) result (line_at reader line.now) }
 {
     if line.len() > 1_048_576 {
-        return Err(LineKind::TooLong);
+        return Err(FaultKind::TooLong);
     }
     let value = json(alloc, line)?;
-    let Some(sort) = sort_of(text_at(&value, "kind")) else {
-        return Err(LineKind::UnknownKind);
+    let Some(line_kind) = kind_from(text_at(&value, "kind")) else {
+        return Err(FaultKind::UnknownKind);
     };
-    take_sort(alloc, reader, sort, &value)
+    take_in_order(alloc, reader, line_kind, &value)
 }
 
 fn finished(line: u64, reader: Reader) -> Result<Trace, LineFault>
@@ -152,7 +157,7 @@ fn finished(line: u64, reader: Reader) -> Result<Trace, LineFault>
     match node {
         None => Err(LineFault {
             line,
-            kind: LineKind::Order,
+            kind: FaultKind::Order,
         }),
         Some(node) => Ok(Trace { node, pods, ticks }),
     }

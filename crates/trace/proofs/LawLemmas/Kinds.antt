@@ -7,8 +7,8 @@ use Rattle.manifest.specs.Names.{is_name}
 use Rattle.json_fields.specs.Fields.{field_at, text_at}
 use Rattle.json_fields.specs.Reading.{some_or}
 use Rattle.manifest.specs.declared.pod.PodSpec.{PodSpec}
-use Rattle.trace.specs.declared.fault.LineKind.{LineKind}
-use Rattle.trace.specs.declared.fault.LineKind.TheVariants.{NotJson, Config, Manifest, Moment, Usage, StrangerPod, StrangerContainer, Order}
+use Rattle.trace.specs.declared.fault.FaultKind.{FaultKind}
+use Rattle.trace.specs.declared.fault.FaultKind.TheVariants.{NotJson, Config, Manifest, Moment, Usage, StrangerPod, StrangerContainer, Order}
 use Rattle.trace.specs.declared.fault.LineFault.{LineFault}
 use Rattle.observations.specs.declared.tick.TickObs.{TickObs}
 use Rattle.trace.specs.declared.listing.Entry.{Entry}
@@ -45,7 +45,7 @@ use Rattle.trace.proofs.LawLemmas.Checks.{line_fails}
 use Rattle.json_fields.proofs.Only.{Only, only_ok, only_err, only_bind, only_if, only_refused, only_some, only_each}
 use Rattle.manifest.proofs.NeverMemory.{IsFound, missing, pod_at_only}
 
-abbrev Is : LineKind → LineKind → Type 0
+abbrev Is : FaultKind → FaultKind → Type 0
 Is given kind = kind ≡ given
 
 version_from_only : (found : Option ℕ) → Only (Is Config) (version_from found)
@@ -60,7 +60,7 @@ name_only : (found : Option (List ℕ)) → Only (Is Config) (name_from found)
 name_only None = only_err (Is Config) Config refl
 name_only (Some s) = only_if (Is Config) (is_name s) (Ok s) (Err Config) (only_ok (Is Config) s) (only_err (Is Config) Config refl)
 
-absent_only : (kind : LineKind) (found : Option Data) → Only (Is kind) (absent kind found)
+absent_only : (kind : FaultKind) (found : Option Data) → Only (Is kind) (absent kind found)
 absent_only kind found = only_refused (Is kind) (is_some found) kind refl
 
 eviction_only : (d : Data) → Only (Is Config) (eviction_unset d)
@@ -99,7 +99,7 @@ json_only line =
     let P = Is NotJson in
     only_if P (is_utf8 line) (some_or NotJson (read line)) (Err NotJson) (only_some P NotJson (read line) refl) (only_err P NotJson refl)
 
-abbrev IsManifest : LineKind → Type 0
+abbrev IsManifest : FaultKind → Type 0
 IsManifest kind = (fault : ManifestFault) × (kind ≡ Manifest fault) × IsFound fault
 
 manifest_only : {A : Type 0} (r : Result A ManifestFault) → Only IsFound r → Only IsManifest (of_manifest r)
@@ -143,7 +143,7 @@ attempt_only None = only_ok (Is Usage) 0
 attempt_only (Some d) = attempt_from_only (option_and_then as_u64 (as_number d))
 
 -- a test that answers a value, and the tests after it
-value_if : {A : Type 0} (b : Bool) (value : A) (rest : Result A LineKind) → Only (Is Usage) rest → Only (Is Usage) (if b then Ok value else rest)
+value_if : {A : Type 0} (b : Bool) (value : A) (rest : Result A FaultKind) → Only (Is Usage) rest → Only (Is Usage) (if b then Ok value else rest)
 value_if b value rest only = only_if (Is Usage) b (Ok value) rest (only_ok (Is Usage) value) only
 
 named_only : (s : List ℕ) → Only (Is Usage) (state_named s)
@@ -213,7 +213,7 @@ entries_only d =
     only_bind P _ _ (absent_only Usage (field_at (codes "signals") d)) (λ signals.
     only_bind P _ _ (absent_only Usage (field_at (codes "afterReclaim") d)) (λ after. only_ok P es))))
 
-abbrev IsStranger : LineKind → Type 0
+abbrev IsStranger : FaultKind → Type 0
 IsStranger kind = (kind ≡ StrangerPod) ⊎ (kind ≡ StrangerContainer)
 
 number_only : (keys : List (List ℕ)) (entry : Entry) → Only IsStranger (number_in keys entry)
@@ -255,14 +255,14 @@ kinds_of_checks = record {
 }
 
 -- a kind that isn't for want of memory
-is_not : (kind given : LineKind) → kind ≡ given → IsNotMemory given → IsNotMemory kind
+is_not : (kind given : FaultKind) → kind ≡ given → IsNotMemory given → IsNotMemory kind
 is_not kind given is never = subst IsNotMemory (sym is) never
 
-fails_not_memory : (past : Past) (line : List ℕ) (kind : LineKind) → Fails past line kind → IsNotMemory kind
+fails_not_memory : (past : Past) (line : List ℕ) (kind : FaultKind) → Fails past line kind → IsNotMemory kind
 fails_not_memory past line _ (too_long long) = (λ memory. absurd (cc), λ memory. absurd (cc))
 fails_not_memory past line _ (not_json kind short e) = is_not kind NotJson ((json_only line).has kind e) (λ memory. absurd (cc), λ memory. absurd (cc))
 fails_not_memory past line _ (unknown_kind d is none) = (λ memory. absurd (cc), λ memory. absurd (cc))
-fails_not_memory past line _ (misplaced sort d is never) = (λ memory. absurd (cc), λ memory. absurd (cc))
+fails_not_memory past line _ (misplaced line_kind d is never) = (λ memory. absurd (cc), λ memory. absurd (cc))
 fails_not_memory past line _ (wrong_node d kind is e) = is_not kind Config ((node_only d).has kind e) (λ memory. absurd (cc), λ memory. absurd (cc))
 fails_not_memory past line _ (many_pods d is some) = (λ memory. absurd (cc), λ memory. absurd (cc))
 fails_not_memory past line _ (wrong_pod d kind is none e) =
