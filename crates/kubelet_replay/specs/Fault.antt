@@ -2,8 +2,8 @@
 use Rattle.std.specs.Prelude.{ℕ, List, [], ◌∷◌, Option, Some, None, codes}
 use Rattle.std.specs.Fmt.{decimal}
 use Rattle.manifest.specs.Fault.{number_of as manifest_number}
-use Rattle.trace.specs.declared.fault.LineKind.{LineKind}
-use Rattle.trace.specs.declared.fault.LineKind.TheVariants.{Manifest}
+use Rattle.trace.specs.declared.fault.FaultKind.{FaultKind}
+use Rattle.trace.specs.declared.fault.FaultKind.TheVariants.{Manifest}
 use Rattle.trace.specs.Faults.{number_of, word_of}
 use Rattle.kubelet_replay.specs.Texts.{joined}
 use Rattle.kubelet_replay.specs.declared.fault.RunFault.{RunFault}
@@ -17,7 +17,7 @@ status OutOfMemory = 1
 status Write = 1
 
 -- the number of a refused manifest's own fault
-abbrev pub reason_of : LineKind → Option ℕ
+abbrev pub reason_of : FaultKind → Option ℕ
 reason_of (Manifest fault) = Some (manifest_number fault)
 reason_of kind = None
 
@@ -28,7 +28,7 @@ abbrev pub with_reason : List ℕ → Option ℕ → List ℕ
 with_reason text None = text
 with_reason text (Some n) = joined (text ∷ codes " " ∷ decimal n ∷ [])
 
-abbrev pub line_of_kind : ℕ → LineKind → List ℕ
+abbrev pub line_of_kind : ℕ → FaultKind → List ℕ
 line_of_kind line kind = with_reason (line_text line (number_of kind) (word_of kind)) (reason_of kind)
 
 abbrev pub line_of : RunFault → List ℕ

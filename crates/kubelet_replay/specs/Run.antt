@@ -2,8 +2,8 @@
 use Rattle.std.specs.Prelude.{◌≡◌, ℕ, ◌<◌, ◌≤◌, List, length, take, Option, Some, None, Result, Ok, Err}
 use Rattle.std.specs.Io.KnownBytes.{Appends}
 use Rattle.trace.specs.declared.past.Trace.{Trace}
-use Rattle.trace.specs.declared.fault.LineKind.{LineKind}
-use Rattle.trace.specs.declared.fault.LineKind.TheVariants as kinds
+use Rattle.trace.specs.declared.fault.FaultKind.{FaultKind}
+use Rattle.trace.specs.declared.fault.FaultKind.TheVariants as kinds
 use Rattle.trace.specs.declared.fault.LineFault.{LineFault}
 use Rattle.trace.specs.Trace.{trace_of}
 use Rattle.kubelet_replay.specs.declared.fault.RunFault.{RunFault}
@@ -53,7 +53,7 @@ pub record IsReportOfText (text bytes : List ℕ) : Type 0 where
   pub is_trace : trace_of text ≡ Ok trace
   pub report : IsReport trace.ticks trace.pods bytes
 
-abbrev pub run_fault : LineKind → LineFault → RunFault
+abbrev pub run_fault : FaultKind → LineFault → RunFault
 run_fault kinds.OutOfMemory fault = OutOfMemory
 run_fault kind fault = Line fault
 

@@ -5,7 +5,7 @@ ghost use Rattle.kubelet_replay.specs.Fault.{status, reason_of, line_text, with_
 
 use std::alloc::{AllocError, Global};
 use thiserror::Error;
-use trace::{LineFault, LineKind};
+use trace::{FaultKind, LineFault};
 
 /// Why a replay wrote no whole report.
 #[derive(Clone, Copy, Debug, PartialEq, Eq, Error)]
@@ -39,11 +39,11 @@ pub fn status_of(fault: &RunFault) -> u8
 }
 
 /// Why the manifest was refused, if it was.
-fn reason_of(kind: LineKind) -> Option<u8>
+fn reason_of(kind: FaultKind) -> Option<u8>
     ensures { result ≡ reason_of kind }
 {
     match kind {
-        LineKind::Manifest(fault) => Some(fault.number()),
+        FaultKind::Manifest(fault) => Some(fault.number()),
         _ => None,
     }
 }
@@ -60,7 +60,7 @@ fn with_reason(alloc: Global, text: &str, reason: u8) -> Result<String, AllocErr
     format!(in alloc; "{text} {reason}")
 }
 
-fn line_of_kind(alloc: Global, line: u64, kind: LineKind) -> Result<String, AllocError>
+fn line_of_kind(alloc: Global, line: u64, kind: FaultKind) -> Result<String, AllocError>
     ensures { IfOk result (λ text. string_bytes text ≡ line_of_kind line kind) }
 {
     let text = line_text(alloc, line, kind.number(), kind.word())?;

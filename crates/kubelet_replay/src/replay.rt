@@ -8,7 +8,7 @@ use crate::fault::RunFault;
 use crate::report::report_of;
 use replay_stream::{ReadAllFault, Sink, Source, read_all, write_all};
 use std::alloc::Global;
-use trace::{LineFault, LineKind, read_trace};
+use trace::{FaultKind, LineFault, read_trace};
 
 /// The greatest length of an input: 64 MiB.
 const LONGEST_INPUT: usize = 67_108_864;
@@ -31,7 +31,7 @@ fn fault_of(fault: LineFault) -> RunFault
     ensures { result ≡ fault_of fault }
 {
     match fault.kind {
-        LineKind::OutOfMemory => RunFault::OutOfMemory,
+        FaultKind::OutOfMemory => RunFault::OutOfMemory,
         _ => RunFault::Line(fault),
     }
 }

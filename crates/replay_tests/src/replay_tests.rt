@@ -6,7 +6,7 @@ use manifest::ManifestFault;
 use std::alloc::Global;
 use std::process::Abort;
 use std::test::Fail;
-use trace::{LineFault, LineKind};
+use trace::{FaultKind, LineFault};
 
 /// A pod that runs from its first tick on.
 pub(crate) const FIRST_TICK: &str = r#"{"kind":"node","name":"n1"}
@@ -54,7 +54,7 @@ pub(crate) fn expect(
     );
 }
 
-pub(crate) fn refused(line: u64, kind: LineKind) -> Result<(), RunFault> {
+pub(crate) fn refused(line: u64, kind: FaultKind) -> Result<(), RunFault> {
     Err(RunFault::Line(LineFault { line, kind }))
 }
 
@@ -64,12 +64,12 @@ fn each_beginning_of_a_text_is_answered(rt: HostRuntime) {
     assert_eq!(rt; bytes.len(), 234);
     for end in 0..bytes.len() {
         let (wanted, report) = match end {
-            0 => (refused(1, LineKind::Order), ""),
-            1..=26 => (refused(1, LineKind::NotJson), ""),
+            0 => (refused(1, FaultKind::Order), ""),
+            1..=26 => (refused(1, FaultKind::NotJson), ""),
             27 | 28 => (Ok(()), ""),
-            29..=110 => (refused(2, LineKind::NotJson), ""),
+            29..=110 => (refused(2, FaultKind::NotJson), ""),
             111 | 112 => (Ok(()), PENDING_REPORT),
-            113..=232 => (refused(3, LineKind::NotJson), ""),
+            113..=232 => (refused(3, FaultKind::NotJson), ""),
             _ => (Ok(()), FIRST_REPORT),
         };
         expect(&rt, rt.alloc(), &bytes[..end], wanted, report);
@@ -120,7 +120,7 @@ const REFUSALS: [(RunFault, u8, &str); 8] = [
     (
         RunFault::Line(LineFault {
             line: 1,
-            kind: LineKind::TooLong,
+            kind: FaultKind::TooLong,
         }),
         2,
         "line 1: 31 TooLong",
@@ -128,7 +128,7 @@ const REFUSALS: [(RunFault, u8, &str); 8] = [
     (
         RunFault::Line(LineFault {
             line: 3,
-            kind: LineKind::OutOfMemory,
+            kind: FaultKind::OutOfMemory,
         }),
         2,
         "line 3: 47 OutOfMemory",
@@ -136,7 +136,7 @@ const REFUSALS: [(RunFault, u8, &str); 8] = [
     (
         RunFault::Line(LineFault {
             line: 2,
-            kind: LineKind::Manifest(ManifestFault::OutOfMemory),
+            kind: FaultKind::Manifest(ManifestFault::OutOfMemory),
         }),
         2,
         "line 2: 35 Manifest 20",
@@ -144,7 +144,7 @@ const REFUSALS: [(RunFault, u8, &str); 8] = [
     (
         RunFault::Line(LineFault {
             line: u64::MAX,
-            kind: LineKind::Usage,
+            kind: FaultKind::Usage,
         }),
         2,
         "line 18446744073709551615: 46 Usage",

@@ -6,7 +6,7 @@ use std::alloc::{AllocError, Global};
 use std::io;
 use std::io::Read;
 use std::test::Fail;
-use trace::LineKind;
+use trace::FaultKind;
 
 /// A node line, with its newline.
 const NODE: &str = "{\"kind\":\"node\",\"name\":\"n1\"}\n";
@@ -24,11 +24,11 @@ fn lines_may_have_one_mebibyte(rt: HostRuntime) -> Result<(), Fail> {
     for (spaces, end, wanted) in [
         // a node line has 27 bytes
         (1_048_549, NODE, Ok(())),
-        (1_048_550, NODE, refused(1, LineKind::TooLong)),
+        (1_048_550, NODE, refused(1, FaultKind::TooLong)),
         (1_048_577, blank, Ok(())),
         // no JSON either, which is said of a line of one byte less
-        (1_048_576, "{", refused(1, LineKind::TooLong)),
-        (1_048_575, "{", refused(1, LineKind::NotJson)),
+        (1_048_576, "{", refused(1, FaultKind::TooLong)),
+        (1_048_575, "{", refused(1, FaultKind::NotJson)),
     ] {
         let text = after_spaces(rt.alloc(), spaces, end)?;
         expect(&rt, rt.alloc(), text.as_bytes(), wanted, "");
@@ -69,7 +69,7 @@ fn traces_may_have_20_000_ticks(rt: HostRuntime) -> Result<(), Fail> {
     expect(&rt, rt.alloc(), text.as_bytes(), Ok(()), LAST_TICK_REPORT);
     // one more tick, whose moment is faulty too
     text.push_str("\n{\"kind\":\"tick\",\"at\":0}\n")?;
-    let wanted = refused(20_003, LineKind::TooMany);
+    let wanted = refused(20_003, FaultKind::TooMany);
     expect(&rt, rt.alloc(), text.as_bytes(), wanted, "");
     Ok(())
 }
@@ -92,7 +92,7 @@ impl Read for Spaces {
 #[test]
 fn inputs_may_have_64_mebibytes(rt: HostRuntime) {
     for (left, wanted) in [
-        (67_108_864, refused(2, LineKind::Order)),
+        (67_108_864, refused(2, FaultKind::Order)),
         (67_108_865, Err(RunFault::TooLong)),
     ] {
         let mut room = [0u8; 10];

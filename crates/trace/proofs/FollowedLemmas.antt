@@ -2,9 +2,8 @@
 use Rattle.std.proofs.Common.{◌≡◌, ◌∙◌, ℕ, zero, suc, ◌+◌, ◌<◌, ◌≤◌, ◌||◌, not, Bool, true, false, List, [], ◌∷◌, ◌++◌, length, map, get_or, Option, Some, None, Ok, Err, refl, ap, sym, subst, inl, inr, arith}
 use Rattle.std.specs.Prelude.{slice_get, option_and_then, MatchBool}
 use Rattle.std.specs.List.{All}
-use Rattle.std.proofs.Math.Seq.{get_or-append_seam}
 use Rattle.std.proofs.lemmas.Bool.{cases_Bool, cases_lt}
-use Rattle.std.proofs.lemmas.List.{map_push, length-append, get_or_append_left}
+use Rattle.std.proofs.lemmas.List.{map_push, length-append}
 use Rattle.histories.specs.Histories.{recorded}
 use Rattle.histories.proofs.Items.{pushed_each, any_default}
 use Rattle.json_fields.specs.Reading.{refused_if}
@@ -15,8 +14,8 @@ use Rattle.state_diff.specs.Acceptable.{is_acceptable}
 use Rattle.state_diff.specs.Differ.{IsStateOf, IsBefore}
 use Rattle.state_diff.proofs.Steps.{is_before}
 use Rattle.state_diff.specs.Instances.{Tick}
-use Rattle.trace.specs.declared.fault.LineKind.{LineKind}
-use Rattle.trace.specs.declared.fault.LineKind.TheVariants.{Backwards}
+use Rattle.trace.specs.declared.fault.FaultKind.{FaultKind}
+use Rattle.trace.specs.declared.fault.FaultKind.TheVariants.{Backwards}
 use Rattle.observations.specs.declared.container.ContainerObs.{ContainerObs}
 use Rattle.observations.specs.declared.pod.PodObs.{PodObs}
 use Rattle.observations.specs.declared.tick.TickObs.{TickObs}
@@ -29,7 +28,7 @@ use Rattle.trace.specs.declared.placing.PlacedListing.{PlacedListing}
 use Rattle.trace.specs.declared.placing.PlacedResult.{PlacedResult}
 use Rattle.manifest.specs.declared.pod.ContainerSpec.{ContainerSpec}
 use Rattle.trace.specs.Observed.{observed, entry_for, listings_of, results_of, pods_from, containers_from}
-use Rattle.trace.proofs.Sound.{seen_in_pod, pods_forwards}
+use Rattle.trace.proofs.Forwards.{seen_in_pod, pods_forwards}
 use Rattle.trace.proofs.Moments.{history-ends_before}
 
 blank : Differ
@@ -77,7 +76,7 @@ pod_taken_more tick n old new from shown next kept lt is is_shown is_kept before
       each = λ p ds within. pushed_each P new kept n before.as_many done here p ds within ds;
     }
 
-pub some_pod_refuses : (tick : TickObs) (n : ℕ) (old : List (List Differ)) (from shown : List Differ) (fault : LineKind) → n < length old → from ≡ get_or old n from → shown ≡ from
+pub some_pod_refuses : (tick : TickObs) (n : ℕ) (old : List (List Differ)) (from shown : List Differ) (fault : FaultKind) → n < length old → from ≡ get_or old n from → shown ≡ from
     → IsRefusal (SomeRefuses tick n shown) fault → IsRefusal (SomePodRefuses tick old) fault
 some_pod_refuses tick n old from shown fault lt is is_shown why = elim why [
   | inl memory ↦ inl memory
@@ -151,7 +150,7 @@ pub differ_before : (differs : List Differ) (n : ℕ) (from : Differ) (moment : 
 differ_before differs n from moment lt is all = subst (λ (d : Differ). IsBefore d moment) (sym is) (all n from lt)
 
 -- a tick shows each container of the pods
-containers_shown : (ls : List PlacedListing) (rs : List PlacedResult) (n : ℕ) (cs : List ContainerSpec) → length (containers_from ls rs n cs) ≡ length cs
+pub containers_shown : (ls : List PlacedListing) (rs : List PlacedResult) (n : ℕ) (cs : List ContainerSpec) → length (containers_from ls rs n cs) ≡ length cs
 containers_shown ls rs n [] = refl
 containers_shown ls rs n (c ∷ cs) = ap suc (containers_shown ls rs (n + 1) cs)
 
@@ -257,11 +256,11 @@ pub given_taken : (ticks : List TickObs) (tick : TickObs) (pods : List PodSpec) 
     → refused_if (is_backwards ticks tick) Backwards ≡ Ok tt
 given_taken ticks tick pods old new shown all taken = rw (forwards ticks tick pods old new shown all taken) refl
 
-pub given_refused : (ticks : List TickObs) (tick : TickObs) (pods : List PodSpec) (old : List (List Differ)) (fault : LineKind) → AreFollowed ticks pods old → IsRefusal (SomePodRefuses tick old) fault
+pub given_refused : (ticks : List TickObs) (tick : TickObs) (pods : List PodSpec) (old : List (List Differ)) (fault : FaultKind) → AreFollowed ticks pods old → IsRefusal (SomePodRefuses tick old) fault
     → MatchBool (is_memory fault) (Unit {0}) (refused_if (is_backwards ticks tick) Backwards ≡ Err fault)
 given_refused ticks tick pods old fault all why = elim why [
-  | inl memory ↦ subst (λ (e : LineKind). MatchBool (is_memory e) (Unit {0}) (refused_if (is_backwards ticks tick) Backwards ≡ Err e)) (sym memory) tt
+  | inl memory ↦ subst (λ (e : FaultKind). MatchBool (is_memory e) (Unit {0}) (refused_if (is_backwards ticks tick) Backwards ≡ Err e)) (sym memory) tt
   | inr back ↦
       let is : refused_if (is_backwards ticks tick) Backwards ≡ Err Backwards = rw (backwards ticks tick pods old all back.1) refl in
-      subst (λ (e : LineKind). MatchBool (is_memory e) (Unit {0}) (refused_if (is_backwards ticks tick) Backwards ≡ Err e)) (sym back.0) is
+      subst (λ (e : FaultKind). MatchBool (is_memory e) (Unit {0}) (refused_if (is_backwards ticks tick) Backwards ≡ Err e)) (sym back.0) is
 ]

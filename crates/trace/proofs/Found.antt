@@ -8,7 +8,7 @@ use Rattle.serde_json.specs.Read.{read}
 use Rattle.serde_json.specs.View.{view, items_view}
 use Rattle.serde_json.specs.declared.value.Value.{Value}
 use Rattle.json_fields.proofs.Items.{items_list-items_of}
-use Rattle.trace.specs.declared.fault.LineKind.TheVariants.{NotJson}
+use Rattle.trace.specs.declared.fault.FaultKind.TheVariants.{NotJson}
 use Rattle.trace.specs.Listings.{items_from}
 use Rattle.trace.specs.Trace.{json_of}
 

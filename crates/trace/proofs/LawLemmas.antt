@@ -1,53 +1,40 @@
 -- The trace of a text is what its lines say, or its first fault.
 pub mod Checks
+pub mod GoingBack
 pub mod Kinds
+pub mod Listings
 pub mod Results
 pub mod Strangers
-use Rattle.std.proofs.Common.{◌≡◌, ◌≢◌, ◌∙◌, ◌⊎◌, ◌↔◌, ℕ, zero, suc, ◌+◌, ◌≤◌, ◌<◌, Bool, true, false, List, [], ◌∷◌, ◌++◌, length, drop, get_or, slice_get, Option, Some, None, Result, Ok, Err, refl, ap, sym, subst, inl, inr, arith, is_some, drop-cons}
-use Rattle.std.specs.Prelude.{⊤, ◌==◌, ◌&&◌, ◌-◌, ◌^◌, if◌then◌else◌, option_and_then, nat_lt, nat_le, codes}
+use Rattle.std.proofs.Common.{◌≡◌, ◌∙◌, ◌⊎◌, ℕ, zero, suc, ◌+◌, ◌≤◌, ◌<◌, true, false, List, [], ◌∷◌, ◌++◌, length, drop, get_or, slice_get, Option, Some, None, Result, Ok, Err, refl, ap, sym, subst, inl, inr, arith, is_some, drop-cons}
+use Rattle.std.specs.Prelude.{⊤, ◌-◌, nat_lt, nat_le, codes}
 use Rattle.std.proofs.Math.Seq.{drop-length}
-use Rattle.std.proofs.lemmas.Bool.{cases_Bool, ltb-true, ltb-false, lt-ltb, le-ltb, leb-true, leb-false, le-leb, lt-leb}
+use Rattle.std.proofs.lemmas.Bool.{cases_Bool}
 use Rattle.std.proofs.lemmas.Option.{slice_get_within, slice_get-get_or, get_or_from_slice_get}
-use Rattle.serde_json.specs.Data.{Data, Items}
-use Rattle.serde_json.specs.Find.{as_str, as_number, as_u64, as_array}
-use Rattle.manifest.specs.Names.{is_name}
+use Rattle.serde_json.specs.Data.{Data}
 use Rattle.json_fields.specs.Fields.{field_at, text_at}
-use Rattle.json_fields.specs.Reading.{◌>>=◌, refused_if, some_or, each}
+use Rattle.json_fields.specs.Reading.{◌>>=◌, refused_if, some_or}
 use Rattle.json_fields.proofs.Steps.{bind_ok}
 use Rattle.manifest.specs.declared.pod.PodSpec.{PodSpec}
-use Rattle.trace.specs.declared.fault.LineKind.{LineKind}
-use Rattle.trace.specs.declared.fault.LineKind.TheVariants.{TooLong, NotJson, Config, Manifest, Moment, Usage, StrangerPod, StrangerContainer, OutOfMemory, UnknownKind, Order, TooMany, Doubled, Backwards, ExitCode}
+use Rattle.trace.specs.declared.fault.FaultKind.{FaultKind}
+use Rattle.trace.specs.declared.fault.FaultKind.TheVariants.{TooLong, DuplicatePod, UnknownKind, Order, TooMany}
 use Rattle.trace.specs.declared.fault.LineFault.{LineFault}
 use Rattle.trace.specs.declared.node.NodeConfig.{NodeConfig}
 use Rattle.trace.specs.declared.past.Trace.{Trace}
-use Rattle.trace.specs.declared.past.Sort.{Sort}
-use Rattle.trace.specs.declared.past.Sort.TheVariants as sorts
+use Rattle.trace.specs.declared.past.LineKind.{LineKind}
+use Rattle.trace.specs.declared.past.LineKind.TheVariants as kinds
 use Rattle.observations.specs.declared.tick.TickObs.{TickObs}
 use Rattle.trace.specs.declared.listing.Entry.{Entry}
 use Rattle.trace.specs.declared.placing.PlacedEntry.{PlacedEntry}
 use Rattle.trace.specs.Lines.{lines_of, is_blank}
-use Rattle.trace.specs.Node.{version_from, version_of, name_from, absent, eviction_unset, node_of}
-use Rattle.manifest.specs.declared.fault.ManifestFault.{ManifestFault}
-use Rattle.manifest.specs.declared.fault.ManifestFault.TheVariants.{Missing}
-use Rattle.manifest.specs.declared.fault.Field.TheVariants as fields
-use Rattle.manifest.specs.Manifest.{pod_at}
-use Rattle.manifest.specs.Containers.{names_of}
-use Rattle.name_list.specs.Names.{place_of}
+use Rattle.trace.specs.Node.{node_of}
 use Rattle.serde_json.specs.Read.{read}
-use Rattle.std.specs.Str.{is_utf8}
-use Rattle.state_diff.specs.declared.seen.CriState.{CriState}
-use Rattle.state_diff.specs.declared.seen.CriState.TheVariants.{Created, Running, Exited, Unknown}
-use Rattle.trace.specs.declared.listing.Listing.{Listing}
-use Rattle.json_fields.specs.Fields.{items_list}
-use Rattle.trace.specs.Pod.{keys_of, of_manifest, pod_from}
-use Rattle.trace.specs.Listings.{attempt_from, attempt_of, state_named, state_numbered, state_from, state_of, listing_of, items_from, items_of, entry_of, entries_of}
-use Rattle.trace.specs.Placing.{number_in, pod_numbered, placed_listing, placed_entry, placed_of, is_doubled}
-use Rattle.trace.specs.Observed.{observed, some_code_missing}
-use Rattle.trace.specs.Backwards.{is_backwards}
+use Rattle.trace.specs.Pod.{key_of_pod, has_key, most_pods, pod_from}
+use Rattle.trace.specs.Listings.{entries_of}
+use Rattle.trace.specs.Placing.{placed_of}
 use Rattle.trace.specs.Past.{Past, with_tick}
-use Rattle.trace.specs.Tick.{is_later, moment_from, moment_of, most_ticks, observed_in, tick_at}
+use Rattle.trace.specs.Tick.{moment_of, most_ticks, observed_in, tick_at}
 use Rattle.trace.specs.Trace.{json_of, kind_from, with_node, pod_line_at, in_order, line_at, at_line, finished, read_on, nothing, trace_of}
-use Rattle.trace.specs.Laws.{Leaves, AreSaid, IsFaultAt, NoneCounts, IsFirstFault, IsWhole, FirstFault, WholeTrace, OneFault, IsJson, IsOfKind, MayStand, Stands, HasMoment, HasEntries, HasPlaces, IsApart, IsForwards, Fails, too_long, not_json, unknown_kind, misplaced, wrong_node, many_pods, wrong_pod, many_ticks, wrong_moment, wrong_entry, stranger, doubled, backwards, no_code, FirstCheck, Says, says_node, says_pod, says_tick, AllChecks, KindsOfChecks, NeverMemory}
+use Rattle.trace.specs.Laws.{Leaves, AreSaid, IsFaultAt, NoneCounts, IsFirstFault, IsWhole, FirstFault, WholeTrace, OneFault}
 
 drop_here : (lines : List (List ℕ)) (n : ℕ) (line : List ℕ) → slice_get lines n ≡ Some line → drop n lines ≡ line ∷ drop (suc n) lines
 drop_here lines n line e =
@@ -65,12 +52,12 @@ goes_on n before line past rest (inl blank) =
     let skipped : read_on n before (line ∷ rest) ≡ read_on (n + 1) before rest = rw blank.0 refl in
     skipped ∙ ap (λ (p : Past). read_on (n + 1) p rest) (sym blank.1)
 goes_on n before line past rest (inr counts) =
-    line_of n before line rest counts.0 ∙ ap (λ (r : Result Past LineKind). at_line n r >>= λ next. read_on (n + 1) next rest) counts.1
+    line_of n before line rest counts.0 ∙ ap (λ (r : Result Past FaultKind). at_line n r >>= λ next. read_on (n + 1) next rest) counts.1
 
-ends_at : (n : ℕ) (before : Past) (line : List ℕ) (kind : LineKind) (rest : List (List ℕ)) → is_blank line ≡ false → line_at before line ≡ Err kind
+ends_at : (n : ℕ) (before : Past) (line : List ℕ) (kind : FaultKind) (rest : List (List ℕ)) → is_blank line ≡ false → line_at before line ≡ Err kind
     → read_on n before (line ∷ rest) ≡ Err (record { line = n; kind = kind })
 ends_at n before line kind rest counts fails =
-    line_of n before line rest counts ∙ ap (λ (r : Result Past LineKind). at_line n r >>= λ next. read_on (n + 1) next rest) fails
+    line_of n before line rest counts ∙ ap (λ (r : Result Past FaultKind). at_line n r >>= λ next. read_on (n + 1) next rest) fails
 
 -- once the first n lines are read, the others are read after what those say
 reaches : (lines : List (List ℕ)) (n : ℕ) (past : Past) → AreSaid lines n past → read_on 1 nothing lines ≡ read_on (n + 1) past (drop n lines)
@@ -82,7 +69,7 @@ reaches lines (suc n) past (before, line, said, here, leaves) =
     let next = goes_on (n + 1) before line past (drop (suc n) lines) leaves in
     so_far ∙ ap (λ (ls : List (List ℕ)). read_on (n + 1) before ls) cut ∙ next ∙ ap (λ (k : ℕ). read_on (k + 1) past (drop (suc n) lines)) ones
 
-refused : (lines : List (List ℕ)) (n : ℕ) (kind : LineKind) → IsFaultAt lines n kind → read_on 1 nothing lines ≡ Err (record { line = n + 1; kind = kind })
+refused : (lines : List (List ℕ)) (n : ℕ) (kind : FaultKind) → IsFaultAt lines n kind → read_on 1 nothing lines ≡ Err (record { line = n + 1; kind = kind })
 refused lines n kind is =
     reaches lines n is.past is.said ∙ ap (λ (ls : List (List ℕ)). read_on (n + 1) is.past ls) (drop_here lines n is.line is.here)
     ∙ ends_at (n + 1) is.past is.line kind (drop (suc n) lines) is.counts is.fails
@@ -92,10 +79,10 @@ ended lines past said =
     reaches lines (length lines) past said ∙ ap (λ (ls : List (List ℕ)). read_on (length lines + 1) past ls) (drop-length lines)
 
 abbrev Reached : List (List ℕ) → ℕ → Type 0
-Reached lines n = ((past : Past) × AreSaid lines n past) ⊎ ((m : ℕ) × (kind : LineKind) × IsFaultAt lines m kind)
+Reached lines n = ((past : Past) × AreSaid lines n past) ⊎ ((m : ℕ) × (kind : FaultKind) × IsFaultAt lines m kind)
 
 line_says : (lines : List (List ℕ)) (n : ℕ) (past : Past) (line : List ℕ) (said : AreSaid lines n past) (here : slice_get lines n ≡ Some line)
-    (counts : is_blank line ≡ false) (r : Result Past LineKind) → line_at past line ≡ r → Reached lines (suc n)
+    (counts : is_blank line ≡ false) (r : Result Past FaultKind) → line_at past line ≡ r → Reached lines (suc n)
 line_says lines n past line said here counts (Ok next) e = inl (next, (past, line, said, here, inr (counts, e)))
 line_says lines n past line said here counts (Err kind) e = inr (n, kind, record { past = past; line = line; said = said; here = here; counts = counts; fails = e })
 
@@ -118,7 +105,7 @@ with_node_some : (past : Past) (d : Data) (next : Past) → with_node past d ≡
 unfolding with_node
 with_node_some past d next e =
     let with : NodeConfig → Past = λ node. record { node = Some node; pods = past.pods; ticks = past.ticks } in
-    let last : NodeConfig → Result Past LineKind = λ node. Ok (with node) in
+    let last : NodeConfig → Result Past FaultKind = λ node. Ok (with node) in
     let node = bind_ok (node_of d) last next e in
     let given : Ok (with node.0) ≡ Ok next = node.2 in
     let is_next : with node.0 ≡ next = cc in
@@ -128,24 +115,26 @@ pod_line_keeps : (past : Past) (d : Data) (next : Past) → pod_line_at past d �
 unfolding pod_line_at
 pod_line_keeps past d next e =
     let with_pod : PodSpec → Past = λ pod. record { node = past.node; pods = past.pods ++ pod ∷ []; ticks = past.ticks } in
-    let last : PodSpec → Result Past LineKind = λ pod. Ok (with_pod pod) in
-    let read : ⊤ → Result Past LineKind = λ u. pod_from (field_at (codes "pod") d) >>= last in
-    let first : ⊤ → Result Past LineKind = λ u. refused_if (nat_lt 0 (length past.pods)) TooMany >>= read in
+    let last : PodSpec → ⊤ → Result Past FaultKind = λ pod u. Ok (with_pod pod) in
+    let keyed : PodSpec → Result Past FaultKind = λ pod. refused_if (has_key past.pods (key_of_pod pod)) DuplicatePod >>= last pod in
+    let read : ⊤ → Result Past FaultKind = λ u. pod_from (field_at (codes "pod") d) >>= keyed in
+    let first : ⊤ → Result Past FaultKind = λ u. refused_if (nat_le most_pods (length past.pods)) TooMany >>= read in
     let before = bind_ok (refused_if (nat_lt 0 (length past.ticks)) Order) first next e in
-    let only = bind_ok (refused_if (nat_lt 0 (length past.pods)) TooMany) read next before.2 in
-    let pod = bind_ok (pod_from (field_at (codes "pod") d)) last next only.2 in
-    let given : Ok (with_pod pod.0) ≡ Ok next = pod.2 in
+    let room = bind_ok (refused_if (nat_le most_pods (length past.pods)) TooMany) read next before.2 in
+    let pod = bind_ok (pod_from (field_at (codes "pod") d)) keyed next room.2 in
+    let new = bind_ok (refused_if (has_key past.pods (key_of_pod pod.0)) DuplicatePod) (last pod.0) next pod.2 in
+    let given : Ok (with_pod pod.0) ≡ Ok next = new.2 in
     let is_next : with_pod pod.0 ≡ next = cc in
     ap (λ (p : Past). p.node) is_next
 
 tick_line_keeps : (past : Past) (d : Data) (next : Past) → tick_at past d ≡ Ok next → past.node ≡ next.node
 unfolding tick_at
 tick_line_keeps past d next e =
-    let last : TickObs → Result Past LineKind = λ t. Ok (with_tick past t) in
-    let seen : ℕ → List PlacedEntry → Result Past LineKind = λ at ps. observed_in past at ps >>= last in
-    let place : ℕ → List Entry → Result Past LineKind = λ at es. placed_of past.pods es >>= seen at in
-    let list : ℕ → Result Past LineKind = λ at. entries_of d >>= place at in
-    let moment : ⊤ → Result Past LineKind = λ u. moment_of past.ticks (field_at (codes "at") d) >>= list in
+    let last : TickObs → Result Past FaultKind = λ t. Ok (with_tick past t) in
+    let seen : ℕ → List PlacedEntry → Result Past FaultKind = λ at ps. observed_in past at ps >>= last in
+    let place : ℕ → List Entry → Result Past FaultKind = λ at es. placed_of past.pods es >>= seen at in
+    let list : ℕ → Result Past FaultKind = λ at. entries_of d >>= place at in
+    let moment : ⊤ → Result Past FaultKind = λ u. moment_of past.ticks (field_at (codes "at") d) >>= list in
     let room = bind_ok (refused_if (nat_le most_ticks (length past.ticks)) TooMany) moment next e in
     let at = bind_ok (moment_of past.ticks (field_at (codes "at") d)) list next room.2 in
     let entries = bind_ok (entries_of d) (place at.0) next at.2 in
@@ -155,24 +144,24 @@ tick_line_keeps past d next e =
     let is_next : with_tick past tick.0 ≡ next = cc in
     ap (λ (p : Past). p.node) {x = with_tick past tick.0} is_next
 
-in_order_some : (node : Option NodeConfig) (past : Past) (sort : Sort) (d : Data) (next : Past) → past.node ≡ node → in_order node past sort d ≡ Ok next → is_some next.node ≡ true
-in_order_some None past sorts.Node d next is e = with_node_some past d next e
-in_order_some None past sorts.Pod d next is e = absurd (cc)
-in_order_some None past sorts.Tick d next is e = absurd (cc)
-in_order_some (Some node) past sorts.Node d next is e = absurd (cc)
-in_order_some (Some node) past sorts.Pod d next is e = subst (λ (o : Option NodeConfig). is_some o ≡ true) (sym is ∙ pod_line_keeps past d next e) refl
-in_order_some (Some node) past sorts.Tick d next is e = subst (λ (o : Option NodeConfig). is_some o ≡ true) (sym is ∙ tick_line_keeps past d next e) refl
+in_order_some : (node : Option NodeConfig) (past : Past) (line_kind : LineKind) (d : Data) (next : Past) → past.node ≡ node → in_order node past line_kind d ≡ Ok next → is_some next.node ≡ true
+in_order_some None past kinds.Node d next is e = with_node_some past d next e
+in_order_some None past kinds.Pod d next is e = absurd (cc)
+in_order_some None past kinds.Tick d next is e = absurd (cc)
+in_order_some (Some node) past kinds.Node d next is e = absurd (cc)
+in_order_some (Some node) past kinds.Pod d next is e = subst (λ (o : Option NodeConfig). is_some o ≡ true) (sym is ∙ pod_line_keeps past d next e) refl
+in_order_some (Some node) past kinds.Tick d next is e = subst (λ (o : Option NodeConfig). is_some o ≡ true) (sym is ∙ tick_line_keeps past d next e) refl
 
 line_some : (past : Past) (line : List ℕ) (next : Past) → line_at past line ≡ Ok next → is_some next.node ≡ true
 unfolding line_at
 line_some past line next e =
-    let take : Data → Sort → Result Past LineKind = λ d sort. in_order past.node past sort d in
-    let kind : Data → Result Past LineKind = λ d. some_or UnknownKind (kind_from (text_at (codes "kind") d)) >>= take d in
-    let parse : ⊤ → Result Past LineKind = λ u. json_of line >>= kind in
+    let take : Data → LineKind → Result Past FaultKind = λ d line_kind. in_order past.node past line_kind d in
+    let kind : Data → Result Past FaultKind = λ d. some_or UnknownKind (kind_from (text_at (codes "kind") d)) >>= take d in
+    let parse : ⊤ → Result Past FaultKind = λ u. json_of line >>= kind in
     let short = bind_ok (refused_if (nat_lt 1048576 (length line)) TooLong) parse next e in
     let json = bind_ok (json_of line) kind next short.2 in
-    let sort = bind_ok (some_or UnknownKind (kind_from (text_at (codes "kind") json.0))) (take json.0) next json.2 in
-    in_order_some past.node past sort.0 json.0 next refl sort.2
+    let line_kind = bind_ok (some_or UnknownKind (kind_from (text_at (codes "kind") json.0))) (take json.0) next json.2 in
+    in_order_some past.node past line_kind.0 json.0 next refl line_kind.2
 
 earlier : (n m : ℕ) → m < suc n → (m < n) ⊎ (m ≡ n)
 earlier zero zero lt = inr refl
@@ -241,7 +230,7 @@ fault_of lines fault e = elim (said_or_fault lines (length lines) (omega arith))
       let given : Err (record { line = first.0 + 1; kind = first.1 }) ≡ Err fault = sym (refused lines first.0 first.1 first.2) ∙ e in
       let is : record { line = first.0 + 1; kind = first.1 } ≡ fault = cc in
       let kind : first.1 ≡ fault.kind = ap (λ (f : LineFault). f.kind) is in
-      inl (first.0, subst (λ (k : LineKind). IsFaultAt lines first.0 k) kind first.2, ap (λ (f : LineFault). f.line) (sym is))
+      inl (first.0, subst (λ (k : FaultKind). IsFaultAt lines first.0 k) kind first.2, ap (λ (f : LineFault). f.line) (sym is))
 ]
 
 fault_is : (lines : List (List ℕ)) (fault : LineFault) → IsFirstFault lines fault → read_on 1 nothing lines ≡ Err fault
@@ -251,7 +240,7 @@ fault_is lines fault (inr (blank, kind, number)) =
     let said = blanks_said lines blank (length lines) (omega arith) in
     ended lines nothing said
     ∙ ap (λ (k : ℕ). Err (record { line = k; kind = Order })) (sym number)
-    ∙ ap (λ (k : LineKind). Err (record { line = fault.line; kind = k })) (sym kind)
+    ∙ ap (λ (k : FaultKind). Err (record { line = fault.line; kind = k })) (sym kind)
 
 whole_of : (lines : List (List ℕ)) (trace : Trace) → read_on 1 nothing lines ≡ Ok trace → IsWhole lines trace
 whole_of lines trace e = elim (said_or_fault lines (length lines) (omega arith)) [
@@ -284,7 +273,7 @@ one_said lines (suc n) past past' (before, line, said, here, leaves) (before', l
     let same_line : line' ≡ line = cc in
     one_left before past past' line leaves (subst (λ (l : List ℕ). Leaves before l past') same_line (subst (λ (p : Past). Leaves p line' past') same leaves'))
 
-one_first : (lines : List (List ℕ)) (n m : ℕ) (kind kind' : LineKind) → IsFaultAt lines n kind → IsFaultAt lines m kind' → (n ≡ m) × (kind ≡ kind')
+one_first : (lines : List (List ℕ)) (n m : ℕ) (kind kind' : FaultKind) → IsFaultAt lines n kind → IsFaultAt lines m kind' → (n ≡ m) × (kind ≡ kind')
 one_first lines n m kind kind' is is' =
     let given : ◌≡◌ {A = Result Trace LineFault} (Err (record { line = n + 1; kind = kind })) (Err (record { line = m + 1; kind = kind' })) = sym (refused lines n kind is) ∙ refused lines m kind' is' in
     let same : ◌≡◌ {A = LineFault} (record { line = n + 1; kind = kind }) (record { line = m + 1; kind = kind' }) = cc in

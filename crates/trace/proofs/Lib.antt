@@ -1,7 +1,11 @@
 pub mod Cutting
 pub mod FollowedLemmas
+pub mod Forwards
 pub mod Found
+pub mod Keys
 pub mod Listed
 pub mod Moments
+pub mod Said
+pub mod Shape
 pub mod Sound
 pub mod LawLemmas

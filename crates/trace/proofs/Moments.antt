@@ -8,7 +8,7 @@ use Rattle.serde_json.specs.Find.{as_number, as_u64}
 use Rattle.histories.specs.Histories.{recorded, moment_at, IsRising, last_moment, EndsBefore}
 use Rattle.histories.proofs.Moments.{IsRising-more}
 use Rattle.state_diff.specs.Instances.{Tick}
-use Rattle.trace.specs.declared.fault.LineKind.TheVariants.{Moment}
+use Rattle.trace.specs.declared.fault.FaultKind.TheVariants.{Moment}
 use Rattle.observations.specs.declared.tick.TickObs.{TickObs}
 use Rattle.trace.specs.Followed.{EndBefore}
 use Rattle.observations.specs.Observations.{seen_of, history}
@@ -74,5 +74,18 @@ moment_later ticks found at e = of_number (option_and_then as_u64 (option_and_th
       where
         here : (low late : Bool) → late ≡ is_later (slice_get ticks (length ticks - 1)) n → cond (low && late) (Ok n) (Err Moment) ≡ Ok at → EndBefore ticks at
         here true true is e = let same : n ≡ at = cc in subst (EndBefore ticks) same (later (slice_get ticks (length ticks - 1)) n (sym is))
+        here true false is e = absurd (cc)
+        here false late is e = absurd (cc)
+
+-- and in range
+pub moment_low : (ticks : List TickObs) (found : Option Data) (at : ℕ) → moment_of ticks found ≡ Ok at → at < 2 ^ 40
+moment_low ticks found at e = of_number (option_and_then as_u64 (option_and_then as_number found)) e
+  where
+    of_number : (o : Option ℕ) → moment_from ticks o ≡ Ok at → at < 2 ^ 40
+    of_number None e = absurd (cc)
+    of_number (Some n) e = here (nat_lt n (2 ^ 40)) (is_later (slice_get ticks (length ticks - 1)) n) refl e
+      where
+        here : (low late : Bool) → low ≡ nat_lt n (2 ^ 40) → cond (low && late) (Ok n) (Err Moment) ≡ Ok at → at < 2 ^ 40
+        here true true is e = let same : n ≡ at = cc in subst (λ (m : ℕ). m < 2 ^ 40) same (ltb-true n (2 ^ 40) (sym is))
         here true false is e = absurd (cc)
         here false late is e = absurd (cc)

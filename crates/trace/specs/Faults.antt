@@ -1,15 +1,16 @@
 -- The numbers and words by which a refusal names the kind of a faulty line.
 use Rattle.std.specs.Prelude.{ℕ, List, codes}
-use Rattle.trace.specs.declared.fault.LineKind.{LineKind}
-use Rattle.trace.specs.declared.fault.LineKind.TheVariants.{TooLong, NotJson, UnknownKind, Order, Manifest, Config, StrangerPod, StrangerContainer, Doubled, Moment, Backwards, ExitCode, TooMany, Usage, OutOfMemory}
+use Rattle.trace.specs.declared.fault.FaultKind.{FaultKind}
+use Rattle.trace.specs.declared.fault.FaultKind.TheVariants.{TooLong, NotJson, UnknownKind, Order, Manifest, Config, DuplicatePod, StrangerPod, StrangerContainer, Doubled, Moment, Backwards, ExitCode, TooMany, Usage, OutOfMemory}
 
-abbrev pub number_of : LineKind → ℕ
+abbrev pub number_of : FaultKind → ℕ
 number_of TooLong = 31
 number_of NotJson = 32
 number_of UnknownKind = 33
 number_of Order = 34
 number_of (Manifest fault) = 35
 number_of Config = 36
+number_of DuplicatePod = 38
 number_of StrangerPod = 39
 number_of StrangerContainer = 40
 number_of Doubled = 41
@@ -20,13 +21,14 @@ number_of TooMany = 45
 number_of Usage = 46
 number_of OutOfMemory = 47
 
-abbrev pub word_of : LineKind → List ℕ
+abbrev pub word_of : FaultKind → List ℕ
 word_of TooLong = codes "TooLong"
 word_of NotJson = codes "NotJson"
 word_of UnknownKind = codes "UnknownKind"
 word_of Order = codes "Order"
 word_of (Manifest fault) = codes "Manifest"
 word_of Config = codes "Config"
+word_of DuplicatePod = codes "DuplicatePod"
 word_of StrangerPod = codes "StrangerPod"
 word_of StrangerContainer = codes "StrangerContainer"
 word_of Doubled = codes "Doubled"

@@ -8,8 +8,8 @@ use Rattle.state_diff.specs.declared.differ.Differ.{Differ}
 use Rattle.state_diff.specs.Acceptable.{is_acceptable}
 use Rattle.state_diff.specs.Differ.{IsStateOf, IsBefore}
 use Rattle.state_diff.specs.Instances.{Tick}
-use Rattle.trace.specs.declared.fault.LineKind.{LineKind}
-use Rattle.trace.specs.declared.fault.LineKind.TheVariants.{Backwards, OutOfMemory}
+use Rattle.trace.specs.declared.fault.FaultKind.{FaultKind}
+use Rattle.trace.specs.declared.fault.FaultKind.TheVariants.{Backwards, OutOfMemory}
 use Rattle.observations.specs.declared.pod.PodObs.{PodObs}
 use Rattle.observations.specs.declared.tick.TickObs.{TickObs}
 use Rattle.observations.specs.Observations.{seen_of, history}
@@ -68,5 +68,5 @@ pub record SomePodRefuses (tick : TickObs) (differs : List (List Differ)) : Type
   pub refuses : (ds : List Differ) → SomeRefuses tick pod (slice_index_or differs pod ds)
 
 -- want of memory, or a listing that goes back, and why it does
-abbrev pub IsRefusal : Type 0 → LineKind → Type 0
+abbrev pub IsRefusal : Type 0 → FaultKind → Type 0
 IsRefusal Why fault = (fault ≡ OutOfMemory) ⊎ ((fault ≡ Backwards) × Why)

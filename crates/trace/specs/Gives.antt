@@ -1,15 +1,15 @@
 -- What a call answers beside what the definition of a trace gives.
 use Rattle.std.specs.Prelude.{Bool, true, false, Result}
 use Rattle.json_fields.specs.Reading.{GivesUnless}
-use Rattle.trace.specs.declared.fault.LineKind.{LineKind}
-use Rattle.trace.specs.declared.fault.LineKind.TheVariants.{OutOfMemory}
+use Rattle.trace.specs.declared.fault.FaultKind.{FaultKind}
+use Rattle.trace.specs.declared.fault.FaultKind.TheVariants.{OutOfMemory}
 use Rattle.trace.specs.declared.fault.LineFault.{LineFault}
 
-abbrev pub is_memory : LineKind → Bool
+abbrev pub is_memory : FaultKind → Bool
 is_memory OutOfMemory = true
 is_memory kind = false
 
-abbrev pub Gives : {X Y : Type 0} → (X → Y) → Result X LineKind → Result Y LineKind → Type 0
+abbrev pub Gives : {X Y : Type 0} → (X → Y) → Result X FaultKind → Result Y FaultKind → Type 0
 Gives view result given = GivesUnless is_memory view result given
 
 -- the same, with the line

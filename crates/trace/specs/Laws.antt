@@ -3,12 +3,12 @@
 use Rattle.std.specs.Prelude.{◌≡◌, ◌≢◌, ◌⊎◌, ◌↔◌, ◌+◌, ◌≤◌, ◌<◌, ℕ, zero, suc, true, false, List, [], ◌∷◌, ◌++◌, length, slice_get, Option, Some, None, is_some, Ok, Err, codes}
 use Rattle.serde_json.specs.Data.{Data}
 use Rattle.json_fields.specs.Fields.{field_at, text_at}
-use Rattle.trace.specs.declared.fault.LineKind.{LineKind}
-use Rattle.trace.specs.declared.fault.LineKind.TheVariants.{TooLong, NotJson, UnknownKind, Order, Manifest, Config, StrangerPod, StrangerContainer, Doubled, Moment, Backwards, ExitCode, TooMany, Usage, OutOfMemory}
+use Rattle.trace.specs.declared.fault.FaultKind.{FaultKind}
+use Rattle.trace.specs.declared.fault.FaultKind.TheVariants.{TooLong, NotJson, UnknownKind, Order, Manifest, Config, DuplicatePod, StrangerPod, StrangerContainer, Doubled, Moment, Backwards, ExitCode, TooMany, Usage, OutOfMemory}
 use Rattle.trace.specs.declared.fault.LineFault.{LineFault}
 use Rattle.trace.specs.declared.past.Trace.{Trace}
-use Rattle.trace.specs.declared.past.Sort.{Sort}
-use Rattle.trace.specs.declared.past.Sort.TheVariants as sorts
+use Rattle.trace.specs.declared.past.LineKind.{LineKind}
+use Rattle.trace.specs.declared.past.LineKind.TheVariants as kinds
 use Rattle.trace.specs.declared.listing.Listing.{Listing}
 use Rattle.trace.specs.declared.listing.Entry.{Entry}
 use Rattle.trace.specs.declared.probing.ProbeResult.{ProbeResult}
@@ -16,19 +16,24 @@ use Rattle.name_list.specs.Names.{place_of}
 use Rattle.manifest.specs.Containers.{names_of}
 use Rattle.manifest.specs.declared.outcome.Outcome.{Outcome}
 use Rattle.manifest.specs.declared.outcome.ProbeKind.{ProbeKind}
+use Rattle.trace.specs.declared.listing.ListedInstance.{ListedInstance}
+use Rattle.trace.specs.declared.placing.PlacedListing.{PlacedListing}
 use Rattle.trace.specs.declared.placing.PlacedResult.{PlacedResult}
 use Rattle.trace.specs.declared.placing.PlacedEntry.{PlacedEntry}
 use Rattle.trace.specs.Lines.{lines_of, is_blank}
 use Rattle.trace.specs.Node.{node_of}
-use Rattle.trace.specs.Pod.{keys_of, pod_from}
+use Rattle.trace.specs.Pod.{key_of_pod, keys_of, most_pods, pod_from}
 use Rattle.trace.specs.Listings.{entries_of}
 use Rattle.trace.specs.Placing.{placed_of, has_twice, are_of_one_probe, is_doubled}
-use Rattle.trace.specs.Observed.{outcome_in, observed, some_code_missing}
+use Rattle.trace.specs.Observed.{seen_listed, outcome_in, observed, some_code_missing}
 use Rattle.trace.specs.Backwards.{is_backwards}
 use Rattle.manifest.specs.declared.fault.ManifestFault.{ManifestFault}
 use Rattle.manifest.specs.declared.fault.ManifestFault.TheVariants as manifest_faults
 use Rattle.manifest.specs.declared.pod.PodSpec.{PodSpec}
 use Rattle.observations.specs.declared.tick.TickObs.{TickObs}
+use Rattle.observations.specs.Observations.{seen_of, history}
+use Rattle.state_diff.specs.declared.seen.Seen.{Seen}
+use Rattle.state_diff.specs.Instances.{IsAcceptable}
 use Rattle.trace.specs.declared.node.NodeConfig.{NodeConfig}
 use Rattle.trace.specs.Past.{Past, with_pod, with_tick}
 use Rattle.trace.specs.Tick.{moment_of, most_ticks}
@@ -45,7 +50,7 @@ AreSaid lines zero past = past ≡ nothing
 AreSaid lines (suc n) past = (before : Past) × (line : List ℕ) × AreSaid lines n before × (slice_get lines n ≡ Some line) × Leaves before line past
 
 -- the line at place n counts and has a fault, its first of this kind, and no line before it has one
-pub record IsFaultAt (lines : List (List ℕ)) (n : ℕ) (kind : LineKind) : Type 0 where
+pub record IsFaultAt (lines : List (List ℕ)) (n : ℕ) (kind : FaultKind) : Type 0 where
   pub past : Past
   pub line : List ℕ
   pub said : AreSaid lines n past
@@ -84,7 +89,7 @@ WholeTrace = (text : List ℕ) (trace : Trace) → (trace_of text ≡ Ok trace �
 -- the first lines say one thing at most, and at most one line has the first fault
 pub record OneFault : Type 0 where
   pub said : (lines : List (List ℕ)) (n : ℕ) (past past' : Past) → AreSaid lines n past → AreSaid lines n past' → past ≡ past'
-  pub fault : (lines : List (List ℕ)) (n m : ℕ) (kind kind' : LineKind) → IsFaultAt lines n kind → IsFaultAt lines m kind' → (n ≡ m) × (kind ≡ kind')
+  pub fault : (lines : List (List ℕ)) (n m : ℕ) (kind kind' : FaultKind) → IsFaultAt lines n kind → IsFaultAt lines m kind' → (n ≡ m) × (kind ≡ kind')
 
 -- the line is at most 1 MiB long, and it is this JSON value
 pub record IsJson (line : List ℕ) (d : Data) : Type 0 where
@@ -92,24 +97,34 @@ pub record IsJson (line : List ℕ) (d : Data) : Type 0 where
   pub json : json_of line ≡ Ok d
 
 -- and of this kind
-pub record IsOfKind (line : List ℕ) (sort : Sort) (d : Data) : Type 0 where
+pub record IsOfKind (line : List ℕ) (line_kind : LineKind) (d : Data) : Type 0 where
   pub json : IsJson line d
-  pub kind : kind_from (text_at (codes "kind") d) ≡ Some sort
+  pub kind : kind_from (text_at (codes "kind") d) ≡ Some line_kind
 
 -- a node line stands before all other lines that count, and a pod line before all tick lines
-abbrev pub MayStand : Past → Sort → Type 0
-MayStand past sorts.Node = past.node ≡ None
-MayStand past sorts.Pod = (is_some past.node ≡ true) × (past.ticks ≡ [])
-MayStand past sorts.Tick = is_some past.node ≡ true
+abbrev pub MayStand : Past → LineKind → Type 0
+MayStand past kinds.Node = past.node ≡ None
+MayStand past kinds.Pod = (is_some past.node ≡ true) × (past.ticks ≡ [])
+MayStand past kinds.Tick = is_some past.node ≡ true
 
 -- the line is of this kind, and may stand where it does
-pub record Stands (past : Past) (line : List ℕ) (sort : Sort) (d : Data) : Type 0 where
-  pub of_kind : IsOfKind line sort d
-  pub here : MayStand past sort
+pub record Stands (past : Past) (line : List ℕ) (line_kind : LineKind) (d : Data) : Type 0 where
+  pub of_kind : IsOfKind line line_kind d
+  pub here : MayStand past line_kind
+
+-- a pod line for which there is room, with this pod
+pub record HasPod (past : Past) (line : List ℕ) (d : Data) (pod : PodSpec) : Type 0 where
+  pub stands : Stands past line kinds.Pod d
+  pub room : length past.pods < most_pods
+  pub pod_is : pod_from (field_at (codes "pod") d) ≡ Ok pod
+
+-- one of the pods has this key
+abbrev pub HasKey : List PodSpec → List ℕ → Type 0
+HasKey pods key = (n : ℕ) × (pod : PodSpec) × (slice_get pods n ≡ Some pod) × (key_of_pod pod ≡ key)
 
 -- a tick line for which there is room, at this moment
 pub record HasMoment (past : Past) (line : List ℕ) (d : Data) (at : ℕ) : Type 0 where
-  pub stands : Stands past line sorts.Tick d
+  pub stands : Stands past line kinds.Tick d
   pub room : length past.ticks < most_ticks
   pub moment : moment_of past.ticks (field_at (codes "at") d) ≡ Ok at
 
@@ -136,30 +151,31 @@ pub record IsForwards (past : Past) (line : List ℕ) (d : Data) (at : ℕ) (pla
 
 -- the first check that a line fails after what is said before it, with the fault that it answers:
 -- the checks of every line, and then those of a node line, of a pod line, or of a tick line
-pub data Fails (past : Past) (line : List ℕ) : LineKind → Type 0 where
+pub data Fails (past : Past) (line : List ℕ) : FaultKind → Type 0 where
   too_long : 1048576 < length line → Fails past line TooLong
-  not_json : (kind : LineKind) → length line ≤ 1048576 → json_of line ≡ Err kind → Fails past line kind
+  not_json : (kind : FaultKind) → length line ≤ 1048576 → json_of line ≡ Err kind → Fails past line kind
   unknown_kind : (d : Data) → IsJson line d → kind_from (text_at (codes "kind") d) ≡ None → Fails past line UnknownKind
-  misplaced : (sort : Sort) (d : Data) → IsOfKind line sort d → (MayStand past sort → ⊥) → Fails past line Order
-  wrong_node : (d : Data) (kind : LineKind) → Stands past line sorts.Node d → node_of d ≡ Err kind → Fails past line kind
-  many_pods : (d : Data) → Stands past line sorts.Pod d → past.pods ≢ [] → Fails past line TooMany
-  wrong_pod : (d : Data) (kind : LineKind) → Stands past line sorts.Pod d → past.pods ≡ [] → pod_from (field_at (codes "pod") d) ≡ Err kind → Fails past line kind
-  many_ticks : (d : Data) → Stands past line sorts.Tick d → most_ticks ≤ length past.ticks → Fails past line TooMany
-  wrong_moment : (d : Data) (kind : LineKind) → Stands past line sorts.Tick d → length past.ticks < most_ticks → moment_of past.ticks (field_at (codes "at") d) ≡ Err kind → Fails past line kind
-  wrong_entry : (d : Data) (at : ℕ) (kind : LineKind) → HasMoment past line d at → entries_of d ≡ Err kind → Fails past line kind
-  stranger : (d : Data) (at : ℕ) (es : List Entry) (kind : LineKind) → HasEntries past line d at es → placed_of past.pods es ≡ Err kind → Fails past line kind
+  misplaced : (line_kind : LineKind) (d : Data) → IsOfKind line line_kind d → (MayStand past line_kind → ⊥) → Fails past line Order
+  wrong_node : (d : Data) (kind : FaultKind) → Stands past line kinds.Node d → node_of d ≡ Err kind → Fails past line kind
+  many_pods : (d : Data) → Stands past line kinds.Pod d → most_pods ≤ length past.pods → Fails past line TooMany
+  wrong_pod : (d : Data) (kind : FaultKind) → Stands past line kinds.Pod d → length past.pods < most_pods → pod_from (field_at (codes "pod") d) ≡ Err kind → Fails past line kind
+  duplicate_pod : (d : Data) (pod : PodSpec) → HasPod past line d pod → HasKey past.pods (key_of_pod pod) → Fails past line DuplicatePod
+  many_ticks : (d : Data) → Stands past line kinds.Tick d → most_ticks ≤ length past.ticks → Fails past line TooMany
+  wrong_moment : (d : Data) (kind : FaultKind) → Stands past line kinds.Tick d → length past.ticks < most_ticks → moment_of past.ticks (field_at (codes "at") d) ≡ Err kind → Fails past line kind
+  wrong_entry : (d : Data) (at : ℕ) (kind : FaultKind) → HasMoment past line d at → entries_of d ≡ Err kind → Fails past line kind
+  stranger : (d : Data) (at : ℕ) (es : List Entry) (kind : FaultKind) → HasEntries past line d at es → placed_of past.pods es ≡ Err kind → Fails past line kind
   doubled : (d : Data) (at : ℕ) (placed : List PlacedEntry) → HasPlaces past line d at placed → is_doubled placed ≡ true → Fails past line Doubled
   backwards : (d : Data) (at : ℕ) (placed : List PlacedEntry) → IsApart past line d at placed → is_backwards past.ticks (observed at placed past.pods) ≡ true → Fails past line Backwards
   no_code : (d : Data) (at : ℕ) (placed : List PlacedEntry) → IsForwards past line d at placed → some_code_missing placed ≡ true → Fails past line ExitCode
 
 -- a line's fault is that of the first check that it fails
 abbrev pub FirstCheck : Type 0
-FirstCheck = (past : Past) (line : List ℕ) (kind : LineKind) → (line_at past line ≡ Err kind ↔ Fails past line kind)
+FirstCheck = (past : Past) (line : List ℕ) (kind : FaultKind) → (line_at past line ≡ Err kind ↔ Fails past line kind)
 
 -- what is said after a line that passes all its checks
 pub data Says (past : Past) (line : List ℕ) : Past → Type 0 where
-  says_node : (d : Data) (node : NodeConfig) → Stands past line sorts.Node d → node_of d ≡ Ok node → Says past line (record { node = Some node; pods = past.pods; ticks = past.ticks })
-  says_pod : (d : Data) (pod : PodSpec) → Stands past line sorts.Pod d → past.pods ≡ [] → pod_from (field_at (codes "pod") d) ≡ Ok pod → Says past line (with_pod past pod)
+  says_node : (d : Data) (node : NodeConfig) → Stands past line kinds.Node d → node_of d ≡ Ok node → Says past line (record { node = Some node; pods = past.pods; ticks = past.ticks })
+  says_pod : (d : Data) (pod : PodSpec) → HasPod past line d pod → (HasKey past.pods (key_of_pod pod) → ⊥) → Says past line (with_pod past pod)
   says_tick : (d : Data) (at : ℕ) (placed : List PlacedEntry) → IsForwards past line d at placed → some_code_missing placed ≡ false → Says past line (with_tick past (observed at placed past.pods))
 
 -- a line without a fault says its node, its pod or its tick, behind what is said before it
@@ -168,12 +184,12 @@ AllChecks = (past : Past) (line : List ℕ) (next : Past) → (line_at past line
 
 -- the kinds of fault that a check answers
 pub record KindsOfChecks : Type 0 where
-  pub json : (line : List ℕ) (kind : LineKind) → json_of line ≡ Err kind → kind ≡ NotJson
-  pub node : (d : Data) (kind : LineKind) → node_of d ≡ Err kind → kind ≡ Config
-  pub pod : (found : Option Data) (kind : LineKind) → pod_from found ≡ Err kind → (fault : ManifestFault) × (kind ≡ Manifest fault)
-  pub moment : (ticks : List TickObs) (found : Option Data) (kind : LineKind) → moment_of ticks found ≡ Err kind → kind ≡ Moment
-  pub entries : (d : Data) (kind : LineKind) → entries_of d ≡ Err kind → kind ≡ Usage
-  pub places : (pods : List PodSpec) (es : List Entry) (kind : LineKind) → placed_of pods es ≡ Err kind → (kind ≡ StrangerPod) ⊎ (kind ≡ StrangerContainer)
+  pub json : (line : List ℕ) (kind : FaultKind) → json_of line ≡ Err kind → kind ≡ NotJson
+  pub node : (d : Data) (kind : FaultKind) → node_of d ≡ Err kind → kind ≡ Config
+  pub pod : (found : Option Data) (kind : FaultKind) → pod_from found ≡ Err kind → (fault : ManifestFault) × (kind ≡ Manifest fault)
+  pub moment : (ticks : List TickObs) (found : Option Data) (kind : FaultKind) → moment_of ticks found ≡ Err kind → kind ≡ Moment
+  pub entries : (d : Data) (kind : FaultKind) → entries_of d ≡ Err kind → kind ≡ Usage
+  pub places : (pods : List PodSpec) (es : List Entry) (kind : FaultKind) → placed_of pods es ≡ Err kind → (kind ≡ StrangerPod) ⊎ (kind ≡ StrangerContainer)
 
 -- an entry names a pod that isn't known
 pub record NamesStranger (pods : List PodSpec) (es : List Entry) : Type 0 where
@@ -218,11 +234,38 @@ abbrev pub ResultsShown : Type 0
 ResultsShown = (rs : List PlacedResult) (n : ℕ) (probe : ProbeKind) (outcome : Outcome) → has_twice are_of_one_probe rs ≡ false
     → (outcome_in rs n probe ≡ Some outcome ↔ IsGiven rs n probe outcome)
 
+-- one of the listings is of the container with the number, and says this
+abbrev pub IsListed : List PlacedListing → ℕ → Seen → Type 0
+IsListed ls n seen = (m : ℕ) × (instance : ListedInstance) × (slice_get ls m ≡ Some (record { container = n; instance = instance })) × (seen_listed instance ≡ seen)
+
+-- one of the entries is of the pod with the number, and lists this of its container
+abbrev pub Lists : List PlacedEntry → ℕ → ℕ → Seen → Type 0
+Lists es pod container seen = (k : ℕ) × (entry : PlacedEntry) × (slice_get es k ≡ Some entry) × (entry.pod ≡ pod) × IsListed entry.listings container seen
+
+-- where no pod and no container is listed twice, what a tick shows of a container is exactly what
+-- its line lists, wherever it stands
+abbrev pub ListingsShown : Type 0
+ListingsShown = (at : ℕ) (es : List PlacedEntry) (pods : List PodSpec) (n c : ℕ) (pod : PodSpec) (seen : Seen) → is_doubled es ≡ false
+    → slice_get pods n ≡ Some pod → c < length pod.containers → (seen_of (observed at es pods) n c ≡ Some seen ↔ Lists es n c seen)
+
+-- of some container of some pod, both by number, the tick has a listing that may not come after all
+-- those of the earlier ticks
+pub record GoesBack (ticks : List TickObs) (tick : TickObs) : Type 0 where
+  pub pod : ℕ
+  pub container : ℕ
+  pub seen : Seen
+  pub listed : seen_of tick pod container ≡ Some seen
+  pub behind : IsAcceptable (history ticks pod container) (Some seen) → ⊥
+
+-- a tick is refused as Backwards exactly where some container's listing goes back
+abbrev pub BackwardsListing : Type 0
+BackwardsListing = (ticks : List TickObs) (tick : TickObs) → (is_backwards ticks tick ≡ true ↔ GoesBack ticks tick)
+
 -- not for want of memory
-abbrev pub IsNotMemory : LineKind → Type 0
+abbrev pub IsNotMemory : FaultKind → Type 0
 IsNotMemory kind = (kind ≢ OutOfMemory) × (kind ≢ Manifest manifest_faults.OutOfMemory)
 
 -- no line and no text has a fault for want of memory
 pub record NeverMemory : Type 0 where
-  pub line : (past : Past) (line : List ℕ) (kind : LineKind) → line_at past line ≡ Err kind → IsNotMemory kind
+  pub line : (past : Past) (line : List ℕ) (kind : FaultKind) → line_at past line ≡ Err kind → IsNotMemory kind
   pub text : (text : List ℕ) (fault : LineFault) → trace_of text ≡ Err fault → IsNotMemory fault.kind

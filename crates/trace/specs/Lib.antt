@@ -1,7 +1,6 @@
 pub mod Faults
 pub mod Gives
 pub mod Lines
-pub mod Observations
 pub mod Backwards
 pub mod Node
 pub mod Pod

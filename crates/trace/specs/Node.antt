@@ -6,38 +6,38 @@ use Rattle.json_fields.specs.Fields.{field_at, text_at}
 use Rattle.json_fields.specs.Reading.{◌>>=◌, refused_if}
 use Rattle.manifest.specs.Names.{is_name}
 use Rattle.manifest.specs.RestartDelay.{most_max_delay, max_delay_of}
-use Rattle.trace.specs.declared.fault.LineKind.{LineKind}
-use Rattle.trace.specs.declared.fault.LineKind.TheVariants.{Config}
+use Rattle.trace.specs.declared.fault.FaultKind.{FaultKind}
+use Rattle.trace.specs.declared.fault.FaultKind.TheVariants.{Config}
 use Rattle.trace.specs.declared.node.NodeConfig.{NodeConfig}
 
-abbrev pub version_from : Option ℕ → Result ⊤ LineKind
+abbrev pub version_from : Option ℕ → Result ⊤ FaultKind
 version_from None = Err Config
 version_from (Some n) = if n == 1 then Ok tt else Err Config
 
 -- the format's version is 1, also where none is written
-abbrev pub version_of : Option Data → Result ⊤ LineKind
+abbrev pub version_of : Option Data → Result ⊤ FaultKind
 version_of None = Ok tt
 version_of (Some d) = version_from (option_and_then as_u64 (as_number d))
 
-abbrev pub name_from : Option (List ℕ) → Result (List ℕ) LineKind
+abbrev pub name_from : Option (List ℕ) → Result (List ℕ) FaultKind
 name_from None = Err Config
 name_from (Some s) = if is_name s then Ok s else Err Config
 
-abbrev pub or_config : {A : Type 0} → Option A → Result A LineKind
+abbrev pub or_config : {A : Type 0} → Option A → Result A FaultKind
 or_config None = Err Config
 or_config (Some x) = Ok x
 
 -- the greatest restart delay, in seconds: a whole number in its range, and the most of it where
 -- none is written
-abbrev pub restart_delay_of : Option Data → Result ℕ LineKind
+abbrev pub restart_delay_of : Option Data → Result ℕ FaultKind
 restart_delay_of None = Ok most_max_delay
 restart_delay_of (Some d) = or_config (option_and_then max_delay_of (option_and_then as_u64 (as_number d)))
 
-abbrev pub absent : LineKind → Option Data → Result ⊤ LineKind
+abbrev pub absent : FaultKind → Option Data → Result ⊤ FaultKind
 absent kind found = refused_if (is_some found) kind
 
 -- nothing is said of evictions
-unfoldable pub eviction_unset : Data → Result ⊤ LineKind
+unfoldable pub eviction_unset : Data → Result ⊤ FaultKind
 eviction_unset d = do
   hard ← absent Config (field_at (codes "evictionHard") d)
   soft ← absent Config (field_at (codes "evictionSoft") d)
@@ -46,7 +46,7 @@ eviction_unset d = do
   reclaim ← absent Config (field_at (codes "evictionMinimumReclaim") d)
   absent Config (field_at (codes "evictionPressureTransitionPeriod") d)
 
-unfoldable pub node_of : Data → Result NodeConfig LineKind
+unfoldable pub node_of : Data → Result NodeConfig FaultKind
 node_of d = do
   version ← version_of (field_at (codes "version") d)
   name ← name_from (text_at (codes "name") d)

@@ -5,8 +5,8 @@ use Rattle.name_list.specs.Names.{place_of}
 use Rattle.json_fields.specs.Reading.{◌>>=◌, some_or, each}
 use Rattle.manifest.specs.declared.pod.PodSpec.{PodSpec}
 use Rattle.manifest.specs.Containers.{names_of}
-use Rattle.trace.specs.declared.fault.LineKind.{LineKind}
-use Rattle.trace.specs.declared.fault.LineKind.TheVariants.{StrangerPod, StrangerContainer}
+use Rattle.trace.specs.declared.fault.FaultKind.{FaultKind}
+use Rattle.trace.specs.declared.fault.FaultKind.TheVariants.{StrangerPod, StrangerContainer}
 use Rattle.trace.specs.declared.listing.Listing.{Listing}
 use Rattle.trace.specs.declared.listing.Entry.{Entry}
 use Rattle.trace.specs.declared.probing.ProbeResult.{ProbeResult}
@@ -18,25 +18,25 @@ use Rattle.trace.specs.Pod.{keys_of}
 use Rattle.manifest.specs.ProbeKinds.{place}
 
 -- the number of the pod that an entry names
-abbrev pub number_in : List (List ℕ) → Entry → Result ℕ LineKind
+abbrev pub number_in : List (List ℕ) → Entry → Result ℕ FaultKind
 number_in keys entry = some_or StrangerPod (place_of keys entry.key)
 
-abbrev pub pod_numbered : List PodSpec → ℕ → Result PodSpec LineKind
+abbrev pub pod_numbered : List PodSpec → ℕ → Result PodSpec FaultKind
 pod_numbered pods number = some_or StrangerPod (slice_get pods number)
 
 -- the number of the pod's container of this name
-abbrev pub container_number : PodSpec → List ℕ → Result ℕ LineKind
+abbrev pub container_number : PodSpec → List ℕ → Result ℕ FaultKind
 container_number pod name = some_or StrangerContainer (place_of (names_of pod.containers) name)
 
 -- the listing of the pod's container that it names
-abbrev pub placed_listing : PodSpec → Listing → Result PlacedListing LineKind
+abbrev pub placed_listing : PodSpec → Listing → Result PlacedListing FaultKind
 placed_listing pod listing = container_number pod listing.name >>= λ number. Ok (record { container = number; instance = listing.instance })
 
 -- the result of the pod's container that it names
-abbrev pub placed_result : PodSpec → ProbeResult → Result PlacedResult LineKind
+abbrev pub placed_result : PodSpec → ProbeResult → Result PlacedResult FaultKind
 placed_result pod r = container_number pod r.container >>= λ number. Ok (record { container = number; probe = r.probe; outcome = r.outcome })
 
-unfoldable pub placed_entry : List (List ℕ) → List PodSpec → Entry → Result PlacedEntry LineKind
+unfoldable pub placed_entry : List (List ℕ) → List PodSpec → Entry → Result PlacedEntry FaultKind
 placed_entry keys pods entry = do
   number ← number_in keys entry
   pod ← pod_numbered pods number
@@ -45,7 +45,7 @@ placed_entry keys pods entry = do
   Ok (record { pod = number; listings = listings; results = results })
 
 -- all entries: first every pod has to be known, then every container
-unfoldable pub placed_of : List PodSpec → List Entry → Result (List PlacedEntry) LineKind
+unfoldable pub placed_of : List PodSpec → List Entry → Result (List PlacedEntry) FaultKind
 placed_of pods entries = do
   numbers ← each (number_in (keys_of pods)) entries
   each (placed_entry (keys_of pods) pods) entries

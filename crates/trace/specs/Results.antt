@@ -3,8 +3,8 @@ use Rattle.std.specs.Prelude.{ℕ, List, Option, Some, None, if◌then◌else◌
 use Rattle.serde_json.specs.Data.{Data}
 use Rattle.json_fields.specs.Fields.{text_at}
 use Rattle.json_fields.specs.Reading.{◌>>=◌, some_or}
-use Rattle.trace.specs.declared.fault.LineKind.{LineKind}
-use Rattle.trace.specs.declared.fault.LineKind.TheVariants.{Usage}
+use Rattle.trace.specs.declared.fault.FaultKind.{FaultKind}
+use Rattle.trace.specs.declared.fault.FaultKind.TheVariants.{Usage}
 use Rattle.manifest.specs.declared.outcome.Outcome.{Outcome}
 use Rattle.manifest.specs.declared.outcome.Outcome.TheVariants.{Success, Failure, Unknown}
 use Rattle.manifest.specs.declared.outcome.ProbeKind.{ProbeKind}
@@ -12,7 +12,7 @@ use Rattle.manifest.specs.declared.outcome.ProbeKind.TheVariants.{Startup, Liven
 use Rattle.trace.specs.declared.probing.ProbeResult.{ProbeResult}
 
 -- the probe of this name
-abbrev pub probe_named : Option (List ℕ) → Result ProbeKind LineKind
+abbrev pub probe_named : Option (List ℕ) → Result ProbeKind FaultKind
 probe_named None = Err Usage
 probe_named (Some s) =
     if bytes_eq s (codes "startup") then Ok Startup
@@ -20,14 +20,14 @@ probe_named (Some s) =
     else (if bytes_eq s (codes "readiness") then Ok Readiness else Err Usage))
 
 -- the outcome of this name (Kubernetes, "Pod Lifecycle", "Probe outcome")
-abbrev pub outcome_named : Option (List ℕ) → Result Outcome LineKind
+abbrev pub outcome_named : Option (List ℕ) → Result Outcome FaultKind
 outcome_named None = Err Usage
 outcome_named (Some s) =
     if bytes_eq s (codes "success") then Ok Success
     else (if bytes_eq s (codes "failure") then Ok Failure
     else (if bytes_eq s (codes "unknown") then Ok Unknown else Err Usage))
 
-unfoldable pub result_of : Data → Result ProbeResult LineKind
+unfoldable pub result_of : Data → Result ProbeResult FaultKind
 result_of d = do
   container ← some_or Usage (text_at (codes "container") d)
   probe ← probe_named (text_at (codes "probe") d)

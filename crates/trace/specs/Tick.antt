@@ -5,8 +5,8 @@ use Rattle.serde_json.specs.Data.{Data}
 use Rattle.serde_json.specs.Find.{as_number, as_u64}
 use Rattle.json_fields.specs.Fields.{field_at}
 use Rattle.json_fields.specs.Reading.{◌>>=◌, refused_if}
-use Rattle.trace.specs.declared.fault.LineKind.{LineKind}
-use Rattle.trace.specs.declared.fault.LineKind.TheVariants.{TooMany, Moment, Doubled, Backwards, ExitCode}
+use Rattle.trace.specs.declared.fault.FaultKind.{FaultKind}
+use Rattle.trace.specs.declared.fault.FaultKind.TheVariants.{TooMany, Moment, Doubled, Backwards, ExitCode}
 use Rattle.observations.specs.declared.tick.TickObs.{TickObs}
 use Rattle.trace.specs.declared.placing.PlacedEntry.{PlacedEntry}
 use Rattle.trace.specs.Past.{Past, with_tick}
@@ -22,23 +22,23 @@ abbrev pub is_later : Option TickObs → ℕ → Bool
 is_later None at = true
 is_later (Some tick) at = nat_lt tick.at at
 
-abbrev pub moment_from : List TickObs → Option ℕ → Result ℕ LineKind
+abbrev pub moment_from : List TickObs → Option ℕ → Result ℕ FaultKind
 moment_from ticks None = Err Moment
 moment_from ticks (Some at) = if nat_lt at (2 ^ 40) && is_later (slice_get ticks (length ticks - 1)) at then Ok at else Err Moment
 
 -- a moment below 2^40, later than the last tick's
-abbrev pub moment_of : List TickObs → Option Data → Result ℕ LineKind
+abbrev pub moment_of : List TickObs → Option Data → Result ℕ FaultKind
 moment_of ticks found = moment_from ticks (option_and_then as_u64 (option_and_then as_number found))
 
 -- the tick that the entries show, after those before it
-unfoldable pub observed_in : Past → ℕ → List PlacedEntry → Result TickObs LineKind
+unfoldable pub observed_in : Past → ℕ → List PlacedEntry → Result TickObs FaultKind
 observed_in past at entries = do
   apart ← refused_if (is_doubled entries) Doubled
   forwards ← refused_if (is_backwards past.ticks (observed at entries past.pods)) Backwards
   coded ← refused_if (some_code_missing entries) ExitCode
   Ok (observed at entries past.pods)
 
-unfoldable pub tick_at : Past → Data → Result Past LineKind
+unfoldable pub tick_at : Past → Data → Result Past FaultKind
 tick_at past d = do
   room ← refused_if (nat_le most_ticks (length past.ticks)) TooMany
   at ← moment_of past.ticks (field_at (codes "at") d)

@@ -1,65 +1,70 @@
 -- What a text says as a trace, or its first faulty line with that line's first fault.
-use Rattle.std.specs.Prelude.{ℕ, ◌+◌, ◌++◌, List, [], ◌∷◌, length, nat_lt, Option, Some, None, if◌then◌else◌, Result, Ok, Err, bytes_eq, codes}
+use Rattle.std.specs.Prelude.{ℕ, ◌+◌, ◌++◌, List, [], ◌∷◌, length, nat_lt, nat_le, Option, Some, None, if◌then◌else◌, Result, Ok, Err, bytes_eq, codes}
 use Rattle.std.specs.Str.{is_utf8}
 use Rattle.serde_json.specs.Data.{Data}
 use Rattle.serde_json.specs.Read.{read}
 use Rattle.json_fields.specs.Fields.{field_at, text_at}
+use Rattle.manifest.specs.declared.pod.PodSpec.{PodSpec}
 use Rattle.json_fields.specs.Reading.{◌>>=◌, refused_if, some_or}
-use Rattle.trace.specs.declared.fault.LineKind.{LineKind}
-use Rattle.trace.specs.declared.fault.LineKind.TheVariants.{TooLong, NotJson, UnknownKind, Order, TooMany}
+use Rattle.trace.specs.declared.fault.FaultKind.{FaultKind}
+use Rattle.trace.specs.declared.fault.FaultKind.TheVariants.{TooLong, NotJson, UnknownKind, Order, TooMany, DuplicatePod}
 use Rattle.trace.specs.declared.fault.LineFault.{LineFault}
 use Rattle.trace.specs.declared.node.NodeConfig.{NodeConfig}
 use Rattle.trace.specs.declared.past.Trace.{Trace}
-use Rattle.trace.specs.declared.past.Sort.{Sort}
-use Rattle.trace.specs.declared.past.Sort.TheVariants as sorts
+use Rattle.trace.specs.declared.past.LineKind.{LineKind}
+use Rattle.trace.specs.declared.past.LineKind.TheVariants as kinds
 use Rattle.trace.specs.Lines.{lines_of, is_blank}
 use Rattle.trace.specs.Node.{node_of}
-use Rattle.trace.specs.Pod.{pod_from}
+use Rattle.trace.specs.Pod.{key_of_pod, has_key, most_pods, pod_from}
 use Rattle.trace.specs.Past.{Past, with_pod}
 use Rattle.trace.specs.Tick.{tick_at}
 
 -- a line's JSON value
-unfoldable pub json_of : List ℕ → Result Data LineKind
+unfoldable pub json_of : List ℕ → Result Data FaultKind
 json_of line = if is_utf8 line then some_or NotJson (read line) else Err NotJson
 
-abbrev pub kind_from : Option (List ℕ) → Option Sort
+abbrev pub kind_from : Option (List ℕ) → Option LineKind
 kind_from None = None
 kind_from (Some s) =
-    if bytes_eq s (codes "node") then Some sorts.Node
-    else (if bytes_eq s (codes "pod") then Some sorts.Pod
-    else (if bytes_eq s (codes "tick") then Some sorts.Tick else None))
+    if bytes_eq s (codes "node") then Some kinds.Node
+    else (if bytes_eq s (codes "pod") then Some kinds.Pod
+    else (if bytes_eq s (codes "tick") then Some kinds.Tick else None))
 
-unfoldable pub with_node : Past → Data → Result Past LineKind
+unfoldable pub with_node : Past → Data → Result Past FaultKind
 with_node past d = do
   node ← node_of d
   Ok (record { node = Some node; pods = past.pods; ticks = past.ticks })
 
--- a pod line stands before all ticks, and for now there is one at most
-unfoldable pub pod_line_at : Past → Data → Result Past LineKind
+-- a pod goes behind the earlier ones, if none of them has its key
+abbrev pub with_new_pod : Past → PodSpec → Result Past FaultKind
+with_new_pod past pod = refused_if (has_key past.pods (key_of_pod pod)) DuplicatePod >>= λ new. Ok (with_pod past pod)
+
+-- a pod line stands before all ticks
+unfoldable pub pod_line_at : Past → Data → Result Past FaultKind
 pod_line_at past d = do
   before_ticks ← refused_if (nat_lt 0 (length past.ticks)) Order
-  only ← refused_if (nat_lt 0 (length past.pods)) TooMany
+  room ← refused_if (nat_le most_pods (length past.pods)) TooMany
   pod ← pod_from (field_at (codes "pod") d)
-  Ok (with_pod past pod)
+  with_new_pod past pod
 
 -- a node line stands first, and nowhere else
-abbrev pub in_order : Option NodeConfig → Past → Sort → Data → Result Past LineKind
-in_order None past sorts.Node d = with_node past d
-in_order None past sorts.Pod d = Err Order
-in_order None past sorts.Tick d = Err Order
-in_order (Some node) past sorts.Node d = Err Order
-in_order (Some node) past sorts.Pod d = pod_line_at past d
-in_order (Some node) past sorts.Tick d = tick_at past d
+abbrev pub in_order : Option NodeConfig → Past → LineKind → Data → Result Past FaultKind
+in_order None past kinds.Node d = with_node past d
+in_order None past kinds.Pod d = Err Order
+in_order None past kinds.Tick d = Err Order
+in_order (Some node) past kinds.Node d = Err Order
+in_order (Some node) past kinds.Pod d = pod_line_at past d
+in_order (Some node) past kinds.Tick d = tick_at past d
 
 -- a line after those that say what is past
-unfoldable pub line_at : Past → List ℕ → Result Past LineKind
+unfoldable pub line_at : Past → List ℕ → Result Past FaultKind
 line_at past line = do
   short ← refused_if (nat_lt 1048576 (length line)) TooLong
   d ← json_of line
-  sort ← some_or UnknownKind (kind_from (text_at (codes "kind") d))
-  in_order past.node past sort d
+  line_kind ← some_or UnknownKind (kind_from (text_at (codes "kind") d))
+  in_order past.node past line_kind d
 
-abbrev pub at_line : {A : Type 0} → ℕ → Result A LineKind → Result A LineFault
+abbrev pub at_line : {A : Type 0} → ℕ → Result A FaultKind → Result A LineFault
 at_line n (Ok x) = Ok x
 at_line n (Err kind) = Err (record { line = n; kind = kind })
 

@@ -1,7 +1,9 @@
 //! Why a trace was refused.
 
 ghost use Rattle.std.specs.Prelude.{◌≡◌};
-ghost use Rattle.trace.specs.declared.fault.LineKind.TheVariants.{OutOfMemory};
+ghost use Rattle.trace.specs.declared.fault.FaultKind.TheVariants.{OutOfMemory};
+ghost use Rattle.json_fields.specs.Reading.{refused_if};
+ghost use Rattle.trace.specs.Gives.{Gives};
 
 use manifest::ManifestFault;
 use std::alloc::{AllocError, AllocFailed};
@@ -10,7 +12,7 @@ use thiserror::Error;
 /// What is wrong with a line. The kinds stand by their numbers; the order of checks is that of
 /// `laws::first_check`.
 #[derive(Clone, Copy, Debug, PartialEq, Eq, Error)]
-pub enum LineKind {
+pub enum FaultKind {
     #[error("the line is longer than 1 MiB")]
     TooLong,
     #[error("the line is not JSON")]
@@ -23,6 +25,8 @@ pub enum LineKind {
     Manifest(ManifestFault),
     #[error("the node's configuration is refused")]
     Config,
+    #[error("an earlier pod has this key")]
+    DuplicatePod,
     #[error("no pod has this key")]
     StrangerPod,
     #[error("no container of the pod has this name")]
@@ -43,7 +47,7 @@ pub enum LineKind {
     OutOfMemory,
 }
 
-impl LineKind {
+impl FaultKind {
     ghost use Rattle.trace.specs.Faults.{number_of, word_of};
 
     /// The number by which a refusal names the kind.
@@ -51,21 +55,22 @@ impl LineKind {
         ensures { result ≡ number_of self }
     {
         match self {
-            LineKind::TooLong => 31,
-            LineKind::NotJson => 32,
-            LineKind::UnknownKind => 33,
-            LineKind::Order => 34,
-            LineKind::Manifest(_) => 35,
-            LineKind::Config => 36,
-            LineKind::StrangerPod => 39,
-            LineKind::StrangerContainer => 40,
-            LineKind::Doubled => 41,
-            LineKind::Moment => 42,
-            LineKind::Backwards => 43,
-            LineKind::ExitCode => 44,
-            LineKind::TooMany => 45,
-            LineKind::Usage => 46,
-            LineKind::OutOfMemory => 47,
+            FaultKind::TooLong => 31,
+            FaultKind::NotJson => 32,
+            FaultKind::UnknownKind => 33,
+            FaultKind::Order => 34,
+            FaultKind::Manifest(_) => 35,
+            FaultKind::Config => 36,
+            FaultKind::DuplicatePod => 38,
+            FaultKind::StrangerPod => 39,
+            FaultKind::StrangerContainer => 40,
+            FaultKind::Doubled => 41,
+            FaultKind::Moment => 42,
+            FaultKind::Backwards => 43,
+            FaultKind::ExitCode => 44,
+            FaultKind::TooMany => 45,
+            FaultKind::Usage => 46,
+            FaultKind::OutOfMemory => 47,
         }
     }
 
@@ -74,39 +79,46 @@ impl LineKind {
         ensures { result.now ≡ word_of self }
     {
         match self {
-            LineKind::TooLong => "TooLong",
-            LineKind::NotJson => "NotJson",
-            LineKind::UnknownKind => "UnknownKind",
-            LineKind::Order => "Order",
-            LineKind::Manifest(_) => "Manifest",
-            LineKind::Config => "Config",
-            LineKind::StrangerPod => "StrangerPod",
-            LineKind::StrangerContainer => "StrangerContainer",
-            LineKind::Doubled => "Doubled",
-            LineKind::Moment => "Moment",
-            LineKind::Backwards => "Backwards",
-            LineKind::ExitCode => "ExitCode",
-            LineKind::TooMany => "TooMany",
-            LineKind::Usage => "Usage",
-            LineKind::OutOfMemory => "OutOfMemory",
+            FaultKind::TooLong => "TooLong",
+            FaultKind::NotJson => "NotJson",
+            FaultKind::UnknownKind => "UnknownKind",
+            FaultKind::Order => "Order",
+            FaultKind::Manifest(_) => "Manifest",
+            FaultKind::Config => "Config",
+            FaultKind::DuplicatePod => "DuplicatePod",
+            FaultKind::StrangerPod => "StrangerPod",
+            FaultKind::StrangerContainer => "StrangerContainer",
+            FaultKind::Doubled => "Doubled",
+            FaultKind::Moment => "Moment",
+            FaultKind::Backwards => "Backwards",
+            FaultKind::ExitCode => "ExitCode",
+            FaultKind::TooMany => "TooMany",
+            FaultKind::Usage => "Usage",
+            FaultKind::OutOfMemory => "OutOfMemory",
         }
     }
 }
 
-impl From<AllocError> for LineKind {
+impl From<AllocError> for FaultKind {
     ghost from_gives = { λ _ e. e ≡ OutOfMemory };
 
-    fn from(_e: AllocError) -> LineKind {
-        LineKind::OutOfMemory
+    fn from(_e: AllocError) -> FaultKind {
+        FaultKind::OutOfMemory
     }
 }
 
-impl<T: Drop> From<AllocFailed<T>> for LineKind {
+impl<T: Drop> From<AllocFailed<T>> for FaultKind {
     ghost from_gives = { λ _ e. e ≡ OutOfMemory };
 
-    fn from(_e: AllocFailed<T>) -> LineKind {
-        LineKind::OutOfMemory
+    fn from(_e: AllocFailed<T>) -> FaultKind {
+        FaultKind::OutOfMemory
     }
+}
+
+pub(crate) fn refused_if(test: bool, kind: FaultKind) -> Result<(), FaultKind>
+    ensures { Gives (λ t. t) result (refused_if test kind) }
+{
+    if test { Err(kind) } else { Ok(()) }
 }
 
 /// The first faulty line, counted from 1, and its first fault.
@@ -114,5 +126,5 @@ impl<T: Drop> From<AllocFailed<T>> for LineKind {
 #[error("line {line}: {kind}")]
 pub struct LineFault {
     pub line: u64,
-    pub kind: LineKind,
+    pub kind: FaultKind,
 }

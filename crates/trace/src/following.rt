@@ -8,7 +8,7 @@ ghost use Rattle.trace.specs.Backwards.{is_backwards};
 ghost use Rattle.state_diff.specs.Differ.{IsBefore};
 ghost use Rattle.trace.specs.Followed.{AreFollowed, AreNew, AreBefore, EndBefore, Shows, Takes, Refuses, HaveTaken, PodsHaveTaken, SomeRefuses, SomePodRefuses, IsRefusal};
 
-use crate::fault::LineKind;
+use crate::fault::FaultKind;
 use crate::past::Reader;
 use observations::{TickObs, seen_of};
 use sequence::Sequence;
@@ -23,13 +23,13 @@ pub(crate) fn new_differs(alloc: Global, count: usize) -> Result<Vec<Differ>, Al
 }
 
 /// The differ after a tick that lists this, if that may come next.
-fn differ_after(differ: Differ, at: u64, seen: Option<Seen>) -> Result<Differ, LineKind>
+fn differ_after(differ: Differ, at: u64, seen: Option<Seen>) -> Result<Differ, FaultKind>
     requires { IsBefore differ at }
     ensures taken { IfOk result (λ next. Takes at seen differ next) }
-    ensures refused { IfErr result (λ e. (e ≡ LineKind.Backwards) × Refuses seen differ) }
+    ensures refused { IfErr result (λ e. (e ≡ FaultKind.Backwards) × Refuses seen differ) }
 {
     if !differ.accepts(seen) {
-        return Err(LineKind::Backwards);
+        return Err(FaultKind::Backwards);
     }
     let mut next = differ;
     next.step(at, seen);
@@ -41,7 +41,7 @@ fn pod_after(
     differs: &[Differ],
     tick: &TickObs,
     pod: usize,
-) -> Result<Vec<Differ>, LineKind>
+) -> Result<Vec<Differ>, FaultKind>
     requires { AreBefore differs.now tick.now.at }
     ensures taken { IfOk result (λ v. HaveTaken (length differs.now) tick.now pod differs.now v.items) }
     ensures refused { IfErr result (λ e. IsRefusal (SomeRefuses tick.now pod differs.now) e) }
@@ -58,7 +58,7 @@ fn pods_after(
     alloc: Global,
     differs: &[Sequence<Differ>],
     tick: &TickObs,
-) -> Result<Vec<Sequence<Differ>>, LineKind>
+) -> Result<Vec<Sequence<Differ>>, FaultKind>
     requires { All (λ ds. AreBefore ds tick.now.at) differs.now }
     ensures taken { IfOk result (λ v. PodsHaveTaken (length differs.now) tick.now differs.now v.items) }
     ensures refused { IfErr result (λ e. IsRefusal (SomePodRefuses tick.now differs.now) e) }
@@ -77,10 +77,10 @@ pub(crate) fn differs_after(
     alloc: Global,
     reader: &Reader,
     tick: &TickObs,
-) -> Result<Sequence<Sequence<Differ>>, LineKind>
+) -> Result<Sequence<Sequence<Differ>>, FaultKind>
     requires shown { Shows reader.now.pods tick.now }
     requires later { EndBefore reader.now.ticks tick.now.at }
-    ensures gives { Gives (λ _. tt) result (refused_if (is_backwards reader.now.ticks tick.now) LineKind.Backwards) }
+    ensures gives { Gives (λ _. tt) result (refused_if (is_backwards reader.now.ticks tick.now) FaultKind.Backwards) }
     ensures followed { IfOk result (λ d. AreFollowed (reader.now.ticks ++ tick.now ∷ []) reader.now.pods d) }
 {
     let next = pods_after(alloc, reader.differs.as_slice(), tick)?;

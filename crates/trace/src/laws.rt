@@ -1,6 +1,6 @@
 //! What the definition of a trace implies, in the words of the format. The functions do nothing;
 //! their contracts are the laws.
-ghost use Rattle.trace.specs.Laws.{FirstFault, WholeTrace, OneFault, FirstCheck, AllChecks, KindsOfChecks, Strangers, ResultsShown, NeverMemory};
+ghost use Rattle.trace.specs.Laws.{FirstFault, WholeTrace, OneFault, FirstCheck, AllChecks, KindsOfChecks, Strangers, ResultsShown, ListingsShown, BackwardsListing, NeverMemory};
 
 /// A text is refused exactly with the fault of its first line that has one, or behind its last line
 /// where no line counts.
@@ -44,6 +44,17 @@ pub fn strangers()
 /// What a tick shows of a probe is the result that its entry gives, wherever it stands.
 pub fn results_shown()
     ensures { ResultsShown }
+{}
+
+/// What a tick shows of a container is what its line lists, wherever it stands.
+pub fn listings_shown()
+    ensures { ListingsShown }
+{}
+
+/// A tick is refused as Backwards exactly where the listing of some container may not come after
+/// all its earlier ones.
+pub fn backwards_listing()
+    ensures { BackwardsListing }
 {}
 
 /// No text has a fault for want of memory.

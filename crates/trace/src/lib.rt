@@ -14,7 +14,7 @@ mod probing;
 mod reading;
 mod tick;
 
-pub use fault::{LineFault, LineKind};
+pub use fault::{FaultKind, LineFault};
 pub use node::NodeConfig;
 pub use past::Trace;
 pub use reading::read_trace;

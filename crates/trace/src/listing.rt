@@ -6,7 +6,7 @@ ghost use Rattle.json_fields.specs.Reading.{each, some_or};
 ghost use Rattle.trace.specs.Gives.{Gives};
 ghost use Rattle.trace.specs.Listings.{attempt_of, state_named, state_numbered, state_of, code_of, listing_of, items_of, entry_of, entries_of};
 
-use crate::fault::LineKind;
+use crate::fault::FaultKind;
 use crate::node::absent;
 use crate::probing::{ProbeResult, results_of};
 use json_fields::{field, text_at};
@@ -41,7 +41,7 @@ pub(crate) struct Entry {
     pub(crate) results: Sequence<ProbeResult>,
 }
 
-fn attempt_of(found: Option<&Value>) -> Result<u32, LineKind>
+fn attempt_of(found: Option<&Value>) -> Result<u32, FaultKind>
     ensures { Gives (λ n. n) result (attempt_of (option_map (λ v. view v.now) found.entry)) }
 {
     let Some(value) = found else {
@@ -49,11 +49,11 @@ fn attempt_of(found: Option<&Value>) -> Result<u32, LineKind>
     };
     match value.as_u64() {
         Some(attempt) if attempt < 1 << 31 => Ok(attempt as u32),
-        _ => Err(LineKind::Usage),
+        _ => Err(FaultKind::Usage),
     }
 }
 
-fn state_named(name: &str) -> Result<CriState, LineKind>
+fn state_named(name: &str) -> Result<CriState, FaultKind>
     ensures { Gives (λ s. s) result (state_named name.now) }
 {
     match name {
@@ -61,11 +61,11 @@ fn state_named(name: &str) -> Result<CriState, LineKind>
         "CONTAINER_RUNNING" => Ok(CriState::Running),
         "CONTAINER_EXITED" => Ok(CriState::Exited),
         "CONTAINER_UNKNOWN" => Ok(CriState::Unknown),
-        _ => Err(LineKind::Usage),
+        _ => Err(FaultKind::Usage),
     }
 }
 
-fn state_numbered(number: Option<u64>) -> Result<CriState, LineKind>
+fn state_numbered(number: Option<u64>) -> Result<CriState, FaultKind>
     ensures { Gives (λ s. s) result (state_numbered number) }
 {
     match number {
@@ -73,15 +73,15 @@ fn state_numbered(number: Option<u64>) -> Result<CriState, LineKind>
         Some(1) => Ok(CriState::Running),
         Some(2) => Ok(CriState::Exited),
         Some(3) => Ok(CriState::Unknown),
-        _ => Err(LineKind::Usage),
+        _ => Err(FaultKind::Usage),
     }
 }
 
-fn state_of(found: Option<&Value>) -> Result<CriState, LineKind>
+fn state_of(found: Option<&Value>) -> Result<CriState, FaultKind>
     ensures { Gives (λ s. s) result (state_of (option_map (λ v. view v.now) found.entry)) }
 {
     let Some(value) = found else {
-        return Err(LineKind::Usage);
+        return Err(FaultKind::Usage);
     };
     match value.as_str() {
         Some(name) => state_named(name),
@@ -99,17 +99,17 @@ fn code_of(found: Option<&Value>) -> Option<i32>
 }
 
 /// The text of a field that has to be there.
-pub(crate) fn text_of(alloc: Global, found: Option<&str>) -> Result<Text, LineKind>
-    ensures { Gives (λ t. t) result (some_or LineKind.Usage (option_map (λ s. s.now) found.entry)) }
+pub(crate) fn text_of(alloc: Global, found: Option<&str>) -> Result<Text, FaultKind>
+    ensures { Gives (λ t. t) result (some_or FaultKind.Usage (option_map (λ s. s.now) found.entry)) }
 {
     match found {
-        None => Err(LineKind::Usage),
+        None => Err(FaultKind::Usage),
         Some(text) => Ok(Text::new(String::from_str(alloc, text)?)),
     }
 }
 
 #[tactic(auto, unfolding(crate::specs::Listings::listing_of))]
-fn listing_of(alloc: Global, value: &Value) -> Result<Listing, LineKind>
+fn listing_of(alloc: Global, value: &Value) -> Result<Listing, FaultKind>
     ensures { Gives (λ l. l) result (listing_of (view value.now)) }
 {
     let name = text_of(alloc, text_at(value, "name"))?;
@@ -126,7 +126,7 @@ fn listing_of(alloc: Global, value: &Value) -> Result<Listing, LineKind>
     })
 }
 
-fn listings(alloc: Global, values: &[Value]) -> Result<Vec<Listing>, LineKind>
+fn listings(alloc: Global, values: &[Value]) -> Result<Vec<Listing>, FaultKind>
     ensures { Gives (λ v. v.items) result (each listing_of (map view values.now)) }
 {
     let mut all = Vec::new(alloc);
@@ -138,21 +138,21 @@ fn listings(alloc: Global, values: &[Value]) -> Result<Vec<Listing>, LineKind>
 }
 
 /// The items of an array that may be left out.
-fn items_of(found: Option<&Value>) -> Result<&[Value], LineKind>
+fn items_of(found: Option<&Value>) -> Result<&[Value], FaultKind>
     ensures { Gives (λ v. map view v.now) result (items_of (option_map (λ v. view v.now) found.entry)) }
 {
     let Some(value) = found else {
         return Ok(&[]);
     };
     match value.as_array() {
-        None => Err(LineKind::Usage),
+        None => Err(FaultKind::Usage),
         Some(list) => Ok(list.as_slice()),
     }
 }
 
 /// What this reader doesn't read yet of an entry has to be absent.
 #[tactic(auto, unfolding(crate::specs::Listings::entry_of))]
-fn entry_of(alloc: Global, value: &Value) -> Result<Entry, LineKind>
+fn entry_of(alloc: Global, value: &Value) -> Result<Entry, FaultKind>
     ensures { Gives (λ e. e) result (entry_of (view value.now)) }
 {
     let key = text_of(alloc, text_at(value, "pod"))?;
@@ -160,7 +160,7 @@ fn entry_of(alloc: Global, value: &Value) -> Result<Entry, LineKind>
     let listings = listings(alloc, items)?;
     let probes = items_of(field(value, "probes"))?;
     let results = results_of(alloc, probes)?;
-    absent(LineKind::Usage, field(value, "usage"))?;
+    absent(FaultKind::Usage, field(value, "usage"))?;
     Ok(Entry {
         key,
         listings: Sequence::from_vec(listings),
@@ -168,7 +168,7 @@ fn entry_of(alloc: Global, value: &Value) -> Result<Entry, LineKind>
     })
 }
 
-fn entries(alloc: Global, values: &[Value]) -> Result<Vec<Entry>, LineKind>
+fn entries(alloc: Global, values: &[Value]) -> Result<Vec<Entry>, FaultKind>
     ensures { Gives (λ v. v.items) result (each entry_of (map view values.now)) }
 {
     let mut all = Vec::new(alloc);
@@ -181,12 +181,12 @@ fn entries(alloc: Global, values: &[Value]) -> Result<Vec<Entry>, LineKind>
 
 /// The entries of a tick line. What this reader doesn't read yet of the line has to be absent.
 #[tactic(auto, unfolding(crate::specs::Listings::entries_of))]
-pub(crate) fn entries_of(alloc: Global, tick: &Value) -> Result<Vec<Entry>, LineKind>
+pub(crate) fn entries_of(alloc: Global, tick: &Value) -> Result<Vec<Entry>, FaultKind>
     ensures { Gives (λ v. v.items) result (entries_of (view tick.now)) }
 {
     let items = items_of(field(tick, "pods"))?;
     let entries = entries(alloc, items)?;
-    absent(LineKind::Usage, field(tick, "signals"))?;
-    absent(LineKind::Usage, field(tick, "afterReclaim"))?;
+    absent(FaultKind::Usage, field(tick, "signals"))?;
+    absent(FaultKind::Usage, field(tick, "afterReclaim"))?;
     Ok(entries)
 }

@@ -6,7 +6,7 @@ ghost use Rattle.json_fields.specs.Reading.{refused_if};
 ghost use Rattle.trace.specs.Gives.{Gives};
 ghost use Rattle.trace.specs.Node.{version_of, name_from, restart_delay_of, eviction_unset, node_of};
 
-use crate::fault::LineKind;
+use crate::fault::FaultKind;
 use json_fields::{field, text_at};
 use manifest::{MaxRestartDelay, Text, is_name};
 use serde_json::Value;
@@ -21,7 +21,7 @@ pub struct NodeConfig {
     pub max_restart_delay: MaxRestartDelay,
 }
 
-fn version(found: Option<&Value>) -> Result<(), LineKind>
+fn version(found: Option<&Value>) -> Result<(), FaultKind>
     ensures { Gives (λ t. t) result (version_of (option_map (λ v. view v.now) found.entry)) }
 {
     let Some(value) = found else {
@@ -29,36 +29,36 @@ fn version(found: Option<&Value>) -> Result<(), LineKind>
     };
     match value.as_u64() {
         Some(1) => Ok(()),
-        _ => Err(LineKind::Config),
+        _ => Err(FaultKind::Config),
     }
 }
 
-fn node_name(alloc: Global, found: Option<&str>) -> Result<Text, LineKind>
+fn node_name(alloc: Global, found: Option<&str>) -> Result<Text, FaultKind>
     ensures { Gives (λ t. t) result (name_from (option_map (λ s. s.now) found.entry)) }
 {
     match found {
         Some(name) if is_name(name.as_bytes()) => Ok(Text::new(String::from_str(alloc, name)?)),
-        _ => Err(LineKind::Config),
+        _ => Err(FaultKind::Config),
     }
 }
 
-fn restart_delay(found: Option<&Value>) -> Result<MaxRestartDelay, LineKind>
+fn restart_delay(found: Option<&Value>) -> Result<MaxRestartDelay, FaultKind>
     ensures { Gives (λ d. d) result (restart_delay_of (option_map (λ v. view v.now) found.entry)) }
 {
     let Some(value) = found else {
         return Ok(MaxRestartDelay::unset());
     };
     let Some(seconds) = value.as_u64() else {
-        return Err(LineKind::Config);
+        return Err(FaultKind::Config);
     };
     match MaxRestartDelay::new(seconds) {
         Some(delay) => Ok(delay),
-        None => Err(LineKind::Config),
+        None => Err(FaultKind::Config),
     }
 }
 
 /// A field that has to be absent.
-pub(crate) fn absent(kind: LineKind, found: Option<&Value>) -> Result<(), LineKind>
+pub(crate) fn absent(kind: FaultKind, found: Option<&Value>) -> Result<(), FaultKind>
     ensures { Gives (λ t. t) result (refused_if (is_some (option_map (λ v. view v.now) found.entry)) kind) }
 {
     match found {
@@ -68,29 +68,29 @@ pub(crate) fn absent(kind: LineKind, found: Option<&Value>) -> Result<(), LineKi
 }
 
 #[tactic(auto, unfolding(crate::specs::Node::eviction_unset))]
-fn eviction_unset(node: &Value) -> Result<(), LineKind>
+fn eviction_unset(node: &Value) -> Result<(), FaultKind>
     ensures { Gives (λ t. t) result (eviction_unset (view node.now)) }
 {
-    absent(LineKind::Config, field(node, "evictionHard"))?;
-    absent(LineKind::Config, field(node, "evictionSoft"))?;
-    absent(LineKind::Config, field(node, "evictionSoftGracePeriod"))?;
-    absent(LineKind::Config, field(node, "evictionMaxPodGracePeriod"))?;
-    absent(LineKind::Config, field(node, "evictionMinimumReclaim"))?;
+    absent(FaultKind::Config, field(node, "evictionHard"))?;
+    absent(FaultKind::Config, field(node, "evictionSoft"))?;
+    absent(FaultKind::Config, field(node, "evictionSoftGracePeriod"))?;
+    absent(FaultKind::Config, field(node, "evictionMaxPodGracePeriod"))?;
+    absent(FaultKind::Config, field(node, "evictionMinimumReclaim"))?;
     absent(
-        LineKind::Config,
+        FaultKind::Config,
         field(node, "evictionPressureTransitionPeriod"),
     )
 }
 
 /// The configuration that a node line says.
 #[tactic(auto, unfolding(crate::specs::Node::node_of))]
-pub(crate) fn node_of(alloc: Global, node: &Value) -> Result<NodeConfig, LineKind>
+pub(crate) fn node_of(alloc: Global, node: &Value) -> Result<NodeConfig, FaultKind>
     ensures { Gives (λ n. n) result (node_of (view node.now)) }
 {
     version(field(node, "version"))?;
     let name = node_name(alloc, text_at(node, "name"))?;
-    absent(LineKind::Config, field(node, "capacity"))?;
-    absent(LineKind::Config, field(node, "dedicatedImagefs"))?;
+    absent(FaultKind::Config, field(node, "capacity"))?;
+    absent(FaultKind::Config, field(node, "dedicatedImagefs"))?;
     eviction_unset(node)?;
     let max_restart_delay = restart_delay(field(node, "maxRestartDelay"))?;
     Ok(NodeConfig {

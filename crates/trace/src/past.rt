@@ -10,7 +10,7 @@ use std::marker::Model;
 
 /// The kinds of line.
 #[derive(Clone, Copy, PartialEq, Eq)]
-pub(crate) enum Sort {
+pub(crate) enum LineKind {
     Node,
     Pod,
     Tick,

@@ -8,7 +8,7 @@ ghost use Rattle.trace.specs.Pod.{keys_of};
 ghost use Rattle.trace.specs.Placing.{number_in, container_number, placed_listing, placed_result, pod_numbered, placed_entry, has_twice, are_of_one_pod, are_of_one_container, is_of_probe, are_of_one_probe, repeats, is_doubled};
 ghost use Rattle.std.specs.List.{list_any};
 
-use crate::fault::LineKind;
+use crate::fault::FaultKind;
 use crate::listing::{Entry, ListedInstance, Listing};
 use crate::probing::ProbeResult;
 use manifest::{Outcome, PodSpec, ProbeKind};
@@ -39,11 +39,11 @@ pub(crate) struct PlacedEntry {
     pub(crate) results: Sequence<PlacedResult>,
 }
 
-fn pod_number(keys: &NameList, entry: &Entry) -> Result<usize, LineKind>
+fn pod_number(keys: &NameList, entry: &Entry) -> Result<usize, FaultKind>
     ensures { Gives (λ n. n) result (number_in keys.now entry.now) }
 {
     match keys.number_of(entry.key.as_str()) {
-        None => Err(LineKind::StrangerPod),
+        None => Err(FaultKind::StrangerPod),
         Some(number) => Ok(number),
     }
 }
@@ -53,7 +53,7 @@ pub(crate) fn pod_numbers(
     alloc: Global,
     keys: &NameList,
     entries: &[Entry],
-) -> Result<Vec<usize>, LineKind>
+) -> Result<Vec<usize>, FaultKind>
     ensures { Gives (λ v. v.items) result (each (number_in keys.now) entries.now) }
 {
     let mut all = Vec::new(alloc);
@@ -64,16 +64,16 @@ pub(crate) fn pod_numbers(
     Ok(all)
 }
 
-fn container_number(pod: &PodSpec, name: &str) -> Result<usize, LineKind>
+fn container_number(pod: &PodSpec, name: &str) -> Result<usize, FaultKind>
     ensures { Gives (λ n. n) result (container_number pod.now name.now) }
 {
     match pod.containers.number_of(name) {
-        None => Err(LineKind::StrangerContainer),
+        None => Err(FaultKind::StrangerContainer),
         Some(number) => Ok(number),
     }
 }
 
-fn placed_listing(pod: &PodSpec, listing: &Listing) -> Result<PlacedListing, LineKind>
+fn placed_listing(pod: &PodSpec, listing: &Listing) -> Result<PlacedListing, FaultKind>
     ensures { Gives (λ l. l) result (placed_listing pod.now listing.now) }
 {
     let container = container_number(pod, listing.name.as_str())?;
@@ -83,7 +83,7 @@ fn placed_listing(pod: &PodSpec, listing: &Listing) -> Result<PlacedListing, Lin
     })
 }
 
-fn placed_result(pod: &PodSpec, written: &ProbeResult) -> Result<PlacedResult, LineKind>
+fn placed_result(pod: &PodSpec, written: &ProbeResult) -> Result<PlacedResult, FaultKind>
     ensures { Gives (λ r. r) result (placed_result pod.now written.now) }
 {
     let container = container_number(pod, written.container.as_str())?;
@@ -98,7 +98,7 @@ fn placed_listings(
     alloc: Global,
     pod: &PodSpec,
     listings: &[Listing],
-) -> Result<Vec<PlacedListing>, LineKind>
+) -> Result<Vec<PlacedListing>, FaultKind>
     ensures { Gives (λ v. v.items) result (each (placed_listing pod.now) listings.now) }
 {
     let mut all = Vec::new(alloc);
@@ -113,7 +113,7 @@ fn placed_results(
     alloc: Global,
     pod: &PodSpec,
     results: &[ProbeResult],
-) -> Result<Vec<PlacedResult>, LineKind>
+) -> Result<Vec<PlacedResult>, FaultKind>
     ensures { Gives (λ v. v.items) result (each (placed_result pod.now) results.now) }
 {
     let mut all = Vec::new(alloc);
@@ -124,11 +124,11 @@ fn placed_results(
     Ok(all)
 }
 
-fn pod_numbered(pods: &[PodSpec], number: usize) -> Result<&PodSpec, LineKind>
+fn pod_numbered(pods: &[PodSpec], number: usize) -> Result<&PodSpec, FaultKind>
     ensures { Gives (λ p. p.now) result (pod_numbered pods.now number) }
 {
     match pods.get(number) {
-        None => Err(LineKind::StrangerPod),
+        None => Err(FaultKind::StrangerPod),
         Some(pod) => Ok(pod),
     }
 }
@@ -139,7 +139,7 @@ fn placed_entry(
     keys: &NameList,
     pods: &[PodSpec],
     entry: &Entry,
-) -> Result<PlacedEntry, LineKind>
+) -> Result<PlacedEntry, FaultKind>
     ensures { Gives (λ e. e) result (placed_entry keys.now pods.now entry.now) }
 {
     let number = pod_number(keys, entry)?;
@@ -159,7 +159,7 @@ pub(crate) fn placed_entries(
     keys: &NameList,
     pods: &[PodSpec],
     entries: &[Entry],
-) -> Result<Vec<PlacedEntry>, LineKind>
+) -> Result<Vec<PlacedEntry>, FaultKind>
     ensures { Gives (λ v. v.items) result (each (placed_entry keys.now pods.now) entries.now) }
 {
     let mut all = Vec::new(alloc);

@@ -6,7 +6,7 @@ ghost use Rattle.json_fields.specs.Reading.{each};
 ghost use Rattle.trace.specs.Gives.{Gives};
 ghost use Rattle.trace.specs.Results.{probe_named, outcome_named, result_of};
 
-use crate::fault::LineKind;
+use crate::fault::FaultKind;
 use crate::listing::text_of;
 use json_fields::text_at;
 use manifest::{Outcome, ProbeKind, Text};
@@ -21,30 +21,36 @@ pub(crate) struct ProbeResult {
     pub(crate) outcome: Outcome,
 }
 
-fn probe_named(found: Option<&str>) -> Result<ProbeKind, LineKind>
+fn probe_named(found: Option<&str>) -> Result<ProbeKind, FaultKind>
     ensures { Gives (λ p. p) result (probe_named (option_map (λ s. s.now) found.entry)) }
 {
-    match found {
-        Some("startup") => Ok(ProbeKind::Startup),
-        Some("liveness") => Ok(ProbeKind::Liveness),
-        Some("readiness") => Ok(ProbeKind::Readiness),
-        _ => Err(LineKind::Usage),
+    let Some(name) = found else {
+        return Err(FaultKind::Usage);
+    };
+    match name {
+        "startup" => Ok(ProbeKind::Startup),
+        "liveness" => Ok(ProbeKind::Liveness),
+        "readiness" => Ok(ProbeKind::Readiness),
+        _ => Err(FaultKind::Usage),
     }
 }
 
-fn outcome_named(found: Option<&str>) -> Result<Outcome, LineKind>
+fn outcome_named(found: Option<&str>) -> Result<Outcome, FaultKind>
     ensures { Gives (λ o. o) result (outcome_named (option_map (λ s. s.now) found.entry)) }
 {
-    match found {
-        Some("success") => Ok(Outcome::Success),
-        Some("failure") => Ok(Outcome::Failure),
-        Some("unknown") => Ok(Outcome::Unknown),
-        _ => Err(LineKind::Usage),
+    let Some(name) = found else {
+        return Err(FaultKind::Usage);
+    };
+    match name {
+        "success" => Ok(Outcome::Success),
+        "failure" => Ok(Outcome::Failure),
+        "unknown" => Ok(Outcome::Unknown),
+        _ => Err(FaultKind::Usage),
     }
 }
 
 #[tactic(auto, unfolding(crate::specs::Results::result_of))]
-fn result_of(alloc: Global, value: &Value) -> Result<ProbeResult, LineKind>
+fn result_of(alloc: Global, value: &Value) -> Result<ProbeResult, FaultKind>
     ensures { Gives (λ r. r) result (result_of (view value.now)) }
 {
     let container = text_of(alloc, text_at(value, "container"))?;
@@ -58,7 +64,7 @@ fn result_of(alloc: Global, value: &Value) -> Result<ProbeResult, LineKind>
 }
 
 /// The results of an entry.
-pub(crate) fn results_of(alloc: Global, values: &[Value]) -> Result<Vec<ProbeResult>, LineKind>
+pub(crate) fn results_of(alloc: Global, values: &[Value]) -> Result<Vec<ProbeResult>, FaultKind>
     ensures { Gives (λ v. v.items) result (each result_of (map view values.now)) }
 {
     let mut all = Vec::new(alloc);

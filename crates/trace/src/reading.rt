@@ -1,18 +1,20 @@
 //! Reading a whole trace.
 
-ghost use Rattle.std.specs.Prelude.{◌≡◌, [], option_map, Ok, IfOk};
+ghost use Rattle.std.specs.Prelude.{◌≡◌, [], option_map, None, Ok, IfOk, string_bytes};
 ghost use Rattle.serde_json.specs.View.{view};
 ghost use Rattle.trace.specs.Gives.{Gives, GivesAt};
+ghost use Rattle.name_list.specs.Names.{place_of};
 ghost use Rattle.trace.specs.Past.{with_pod};
-ghost use Rattle.trace.specs.Sound.{AreAcceptable, AreRising};
-ghost use Rattle.trace.specs.Trace.{json_of, kind_from, with_node, pod_line_at, line_at, trace_of, finished, in_order};
+ghost use Rattle.trace.specs.Pod.{key_of_pod, keys_of};
+ghost use Rattle.trace.specs.Sound.{AreAcceptable, AreRising, HasShape};
+ghost use Rattle.trace.specs.Trace.{json_of, kind_from, with_node, with_new_pod, pod_line_at, line_at, trace_of, finished, in_order};
 
-use crate::fault::{LineFault, LineKind};
+use crate::fault::{FaultKind, LineFault};
 use crate::following::new_differs;
 use crate::lines::{first_line, is_blank};
 use crate::node::node_of;
-use crate::past::{Reader, Sort, Trace};
-use crate::pod::{key_text, pod_in};
+use crate::past::{LineKind, Reader, Trace};
+use crate::pod::{new_key, pod_in, room_for_pod};
 use crate::tick::take_tick;
 use json_fields::{field, text_at};
 use manifest::PodSpec;
@@ -21,30 +23,30 @@ use sequence::Sequence;
 use serde_json::Value;
 use std::alloc::Global;
 
-fn json(alloc: Global, line: &[u8]) -> Result<Value, LineKind>
+fn json(alloc: Global, line: &[u8]) -> Result<Value, FaultKind>
     ensures { Gives view result (json_of line.now) }
 {
     match Value::from_slice(alloc, line) {
         Ok(value) => Ok(value),
-        Err(e) if e.is_memory() => Err(LineKind::OutOfMemory),
-        Err(_) => Err(LineKind::NotJson),
+        Err(e) if e.is_memory() => Err(FaultKind::OutOfMemory),
+        Err(_) => Err(FaultKind::NotJson),
     }
 }
 
-fn sort_of(kind: Option<&str>) -> Option<Sort>
+fn kind_from(kind: Option<&str>) -> Option<LineKind>
     ensures { result ≡ kind_from (option_map (λ s. s.now) kind.entry) }
 {
     match kind {
-        Some("node") => Some(Sort::Node),
-        Some("pod") => Some(Sort::Pod),
-        Some("tick") => Some(Sort::Tick),
+        Some("node") => Some(LineKind::Node),
+        Some("pod") => Some(LineKind::Pod),
+        Some("tick") => Some(LineKind::Tick),
         _ => None,
     }
 }
 
 /// Takes a node line.
 #[tactic(auto, unfolding(crate::specs::Trace::with_node))]
-fn take_node(alloc: Global, reader: Reader, line: &Value) -> Result<Reader, LineKind>
+fn take_node(alloc: Global, reader: Reader, line: &Value) -> Result<Reader, FaultKind>
     ensures { Gives (λ r. r) result (with_node reader (view line.now)) }
 {
     let node = node_of(alloc, line)?;
@@ -64,9 +66,11 @@ fn take_node(alloc: Global, reader: Reader, line: &Value) -> Result<Reader, Line
     })
 }
 
-/// Adds the first pod, before all ticks.
-fn with_pod(alloc: Global, reader: Reader, pod: PodSpec) -> Result<Reader, LineKind>
-    requires { (reader.ticks ≡ []) × (reader.pods ≡ []) }
+/// Adds a pod of a new key, before all ticks.
+fn with_pod(alloc: Global, reader: Reader, pod: PodSpec, key: String) -> Result<Reader, FaultKind>
+    requires early { reader.ticks ≡ [] }
+    requires key { string_bytes key ≡ key_of_pod pod }
+    requires new { place_of (keys_of reader.pods) (string_bytes key) ≡ None }
     ensures { Gives (λ r. r) result (Ok (with_pod reader pod)) }
 {
     let Reader {
@@ -76,7 +80,7 @@ fn with_pod(alloc: Global, reader: Reader, pod: PodSpec) -> Result<Reader, LineK
         mut keys,
         mut differs,
     } = reader;
-    keys.push(key_text(alloc, &pod)?)?;
+    keys.push(key)?;
     let new = new_differs(alloc, pod.containers.as_slice().len())?;
     differs.push(Sequence::from_vec(new))?;
     pods.push(pod)?;
@@ -89,44 +93,56 @@ fn with_pod(alloc: Global, reader: Reader, pod: PodSpec) -> Result<Reader, LineK
     })
 }
 
-/// Takes a pod line. For now a trace has at most one pod.
+/// Adds a pod before all ticks, if its key is new.
+fn with_new_pod(alloc: Global, reader: Reader, pod: PodSpec) -> Result<Reader, FaultKind>
+    requires { reader.ticks ≡ [] }
+    ensures { Gives (λ r. r) result (with_new_pod reader pod) }
+{
+    let key = new_key(alloc, &reader, &pod)?;
+    with_pod(alloc, reader, pod, key)
+}
+
+/// Takes a pod line.
 #[tactic(auto, unfolding(crate::specs::Trace::pod_line_at))]
-fn take_pod(alloc: Global, reader: Reader, line: &Value) -> Result<Reader, LineKind>
+fn take_pod(alloc: Global, reader: Reader, line: &Value) -> Result<Reader, FaultKind>
     ensures { Gives (λ r. r) result (pod_line_at reader (view line.now)) }
 {
     if !reader.ticks.as_slice().is_empty() {
-        return Err(LineKind::Order);
+        return Err(FaultKind::Order);
     }
-    if !reader.pods.as_slice().is_empty() {
-        return Err(LineKind::TooMany);
-    }
+    room_for_pod(&reader)?;
     let pod = pod_in(alloc, field(line, "pod"))?;
-    with_pod(alloc, reader, pod)
+    with_new_pod(alloc, reader, pod)
 }
 
-fn take_sort(alloc: Global, reader: Reader, sort: Sort, line: &Value) -> Result<Reader, LineKind>
-    ensures { Gives (λ r. r) result (in_order reader.node reader sort (view line.now)) }
+fn take_in_order(
+    alloc: Global,
+    reader: Reader,
+    line_kind: LineKind,
+    line: &Value,
+) -> Result<Reader, FaultKind>
+    ensures { Gives (λ r. r) result (in_order reader.node reader line_kind (view line.now)) }
 {
-    match (reader.node.is_some(), sort) {
-        (false, Sort::Node) => take_node(alloc, reader, line),
-        (true, Sort::Pod) => take_pod(alloc, reader, line),
-        (true, Sort::Tick) => take_tick(alloc, reader, line),
-        _ => Err(LineKind::Order),
+    match (reader.node.is_some(), line_kind) {
+        (false, LineKind::Node) => take_node(alloc, reader, line),
+        (true, LineKind::Pod) => take_pod(alloc, reader, line),
+        (true, LineKind::Tick) => take_tick(alloc, reader, line),
+        _ => Err(FaultKind::Order),
     }
 }
 
 #[tactic(auto, unfolding(crate::specs::Trace::line_at))]
-fn take_line(alloc: Global, reader: Reader, line: &[u8]) -> Result<Reader, LineKind>
+fn take_line(alloc: Global, reader: Reader, line: &[u8]) -> Result<Reader, FaultKind>
     ensures { Gives (λ r. r) result (line_at reader line.now) }
 {
     if line.len() > 1_048_576 {
-        return Err(LineKind::TooLong);
+        return Err(FaultKind::TooLong);
     }
     let value = json(alloc, line)?;
-    let Some(sort) = sort_of(text_at(&value, "kind")) else {
-        return Err(LineKind::UnknownKind);
+    let Some(line_kind) = kind_from(text_at(&value, "kind")) else {
+        return Err(FaultKind::UnknownKind);
     };
-    take_sort(alloc, reader, sort, &value)
+    take_in_order(alloc, reader, line_kind, &value)
 }
 
 fn finished(line: u64, reader: Reader) -> Result<Trace, LineFault>
@@ -141,7 +157,7 @@ fn finished(line: u64, reader: Reader) -> Result<Trace, LineFault>
     match node {
         None => Err(LineFault {
             line,
-            kind: LineKind::Order,
+            kind: FaultKind::Order,
         }),
         Some(node) => Ok(Trace { node, pods, ticks }),
     }
@@ -173,12 +189,13 @@ fn read_lines(alloc: Global, text: &[u8]) -> Result<Trace, LineFault>
     finished(line, reader)
 }
 
-/// The trace that a text says, or its first faulty line with that line's first fault. A refused
-/// growth of memory is `OutOfMemory` at the line that was being read.
+/// The trace that a text says, or its first faulty line with that line's first fault. Where a
+/// growth of memory is refused the answer is `OutOfMemory`; of its line nothing is promised.
 pub fn read_trace(alloc: Global, text: &[u8]) -> Result<Trace, LineFault>
     ensures gives { GivesAt (λ t. t) result (trace_of text.now) }
     ensures acceptable { IfOk result (λ t. AreAcceptable t.ticks) }
     ensures rising { IfOk result (λ t. AreRising t.ticks) }
+    ensures shape { IfOk result (λ t. HasShape t.pods t.ticks) }
 {
     read_lines(alloc, text)
 }

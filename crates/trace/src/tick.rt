@@ -11,7 +11,7 @@ ghost use Rattle.trace.specs.Observed.{seen_in, outcome_in, results_in, entry_fo
 ghost use Rattle.trace.specs.Followed.{AreFollowed, EndBefore};
 ghost use Rattle.trace.specs.Tick.{moment_of, most_ticks, observed_in, tick_at};
 
-use crate::fault::LineKind;
+use crate::fault::{FaultKind, refused_if};
 use crate::following::differs_after;
 use crate::listing::{Entry, ListedInstance, entries_of};
 use crate::past::Reader;
@@ -26,20 +26,20 @@ use serde_json::Value;
 use state_diff::{CriState, Differ, Seen};
 use std::alloc::{AllocError, Global};
 
-fn moment(ticks: &[TickObs], found: Option<&Value>) -> Result<u64, LineKind>
+fn moment(ticks: &[TickObs], found: Option<&Value>) -> Result<u64, FaultKind>
     ensures { Gives (λ n. n) result (moment_of ticks.now (option_map (λ v. view v.now) found.entry)) }
 {
     let Some(value) = found else {
-        return Err(LineKind::Moment);
+        return Err(FaultKind::Moment);
     };
     let Some(at) = value.as_u64() else {
-        return Err(LineKind::Moment);
+        return Err(FaultKind::Moment);
     };
     if at >= 1 << 40 {
-        return Err(LineKind::Moment);
+        return Err(FaultKind::Moment);
     }
     match ticks.last() {
-        Some(tick) if at <= tick.at => Err(LineKind::Moment),
+        Some(tick) if at <= tick.at => Err(FaultKind::Moment),
         _ => Ok(at),
     }
 }
@@ -207,19 +207,13 @@ fn some_code_missing(entries: &[PlacedEntry]) -> bool
         .any(|e| entry_lacks_code(e.listings.as_slice()))
 }
 
-fn refused_if(test: bool, kind: LineKind) -> Result<(), LineKind>
-    ensures { Gives (λ t. t) result (refused_if test kind) }
+fn room(reader: &Reader) -> Result<(), FaultKind>
+    ensures { Gives (λ t. t) result (refused_if (nat_le most_ticks (length reader.now.ticks)) FaultKind.TooMany) }
 {
-    if test { Err(kind) } else { Ok(()) }
+    refused_if(reader.ticks.as_slice().len() >= 20_000, FaultKind::TooMany)
 }
 
-fn room(reader: &Reader) -> Result<(), LineKind>
-    ensures { Gives (λ t. t) result (refused_if (nat_le most_ticks (length reader.now.ticks)) LineKind.TooMany) }
-{
-    refused_if(reader.ticks.as_slice().len() >= 20_000, LineKind::TooMany)
-}
-
-fn moment_after(reader: &Reader, found: Option<&Value>) -> Result<u64, LineKind>
+fn moment_after(reader: &Reader, found: Option<&Value>) -> Result<u64, FaultKind>
     ensures gives { Gives (λ n. n) result (moment_of reader.now.ticks (option_map (λ v. view v.now) found.entry)) }
     ensures later { IfOk result (λ at. EndBefore reader.now.ticks at) }
 {
@@ -232,7 +226,7 @@ fn placed_of(
     alloc: Global,
     reader: &Reader,
     entries: &[Entry],
-) -> Result<Vec<PlacedEntry>, LineKind>
+) -> Result<Vec<PlacedEntry>, FaultKind>
     ensures { Gives (λ v. v.items) result (placed_of reader.now.pods entries.now) }
 {
     pod_numbers(alloc, &reader.keys, entries)?;
@@ -246,15 +240,15 @@ fn observed_in(
     reader: &Reader,
     at: u64,
     entries: &[PlacedEntry],
-) -> Result<(TickObs, Sequence<Sequence<Differ>>), LineKind>
+) -> Result<(TickObs, Sequence<Sequence<Differ>>), FaultKind>
     requires { EndBefore reader.now.ticks at }
     ensures gives { Gives (λ r. r.0) result (observed_in reader.now at entries.now) }
     ensures followed { IfOk result (λ r. AreFollowed (reader.now.ticks ++ r.0 ∷ []) reader.now.pods r.1) }
 {
-    refused_if(is_doubled(entries), LineKind::Doubled)?;
+    refused_if(is_doubled(entries), FaultKind::Doubled)?;
     let tick = observed(alloc, at, entries, reader.pods.as_slice())?;
     let differs = differs_after(alloc, reader, &tick)?;
-    refused_if(some_code_missing(entries), LineKind::ExitCode)?;
+    refused_if(some_code_missing(entries), FaultKind::ExitCode)?;
     Ok((tick, differs))
 }
 
@@ -262,7 +256,7 @@ fn with_tick(
     reader: Reader,
     tick: TickObs,
     differs: Sequence<Sequence<Differ>>,
-) -> Result<Reader, LineKind>
+) -> Result<Reader, FaultKind>
     requires { AreFollowed (reader.ticks ++ tick ∷ []) reader.pods differs }
     ensures { Gives (λ r. r) result (Ok (with_tick reader tick)) }
 {
@@ -285,7 +279,7 @@ fn with_tick(
 
 /// Takes a tick line.
 #[tactic(auto, unfolding(crate::specs::Tick::tick_at))]
-pub(crate) fn take_tick(alloc: Global, reader: Reader, line: &Value) -> Result<Reader, LineKind>
+pub(crate) fn take_tick(alloc: Global, reader: Reader, line: &Value) -> Result<Reader, FaultKind>
     ensures { Gives (λ r. r) result (tick_at reader (view line.now)) }
 {
     room(&reader)?;

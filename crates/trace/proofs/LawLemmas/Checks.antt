@@ -1,6 +1,6 @@
 -- A line's fault is that of its first check that fails; a line without one says its node, its pod
 -- or its tick.
-use Rattle.std.proofs.Common.{◌≡◌, ◌≢◌, ◌∙◌, ◌⊎◌, ℕ, ◌≤◌, ◌<◌, Bool, true, false, List, [], ◌∷◌, ◌++◌, length, Option, Some, None, Result, Ok, Err, refl, ap, sym, subst, inl, inr, arith, is_some}
+use Rattle.std.proofs.Common.{◌≡◌, ◌≢◌, ◌∙◌, ◌⊎◌, ℕ, ◌≤◌, ◌<◌, Bool, true, false, List, [], ◌∷◌, length, Option, Some, None, Result, Ok, Err, refl, ap, sym, subst, inl, inr, arith, is_some}
 use Rattle.std.specs.Prelude.{⊤, nat_lt, nat_le, codes}
 use Rattle.std.proofs.lemmas.Bool.{ltb-true, ltb-false, lt-ltb, le-ltb, leb-true, leb-false, le-leb, lt-leb}
 use Rattle.serde_json.specs.Data.{Data}
@@ -8,24 +8,25 @@ use Rattle.json_fields.specs.Fields.{field_at, text_at}
 use Rattle.json_fields.specs.Reading.{◌>>=◌, refused_if, some_or}
 use Rattle.json_fields.proofs.Steps.{bind_ok}
 use Rattle.manifest.specs.declared.pod.PodSpec.{PodSpec}
-use Rattle.trace.specs.declared.fault.LineKind.{LineKind}
-use Rattle.trace.specs.declared.fault.LineKind.TheVariants.{TooLong, UnknownKind, Order, TooMany, Doubled, Backwards, ExitCode}
+use Rattle.trace.specs.declared.fault.FaultKind.{FaultKind}
+use Rattle.trace.specs.declared.fault.FaultKind.TheVariants.{TooLong, UnknownKind, Order, TooMany, DuplicatePod, Doubled, Backwards, ExitCode}
 use Rattle.trace.specs.declared.node.NodeConfig.{NodeConfig}
-use Rattle.trace.specs.declared.past.Sort.{Sort}
-use Rattle.trace.specs.declared.past.Sort.TheVariants as sorts
+use Rattle.trace.specs.declared.past.LineKind.{LineKind}
+use Rattle.trace.specs.declared.past.LineKind.TheVariants as kinds
 use Rattle.observations.specs.declared.tick.TickObs.{TickObs}
 use Rattle.trace.specs.declared.listing.Entry.{Entry}
 use Rattle.trace.specs.declared.placing.PlacedEntry.{PlacedEntry}
 use Rattle.trace.specs.Node.{node_of}
-use Rattle.trace.specs.Pod.{pod_from}
+use Rattle.trace.specs.Pod.{key_of_pod, has_key, most_pods, pod_from}
+use Rattle.trace.proofs.Keys.{key_there, there_key, key_nowhere, nowhere_key}
 use Rattle.trace.specs.Listings.{entries_of}
 use Rattle.trace.specs.Placing.{placed_of, is_doubled}
 use Rattle.trace.specs.Observed.{observed, some_code_missing}
 use Rattle.trace.specs.Backwards.{is_backwards}
-use Rattle.trace.specs.Past.{Past, with_tick}
+use Rattle.trace.specs.Past.{Past, with_pod, with_tick}
 use Rattle.trace.specs.Tick.{moment_of, most_ticks, observed_in, tick_at}
 use Rattle.trace.specs.Trace.{json_of, kind_from, with_node, pod_line_at, in_order, line_at}
-use Rattle.trace.specs.Laws.{IsJson, IsOfKind, MayStand, Stands, HasMoment, HasEntries, HasPlaces, IsApart, IsForwards, Fails, too_long, not_json, unknown_kind, misplaced, wrong_node, many_pods, wrong_pod, many_ticks, wrong_moment, wrong_entry, stranger, doubled, backwards, no_code, FirstCheck, Says, says_node, says_pod, says_tick, AllChecks}
+use Rattle.trace.specs.Laws.{IsJson, IsOfKind, MayStand, Stands, HasPod, HasMoment, HasEntries, HasPlaces, IsApart, IsForwards, Fails, too_long, not_json, unknown_kind, misplaced, wrong_node, many_pods, wrong_pod, duplicate_pod, many_ticks, wrong_moment, wrong_entry, stranger, doubled, backwards, no_code, FirstCheck, Says, says_node, says_pod, says_tick, AllChecks}
 
 pub bind_err : {A B E : Type 0} (r : Result A E) (f : A → Result B E) (fault : E) → (r >>= f) ≡ Err fault → (r ≡ Err fault) ⊎ ((x : A) × (r ≡ Ok x) × (f x ≡ Err fault))
 bind_err (Ok x) f fault e = inr (x, refl, e)
@@ -49,47 +50,50 @@ tested true fault f given e = let is : fault ≡ given = cc in inl (refl, is)
 tested false fault f given e = inr (refl, e)
 
 -- the steps of a line, each with those after it
-abbrev in_place : Past → Data → Sort → Result Past LineKind
-in_place past d sort = in_order past.node past sort d
+abbrev in_place : Past → Data → LineKind → Result Past FaultKind
+in_place past d line_kind = in_order past.node past line_kind d
 
-abbrev with_kind : Past → Data → Option Sort → Result Past LineKind
+abbrev with_kind : Past → Data → Option LineKind → Result Past FaultKind
 with_kind past d kind = some_or UnknownKind kind >>= in_place past d
 
-abbrev with_json : Past → Data → Result Past LineKind
+abbrev with_json : Past → Data → Result Past FaultKind
 with_json past d = with_kind past d (kind_from (text_at (codes "kind") d))
 
-abbrev with_tick_seen : Past → TickObs → Result Past LineKind
+abbrev with_tick_seen : Past → TickObs → Result Past FaultKind
 with_tick_seen past tick = Ok (with_tick past tick)
 
-abbrev with_places : Past → ℕ → List PlacedEntry → Result Past LineKind
+abbrev with_places : Past → ℕ → List PlacedEntry → Result Past FaultKind
 with_places past at placed = observed_in past at placed >>= with_tick_seen past
 
-abbrev with_entries : Past → ℕ → List Entry → Result Past LineKind
+abbrev with_entries : Past → ℕ → List Entry → Result Past FaultKind
 with_entries past at entries = placed_of past.pods entries >>= with_places past at
 
-abbrev with_moment : Past → Data → ℕ → Result Past LineKind
+abbrev with_moment : Past → Data → ℕ → Result Past FaultKind
 with_moment past d at = entries_of d >>= with_entries past at
 
-abbrev with_room : Past → Data → ⊤ → Result Past LineKind
+abbrev with_room : Past → Data → ⊤ → Result Past FaultKind
 with_room past d u = moment_of past.ticks (field_at (codes "at") d) >>= with_moment past d
 
-abbrev with_code : Past → ℕ → List PlacedEntry → ⊤ → Result TickObs LineKind
+abbrev with_code : Past → ℕ → List PlacedEntry → ⊤ → Result TickObs FaultKind
 with_code past at placed u = Ok (observed at placed past.pods)
 
-abbrev with_forwards : Past → ℕ → List PlacedEntry → ⊤ → Result TickObs LineKind
+abbrev with_forwards : Past → ℕ → List PlacedEntry → ⊤ → Result TickObs FaultKind
 with_forwards past at placed u = refused_if (some_code_missing placed) ExitCode >>= with_code past at placed
 
-abbrev with_apart : Past → ℕ → List PlacedEntry → ⊤ → Result TickObs LineKind
+abbrev with_apart : Past → ℕ → List PlacedEntry → ⊤ → Result TickObs FaultKind
 with_apart past at placed u = refused_if (is_backwards past.ticks (observed at placed past.pods)) Backwards >>= with_forwards past at placed
 
-abbrev pod_said : Past → PodSpec → Result Past LineKind
-pod_said past pod = Ok (record { node = past.node; pods = past.pods ++ pod ∷ []; ticks = past.ticks })
+abbrev pod_new : Past → PodSpec → ⊤ → Result Past FaultKind
+pod_new past pod u = Ok (with_pod past pod)
 
-abbrev pod_read : Past → Data → ⊤ → Result Past LineKind
+abbrev pod_said : Past → PodSpec → Result Past FaultKind
+pod_said past pod = refused_if (has_key past.pods (key_of_pod pod)) DuplicatePod >>= pod_new past pod
+
+abbrev pod_read : Past → Data → ⊤ → Result Past FaultKind
 pod_read past d u = pod_from (field_at (codes "pod") d) >>= pod_said past
 
-abbrev pod_alone : Past → Data → ⊤ → Result Past LineKind
-pod_alone past d u = refused_if (nat_lt 0 (length past.pods)) TooMany >>= pod_read past d
+abbrev pod_early : Past → Data → ⊤ → Result Past FaultKind
+pod_early past d u = refused_if (nat_le most_pods (length past.pods)) TooMany >>= pod_read past d
 
 none_in : {A : Type 0} (xs : List A) → nat_lt 0 (length xs) ≡ false → xs ≡ []
 none_in [] e = refl
@@ -113,79 +117,85 @@ pub same_fault : {A E : Type 0} (a b : E) → ◌≡◌ {A = Result A E} (Err a)
 same_fault a b e = cc
 
 -- from a fault to the check that fails
-code_fails : (past : Past) (line : List ℕ) (d : Data) (at : ℕ) (placed : List PlacedEntry) (kind : LineKind) → IsForwards past line d at placed → with_forwards past at placed tt ≡ Err kind → Fails past line kind
+code_fails : (past : Past) (line : List ℕ) (d : Data) (at : ℕ) (placed : List PlacedEntry) (kind : FaultKind) → IsForwards past line d at placed → with_forwards past at placed tt ≡ Err kind → Fails past line kind
 code_fails past line d at placed kind is e = elim (tested (some_code_missing placed) ExitCode (with_code past at placed) kind e) [
-  | inl here ↦ subst (λ (k : LineKind). Fails past line k) here.1 (no_code d at placed is here.0)
+  | inl here ↦ subst (λ (k : FaultKind). Fails past line k) here.1 (no_code d at placed is here.0)
   | inr later ↦ absurd (no_fault (observed at placed past.pods) kind later.1)
 ]
 
-order_fails : (past : Past) (line : List ℕ) (d : Data) (at : ℕ) (placed : List PlacedEntry) (kind : LineKind) → IsApart past line d at placed → with_apart past at placed tt ≡ Err kind → Fails past line kind
+order_fails : (past : Past) (line : List ℕ) (d : Data) (at : ℕ) (placed : List PlacedEntry) (kind : FaultKind) → IsApart past line d at placed → with_apart past at placed tt ≡ Err kind → Fails past line kind
 order_fails past line d at placed kind is e = elim (tested (is_backwards past.ticks (observed at placed past.pods)) Backwards (with_forwards past at placed) kind e) [
-  | inl here ↦ subst (λ (k : LineKind). Fails past line k) here.1 (backwards d at placed is here.0)
+  | inl here ↦ subst (λ (k : FaultKind). Fails past line k) here.1 (backwards d at placed is here.0)
   | inr later ↦ code_fails past line d at placed kind (record { is_apart = is; forwards = later.0 }) later.1
 ]
 
-observed_fails : (past : Past) (line : List ℕ) (d : Data) (at : ℕ) (placed : List PlacedEntry) (kind : LineKind) → HasPlaces past line d at placed → observed_in past at placed ≡ Err kind → Fails past line kind
+observed_fails : (past : Past) (line : List ℕ) (d : Data) (at : ℕ) (placed : List PlacedEntry) (kind : FaultKind) → HasPlaces past line d at placed → observed_in past at placed ≡ Err kind → Fails past line kind
 unfolding observed_in
 observed_fails past line d at placed kind is e = elim (tested (is_doubled placed) Doubled (with_apart past at placed) kind e) [
-  | inl here ↦ subst (λ (k : LineKind). Fails past line k) here.1 (doubled d at placed is here.0)
+  | inl here ↦ subst (λ (k : FaultKind). Fails past line k) here.1 (doubled d at placed is here.0)
   | inr later ↦ order_fails past line d at placed kind (record { has_places = is; apart = later.0 }) later.1
 ]
 
-places_fails : (past : Past) (line : List ℕ) (d : Data) (at : ℕ) (placed : List PlacedEntry) (kind : LineKind) → HasPlaces past line d at placed → with_places past at placed ≡ Err kind → Fails past line kind
+places_fails : (past : Past) (line : List ℕ) (d : Data) (at : ℕ) (placed : List PlacedEntry) (kind : FaultKind) → HasPlaces past line d at placed → with_places past at placed ≡ Err kind → Fails past line kind
 places_fails past line d at placed kind is e = elim (bind_err (observed_in past at placed) (with_tick_seen past) kind e) [
   | inl here ↦ observed_fails past line d at placed kind is here
   | inr later ↦ absurd (no_fault (with_tick past later.0) kind later.2)
 ]
 
-entries_fails : (past : Past) (line : List ℕ) (d : Data) (at : ℕ) (es : List Entry) (kind : LineKind) → HasEntries past line d at es → with_entries past at es ≡ Err kind → Fails past line kind
+entries_fails : (past : Past) (line : List ℕ) (d : Data) (at : ℕ) (es : List Entry) (kind : FaultKind) → HasEntries past line d at es → with_entries past at es ≡ Err kind → Fails past line kind
 entries_fails past line d at es kind is e = elim (bind_err (placed_of past.pods es) (with_places past at) kind e) [
   | inl here ↦ stranger d at es kind is here
   | inr later ↦ places_fails past line d at later.0 kind (record { entries = es; has_entries = is; placed_are = later.1 }) later.2
 ]
 
-moment_fails : (past : Past) (line : List ℕ) (d : Data) (at : ℕ) (kind : LineKind) → HasMoment past line d at → with_moment past d at ≡ Err kind → Fails past line kind
+moment_fails : (past : Past) (line : List ℕ) (d : Data) (at : ℕ) (kind : FaultKind) → HasMoment past line d at → with_moment past d at ≡ Err kind → Fails past line kind
 moment_fails past line d at kind is e = elim (bind_err (entries_of d) (with_entries past at) kind e) [
   | inl here ↦ wrong_entry d at kind is here
   | inr later ↦ entries_fails past line d at later.0 kind (record { has_moment = is; entries_are = later.1 }) later.2
 ]
 
-room_fails : (past : Past) (line : List ℕ) (d : Data) (kind : LineKind) → Stands past line sorts.Tick d → length past.ticks < most_ticks → with_room past d tt ≡ Err kind → Fails past line kind
+room_fails : (past : Past) (line : List ℕ) (d : Data) (kind : FaultKind) → Stands past line kinds.Tick d → length past.ticks < most_ticks → with_room past d tt ≡ Err kind → Fails past line kind
 room_fails past line d kind is room e = elim (bind_err (moment_of past.ticks (field_at (codes "at") d)) (with_moment past d) kind e) [
   | inl here ↦ wrong_moment d kind is room here
   | inr later ↦ moment_fails past line d later.0 kind (record { stands = is; room = room; moment = later.1 }) later.2
 ]
 
-tick_fails : (past : Past) (line : List ℕ) (d : Data) (kind : LineKind) → Stands past line sorts.Tick d → tick_at past d ≡ Err kind → Fails past line kind
+tick_fails : (past : Past) (line : List ℕ) (d : Data) (kind : FaultKind) → Stands past line kinds.Tick d → tick_at past d ≡ Err kind → Fails past line kind
 unfolding tick_at
 tick_fails past line d kind is e = elim (tested (nat_le most_ticks (length past.ticks)) TooMany (with_room past d) kind e) [
-  | inl here ↦ subst (λ (k : LineKind). Fails past line k) here.1 (many_ticks d is (leb-true most_ticks (length past.ticks) here.0))
+  | inl here ↦ subst (λ (k : FaultKind). Fails past line k) here.1 (many_ticks d is (leb-true most_ticks (length past.ticks) here.0))
   | inr later ↦ room_fails past line d kind is (leb-false most_ticks (length past.ticks) later.0) later.1
 ]
 
-read_fails : (past : Past) (line : List ℕ) (d : Data) (kind : LineKind) → Stands past line sorts.Pod d → past.pods ≡ [] → pod_read past d tt ≡ Err kind → Fails past line kind
-read_fails past line d kind is none e = elim (bind_err (pod_from (field_at (codes "pod") d)) (pod_said past) kind e) [
-  | inl here ↦ wrong_pod d kind is none here
-  | inr later ↦ absurd (no_fault (record { node = past.node; pods = past.pods ++ later.0 ∷ []; ticks = past.ticks }) kind later.2)
+said_fails : (past : Past) (line : List ℕ) (d : Data) (pod : PodSpec) (kind : FaultKind) → HasPod past line d pod → pod_said past pod ≡ Err kind → Fails past line kind
+said_fails past line d pod kind is e = elim (tested (has_key past.pods (key_of_pod pod)) DuplicatePod (pod_new past pod) kind e) [
+  | inl here ↦ subst (λ (k : FaultKind). Fails past line k) here.1 (duplicate_pod d pod is (key_there past.pods (key_of_pod pod) here.0))
+  | inr later ↦ absurd (no_fault (with_pod past pod) kind later.1)
 ]
 
-alone_fails : (past : Past) (line : List ℕ) (d : Data) (kind : LineKind) → Stands past line sorts.Pod d → pod_alone past d tt ≡ Err kind → Fails past line kind
-alone_fails past line d kind is e = elim (tested (nat_lt 0 (length past.pods)) TooMany (pod_read past d) kind e) [
-  | inl here ↦ subst (λ (k : LineKind). Fails past line k) here.1 (many_pods d is (some_in past.pods here.0))
-  | inr later ↦ read_fails past line d kind is (none_in past.pods later.0) later.1
+read_fails : (past : Past) (line : List ℕ) (d : Data) (kind : FaultKind) → Stands past line kinds.Pod d → length past.pods < most_pods → pod_read past d tt ≡ Err kind → Fails past line kind
+read_fails past line d kind is room e = elim (bind_err (pod_from (field_at (codes "pod") d)) (pod_said past) kind e) [
+  | inl here ↦ wrong_pod d kind is room here
+  | inr later ↦ said_fails past line d later.0 kind (record { stands = is; room = room; pod_is = later.1 }) later.2
 ]
 
-pod_fails : (past : Past) (line : List ℕ) (d : Data) (kind : LineKind) → is_some past.node ≡ true → IsOfKind line sorts.Pod d → pod_line_at past d ≡ Err kind → Fails past line kind
+early_fails : (past : Past) (line : List ℕ) (d : Data) (kind : FaultKind) → Stands past line kinds.Pod d → pod_early past d tt ≡ Err kind → Fails past line kind
+early_fails past line d kind is e = elim (tested (nat_le most_pods (length past.pods)) TooMany (pod_read past d) kind e) [
+  | inl here ↦ subst (λ (k : FaultKind). Fails past line k) here.1 (many_pods d is (leb-true most_pods (length past.pods) here.0))
+  | inr later ↦ read_fails past line d kind is (leb-false most_pods (length past.pods) later.0) later.1
+]
+
+pod_fails : (past : Past) (line : List ℕ) (d : Data) (kind : FaultKind) → is_some past.node ≡ true → IsOfKind line kinds.Pod d → pod_line_at past d ≡ Err kind → Fails past line kind
 unfolding pod_line_at
-pod_fails past line d kind node is e = elim (tested (nat_lt 0 (length past.ticks)) Order (pod_alone past d) kind e) [
-  | inl here ↦ subst (λ (k : LineKind). Fails past line k) here.1 (misplaced sorts.Pod d is (λ may. some_in past.ticks here.0 may.1))
-  | inr later ↦ alone_fails past line d kind (record { of_kind = is; here = (node, none_in past.ticks later.0) }) later.1
+pod_fails past line d kind node is e = elim (tested (nat_lt 0 (length past.ticks)) Order (pod_early past d) kind e) [
+  | inl here ↦ subst (λ (k : FaultKind). Fails past line k) here.1 (misplaced kinds.Pod d is (λ may. some_in past.ticks here.0 may.1))
+  | inr later ↦ early_fails past line d kind (record { of_kind = is; here = (node, none_in past.ticks later.0) }) later.1
 ]
 
-node_fails : (past : Past) (line : List ℕ) (d : Data) (kind : LineKind) → Stands past line sorts.Node d → with_node past d ≡ Err kind → Fails past line kind
+node_fails : (past : Past) (line : List ℕ) (d : Data) (kind : FaultKind) → Stands past line kinds.Node d → with_node past d ≡ Err kind → Fails past line kind
 unfolding with_node
 node_fails past line d kind is e =
-    let said : NodeConfig → Result Past LineKind = λ node. Ok (record { node = Some node; pods = past.pods; ticks = past.ticks }) in
+    let said : NodeConfig → Result Past FaultKind = λ node. Ok (record { node = Some node; pods = past.pods; ticks = past.ticks }) in
     elim (bind_err (node_of d) said kind e) [
       | inl here ↦ wrong_node d kind is here
       | inr later ↦ absurd (no_fault (record { node = Some later.0; pods = past.pods; ticks = past.ticks }) kind later.2)
@@ -198,33 +208,33 @@ not_some (Some node) none some = absurd (cc)
 none_some : {A : Type 0} (x : A) → ◌≡◌ {A = Option A} None (Some x) → ⊥
 none_some x e = absurd (cc)
 
-place_fails : (node : Option NodeConfig) (past : Past) (line : List ℕ) (sort : Sort) (d : Data) (kind : LineKind) → past.node ≡ node → IsOfKind line sort d → in_order node past sort d ≡ Err kind → Fails past line kind
-place_fails None past line sorts.Node d kind none is e = node_fails past line d kind (record { of_kind = is; here = none }) e
-place_fails None past line sorts.Pod d kind none is e =
-    subst (λ (k : LineKind). Fails past line k) (same_fault {A = Past} Order kind e) (misplaced sorts.Pod d is (λ may. not_some past.node none may.0))
-place_fails None past line sorts.Tick d kind none is e =
-    subst (λ (k : LineKind). Fails past line k) (same_fault {A = Past} Order kind e) (misplaced sorts.Tick d is (λ may. not_some past.node none may))
-place_fails (Some node) past line sorts.Node d kind some is e =
-    subst (λ (k : LineKind). Fails past line k) (same_fault {A = Past} Order kind e) (misplaced sorts.Node d is (λ may. none_some node (sym may ∙ some)))
-place_fails (Some node) past line sorts.Pod d kind some is e =
+place_fails : (node : Option NodeConfig) (past : Past) (line : List ℕ) (line_kind : LineKind) (d : Data) (kind : FaultKind) → past.node ≡ node → IsOfKind line line_kind d → in_order node past line_kind d ≡ Err kind → Fails past line kind
+place_fails None past line kinds.Node d kind none is e = node_fails past line d kind (record { of_kind = is; here = none }) e
+place_fails None past line kinds.Pod d kind none is e =
+    subst (λ (k : FaultKind). Fails past line k) (same_fault {A = Past} Order kind e) (misplaced kinds.Pod d is (λ may. not_some past.node none may.0))
+place_fails None past line kinds.Tick d kind none is e =
+    subst (λ (k : FaultKind). Fails past line k) (same_fault {A = Past} Order kind e) (misplaced kinds.Tick d is (λ may. not_some past.node none may))
+place_fails (Some node) past line kinds.Node d kind some is e =
+    subst (λ (k : FaultKind). Fails past line k) (same_fault {A = Past} Order kind e) (misplaced kinds.Node d is (λ may. none_some node (sym may ∙ some)))
+place_fails (Some node) past line kinds.Pod d kind some is e =
     pod_fails past line d kind (ap (λ (o : Option NodeConfig). is_some o) some) is e
-place_fails (Some node) past line sorts.Tick d kind some is e =
+place_fails (Some node) past line kinds.Tick d kind some is e =
     tick_fails past line d kind (record { of_kind = is; here = ap (λ (o : Option NodeConfig). is_some o) some }) e
 
-kind_fails : (past : Past) (line : List ℕ) (d : Data) (found : Option Sort) (kind : LineKind) → IsJson line d → kind_from (text_at (codes "kind") d) ≡ found → with_kind past d found ≡ Err kind → Fails past line kind
-kind_fails past line d None kind is found e = subst (λ (k : LineKind). Fails past line k) (same_fault {A = Past} UnknownKind kind e) (unknown_kind d is found)
-kind_fails past line d (Some sort) kind is found e = place_fails past.node past line sort d kind refl (record { json = is; kind = found }) e
+kind_fails : (past : Past) (line : List ℕ) (d : Data) (found : Option LineKind) (kind : FaultKind) → IsJson line d → kind_from (text_at (codes "kind") d) ≡ found → with_kind past d found ≡ Err kind → Fails past line kind
+kind_fails past line d None kind is found e = subst (λ (k : FaultKind). Fails past line k) (same_fault {A = Past} UnknownKind kind e) (unknown_kind d is found)
+kind_fails past line d (Some line_kind) kind is found e = place_fails past.node past line line_kind d kind refl (record { json = is; kind = found }) e
 
-json_fails : (past : Past) (line : List ℕ) (kind : LineKind) → length line ≤ 1048576 → (json_of line >>= with_json past) ≡ Err kind → Fails past line kind
+json_fails : (past : Past) (line : List ℕ) (kind : FaultKind) → length line ≤ 1048576 → (json_of line >>= with_json past) ≡ Err kind → Fails past line kind
 json_fails past line kind short e = elim (bind_err (json_of line) (with_json past) kind e) [
   | inl here ↦ not_json kind short here
   | inr later ↦ kind_fails past line later.0 (kind_from (text_at (codes "kind") later.0)) kind (record { short = short; json = later.1 }) refl later.2
 ]
 
-pub line_fails : (past : Past) (line : List ℕ) (kind : LineKind) → line_at past line ≡ Err kind → Fails past line kind
+pub line_fails : (past : Past) (line : List ℕ) (kind : FaultKind) → line_at past line ≡ Err kind → Fails past line kind
 unfolding line_at
 line_fails past line kind e = elim (tested (nat_lt 1048576 (length line)) TooLong (λ u. json_of line >>= with_json past) kind e) [
-  | inl here ↦ subst (λ (k : LineKind). Fails past line k) here.1 (too_long (ltb-true 1048576 (length line) here.0))
+  | inl here ↦ subst (λ (k : FaultKind). Fails past line k) here.1 (too_long (ltb-true 1048576 (length line) here.0))
   | inr later ↦ json_fails past line kind (ltb-false 1048576 (length line) later.0) later.1
 ]
 
@@ -240,49 +250,55 @@ of_long past line long = failed (nat_lt 1048576 (length line)) TooLong (λ u. js
 of_json : (past : Past) (line : List ℕ) (d : Data) → IsJson line d → line_at past line ≡ with_json past d
 of_json past line d is = of_short past line is.short ∙ then_ok (json_of line) (with_json past) d is.json
 
-of_kind : (past : Past) (line : List ℕ) (sort : Sort) (d : Data) → IsOfKind line sort d → line_at past line ≡ in_order past.node past sort d
-of_kind past line sort d is = of_json past line d is.json ∙ ap (λ (found : Option Sort). with_kind past d found) is.kind
+of_kind : (past : Past) (line : List ℕ) (line_kind : LineKind) (d : Data) → IsOfKind line line_kind d → line_at past line ≡ in_order past.node past line_kind d
+of_kind past line line_kind d is = of_json past line d is.json ∙ ap (λ (found : Option LineKind). with_kind past d found) is.kind
 
-misplaced_kind : (node : Option NodeConfig) (past : Past) (sort : Sort) (d : Data) → past.node ≡ node → (MayStand past sort → ⊥) → in_order node past sort d ≡ Err Order
+misplaced_kind : (node : Option NodeConfig) (past : Past) (line_kind : LineKind) (d : Data) → past.node ≡ node → (MayStand past line_kind → ⊥) → in_order node past line_kind d ≡ Err Order
 unfolding pod_line_at
-misplaced_kind None past sorts.Node d none never = absurd (never none)
-misplaced_kind None past sorts.Pod d none never = refl
-misplaced_kind None past sorts.Tick d none never = refl
-misplaced_kind (Some node) past sorts.Node d some never = refl
-misplaced_kind (Some node) past sorts.Pod d some never =
+misplaced_kind None past kinds.Node d none never = absurd (never none)
+misplaced_kind None past kinds.Pod d none never = refl
+misplaced_kind None past kinds.Tick d none never = refl
+misplaced_kind (Some node) past kinds.Node d some never = refl
+misplaced_kind (Some node) past kinds.Pod d some never =
     let ticks : past.ticks ≢ [] = λ none. never (ap (λ (o : Option NodeConfig). is_some o) some, none) in
-    failed (nat_lt 0 (length past.ticks)) Order (pod_alone past d) (in_some past.ticks ticks)
-misplaced_kind (Some node) past sorts.Tick d some never = absurd (never (ap (λ (o : Option NodeConfig). is_some o) some))
+    failed (nat_lt 0 (length past.ticks)) Order (pod_early past d) (in_some past.ticks ticks)
+misplaced_kind (Some node) past kinds.Tick d some never = absurd (never (ap (λ (o : Option NodeConfig). is_some o) some))
 
-node_in_order : (node : Option NodeConfig) (past : Past) (d : Data) → node ≡ None → in_order node past sorts.Node d ≡ with_node past d
+node_in_order : (node : Option NodeConfig) (past : Past) (d : Data) → node ≡ None → in_order node past kinds.Node d ≡ with_node past d
 node_in_order None past d is = refl
 node_in_order (Some node) past d is = absurd (cc)
 
-pod_in_order : (node : Option NodeConfig) (past : Past) (d : Data) → is_some node ≡ true → in_order node past sorts.Pod d ≡ pod_line_at past d
+pod_in_order : (node : Option NodeConfig) (past : Past) (d : Data) → is_some node ≡ true → in_order node past kinds.Pod d ≡ pod_line_at past d
 pod_in_order None past d is = absurd (cc)
 pod_in_order (Some node) past d is = refl
 
-tick_in_order : (node : Option NodeConfig) (past : Past) (d : Data) → is_some node ≡ true → in_order node past sorts.Tick d ≡ tick_at past d
+tick_in_order : (node : Option NodeConfig) (past : Past) (d : Data) → is_some node ≡ true → in_order node past kinds.Tick d ≡ tick_at past d
 tick_in_order None past d is = absurd (cc)
 tick_in_order (Some node) past d is = refl
 
-of_node : (past : Past) (line : List ℕ) (d : Data) (kind : LineKind) → Stands past line sorts.Node d → node_of d ≡ Err kind → line_at past line ≡ Err kind
+of_node : (past : Past) (line : List ℕ) (d : Data) (kind : FaultKind) → Stands past line kinds.Node d → node_of d ≡ Err kind → line_at past line ≡ Err kind
 unfolding with_node
 of_node past line d kind is e =
-    let said : NodeConfig → Result Past LineKind = λ node. Ok (record { node = Some node; pods = past.pods; ticks = past.ticks }) in
-    of_kind past line sorts.Node d is.of_kind ∙ node_in_order past.node past d is.here ∙ then_err (node_of d) said kind e
+    let said : NodeConfig → Result Past FaultKind = λ node. Ok (record { node = Some node; pods = past.pods; ticks = past.ticks }) in
+    of_kind past line kinds.Node d is.of_kind ∙ node_in_order past.node past d is.here ∙ then_err (node_of d) said kind e
 
-of_pod : (past : Past) (line : List ℕ) (d : Data) → Stands past line sorts.Pod d → line_at past line ≡ pod_alone past d tt
+of_pod : (past : Past) (line : List ℕ) (d : Data) → Stands past line kinds.Pod d → line_at past line ≡ pod_early past d tt
 unfolding pod_line_at
 of_pod past line d is =
-    of_kind past line sorts.Pod d is.of_kind ∙ pod_in_order past.node past d is.here.0
-    ∙ passed (nat_lt 0 (length past.ticks)) Order (pod_alone past d) (in_none past.ticks is.here.1)
+    of_kind past line kinds.Pod d is.of_kind ∙ pod_in_order past.node past d is.here.0
+    ∙ passed (nat_lt 0 (length past.ticks)) Order (pod_early past d) (in_none past.ticks is.here.1)
 
-of_tick : (past : Past) (line : List ℕ) (d : Data) → Stands past line sorts.Tick d → line_at past line ≡ (refused_if (nat_le most_ticks (length past.ticks)) TooMany >>= with_room past d)
+of_pod_room : (past : Past) (line : List ℕ) (d : Data) → Stands past line kinds.Pod d → length past.pods < most_pods → line_at past line ≡ pod_read past d tt
+of_pod_room past line d is room = of_pod past line d is ∙ passed (nat_le most_pods (length past.pods)) TooMany (pod_read past d) (lt-leb most_pods (length past.pods) room)
+
+of_pod_said : (past : Past) (line : List ℕ) (d : Data) (pod : PodSpec) → HasPod past line d pod → line_at past line ≡ pod_said past pod
+of_pod_said past line d pod is = of_pod_room past line d is.stands is.room ∙ then_ok (pod_from (field_at (codes "pod") d)) (pod_said past) pod is.pod_is
+
+of_tick : (past : Past) (line : List ℕ) (d : Data) → Stands past line kinds.Tick d → line_at past line ≡ (refused_if (nat_le most_ticks (length past.ticks)) TooMany >>= with_room past d)
 unfolding tick_at
-of_tick past line d is = of_kind past line sorts.Tick d is.of_kind ∙ tick_in_order past.node past d is.here
+of_tick past line d is = of_kind past line kinds.Tick d is.of_kind ∙ tick_in_order past.node past d is.here
 
-of_room : (past : Past) (line : List ℕ) (d : Data) → Stands past line sorts.Tick d → length past.ticks < most_ticks → line_at past line ≡ with_room past d tt
+of_room : (past : Past) (line : List ℕ) (d : Data) → Stands past line kinds.Tick d → length past.ticks < most_ticks → line_at past line ≡ with_room past d tt
 of_room past line d is room = of_tick past line d is ∙ passed (nat_le most_ticks (length past.ticks)) TooMany (with_room past d) (lt-leb most_ticks (length past.ticks) room)
 
 of_moment : (past : Past) (line : List ℕ) (d : Data) (at : ℕ) → HasMoment past line d at → line_at past line ≡ with_moment past d at
@@ -294,29 +310,29 @@ of_entries past line d at es is = of_moment past line d at is.has_moment ∙ the
 of_places : (past : Past) (line : List ℕ) (d : Data) (at : ℕ) (placed : List PlacedEntry) → HasPlaces past line d at placed → line_at past line ≡ with_places past at placed
 of_places past line d at placed is = of_entries past line d at is.entries is.has_entries ∙ then_ok (placed_of past.pods is.entries) (with_places past at) placed is.placed_are
 
-of_observed : (past : Past) (line : List ℕ) (d : Data) (at : ℕ) (placed : List PlacedEntry) (kind : LineKind) → HasPlaces past line d at placed
+of_observed : (past : Past) (line : List ℕ) (d : Data) (at : ℕ) (placed : List PlacedEntry) (kind : FaultKind) → HasPlaces past line d at placed
     → (refused_if (is_doubled placed) Doubled >>= with_apart past at placed) ≡ Err kind → line_at past line ≡ Err kind
 unfolding observed_in
 of_observed past line d at placed kind is e = of_places past line d at placed is ∙ then_err (observed_in past at placed) (with_tick_seen past) kind e
 
-of_apart : (past : Past) (line : List ℕ) (d : Data) (at : ℕ) (placed : List PlacedEntry) (kind : LineKind) → IsApart past line d at placed
+of_apart : (past : Past) (line : List ℕ) (d : Data) (at : ℕ) (placed : List PlacedEntry) (kind : FaultKind) → IsApart past line d at placed
     → with_apart past at placed tt ≡ Err kind → line_at past line ≡ Err kind
 of_apart past line d at placed kind is e = of_observed past line d at placed kind is.has_places (passed (is_doubled placed) Doubled (with_apart past at placed) is.apart ∙ e)
 
-of_forwards : (past : Past) (line : List ℕ) (d : Data) (at : ℕ) (placed : List PlacedEntry) (kind : LineKind) → IsForwards past line d at placed
+of_forwards : (past : Past) (line : List ℕ) (d : Data) (at : ℕ) (placed : List PlacedEntry) (kind : FaultKind) → IsForwards past line d at placed
     → with_forwards past at placed tt ≡ Err kind → line_at past line ≡ Err kind
 of_forwards past line d at placed kind is e =
     of_apart past line d at placed kind is.is_apart (passed (is_backwards past.ticks (observed at placed past.pods)) Backwards (with_forwards past at placed) is.forwards ∙ e)
 
-fails_line : (past : Past) (line : List ℕ) (kind : LineKind) → Fails past line kind → line_at past line ≡ Err kind
+fails_line : (past : Past) (line : List ℕ) (kind : FaultKind) → Fails past line kind → line_at past line ≡ Err kind
 fails_line past line _ (too_long long) = of_long past line long
 fails_line past line _ (not_json kind short e) = of_short past line short ∙ then_err (json_of line) (with_json past) kind e
-fails_line past line _ (unknown_kind d is none) = of_json past line d is ∙ ap (λ (found : Option Sort). with_kind past d found) none
-fails_line past line _ (misplaced sort d is never) = of_kind past line sort d is ∙ misplaced_kind past.node past sort d refl never
+fails_line past line _ (unknown_kind d is none) = of_json past line d is ∙ ap (λ (found : Option LineKind). with_kind past d found) none
+fails_line past line _ (misplaced line_kind d is never) = of_kind past line line_kind d is ∙ misplaced_kind past.node past line_kind d refl never
 fails_line past line _ (wrong_node d kind is e) = of_node past line d kind is e
-fails_line past line _ (many_pods d is some) = of_pod past line d is ∙ failed (nat_lt 0 (length past.pods)) TooMany (pod_read past d) (in_some past.pods some)
-fails_line past line _ (wrong_pod d kind is none e) =
-    of_pod past line d is ∙ passed (nat_lt 0 (length past.pods)) TooMany (pod_read past d) (in_none past.pods none) ∙ then_err (pod_from (field_at (codes "pod") d)) (pod_said past) kind e
+fails_line past line _ (many_pods d is many) = of_pod past line d is ∙ failed (nat_le most_pods (length past.pods)) TooMany (pod_read past d) (le-leb most_pods (length past.pods) many)
+fails_line past line _ (wrong_pod d kind is room e) = of_pod_room past line d is room ∙ then_err (pod_from (field_at (codes "pod") d)) (pod_said past) kind e
+fails_line past line _ (duplicate_pod d pod is known) = of_pod_said past line d pod is ∙ failed (has_key past.pods (key_of_pod pod)) DuplicatePod (pod_new past pod) (there_key past.pods (key_of_pod pod) known)
 fails_line past line _ (many_ticks d is many) = of_tick past line d is ∙ failed (nat_le most_ticks (length past.ticks)) TooMany (with_room past d) (le-leb most_ticks (length past.ticks) many)
 fails_line past line _ (wrong_moment d kind is room e) = of_room past line d is room ∙ then_err (moment_of past.ticks (field_at (codes "at") d)) (with_moment past d) kind e
 fails_line past line _ (wrong_entry d at kind is e) = of_moment past line d at is ∙ then_err (entries_of d) (with_entries past at) kind e
@@ -337,7 +353,7 @@ same_value : {A E : Type 0} (a b : A) → ◌≡◌ {A = Result A E} (Ok a) (Ok 
 same_value a b e = cc
 
 -- from what a line leaves to what it says
-tick_says : (past : Past) (line : List ℕ) (d : Data) (next : Past) → Stands past line sorts.Tick d → tick_at past d ≡ Ok next → Says past line next
+tick_says : (past : Past) (line : List ℕ) (d : Data) (next : Past) → Stands past line kinds.Tick d → tick_at past d ≡ Ok next → Says past line next
 unfolding tick_at observed_in
 tick_says past line d next is e =
     let room = cleared (nat_le most_ticks (length past.ticks)) TooMany (with_room past d) next e in
@@ -348,8 +364,8 @@ tick_says past line d next is e =
     let apart = cleared (is_doubled placed.0) Doubled (with_apart past at.0 placed.0) tick.0 tick.1 in
     let forwards = cleared (is_backwards past.ticks (observed at.0 placed.0 past.pods)) Backwards (with_forwards past at.0 placed.0) tick.0 apart.1 in
     let coded = cleared (some_code_missing placed.0) ExitCode (with_code past at.0 placed.0) tick.0 forwards.1 in
-    let is_tick : observed at.0 placed.0 past.pods ≡ tick.0 = same_value {E = LineKind} (observed at.0 placed.0 past.pods) tick.0 coded.1 in
-    let is_next : with_tick past tick.0 ≡ next = same_value {E = LineKind} (with_tick past tick.0) next tick.2 in
+    let is_tick : observed at.0 placed.0 past.pods ≡ tick.0 = same_value {E = FaultKind} (observed at.0 placed.0 past.pods) tick.0 coded.1 in
+    let is_next : with_tick past tick.0 ≡ next = same_value {E = FaultKind} (with_tick past tick.0) next tick.2 in
     let has_moment : HasMoment past line d at.0 = record { stands = is; room = leb-false most_ticks (length past.ticks) room.0; moment = at.1 } in
     let has_entries : HasEntries past line d at.0 es.0 = record { has_moment = has_moment; entries_are = es.1 } in
     let has_places : HasPlaces past line d at.0 placed.0 = record { entries = es.0; has_entries = has_entries; placed_are = placed.1 } in
@@ -359,38 +375,39 @@ tick_says past line d next is e =
     subst (λ (p : Past). Says past line p) {x = with_tick past tick.0} {y = next} is_next
     (subst (λ (t : TickObs). Says past line (with_tick past t)) {x = observed at.0 placed.0 past.pods} {y = tick.0} is_tick says)
 
-pod_says : (past : Past) (line : List ℕ) (d : Data) (next : Past) → is_some past.node ≡ true → IsOfKind line sorts.Pod d → pod_line_at past d ≡ Ok next → Says past line next
+pod_says : (past : Past) (line : List ℕ) (d : Data) (next : Past) → is_some past.node ≡ true → IsOfKind line kinds.Pod d → pod_line_at past d ≡ Ok next → Says past line next
 unfolding pod_line_at
 pod_says past line d next node is e =
-    let before = cleared (nat_lt 0 (length past.ticks)) Order (pod_alone past d) next e in
-    let only = cleared (nat_lt 0 (length past.pods)) TooMany (pod_read past d) next before.1 in
-    let pod = bind_ok (pod_from (field_at (codes "pod") d)) (pod_said past) next only.1 in
-    let with : Past = record { node = past.node; pods = past.pods ++ pod.0 ∷ []; ticks = past.ticks } in
-    let is_next : with ≡ next = same_value {E = LineKind} with next pod.2 in
-    let stands : Stands past line sorts.Pod d = record { of_kind = is; here = (node, none_in past.ticks before.0) } in
-    subst (λ (p : Past). Says past line p) {x = with} is_next (says_pod d pod.0 stands (none_in past.pods only.0) pod.1)
+    let before = cleared (nat_lt 0 (length past.ticks)) Order (pod_early past d) next e in
+    let room = cleared (nat_le most_pods (length past.pods)) TooMany (pod_read past d) next before.1 in
+    let pod = bind_ok (pod_from (field_at (codes "pod") d)) (pod_said past) next room.1 in
+    let new = cleared (has_key past.pods (key_of_pod pod.0)) DuplicatePod (pod_new past pod.0) next pod.2 in
+    let is_next : with_pod past pod.0 ≡ next = same_value {E = FaultKind} (with_pod past pod.0) next new.1 in
+    let stands : Stands past line kinds.Pod d = record { of_kind = is; here = (node, none_in past.ticks before.0) } in
+    let has_pod : HasPod past line d pod.0 = record { stands = stands; room = leb-false most_pods (length past.pods) room.0; pod_is = pod.1 } in
+    subst (λ (p : Past). Says past line p) {x = with_pod past pod.0} is_next (says_pod d pod.0 has_pod (key_nowhere past.pods (key_of_pod pod.0) new.0))
 
-node_says : (past : Past) (line : List ℕ) (d : Data) (next : Past) → Stands past line sorts.Node d → with_node past d ≡ Ok next → Says past line next
+node_says : (past : Past) (line : List ℕ) (d : Data) (next : Past) → Stands past line kinds.Node d → with_node past d ≡ Ok next → Says past line next
 unfolding with_node
 node_says past line d next is e =
     let said : NodeConfig → Past = λ node. record { node = Some node; pods = past.pods; ticks = past.ticks } in
-    let last : NodeConfig → Result Past LineKind = λ node. Ok (said node) in
+    let last : NodeConfig → Result Past FaultKind = λ node. Ok (said node) in
     let node = bind_ok (node_of d) last next e in
-    let is_next : said node.0 ≡ next = same_value {E = LineKind} (said node.0) next node.2 in
+    let is_next : said node.0 ≡ next = same_value {E = FaultKind} (said node.0) next node.2 in
     subst (λ (p : Past). Says past line p) {x = said node.0} is_next (says_node d node.0 is node.1)
 
-place_says : (node : Option NodeConfig) (past : Past) (line : List ℕ) (sort : Sort) (d : Data) (next : Past) → past.node ≡ node → IsOfKind line sort d → in_order node past sort d ≡ Ok next → Says past line next
-place_says None past line sorts.Node d next none is e = node_says past line d next (record { of_kind = is; here = none }) e
-place_says None past line sorts.Pod d next none is e = absurd (no_fault next Order (sym e))
-place_says None past line sorts.Tick d next none is e = absurd (no_fault next Order (sym e))
-place_says (Some node) past line sorts.Node d next some is e = absurd (no_fault next Order (sym e))
-place_says (Some node) past line sorts.Pod d next some is e = pod_says past line d next (ap (λ (o : Option NodeConfig). is_some o) some) is e
-place_says (Some node) past line sorts.Tick d next some is e =
+place_says : (node : Option NodeConfig) (past : Past) (line : List ℕ) (line_kind : LineKind) (d : Data) (next : Past) → past.node ≡ node → IsOfKind line line_kind d → in_order node past line_kind d ≡ Ok next → Says past line next
+place_says None past line kinds.Node d next none is e = node_says past line d next (record { of_kind = is; here = none }) e
+place_says None past line kinds.Pod d next none is e = absurd (no_fault next Order (sym e))
+place_says None past line kinds.Tick d next none is e = absurd (no_fault next Order (sym e))
+place_says (Some node) past line kinds.Node d next some is e = absurd (no_fault next Order (sym e))
+place_says (Some node) past line kinds.Pod d next some is e = pod_says past line d next (ap (λ (o : Option NodeConfig). is_some o) some) is e
+place_says (Some node) past line kinds.Tick d next some is e =
     tick_says past line d next (record { of_kind = is; here = ap (λ (o : Option NodeConfig). is_some o) some }) e
 
-kind_says : (past : Past) (line : List ℕ) (d : Data) (found : Option Sort) (next : Past) → IsJson line d → kind_from (text_at (codes "kind") d) ≡ found → with_kind past d found ≡ Ok next → Says past line next
+kind_says : (past : Past) (line : List ℕ) (d : Data) (found : Option LineKind) (next : Past) → IsJson line d → kind_from (text_at (codes "kind") d) ≡ found → with_kind past d found ≡ Ok next → Says past line next
 kind_says past line d None next is found e = absurd (no_fault next UnknownKind (sym e))
-kind_says past line d (Some sort) next is found e = place_says past.node past line sort d next refl (record { json = is; kind = found }) e
+kind_says past line d (Some line_kind) next is found e = place_says past.node past line line_kind d next refl (record { json = is; kind = found }) e
 
 line_says_it : (past : Past) (line : List ℕ) (next : Past) → line_at past line ≡ Ok next → Says past line next
 unfolding line_at
@@ -401,12 +418,12 @@ line_says_it past line next e =
     kind_says past line json.0 (kind_from (text_at (codes "kind") json.0)) next is refl json.2
 
 -- from what a line says to what it leaves
-node_line : (past : Past) (line : List ℕ) (d : Data) (node : NodeConfig) → Stands past line sorts.Node d → node_of d ≡ Ok node
+node_line : (past : Past) (line : List ℕ) (d : Data) (node : NodeConfig) → Stands past line kinds.Node d → node_of d ≡ Ok node
     → line_at past line ≡ Ok (record { node = Some node; pods = past.pods; ticks = past.ticks })
 unfolding with_node
 node_line past line d node is e =
-    let said : NodeConfig → Result Past LineKind = λ node. Ok (record { node = Some node; pods = past.pods; ticks = past.ticks }) in
-    of_kind past line sorts.Node d is.of_kind ∙ node_in_order past.node past d is.here ∙ then_ok (node_of d) said node e
+    let said : NodeConfig → Result Past FaultKind = λ node. Ok (record { node = Some node; pods = past.pods; ticks = past.ticks }) in
+    of_kind past line kinds.Node d is.of_kind ∙ node_in_order past.node past d is.here ∙ then_ok (node_of d) said node e
 
 tick_line : (past : Past) (line : List ℕ) (d : Data) (at : ℕ) (placed : List PlacedEntry) → IsForwards past line d at placed → some_code_missing placed ≡ false
     → line_at past line ≡ Ok (with_tick past (observed at placed past.pods))
@@ -421,8 +438,8 @@ tick_line past line d at placed is coded =
 
 says_line : (past : Past) (line : List ℕ) (next : Past) → Says past line next → line_at past line ≡ Ok next
 says_line past line _ (says_node d node is e) = node_line past line d node is e
-says_line past line _ (says_pod d pod is none e) =
-    of_pod past line d is ∙ passed (nat_lt 0 (length past.pods)) TooMany (pod_read past d) (in_none past.pods none) ∙ then_ok (pod_from (field_at (codes "pod") d)) (pod_said past) pod e
+says_line past line _ (says_pod d pod is new) =
+    of_pod_said past line d pod is ∙ passed (has_key past.pods (key_of_pod pod)) DuplicatePod (pod_new past pod) (nowhere_key past.pods (key_of_pod pod) new)
 says_line past line _ (says_tick d at placed is coded) = tick_line past line d at placed is coded
 
 pub all_checks : AllChecks

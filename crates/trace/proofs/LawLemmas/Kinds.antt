@@ -1,14 +1,14 @@
 -- The kinds of fault that the checks of a line answer.
-use Rattle.std.proofs.Common.{◌≡◌, ◌⊎◌, ℕ, Bool, true, false, List, [], length, slice_get, Option, Some, None, Result, Ok, Err, refl, sym, subst, inl, inr, is_some}
-use Rattle.std.specs.Prelude.{not, ◌==◌, ◌&&◌, ◌-◌, ◌^◌, if◌then◌else◌, option_and_then, nat_lt, codes}
+use Rattle.std.proofs.Common.{◌≡◌, ◌⊎◌, ℕ, Bool, List, [], length, slice_get, Option, Some, None, Result, Ok, Err, refl, sym, subst, inl, inr, is_some}
+use Rattle.std.specs.Prelude.{◌==◌, ◌&&◌, ◌-◌, ◌^◌, if◌then◌else◌, option_and_then, nat_lt, codes}
 use Rattle.serde_json.specs.Data.{Data, Items}
 use Rattle.serde_json.specs.Find.{as_str, as_number, as_u64, as_array}
 use Rattle.manifest.specs.Names.{is_name}
 use Rattle.json_fields.specs.Fields.{field_at, text_at}
 use Rattle.json_fields.specs.Reading.{some_or}
 use Rattle.manifest.specs.declared.pod.PodSpec.{PodSpec}
-use Rattle.trace.specs.declared.fault.LineKind.{LineKind}
-use Rattle.trace.specs.declared.fault.LineKind.TheVariants.{NotJson, Config, Manifest, Moment, Usage, StrangerPod, StrangerContainer, Order}
+use Rattle.trace.specs.declared.fault.FaultKind.{FaultKind}
+use Rattle.trace.specs.declared.fault.FaultKind.TheVariants.{NotJson, Config, Manifest, Moment, Usage, StrangerPod, StrangerContainer, Order}
 use Rattle.trace.specs.declared.fault.LineFault.{LineFault}
 use Rattle.observations.specs.declared.tick.TickObs.{TickObs}
 use Rattle.trace.specs.declared.listing.Entry.{Entry}
@@ -20,7 +20,7 @@ use Rattle.trace.specs.Lines.{lines_of}
 use Rattle.manifest.specs.RestartDelay.{most_max_delay, max_delay_of}
 use Rattle.trace.specs.Node.{version_from, version_of, name_from, or_config, restart_delay_of, absent, eviction_unset, node_of}
 use Rattle.manifest.specs.declared.fault.ManifestFault.{ManifestFault}
-use Rattle.manifest.specs.declared.fault.ManifestFault.TheVariants.{Missing, WrongKind, DuplicateContainer, Sidecar}
+use Rattle.manifest.specs.declared.fault.ManifestFault.TheVariants.{Missing}
 use Rattle.manifest.specs.declared.fault.ManifestFault.TheVariants as faults
 use Rattle.manifest.specs.declared.fault.Field.TheVariants as fields
 use Rattle.manifest.specs.Containers.{names_of}
@@ -30,8 +30,7 @@ use Rattle.std.specs.Str.{is_utf8}
 use Rattle.state_diff.specs.declared.seen.CriState.TheVariants.{Created, Running, Exited, Unknown}
 use Rattle.trace.specs.declared.listing.Listing.{Listing}
 use Rattle.json_fields.specs.Fields.{items_list}
-use Rattle.trace.specs.Pod.{keys_of, of_manifest, has_probe, refusal_of, unless, replayed, pod_of, pod_from}
-use Rattle.manifest.specs.Containers.{has_only_apps}
+use Rattle.trace.specs.Pod.{keys_of, of_manifest, pod_from}
 use Rattle.manifest.specs.Manifest.{pod_at}
 use Rattle.trace.specs.Listings.{attempt_from, attempt_of, state_named, state_numbered, state_from, state_of, listing_of, items_from, items_of, entry_of, entries_of}
 use Rattle.trace.specs.Results.{probe_named, outcome_named, result_of}
@@ -39,13 +38,13 @@ use Rattle.trace.specs.Placing.{number_in, container_number, placed_listing, pla
 use Rattle.trace.specs.Past.{Past}
 use Rattle.trace.specs.Tick.{is_later, moment_from}
 use Rattle.trace.specs.Trace.{json_of}
-use Rattle.trace.specs.Laws.{IsFirstFault, Fails, too_long, not_json, unknown_kind, misplaced, wrong_node, many_pods, wrong_pod, many_ticks, wrong_moment, wrong_entry, stranger, doubled, backwards, no_code, KindsOfChecks, IsNotMemory, NeverMemory}
+use Rattle.trace.specs.Laws.{IsFirstFault, Fails, too_long, not_json, unknown_kind, misplaced, wrong_node, many_pods, wrong_pod, duplicate_pod, many_ticks, wrong_moment, wrong_entry, stranger, doubled, backwards, no_code, KindsOfChecks, IsNotMemory, NeverMemory}
 use Rattle.trace.proofs.LawLemmas.{first_fault}
 use Rattle.trace.proofs.LawLemmas.Checks.{line_fails}
 use Rattle.json_fields.proofs.Only.{Only, only_ok, only_err, only_bind, only_if, only_refused, only_some, only_each}
-use Rattle.manifest.proofs.NeverMemory.{IsFound, missing, wrong, pod_at_only}
+use Rattle.manifest.proofs.NeverMemory.{IsFound, missing, pod_at_only}
 
-abbrev Is : LineKind → LineKind → Type 0
+abbrev Is : FaultKind → FaultKind → Type 0
 Is given kind = kind ≡ given
 
 version_from_only : (found : Option ℕ) → Only (Is Config) (version_from found)
@@ -60,7 +59,7 @@ name_only : (found : Option (List ℕ)) → Only (Is Config) (name_from found)
 name_only None = only_err (Is Config) Config refl
 name_only (Some s) = only_if (Is Config) (is_name s) (Ok s) (Err Config) (only_ok (Is Config) s) (only_err (Is Config) Config refl)
 
-absent_only : (kind : LineKind) (found : Option Data) → Only (Is kind) (absent kind found)
+absent_only : (kind : FaultKind) (found : Option Data) → Only (Is kind) (absent kind found)
 absent_only kind found = only_refused (Is kind) (is_some found) kind refl
 
 eviction_only : (d : Data) → Only (Is Config) (eviction_unset d)
@@ -99,35 +98,16 @@ json_only line =
     let P = Is NotJson in
     only_if P (is_utf8 line) (some_or NotJson (read line)) (Err NotJson) (only_some P NotJson (read line) refl) (only_err P NotJson refl)
 
-abbrev IsManifest : LineKind → Type 0
+abbrev IsManifest : FaultKind → Type 0
 IsManifest kind = (fault : ManifestFault) × (kind ≡ Manifest fault) × IsFound fault
 
 manifest_only : {A : Type 0} (r : Result A ManifestFault) → Only IsFound r → Only IsManifest (of_manifest r)
 manifest_only (Ok x) only = only_ok IsManifest x
 manifest_only (Err fault) only = only_err IsManifest (Manifest fault) (fault, refl, only.has fault refl)
 
--- a pod that is not replayed yet
-refusal_found : (pod : PodSpec) (fault : ManifestFault) → refusal_of pod ≡ Some fault → IsFound fault
-refusal_found pod fault = there (not (has_only_apps pod.containers)) (has_probe pod)
-  where
-    there : (a b : Bool) → (if a then Some (WrongKind fields.InitContainers) else (if b then Some (WrongKind fields.Probe) else None)) ≡ Some fault → IsFound fault
-    there true b e is = absurd (cc)
-    there false true e is = absurd (cc)
-    there false false e is = absurd (cc)
-
-replayed_only : (pod : PodSpec) → Only IsFound (replayed pod)
-replayed_only pod = there (refusal_of pod) (refusal_found pod)
-  where
-    there : (o : Option ManifestFault) → ((fault : ManifestFault) → o ≡ Some fault → IsFound fault) → Only IsFound (unless o pod)
-    there None found = only_ok IsFound pod
-    there (Some fault) found = only_err IsFound fault (found fault refl)
-
-pod_of_only : (d : Data) → Only IsFound (pod_of d)
-pod_of_only d = only_bind IsFound (pod_at d) replayed (pod_at_only d) replayed_only
-
 pod_only : (found : Option Data) → Only IsManifest (pod_from found)
 pod_only None = only_err IsManifest (Manifest (Missing fields.Pod)) (Missing fields.Pod, refl, missing fields.Pod)
-pod_only (Some d) = manifest_only (pod_of d) (pod_of_only d)
+pod_only (Some d) = manifest_only (pod_at d) (pod_at_only d)
 
 moment_only : (ticks : List TickObs) (found : Option ℕ) → Only (Is Moment) (moment_from ticks found)
 moment_only ticks None = only_err (Is Moment) Moment refl
@@ -143,7 +123,7 @@ attempt_only None = only_ok (Is Usage) 0
 attempt_only (Some d) = attempt_from_only (option_and_then as_u64 (as_number d))
 
 -- a test that answers a value, and the tests after it
-value_if : {A : Type 0} (b : Bool) (value : A) (rest : Result A LineKind) → Only (Is Usage) rest → Only (Is Usage) (if b then Ok value else rest)
+value_if : {A : Type 0} (b : Bool) (value : A) (rest : Result A FaultKind) → Only (Is Usage) rest → Only (Is Usage) (if b then Ok value else rest)
 value_if b value rest only = only_if (Is Usage) b (Ok value) rest (only_ok (Is Usage) value) only
 
 named_only : (s : List ℕ) → Only (Is Usage) (state_named s)
@@ -213,7 +193,7 @@ entries_only d =
     only_bind P _ _ (absent_only Usage (field_at (codes "signals") d)) (λ signals.
     only_bind P _ _ (absent_only Usage (field_at (codes "afterReclaim") d)) (λ after. only_ok P es))))
 
-abbrev IsStranger : LineKind → Type 0
+abbrev IsStranger : FaultKind → Type 0
 IsStranger kind = (kind ≡ StrangerPod) ⊎ (kind ≡ StrangerContainer)
 
 number_only : (keys : List (List ℕ)) (entry : Entry) → Only IsStranger (number_in keys entry)
@@ -255,10 +235,10 @@ kinds_of_checks = record {
 }
 
 -- a kind that isn't for want of memory
-is_not : (kind given : LineKind) → kind ≡ given → IsNotMemory given → IsNotMemory kind
+is_not : (kind given : FaultKind) → kind ≡ given → IsNotMemory given → IsNotMemory kind
 is_not kind given is never = subst IsNotMemory (sym is) never
 
-fails_not_memory : (past : Past) (line : List ℕ) (kind : LineKind) → Fails past line kind → IsNotMemory kind
+fails_not_memory : (past : Past) (line : List ℕ) (kind : FaultKind) → Fails past line kind → IsNotMemory kind
 fails_not_memory past line _ (too_long long) = (λ memory. absurd (cc), λ memory. absurd (cc))
 fails_not_memory past line _ (not_json kind short e) = is_not kind NotJson ((json_only line).has kind e) (λ memory. absurd (cc), λ memory. absurd (cc))
 fails_not_memory past line _ (unknown_kind d is none) = (λ memory. absurd (cc), λ memory. absurd (cc))
@@ -270,6 +250,7 @@ fails_not_memory past line _ (wrong_pod d kind is none e) =
     let fault = given.0 in
     let found : IsFound fault = given.2 in
     is_not kind (Manifest fault) given.1 (λ memory. absurd (cc), λ memory. let same : fault ≡ faults.OutOfMemory = cc in absurd (found same))
+fails_not_memory past line _ (duplicate_pod d pod is known) = (λ memory. absurd (cc), λ memory. absurd (cc))
 fails_not_memory past line _ (many_ticks d is many) = (λ memory. absurd (cc), λ memory. absurd (cc))
 fails_not_memory past line _ (wrong_moment d kind is room e) =
     is_not kind Moment (kinds_of_checks.moment past.ticks (field_at (codes "at") d) kind e) (λ memory. absurd (cc), λ memory. absurd (cc))

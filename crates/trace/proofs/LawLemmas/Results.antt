@@ -1,6 +1,6 @@
 -- What a tick shows of a probe is the result that is given.
 use Rattle.std.proofs.Common.{◌≡◌, ◌∙◌, ℕ, zero, suc, Bool, true, false, List, [], ◌∷◌, slice_get, Some, refl, ap, sym, inl, inr}
-use Rattle.std.specs.Prelude.{◌==◌, ◌&&◌, ◌||◌}
+use Rattle.std.specs.Prelude.{◌==◌, ◌&&◌}
 use Rattle.std.specs.List.{list_any}
 use Rattle.std.proofs.lemmas.Bool.{cases_Bool, and_parts, or_parts, eqb-true, eq-eqb}
 use Rattle.manifest.specs.declared.outcome.Outcome.{Outcome}
@@ -37,7 +37,7 @@ of_itself : (n : ℕ) (probe : ProbeKind) → (n == n && place probe == place pr
 of_itself n probe = rw (eq-eqb n n refl, eq-eqb (place probe) (place probe) refl) refl
 
 -- what holds of an item holds of some item
-some_item : {A : Type 0} (test : A → Bool) (xs : List A) (m : ℕ) (x : A) → slice_get xs m ≡ Some x → test x ≡ true → list_any test xs ≡ true
+pub some_item : {A : Type 0} (test : A → Bool) (xs : List A) (m : ℕ) (x : A) → slice_get xs m ≡ Some x → test x ≡ true → list_any test xs ≡ true
 some_item test [] m x here holds = absurd (cc)
 some_item test (y ∷ ys) zero x here holds =
     let is : y ≡ x = cc in

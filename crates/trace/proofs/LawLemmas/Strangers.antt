@@ -8,8 +8,8 @@ use Rattle.json_fields.specs.Reading.{◌>>=◌, some_or, each}
 use Rattle.name_list.specs.Names.{place_of}
 use Rattle.manifest.specs.declared.pod.PodSpec.{PodSpec}
 use Rattle.manifest.specs.Containers.{names_of}
-use Rattle.trace.specs.declared.fault.LineKind.{LineKind}
-use Rattle.trace.specs.declared.fault.LineKind.TheVariants.{StrangerPod, StrangerContainer}
+use Rattle.trace.specs.declared.fault.FaultKind.{FaultKind}
+use Rattle.trace.specs.declared.fault.FaultKind.TheVariants.{StrangerPod, StrangerContainer}
 use Rattle.trace.specs.declared.listing.Listing.{Listing}
 use Rattle.trace.specs.declared.listing.Entry.{Entry}
 use Rattle.trace.specs.declared.probing.ProbeResult.{ProbeResult}
@@ -74,39 +74,39 @@ pod_is_there (pod ∷ pods) key n e =
     (get_or (pod ∷ pods) n pod, slice_get-get_or (pod ∷ pods) n pod (omega arith))
 
 -- the steps of an entry
-abbrev placed : ℕ → List PlacedListing → List PlacedResult → Result PlacedEntry LineKind
+abbrev placed : ℕ → List PlacedListing → List PlacedResult → Result PlacedEntry FaultKind
 placed number listings results = Ok (record { pod = number; listings = listings; results = results })
 
-abbrev with_listings : Entry → ℕ → PodSpec → List PlacedListing → Result PlacedEntry LineKind
+abbrev with_listings : Entry → ℕ → PodSpec → List PlacedListing → Result PlacedEntry FaultKind
 with_listings entry number pod listings = each (placed_result pod) entry.results >>= placed number listings
 
-abbrev with_pod : Entry → ℕ → PodSpec → Result PlacedEntry LineKind
+abbrev with_pod : Entry → ℕ → PodSpec → Result PlacedEntry FaultKind
 with_pod entry number pod = each (placed_listing pod) entry.listings >>= with_listings entry number pod
 
-abbrev with_number : List PodSpec → Entry → ℕ → Result PlacedEntry LineKind
+abbrev with_number : List PodSpec → Entry → ℕ → Result PlacedEntry FaultKind
 with_number pods entry number = pod_numbered pods number >>= with_pod entry number
 
-container_fault : (pod : PodSpec) (name : List ℕ) (kind : LineKind) → container_number pod name ≡ Err kind → HasNo pod name × (kind ≡ StrangerContainer)
+container_fault : (pod : PodSpec) (name : List ℕ) (kind : FaultKind) → container_number pod name ≡ Err kind → HasNo pod name × (kind ≡ StrangerContainer)
 container_fault pod name kind e = missing_is StrangerContainer kind (place_of (names_of pod.containers) name) e
 
-listing_fault : (pod : PodSpec) (listing : Listing) (kind : LineKind) → placed_listing pod listing ≡ Err kind → HasNo pod listing.name × (kind ≡ StrangerContainer)
+listing_fault : (pod : PodSpec) (listing : Listing) (kind : FaultKind) → placed_listing pod listing ≡ Err kind → HasNo pod listing.name × (kind ≡ StrangerContainer)
 listing_fault pod listing kind e =
-    let last : ℕ → Result PlacedListing LineKind = λ number. Ok (record { container = number; instance = listing.instance }) in
+    let last : ℕ → Result PlacedListing FaultKind = λ number. Ok (record { container = number; instance = listing.instance }) in
     elim (bind_err (container_number pod listing.name) last kind e) [
       | inl here ↦ container_fault pod listing.name kind here
       | inr later ↦ absurd (no_fault (record { container = later.0; instance = listing.instance }) kind later.2)
     ]
 
-result_fault : (pod : PodSpec) (r : ProbeResult) (kind : LineKind) → placed_result pod r ≡ Err kind → HasNo pod r.container × (kind ≡ StrangerContainer)
+result_fault : (pod : PodSpec) (r : ProbeResult) (kind : FaultKind) → placed_result pod r ≡ Err kind → HasNo pod r.container × (kind ≡ StrangerContainer)
 result_fault pod r kind e =
-    let last : ℕ → Result PlacedResult LineKind = λ number. Ok (record { container = number; probe = r.probe; outcome = r.outcome }) in
+    let last : ℕ → Result PlacedResult FaultKind = λ number. Ok (record { container = number; probe = r.probe; outcome = r.outcome }) in
     elim (bind_err (container_number pod r.container) last kind e) [
       | inl here ↦ container_fault pod r.container kind here
       | inr later ↦ absurd (no_fault (record { container = later.0; probe = r.probe; outcome = r.outcome }) kind later.2)
     ]
 
 -- a fault of an entry of a known pod: it names a container that isn't the pod's
-known_fault : (entry : Entry) (number : ℕ) (pod : PodSpec) (kind : LineKind) → with_pod entry number pod ≡ Err kind → (kind ≡ StrangerContainer) × NamesOther pod entry
+known_fault : (entry : Entry) (number : ℕ) (pod : PodSpec) (kind : FaultKind) → with_pod entry number pod ≡ Err kind → (kind ≡ StrangerContainer) × NamesOther pod entry
 known_fault entry number pod kind e = elim (bind_err (each (placed_listing pod) entry.listings) (with_listings entry number pod) kind e) [
   | inl faulty ↦
       let at = each_at (placed_listing pod) entry.listings kind faulty in
@@ -122,15 +122,15 @@ known_fault entry number pod kind e = elim (bind_err (each (placed_listing pod) 
 ]
 
 -- and where it names one, that is its fault
-known_is : (entry : Entry) (number : ℕ) (pod : PodSpec) → NamesOther pod entry → (r : Result (List PlacedListing) LineKind) → each (placed_listing pod) entry.listings ≡ r → with_pod entry number pod ≡ Err StrangerContainer
+known_is : (entry : Entry) (number : ℕ) (pod : PodSpec) → NamesOther pod entry → (r : Result (List PlacedListing) FaultKind) → each (placed_listing pod) entry.listings ≡ r → with_pod entry number pod ≡ Err StrangerContainer
 known_is entry number pod (inl (m, listing, here, unknown)) r e =
-    let last : ℕ → Result PlacedListing LineKind = λ number. Ok (record { container = number; instance = listing.instance }) in
+    let last : ℕ → Result PlacedListing FaultKind = λ number. Ok (record { container = number; instance = listing.instance }) in
     let one : placed_listing pod listing ≡ Err StrangerContainer =
     then_err (container_number pod listing.name) last StrangerContainer (ap (λ (found : Option ℕ). some_or StrangerContainer found) unknown) in
     then_err (each (placed_listing pod) entry.listings) (with_listings entry number pod) StrangerContainer
     (each_meets (placed_listing pod) StrangerContainer entry.listings m listing here one (λ m z other at e. (listing_fault pod z other e).1))
 known_is entry number pod (inr (m, result, here, unknown)) (Ok listings) e =
-    let last : ℕ → Result PlacedResult LineKind = λ number. Ok (record { container = number; probe = result.probe; outcome = result.outcome }) in
+    let last : ℕ → Result PlacedResult FaultKind = λ number. Ok (record { container = number; probe = result.probe; outcome = result.outcome }) in
     let one : placed_result pod result ≡ Err StrangerContainer =
     then_err (container_number pod result.container) last StrangerContainer (ap (λ (found : Option ℕ). some_or StrangerContainer found) unknown) in
     then_ok (each (placed_listing pod) entry.listings) (with_listings entry number pod) listings e
@@ -141,7 +141,7 @@ known_is entry number pod (inr other) (Err kind) e =
     then_err (each (placed_listing pod) entry.listings) (with_listings entry number pod) StrangerContainer (e ∙ ap Err (listing_fault pod at.1 kind at.3).1)
 
 -- a fault of one entry: its pod isn't known, or a container isn't its pod's
-entry_fault : (pods : List PodSpec) (es : List Entry) (n : ℕ) (entry : Entry) (kind : LineKind) → slice_get es n ≡ Some entry → placed_entry (keys_of pods) pods entry ≡ Err kind
+entry_fault : (pods : List PodSpec) (es : List Entry) (n : ℕ) (entry : Entry) (kind : FaultKind) → slice_get es n ≡ Some entry → placed_entry (keys_of pods) pods entry ≡ Err kind
     → NamesStranger pods es ⊎ ((kind ≡ StrangerContainer) × NamesStrangerContainer pods es)
 unfolding placed_entry
 entry_fault pods es n entry kind here e = elim (bind_err (number_in (keys_of pods) entry) (with_number pods entry) kind e) [
@@ -170,7 +170,7 @@ unknown_pod pods es is =
 all_known : (pods : List PodSpec) (es : List Entry) (numbers : List ℕ) → each (number_in (keys_of pods)) es ≡ Ok numbers → NamesStranger pods es → ⊥
 all_known pods es numbers e is = no_fault numbers StrangerPod (sym e ∙ unknown_pod pods es is)
 
-entries_fault : (pods : List PodSpec) (es : List Entry) (kind : LineKind) → placed_of pods es ≡ Err kind → ((kind ≡ StrangerPod) × NamesStranger pods es) ⊎ ((kind ≡ StrangerContainer) × NamesStrangerContainer pods es)
+entries_fault : (pods : List PodSpec) (es : List Entry) (kind : FaultKind) → placed_of pods es ≡ Err kind → ((kind ≡ StrangerPod) × NamesStranger pods es) ⊎ ((kind ≡ StrangerContainer) × NamesStrangerContainer pods es)
 unfolding placed_of
 entries_fault pods es kind e = elim (bind_err (each (number_in (keys_of pods)) es) (λ numbers. each (placed_entry (keys_of pods) pods) es) kind e) [
   | inl unknown ↦
@@ -196,13 +196,13 @@ one_entry pods es is =
     ∙ then_ok (pod_numbered pods is.number) (with_pod is.entry is.number) is.pod (ap (λ (found : Option PodSpec). some_or StrangerPod found) is.pod_is)
     ∙ known_is is.entry is.number is.pod is.other (each (placed_listing is.pod) is.entry.listings) refl
 
-only_container : (pods : List PodSpec) (es : List Entry) → (NamesStranger pods es → ⊥) → (m : ℕ) (z : Entry) (other : LineKind) → slice_get es m ≡ Some z → placed_entry (keys_of pods) pods z ≡ Err other → other ≡ StrangerContainer
+only_container : (pods : List PodSpec) (es : List Entry) → (NamesStranger pods es → ⊥) → (m : ℕ) (z : Entry) (other : FaultKind) → slice_get es m ≡ Some z → placed_entry (keys_of pods) pods z ≡ Err other → other ≡ StrangerContainer
 only_container pods es none m z other at faulty = elim (entry_fault pods es m z other at faulty) [
   | inl stranger ↦ absurd (none stranger)
   | inr container ↦ container.0
 ]
 
-container_is : (pods : List PodSpec) (es : List Entry) → (NamesStranger pods es → ⊥) → NamesStrangerContainer pods es → (r : Result (List ℕ) LineKind) → each (number_in (keys_of pods)) es ≡ r → placed_of pods es ≡ Err StrangerContainer
+container_is : (pods : List PodSpec) (es : List Entry) → (NamesStranger pods es → ⊥) → NamesStrangerContainer pods es → (r : Result (List ℕ) FaultKind) → each (number_in (keys_of pods)) es ≡ r → placed_of pods es ≡ Err StrangerContainer
 unfolding placed_of
 container_is pods es none is (Ok numbers) e =
     then_ok (each (number_in (keys_of pods)) es) (λ numbers. each (placed_entry (keys_of pods) pods) es) numbers e
@@ -218,7 +218,7 @@ pod_of pods es e = elim (entries_fault pods es StrangerPod e) [
   | inr container ↦ let other : StrangerPod ≡ StrangerContainer = container.0 in absurd (cc)
 ]
 
-apart : ◌≡◌ {A = Result (List PlacedEntry) LineKind} (Err StrangerPod) (Err StrangerContainer) → ⊥
+apart : ◌≡◌ {A = Result (List PlacedEntry) FaultKind} (Err StrangerPod) (Err StrangerContainer) → ⊥
 apart e = let same = same_fault {A = List PlacedEntry} StrangerPod StrangerContainer e in absurd (cc)
 
 container_of : (pods : List PodSpec) (es : List Entry) → placed_of pods es ≡ Err StrangerContainer → (NamesStranger pods es → ⊥) × NamesStrangerContainer pods es

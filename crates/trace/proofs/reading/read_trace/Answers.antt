@@ -1,3 +1,4 @@
+use Rattle.trace.proofs.Shape.{given_shape}
 use Rattle.trace.proofs.Sound.{given_acceptable, given_rising}
 use Rattle.trace.proofs.reading.read_trace.Goals as goal
 
@@ -6,3 +7,6 @@ returns-clause-acceptable c = given_acceptable c.args.text.now c.read_lines.resu
 
 pub returns-clause-rising : goal.returns-clause-rising
 returns-clause-rising c = given_rising c.args.text.now c.read_lines.result c.read_lines.ensures
+
+pub returns-clause-shape : goal.returns-clause-shape
+returns-clause-shape c = given_shape c.args.text.now c.read_lines.result c.read_lines.ensures
