@@ -1,5 +1,3 @@
-pub mod Listings
-pub mod Following
+pub mod PodTicks
 pub mod Parts
-pub mod Shown
 pub mod Unique

@@ -1,5 +1,5 @@
 -- The ticks of one pod, and the listings of its containers.
-use Rattle.std.proofs.Common.{◌≡◌, ◌∙◌, ℕ, zero, suc, ◌<◌, List, [], ◌∷◌, ◌++◌, length, map, take, get_or, append-nil, Option, Some, None, refl, ap, sym, subst, arith}
+use Rattle.std.proofs.Common.{◌≡◌, ◌∙◌, ◌^◌, ℕ, zero, suc, ◌<◌, List, [], ◌∷◌, ◌++◌, length, map, take, get_or, append-nil, Option, Some, None, refl, ap, sym, subst, arith}
 use Rattle.std.specs.Prelude.{IsSomeAnd, slice_get, option_and_then, option_map, unwrap_or}
 use Rattle.std.specs.List.{cons_option}
 use Rattle.std.proofs.lemmas.List.{take-map, length-map}
@@ -22,7 +22,8 @@ use Rattle.observations.specs.Observations.{seen_of, history}
 use Rattle.trace.specs.Sound.{AreRising}
 use Rattle.trace.proofs.Listed.{seen_at-history}
 use Rattle.trace.proofs.Moments.{moment_at-history, history-rising}
-use Rattle.kubelet_replay.specs.PodHistory.{pod_history, ShowPod}
+use Rattle.trace.specs.Sound.{ShowsEach, HasShape}
+use Rattle.kubelet_replay.specs.PodHistory.{pod_history}
 
 -- what is listed of a container without an entry is nothing
 listed : (o : Option ContainerObs) → (unwrap_or o unseen).seen ≡ option_and_then (λ (shown : ContainerObs). shown.seen) o
@@ -36,6 +37,20 @@ one_more None at rest c is = absurd is
 one_more (Some p) at rest c is =
     ap (λ (m : ℕ). recorded m (unwrap_or (slice_get p.containers c) unseen).seen ∷ listings (ticks_of rest c)) is
     ∙ ap (λ (s : Option Seen). recorded at s ∷ listings (ticks_of rest c)) (listed (slice_get p.containers c))
+
+-- every tick has an observation of the pod, at its moment
+abbrev pub ShowPod : List TickObs → ℕ → Type 0
+ShowPod ticks pod = (t : ℕ) (tick : TickObs) → slice_get ticks t ≡ Some tick → IsSomeAnd (slice_get tick.pods pod) (λ observed. observed.at ≡ tick.at)
+
+some_shown : (shown : List PodObs) (pod at : ℕ) → pod < length shown → ((n : ℕ) (p : PodObs) → slice_get shown n ≡ Some p → p.at ≡ at) → IsSomeAnd (slice_get shown pod) (λ observed. observed.at ≡ at)
+some_shown [] pod at lt moments = absurd (omega arith)
+some_shown (p ∷ ps) zero at lt moments = moments 0 p refl
+some_shown (p ∷ ps) (suc pod) at lt moments = some_shown ps pod at (omega arith) (λ n q e. moments (suc n) q e)
+
+pub shows_pod : (pods : List PodSpec) (ticks : List TickObs) (pod : ℕ) → HasShape pods ticks → pod < length pods → ShowPod ticks pod
+shows_pod pods ticks pod shape lt = λ t tick e.
+    let each = shape.shown t tick e in
+    some_shown tick.pods pod tick.at (omega (arith, each.as_many)) each.moment
 
 -- where every tick shows the pod, its listings are those of the trace
 pub history_same : (ticks : List TickObs) (pod c : ℕ) → ShowPod ticks pod → listings (ticks_of (pod_history ticks pod) c) ≡ history ticks pod c
@@ -102,10 +117,12 @@ moment_in : (tick : TickObs) (pod : ℕ) (observed : PodObs) → slice_get tick.
 moment_in tick pod observed is at = subst (λ (o : Option PodObs). IsSomeAnd o (λ p. p.at ≡ tick.at)) is at
 
 -- the observation of the pod in the tick at a place may come next
-pub next_follows : (spec : PodSpec) (greatest : ℕ) (pod : ℕ) (ticks : List TickObs) (i : ℕ) (tick : TickObs) (observed : PodObs) (state : PodState) → i < length ticks → slice_get ticks i ≡ Some tick
-    → slice_get tick.pods pod ≡ Some observed → ((c : ℕ) → IsAcceptableHistory (history ticks pod c)) → AreRising ticks → ShowPod ticks pod
+pub next_follows : (spec : PodSpec) (greatest : ℕ) (pods : List PodSpec) (pod : ℕ) (ticks : List TickObs) (i : ℕ) (tick : TickObs) (observed : PodObs) (state : PodState) → i < length ticks → slice_get ticks i ≡ Some tick
+    → slice_get tick.pods pod ≡ Some observed → ((c : ℕ) → IsAcceptableHistory (history ticks pod c)) → HasShape pods ticks → pod < length pods
     → IsStateOf spec greatest None (pod_history (take i ticks) pod) state → MayFollow state observed.at observed.containers
-next_follows spec greatest pod ticks i tick observed state lt is at acceptable rising shown st =
+next_follows spec greatest pods pod ticks i tick observed state lt is at acceptable shape within st =
+    let shown = shows_pod pods ticks pod shape within in
+    let rising = shape.rising in
     let h = pod_history (take i ticks) pod in
     let same = λ (c : ℕ). sym (history_same (take i ticks) pod c (shown_first i ticks pod shown)) in
     may_follow spec greatest None h state observed.at observed.containers st
@@ -115,5 +132,9 @@ next_follows spec greatest pod ticks i tick observed state lt is at acceptable r
     (subst (λ (m : ℕ). EndsBefore (history (take i ticks) pod c) m) (sym (moment_in tick pod observed at (shown i tick is))) (ends_before_at ticks pod c i tick is rising)))
 
 -- and its moment is below 2^40
-pub next_bounded : (n pod : ℕ) (tick : TickObs) (observed : PodObs) → slice_get tick.pods pod ≡ Some observed → IsSomeAnd (slice_get tick.pods pod) (λ o. o.at ≡ tick.at) → tick.at < n → observed.at < n
-next_bounded n pod tick observed at shown lt = subst (λ (m : ℕ). m < n) (sym (moment_in tick pod observed at shown)) lt
+pub next_bounded : (pods : List PodSpec) (ticks : List TickObs) (pod i : ℕ) (tick : TickObs) (observed : PodObs) → slice_get ticks i ≡ Some tick → slice_get tick.pods pod ≡ Some observed
+    → HasShape pods ticks → observed.at < 2 ^ 40
+next_bounded pods ticks pod i tick observed is at shape =
+    let each = shape.shown i tick is in
+    let same : observed.at ≡ tick.at = each.moment pod observed at in
+    subst (λ (m : ℕ). m < 2 ^ 40) (sym same) (shape.below i tick is)

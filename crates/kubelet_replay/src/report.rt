@@ -1,14 +1,12 @@
 //! The report of a trace: what the ticks make of each pod, as text.
 
-ghost use Rattle.std.specs.Prelude.{◌<◌, ℕ, length, IfOk, string_bytes};
-ghost use Rattle.trace.specs.Sound.{AreAcceptable, AreRising};
-ghost use Rattle.kubelet_replay.specs.PodHistory.{ShowPod, AreBounded};
+ghost use Rattle.std.specs.Prelude.{◌<◌, length, IfOk, string_bytes};
+ghost use Rattle.trace.specs.Sound.{AreAcceptable, HasShape};
 ghost use Rattle.kubelet_replay.specs.Report.{ArePodLines, IsReport};
 
 use crate::follow::follow;
 use crate::text::pod_text;
-use manifest::{MaxRestartDelay, PodSpec};
-use observations::TickObs;
+use manifest::PodSpec;
 use qos::qos_class;
 use std::alloc::{AllocError, Global};
 use trace::Trace;
@@ -16,18 +14,19 @@ use trace::Trace;
 /// The lines of the pod with the number.
 fn pod_lines(
     alloc: Global,
-    greatest: MaxRestartDelay,
-    ticks: &[TickObs],
+    trace: &Trace,
     number: usize,
     pod: &PodSpec,
 ) -> Result<String, AllocError>
-    requires acceptable { AreAcceptable ticks.now }
-    requires rising { AreRising ticks.now }
-    requires shown { ShowPod ticks.now number }
-    requires bounded { AreBounded ticks.now }
-    ensures { IfOk result (λ s. ArePodLines ticks.now number pod.now (string_bytes s)) }
+    requires acceptable { AreAcceptable trace.now.ticks }
+    requires shape { HasShape trace.now.pods trace.now.ticks }
+    requires within { number < length trace.now.pods }
+    ensures { IfOk result (λ s. ArePodLines trace.now.ticks number pod.now (string_bytes s)) }
 {
-    let state = follow(alloc, pod, greatest, number, ticks)?;
+    let greatest = trace.node.max_restart_delay;
+    let pods = trace.pods.as_slice();
+    let ticks = trace.ticks.as_slice();
+    let state = follow(alloc, pod, greatest, pods, number, ticks)?;
     let containers = state.statuses(alloc, false)?;
     let lifecycle = state.lifecycle();
     let text = pod_text(
@@ -45,16 +44,12 @@ fn pod_lines(
 /// The report of a trace.
 pub(crate) fn report_of(alloc: Global, trace: &Trace) -> Result<String, AllocError>
     requires acceptable { AreAcceptable trace.now.ticks }
-    requires rising { AreRising trace.now.ticks }
-    requires shown { (n : ℕ) → n < length trace.now.pods → ShowPod trace.now.ticks n }
-    requires bounded { AreBounded trace.now.ticks }
+    requires shape { HasShape trace.now.pods trace.now.ticks }
     ensures { IfOk result (λ s. IsReport trace.now.ticks trace.now.pods (string_bytes s)) }
 {
-    let greatest = trace.node.max_restart_delay;
-    let ticks = trace.ticks.as_slice();
     let mut report = String::new(alloc);
     for (number, pod) in trace.pods.as_slice().iter().enumerate() {
-        let lines = pod_lines(alloc, greatest, ticks, number, pod)?;
+        let lines = pod_lines(alloc, trace, number, pod)?;
         report.push_str(lines.as_str())?;
     }
     Ok(report)

@@ -1,0 +1,7 @@
+use Rattle.std.proofs.Common.{None, take}
+use Rattle.pod_piece.specs.States.{IsStateOf}
+use Rattle.kubelet_replay.specs.PodHistory.{pod_history}
+use Rattle.kubelet_replay.proofs.follow.follow.Given as goal
+
+abbrev pub invariant-loop-tick : goal.invariant-loop-tick
+invariant-loop-tick l = IsStateOf l.spec l.greatest None (pod_history (take l.tick-index l.ticks) l.pod) l.state
