@@ -1,3 +1,8 @@
 mod ProbedLemmas
 pub mod ViewLemmas
 mod FirstLemmas
+mod TickLemmas
+mod FollowLemmas
+mod ListLemmas
+mod ExitLemmas
+mod CountLemmas

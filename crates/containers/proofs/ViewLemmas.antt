@@ -40,11 +40,11 @@ restarts_is h None none = inl (none, refl)
 restarts_is h (Some s) is = inr is.newest
 
 -- the code that it shows
-given : (h : List Tick) (o : Option Seen) → IsNewestSeen h o → (code : ℤ) → option_and_then (λ seen. seen.code) o ≡ Some code → HasExitedWith h code
+pub given : (h : List Tick) (o : Option Seen) → IsNewestSeen h o → (code : ℤ) → option_and_then (λ seen. seen.code) o ≡ Some code → HasExitedWith h code
 given h None none code e = absurd (cc)
 given h (Some s) is code e = (s.attempt, is.newest, is.code code e)
 
-coded : (h : List Tick) (o : Option Seen) → IsNewestSeen h o → (code : ℤ) → HasExitedWith h code → option_and_then (λ seen. seen.code) o ≡ Some code
+pub coded : (h : List Tick) (o : Option Seen) → IsNewestSeen h o → (code : ℤ) → HasExitedWith h code → option_and_then (λ seen. seen.code) o ≡ Some code
 coded h None none code (a, n, e) = absurd (none a n.listed.0 n.listed.1)
 coded h (Some s) is code (a, n, e) =
     let same : a ≡ s.attempt = IsNewest-unique h a s.attempt n is.newest in
@@ -64,7 +64,7 @@ pub view_code : (spec : ContainerSpec) (h : List ContainerTick) (view : Containe
 view_code spec h view is code = (given (listings h) view.seen is.newest code, coded (listings h) view.seen is.newest code)
 
 -- whether its instance is running
-seen_runs : (h : List Tick) (o : Option Seen) → IsNewestSeen h o → (((a : ℕ) × IsNewest h a × IsState h a IsRunning) ↔ IsSomeAnd o (λ seen. seen.state ≡ IsRunning))
+pub seen_runs : (h : List Tick) (o : Option Seen) → IsNewestSeen h o → (((a : ℕ) × IsNewest h a × IsState h a IsRunning) ↔ IsSomeAnd o (λ seen. seen.state ≡ IsRunning))
 seen_runs h o is = (there o is, back o is)
   where
     there : (o : Option Seen) → IsNewestSeen h o → (a : ℕ) × IsNewest h a × IsState h a IsRunning → IsSomeAnd o (λ seen. seen.state ≡ IsRunning)

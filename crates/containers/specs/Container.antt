@@ -20,6 +20,13 @@ pub record IsFollowedBy (spec : ContainerSpec) (h : List ContainerTick) (c : Con
   pub are_ticks : AreTicksOf h a ticks
   pub followed : IsProbeSetOf spec.probes start ticks c.probes
 
+-- the container's role, instances and probes after these ticks
+pub record IsFollowing (spec : ContainerSpec) (h : List ContainerTick) (c : Container) : Type 0 where
+  pub role : c.role ≡ spec.role
+  pub differ : IsDifferOf (listings h) c.differ
+  pub follows : Follows c.probes spec.probes
+  pub probed : (a start : ℕ) → IsNewest (listings h) a → StartsAt h a start → IsFollowedBy spec h c start a
+
 -- the container's value after these ticks, on a node with a greatest restart delay
 pub record IsStateOf (spec : ContainerSpec) (greatest : ℕ) (h : List ContainerTick) (c : Container) : Type 0 where
   pub role : c.role ≡ spec.role

@@ -4,3 +4,4 @@ pub mod Exits
 pub mod Events
 pub mod Shown
 pub mod Container
+pub mod Step

@@ -1,22 +1,32 @@
-ghost use Rattle.std.specs.Prelude.{◌≡◌, ◌↔◌, ◌^◌, ◌<◌, ℕ, List, [], ◌∷◌, ◌++◌, length, IsTrue};
-ghost use Rattle.histories.specs.Histories.{recorded};
+ghost use Rattle.std.specs.Prelude.{◌≡◌, ◌↔◌, ◌^◌, ◌<◌, ◌≤◌, ℕ, List, [], ◌∷◌, ◌++◌, length, Some, IsTrue, IsSomeAnd, IfSome};
+ghost use Rattle.histories.specs.Histories.{recorded, IsFirstMoment};
 ghost use Rattle.manifest.specs.declared.pod.ContainerSpec.{ContainerSpec};
 ghost use Rattle.manifest.specs.declared.pod.Role.TheVariants.{Init};
-ghost use Rattle.phase.specs.Facts.{of_view, IsRunning};
-ghost use Rattle.containers.specs.Ticks.{ContainerTick};
+ghost use Rattle.state_diff.specs.declared.seen.CriState.TheVariants.{Running};
+ghost use Rattle.state_diff.specs.Instances.{Tick, IsNewest, IsState, Ends};
+ghost use Rattle.state_diff.specs.Differ.{IsStateOf as IsDifferOf, Accepts as DifferAccepts, AreChanges};
+ghost use Rattle.restarts.specs.Exits.{Exit};
+ghost use Rattle.restarts.specs.Delays.{IsDue};
+ghost use Rattle.restarts.specs.Backoff.{IsStateOf as IsBackoffOf};
+ghost use Rattle.containers.specs.Ticks.{ContainerTick, listings};
 ghost use Rattle.containers.specs.Probed.{Serves, IsStarted, IsReady};
+ghost use Rattle.containers.specs.Exits.{AreExits, IsToRestart};
 ghost use Rattle.containers.specs.Events.{AreEvents};
 ghost use Rattle.containers.specs.Shown.{IsShown, IsViewOf};
-ghost use Rattle.containers.specs.Container.{Accepts, IsBefore, IsStateOf};
+ghost use Rattle.containers.specs.Container.{Accepts, IsBefore, IsStateOf, IsFollowing};
+ghost use Rattle.containers.specs.Step.{AreVerdictsOf, AreCounted};
 
 use crate::events::ContainerEvents;
+use crate::exits::{count_both, is_put_off, run_until, to_restart};
+use crate::follow::{Followed, begin, is_running, lists_running, take};
+use crate::places;
 use crate::status::ContainerStatus;
 use manifest::{ContainerSpec, MaxRestartDelay, Policy, Role};
 use observations::ContainerObs;
 use phase::{ContainerView, container_state};
 use probes::ProbeSet;
 use restarts::Backoff;
-use state_diff::Differ;
+use state_diff::{Changes, Differ, Seen};
 
 /// One container of a pod, as its ticks so far leave it. It keeps counters, and no ticks.
 #[derive(Clone, Copy, Debug, PartialEq, Eq)]
@@ -80,26 +90,131 @@ impl Container {
 
     /// Whether it serves, as an app container or a sidecar, and its newest instance is running.
     fn serves(&self) -> bool
-        ensures { (spec : ContainerSpec) (greatest : ℕ) (h : List ContainerTick)
-            → IsStateOf spec greatest h self.now → (IsTrue result ↔ ((a : ℕ) × Serves spec h a)) }
+        ensures { (spec : ContainerSpec) (h : List ContainerTick)
+            → IsFollowing spec h self.now → (IsTrue result ↔ ((a : ℕ) × Serves spec h a)) }
     {
-        is_up(&self.view())
+        is_up(self.role, self.differ.newest())
     }
 
     /// Whether it is started: it serves, and startup has passed.
     fn is_started(&self) -> bool
-        ensures { (spec : ContainerSpec) (greatest : ℕ) (h : List ContainerTick)
-            → IsStateOf spec greatest h self.now → (IsTrue result ↔ IsStarted spec h) }
+        ensures { (spec : ContainerSpec) (h : List ContainerTick)
+            → IsFollowing spec h self.now → (IsTrue result ↔ IsStarted spec h) }
     {
         self.serves() && self.probes.started()
     }
+
+    /// The newest instance, if it has exited and is to be started again.
+    fn to_restart(&self, policy: Policy) -> Option<u32>
+        ensures { (spec : ContainerSpec) (h : List ContainerTick)
+            → IsFollowing spec h self.now
+            → (a : ℕ) → ((result ≡ Some a) ↔ IsToRestart policy spec h a) }
+    {
+        to_restart(policy, self.role, self.differ.newest())
+    }
+
+    /// Whether a restart that falls due is due in this tick, after a last one at `last_at`.
+    fn is_due(&self, last_at: Option<u64>, at: u64) -> bool
+        ensures { (greatest : ℕ) (exits : List Exit)
+            → IsBackoffOf greatest exits self.now.backoff
+            → (IsTrue result ↔ ((due : ℕ) × IsDue greatest exits (Some due) × (due ≤ at) × IfSome last_at (λ last. last < due))) }
+    {
+        places::falls_due(self.backoff.due(), last_at, at)
+    }
+
+    /// Whether the newest instance has exited at the moment, and is to be started again.
+    fn puts_off(&self, policy: Policy, at: u64) -> bool
+        ensures { (spec : ContainerSpec) (h : List ContainerTick)
+            → IsFollowing spec h self.now
+            → (IsTrue result ↔ ((a : ℕ) × IsToRestart policy spec h a
+                × IsFirstMoment (listings h) (Ends (listings h) a) (Some at))) }
+    {
+        is_put_off(self.to_restart(policy), self.differ.exited_at(), at)
+    }
+
+    /// Takes what the tick lists, and its results: the changes, and the verdicts of the instance
+    /// that it lists while it is running.
+    fn follow(&mut self, at: u64, observed: ContainerObs) -> Followed
+        requires accepted { Accepts self.old observed.seen }
+        requires later { IsBefore self.old at }
+        ensures role { self.new.role ≡ self.old.role }
+        ensures backoff { self.new.backoff ≡ self.old.backoff }
+        ensures was_started { self.new.was_started ≡ self.old.was_started }
+        ensures followed { (spec : ContainerSpec) (h : List ContainerTick)
+            → IsFollowing spec h self.old
+            → IsFollowing spec (h ++ recorded at observed ∷ []) self.new }
+        ensures changes { (spec : ContainerSpec) (h : List ContainerTick)
+            → IsFollowing spec h self.old
+            → AreChanges (listings (h ++ recorded at observed ∷ [])) (length h) result.changes }
+        ensures verdicts { (spec : ContainerSpec) (h : List ContainerTick)
+            → IsFollowing spec h self.old
+            → AreVerdictsOf spec h (recorded at observed) result.verdicts }
+    {
+        let changes = self.differ.step(at, observed.seen);
+        begin(&mut self.probes, at, changes.started.is_some());
+        let takes = lists_running(observed.seen, self.differ.newest());
+        let verdicts = take(&mut self.probes, at, takes, observed.results);
+        Followed { changes, verdicts }
+    }
+
+    /// Counts the exits of a tick at the moment, by the changes from the container before it: by
+    /// how many seconds the restart after the last exit is put off.
+    fn count_exits(&mut self, before: &Container, changes: &Changes, at: u64) -> Option<u64>
+        requires { at < 2 ^ 40 }
+        ensures role { self.new.role ≡ self.old.role }
+        ensures differ { self.new.differ ≡ self.old.differ }
+        ensures probes { self.new.probes ≡ self.old.probes }
+        ensures was_started { self.new.was_started ≡ self.old.was_started }
+        ensures counted { (greatest : ℕ) (h : List ContainerTick) (observed : ContainerObs) (exits : List Exit)
+            → IsDifferOf (listings h) before.now.differ
+            → IsDifferOf (listings (h ++ recorded at observed ∷ [])) self.old.differ
+            → DifferAccepts before.now.differ observed.seen
+            → AreChanges (listings (h ++ recorded at observed ∷ [])) (length h) changes.now
+            → AreExits (listings h) exits
+            → IsBackoffOf greatest exits self.old.backoff
+            → AreCounted greatest h (recorded at observed) self.new.backoff result }
+    {
+        let gone = run_until(changes.removed_died, before.differ.first_running(), at);
+        let died = changes.died.and(self.differ.run());
+        count_both(&mut self.backoff, at, gone, died)
+    }
+
+    /// A tick comes, at the moment, in seconds, below 2^40 and later than the last tick's, with
+    /// what it shows of the container: a listing that may come next, and results.
+    pub fn step(&mut self, policy: Policy, at: u64, observed: ContainerObs) -> ContainerEvents
+        requires accepted { Accepts self.old observed.seen }
+        requires later { IsBefore self.old at }
+        requires bounded { at < 2 ^ 40 }
+        ensures state { (spec : ContainerSpec) (greatest : ℕ) (h : List ContainerTick)
+            → IsStateOf spec greatest h self.old
+            → IsStateOf spec greatest (h ++ recorded at observed ∷ []) self.new }
+        ensures events { (spec : ContainerSpec) (greatest : ℕ) (h : List ContainerTick)
+            → IsStateOf spec greatest h self.old
+            → AreEvents policy greatest spec (h ++ recorded at observed ∷ []) (length h) result }
+    {
+        let before = *self;
+        let followed = self.follow(at, observed);
+        let delay = self.count_exits(&before, &followed.changes, at);
+        self.was_started |= self.is_started();
+        let is_due = self.is_due(before.differ.last_at(), at);
+        ContainerEvents {
+            gone: places::gone(&followed.changes),
+            started: places::started(&followed.changes),
+            died: places::died(&followed.changes),
+            passed: places::passed(observed.seen, followed.verdicts),
+            kill: places::kill(observed.seen, followed.verdicts),
+            readiness: places::readiness(before.is_ready(), self.is_ready()),
+            backoff: places::backoff(delay, self.puts_off(policy, at)),
+            restart: places::restart(self.to_restart(policy), is_due),
+        }
+    }
 }
 
-/// Whether a view shows an app container or a sidecar that is running.
-fn is_up(view: &ContainerView) -> bool
-    ensures { IsTrue result ↔ ((of_view.is view.now Init → ⊥) × IsRunning view.now) }
+/// Whether a container of this role serves where its newest instance is this.
+fn is_up(role: Role, seen: Option<Seen>) -> bool
+    ensures { IsTrue result ↔ ((role ≡ Init → ⊥) × IsSomeAnd seen (λ s. s.state ≡ Running)) }
 {
-    !view.is_init() && view.is_running()
+    !matches!(role, Role::Init) && is_running(seen)
 }
 
 /// Whether a fact is shown, which none is in a pod that was evicted.

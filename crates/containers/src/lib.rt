@@ -4,6 +4,9 @@
 
 mod container;
 mod events;
+mod exits;
+mod follow;
+mod places;
 mod status;
 mod what;
 

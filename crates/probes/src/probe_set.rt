@@ -68,6 +68,13 @@ impl ProbeSet {
         self.readiness = Readiness::new(self.readiness.probe);
     }
 
+    /// Whether an instance has begun.
+    pub fn has_begun(&self) -> bool
+        ensures { IsTrue result ↔ HasBegun self.now }
+    {
+        self.start.is_some()
+    }
+
     /// Takes the results of the next tick, at this moment in seconds, in the order startup,
     /// liveness, readiness. An instance must have begun.
     pub fn take(&mut self, at: u64, results: [Option<Outcome>; 3]) -> Verdicts

@@ -1,0 +1,16 @@
+use Rattle.std.proofs.Common.{◌++◌, ℕ, Option, subst, sym}
+use Rattle.std.specs.Prelude.{IsSomeAnd}
+use Rattle.restarts.specs.Delays.{IsDelay}
+use Rattle.restarts.specs.Backoff.{IsStateOf}
+use Rattle.containers.specs.Step.{exits_at}
+use Rattle.containers.proofs.exits.count.Goals as goal
+
+pub returns-in-Some-clause-state : goal.returns-in-Some-clause-state
+returns-in-Some-clause-state c = λ greatest exits is.
+    let P : Option ℕ → Type 0 = λ r. IsStateOf greatest (exits ++ exits_at c.args.at r) c.exited.new.self in
+    subst P (sym c.in-Some.is) (c.exited.ensures.state greatest exits is)
+
+pub returns-in-Some-clause-delay : goal.returns-in-Some-clause-delay
+returns-in-Some-clause-delay c = λ greatest exits is some.
+    let P : Option ℕ → Type 0 = λ r. IsDelay greatest (exits ++ exits_at c.args.at r) c.exited.result in
+    subst P (sym c.in-Some.is) (c.exited.ensures.delay greatest exits is)

@@ -1,0 +1,86 @@
+//! The exits of a tick, and what they make of the back-off.
+
+ghost use Rattle.std.specs.Prelude.{◌≡◌, ◌⊎◌, ◌↔◌, ◌^◌, ◌<◌, ◌-◌, ◌++◌, ℕ, List, Option, Some, None, IsTrue, IsSome, IsSomeAnd, unwrap_or, if◌then◌else◌};
+ghost use Rattle.manifest.specs.Policy.{WantsRestart};
+ghost use Rattle.restarts.specs.Exits.{Exit};
+ghost use Rattle.restarts.specs.Delays.{IsDelay};
+ghost use Rattle.restarts.specs.Backoff.{IsStateOf};
+ghost use Rattle.containers.specs.Step.{exits_at};
+
+use manifest::{Policy, Role};
+use restarts::{Backoff, wants_restart};
+use state_diff::Seen;
+
+/// For how many seconds an instance ran that exits at this moment, if it does; 0 without a start.
+pub fn run_until(died: bool, start: Option<u64>, at: u64) -> Option<u64>
+    ensures { result ≡ (if died then Some (at - unwrap_or start at) else None) }
+{
+    if died {
+        let start = start.unwrap_or(at);
+        Some(at.saturating_sub(start))
+    } else {
+        None
+    }
+}
+
+/// An exit at this moment, if there is one, after a run of so many seconds; by how many seconds its
+/// restart is put off.
+fn count(backoff: &mut Backoff, at: u64, run: Option<u64>) -> Option<u64>
+    requires { at < 2 ^ 40 }
+    ensures state { (greatest : ℕ) (exits : List Exit)
+        → IsStateOf greatest exits backoff.old
+        → IsStateOf greatest (exits ++ exits_at at run) backoff.new }
+    ensures delay { (greatest : ℕ) (exits : List Exit)
+        → IsStateOf greatest exits backoff.old
+        → IsSome run
+        → IsSomeAnd result (λ delay. IsDelay greatest (exits ++ exits_at at run) delay) }
+    ensures none { run ≡ None → result ≡ None }
+{
+    match run {
+        Some(run) => Some(backoff.exited(run, at)),
+        None => None,
+    }
+}
+
+/// The exits of a tick at this moment, of which each gives its run: that of the instance which is
+/// no longer listed comes first, and then that of the listed one. By how many seconds the restart
+/// after the last of them is put off.
+pub fn count_both(
+    backoff: &mut Backoff,
+    at: u64,
+    gone: Option<u64>,
+    died: Option<u64>,
+) -> Option<u64>
+    requires { at < 2 ^ 40 }
+    ensures state { (greatest : ℕ) (exits : List Exit)
+        → IsStateOf greatest exits backoff.old
+        → IsStateOf greatest ((exits ++ exits_at at gone) ++ exits_at at died) backoff.new }
+    ensures delay { (greatest : ℕ) (exits : List Exit)
+        → IsStateOf greatest exits backoff.old
+        → IsSome gone ⊎ IsSome died
+        → IsSomeAnd result (λ delay. IsDelay greatest ((exits ++ exits_at at gone) ++ exits_at at died) delay) }
+{
+    let first = count(backoff, at, gone);
+    count(backoff, at, died).or(first)
+}
+
+/// The attempt of the newest instance, if it has exited and is to be started again.
+pub fn to_restart(policy: Policy, role: Role, newest: Option<Seen>) -> Option<u32>
+    ensures { (a : ℕ) → ((result ≡ Some a)
+        ↔ IsSomeAnd newest (λ s. (s.attempt ≡ a) × IsSomeAnd s.code (λ code. WantsRestart policy role code))) }
+{
+    let newest = newest?;
+    let code = newest.code?;
+    if wants_restart(policy, role, code) {
+        Some(newest.attempt)
+    } else {
+        None
+    }
+}
+
+/// Whether the attempt that is to be started again has exited at the moment.
+pub fn is_put_off(attempt: Option<u32>, exited_at: Option<u64>, at: u64) -> bool
+    ensures { IsTrue result ↔ (IsSome attempt × (exited_at ≡ Some at)) }
+{
+    attempt.is_some() && exited_at == Some(at)
+}
