@@ -12,9 +12,9 @@ use Rattle.manifest.specs.declared.reading.Place.TheVariants.{InitContainers, Co
 use Rattle.manifest.specs.Names.{is_name, is_label}
 use Rattle.manifest.specs.Resources.{some_above}
 use Rattle.manifest.specs.ResourceFields.{quantity_at}
-use Rattle.manifest.specs.ProbeFields.{greatest}
+use Rattle.manifest.specs.ProbeFields.{greatest, number_of}
 use Rattle.manifest.specs.Manifest.{field_of}
-use Rattle.manifest.specs.Found.{fault_of, fails_if, is_so, must_be, may_be, at, is_object, is_array, is_text, is_policy, is_priority, is_grace_period, items_in, is_empty, amounts_at, number_fault, own_policy_fault, has_double, name_in, init_items, app_items}
+use Rattle.manifest.specs.Found.{fault_of, fails_if, is_so, must_be, may_be, at, is_object, is_array, is_text, is_policy, is_priority, is_grace_period, items_in, is_empty, amounts_at, own_policy_fault, has_double, name_in, init_items, app_items}
 use Rattle.manifest.specs.Table.{fault_at, probes_checks, container_checks, checks_of}
 use Rattle.manifest.proofs.Rows.{Row}
 
@@ -40,11 +40,11 @@ resource_rows found =
 abbrev pub probe_rows : ℕ → Option Data → List Row
 probe_rows most_successes found =
     may_be is_object fields.Probe found
-    ∷ number_fault 0 greatest 0 (at (codes "initialDelaySeconds") found)
-    ∷ number_fault 1 greatest 10 (at (codes "periodSeconds") found)
-    ∷ number_fault 1 greatest 1 (at (codes "timeoutSeconds") found)
-    ∷ number_fault 1 most_successes 1 (at (codes "successThreshold") found)
-    ∷ number_fault 1 greatest 3 (at (codes "failureThreshold") found)
+    ∷ fault_of (number_of 0 greatest 0 (at (codes "initialDelaySeconds") found))
+    ∷ fault_of (number_of 1 greatest 10 (at (codes "periodSeconds") found))
+    ∷ fault_of (number_of 1 greatest 1 (at (codes "timeoutSeconds") found))
+    ∷ fault_of (number_of 1 most_successes 1 (at (codes "successThreshold") found))
+    ∷ fault_of (number_of 1 greatest 3 (at (codes "failureThreshold") found))
     ∷ []
 
 -- the probes of an app container or a sidecar: one success is enough for startup and liveness

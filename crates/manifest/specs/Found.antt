@@ -15,6 +15,7 @@ use Rattle.manifest.specs.declared.reading.Place.TheVariants.{InitContainers, Co
 use Rattle.manifest.specs.declared.resources.Amounts.{Amounts}
 use Rattle.manifest.specs.declared.resources.Resource.{Resource}
 use Rattle.manifest.specs.declared.resources.Resource.TheVariants.{Cpu, Memory, EphemeralStorage}
+use Rattle.manifest.specs.Resources.{some_above}
 use Rattle.manifest.specs.ResourceFields.{quantity_at}
 use Rattle.manifest.specs.ProbeFields.{greatest, number_of}
 
@@ -106,10 +107,6 @@ abbrev pub has_double : List (List ℕ) → Bool
 has_double [] = false
 has_double (name ∷ names) = list_any (λ other. bytes_eq other name) names || has_double names
 
--- a number of a probe: from the least to the most, and its default
-abbrev pub number_fault : ℕ → ℕ → ℕ → Option Data → Option ManifestFault
-number_fault least most default found = fault_of (number_of least most default found)
-
 -- an item of `containers` has no restart policy of its own; one of `initContainers` has `Always`
 -- alone, which makes it a sidecar
 abbrev pub own_policy_fault : Place → Option Data → Option ManifestFault
@@ -136,6 +133,10 @@ requests_in item = at (codes "requests") (field_at (codes "resources") item)
 abbrev pub limits_in : Data → Option Data
 limits_in item = at (codes "limits") (field_at (codes "resources") item)
 
+-- a request of the container is above its limit, both set
+abbrev pub has_request_above_limit : Data → Bool
+has_request_above_limit item = some_above (amounts_at (requests_in item)) (amounts_at (limits_in item))
+
 abbrev pub probe_at : ProbeKind → Data → Option Data
 probe_at Startup item = field_at (codes "startupProbe") item
 probe_at Liveness item = field_at (codes "livenessProbe") item
@@ -146,3 +147,7 @@ abbrev pub most_successes : ProbeKind → ℕ
 most_successes Startup = 1
 most_successes Liveness = 1
 most_successes Readiness = greatest
+
+-- a number of a probe: its name, the least, the most, and its default
+abbrev pub number_fault : Data → ProbeKind → List ℕ → ℕ → ℕ → ℕ → Option ManifestFault
+number_fault item kind name least most default = fault_of (number_of least most default (at name (probe_at kind item)))

@@ -15,11 +15,10 @@ use Rattle.manifest.specs.declared.reading.Place.TheVariants.{InitContainers, Co
 use Rattle.manifest.specs.declared.resources.Resource.{Resource}
 use Rattle.manifest.specs.declared.resources.Resource.TheVariants.{Cpu, Memory, EphemeralStorage}
 use Rattle.manifest.specs.Names.{is_name, is_label}
-use Rattle.manifest.specs.Resources.{some_above}
 use Rattle.manifest.specs.ResourceFields.{quantity_at}
 use Rattle.manifest.specs.ProbeFields.{greatest}
 use Rattle.manifest.specs.Manifest.{field_of}
-use Rattle.manifest.specs.Found.{fault_of, fails_if, is_so, must_be, may_be, at, is_object, is_array, is_text, is_policy, is_priority, is_grace_period, is_empty, amounts_at, number_fault, own_policy_fault, has_double, name_in, in_metadata, in_spec, init_items, app_items, requests_in, limits_in, amount_at, probe_at, most_successes}
+use Rattle.manifest.specs.Found.{fault_of, fails_if, is_so, must_be, may_be, is_object, is_array, is_text, is_policy, is_priority, is_grace_period, is_empty, has_request_above_limit, number_fault, own_policy_fault, has_double, name_in, in_metadata, in_spec, init_items, app_items, requests_in, limits_in, amount_at, probe_at, most_successes}
 
 -- a check of the table, one constructor for each row; a row of a container has the item of
 -- `initContainers` or `containers` that it looks at
@@ -80,14 +79,14 @@ fault_at d (requests_are_object item) = may_be is_object fields.Resources (reque
 fault_at d (request_is_quantity item resource) = fault_of (quantity_at (amount_at resource (requests_in item)))
 fault_at d (limits_are_object item) = may_be is_object fields.Resources (limits_in item)
 fault_at d (limit_is_quantity item resource) = fault_of (quantity_at (amount_at resource (limits_in item)))
-fault_at d (requests_within_limits item) = fails_if (some_above (amounts_at (requests_in item)) (amounts_at (limits_in item))) RequestAboveLimit
+fault_at d (requests_within_limits item) = fails_if (has_request_above_limit item) RequestAboveLimit
 fault_at d (probe_is_absent item kind) = fails_if (is_some (probe_at kind item)) InitProbe
 fault_at d (probe_is_object item kind) = may_be is_object fields.Probe (probe_at kind item)
-fault_at d (initial_delay_in_range item kind) = number_fault 0 greatest 0 (at (codes "initialDelaySeconds") (probe_at kind item))
-fault_at d (period_in_range item kind) = number_fault 1 greatest 10 (at (codes "periodSeconds") (probe_at kind item))
-fault_at d (timeout_in_range item kind) = number_fault 1 greatest 1 (at (codes "timeoutSeconds") (probe_at kind item))
-fault_at d (successes_in_range item kind) = number_fault 1 (most_successes kind) 1 (at (codes "successThreshold") (probe_at kind item))
-fault_at d (failures_in_range item kind) = number_fault 1 greatest 3 (at (codes "failureThreshold") (probe_at kind item))
+fault_at d (initial_delay_in_range item kind) = number_fault item kind (codes "initialDelaySeconds") 0 greatest 0
+fault_at d (period_in_range item kind) = number_fault item kind (codes "periodSeconds") 1 greatest 10
+fault_at d (timeout_in_range item kind) = number_fault item kind (codes "timeoutSeconds") 1 greatest 1
+fault_at d (successes_in_range item kind) = number_fault item kind (codes "successThreshold") 1 (most_successes kind) 1
+fault_at d (failures_in_range item kind) = number_fault item kind (codes "failureThreshold") 1 greatest 3
 fault_at d names_are_apart = fails_if (has_double (map name_in (init_items d ++ app_items d))) DuplicateContainer
 
 abbrev pub each_resource : (Resource → Check) → List Check
