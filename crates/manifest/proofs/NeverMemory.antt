@@ -1,6 +1,6 @@
 -- The faults of a manifest, none of which is for want of memory.
-use Rattle.std.proofs.Common.{◌≡◌, ◌≢◌, ℕ, ℤ, Bool, true, false, List, [], ◌∷◌, ◌+◌, ◌++◌, length, Option, Some, None, Result, Ok, Err, refl, is_some}
-use Rattle.std.specs.Prelude.{◌*◌, pos, min, if◌then◌else◌, option_and_then, nat_lt, codes}
+use Rattle.std.proofs.Common.{◌≢◌, ℕ, ℤ, Bool, List, [], ◌∷◌, ◌+◌, ◌++◌, length, Option, Some, None, Result, Ok, Err, is_some}
+use Rattle.std.specs.Prelude.{◌*◌, pos, min, option_and_then, nat_lt, codes}
 use Rattle.serde_json.specs.Data.{Data, Items}
 use Rattle.serde_json.specs.Find.{as_str, as_number, as_u64, as_i64, as_array, as_object}
 use Rattle.json_fields.specs.Fields.{field_at, items_list}

@@ -26,8 +26,9 @@ use Rattle.manifest.specs.Resources.{some_above}
 use Rattle.manifest.specs.ResourceFields.{quantity_at, amounts_in, amounts_of, resources_in, resources_of}
 use Rattle.manifest.specs.ProbeFields.{greatest, number_of, probe_in, probe_of, some_probes, unprobed, probes_of}
 use Rattle.manifest.specs.Manifest.{policy_from, policy_of, priority_from, priority_of, grace_period_from, grace_period_of, field_of, sidecar_from, role_of, container_of, containers_of, app_items_of, containers_in, metadata_of, settings_in, spec_of, pod_at}
-use Rattle.manifest.specs.Table.{Row, fault_of, fails_if, is_so, must_be, may_be, is_some_and, is_object, is_array, is_text, is_policy, is_priority, is_grace_period, items_from, items_in, is_empty, amount_read, amounts_at, amount_rows, resource_rows, probe_rows, own_policy_row, some_probes_rows, unprobed_rows, probes_rows, container_rows, name_in, has_double, containers_rows, metadata_rows, spec_rows, rows_of}
-use Rattle.manifest.proofs.Rows.{first, Reads, read, step, step_row, last_step, fault_if, refused, each_rows}
+use Rattle.manifest.specs.Found.{fault_of, fails_if, is_so, must_be, may_be, is_some_and, is_object, is_array, is_text, is_policy, is_priority, is_grace_period, items_from, items_in, is_empty, amount_read, amounts_at, own_policy_fault, name_in, has_double}
+use Rattle.manifest.proofs.FoundRows.{amount_rows, resource_rows, probe_rows, some_probes_rows, unprobed_rows, probes_rows, container_rows, containers_rows, metadata_rows, spec_rows, rows_of}
+use Rattle.manifest.proofs.Rows.{Row, first, Reads, read, step, step_row, last_step, fault_if, refused, each_rows}
 
 object_step : {B : Type 0} (field : Field) (d : Data) (f : Data → Result B ManifestFault) (rest : List Row) → Reads (f d) rest
     → Reads (object_of field (Some d) >>= f) (is_so is_object field d ∷ rest)
@@ -241,7 +242,7 @@ sidecar_row (Some text) = there (bytes_eq text (codes "Always"))
     there true = refl
     there false = refl
 
-role_row : (place : Place) (found : Option Data) → fault_of (role_of place found) ≡ own_policy_row place found
+role_row : (place : Place) (found : Option Data) → fault_of (role_of place found) ≡ own_policy_fault place found
 role_row InitContainers None = refl
 role_row InitContainers (Some d) = sidecar_row (as_str d)
 role_row Containers None = refl

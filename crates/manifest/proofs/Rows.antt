@@ -1,13 +1,17 @@
 -- Rows of a table of checks, beside reading step by step: the first row that is failed is the first
 -- step that is refused.
-use Rattle.std.proofs.Common.{◌≡◌, ◌∙◌, ℕ, zero, suc, ◌<◌, Bool, true, false, List, [], ◌∷◌, ◌++◌, Some, None, Result, Ok, Err, refl, ap, sym, arith}
-use Rattle.std.specs.Prelude.{◌↔◌, slice_get, if◌then◌else◌}
+use Rattle.std.proofs.Common.{◌≡◌, ◌∙◌, Bool, true, false, List, [], ◌∷◌, ◌++◌, map, All, Option, Some, None, Result, Ok, Err, refl, ap, sym}
+use Rattle.std.specs.Prelude.{◌↔◌, if◌then◌else◌}
 use Rattle.std.specs.List.{flat_map}
 use Rattle.std.specs.Option.{option_or}
+use Rattle.std.proofs.lemmas.List.Elements.{All-nil, All-cons, All-head, All-tail}
 use Rattle.json_fields.specs.Reading.{◌>>=◌, refused_if, each}
 use Rattle.manifest.specs.declared.fault.ManifestFault.{ManifestFault}
-use Rattle.manifest.specs.Table.{Row, fault_of, fails_if}
-use Rattle.manifest.specs.Laws.{IsFailedAt, IsFirstFailure}
+use Rattle.manifest.specs.Found.{fault_of, fails_if}
+
+-- what a check answers
+abbrev pub Row : Type 0
+Row = Option ManifestFault
 
 -- the fault of the first row that is failed
 abbrev pub first : List Row → Row
@@ -61,37 +65,57 @@ pub each_rows : {A B : Type 0} (f : A → Result B ManifestFault) (rows : A → 
 each_rows f rows one [] = read []
 each_rows f rows one (x ∷ xs) = step (f x) _ (rows x) (flat_map rows xs) (one x) (λ y e. last_step (each f xs) (λ ys. y ∷ ys) (flat_map rows xs) (each_rows f rows one xs))
 
--- the first row that is failed, by its place
-first_failed : (rows : List Row) (fault : ManifestFault) → first rows ≡ Some fault → IsFirstFailure rows fault
-first_failed [] fault e = absurd (cc)
-first_failed (None ∷ rows) fault e =
-    let later = first_failed rows fault e in
-    (suc later.0, (later.1.0, before later.0 later.1.1))
+abbrev pub IsPassed : {C : Type 0} → (C → Row) → C → Type 0
+IsPassed answer check = answer check ≡ None
+
+-- the first of these checks that is failed answers the fault
+pub record Splits {C : Type 0} (answer : C → Row) (checks : List C) (fault : ManifestFault) : Type 0 where
+  pub earlier : List C
+  pub check : C
+  pub later : List C
+  pub in_order : checks ≡ earlier ++ check ∷ later
+  pub passed : All (IsPassed answer) earlier
+  pub failed : answer check ≡ Some fault
+
+one_more : {C : Type 0} (answer : C → Row) (c : C) (cs : List C) (fault : ManifestFault) → answer c ≡ None → Splits answer cs fault → Splits answer (c ∷ cs) fault
+one_more answer c cs fault passes rest = record {
+  earlier = c ∷ rest.earlier;
+  check = rest.check;
+  later = rest.later;
+  in_order = ap (λ (xs : List _). c ∷ xs) rest.in_order;
+  passed = All-cons (IsPassed answer) c rest.earlier passes rest.passed;
+  failed = rest.failed;
+}
+
+first_failed : {C : Type 0} (answer : C → Row) (checks : List C) (fault : ManifestFault) → first (map answer checks) ≡ Some fault → Splits answer checks fault
+first_failed answer [] fault e = absurd (cc)
+first_failed answer (c ∷ cs) fault e = there (answer c) refl e (first_failed answer cs fault)
   where
-    before : (n : ℕ) → ((m : ℕ) → m < n → slice_get rows m ≡ Some None) → (m : ℕ) → m < suc n → slice_get (None ∷ rows) m ≡ Some None
-    before n none zero lt = refl
-    before n none (suc m) lt = none m (omega (arith, lt))
-first_failed (Some other ∷ rows) fault e = (zero, (ap (λ (row : Row). Some row) e, λ m lt. absurd (omega (arith, lt))))
+    there : (row : Row) → answer c ≡ row → option_or row (first (map answer cs)) ≡ Some fault → (first (map answer cs) ≡ Some fault → Splits answer cs fault) → Splits answer (c ∷ cs) fault
+    there None passes e later = one_more answer c cs fault passes (later e)
+    there (Some other) fails e later = record { earlier = []; check = c; later = cs; in_order = refl; passed = All-nil (IsPassed answer); failed = fails ∙ e }
 
-failed_first : (rows : List Row) (n : ℕ) (fault : ManifestFault) → IsFailedAt rows n fault → first rows ≡ Some fault
-failed_first [] n fault is = absurd (let e : None ≡ Some (Some fault) = is.0 in cc)
-failed_first (row ∷ rows) zero fault is = let e : row ≡ Some fault = let s : Some row ≡ Some (Some fault) = is.0 in cc in rw e refl
-failed_first (row ∷ rows) (suc n) fault is =
-    let passed : row ≡ None = let s : Some row ≡ Some None = is.1 zero (omega arith) in cc in
-    rw passed (failed_first rows n fault (is.0, λ m lt. is.1 (suc m) (omega (arith, lt))))
+first_of : {C : Type 0} (answer : C → Row) (earlier : List C) (check : C) (later : List C) (fault : ManifestFault) → All (IsPassed answer) earlier → answer check ≡ Some fault
+    → first (map answer (earlier ++ check ∷ later)) ≡ Some fault
+first_of answer [] check later fault passed failed = rw failed refl
+first_of answer (c ∷ cs) check later fault passed failed =
+    let here : answer c ≡ None = All-head (IsPassed answer) c cs passed in
+    rw here (first_of answer cs check later fault (All-tail (IsPassed answer) c cs passed) failed)
 
--- no row is failed
-all_passed : (rows : List Row) → first rows ≡ None → (n : ℕ) (row : Row) → slice_get rows n ≡ Some row → row ≡ None
-all_passed [] e n row here = absurd (cc)
-all_passed (None ∷ rows) e zero row here = cc
-all_passed (None ∷ rows) e (suc n) row here = all_passed rows e n row here
-all_passed (Some fault ∷ rows) e n row here = absurd (cc)
+-- no check is failed
+all_passed : {C : Type 0} (answer : C → Row) (checks : List C) → first (map answer checks) ≡ None → All (IsPassed answer) checks
+all_passed answer [] e = All-nil (IsPassed answer)
+all_passed answer (c ∷ cs) e = there (answer c) refl e (all_passed answer cs)
+  where
+    there : (row : Row) → answer c ≡ row → option_or row (first (map answer cs)) ≡ None → (first (map answer cs) ≡ None → All (IsPassed answer) cs) → All (IsPassed answer) (c ∷ cs)
+    there None passes e later = All-cons (IsPassed answer) c cs passes (later e)
+    there (Some fault) fails e later = absurd (cc)
 
-passed_all : (rows : List Row) → ((n : ℕ) (row : Row) → slice_get rows n ≡ Some row → row ≡ None) → first rows ≡ None
-passed_all [] all = refl
-passed_all (row ∷ rows) all =
-    let here : row ≡ None = all zero row refl in
-    rw here (passed_all rows (λ n r e. all (suc n) r e))
+passed_all : {C : Type 0} (answer : C → Row) (checks : List C) → All (IsPassed answer) checks → first (map answer checks) ≡ None
+passed_all answer [] all = refl
+passed_all answer (c ∷ cs) all =
+    let here : answer c ≡ None = All-head (IsPassed answer) c cs all in
+    rw here (passed_all answer cs (All-tail (IsPassed answer) c cs all))
 
 is_refused : {A : Type 0} (r : Result A ManifestFault) (fault : ManifestFault) → fault_of r ≡ Some fault → r ≡ Err fault
 is_refused (Ok x) fault e = absurd (cc)
@@ -101,17 +125,17 @@ is_read : {A : Type 0} (r : Result A ManifestFault) → fault_of r ≡ None → 
 is_read (Ok x) e = (x, refl)
 is_read (Err fault) e = absurd (cc)
 
--- what is read with these rows is refused exactly with the first of them that is failed
-pub first_check : {A : Type 0} (r : Result A ManifestFault) (rows : List Row) → Reads r rows → (fault : ManifestFault) → (r ≡ Err fault ↔ IsFirstFailure rows fault)
-first_check r rows reads fault = (
-  (λ e. first_failed rows fault (sym reads.same ∙ ap fault_of e)),
-  (λ is. is_refused r fault (reads.same ∙ failed_first rows is.0 fault is.1)),
+-- what is read with these checks is refused exactly with the first of them that is failed
+pub first_check : {A C : Type 0} (r : Result A ManifestFault) (answer : C → Row) (checks : List C) → Reads r (map answer checks) → (fault : ManifestFault) → (r ≡ Err fault ↔ Splits answer checks fault)
+first_check r answer checks reads fault = (
+  (λ e. first_failed answer checks fault (sym reads.same ∙ ap fault_of e)),
+  (λ is. is_refused r fault (reads.same ∙ ap (λ (cs : List _). first (map answer cs)) is.in_order ∙ first_of answer is.earlier is.check is.later fault is.passed is.failed)),
 )
 
 -- and read exactly where each is passed
-pub every_check : {A : Type 0} (r : Result A ManifestFault) (rows : List Row) → Reads r rows
-    → (((x : A) × (r ≡ Ok x)) ↔ ((n : ℕ) (row : Row) → slice_get rows n ≡ Some row → row ≡ None))
-every_check r rows reads = (
-  (λ w. all_passed rows (sym reads.same ∙ ap fault_of w.1)),
-  (λ all. is_read r (reads.same ∙ passed_all rows all)),
+pub every_check : {A C : Type 0} (r : Result A ManifestFault) (answer : C → Row) (checks : List C) → Reads r (map answer checks)
+    → (((x : A) × (r ≡ Ok x)) ↔ All (IsPassed answer) checks)
+every_check r answer checks reads = (
+  (λ w. all_passed answer checks (sym reads.same ∙ ap fault_of w.1)),
+  (λ all. is_read r (reads.same ∙ passed_all answer checks all)),
 )

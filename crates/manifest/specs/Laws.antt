@@ -1,27 +1,35 @@
 -- What the definition of a manifest implies, in the words of the table of its checks.
-use Rattle.std.specs.Prelude.{◌≡◌, ◌≢◌, ◌↔◌, ◌<◌, ℕ, List, slice_get, Some, None, Ok, Err}
+use Rattle.std.specs.Prelude.{◌≡◌, ◌≢◌, ◌↔◌, List, ◌∷◌, ◌++◌, All, Some, None, Ok, Err}
 use Rattle.serde_json.specs.Data.{Data}
 use Rattle.manifest.specs.declared.fault.ManifestFault.{ManifestFault}
 use Rattle.manifest.specs.declared.fault.ManifestFault.TheVariants.{OutOfMemory}
 use Rattle.manifest.specs.declared.pod.PodSpec.{PodSpec}
 use Rattle.manifest.specs.Manifest.{pod_at}
-use Rattle.manifest.specs.Table.{Row, rows_of}
+use Rattle.manifest.specs.Table.{Check, fault_at, checks_of}
 
--- the row at this place is failed with the fault, and the rows before it are passed
-abbrev pub IsFailedAt : List Row → ℕ → ManifestFault → Type 0
-IsFailedAt rows n fault = (slice_get rows n ≡ Some (Some fault)) × ((m : ℕ) → m < n → slice_get rows m ≡ Some None)
+-- the manifest fails the check, which answers the fault
+abbrev pub Fails : Data → Check → ManifestFault → Type 0
+Fails d check fault = fault_at d check ≡ Some fault
 
--- the first row that is failed answers the fault
-abbrev pub IsFirstFailure : List Row → ManifestFault → Type 0
-IsFirstFailure rows fault = (n : ℕ) × IsFailedAt rows n fault
+abbrev pub Passes : Data → Check → Type 0
+Passes d check = fault_at d check ≡ None
+
+-- the first check that the manifest fails, in the order of the table, answers the fault
+pub record FailsFirst (d : Data) (fault : ManifestFault) : Type 0 where
+  pub earlier : List Check
+  pub check : Check
+  pub later : List Check
+  pub in_order : checks_of d ≡ earlier ++ check ∷ later
+  pub passed : All (Passes d) earlier
+  pub failed : Fails d check fault
 
 -- a manifest is refused exactly with the first check of the table that it fails
 abbrev pub FirstCheck : Type 0
-FirstCheck = (d : Data) (fault : ManifestFault) → (pod_at d ≡ Err fault ↔ IsFirstFailure (rows_of d) fault)
+FirstCheck = (d : Data) (fault : ManifestFault) → (pod_at d ≡ Err fault ↔ FailsFirst d fault)
 
 -- and it describes a pod exactly where it passes every check
 abbrev pub EveryCheck : Type 0
-EveryCheck = (d : Data) → (((pod : PodSpec) × (pod_at d ≡ Ok pod)) ↔ ((n : ℕ) (row : Row) → slice_get (rows_of d) n ≡ Some row → row ≡ None))
+EveryCheck = (d : Data) → (((pod : PodSpec) × (pod_at d ≡ Ok pod)) ↔ All (Passes d) (checks_of d))
 
 -- no manifest is refused for want of memory
 abbrev pub NeverMemory : Type 0

@@ -10,6 +10,7 @@ pub mod ResourceFields
 pub mod Containers
 pub mod Manifest
 pub mod Policy
+pub mod Found
 pub mod Table
 pub mod Laws
 pub mod ProbeKinds
