@@ -1,6 +1,6 @@
 -- What the exits of one more tick make of the back-off.
-use Rattle.std.proofs.Common.{◌≡◌, ◌⊎◌, inl, inr, ℕ, ℤ, ◌-◌, ◌<◌, Bool, true, false, List, [], ◌∷◌, ◌++◌, length, Option, Some, None, refl, subst, sym, ◌∙◌, arith}
-use Rattle.std.specs.Prelude.{◌↔◌, IsSome, IsSomeAnd, IsTrue, if◌then◌else◌, unwrap_or}
+use Rattle.std.proofs.Common.{◌≡◌, ◌⊎◌, inl, inr, ℕ, ℤ, ◌-◌, Bool, true, List, [], ◌∷◌, ◌++◌, length, Option, Some, None, refl, subst, sym}
+use Rattle.std.specs.Prelude.{IsSome, IsSomeAnd, if◌then◌else◌, unwrap_or}
 use Rattle.std.specs.Option.{option_and}
 use Rattle.histories.specs.Histories.{IsFirstMoment}
 use Rattle.state_diff.specs.declared.seen.CriState.TheVariants.{Running}
@@ -17,7 +17,7 @@ use Rattle.containers.specs.Ticks.{ContainerTick, listings}
 use Rattle.containers.specs.Exits.{AreExits}
 use Rattle.containers.specs.Step.{exits_at, AreCounted}
 use Rattle.containers.proofs.TickLemmas.{listing, onto, from, from_at}
-use Rattle.containers.proofs.ExitLemmas.{gone_more, died_more, exit_cases, DiesWith, dies_newest}
+use Rattle.containers.proofs.ExitLemmas.{gone_more, died_more, exit_cases, dies_newest}
 
 -- where an instance exits, one of both has a run
 some_run : (k : List Tick) (d : Differ) (x : Tick) (changes : Changes) (start run left died : Option ℕ) → IsDifferOf (k ++ x ∷ []) d → AreChanges (k ++ x ∷ []) (length k) changes

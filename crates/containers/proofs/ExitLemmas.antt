@@ -1,19 +1,18 @@
 -- What one more tick makes of the exits.
 use Rattle.std.proofs.Common.{◌≡◌, ◌⊎◌, inl, inr, ℕ, ℤ, ◌-◌, ◌<◌, ◌≤◌, Bool, true, false, List, [], ◌∷◌, ◌++◌, length, Option, Some, None, refl, subst, sym, ap, ◌∙◌, append-nil, arith}
-use Rattle.std.specs.Prelude.{◌↔◌, Contains, IsSome, IsSomeAnd, IsTrue, if◌then◌else◌, is_some, unwrap_or}
+use Rattle.std.specs.Prelude.{◌↔◌, Contains, IsSome, IsSomeAnd, IsTrue, if◌then◌else◌, unwrap_or}
 use Rattle.std.specs.Option.{option_or, option_and}
 use Rattle.std.proofs.lemmas.Bool.{cases_order}
 use Rattle.histories.specs.Histories.{recorded, IsFirstMoment}
-use Rattle.histories.proofs.First.{Grows, IsFirst-old, IsFirst-new, IsFirst-split, IsFirst-unique, IsFirstMoment-unique, none_more}
+use Rattle.histories.proofs.First.{IsFirst-new, IsFirst-split, none_more}
 use Rattle.histories.proofs.Places.{length-more, moment_at-new}
 use Rattle.state_diff.specs.declared.seen.Seen.{Seen}
 use Rattle.state_diff.specs.declared.seen.CriState.TheVariants.{Running, Exited}
 use Rattle.state_diff.specs.declared.differ.Differ.{Differ}
-use Rattle.state_diff.specs.declared.differ.Changes.{Changes}
 use Rattle.state_diff.specs.Instances.{Tick, tick, seen_at, IsOf, IsOfAs, Listed, ListedAs, Ends, IsNewest, IsExit, IsRun}
-use Rattle.state_diff.specs.Differ.{IsOfNewest, IsNewestRun, IsStateOf as IsDifferOf, Accepts as DifferAccepts, AreChanges}
+use Rattle.state_diff.specs.Differ.{IsOfNewest, IsNewestRun, IsStateOf as IsDifferOf, Accepts as DifferAccepts}
 use Rattle.state_diff.proofs.Places.{added}
-use Rattle.state_diff.proofs.Growth.{grows_seen, grows_ends, IsExit-old, EndsNow}
+use Rattle.state_diff.proofs.Growth.{grows_seen, grows_ends, IsExit-old}
 use Rattle.state_diff.proofs.Listings.{of_weaker, exited_code, start_unlisted}
 use Rattle.state_diff.proofs.Events.{now, first_now, live_listed}
 use Rattle.state_diff.proofs.Unique.{IsNewest-unique}
@@ -21,7 +20,7 @@ use Rattle.restarts.specs.Exits.{Exit}
 use Rattle.restarts.specs.Delays.{IsDelay}
 use Rattle.containers.specs.Exits.{IsExitOf, AreExitsOf, IsRisingList, AreExits}
 use Rattle.containers.specs.Step.{exits_at}
-use Rattle.containers.proofs.ListLemmas.{contains_old, contains_new, contains_cases, rising_end, rising_one}
+use Rattle.containers.proofs.ListLemmas.{contains_old, contains_new, contains_cases, rising_end}
 use Rattle.containers.proofs.TickLemmas.{moment_kept, moment_new, newest_listed, not_started}
 
 -- the delay after the last of two exits
@@ -117,6 +116,7 @@ IsGoneNow k x a = IsExit (k ++ x ∷ []) a (length k) × (Listed (k ++ x ∷ [])
 -- so it was the newest, and had not exited
 pub record IsLeaving (k : List Tick) (x : Tick) (a : ℕ) : Type 0 where
   pub newest : IsNewest k a
+  pub listed : Listed k a (length k - 1)
   pub lives : (t : ℕ) → Ends k a t → ⊥
   pub unlisted : IsSomeAnd x.entry (IsOf a) → ⊥
 
@@ -125,8 +125,9 @@ leaving k d x a is (e, gone) =
     let f = first_now (length k) _ _ _ (grows_ends k a x) e in
     elim (f.0) [
       | inl q ↦ absurd (gone (added (IsOf a) k x (of_weaker a Exited x.entry q)))
-      | inr w ↦ record {
-        newest = newest_listed k d a is ((is.listed a).1 (live_listed k d.newest d.listed is.listed a w.1.0 w.1.1 f.1));
+      | inr w ↦ let l = (is.listed a).1 (live_listed k d.newest d.listed is.listed a w.1.0 w.1.1 f.1) in record {
+        newest = newest_listed k d a is l;
+        listed = l;
         lives = f.1;
         unlisted = w.0;
       }
@@ -162,9 +163,9 @@ gone_more k d at seen exits start true is accepts first iff are =
       };
     })
     (λ b p.
-        let u = ended_listed k b p.0 p.1.holds in
-        let P : ℕ → Type 0 = λ c. Ends k c p.0 in
-        not_less_same a b (l.newest.greatest b u.0 u.1) (λ e. l.lives p.0 (subst P e p.1.holds)))
+    let u = ended_listed k b p.0 p.1.holds in
+    let P : ℕ → Type 0 = λ c. Ends k c p.0 in
+    not_less_same a b (l.newest.greatest b u.0 u.1) (λ e. l.lives p.0 (subst P e p.1.holds)))
     (λ b. (
       (λ q. elim q [ inl p ↦ inl p | inr g ↦ inr (IsNewest-unique k a b l.newest (leaving k d x b is g).newest) ]),
       (λ q. elim q [ inl p ↦ inl p | inr e ↦ inr (let P : ℕ → Type 0 = λ c. IsGoneNow k x c in subst P e w.1) ]),
@@ -186,7 +187,7 @@ coded : (a : ℕ) (o : Option Seen) → IsSomeAnd o (IsOfAs a Exited) → (code 
 coded a None q = absurd q
 coded a (Some s) q = let k = exited_code s.state s.code s.code_given q.1 in (k.0, (q.0, k.1))
 
-uncoded : (a : ℕ) (code : ℤ) (o : Option Seen) → IsSomeAnd o (λ seen. (seen.attempt ≡ a) × (seen.code ≡ Some code)) → IsSomeAnd o (IsOf a)
+pub uncoded : (a : ℕ) (code : ℤ) (o : Option Seen) → IsSomeAnd o (λ seen. (seen.attempt ≡ a) × (seen.code ≡ Some code)) → IsSomeAnd o (IsOf a)
 uncoded a code None q = q
 uncoded a code (Some s) q = q.0
 
@@ -251,9 +252,9 @@ died_more k d x exits (Some (a, code)) run is iff runs are = there run runs
         let all = exit_added (k ++ x ∷ []) (OrGone k x) (HasExit (k ++ x ∷ [])) exits a (recorded x.moment r) are
         (record { moment = (length k, died.0, moment_at-new k x); run = subst P same ran })
         (λ c p.
-            let q = exit_back k x c p in
-            let u = ended_listed (k ++ x ∷ []) c q.0 q.1.holds in
-            not_less_same a c (newest.greatest c u.0 u.1) (λ e. let R : ℕ → Type 0 = λ y. OrGone k x y in other (subst R e p)))
+        let q = exit_back k x c p in
+        let u = ended_listed (k ++ x ∷ []) c q.0 q.1.holds in
+        not_less_same a c (newest.greatest c u.0 u.1) (λ e. let R : ℕ → Type 0 = λ y. OrGone k x y in other (subst R e p)))
         (λ c. (
           (λ q. elim (exit_cases k x c q) [
             | inl p ↦ inl p

@@ -1,17 +1,16 @@
 -- What one more tick makes of the instances and the probes.
-use Rattle.std.proofs.Common.{◌≡◌, ◌⊎◌, inl, inr, ℕ, zero, suc, ◌-◌, ◌<◌, Bool, true, false, List, [], ◌∷◌, ◌++◌, length, take, drop, Option, Some, None, refl, subst, sym, ◌∙◌, arith}
+use Rattle.std.proofs.Common.{◌≡◌, inl, inr, ℕ, zero, suc, ◌-◌, ◌<◌, Bool, true, false, List, [], ◌∷◌, ◌++◌, length, take, drop, Option, Some, None, refl, subst, sym, ◌∙◌, arith}
 use Rattle.std.specs.Prelude.{◌↔◌, IsSome, IsSomeAnd, IfSome, IsTrue, is_some}
 use Rattle.std.proofs.lemmas.List.{take-append-drop}
-use Rattle.histories.specs.Histories.{IsSo, IsFirstMoment}
+use Rattle.histories.specs.Histories.{IsSo}
 use Rattle.histories.proofs.First.{IsFirst-new, IsFirstMoment-unique}
-use Rattle.histories.proofs.Places.{length-more}
 use Rattle.histories.proofs.Picked.{picked_none, so_picked_in, so_picked_out}
 use Rattle.manifest.specs.declared.pod.ContainerSpec.{ContainerSpec}
 use Rattle.state_diff.specs.declared.seen.Seen.{Seen}
 use Rattle.state_diff.specs.declared.seen.CriState.TheVariants.{Running}
 use Rattle.state_diff.specs.declared.differ.Differ.{Differ}
 use Rattle.state_diff.specs.declared.differ.Changes.{Changes}
-use Rattle.state_diff.specs.Instances.{Tick, seen_at, IsOf, IsOfAs, Listed, ListedAs, IsNewest, IsState, IsStart}
+use Rattle.state_diff.specs.Instances.{seen_at, IsOf, IsOfAs, Listed, ListedAs, IsNewest, IsState, IsStart}
 use Rattle.state_diff.specs.Differ.{IsStateOf as IsDifferOf, Accepts as DifferAccepts, AreChanges, IsNewestSeen}
 use Rattle.state_diff.proofs.Growth.{grows_seen}
 use Rattle.state_diff.proofs.Listings.{of_weaker}
@@ -26,7 +25,7 @@ use Rattle.containers.specs.Container.{IsFollowing}
 use Rattle.containers.specs.Step.{ticks_at, IsTaken, AreVerdictsOf}
 use Rattle.containers.proofs.ProbedLemmas.{runs_at, start_of}
 use Rattle.containers.proofs.ViewLemmas.{seen_runs}
-use Rattle.containers.proofs.TickLemmas.{listing, long, onto, onto_at, last_place, seen_now, newest_listed, newest_now, running_now, start_kept, start_cases}
+use Rattle.containers.proofs.TickLemmas.{listing, long, onto, onto_at, last_place, seen_now, newest_listed, newest_now, running_now, start_cases}
 
 -- an instance to which the last tick belongs is the newest
 pub belongs_newest : (h : List ContainerTick) (d : Differ) (a : ℕ) → IsDifferOf (listings h) d → BelongsTo a h → IsNewest (listings h) a

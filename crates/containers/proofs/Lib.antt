@@ -6,3 +6,7 @@ mod FollowLemmas
 mod ListLemmas
 mod ExitLemmas
 mod CountLemmas
+mod RestartLemmas
+mod ComesLemmas
+mod EventLemmas
+mod StepLemmas

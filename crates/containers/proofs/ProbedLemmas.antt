@@ -16,7 +16,7 @@ use Rattle.probes.specs.ProbeSet.{IsStateOf as IsProbeSetOf}
 use Rattle.containers.specs.declared.container.Container.{Container}
 use Rattle.containers.specs.Ticks.{ContainerTick, listings, BelongsTo, results_of, AreTicksOf, StartsAt, SaysOf}
 use Rattle.containers.specs.Probed.{Serves}
-use Rattle.containers.specs.Container.{IsStateOf}
+use Rattle.containers.specs.Container.{IsFollowing, IsStateOf}
 
 -- an instance that is running was listed so
 pub runs_at : (h : List Tick) (a : ℕ) → IsState h a Running → (t : ℕ) × ListedAs h a Running t
@@ -52,10 +52,10 @@ said Q h a start ticks starts are s =
     subst R (picked_one (IsSo (BelongsTo a) h) (map results_of h) s.ticks ticks s.are_ticks are) (subst P same' s.says)
 
 -- where the container serves, the probe set says it of its instance
-pub says_by : (Q : ℕ → List ProbeTick → Type 0) (spec : ContainerSpec) (greatest : ℕ) (h : List ContainerTick) (c : Container) (b : Bool)
-    → IsStateOf spec greatest h c → ((start : ℕ) (ticks : List ProbeTick) → IsProbeSetOf spec.probes start ticks c.probes → (IsTrue b ↔ Q start ticks))
+pub says_by : (Q : ℕ → List ProbeTick → Type 0) (spec : ContainerSpec) (h : List ContainerTick) (c : Container) (b : Bool)
+    → IsFollowing spec h c → ((start : ℕ) (ticks : List ProbeTick) → IsProbeSetOf spec.probes start ticks c.probes → (IsTrue b ↔ Q start ticks))
     → ((a : ℕ) × Serves spec h a) → (IsTrue b ↔ ((a : ℕ) × Serves spec h a × SaysOf Q h a))
-says_by Q spec greatest h c b is by (a, serves) =
+says_by Q spec h c b is by (a, serves) =
     let begun = start_of h c.differ a is.differ serves.newest serves.runs in
     let followed = is.probed a begun.0 serves.newest begun.1 in
     let iff = by begun.0 followed.ticks followed.followed in (
@@ -70,3 +70,7 @@ says_by Q spec greatest h c b is by (a, serves) =
 pub says_none : (Q : ℕ → List ProbeTick → Type 0) (spec : ContainerSpec) (h : List ContainerTick) (b : Bool) → (IsTrue b ↔ ((a : ℕ) × Serves spec h a))
     → (((a : ℕ) × Serves spec h a) → ⊥) → (IsTrue b ↔ ((a : ℕ) × Serves spec h a × SaysOf Q h a))
 says_none Q spec h b iff none = ((λ e. absurd (none (iff.0 e))), (λ w. absurd (none (w.0, w.1))))
+
+-- the value of a container follows its instances and its probes
+pub following : (spec : ContainerSpec) (greatest : ℕ) (h : List ContainerTick) (c : Container) → IsStateOf spec greatest h c → IsFollowing spec h c
+following spec greatest h c is = record { role = is.role; differ = is.differ; follows = is.follows; probed = is.probed }

@@ -1,8 +1,7 @@
 -- What one more tick makes of the listings.
-use Rattle.std.proofs.Common.{◌≡◌, ◌⊎◌, inl, inr, ℕ, ◌-◌, ◌<◌, ◌≤◌, List, [], ◌∷◌, ◌++◌, length, take, drop, Option, Some, None, refl, subst, sym, ap, ◌∙◌, arith}
-use Rattle.std.specs.Prelude.{◌↔◌, IsSome, IsSomeAnd, IsTrue}
-use Rattle.std.proofs.lemmas.Bool.{cases_lt}
-use Rattle.histories.specs.Histories.{project, moment_at, IsFirst, IsFirstMoment}
+use Rattle.std.proofs.Common.{◌≡◌, ◌⊎◌, inl, inr, ℕ, ◌-◌, ◌<◌, ◌≤◌, List, [], ◌∷◌, ◌++◌, length, Option, Some, None, subst, sym, ◌∙◌, arith}
+use Rattle.std.specs.Prelude.{◌↔◌, IsSomeAnd}
+use Rattle.histories.specs.Histories.{moment_at, IsFirst, IsFirstMoment}
 use Rattle.histories.proofs.First.{Grows, IsFirst-old, IsFirst-new, IsFirst-split, IsFirst-unique}
 use Rattle.histories.proofs.Moments.{moment_within}
 use Rattle.histories.proofs.Places.{length-more, project-append, length-project, moment_at-old, moment_at-new}
@@ -10,17 +9,15 @@ use Rattle.observations.specs.declared.container.ContainerObs.{ContainerObs}
 use Rattle.state_diff.specs.States.{rank}
 use Rattle.state_diff.specs.declared.seen.Seen.{Seen}
 use Rattle.state_diff.specs.declared.seen.CriState.{CriState}
-use Rattle.state_diff.specs.declared.seen.CriState.TheVariants.{Running, Exited, Unknown}
+use Rattle.state_diff.specs.declared.seen.CriState.TheVariants.{Running, Exited}
 use Rattle.state_diff.specs.declared.instance.Instance.{Instance}
 use Rattle.state_diff.specs.declared.differ.Differ.{Differ}
-use Rattle.state_diff.specs.declared.differ.Changes.{Changes}
-use Rattle.state_diff.specs.Instances.{Tick, tick, seen_at, IsOf, IsOfAs, Listed, ListedAs, IsNewest, IsState, IsStart, IsExit, Ends}
-use Rattle.state_diff.specs.Differ.{IsNewestOf, IsListedBy, Follows, IsStateOf as IsDifferOf, Accepts as DifferAccepts, AreChanges}
-use Rattle.state_diff.proofs.Places.{kept, added, split, seen_at-below}
-use Rattle.state_diff.proofs.Growth.{grows_seen, grows_ends, EndsNow, IsEffective-new}
+use Rattle.state_diff.specs.Instances.{Tick, tick, seen_at, IsOf, IsOfAs, Listed, ListedAs, IsNewest, IsState, IsExit, Ends}
+use Rattle.state_diff.specs.Differ.{IsNewestOf, IsListedBy, Follows, IsStateOf as IsDifferOf, Accepts as DifferAccepts}
+use Rattle.state_diff.proofs.Places.{added, split, seen_at-below}
+use Rattle.state_diff.proofs.Growth.{grows_seen, grows_ends, IsEffective-new}
 use Rattle.state_diff.proofs.Listings.{of_weaker, exited_of}
-use Rattle.state_diff.proofs.Unique.{IsNewest-unique}
-use Rattle.containers.specs.Ticks.{ContainerTick, listings, BelongsTo, StartsAt}
+use Rattle.containers.specs.Ticks.{ContainerTick, listings, StartsAt}
 
 -- a tick as its listing
 abbrev pub listing : ContainerTick → Tick

@@ -14,7 +14,7 @@ use Rattle.manifest.specs.declared.pod.Role.{Role}
 use Rattle.manifest.specs.declared.pod.Role.TheVariants.{Init}
 use Rattle.phase.specs.declared.container.ContainerState.{ContainerState}
 use Rattle.phase.specs.declared.view.ContainerView.{ContainerView}
-use Rattle.phase.specs.Facts.{of_view, exit_code, IsRunning as IsRunningView}
+use Rattle.phase.specs.Facts.{exit_code}
 use Rattle.phase.specs.Views.{shown_as, state_shown, restarts_of}
 use Rattle.containers.specs.declared.status.ContainerStatus.{ContainerStatus}
 use Rattle.containers.specs.Ticks.{ContainerTick, listings}
@@ -78,17 +78,17 @@ seen_runs h o is = (there o is, back o is)
     back None none q = absurd q
     back (Some s) is q = let P : CriState → Type 0 = λ v. IsState h s.attempt v in (s.attempt, is.newest, subst P q is.state)
 
--- the container serves where its view does and runs
-pub serves_by : (spec : ContainerSpec) (h : List ContainerTick) (view : ContainerView) (b : Bool) → IsViewOf spec h view
-    → (IsTrue b ↔ ((of_view.is view Init → ⊥) × IsRunningView view)) → (IsTrue b ↔ ((a : ℕ) × Serves spec h a))
-serves_by spec h view b is up =
-    let runs = seen_runs (listings h) view.seen is.newest in
+-- the container serves by its role and its newest instance
+pub serves_by : (spec : ContainerSpec) (h : List ContainerTick) (role : Role) (o : Option Seen) (b : Bool) → role ≡ spec.role → IsNewestSeen (listings h) o
+    → (IsTrue b ↔ ((role ≡ Init → ⊥) × IsSomeAnd o (λ s. s.state ≡ IsRunning))) → (IsTrue b ↔ ((a : ℕ) × Serves spec h a))
+serves_by spec h role o b same is up =
+    let runs = seen_runs (listings h) o is in
     let P : Role → Type 0 = λ r. r ≡ Init → ⊥ in (
       (λ e.
           let w = up.0 e in
           let r = runs.1 w.1 in
-          (r.0, record { role = subst P is.role w.0; newest = r.1; runs = r.2 })),
-      (λ w. up.1 (subst P (sym is.role) w.1.role, runs.0 (w.0, w.1.newest, w.1.runs))),
+          (r.0, record { role = subst P same w.0; newest = r.1; runs = r.2 })),
+      (λ w. up.1 (subst P (sym same) w.1.role, runs.0 (w.0, w.1.newest, w.1.runs))),
     )
 
 -- what is shown

@@ -127,7 +127,7 @@ impl Container {
         ensures { (spec : ContainerSpec) (h : List ContainerTick)
             → IsFollowing spec h self.now
             → (IsTrue result ↔ ((a : ℕ) × IsToRestart policy spec h a
-                × IsFirstMoment (listings h) (Ends (listings h) a) (Some at))) }
+            × IsFirstMoment (listings h) (Ends (listings h) a) (Some at))) }
     {
         is_put_off(self.to_restart(policy), self.differ.exited_at(), at)
     }

@@ -1,5 +1,4 @@
 use Rattle.std.proofs.Common.{◌++◌, ℕ, Option, subst, sym}
-use Rattle.std.specs.Prelude.{IsSomeAnd}
 use Rattle.restarts.specs.Delays.{IsDelay}
 use Rattle.restarts.specs.Backoff.{IsStateOf}
 use Rattle.containers.specs.Step.{exits_at}

@@ -1,6 +1,4 @@
-use Rattle.std.proofs.Common.{◌++◌, List, ℕ, Option, ap, subst, sym, append-nil}
-use Rattle.restarts.specs.Exits.{Exit}
-use Rattle.restarts.specs.Delays.{IsDelay}
+use Rattle.std.proofs.Common.{◌++◌}
 use Rattle.containers.specs.Step.{exits_at}
 use Rattle.containers.proofs.ExitLemmas.{last_delay, none_more_exits}
 use Rattle.containers.proofs.exits.count_both.Goals as goal

@@ -1,4 +1,4 @@
-use Rattle.std.proofs.Common.{◌++◌, ◌∷◌, [], Bool, subst, sym}
+use Rattle.std.proofs.Common.{◌++◌, Bool, subst, sym}
 use Rattle.containers.specs.Step.{ticks_at}
 use Rattle.probes.specs.ProbeSet.{IsStateOf}
 use Rattle.containers.proofs.follow.take.Goals as goal

@@ -1,6 +1,5 @@
 use Rattle.histories.specs.Histories.{recorded}
-use Rattle.std.proofs.Common.{ℕ, List, refl}
-use Rattle.state_diff.specs.Instances.{Tick}
+use Rattle.std.proofs.Common.{refl}
 use Rattle.state_diff.specs.Differ.{IsStateOf as IsDifferOf, AreChanges}
 use Rattle.containers.specs.Ticks.{listings}
 use Rattle.containers.proofs.TickLemmas.{onto, onto_at}
