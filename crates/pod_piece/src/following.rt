@@ -57,7 +57,7 @@ fn stepped(container: &Container, policy: Policy, at: u64, shown: ContainerObs) 
         → IsStateOf spec greatest (h ++ recorded at shown ∷ []) result }
 {
     let mut next = *container;
-    //TEMP next.step(policy, at, shown);
+    next.step(policy, at, shown);
     next
 }
 
