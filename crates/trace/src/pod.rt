@@ -1,64 +1,18 @@
 //! Pod lines.
 
 ghost use Rattle.std.specs.Prelude.{◌≡◌, option_map, is_some, length, nat_le, None, IfOk, string_bytes};
-ghost use Rattle.std.specs.List.{list_any};
-ghost use Rattle.manifest.specs.Gives as manifests;
 ghost use Rattle.serde_json.specs.View.{view};
 ghost use Rattle.json_fields.specs.Reading.{refused_if};
 ghost use Rattle.name_list.specs.Names.{place_of};
 ghost use Rattle.trace.specs.Gives.{Gives};
-ghost use Rattle.trace.specs.Pod.{key_of_pod, keys_of, most_pods, has_key, is_probed, refusal_of, replayed, pod_of, pod_from};
+ghost use Rattle.trace.specs.Pod.{key_of_pod, keys_of, most_pods, has_key, pod_from};
 
 use crate::fault::{FaultKind, refused_if};
 use crate::past::Reader;
-use manifest::{ContainerSpec, Field, ManifestFault, PodSpec};
+use manifest::{Field, ManifestFault, PodSpec};
 use name_list::NameList;
 use serde_json::Value;
 use std::alloc::{AllocError, Global};
-
-fn is_probed(container: &ContainerSpec) -> bool
-    ensures { result ≡ is_probed container.now }
-{
-    let probes = container.probes;
-    probes.startup().is_some() || probes.liveness().is_some() || probes.readiness().is_some()
-}
-
-fn has_probe(containers: &[ContainerSpec]) -> bool
-    ensures { result ≡ list_any is_probed containers.now }
-{
-    containers.iter().any(|container| is_probed(container))
-}
-
-/// Which of its fields keeps a pod from being replayed.
-fn refusal(pod: &PodSpec) -> Option<ManifestFault>
-    ensures { result ≡ refusal_of pod.now }
-{
-    if !pod.containers.has_only_apps() {
-        Some(ManifestFault::WrongKind(Field::InitContainers))
-    } else if has_probe(pod.containers.as_slice()) {
-        Some(ManifestFault::WrongKind(Field::Probe))
-    } else {
-        None
-    }
-}
-
-/// The pod, if it is replayed.
-fn replayed(pod: PodSpec) -> Result<PodSpec, ManifestFault>
-    ensures { result ≡ replayed pod }
-{
-    match refusal(&pod) {
-        Some(fault) => Err(fault),
-        None => Ok(pod),
-    }
-}
-
-/// The pod that a manifest describes, if it is replayed.
-fn pod_of(alloc: Global, manifest: &Value) -> Result<PodSpec, ManifestFault>
-    ensures { manifests.Gives (λ p. p) result (pod_of (view manifest.now)) }
-{
-    let pod = PodSpec::from_value(alloc, manifest)?;
-    replayed(pod)
-}
 
 /// The pod that a pod line's manifest describes.
 pub(crate) fn pod_in(alloc: Global, found: Option<&Value>) -> Result<PodSpec, FaultKind>
@@ -67,7 +21,7 @@ pub(crate) fn pod_in(alloc: Global, found: Option<&Value>) -> Result<PodSpec, Fa
     let Some(value) = found else {
         return Err(FaultKind::Manifest(ManifestFault::Missing(Field::Pod)));
     };
-    match pod_of(alloc, value) {
+    match PodSpec::from_value(alloc, value) {
         Ok(pod) => Ok(pod),
         Err(ManifestFault::OutOfMemory) => Err(FaultKind::OutOfMemory),
         Err(fault) => Err(FaultKind::Manifest(fault)),

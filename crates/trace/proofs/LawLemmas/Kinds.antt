@@ -1,6 +1,6 @@
 -- The kinds of fault that the checks of a line answer.
-use Rattle.std.proofs.Common.{◌≡◌, ◌⊎◌, ℕ, Bool, true, false, List, [], length, slice_get, Option, Some, None, Result, Ok, Err, refl, sym, subst, inl, inr, is_some}
-use Rattle.std.specs.Prelude.{not, ◌==◌, ◌&&◌, ◌-◌, ◌^◌, if◌then◌else◌, option_and_then, nat_lt, codes}
+use Rattle.std.proofs.Common.{◌≡◌, ◌⊎◌, ℕ, Bool, List, [], length, slice_get, Option, Some, None, Result, Ok, Err, refl, sym, subst, inl, inr, is_some}
+use Rattle.std.specs.Prelude.{◌==◌, ◌&&◌, ◌-◌, ◌^◌, if◌then◌else◌, option_and_then, nat_lt, codes}
 use Rattle.serde_json.specs.Data.{Data, Items}
 use Rattle.serde_json.specs.Find.{as_str, as_number, as_u64, as_array}
 use Rattle.manifest.specs.Names.{is_name}
@@ -20,7 +20,7 @@ use Rattle.trace.specs.Lines.{lines_of}
 use Rattle.manifest.specs.RestartDelay.{most_max_delay, max_delay_of}
 use Rattle.trace.specs.Node.{version_from, version_of, name_from, or_config, restart_delay_of, absent, eviction_unset, node_of}
 use Rattle.manifest.specs.declared.fault.ManifestFault.{ManifestFault}
-use Rattle.manifest.specs.declared.fault.ManifestFault.TheVariants.{Missing, WrongKind}
+use Rattle.manifest.specs.declared.fault.ManifestFault.TheVariants.{Missing}
 use Rattle.manifest.specs.declared.fault.ManifestFault.TheVariants as faults
 use Rattle.manifest.specs.declared.fault.Field.TheVariants as fields
 use Rattle.manifest.specs.Containers.{names_of}
@@ -30,8 +30,7 @@ use Rattle.std.specs.Str.{is_utf8}
 use Rattle.state_diff.specs.declared.seen.CriState.TheVariants.{Created, Running, Exited, Unknown}
 use Rattle.trace.specs.declared.listing.Listing.{Listing}
 use Rattle.json_fields.specs.Fields.{items_list}
-use Rattle.trace.specs.Pod.{keys_of, of_manifest, has_probe, refusal_of, unless, replayed, pod_of, pod_from}
-use Rattle.manifest.specs.Containers.{has_only_apps}
+use Rattle.trace.specs.Pod.{keys_of, of_manifest, pod_from}
 use Rattle.manifest.specs.Manifest.{pod_at}
 use Rattle.trace.specs.Listings.{attempt_from, attempt_of, state_named, state_numbered, state_from, state_of, listing_of, items_from, items_of, entry_of, entries_of}
 use Rattle.trace.specs.Results.{probe_named, outcome_named, result_of}
@@ -106,28 +105,9 @@ manifest_only : {A : Type 0} (r : Result A ManifestFault) → Only IsFound r →
 manifest_only (Ok x) only = only_ok IsManifest x
 manifest_only (Err fault) only = only_err IsManifest (Manifest fault) (fault, refl, only.has fault refl)
 
--- a pod that is not replayed yet
-refusal_found : (pod : PodSpec) (fault : ManifestFault) → refusal_of pod ≡ Some fault → IsFound fault
-refusal_found pod fault = there (not (has_only_apps pod.containers)) (has_probe pod)
-  where
-    there : (a b : Bool) → (if a then Some (WrongKind fields.InitContainers) else (if b then Some (WrongKind fields.Probe) else None)) ≡ Some fault → IsFound fault
-    there true b e is = absurd (cc)
-    there false true e is = absurd (cc)
-    there false false e is = absurd (cc)
-
-replayed_only : (pod : PodSpec) → Only IsFound (replayed pod)
-replayed_only pod = there (refusal_of pod) (refusal_found pod)
-  where
-    there : (o : Option ManifestFault) → ((fault : ManifestFault) → o ≡ Some fault → IsFound fault) → Only IsFound (unless o pod)
-    there None found = only_ok IsFound pod
-    there (Some fault) found = only_err IsFound fault (found fault refl)
-
-pod_of_only : (d : Data) → Only IsFound (pod_of d)
-pod_of_only d = only_bind IsFound (pod_at d) replayed (pod_at_only d) replayed_only
-
 pod_only : (found : Option Data) → Only IsManifest (pod_from found)
 pod_only None = only_err IsManifest (Manifest (Missing fields.Pod)) (Missing fields.Pod, refl, missing fields.Pod)
-pod_only (Some d) = manifest_only (pod_of d) (pod_of_only d)
+pod_only (Some d) = manifest_only (pod_at d) (pod_at_only d)
 
 moment_only : (ticks : List TickObs) (found : Option ℕ) → Only (Is Moment) (moment_from ticks found)
 moment_only ticks None = only_err (Is Moment) Moment refl
@@ -262,7 +242,7 @@ fails_not_memory : (past : Past) (line : List ℕ) (kind : FaultKind) → Fails 
 fails_not_memory past line _ (too_long long) = (λ memory. absurd (cc), λ memory. absurd (cc))
 fails_not_memory past line _ (not_json kind short e) = is_not kind NotJson ((json_only line).has kind e) (λ memory. absurd (cc), λ memory. absurd (cc))
 fails_not_memory past line _ (unknown_kind d is none) = (λ memory. absurd (cc), λ memory. absurd (cc))
-fails_not_memory past line _ (misplaced line_kind d is never) = (λ memory. absurd (cc), λ memory. absurd (cc))
+fails_not_memory past line _ (misplaced sort d is never) = (λ memory. absurd (cc), λ memory. absurd (cc))
 fails_not_memory past line _ (wrong_node d kind is e) = is_not kind Config ((node_only d).has kind e) (λ memory. absurd (cc), λ memory. absurd (cc))
 fails_not_memory past line _ (many_pods d is some) = (λ memory. absurd (cc), λ memory. absurd (cc))
 fails_not_memory past line _ (wrong_pod d kind is none e) =
