@@ -1,8 +1,9 @@
 -- The ticks of one pod, and the listings of its containers.
-use Rattle.std.proofs.Common.{◌≡◌, ◌∙◌, ◌^◌, ℕ, zero, suc, ◌<◌, List, [], ◌∷◌, ◌++◌, length, map, take, get_or, append-nil, Option, Some, None, refl, ap, sym, subst, arith}
-use Rattle.std.specs.Prelude.{IsSomeAnd, slice_get, option_and_then, option_map, unwrap_or}
+use Rattle.std.proofs.Common.{◌≡◌, ◌∙◌, ◌+◌, ◌^◌, ℕ, zero, suc, true, false, ◌<◌, List, [], ◌∷◌, ◌++◌, length, map, take, get_or, append-nil, Option, Some, None, refl, ap, sym, subst, arith}
+use Rattle.std.specs.Prelude.{◌↔◌, IsTrue, IsSomeAnd, nat_lt, slice_get, option_and_then, option_map, unwrap_or}
+use Rattle.std.proofs.lemmas.Bool.{ltb-true, lt-ltb}
 use Rattle.std.specs.List.{cons_option}
-use Rattle.std.proofs.lemmas.List.{take-map, length-map}
+use Rattle.std.proofs.lemmas.List.{take-map, take_more, length-map}
 use Rattle.std.proofs.lemmas.List.Elements.{filter_map-append}
 use Rattle.std.proofs.lemmas.Option.{slice_get-get_or}
 use Rattle.histories.specs.Histories.{recorded, moment_at, EndsBefore}
@@ -11,7 +12,7 @@ use Rattle.state_diff.specs.declared.seen.Seen.{Seen}
 use Rattle.state_diff.specs.Instances.{Tick, seen_at, IsAcceptable, IsAcceptableHistory}
 use Rattle.manifest.specs.declared.pod.PodSpec.{PodSpec}
 use Rattle.containers.specs.Ticks.{listings}
-use Rattle.pod_piece.specs.Pods.{PodTick, pod_tick, ticks_of, unseen}
+use Rattle.pod_piece.specs.Pods.{PodTick, pod_tick, ticks_of, unseen, EndsEvicted}
 use Rattle.pod_piece.specs.declared.state.PodState.{PodState}
 use Rattle.pod_piece.specs.States.{IsStateOf, MayFollow}
 use Rattle.pod_piece.proofs.StateLemmas.{may_follow}
@@ -138,3 +139,32 @@ next_bounded pods ticks pod i tick observed is at shape =
     let each = shape.shown i tick is in
     let same : observed.at ≡ tick.at = each.moment pod observed at in
     subst (λ (m : ℕ). m < 2 ^ 40) (sym same) (shape.below i tick is)
+
+-- what stands at a place of a list
+found : (shown : List PodObs) (n : ℕ) (observed : PodObs) → true ≡ nat_lt n (length shown) → observed ≡ get_or shown n observed → slice_get shown n ≡ Some observed
+found shown n observed within is = slice_get-get_or shown n observed (ltb-true n (length shown) (sym within)) ∙ ap Some (sym is)
+
+pub found_in : (tick : TickObs) (slice : List PodObs) (n : ℕ) (observed : PodObs) → slice ≡ tick.pods → true ≡ nat_lt n (length slice) → observed ≡ get_or slice n observed
+    → slice_get tick.pods n ≡ Some observed
+found_in tick slice n observed same within is = subst (λ (xs : List PodObs). slice_get xs n ≡ Some observed) same (found slice n observed within is)
+
+-- no tick lacks the pod
+pub never_missing : (pods : List PodSpec) (ticks : List TickObs) (pod i : ℕ) (tick : TickObs) (slice : List PodObs) → slice_get ticks i ≡ Some tick → HasShape pods ticks → pod < length pods → slice ≡ tick.pods
+    → false ≡ nat_lt pod (length slice) → ⊥
+never_missing pods ticks pod i tick slice is shape within same missing =
+    let each = shape.shown i tick is in
+    let lt : pod < length slice = omega (arith, each.as_many, ap length same) in
+    let clash : false ≡ true = missing ∙ lt-ltb pod (length slice) lt in
+    cc
+
+-- the ticks up to a place, and the one at it
+pub shown_next : (ticks : List TickObs) (i : ℕ) (tick : TickObs) (pod : ℕ) (observed : PodObs) → i < length ticks → tick ≡ get_or ticks i tick → slice_get tick.pods pod ≡ Some observed
+    → pod_history (take i ticks) pod ++ pod_tick observed ∷ [] ≡ pod_history (take (i + 1) ticks) pod
+shown_next ticks i tick pod observed lt is at =
+    let more : take (i + 1) ticks ≡ take i ticks ++ tick ∷ [] = take_more ticks i tick lt ∙ ap (λ (t : TickObs). take i ticks ++ t ∷ []) (sym is) in
+    sym (ap (λ (ts : List TickObs). pod_history ts pod) more ∙ history_more (take i ticks) tick pod observed at)
+
+-- no pod ends by an eviction
+pub never_evicted : (end : Option ℕ) → IsTrue false ↔ EndsEvicted None end
+never_evicted None = ((λ e. absurd (cc)), (λ e. absurd e))
+never_evicted (Some t) = ((λ e. absurd (cc)), (λ e. absurd (cc)))

@@ -4,4 +4,4 @@ use Rattle.kubelet_replay.specs.PodHistory.{pod_history}
 use Rattle.kubelet_replay.proofs.follow.follow.Given as goal
 
 abbrev pub invariant-loop-tick : goal.invariant-loop-tick
-invariant-loop-tick l = IsStateOf l.spec l.greatest None (pod_history (take l.tick-index l.ticks) l.pod) l.state
+invariant-loop-tick l = IsStateOf l.fn.spec l.fn.greatest None (pod_history (take l.tick-index l.ticks) l.pod) l.state

@@ -11,4 +11,4 @@ loop-number-preserved c =
     let pod : c.pod-item.result ≡ get_or pods n c.pod-item.result = subst (λ (ps : List PodSpec). c.pod-item.result ≡ get_or ps n c.pod-item.result) same c.pod-item.is in
     let within : n < length pods = subst (λ (ps : List PodSpec). n < length ps) same c.loop-number-test.true in
     let text = c.in_ok-push_str.ensures.bytes ∙ ap (λ (bytes : List ℕ). string_bytes c.loop-number.report ++ bytes) c.as_str.ensures.value in
-    report_next c.as_slice-ticks.result.now pods n c.pod-item.result (string_bytes c.loop-number.report) (string_bytes c.in_ok-lines.lines) (string_bytes c.push_str.new.self) within pod c.loop-number.invariant c.in_ok-lines.ensures text
+    report_next c.args.trace.now.ticks pods n c.pod-item.result (string_bytes c.loop-number.report) (string_bytes c.in_ok-lines.lines) (string_bytes c.push_str.new.self) within pod c.loop-number.invariant c.in_ok-lines.ensures text
