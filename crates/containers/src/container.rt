@@ -113,11 +113,13 @@ impl Container {
         to_restart(policy, self.role, self.differ.newest())
     }
 
-    /// Whether a restart that falls due is due in this tick, after a last one at `last_at`.
+    /// Whether the restart after the last exit falls due at this moment, and was not due at the last
+    /// tick's.
     fn is_due(&self, last_at: Option<u64>, at: u64) -> bool
         ensures { (greatest : ℕ) (exits : List Exit)
             → IsBackoffOf greatest exits self.now.backoff
-            → (IsTrue result ↔ ((due : ℕ) × IsDue greatest exits (Some due) × (due ≤ at) × IfSome last_at (λ last. last < due))) }
+            → (IsTrue result ↔ ((due : ℕ) × IsDue greatest exits (Some due) × (due ≤ at)
+            × IfSome last_at (λ last. last < due))) }
     {
         places::falls_due(self.backoff.due(), last_at, at)
     }
