@@ -1,9 +1,9 @@
 ghost use Rattle.std.specs.Prelude.{◌≡◌, ◌↔◌, ◌^◌, ◌<◌, ◌≤◌, ℕ, List, [], ◌∷◌, ◌++◌, length, Some, IsTrue, IsSomeAnd, IfSome};
-ghost use Rattle.histories.specs.Histories.{recorded, IsFirstMoment};
+ghost use Rattle.histories.specs.Histories.{recorded, IsFirstMoment, last_moment};
 ghost use Rattle.manifest.specs.declared.pod.ContainerSpec.{ContainerSpec};
 ghost use Rattle.manifest.specs.declared.pod.Role.TheVariants.{Init};
 ghost use Rattle.state_diff.specs.declared.seen.CriState.TheVariants.{Running};
-ghost use Rattle.state_diff.specs.Instances.{Tick, IsNewest, IsState, Ends};
+ghost use Rattle.state_diff.specs.Instances.{Ends, IsAcceptable};
 ghost use Rattle.state_diff.specs.Differ.{IsStateOf as IsDifferOf, Accepts as DifferAccepts, AreChanges};
 ghost use Rattle.restarts.specs.Exits.{Exit};
 ghost use Rattle.restarts.specs.Delays.{IsDue};
@@ -50,6 +50,25 @@ impl Container {
             backoff: Backoff::new(greatest),
             was_started: false,
         }
+    }
+
+    /// Whether the listing, or none, may come next.
+    pub fn accepts(&self, seen: Option<Seen>) -> bool
+        ensures value { IsTrue result ↔ Accepts self.now seen }
+        ensures acceptable { (spec : ContainerSpec) (greatest : ℕ) (h : List ContainerTick)
+            → IsStateOf spec greatest h self.now → (IsTrue result ↔ IsAcceptable (listings h) seen) }
+    {
+        self.differ.accepts(seen)
+    }
+
+    /// The moment of the last tick, in seconds; none before the first.
+    pub fn last_at(&self) -> Option<u64>
+        ensures moment { (spec : ContainerSpec) (greatest : ℕ) (h : List ContainerTick)
+            → IsStateOf spec greatest h self.now → result ≡ last_moment h }
+        ensures before { (moment : ℕ)
+            → (IfSome result (λ last. last < moment) ↔ IsBefore self.now moment) }
+    {
+        self.differ.last_at()
     }
 
     /// The container as the rules on phases see it.
