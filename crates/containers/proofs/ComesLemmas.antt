@@ -33,7 +33,7 @@ none_of_none a start [] s e = s.1.holds
 none_of_none a start (y ∷ h) s e = absurd (cc)
 
 -- it stays, whatever is recorded later
-start_later : (h later : List ContainerTick) (a start : ℕ) → StartsAt h a start → StartsAt (h ++ later) a start
+pub start_later : (h later : List ContainerTick) (a start : ℕ) → StartsAt h a start → StartsAt (h ++ later) a start
 start_later h [] a start s = subst (λ (k : List ContainerTick). StartsAt k a start) (sym (append-nil h)) s
 start_later h (x ∷ later) a start s =
     subst (λ (k : List ContainerTick). StartsAt k a start) (append_assoc h (x ∷ []) later) (start_later (h ++ x ∷ []) later a start (start_kept h x a start s))

@@ -5,3 +5,4 @@ pub mod Events
 pub mod Shown
 pub mod Container
 pub mod Step
+pub mod Laws

@@ -1,9 +1,9 @@
 ghost use Rattle.std.specs.Prelude.{◌≡◌, ◌↔◌, ◌^◌, ◌<◌, ◌≤◌, ℕ, List, [], ◌∷◌, ◌++◌, length, Some, IsTrue, IsSomeAnd, IfSome};
-ghost use Rattle.histories.specs.Histories.{recorded, IsFirstMoment};
+ghost use Rattle.histories.specs.Histories.{recorded, IsFirstMoment, last_moment};
 ghost use Rattle.manifest.specs.declared.pod.ContainerSpec.{ContainerSpec};
 ghost use Rattle.manifest.specs.declared.pod.Role.TheVariants.{Init};
 ghost use Rattle.state_diff.specs.declared.seen.CriState.TheVariants.{Running};
-ghost use Rattle.state_diff.specs.Instances.{Tick, IsNewest, IsState, Ends};
+ghost use Rattle.state_diff.specs.Instances.{Ends, IsAcceptable};
 ghost use Rattle.state_diff.specs.Differ.{IsStateOf as IsDifferOf, Accepts as DifferAccepts, AreChanges};
 ghost use Rattle.restarts.specs.Exits.{Exit};
 ghost use Rattle.restarts.specs.Delays.{IsDue};
@@ -50,6 +50,25 @@ impl Container {
             backoff: Backoff::new(greatest),
             was_started: false,
         }
+    }
+
+    /// Whether the listing, or none, may come next.
+    pub fn accepts(&self, seen: Option<Seen>) -> bool
+        ensures value { IsTrue result ↔ Accepts self.now seen }
+        ensures acceptable { (spec : ContainerSpec) (greatest : ℕ) (h : List ContainerTick)
+            → IsStateOf spec greatest h self.now → (IsTrue result ↔ IsAcceptable (listings h) seen) }
+    {
+        self.differ.accepts(seen)
+    }
+
+    /// The moment of the last tick, in seconds; none before the first.
+    pub fn last_at(&self) -> Option<u64>
+        ensures moment { (spec : ContainerSpec) (greatest : ℕ) (h : List ContainerTick)
+            → IsStateOf spec greatest h self.now → result ≡ last_moment h }
+        ensures before { (moment : ℕ)
+            → (IfSome result (λ last. last < moment) ↔ IsBefore self.now moment) }
+    {
+        self.differ.last_at()
     }
 
     /// The container as the rules on phases see it.
@@ -113,11 +132,13 @@ impl Container {
         to_restart(policy, self.role, self.differ.newest())
     }
 
-    /// Whether a restart that falls due is due in this tick, after a last one at `last_at`.
+    /// Whether the restart after the last exit falls due at this moment, and was not due at the last
+    /// tick's.
     fn is_due(&self, last_at: Option<u64>, at: u64) -> bool
         ensures { (greatest : ℕ) (exits : List Exit)
             → IsBackoffOf greatest exits self.now.backoff
-            → (IsTrue result ↔ ((due : ℕ) × IsDue greatest exits (Some due) × (due ≤ at) × IfSome last_at (λ last. last < due))) }
+            → (IsTrue result ↔ ((due : ℕ) × IsDue greatest exits (Some due) × (due ≤ at)
+            × IfSome last_at (λ last. last < due))) }
     {
         places::falls_due(self.backoff.due(), last_at, at)
     }

@@ -6,6 +6,7 @@ mod container;
 mod events;
 mod exits;
 mod follow;
+pub mod laws;
 mod places;
 mod status;
 mod what;

@@ -16,7 +16,8 @@ const KILLED: i32 = 137;
 /// An instance died because it is no longer listed.
 pub fn gone(changes: &Changes) -> Option<What>
     ensures { (what : What) → ((result ≡ Some what)
-        ↔ ((a : ℕ) × (what ≡ Died a (pos 137)) × (changes.now.removed ≡ Some a) × IsTrue changes.now.removed_died)) }
+        ↔ ((a : ℕ) × (what ≡ Died a (pos 137)) × (changes.now.removed ≡ Some a)
+        × IsTrue changes.now.removed_died)) }
 {
     let attempt = changes.removed?;
     if changes.removed_died {
@@ -47,7 +48,8 @@ pub fn died(changes: &Changes) -> Option<What>
 /// The startup probe of the listed instance passed.
 pub fn passed(seen: Option<Seen>, verdicts: Option<Verdicts>) -> Option<What>
     ensures { (what : What) → ((result ≡ Some what)
-        ↔ ((a : ℕ) × (what ≡ StartupPassed a) × IsSomeAnd seen (IsOf a) × IsSomeAnd verdicts (λ v. IsTrue v.passed))) }
+        ↔ ((a : ℕ) × (what ≡ StartupPassed a) × IsSomeAnd seen (IsOf a)
+        × IsSomeAnd verdicts (λ v. IsTrue v.passed))) }
 {
     let seen = seen?;
     let verdicts = verdicts?;
@@ -73,7 +75,8 @@ pub fn kill(seen: Option<Seen>, verdicts: Option<Verdicts>) -> Option<What>
 /// The container became ready, or is no longer.
 pub fn readiness(before: bool, now: bool) -> Option<What>
     ensures { (what : What) → ((result ≡ Some what)
-        ↔ (((what ≡ Ready) × IsTrue now × (IsTrue before → ⊥)) ⊎ ((what ≡ Unready) × (IsTrue now → ⊥) × IsTrue before))) }
+        ↔ (((what ≡ Ready) × IsTrue now × (IsTrue before → ⊥))
+        ⊎ ((what ≡ Unready) × (IsTrue now → ⊥) × IsTrue before))) }
 {
     if now && !before {
         Some(What::Ready)

@@ -3,6 +3,8 @@
 #![tactic(auto)]
 
 #[cfg(test)]
+mod containers_tests;
+#[cfg(test)]
 mod instances_tests;
 #[cfg(test)]
 mod phase_tests;

@@ -1,0 +1,5 @@
+use Rattle.containers.proofs.LawLemmas as laws
+use Rattle.containers.proofs.laws.one_list_of_exits.Goals as goal
+
+pub returns : goal.returns
+returns c = laws.one_list_of_exits

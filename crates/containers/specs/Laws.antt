@@ -1,0 +1,40 @@
+-- What holds of a container whatever its ticks were.
+use Rattle.std.specs.Prelude.{◌≡◌, ℕ, List}
+use Rattle.manifest.specs.declared.policy.Policy.{Policy}
+use Rattle.manifest.specs.declared.pod.ContainerSpec.{ContainerSpec}
+use Rattle.state_diff.specs.Instances.{Tick, IsNewest, IsExit}
+use Rattle.probes.specs.declared.probe_set.Cause.{Cause}
+use Rattle.probes.specs.Ticks.{Tick as ProbeTick}
+use Rattle.probes.specs.Container.{AreInRange}
+use Rattle.restarts.specs.Exits.{Exit}
+use Rattle.containers.specs.declared.what.What.TheVariants.{Kill, Restart}
+use Rattle.containers.specs.declared.events.ContainerEvents.{ContainerEvents}
+use Rattle.containers.specs.Ticks.{ContainerTick, listings, AreTicksOf}
+use Rattle.containers.specs.Exits.{AreExits}
+use Rattle.containers.specs.Events.{IsKilled, IsRestarted, AreEvents}
+
+-- a container has at most one list of exits
+abbrev pub OneListOfExits : Type 0
+OneListOfExits = (h : List Tick) (exits others : List Exit) → AreExits h exits → AreExits h others → exits ≡ others
+
+-- and an instance at most one list of results
+abbrev pub OneListOfResults : Type 0
+OneListOfResults = (h : List ContainerTick) (a : ℕ) (ticks others : List ProbeTick) → AreTicksOf h a ticks → AreTicksOf h a others → ticks ≡ others
+
+-- what is restarted is the newest instance, and it has exited
+abbrev pub RestartsTheNewest : Type 0
+RestartsTheNewest =
+    (policy : Policy) (greatest : ℕ) (spec : ContainerSpec) (h : List ContainerTick) (t a : ℕ) → IsRestarted policy greatest spec h t (Restart a)
+    → IsNewest (listings h) a × ((u : ℕ) × IsExit (listings h) a u)
+
+-- an instance is to be killed at one tick at most, and for one cause
+abbrev pub KilledOnce : Type 0
+KilledOnce =
+    (spec : ContainerSpec) (h : List ContainerTick) (t u a : ℕ) (cause other : Cause) → AreInRange spec.probes
+    → IsKilled spec h t (Kill a cause) → IsKilled spec h u (Kill a other) → (t ≡ u) × (cause ≡ other)
+
+-- the events of a tick are determined
+abbrev pub OneListOfEvents : Type 0
+OneListOfEvents =
+    (policy : Policy) (greatest : ℕ) (spec : ContainerSpec) (h : List ContainerTick) (t : ℕ) (events others : ContainerEvents)
+    → AreEvents policy greatest spec h t events → AreEvents policy greatest spec h t others → events ≡ others

@@ -1,0 +1,28 @@
+//! Laws of a container, over the definitions alone.
+
+ghost use Rattle.containers.specs.Laws.{OneListOfExits, OneListOfResults, RestartsTheNewest, KilledOnce, OneListOfEvents};
+
+/// A container has at most one list of exits.
+pub fn one_list_of_exits()
+    ensures { OneListOfExits }
+{}
+
+/// An instance has at most one list of results.
+pub fn one_list_of_results()
+    ensures { OneListOfResults }
+{}
+
+/// What is restarted is the newest instance, and it has exited.
+pub fn restarts_the_newest()
+    ensures { RestartsTheNewest }
+{}
+
+/// An instance is to be killed at one tick at most, and for one cause.
+pub fn killed_once()
+    ensures { KilledOnce }
+{}
+
+/// The events of a tick are determined.
+pub fn one_list_of_events()
+    ensures { OneListOfEvents }
+{}
