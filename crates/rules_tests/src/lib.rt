@@ -5,8 +5,6 @@
 #[cfg(test)]
 mod instances_tests;
 #[cfg(test)]
-mod phase_tests;
-#[cfg(test)]
 mod pod_tests;
 #[cfg(test)]
 mod pressure_tests;
@@ -20,5 +18,3 @@ mod replay_stream_tests;
 mod restarts_tests;
 #[cfg(test)]
 mod thresholds_tests;
-#[cfg(test)]
-mod views;
