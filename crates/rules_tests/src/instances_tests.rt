@@ -27,7 +27,7 @@ fn is_later(differ: &Differ, at: u64) -> bool
 }
 
 /// Steps over an acceptable listing at a later moment.
-pub(crate) fn take(rt: &impl Abort, differ: &mut Differ, at: u64, listed: Option<Seen>) -> Changes {
+fn take(rt: &impl Abort, differ: &mut Differ, at: u64, listed: Option<Seen>) -> Changes {
     assert!(rt; differ.accepts(listed), "at {at}");
     assert!(rt; is_later(differ, at), "at {at}");
     differ.step(at, listed)

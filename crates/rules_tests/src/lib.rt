@@ -7,8 +7,6 @@ mod containers_tests;
 #[cfg(test)]
 mod instances_tests;
 #[cfg(test)]
-mod phase_tests;
-#[cfg(test)]
 mod pod_tests;
 #[cfg(test)]
 mod pressure_tests;
@@ -22,5 +20,3 @@ mod replay_stream_tests;
 mod restarts_tests;
 #[cfg(test)]
 mod thresholds_tests;
-#[cfg(test)]
-mod views;
