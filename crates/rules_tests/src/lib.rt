@@ -3,8 +3,6 @@
 #![tactic(auto)]
 
 #[cfg(test)]
-mod containers_tests;
-#[cfg(test)]
 mod instances_tests;
 #[cfg(test)]
 mod pod_tests;
