@@ -25,7 +25,7 @@ pub enum Signal {
 impl Signal {
     /// The name by which a kubelet's configuration calls it, as `memory.available`.
     pub fn name(self) -> &'static str
-        ensures value { result.now ≡ name_of self }
+        ensures { result.now ≡ name_of self }
     {
         match self {
             Signal::MemoryAvailable => "memory.available",
