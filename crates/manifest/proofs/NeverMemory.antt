@@ -1,12 +1,12 @@
 -- The faults of a manifest, none of which is for want of memory.
 use Rattle.std.proofs.Common.{◌≢◌, ℕ, ℤ, Bool, List, [], ◌∷◌, ◌+◌, ◌++◌, length, Option, Some, None, Result, Ok, Err, is_some}
-use Rattle.std.specs.Prelude.{◌*◌, pos, min, option_and_then, nat_lt, codes}
+use Rattle.std.specs.Prelude.{pos, option_and_then, nat_lt, codes}
 use Rattle.serde_json.specs.Data.{Data, Items}
 use Rattle.serde_json.specs.Find.{as_str, as_number, as_u64, as_i64, as_array, as_object}
 use Rattle.json_fields.specs.Fields.{field_at, items_list}
-use Rattle.quantity.specs.Quantity.{quantity_of, greatest}
-use Rattle.quantity.specs.declared.fault.QuantityFault.{QuantityFault}
-use Rattle.quantity.specs.declared.fault.QuantityFault.TheVariants.{Negative}
+use Rattle.quantity_fields.specs.Fields.{quantity_in}
+use Rattle.quantity_fields.specs.declared.fault.FieldFault.{FieldFault}
+use Rattle.quantity_fields.specs.declared.fault.FieldFault.TheVariants.{WrongKind as OtherKind, Faulty}
 use Rattle.manifest.specs.Names.{is_name, is_label}
 use Rattle.manifest.specs.declared.fault.ManifestFault.{ManifestFault}
 use Rattle.manifest.specs.declared.fault.ManifestFault.TheVariants.{Missing, WrongKind, Quantity, ProbeRange, InitProbe, RequestAboveLimit, DuplicateContainer, Sidecar, TooMany, OutOfMemory}
@@ -21,7 +21,7 @@ use Rattle.manifest.specs.Fields.{object_of, tested_text, required_text, text_or
 use Rattle.manifest.specs.Probe.{no_probes}
 use Rattle.manifest.specs.ProbeFields.{not_from_0, number_from, number_of, probe_in, probe_of, some_probes, unprobed, probes_of}
 use Rattle.manifest.specs.Resources.{nothing, no_resources, some_above}
-use Rattle.manifest.specs.ResourceFields.{quantity_read, quantity_numbered, quantity_from, quantity_at, amounts_in, amounts_of, resources_in, resources_of}
+use Rattle.manifest.specs.ResourceFields.{quantity_read, quantity_at, amounts_in, amounts_of, resources_in, resources_of}
 use Rattle.manifest.specs.Manifest.{policy_from, policy_of, priority_from, priority_of, grace_period_from, grace_period_of, field_of, sidecar_from, role_of, container_of, containers_of, app_items_of, containers_in, metadata_of, settings_in, spec_of, pod_at}
 use Rattle.manifest.specs.Containers.{has_twice}
 use Rattle.json_fields.proofs.Only.{Only, only_ok, only_err, only_bind, only_if, only_refused, only_each}
@@ -98,22 +98,14 @@ absent_only : (fault : ManifestFault) (found : Option Data) → IsFound fault �
 absent_only fault found is = only_refused IsFound (is_some found) fault is
 
 -- resources
-quantity_read_only : (read : Result ℕ QuantityFault) → Only IsFound (quantity_read read)
+quantity_read_only : (read : Result ℕ FieldFault) → Only IsFound (quantity_read read)
 quantity_read_only (Ok n) = only_ok IsFound n
-quantity_read_only (Err fault) = only_err IsFound (Quantity fault) (λ is. absurd (cc))
-
-quantity_numbered_only : (d : Data) (found : Option ℕ) → Only IsFound (quantity_numbered d found)
-quantity_numbered_only d None =
-    only_if IsFound _ (Err (Quantity Negative)) _ (only_err IsFound (Quantity Negative) (λ is. absurd (cc))) (only_err IsFound (WrongKind fields.Resources) (wrong fields.Resources))
-quantity_numbered_only d (Some units) = only_ok IsFound (min (1000 * units) greatest)
-
-quantity_from_only : (d : Data) (found : Option (List ℕ)) → Only IsFound (quantity_from d found)
-quantity_from_only d None = quantity_numbered_only d (option_and_then as_u64 (as_number d))
-quantity_from_only d (Some text) = quantity_read_only (quantity_of text)
+quantity_read_only (Err OtherKind) = only_err IsFound (WrongKind fields.Resources) (wrong fields.Resources)
+quantity_read_only (Err (Faulty fault)) = only_err IsFound (Quantity fault) (λ is. absurd (cc))
 
 quantity_only : (found : Option Data) → Only IsFound (quantity_at found)
 quantity_only None = only_ok IsFound None
-quantity_only (Some d) = only_bind IsFound (quantity_from d (as_str d)) _ (quantity_from_only d (as_str d)) (λ n. only_ok IsFound (Some n))
+quantity_only (Some d) = only_bind IsFound (quantity_read (quantity_in d)) _ (quantity_read_only (quantity_in d)) (λ n. only_ok IsFound (Some n))
 
 amounts_in_only : (d : Data) → Only IsFound (amounts_in d)
 unfolding amounts_in

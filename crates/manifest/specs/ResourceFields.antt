@@ -1,36 +1,26 @@
 -- The resources that a manifest writes (Kubernetes, "Resource Management for Pods and Containers").
-use Rattle.std.specs.Prelude.{ℕ, ◌*◌, min, List, ⊤, Option, Some, None, is_some, option_and_then, if◌then◌else◌, Result, Ok, Err, codes}
+use Rattle.std.specs.Prelude.{ℕ, ⊤, Option, Some, None, Result, Ok, Err, codes}
 use Rattle.serde_json.specs.Data.{Data}
-use Rattle.serde_json.specs.Find.{as_str, as_number, as_i64, as_u64}
 use Rattle.json_fields.specs.Fields.{field_at}
 use Rattle.json_fields.specs.Reading.{◌>>=◌, refused_if}
-use Rattle.quantity.specs.Quantity.{quantity_of, greatest}
-use Rattle.quantity.specs.declared.fault.QuantityFault.{QuantityFault}
-use Rattle.quantity.specs.declared.fault.QuantityFault.TheVariants.{Negative}
+use Rattle.quantity_fields.specs.Fields.{quantity_in}
+use Rattle.quantity_fields.specs.declared.fault.FieldFault.{FieldFault}
 use Rattle.manifest.specs.declared.fault.Field.TheVariants as fields
 use Rattle.manifest.specs.declared.fault.ManifestFault.{ManifestFault}
-use Rattle.manifest.specs.declared.fault.ManifestFault.TheVariants.{WrongKind, Quantity, RequestAboveLimit}
+use Rattle.manifest.specs.declared.fault.ManifestFault.TheVariants.{RequestAboveLimit}
 use Rattle.manifest.specs.declared.resources.Amounts.{Amounts}
+use Rattle.manifest.specs.Fault.{resource_fault}
 use Rattle.manifest.specs.Resources.{Resources, nothing, no_resources, some_above}
 use Rattle.manifest.specs.Fields.{object_of}
 
-abbrev pub quantity_read : Result ℕ QuantityFault → Result ℕ ManifestFault
+abbrev pub quantity_read : Result ℕ FieldFault → Result ℕ ManifestFault
 quantity_read (Ok thousandths) = Ok thousandths
-quantity_read (Err fault) = Err (Quantity fault)
-
--- a whole number is one of units, and no negative one
-abbrev pub quantity_numbered : Data → Option ℕ → Result ℕ ManifestFault
-quantity_numbered d None = if is_some (option_and_then as_i64 (as_number d)) then Err (Quantity Negative) else Err (WrongKind fields.Resources)
-quantity_numbered d (Some units) = Ok (min (1000 * units) greatest)
-
-abbrev pub quantity_from : Data → Option (List ℕ) → Result ℕ ManifestFault
-quantity_from d None = quantity_numbered d (option_and_then as_u64 (as_number d))
-quantity_from d (Some text) = quantity_read (quantity_of text)
+quantity_read (Err fault) = Err (resource_fault fault)
 
 -- a quantity that may be left out: a text or a number of units
 abbrev pub quantity_at : Option Data → Result (Option ℕ) ManifestFault
 quantity_at None = Ok None
-quantity_at (Some d) = quantity_from d (as_str d) >>= λ thousandths. Ok (Some thousandths)
+quantity_at (Some d) = quantity_read (quantity_in d) >>= λ thousandths. Ok (Some thousandths)
 
 -- the requests or the limits; other resources are not read
 unfoldable pub amounts_in : Data → Result Amounts ManifestFault

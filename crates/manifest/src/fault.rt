@@ -4,6 +4,7 @@ ghost use Rattle.std.specs.Prelude.{◌≡◌};
 ghost use Rattle.manifest.specs.declared.fault.ManifestFault.TheVariants.{OutOfMemory};
 
 use quantity::QuantityFault;
+use quantity_fields::FieldFault;
 use std::alloc::{AllocError, AllocFailed};
 use thiserror::Error;
 
@@ -79,6 +80,20 @@ impl ManifestFault {
             ManifestFault::Sidecar => 18,
             ManifestFault::TooMany => 19,
             ManifestFault::OutOfMemory => 20,
+        }
+    }
+}
+
+impl From<FieldFault> for ManifestFault {
+    ghost use Rattle.manifest.specs.Fault.{resource_fault};
+
+    ghost from_gives = { λ fault e. e ≡ resource_fault fault };
+
+    /// The fault of a quantity of a container's resources.
+    fn from(fault: FieldFault) -> ManifestFault {
+        match fault {
+            FieldFault::WrongKind => ManifestFault::WrongKind(Field::Resources),
+            FieldFault::Faulty(fault) => ManifestFault::Quantity(fault),
         }
     }
 }

@@ -1,41 +1,18 @@
 //! Reading the resources of a container, field by field.
 
 ghost use Rattle.std.specs.Prelude.{◌≡◌, false, option_map, OnOk};
-ghost use Rattle.serde_json.specs.Find.{as_str};
 ghost use Rattle.serde_json.specs.View.{view};
 ghost use Rattle.manifest.specs.Gives.{GivesExactly};
 ghost use Rattle.manifest.specs.Resources.{some_above};
-ghost use Rattle.manifest.specs.ResourceFields.{quantity_read, quantity_from, quantity_at, amounts_in, amounts_of, within, resources_in, resources_of};
-ghost use Rattle.quantity.specs.Quantity.{quantity_of};
+ghost use Rattle.manifest.specs.ResourceFields.{quantity_at, amounts_in, amounts_of, within, resources_in, resources_of};
 
 use crate::fault::{Field, ManifestFault};
 use crate::fields::object;
 use crate::resources::{Amounts, Resources};
 use json_fields::field;
-use quantity::{Quantity, QuantityFault};
+use quantity::Quantity;
+use quantity_fields::quantity_in;
 use serde_json::Value;
-
-fn quantity_read(text: &[u8]) -> Result<Quantity, ManifestFault>
-    ensures { GivesExactly (λ q. q) result (quantity_read (quantity_of text.now)) }
-{
-    match Quantity::parse(text) {
-        Ok(quantity) => Ok(quantity),
-        Err(fault) => Err(ManifestFault::Quantity(fault)),
-    }
-}
-
-fn quantity_from(value: &Value) -> Result<Quantity, ManifestFault>
-    ensures { GivesExactly (λ q. q) result (quantity_from (view value.now) (as_str (view value.now))) }
-{
-    if let Some(text) = value.as_str() {
-        return quantity_read(text.as_bytes());
-    }
-    match value.as_u64() {
-        Some(units) => Ok(Quantity::from_units(units)),
-        None if value.is_i64() => Err(ManifestFault::Quantity(QuantityFault::Negative)),
-        None => Err(ManifestFault::WrongKind(Field::Resources)),
-    }
-}
 
 fn quantity_at(found: Option<&Value>) -> Result<Option<Quantity>, ManifestFault>
     ensures { GivesExactly (λ q. q) result (quantity_at (option_map (λ v. view v.now) found.entry)) }
@@ -43,7 +20,7 @@ fn quantity_at(found: Option<&Value>) -> Result<Option<Quantity>, ManifestFault>
     let Some(value) = found else {
         return Ok(None);
     };
-    Ok(Some(quantity_from(value)?))
+    Ok(Some(quantity_in(value)?))
 }
 
 #[tactic(auto, unfolding(crate::specs::ResourceFields::amounts_in))]
