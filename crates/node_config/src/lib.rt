@@ -1,0 +1,8 @@
+//! What a node is configured with, as a kubelet is.
+#![tactic(auto)]
+
+mod eviction;
+mod node;
+
+pub use eviction::Eviction;
+pub use node::{NodeConfig, Version};

@@ -1,0 +1,55 @@
+//! A node's configuration.
+
+ghost use Rattle.std.specs.Prelude.{◌≡◌, IfSome};
+ghost use Rattle.signals.specs.BySignal.{of};
+ghost use Rattle.node_config.specs.Eviction.{threshold_of, HasCapacity};
+
+use crate::eviction::Eviction;
+use manifest::{MaxRestartDelay, Text};
+use quantity::Quantity;
+use signals::{Signal, Threshold, ThresholdKind};
+
+/// The version of the format that a trace is written in.
+#[derive(Clone, Copy, Debug, PartialEq, Eq)]
+pub enum Version {
+    /// Every pod line stands before the first tick line.
+    One,
+    /// A pod line may follow a tick line.
+    Two,
+}
+
+/// The node and its configuration.
+#[derive(Drop)]
+pub struct NodeConfig {
+    /// 1 to 253 bytes.
+    pub name: Text,
+    pub version: Version,
+    /// By how much a restart is put off at most.
+    pub max_restart_delay: MaxRestartDelay,
+    /// Whether images and containers have a file system of their own.
+    pub has_dedicated_imagefs: bool,
+    /// `capacity`, `evictionHard`, `evictionSoft` and what belongs to them.
+    pub eviction: Eviction,
+    /// `evictionMaxPodGracePeriod`, in seconds.
+    pub eviction_max_pod_grace_period: u32,
+    /// `evictionPressureTransitionPeriod`, in seconds.
+    pub eviction_pressure_transition_period: u64,
+}
+
+impl NodeConfig {
+    /// The capacity of a signal, in bytes, inodes or processes, where one is given.
+    pub fn capacity(&self, signal: Signal) -> Option<Quantity>
+        ensures { result ≡ of self.now.eviction.capacity signal }
+    {
+        self.eviction.capacity(signal)
+    }
+
+    /// The threshold of this kind on a signal, if there is one. (Kubernetes, "Node-pressure
+    /// Eviction", "Eviction thresholds".)
+    pub fn threshold(&self, kind: ThresholdKind, signal: Signal) -> Option<Threshold>
+        ensures value { result ≡ threshold_of self.now.eviction kind signal }
+        ensures capacity { IfSome result (HasCapacity (of self.now.eviction.capacity signal)) }
+    {
+        self.eviction.threshold(kind, signal)
+    }
+}
