@@ -12,13 +12,17 @@ of values NodefsInodesFree = values.nodefs_inodes_free
 of values ImagefsInodesFree = values.imagefs_inodes_free
 of values PidAvailable = values.pid_available
 
+-- what f gives for each
+abbrev pub for_each : {A : Type 0} → (Signal → A) → BySignal A
+for_each f = record {
+  memory_available = f MemoryAvailable;
+  nodefs_available = f NodefsAvailable;
+  imagefs_available = f ImagefsAvailable;
+  nodefs_inodes_free = f NodefsInodesFree;
+  imagefs_inodes_free = f ImagefsInodesFree;
+  pid_available = f PidAvailable;
+}
+
 -- the same for each
 abbrev pub every : {A : Type 0} → A → BySignal A
-every value = record {
-  memory_available = value;
-  nodefs_available = value;
-  imagefs_available = value;
-  nodefs_inodes_free = value;
-  imagefs_inodes_free = value;
-  pid_available = value;
-}
+every value = for_each (λ signal. value)

@@ -1,0 +1,12 @@
+-- What a call answers beside what the definition of a node line gives.
+use Rattle.std.specs.Prelude.{Bool, true, false, Result}
+use Rattle.json_fields.specs.Reading.{GivesUnless}
+use Rattle.node_lines.specs.declared.fault.NodeFault.{NodeFault}
+use Rattle.node_lines.specs.declared.fault.NodeFault.TheVariants.{OutOfMemory}
+
+abbrev pub is_memory : NodeFault → Bool
+is_memory OutOfMemory = true
+is_memory fault = false
+
+abbrev pub Gives : {X Y : Type 0} → (X → Y) → Result X NodeFault → Result Y NodeFault → Type 0
+Gives view result given = GivesUnless is_memory view result given

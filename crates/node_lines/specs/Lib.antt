@@ -1,0 +1,5 @@
+pub mod Gives
+pub mod Limits
+pub mod Maps
+pub mod Node
+pub mod Thresholds

@@ -1,0 +1,63 @@
+//! Limits and reclaims, as a map writes them of one signal.
+
+ghost use Rattle.std.specs.Prelude.{◌≡◌, option_map, IfOk, IfSome};
+ghost use Rattle.serde_json.specs.View.{view};
+ghost use Rattle.quantity.specs.Limit.{HasItsCapacity};
+ghost use Rattle.node_lines.specs.Limits.{is_off, with_capacity, limit_at, reclaim_at};
+
+use crate::fault::NodeFault;
+use quantity::{Limit, Quantity};
+use quantity_fields::limit_in;
+use serde_json::Value;
+
+/// Whether a limit switches its threshold off, as the percentages 0 and 100 do.
+fn is_off(limit: Limit) -> bool
+    ensures { result ≡ is_off limit }
+{
+    match limit {
+        Limit::Quantity(_) => false,
+        Limit::Percent(percent) => percent.hundredths() == 0 || percent.hundredths() == 10000,
+    }
+}
+
+fn with_capacity(capacity: Option<Quantity>, limit: Limit) -> Result<Limit, NodeFault>
+    ensures gives { result ≡ with_capacity capacity limit }
+    ensures capacity { IfOk result (HasItsCapacity capacity) }
+{
+    match limit {
+        Limit::Percent(_) if capacity.is_none() => Err(NodeFault::Config),
+        Limit::Quantity(_) | Limit::Percent(_) => Ok(limit),
+    }
+}
+
+/// The limit of a threshold on a signal of this capacity, if one is set.
+pub(crate) fn limit_at(
+    capacity: Option<Quantity>,
+    found: Option<&Value>,
+) -> Result<Option<Limit>, NodeFault>
+    ensures gives { result ≡ limit_at capacity (option_map (λ v. view v.now) found.entry) }
+    ensures capacity { IfOk result (λ limit. IfSome limit (HasItsCapacity capacity)) }
+{
+    let Some(value) = found else {
+        return Ok(None);
+    };
+    let limit = limit_in(value)?;
+    if is_off(limit) {
+        return Ok(None);
+    }
+    Ok(Some(with_capacity(capacity, limit)?))
+}
+
+/// The reclaim on a signal of this capacity: 0 where none is written.
+pub(crate) fn reclaim_at(
+    capacity: Option<Quantity>,
+    found: Option<&Value>,
+) -> Result<Limit, NodeFault>
+    ensures gives { result ≡ reclaim_at capacity (option_map (λ v. view v.now) found.entry) }
+    ensures capacity { IfOk result (HasItsCapacity capacity) }
+{
+    match found {
+        None => Ok(Limit::Quantity(Quantity::from_units(0))),
+        Some(value) => with_capacity(capacity, limit_in(value)?),
+    }
+}

@@ -1,0 +1,142 @@
+//! Node lines.
+
+ghost use Rattle.std.specs.Prelude.{◌≡◌, option_map};
+ghost use Rattle.serde_json.specs.View.{view};
+ghost use Rattle.node_lines.specs.Gives.{Gives};
+ghost use Rattle.node_lines.specs.Node.{version_of, name_from, restart_delay_of, flag_of, seconds_of, transition_period_of, settings_in, node_of};
+
+use crate::eviction::{eviction_from, written_in};
+use crate::fault::NodeFault;
+use crate::maps::duration_at;
+use json_fields::{field, text_at};
+use manifest::{MaxRestartDelay, Text, is_name};
+use node_config::{NodeConfig, Version};
+use serde_json::Value;
+use std::alloc::Global;
+
+/// What a node line says besides its name and its thresholds.
+#[derive(Clone, Copy)]
+pub(crate) struct Settings {
+    version: Version,
+    max_restart_delay: MaxRestartDelay,
+    has_dedicated_imagefs: bool,
+    max_pod_grace_period: u32,
+    transition_period: u64,
+}
+
+/// How long a condition of the node stays where nothing else is written, in seconds.
+const DEFAULT_TRANSITION_PERIOD: u64 = 300;
+
+fn version(found: Option<&Value>) -> Result<Version, NodeFault>
+    ensures { result ≡ version_of (option_map (λ v. view v.now) found.entry) }
+{
+    let Some(value) = found else {
+        return Ok(Version::One);
+    };
+    match value.as_u64() {
+        Some(1) => Ok(Version::One),
+        Some(2) => Ok(Version::Two),
+        _ => Err(NodeFault::Config),
+    }
+}
+
+fn node_name(alloc: Global, found: Option<&str>) -> Result<Text, NodeFault>
+    ensures { Gives (λ t. t) result (name_from (option_map (λ s. s.now) found.entry)) }
+{
+    match found {
+        Some(name) if is_name(name.as_bytes()) => Ok(Text::new(String::from_str(alloc, name)?)),
+        _ => Err(NodeFault::Config),
+    }
+}
+
+fn restart_delay(found: Option<&Value>) -> Result<MaxRestartDelay, NodeFault>
+    ensures { result ≡ restart_delay_of (option_map (λ v. view v.now) found.entry) }
+{
+    let Some(value) = found else {
+        return Ok(MaxRestartDelay::unset());
+    };
+    let Some(seconds) = value.as_u64() else {
+        return Err(NodeFault::Config);
+    };
+    match MaxRestartDelay::new(seconds) {
+        Some(delay) => Ok(delay),
+        None => Err(NodeFault::Config),
+    }
+}
+
+/// True or false, and false where none is written.
+fn flag(found: Option<&Value>) -> Result<bool, NodeFault>
+    ensures { result ≡ flag_of (option_map (λ v. view v.now) found.entry) }
+{
+    let Some(value) = found else {
+        return Ok(false);
+    };
+    match value.as_bool() {
+        Some(flag) => Ok(flag),
+        None => Err(NodeFault::Config),
+    }
+}
+
+/// Seconds below 2^31, and 0 where none are written.
+fn seconds(found: Option<&Value>) -> Result<u32, NodeFault>
+    ensures { result ≡ seconds_of (option_map (λ v. view v.now) found.entry) }
+{
+    let Some(value) = found else {
+        return Ok(0);
+    };
+    match value.as_u64() {
+        Some(seconds) if seconds < 1 << 31 => Ok(seconds as u32),
+        _ => Err(NodeFault::Config),
+    }
+}
+
+/// A period of 0 is the default too, since generated configurations write one for it.
+fn transition_period(found: Option<&Value>) -> Result<u64, NodeFault>
+    ensures { result ≡ transition_period_of (option_map (λ v. view v.now) found.entry) }
+{
+    match duration_at(found)? {
+        None | Some(0) => Ok(DEFAULT_TRANSITION_PERIOD),
+        Some(seconds) => Ok(seconds),
+    }
+}
+
+#[tactic(auto, unfolding(crate::specs::Node::settings_in))]
+fn settings_in(node: &Value) -> Result<Settings, NodeFault>
+    ensures { result ≡ settings_in (view node.now) }
+{
+    let version = version(field(node, "version"))?;
+    let max_restart_delay = restart_delay(field(node, "maxRestartDelay"))?;
+    let has_dedicated_imagefs = flag(field(node, "dedicatedImagefs"))?;
+    let max_pod_grace_period = seconds(field(node, "evictionMaxPodGracePeriod"))?;
+    let transition_period = transition_period(field(node, "evictionPressureTransitionPeriod"))?;
+    Ok(Settings {
+        version,
+        max_restart_delay,
+        has_dedicated_imagefs,
+        max_pod_grace_period,
+        transition_period,
+    })
+}
+
+/// The configuration that a node line says. The fault is `Config` where any field is refused, and
+/// `SoftWithoutGrace` where none is and a soft threshold has no grace period; `OutOfMemory` where
+/// there is no memory for the name. (Kubernetes, "Node-pressure Eviction"; "Kubelet
+/// Configuration".)
+#[tactic(auto, unfolding(crate::specs::Node::node_of))]
+pub fn node_of(alloc: Global, node: &Value) -> Result<NodeConfig, NodeFault>
+    ensures { Gives (λ n. n) result (node_of (view node.now)) }
+{
+    let name = node_name(alloc, text_at(node, "name"))?;
+    let settings = settings_in(node)?;
+    let written = written_in(node)?;
+    let eviction = eviction_from(&written)?;
+    Ok(NodeConfig {
+        name,
+        version: settings.version,
+        max_restart_delay: settings.max_restart_delay,
+        has_dedicated_imagefs: settings.has_dedicated_imagefs,
+        eviction,
+        eviction_max_pod_grace_period: settings.max_pod_grace_period,
+        eviction_pressure_transition_period: settings.transition_period,
+    })
+}
