@@ -1,4 +1,5 @@
 pub mod Gives
+pub mod Laws
 pub mod Limits
 pub mod Maps
 pub mod Node

@@ -3,6 +3,7 @@
 
 mod eviction;
 mod fault;
+pub mod laws;
 mod limits;
 mod maps;
 mod node;

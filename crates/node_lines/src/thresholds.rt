@@ -6,40 +6,35 @@ ghost use Rattle.node_lines.specs.Thresholds.{hard_threshold, soft_threshold, ha
 
 use crate::eviction::Written;
 use crate::fault::NodeFault;
-use quantity::Limit;
-use signals::{BySignal, Threshold};
+use signals::{BySignal, Signal, Threshold};
 
 /// A hard threshold evicts at once: it has no grace.
-fn hard_threshold(limit: Option<Limit>, reclaim: Limit) -> Option<Threshold>
-    ensures value { result ≡ hard_threshold limit reclaim }
-    ensures built { IfSome result (IsBuiltOf limit reclaim) }
+fn hard_threshold(written: &Written, signal: Signal) -> Option<Threshold>
+    ensures value { result ≡ hard_threshold (of written.now.hard signal) (of written.now.reclaims signal) }
+    ensures built { IfSome result (IsBuiltOf (of written.now.hard signal) (of written.now.reclaims signal)) }
 {
-    let limit = limit?;
+    let limit = written.hard.of(signal)?;
     Some(Threshold {
         limit,
-        reclaim,
+        reclaim: written.reclaims.of(signal),
         grace: 0,
     })
 }
 
 /// A soft threshold with its grace, in seconds, which it needs.
-fn soft_threshold(
-    limit: Option<Limit>,
-    reclaim: Limit,
-    grace: Option<u64>,
-) -> Result<Option<Threshold>, NodeFault>
-    ensures gives { result ≡ soft_threshold limit reclaim grace }
-    ensures built { IfOk result (λ threshold. IfSome threshold (IsBuiltOf limit reclaim)) }
+fn soft_threshold(written: &Written, signal: Signal) -> Result<Option<Threshold>, NodeFault>
+    ensures gives { result ≡ soft_threshold (of written.now.soft signal) (of written.now.reclaims signal) (of written.now.graces signal) }
+    ensures built { IfOk result (λ found. IfSome found (IsBuiltOf (of written.now.soft signal) (of written.now.reclaims signal))) }
 {
-    let Some(limit) = limit else {
+    let Some(limit) = written.soft.of(signal) else {
         return Ok(None);
     };
-    let Some(grace) = grace else {
+    let Some(grace) = written.graces.of(signal) else {
         return Err(NodeFault::SoftWithoutGrace);
     };
     Ok(Some(Threshold {
         limit,
-        reclaim,
+        reclaim: written.reclaims.of(signal),
         grace,
     }))
 }
@@ -48,14 +43,13 @@ pub(crate) fn hard_thresholds(written: &Written) -> BySignal<Option<Threshold>>
     ensures value { result ≡ hard_thresholds written.now }
     ensures built { AreBuiltOf written.now.hard written.now.reclaims result }
 {
-    let Written { hard, reclaims, .. } = written;
     BySignal {
-        memory_available: hard_threshold(hard.memory_available, reclaims.memory_available),
-        nodefs_available: hard_threshold(hard.nodefs_available, reclaims.nodefs_available),
-        imagefs_available: hard_threshold(hard.imagefs_available, reclaims.imagefs_available),
-        nodefs_inodes_free: hard_threshold(hard.nodefs_inodes_free, reclaims.nodefs_inodes_free),
-        imagefs_inodes_free: hard_threshold(hard.imagefs_inodes_free, reclaims.imagefs_inodes_free),
-        pid_available: hard_threshold(hard.pid_available, reclaims.pid_available),
+        memory_available: hard_threshold(written, Signal::MemoryAvailable),
+        nodefs_available: hard_threshold(written, Signal::NodefsAvailable),
+        imagefs_available: hard_threshold(written, Signal::ImagefsAvailable),
+        nodefs_inodes_free: hard_threshold(written, Signal::NodefsInodesFree),
+        imagefs_inodes_free: hard_threshold(written, Signal::ImagefsInodesFree),
+        pid_available: hard_threshold(written, Signal::PidAvailable),
     }
 }
 
@@ -64,42 +58,12 @@ pub(crate) fn soft_thresholds(written: &Written) -> Result<BySignal<Option<Thres
     ensures gives { result ≡ soft_thresholds written.now }
     ensures built { IfOk result (AreBuiltOf written.now.soft written.now.reclaims) }
 {
-    let Written {
-        soft,
-        reclaims,
-        graces,
-        ..
-    } = written;
-    let memory_available = soft_threshold(
-        soft.memory_available,
-        reclaims.memory_available,
-        graces.memory_available,
-    )?;
-    let nodefs_available = soft_threshold(
-        soft.nodefs_available,
-        reclaims.nodefs_available,
-        graces.nodefs_available,
-    )?;
-    let imagefs_available = soft_threshold(
-        soft.imagefs_available,
-        reclaims.imagefs_available,
-        graces.imagefs_available,
-    )?;
-    let nodefs_inodes_free = soft_threshold(
-        soft.nodefs_inodes_free,
-        reclaims.nodefs_inodes_free,
-        graces.nodefs_inodes_free,
-    )?;
-    let imagefs_inodes_free = soft_threshold(
-        soft.imagefs_inodes_free,
-        reclaims.imagefs_inodes_free,
-        graces.imagefs_inodes_free,
-    )?;
-    let pid_available = soft_threshold(
-        soft.pid_available,
-        reclaims.pid_available,
-        graces.pid_available,
-    )?;
+    let memory_available = soft_threshold(written, Signal::MemoryAvailable)?;
+    let nodefs_available = soft_threshold(written, Signal::NodefsAvailable)?;
+    let imagefs_available = soft_threshold(written, Signal::ImagefsAvailable)?;
+    let nodefs_inodes_free = soft_threshold(written, Signal::NodefsInodesFree)?;
+    let imagefs_inodes_free = soft_threshold(written, Signal::ImagefsInodesFree)?;
+    let pid_available = soft_threshold(written, Signal::PidAvailable)?;
     Ok(BySignal {
         memory_available,
         nodefs_available,
