@@ -146,7 +146,7 @@ over_read capacity d written e =
     let f = bind_ok (map_of (λ signal. reclaim_at (of capacity signal)) (field_at (codes "evictionMinimumReclaim") d)) _ written c.2 in
     subst (IsWritten d) (ok_same {E = NodeFault} _ written f.2) (record { hard = a.1; soft = b.1; graces = c.1; reclaims = f.1 })
 
-in_read : (d : Data) (written : Written) → written_in d ≡ Ok written → IsWritten d written
+pub in_read : (d : Data) (written : Written) → written_in d ≡ Ok written → IsWritten d written
 unfolding written_in
 in_read d written e = let a = bind_ok (map_of (λ signal. quantity_at) (field_at (codes "capacity") d)) _ written e in over_read a.0 d written a.2
 
@@ -217,11 +217,11 @@ reclaim_of d written signal is =
     let found = field_at (codes "evictionMinimumReclaim") d in
     reclaim_read (of written.capacity signal) (in_map found signal) (of written.reclaims signal) (map_read (λ s. reclaim_at (of written.capacity s)) found written.reclaims is.reclaims signal)
 
-soft_limit_of : (d : Data) (written : Written) (signal : Signal) → IsWritten d written
+pub soft_limit_of : (d : Data) (written : Written) (signal : Signal) → IsWritten d written
     → limit_at (of written.capacity signal) (in_map (field_at (codes "evictionSoft") d) signal) ≡ Ok (of written.soft signal)
 soft_limit_of d written signal is = map_read (λ s. limit_at (of written.capacity s)) (field_at (codes "evictionSoft") d) written.soft is.soft signal
 
-grace_of : (d : Data) (written : Written) (signal : Signal) → IsWritten d written
+pub grace_of : (d : Data) (written : Written) (signal : Signal) → IsWritten d written
     → duration_at (in_map (field_at (codes "evictionSoftGracePeriod") d) signal) ≡ Ok (of written.graces signal)
 grace_of d written signal is = map_read (λ s. duration_at) (field_at (codes "evictionSoftGracePeriod") d) written.graces is.graces signal
 

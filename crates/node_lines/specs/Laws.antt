@@ -1,10 +1,10 @@
 -- What a node line says of its thresholds (Kubernetes, "Node-pressure Eviction", "Hard eviction
 -- thresholds", "Soft eviction thresholds" and "Minimum eviction reclaim"): the statements of the
 -- laws.
-use Rattle.std.specs.Prelude.{◌≡◌, ◌⊎◌, ℕ, List, Option, Some, None, option_and_then, unwrap_or, Result, Ok, Err, codes}
+use Rattle.std.specs.Prelude.{◌≡◌, ◌⊎◌, ℕ, List, Option, Some, None, option_and_then, unwrap_or, Result, Ok, Err, IsOk, codes}
 use Rattle.serde_json.specs.Data.{Data}
 use Rattle.serde_json.specs.Find.{as_str}
-use Rattle.json_fields.specs.Fields.{field_at}
+use Rattle.json_fields.specs.Fields.{field_at, text_at}
 use Rattle.quantity.specs.Duration.{duration_of}
 use Rattle.quantity.specs.declared.limit.Limit.{Limit}
 use Rattle.quantity.specs.declared.limit.Limit.TheVariants.{Percent, Quantity}
@@ -15,10 +15,11 @@ use Rattle.signals.specs.declared.threshold.ThresholdKind.TheVariants.{Hard, Sof
 use Rattle.signals.specs.BySignal.{of}
 use Rattle.node_config.specs.declared.node.NodeConfig.{NodeConfig}
 use Rattle.node_config.specs.Eviction.{threshold_of}
+use Rattle.node_lines.specs.declared.fault.NodeFault.TheVariants.{SoftWithoutGrace}
 use Rattle.node_lines.specs.Limits.{default_limit, where_possible}
 use Rattle.node_lines.specs.Maps.{in_map}
-use Rattle.node_lines.specs.Node.{node_of}
-use Rattle.node_lines.specs.Thresholds.{hard_threshold}
+use Rattle.node_lines.specs.Node.{name_from, settings_in, node_of}
+use Rattle.node_lines.specs.Thresholds.{hard_threshold, written_in}
 
 abbrev pub held : {A E : Type 0} → Result A E → Option A
 held (Ok x) = Some x
@@ -69,3 +70,20 @@ OffSetsNoHard = (d : Data) (node : NodeConfig) (signal : Signal) (limit : Limit)
 abbrev pub OffSetsNoSoft : Type 0
 OffSetsNoSoft = (d : Data) (node : NodeConfig) (signal : Signal) (limit : Limit) → node_of d ≡ Ok node →
     limit_written (codes "evictionSoft") d signal ≡ Some limit → SwitchesOff limit → threshold_of node.eviction Soft signal ≡ None
+
+-- every field is accepted
+pub record IsAccepted (d : Data) : Type 0 where
+  pub name : IsOk (name_from (text_at (codes "name") d))
+  pub settings : IsOk (settings_in d)
+  pub maps : IsOk (written_in d)
+
+-- a soft threshold is written, and no grace of it
+pub record LacksGrace (d : Data) : Type 0 where
+  pub signal : Signal
+  pub limit : Limit
+  pub limit_is : limit_written (codes "evictionSoft") d signal ≡ Some limit
+  pub no_grace : grace_written d signal ≡ None
+
+-- a missing grace is the fault only where nothing else is
+abbrev pub MissingGraceComesLast : Type 0
+MissingGraceComesLast = (d : Data) → node_of d ≡ Err SoftWithoutGrace → IsAccepted d × LacksGrace d

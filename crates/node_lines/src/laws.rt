@@ -1,7 +1,7 @@
-//! What is true of every node line that is accepted. The functions do nothing; their contracts are
+//! What is true of every node line. The functions do nothing; their contracts are
 //! the laws.
 
-ghost use Rattle.node_lines.specs.Laws.{DefaultsWhereNoneIsWritten, HardIsAsWritten, SoftIsAsWritten, OffSetsNoHard, OffSetsNoSoft};
+ghost use Rattle.node_lines.specs.Laws.{DefaultsWhereNoneIsWritten, HardIsAsWritten, SoftIsAsWritten, OffSetsNoHard, OffSetsNoSoft, MissingGraceComesLast};
 
 /// The default thresholds stand where no `evictionHard` does.
 pub fn defaults_where_none_is_written()
@@ -19,4 +19,9 @@ pub fn thresholds_are_as_written()
 pub fn off_sets_none()
     ensures hard { OffSetsNoHard }
     ensures soft { OffSetsNoSoft }
+{}
+
+/// A soft threshold without its grace is the fault only where every field is accepted.
+pub fn missing_grace_comes_last()
+    ensures { MissingGraceComesLast }
 {}
