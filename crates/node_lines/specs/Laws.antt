@@ -27,49 +27,61 @@ held (Err fault) = None
 
 -- the limit that the map of this name writes for a signal
 abbrev pub limit_written : List ℕ → Data → Signal → Option Limit
-limit_written name d signal = option_and_then (λ v. held (limit_in v)) (in_map (field_at name d) signal)
+limit_written name d signal = option_and_then (λ v. held (limit_in v))
+    (in_map (field_at name d) signal)
 
 -- the grace of a soft threshold, in seconds
 abbrev pub grace_written : Data → Signal → Option ℕ
-grace_written d signal = option_and_then (λ v. option_and_then (λ text. held (duration_of text)) (as_str v)) (in_map (field_at (codes "evictionSoftGracePeriod") d) signal)
+grace_written d signal =
+    option_and_then (λ v. option_and_then (λ text. held (duration_of text)) (as_str v))
+    (in_map (field_at (codes "evictionSoftGracePeriod") d) signal)
 
 -- 0 where none is written
 abbrev pub reclaim_written : Data → Signal → Limit
-reclaim_written d signal = unwrap_or (limit_written (codes "evictionMinimumReclaim") d signal) (Quantity 0)
+reclaim_written d signal = unwrap_or
+    (limit_written (codes "evictionMinimumReclaim") d signal) (Quantity 0)
 
 abbrev pub SwitchesOff : Limit → Type 0
 SwitchesOff limit = (limit ≡ Percent 0) ⊎ (limit ≡ Percent 10000)
 
 -- A node that this line says has the threshold: limit and reclaim are as they are written, and the
 -- grace is this.
-pub record IsAsWritten (name : List ℕ) (d : Data) (signal : Signal) (grace : Option ℕ) (threshold : Threshold) : Type 0 where
+pub record IsAsWritten (name : List ℕ) (d : Data) (signal : Signal) (grace : Option ℕ) (threshold : Threshold)
+    : Type 0 where
   pub has_limit : limit_written name d signal ≡ Some threshold.limit
   pub has_reclaim : reclaim_written d signal ≡ threshold.reclaim
   pub has_grace : grace ≡ Some threshold.grace
 
 -- without `evictionHard` the hard thresholds are the defaults, as far as they have their capacity
 abbrev pub DefaultsWhereNoneIsWritten : Type 0
-DefaultsWhereNoneIsWritten = (d : Data) (node : NodeConfig) (signal : Signal) → node_of d ≡ Ok node → field_at (codes "evictionHard") d ≡ None →
-    threshold_of node.eviction Hard signal ≡ hard_threshold (where_possible (of node.eviction.capacity signal) (default_limit signal)) (reclaim_written d signal)
+DefaultsWhereNoneIsWritten = (d : Data) (node : NodeConfig) (signal : Signal) →
+    node_of d ≡ Ok node → field_at (codes "evictionHard") d ≡ None →
+    threshold_of node.eviction Hard signal ≡ hard_threshold
+        (where_possible (of node.eviction.capacity signal) (default_limit signal)) (reclaim_written d signal)
 
 -- with it there are no others than its own
 abbrev pub HardIsAsWritten : Type 0
-HardIsAsWritten = (d map : Data) (node : NodeConfig) (signal : Signal) (threshold : Threshold) → node_of d ≡ Ok node → field_at (codes "evictionHard") d ≡ Some map →
-    threshold_of node.eviction Hard signal ≡ Some threshold → IsAsWritten (codes "evictionHard") d signal (Some 0) threshold
+HardIsAsWritten = (d map : Data) (node : NodeConfig) (signal : Signal) (threshold : Threshold) →
+    node_of d ≡ Ok node → field_at (codes "evictionHard") d ≡ Some map →
+    threshold_of node.eviction Hard signal ≡ Some threshold →
+    IsAsWritten (codes "evictionHard") d signal (Some 0) threshold
 
 -- each soft threshold is written, and so is its grace
 abbrev pub SoftIsAsWritten : Type 0
 SoftIsAsWritten = (d : Data) (node : NodeConfig) (signal : Signal) (threshold : Threshold) → node_of d ≡ Ok node →
-    threshold_of node.eviction Soft signal ≡ Some threshold → IsAsWritten (codes "evictionSoft") d signal (grace_written d signal) threshold
+    threshold_of node.eviction Soft signal ≡ Some threshold →
+    IsAsWritten (codes "evictionSoft") d signal (grace_written d signal) threshold
 
 -- a percentage of 0 or 100 sets no threshold
 abbrev pub OffSetsNoHard : Type 0
 OffSetsNoHard = (d : Data) (node : NodeConfig) (signal : Signal) (limit : Limit) → node_of d ≡ Ok node →
-    limit_written (codes "evictionHard") d signal ≡ Some limit → SwitchesOff limit → threshold_of node.eviction Hard signal ≡ None
+    limit_written (codes "evictionHard") d signal ≡ Some limit → SwitchesOff limit →
+    threshold_of node.eviction Hard signal ≡ None
 
 abbrev pub OffSetsNoSoft : Type 0
 OffSetsNoSoft = (d : Data) (node : NodeConfig) (signal : Signal) (limit : Limit) → node_of d ≡ Ok node →
-    limit_written (codes "evictionSoft") d signal ≡ Some limit → SwitchesOff limit → threshold_of node.eviction Soft signal ≡ None
+    limit_written (codes "evictionSoft") d signal ≡ Some limit → SwitchesOff limit →
+    threshold_of node.eviction Soft signal ≡ None
 
 -- every field is accepted
 pub record IsAccepted (d : Data) : Type 0 where

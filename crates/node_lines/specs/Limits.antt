@@ -31,7 +31,8 @@ with_capacity capacity limit = if has_capacity capacity limit then Ok limit else
 -- the limit of a threshold, which may be left out or switched off
 abbrev pub limit_at : Option ℕ → Option Data → Result (Option Limit) NodeFault
 limit_at capacity None = Ok None
-limit_at capacity (Some d) = or_config (limit_in d) >>= λ limit. if is_off limit then Ok None else (with_capacity capacity limit >>= λ limit. Ok (Some limit))
+limit_at capacity (Some d) = or_config (limit_in d) >>= λ limit.
+    if is_off limit then Ok None else (with_capacity capacity limit >>= λ limit. Ok (Some limit))
 
 -- a reclaim: 0 where none is written
 abbrev pub reclaim_at : Option ℕ → Option Data → Result Limit NodeFault
@@ -40,7 +41,8 @@ reclaim_at capacity (Some d) = or_config (limit_in d) >>= λ limit. with_capacit
 
 -- each percentage among these limits has its signal's capacity
 abbrev pub HaveTheirCapacity : BySignal (Option ℕ) → BySignal (Option Limit) → Type 0
-HaveTheirCapacity capacity limits = (signal : Signal) (limit : Limit) → of limits signal ≡ Some limit → HasItsCapacity (of capacity signal) limit
+HaveTheirCapacity capacity limits = (signal : Signal) (limit : Limit) →
+    of limits signal ≡ Some limit → HasItsCapacity (of capacity signal) limit
 
 abbrev pub ReclaimsHaveTheirCapacity : BySignal (Option ℕ) → BySignal Limit → Type 0
 ReclaimsHaveTheirCapacity capacity reclaims = (signal : Signal) → HasItsCapacity (of capacity signal) (of reclaims signal)

@@ -54,8 +54,10 @@ read_each read = do
   })
 
 -- what is read of each signal in a map
-unfoldable pub map_of : {A : Type 0} → (Signal → Option Data → Result A NodeFault) → Option Data → Result (BySignal A) NodeFault
-map_of read found = refused_if (not (is_signal_map found)) Config >>= λ signals_alone. read_each (λ signal. read signal (in_map found signal))
+unfoldable pub map_of : {A : Type 0} → (Signal → Option Data → Result A NodeFault) → Option Data
+    → Result (BySignal A) NodeFault
+map_of read found = refused_if (not (is_signal_map found)) Config >>= λ signals_alone.
+    read_each (λ signal. read signal (in_map found signal))
 
 -- what was read, else the fault of a node's configuration
 abbrev pub or_config : {A E : Type 0} → Result A E → Result A NodeFault

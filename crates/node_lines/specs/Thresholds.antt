@@ -25,7 +25,8 @@ hard_threshold (Some limit) reclaim = Some (record { limit = limit; reclaim = re
 abbrev pub soft_threshold : Option Limit → Limit → Option ℕ → Result (Option Threshold) NodeFault
 soft_threshold None reclaim grace = Ok None
 soft_threshold (Some limit) reclaim None = Err SoftWithoutGrace
-soft_threshold (Some limit) reclaim (Some grace) = Ok (Some (record { limit = limit; reclaim = reclaim; grace = grace }))
+soft_threshold (Some limit) reclaim (Some grace) =
+    Ok (Some (record { limit = limit; reclaim = reclaim; grace = grace }))
 
 -- what a node line writes of evictions, over this capacity, every field read; of the limits those
 -- alone that set a threshold
@@ -43,14 +44,17 @@ written_in d = do
   written_over capacity d
 
 abbrev pub hard_thresholds : Written → BySignal (Option Threshold)
-hard_thresholds written = for_each (λ signal. hard_threshold (of written.hard signal) (of written.reclaims signal))
+hard_thresholds written = for_each (λ signal.
+    hard_threshold (of written.hard signal) (of written.reclaims signal))
 
 abbrev pub soft_thresholds : Written → Result (BySignal (Option Threshold)) NodeFault
-soft_thresholds written = read_each (λ signal. soft_threshold (of written.soft signal) (of written.reclaims signal) (of written.graces signal))
+soft_thresholds written = read_each (λ signal.
+    soft_threshold (of written.soft signal) (of written.reclaims signal) (of written.graces signal))
 
 -- the thresholds, over the capacity
 abbrev pub eviction_from : Written → Result Eviction NodeFault
-eviction_from written = soft_thresholds written >>= λ soft. Ok (record { capacity = written.capacity; hard = hard_thresholds written; soft = soft })
+eviction_from written = soft_thresholds written >>= λ soft.
+    Ok (record { capacity = written.capacity; hard = hard_thresholds written; soft = soft })
 
 -- each percentage among what was written has its signal's capacity
 pub record HasCapacities (written : Written) : Type 0 where
@@ -65,4 +69,5 @@ pub record IsBuiltOf (limit : Option Limit) (reclaim : Limit) (threshold : Thres
 
 -- each of these has the limit and the reclaim of its signal
 abbrev pub AreBuiltOf : BySignal (Option Limit) → BySignal Limit → BySignal (Option Threshold) → Type 0
-AreBuiltOf limits reclaims thresholds = (signal : Signal) (threshold : Threshold) → of thresholds signal ≡ Some threshold → IsBuiltOf (of limits signal) (of reclaims signal) threshold
+AreBuiltOf limits reclaims thresholds = (signal : Signal) (threshold : Threshold) →
+    of thresholds signal ≡ Some threshold → IsBuiltOf (of limits signal) (of reclaims signal) threshold
