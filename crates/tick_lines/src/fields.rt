@@ -1,0 +1,36 @@
+//! Fields of a tick line, all of which have one fault.
+
+ghost use Rattle.std.specs.Prelude.{◌≡◌, map, option_map};
+ghost use Rattle.serde_json.specs.View.{view};
+ghost use Rattle.tick_lines.specs.declared.fault.TickLineFault.TheVariants.{Usage};
+ghost use Rattle.json_fields.specs.Reading.{some_or};
+ghost use Rattle.tick_lines.specs.Gives.{Gives, GivesExactly};
+ghost use Rattle.tick_lines.specs.Fields.{items_of};
+
+use crate::fault::TickLineFault;
+use manifest::Text;
+use serde_json::Value;
+use std::alloc::Global;
+
+/// The text of a field that has to be there.
+pub(crate) fn text_of(alloc: Global, found: Option<&str>) -> Result<Text, TickLineFault>
+    ensures { Gives (λ t. t) result (some_or Usage (option_map (λ s. s.now) found.entry)) }
+{
+    match found {
+        None => Err(TickLineFault::Usage),
+        Some(text) => Ok(Text::new(String::from_str(alloc, text)?)),
+    }
+}
+
+/// The items of an array that may be left out.
+pub(crate) fn items_of(found: Option<&Value>) -> Result<&[Value], TickLineFault>
+    ensures { GivesExactly (λ v. map view v.now) result (items_of (option_map (λ v. view v.now) found.entry)) }
+{
+    let Some(value) = found else {
+        return Ok(&[]);
+    };
+    match value.as_array() {
+        None => Err(TickLineFault::Usage),
+        Some(list) => Ok(list.as_slice()),
+    }
+}
