@@ -3,12 +3,10 @@
 
 mod container;
 mod pod;
-mod signal;
 mod tick;
 mod usage;
 
 pub use container::ContainerObs;
 pub use pod::PodObs;
-pub use signal::{Signal, ThresholdKind};
 pub use tick::{TickObs, seen_of};
 pub use usage::Usage;

@@ -1,6 +1,7 @@
--- A limit that is a quantity or a percentage.
-use Rattle.std.specs.Prelude.{ℕ, List, length, ◌-◌, slice_index, Result, Ok, ◌==◌, if◌then◌else◌}
-use Rattle.quantity.specs.Percent.{percent_of}
+-- A limit that is a quantity or a percentage (Kubernetes, "Node-pressure Eviction", "Eviction
+-- thresholds": "a literal value" or "a percentage").
+use Rattle.std.specs.Prelude.{ℕ, List, length, ◌-◌, slice_index, Option, Some, None, IsSome, Result, Ok, ◌==◌, if◌then◌else◌}
+use Rattle.quantity.specs.Percent.{percent_of, share_of}
 use Rattle.quantity.specs.Quantity.{quantity_of}
 use Rattle.quantity.specs.Steps.{◌>>=◌}
 use Rattle.quantity.specs.declared.limit.Limit.{Limit}
@@ -13,3 +14,15 @@ limit_of text =
     if slice_index text (length text - 1) == 37
     then (percent_of text >>= λ percent. Ok (Percent percent))
     else (quantity_of text >>= λ quantity. Ok (Quantity quantity))
+
+-- What it amounts to, in thousandths: a quantity itself; of a percentage, that share of the signal's
+-- capacity, rounded down.
+abbrev pub amount_of : Option ℕ → Limit → ℕ
+amount_of capacity (Quantity thousandths) = thousandths
+amount_of (Some capacity) (Percent hundredths) = share_of hundredths capacity
+amount_of None (Percent hundredths) = 0
+
+-- a percentage has a capacity of which it is
+abbrev pub HasItsCapacity : Option ℕ → Limit → Type 0
+HasItsCapacity capacity (Quantity thousandths) = Unit {0}
+HasItsCapacity capacity (Percent hundredths) = IsSome capacity

@@ -1,7 +1,8 @@
 //! A limit that is a quantity or a percentage.
 
-ghost use Rattle.std.specs.Prelude.{◌≡◌};
-ghost use Rattle.quantity.specs.Limit.{limit_of};
+ghost use Rattle.std.specs.Prelude.{◌≡◌, ◌≤◌, IfSome};
+ghost use Rattle.quantity.specs.Limit.{limit_of, amount_of, HasItsCapacity};
+ghost use Rattle.quantity.specs.Quantity.{greatest};
 
 use crate::fault::QuantityFault;
 use crate::percent::Percent;
@@ -26,6 +27,23 @@ impl Limit {
             Ok(Limit::Percent(Percent::parse(text)?))
         } else {
             Ok(Limit::Quantity(Quantity::parse(text)?))
+        }
+    }
+
+    /// The amount that the limit stands for, in thousandths: a quantity itself, and of a percentage
+    /// that share of the signal's capacity, rounded down. The capacity is in thousandths too.
+    pub fn amount(self, capacity: Option<u128>) -> u128
+        requires percentage { HasItsCapacity capacity self }
+        requires capacity { IfSome capacity (λ c. c ≤ greatest) }
+        ensures value { result ≡ amount_of capacity self }
+        ensures within { result ≤ greatest }
+    {
+        match self {
+            Limit::Quantity(quantity) => quantity.milli(),
+            Limit::Percent(percent) => match capacity {
+                Some(capacity) => percent.of(capacity),
+                None => 0,
+            },
         }
     }
 }

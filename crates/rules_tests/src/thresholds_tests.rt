@@ -1,7 +1,8 @@
 //! Eviction thresholds, over samples worked out by hand.
 
 use quantity::{Limit, Percent, Quantity};
-use thresholds::{Threshold, Watch};
+use signals::Threshold;
+use thresholds::Watch;
 
 /// So many mebibytes, in thousandths of a byte.
 fn mebibytes(count: u32) -> u128 {

@@ -4,9 +4,9 @@ use Rattle.std.specs.Prelude.{◌↔◌, IsTrue, IsSome, IsSomeAnd}
 use Rattle.std.specs.Option.{option_or}
 use Rattle.std.proofs.lemmas.Bool.{cases_lt}
 use Rattle.std.proofs.lemmas.List.{take_all}
-use Rattle.histories.specs.Histories.{IsSo, up_to, moment_at}
+use Rattle.histories.specs.Histories.{IsSo, up_to}
 use Rattle.histories.proofs.Moments.{last_moment-more}
-use Rattle.histories.proofs.Places.{length-more, moment_at-new}
+use Rattle.histories.proofs.Places.{length-more}
 use Rattle.histories.proofs.First.{Grows, IsFirstMoment-more, IsFirstMoment-unique}
 use Rattle.histories.proofs.Growth.{grows_so}
 use Rattle.thresholds.specs.Samples.{Sample, sample, IsBelow}

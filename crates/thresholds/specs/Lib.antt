@@ -1,4 +1,3 @@
-pub mod Amounts
 pub mod Laws
 pub mod Samples
 pub mod Thresholds

@@ -2,8 +2,8 @@
 -- thousandths, moments and the grace in seconds.
 use Rattle.std.specs.Prelude.{◌≡◌, ℕ, ◌+◌, ◌-◌, ◌<◌, ◌≤◌, List, length, Option, Some}
 use Rattle.histories.specs.Histories.{IsSo, IsFirstMoment, moment_at}
-use Rattle.thresholds.specs.declared.threshold.Threshold.{Threshold}
-use Rattle.thresholds.specs.Amounts.{amount_of}
+use Rattle.signals.specs.declared.threshold.Threshold.{Threshold}
+use Rattle.quantity.specs.Limit.{amount_of}
 use Rattle.thresholds.specs.Samples.{Sample, IsBelowAt}
 
 -- Active after these samples (Kubernetes, "Node-pressure Eviction", "Eviction thresholds" and

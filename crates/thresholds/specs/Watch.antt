@@ -1,8 +1,8 @@
 -- Where a list of samples leads.
 use Rattle.std.specs.Prelude.{◌≡◌, ◌⊎◌, ◌↔◌, ℕ, ◌+◌, List, Option, IsTrue, IsSome}
-use Rattle.thresholds.specs.declared.threshold.Threshold.{Threshold}
+use Rattle.signals.specs.declared.threshold.Threshold.{Threshold}
 use Rattle.thresholds.specs.declared.watch.Watch.{Watch}
-use Rattle.thresholds.specs.Amounts.{amount_of}
+use Rattle.quantity.specs.Limit.{amount_of}
 use Rattle.thresholds.specs.Samples.{Sample, IsBelow}
 use Rattle.thresholds.specs.Thresholds.{IsActiveSince, IsThresholdDue}
 

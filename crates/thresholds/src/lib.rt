@@ -5,8 +5,6 @@
 #![tactic(auto)]
 
 pub mod laws;
-mod threshold;
 mod watch;
 
-pub use threshold::Threshold;
 pub use watch::Watch;

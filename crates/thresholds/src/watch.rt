@@ -3,13 +3,13 @@
 ghost use Rattle.std.specs.Prelude.{◌≡◌, ◌↔◌, ◌≤◌, ◌-◌, ℕ, List, [], ◌∷◌, ◌++◌, Option, Some, None, IsTrue, IsSome, IsSomeAnd, IfSome};
 ghost use Rattle.std.specs.Option.{option_or};
 ghost use Rattle.quantity.specs.Quantity.{greatest};
-ghost use Rattle.thresholds.specs.declared.threshold.Threshold.{Threshold};
-ghost use Rattle.thresholds.specs.Amounts.{HasItsCapacity};
+ghost use Rattle.signals.specs.declared.threshold.Threshold.{Threshold};
+ghost use Rattle.quantity.specs.Limit.{HasItsCapacity};
 ghost use Rattle.thresholds.specs.Samples.{Sample, sample as sample_of, IsBelow};
 ghost use Rattle.thresholds.specs.Thresholds.{IsThresholdActive, IsThresholdDue};
 ghost use Rattle.thresholds.specs.Watch.{LeavesActive, IsStateOf};
 
-use crate::threshold::{Threshold, amount};
+use signals::Threshold;
 
 /// Follows one eviction threshold over the samples of its signal. It keeps since when the threshold
 /// is active, and none of the samples.
@@ -34,10 +34,10 @@ impl Watch {
         requires capacity { IfSome capacity (λ c. c ≤ greatest) }
         ensures { IsStateOf threshold capacity [] result }
     {
-        let limit = amount(threshold.limit, capacity);
+        let limit = threshold.limit.amount(capacity);
         Watch {
             limit,
-            clears_from: limit + amount(threshold.reclaim, capacity),
+            clears_from: limit + threshold.reclaim.amount(capacity),
             grace: threshold.grace,
             active_since: None,
             due: false,

@@ -1,0 +1,3 @@
+pub mod BySignal
+pub mod Laws
+pub mod Signals
