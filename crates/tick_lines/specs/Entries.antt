@@ -9,13 +9,15 @@ use Rattle.tick_lines.specs.declared.fault.TickLineFault.TheVariants.{Usage}
 use Rattle.tick_lines.specs.Fields.{items_of}
 use Rattle.tick_lines.specs.Listings.{listings_of}
 use Rattle.tick_lines.specs.Results.{results_of}
+use Rattle.tick_lines.specs.Usages.{usage_of}
 
 unfoldable pub entry_of : Data → Result Entry TickLineFault
 entry_of d = do
   key ← some_or Usage (text_at (codes "pod") d)
   listings ← listings_of (field_at (codes "containers") d)
   results ← results_of (field_at (codes "probes") d)
-  Ok (record { key = key; listings = listings; results = results })
+  usage ← usage_of (field_at (codes "usage") d)
+  Ok (record { key = key; listings = listings; results = results; usage = usage })
 
 -- the entries of a tick line, in order
 abbrev pub entries_of : Option Data → Result (List Entry) TickLineFault

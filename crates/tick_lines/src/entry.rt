@@ -10,8 +10,10 @@ use crate::fault::TickLineFault;
 use crate::fields::{items_of, text_of};
 use crate::listing::{Listing, listings_of};
 use crate::probing::{ProbeResult, results_of};
+use crate::usage::usage_of;
 use json_fields::{field, text_at};
 use manifest::Text;
+use observations::Usage;
 use sequence::Sequence;
 use serde_json::Value;
 use std::alloc::Global;
@@ -23,6 +25,8 @@ pub struct Entry {
     pub key: Text,
     pub listings: Sequence<Listing>,
     pub results: Sequence<ProbeResult>,
+    /// What the pod used, where the entry has a sample of it.
+    pub usage: Option<Usage>,
 }
 
 #[tactic(auto, unfolding(crate::specs::Entries::entry_of))]
@@ -32,10 +36,12 @@ fn entry_of(alloc: Global, value: &Value) -> Result<Entry, TickLineFault>
     let key = text_of(alloc, text_at(value, "pod"))?;
     let listings = listings_of(alloc, field(value, "containers"))?;
     let results = results_of(alloc, field(value, "probes"))?;
+    let usage = usage_of(field(value, "usage"))?;
     Ok(Entry {
         key,
         listings,
         results,
+        usage,
     })
 }
 

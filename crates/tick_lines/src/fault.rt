@@ -1,8 +1,9 @@
 //! Why a tick line was refused.
 
 ghost use Rattle.std.specs.Prelude.{◌≡◌};
-ghost use Rattle.tick_lines.specs.declared.fault.TickLineFault.TheVariants.{OutOfMemory};
+ghost use Rattle.tick_lines.specs.declared.fault.TickLineFault.TheVariants.{Usage, OutOfMemory};
 
+use quantity_fields::FieldFault;
 use std::alloc::{AllocError, AllocFailed};
 use thiserror::Error;
 
@@ -30,5 +31,13 @@ impl<T: Drop> From<AllocFailed<T>> for TickLineFault {
 
     fn from(_e: AllocFailed<T>) -> TickLineFault {
         TickLineFault::OutOfMemory
+    }
+}
+
+impl From<FieldFault> for TickLineFault {
+    ghost from_gives = { λ _ e. e ≡ Usage };
+
+    fn from(_e: FieldFault) -> TickLineFault {
+        TickLineFault::Usage
     }
 }
