@@ -1,1 +1,8 @@
 pub mod Found
+pub mod OnlyUsage
+pub mod Parts
+pub mod Ordered
+pub mod Quantities
+pub mod Strangers
+pub mod Alike
+pub mod Nulls

@@ -31,7 +31,8 @@ may_name scope name = includes_named scope (named name)
 -- a member that isn't null has another name
 abbrev pub names_other : Scope → Members → Bool
 names_other scope no_members = false
-names_other scope (member name d rest) = (not (is_some (as_null d)) && not (may_name scope name)) || names_other scope rest
+names_other scope (member name d rest) =
+    (not (is_some (as_null d)) && not (may_name scope name)) || names_other scope rest
 
 abbrev pub only_signals_from : Scope → Option Members → Result ⊤ TickLineFault
 only_signals_from scope None = Err Usage

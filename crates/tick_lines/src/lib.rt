@@ -4,6 +4,7 @@
 mod entry;
 mod fault;
 mod fields;
+pub mod laws;
 mod line;
 mod listing;
 mod probing;
