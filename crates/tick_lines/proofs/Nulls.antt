@@ -37,8 +37,14 @@ alike q k ms none = elim (cases_Bool (bytes_eq q k)) [
 usage_ignores : IgnoresNull usage_in
 unfolding usage_in
 usage_ignores ms k none =
-    rw (alike (codes "memory") k ms none, alike (codes "volumes") k ms none, alike (codes "logs") k ms none,
-        alike (codes "writable") k ms none, alike (codes "inodes") k ms none, alike (codes "pids") k ms none) refl
+    rw (
+      alike (codes "memory") k ms none,
+      alike (codes "volumes") k ms none,
+      alike (codes "logs") k ms none,
+      alike (codes "writable") k ms none,
+      alike (codes "inodes") k ms none,
+      alike (codes "pids") k ms none,
+    ) refl
 
 others_at : (o : Ordering) (scope : Scope) (k l : List ℕ) (d : Data) (ms : Members) → slice_cmp nat_cmp k l ≡ o
     → (get_member k ms ≡ None → names_other scope (put k null ms) ≡ names_other scope ms)
@@ -55,9 +61,15 @@ others_ignore scope k (member l d ms) none = others_at _ scope k l d ms refl (ot
 samples_ignore : (scope : Scope) → IgnoresNull (samples_in scope)
 unfolding samples_in
 samples_ignore scope ms k none =
-    rw (others_ignore scope k ms none, alike (name_of MemoryAvailable) k ms none, alike (name_of NodefsAvailable) k ms none,
-        alike (name_of ImagefsAvailable) k ms none, alike (name_of NodefsInodesFree) k ms none,
-        alike (name_of ImagefsInodesFree) k ms none, alike (name_of PidAvailable) k ms none) refl
+    rw (
+      others_ignore scope k ms none,
+      alike (name_of MemoryAvailable) k ms none,
+      alike (name_of NodefsAvailable) k ms none,
+      alike (name_of ImagefsAvailable) k ms none,
+      alike (name_of NodefsInodesFree) k ms none,
+      alike (name_of ImagefsInodesFree) k ms none,
+      alike (name_of PidAvailable) k ms none,
+    ) refl
 
 all_alike : (names : List (List ℕ)) (k : List ℕ) (ms : Members) → get_member k ms ≡ None → AreAlike names (object (put k null ms)) (object ms)
 all_alike [] k ms none = tt

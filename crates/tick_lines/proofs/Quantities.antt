@@ -33,9 +33,10 @@ no_some x e = absurd (cc)
 
 held_is : (d : Data) (r : Result ℕ FieldFault) (sample : Option ℕ) → quantity_in d ≡ r → (held r >>= λ thousandths. Ok (Some thousandths)) ≡ Ok sample → (n : ℕ) → (sample ≡ Some n ↔ IsQuantity (Some d) n)
 held_is d (Ok q) sample is e n =
-    let same : Some q ≡ sample = same_ok (Some q) sample e in
-    (λ (said : sample ≡ Some n). (d, refl, is ∙ ap Ok (same_some q n (same ∙ said))),
-     λ (found : IsQuantity (Some d) n). sym same ∙ ap Some (same_ok {E = FieldFault} q n (sym is ∙ ap quantity_in (same_some d found.0 found.1) ∙ found.2)))
+    let same : Some q ≡ sample = same_ok (Some q) sample e in (
+      λ (said : sample ≡ Some n). (d, refl, is ∙ ap Ok (same_some q n (same ∙ said))),
+      λ (found : IsQuantity (Some d) n). sym same ∙ ap Some (same_ok {E = FieldFault} q n (sym is ∙ ap quantity_in (same_some d found.0 found.1) ∙ found.2)),
+    )
 held_is d (Err fault) sample is e n = absurd (cc)
 
 quantity_is : (found : Option Data) (sample : Option ℕ) → quantity_at found ≡ Ok sample → (n : ℕ) → (sample ≡ Some n ↔ IsQuantity found n)

@@ -1,5 +1,5 @@
 -- The entries of pods in a tick line, as they are written.
-use Rattle.std.specs.Prelude.{List, Option, Result, Ok, codes}
+use Rattle.std.specs.Prelude.{◌++◌, List, [], ◌∷◌, Option, Result, Ok, codes}
 use Rattle.serde_json.specs.Data.{Data}
 use Rattle.json_fields.specs.Fields.{field_at, text_at}
 use Rattle.json_fields.specs.Reading.{◌>>=◌, some_or, each}
@@ -18,6 +18,10 @@ entry_of d = do
   results ← results_of (field_at (codes "probes") d)
   usage ← usage_of (field_at (codes "usage") d)
   Ok (record { key = key; listings = listings; results = results; usage = usage })
+
+-- the entries with one more
+abbrev pub with_entry : List Entry → Data → Result (List Entry) TickLineFault
+with_entry entries d = entry_of d >>= λ entry. Ok (entries ++ entry ∷ [])
 
 -- the entries of a tick line, in order
 abbrev pub entries_of : Option Data → Result (List Entry) TickLineFault

@@ -4,7 +4,7 @@ ghost use Rattle.std.specs.Prelude.{◌≡◌, map, option_map};
 ghost use Rattle.serde_json.specs.View.{view};
 ghost use Rattle.json_fields.specs.Reading.{each};
 ghost use Rattle.tick_lines.specs.Gives.{Gives};
-ghost use Rattle.tick_lines.specs.Entries.{entry_of, entries_of};
+ghost use Rattle.tick_lines.specs.Entries.{entry_of, with_entry, entries_of};
 
 use crate::fault::TickLineFault;
 use crate::fields::{items_of, text_of};
@@ -45,13 +45,24 @@ fn entry_of(alloc: Global, value: &Value) -> Result<Entry, TickLineFault>
     })
 }
 
+fn with_entry(
+    alloc: Global,
+    mut all: Vec<Entry>,
+    value: &Value,
+) -> Result<Vec<Entry>, TickLineFault>
+    ensures { Gives (λ v. v.items) result (with_entry all.items (view value.now)) }
+{
+    let entry = entry_of(alloc, value)?;
+    all.push(entry)?;
+    Ok(all)
+}
+
 fn entries(alloc: Global, values: &[Value]) -> Result<Vec<Entry>, TickLineFault>
     ensures { Gives (λ v. v.items) result (each entry_of (map view values.now)) }
 {
     let mut all = Vec::with_capacity(alloc, values.len())?;
     for value in values {
-        let entry = entry_of(alloc, value)?;
-        all.push(entry)?;
+        all = with_entry(alloc, all, value)?;
     }
     Ok(all)
 }
