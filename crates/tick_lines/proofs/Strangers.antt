@@ -20,7 +20,7 @@ use Rattle.tick_lines.specs.Entries.{entries_of}
 use Rattle.tick_lines.specs.Samples.{includes_named, may_name, names_other, samples_in, samples_of}
 use Rattle.tick_lines.specs.Line.{tick_line_of}
 use Rattle.tick_lines.specs.Laws.{OnlySignals}
-use Rattle.tick_lines.proofs.OnlyUsage.{IsUsage, entries_only, samples_only}
+use Rattle.tick_lines.proofs.OnlyUsage.{IsUsageFault, entries_only, samples_only}
 
 -- a value that is there isn't null
 not_null : (d value : Data) → present (Some d) ≡ Some value → is_some (as_null d) ≡ false
@@ -59,7 +59,7 @@ samples_refused scope (array ds) value name other e = absurd (cc)
 samples_refused scope (object ms) value name other e = rw (stranger_found scope name value ms other e) refl
 
 -- the fault of a later step is the answer where each earlier step has the same fault alone
-later_refused : {A B : Type 0} (r : Result A TickLineFault) (f : A → Result B TickLineFault) → Only IsUsage r → ((x : A) → f x ≡ Err Usage) → (r >>= f) ≡ Err Usage
+later_refused : {A B : Type 0} (r : Result A TickLineFault) (f : A → Result B TickLineFault) → Only IsUsageFault r → ((x : A) → f x ≡ Err Usage) → (r >>= f) ≡ Err Usage
 later_refused (Ok x) f only later = later x
 later_refused (Err fault) f only later = ap Err (only.has fault refl)
 

@@ -23,7 +23,9 @@ use std::alloc::Global;
 pub struct Entry {
     /// The pod's key, as `NAMESPACE/NAME`.
     pub key: Text,
+    /// The listings of its containers, in the order of the line.
     pub listings: Sequence<Listing>,
+    /// The results of their probes, in the order of the line.
     pub results: Sequence<ProbeResult>,
     /// What the pod used, where the entry has a sample of it.
     pub usage: Option<Usage>,

@@ -21,6 +21,7 @@ pub struct ListedInstance {
     /// Which instance of the container it is, below 2^31: the attempt of its `ContainerMetadata`.
     /// (Container Runtime Interface, CRI v1.)
     pub attempt: u32,
+    /// Its state.
     pub state: CriState,
     /// What the field for the exit code says, if it is a code. In another state than exited nobody
     /// looks at it.
@@ -30,7 +31,9 @@ pub struct ListedInstance {
 /// A container's listing.
 #[derive(Drop)]
 pub struct Listing {
+    /// The container's name.
     pub name: Text,
+    /// The instance that is listed.
     pub instance: ListedInstance,
 }
 

@@ -19,7 +19,9 @@ use std::alloc::Global;
 pub struct ProbeResult {
     /// The container's name.
     pub container: Text,
+    /// Which of its probes.
     pub probe: ProbeKind,
+    /// What the probe found. (Kubernetes, "Pod Lifecycle", "Probe outcome".)
     pub outcome: Outcome,
 }
 
