@@ -2,6 +2,7 @@ pub mod Found
 pub mod OnlyUsage
 pub mod Parts
 pub mod Ordered
+pub mod Texts
 pub mod Quantities
 pub mod Strangers
 pub mod Alike

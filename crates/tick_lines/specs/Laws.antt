@@ -3,7 +3,7 @@ use Rattle.std.specs.Prelude.{◌≡◌, ◌↔◌, ℕ, false, List, [], ◌∷
 use Rattle.std.specs.List.{AllByRecursion as All, AllZip}
 use Rattle.serde_json.specs.Data.{Data, null, object, Items, Members, put}
 use Rattle.serde_json.specs.Find.{as_array, get_member}
-use Rattle.json_fields.specs.Fields.{field_at, items_list}
+use Rattle.json_fields.specs.Fields.{field_at, text_at, items_list}
 use Rattle.observations.specs.declared.usage.Usage.{Usage}
 use Rattle.quantity_fields.specs.Fields.{quantity_in}
 use Rattle.signals.specs.BySignal.{of}
@@ -13,6 +13,8 @@ use Rattle.tick_lines.specs.declared.entry.Entry.{Entry}
 use Rattle.tick_lines.specs.declared.fault.TickLineFault.{TickLineFault}
 use Rattle.tick_lines.specs.declared.fault.TickLineFault.TheVariants as faults
 use Rattle.tick_lines.specs.declared.line.TickLine.{TickLine}
+use Rattle.tick_lines.specs.declared.listing.Listing.{Listing}
+use Rattle.tick_lines.specs.declared.probing.ProbeResult.{ProbeResult}
 use Rattle.tick_lines.specs.declared.samples.Scope.{Scope}
 use Rattle.tick_lines.specs.Listings.{listing_of}
 use Rattle.tick_lines.specs.Results.{result_of}
@@ -34,6 +36,12 @@ pub record InOrder : Type 0 where
       → SaysInOrder listing_of (field_at (codes "containers") d) entry.listings
   pub results : (d : Data) (entry : Entry) → entry_of d ≡ Ok entry
       → SaysInOrder result_of (field_at (codes "probes") d) entry.results
+
+-- the pod, the containers and their results go by the texts in these fields
+pub record TextsSaid : Type 0 where
+  pub entry : (d : Data) (entry : Entry) → entry_of d ≡ Ok entry → text_at (codes "pod") d ≡ Some entry.key
+  pub listing : (d : Data) (listing : Listing) → listing_of d ≡ Ok listing → text_at (codes "name") d ≡ Some listing.name
+  pub probe_result : (d : Data) (r : ProbeResult) → result_of d ≡ Ok r → text_at (codes "container") d ≡ Some r.container
 
 -- what was found is an object with this quantity under the name, in thousandths
 abbrev pub HasQuantity : Option Data → List ℕ → ℕ → Type 0

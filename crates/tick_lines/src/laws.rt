@@ -1,11 +1,16 @@
 //! What the definition of a tick line implies, in the words of the format. The functions do nothing;
 //! their contracts are the laws.
-ghost use Rattle.tick_lines.specs.Laws.{InOrder, SamplesSaid, UsageSaid, OnlySignals, OnlyTheirFields, NullIsAbsent, OneKind};
+ghost use Rattle.tick_lines.specs.Laws.{InOrder, TextsSaid, SamplesSaid, UsageSaid, OnlySignals, OnlyTheirFields, NullIsAbsent, OneKind};
 
 /// Each element of an array says the entry, the listing or the result at its place, and no others
 /// are said.
 pub fn in_order()
     ensures { InOrder }
+{}
+
+/// An entry, a listing and a result each name their pod or container by the text in one field.
+pub fn texts_said()
+    ensures { TextsSaid }
 {}
 
 /// What a line says of a signal is exactly the quantity that its object has under the signal's
