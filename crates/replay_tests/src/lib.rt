@@ -9,4 +9,6 @@ mod replay_tests;
 #[cfg(test)]
 mod size_tests;
 #[cfg(test)]
+mod tick_lines_tests;
+#[cfg(test)]
 mod trace_tests;

@@ -1,0 +1,26 @@
+-- What is said depends on the fields that are read.
+use Rattle.std.proofs.Common.{refl}
+use Rattle.tick_lines.specs.Listings.{instance_of, listing_of}
+use Rattle.tick_lines.specs.Results.{result_of}
+use Rattle.tick_lines.specs.Entries.{entry_of}
+use Rattle.tick_lines.specs.Line.{tick_line_of}
+use Rattle.tick_lines.specs.Laws.{ReadsOnly, line_fields, entry_fields, listing_fields, result_fields, OnlyTheirFields}
+
+line_alike : ReadsOnly line_fields tick_line_of
+unfolding tick_line_of
+line_alike d e (pods, (signals, (after, none))) = rw (pods, signals, after) refl
+
+entry_alike : ReadsOnly entry_fields entry_of
+unfolding entry_of
+entry_alike d e (pod, (containers, (probes, (usage, none)))) = rw (pod, containers, probes, usage) refl
+
+listing_alike : ReadsOnly listing_fields listing_of
+unfolding listing_of instance_of
+listing_alike d e (name, (attempt, (state, (code, none)))) = rw (name, attempt, state, code) refl
+
+result_alike : ReadsOnly result_fields result_of
+unfolding result_of
+result_alike d e (container, (probe, (outcome, none))) = rw (container, probe, outcome) refl
+
+pub only_their_fields : OnlyTheirFields
+only_their_fields = record { line = line_alike; entry = entry_alike; listing = listing_alike; probe_result = result_alike }

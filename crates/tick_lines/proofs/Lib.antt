@@ -1,0 +1,9 @@
+pub mod Found
+pub mod OnlyUsage
+pub mod Parts
+pub mod Ordered
+pub mod Texts
+pub mod Quantities
+pub mod Strangers
+pub mod Alike
+pub mod Nulls

@@ -1,0 +1,112 @@
+-- What is known of the parts of what was read.
+use Rattle.std.proofs.Common.{◌≡◌, ◌∙◌, ℕ, Option, Result, Ok, ap}
+use Rattle.std.specs.Prelude.{codes}
+use Rattle.serde_json.specs.Data.{Data}
+use Rattle.json_fields.specs.Fields.{field_at, text_at}
+use Rattle.json_fields.specs.Reading.{some_or}
+use Rattle.json_fields.proofs.Steps.{bind_ok}
+use Rattle.observations.specs.declared.usage.Usage.{Usage}
+use Rattle.signals.specs.BySignal.{of}
+use Rattle.signals.specs.declared.by_signal.BySignal.{BySignal}
+use Rattle.signals.specs.declared.signal.Signal.{Signal}
+use Rattle.signals.specs.declared.signal.Signal.TheVariants.{MemoryAvailable, NodefsAvailable, ImagefsAvailable, NodefsInodesFree, ImagefsInodesFree, PidAvailable}
+use Rattle.tick_lines.specs.declared.entry.Entry.{Entry}
+use Rattle.tick_lines.specs.declared.fault.TickLineFault.TheVariants as faults
+use Rattle.tick_lines.specs.declared.line.TickLine.{TickLine}
+use Rattle.tick_lines.specs.declared.samples.Scope.{Scope}
+use Rattle.tick_lines.specs.declared.samples.Scope.TheVariants.{Node, FileSystems}
+use Rattle.tick_lines.specs.Fields.{only_object, quantity_at}
+use Rattle.tick_lines.specs.Listings.{listings_of}
+use Rattle.tick_lines.specs.Results.{results_of}
+use Rattle.tick_lines.specs.Usages.{usage_in, usage_of}
+use Rattle.tick_lines.specs.Entries.{entry_of, entries_of}
+use Rattle.tick_lines.specs.Samples.{only_signals, sample_of, samples_in, samples_of}
+use Rattle.tick_lines.specs.Line.{tick_line_of}
+
+pub same_ok : {A E : Type 0} (x y : A) → ◌≡◌ {A = Result A E} (Ok x) (Ok y) → x ≡ y
+same_ok x y e = cc
+
+pub record IsLine (d : Data) (line : TickLine) : Type 0 where
+  pub entries : entries_of (field_at (codes "pods") d) ≡ Ok line.entries
+  pub signals : samples_of Node (field_at (codes "signals") d) ≡ Ok line.signals
+  pub after_reclaim : samples_of FileSystems (field_at (codes "afterReclaim") d) ≡ Ok line.after_reclaim
+
+pub line_parts : (d : Data) (line : TickLine) → tick_line_of d ≡ Ok line → IsLine d line
+unfolding tick_line_of
+line_parts d line e =
+    let entries = bind_ok (entries_of (field_at (codes "pods") d)) _ line e in
+    let signals = bind_ok (samples_of Node (field_at (codes "signals") d)) _ line entries.2 in
+    let after = bind_ok (samples_of FileSystems (field_at (codes "afterReclaim") d)) _ line signals.2 in
+    let same = same_ok _ line after.2 in
+    record {
+      entries = entries.1 ∙ ap (λ (l : TickLine). Ok l.entries) same;
+      signals = signals.1 ∙ ap (λ (l : TickLine). Ok l.signals) same;
+      after_reclaim = after.1 ∙ ap (λ (l : TickLine). Ok l.after_reclaim) same;
+    }
+
+pub record IsEntry (d : Data) (entry : Entry) : Type 0 where
+  pub listings : listings_of (field_at (codes "containers") d) ≡ Ok entry.listings
+  pub results : results_of (field_at (codes "probes") d) ≡ Ok entry.results
+  pub usage : usage_of (field_at (codes "usage") d) ≡ Ok entry.usage
+
+pub entry_parts : (d : Data) (entry : Entry) → entry_of d ≡ Ok entry → IsEntry d entry
+unfolding entry_of
+entry_parts d entry e =
+    let key = bind_ok (some_or faults.Usage (text_at (codes "pod") d)) _ entry e in
+    let listings = bind_ok (listings_of (field_at (codes "containers") d)) _ entry key.2 in
+    let results = bind_ok (results_of (field_at (codes "probes") d)) _ entry listings.2 in
+    let usage = bind_ok (usage_of (field_at (codes "usage") d)) _ entry results.2 in
+    let same = same_ok _ entry usage.2 in
+    record {
+      listings = listings.1 ∙ ap (λ (x : Entry). Ok x.listings) same;
+      results = results.1 ∙ ap (λ (x : Entry). Ok x.results) same;
+      usage = usage.1 ∙ ap (λ (x : Entry). Ok x.usage) same;
+    }
+
+pub record HasUsage (d : Data) (usage : Usage) : Type 0 where
+  pub memory : quantity_at (field_at (codes "memory") d) ≡ Ok usage.memory
+  pub volumes : quantity_at (field_at (codes "volumes") d) ≡ Ok usage.volumes
+  pub logs : quantity_at (field_at (codes "logs") d) ≡ Ok usage.logs
+  pub writable : quantity_at (field_at (codes "writable") d) ≡ Ok usage.writable
+  pub inodes : quantity_at (field_at (codes "inodes") d) ≡ Ok usage.inodes
+  pub pids : quantity_at (field_at (codes "pids") d) ≡ Ok usage.pids
+
+pub usage_parts : (d : Data) (usage : Usage) → usage_in d ≡ Ok usage → HasUsage d usage
+unfolding usage_in
+usage_parts d usage e =
+    let object = bind_ok (only_object d) _ usage e in
+    let memory = bind_ok (quantity_at (field_at (codes "memory") d)) _ usage object.2 in
+    let volumes = bind_ok (quantity_at (field_at (codes "volumes") d)) _ usage memory.2 in
+    let logs = bind_ok (quantity_at (field_at (codes "logs") d)) _ usage volumes.2 in
+    let writable = bind_ok (quantity_at (field_at (codes "writable") d)) _ usage logs.2 in
+    let inodes = bind_ok (quantity_at (field_at (codes "inodes") d)) _ usage writable.2 in
+    let pids = bind_ok (quantity_at (field_at (codes "pids") d)) _ usage inodes.2 in
+    let same = same_ok _ usage pids.2 in
+    record {
+      memory = memory.1 ∙ ap (λ (u : Usage). Ok u.memory) same;
+      volumes = volumes.1 ∙ ap (λ (u : Usage). Ok u.volumes) same;
+      logs = logs.1 ∙ ap (λ (u : Usage). Ok u.logs) same;
+      writable = writable.1 ∙ ap (λ (u : Usage). Ok u.writable) same;
+      inodes = inodes.1 ∙ ap (λ (u : Usage). Ok u.inodes) same;
+      pids = pids.1 ∙ ap (λ (u : Usage). Ok u.pids) same;
+    }
+
+pub samples_parts : (scope : Scope) (d : Data) (samples : BySignal (Option ℕ)) (signal : Signal) → samples_in scope d ≡ Ok samples → sample_of signal d ≡ Ok (of samples signal)
+unfolding samples_in
+samples_parts scope d samples signal e =
+    let known = bind_ok (only_signals scope d) _ samples e in
+    let memory = bind_ok (sample_of MemoryAvailable d) _ samples known.2 in
+    let nodefs = bind_ok (sample_of NodefsAvailable d) _ samples memory.2 in
+    let imagefs = bind_ok (sample_of ImagefsAvailable d) _ samples nodefs.2 in
+    let nodefs_inodes = bind_ok (sample_of NodefsInodesFree d) _ samples imagefs.2 in
+    let imagefs_inodes = bind_ok (sample_of ImagefsInodesFree d) _ samples nodefs_inodes.2 in
+    let pid = bind_ok (sample_of PidAvailable d) _ samples imagefs_inodes.2 in
+    let same = same_ok _ samples pid.2 in
+    elim signal as (λ (k : Signal). sample_of k d ≡ Ok (of samples k)) [
+      | MemoryAvailable ↦ memory.1 ∙ ap (λ (s : BySignal (Option ℕ)). Ok s.memory_available) same
+      | NodefsAvailable ↦ nodefs.1 ∙ ap (λ (s : BySignal (Option ℕ)). Ok s.nodefs_available) same
+      | ImagefsAvailable ↦ imagefs.1 ∙ ap (λ (s : BySignal (Option ℕ)). Ok s.imagefs_available) same
+      | NodefsInodesFree ↦ nodefs_inodes.1 ∙ ap (λ (s : BySignal (Option ℕ)). Ok s.nodefs_inodes_free) same
+      | ImagefsInodesFree ↦ imagefs_inodes.1 ∙ ap (λ (s : BySignal (Option ℕ)). Ok s.imagefs_inodes_free) same
+      | PidAvailable ↦ pid.1 ∙ ap (λ (s : BySignal (Option ℕ)). Ok s.pid_available) same
+    ]

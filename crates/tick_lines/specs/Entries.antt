@@ -1,0 +1,28 @@
+-- The entries of pods in a tick line, as they are written.
+use Rattle.std.specs.Prelude.{◌++◌, List, [], ◌∷◌, Option, Result, Ok, codes}
+use Rattle.serde_json.specs.Data.{Data}
+use Rattle.json_fields.specs.Fields.{field_at, text_at}
+use Rattle.json_fields.specs.Reading.{◌>>=◌, some_or, each}
+use Rattle.tick_lines.specs.declared.entry.Entry.{Entry}
+use Rattle.tick_lines.specs.declared.fault.TickLineFault.{TickLineFault}
+use Rattle.tick_lines.specs.declared.fault.TickLineFault.TheVariants.{Usage}
+use Rattle.tick_lines.specs.Fields.{items_of}
+use Rattle.tick_lines.specs.Listings.{listings_of}
+use Rattle.tick_lines.specs.Results.{results_of}
+use Rattle.tick_lines.specs.Usages.{usage_of}
+
+unfoldable pub entry_of : Data → Result Entry TickLineFault
+entry_of d = do
+  key ← some_or Usage (text_at (codes "pod") d)
+  listings ← listings_of (field_at (codes "containers") d)
+  results ← results_of (field_at (codes "probes") d)
+  usage ← usage_of (field_at (codes "usage") d)
+  Ok (record { key = key; listings = listings; results = results; usage = usage })
+
+-- the entries with one more
+abbrev pub with_entry : List Entry → Data → Result (List Entry) TickLineFault
+with_entry entries d = entry_of d >>= λ entry. Ok (entries ++ entry ∷ [])
+
+-- the entries of a tick line, in order
+abbrev pub entries_of : Option Data → Result (List Entry) TickLineFault
+entries_of found = items_of found >>= each entry_of

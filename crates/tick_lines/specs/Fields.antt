@@ -1,0 +1,32 @@
+-- Fields of a tick line, all of which have one fault.
+use Rattle.std.specs.Prelude.{ℕ, ⊤, List, [], Option, Some, None, is_some, if◌then◌else◌, Result, Ok, Err}
+use Rattle.serde_json.specs.Data.{Data, Items}
+use Rattle.serde_json.specs.Find.{as_array, as_object}
+use Rattle.json_fields.specs.Fields.{items_list}
+use Rattle.json_fields.specs.Reading.{◌>>=◌}
+use Rattle.quantity_fields.specs.Fields.{quantity_in}
+use Rattle.quantity_fields.specs.declared.fault.FieldFault.{FieldFault}
+use Rattle.tick_lines.specs.declared.fault.TickLineFault.{TickLineFault}
+use Rattle.tick_lines.specs.declared.fault.TickLineFault.TheVariants.{Usage}
+
+abbrev pub items_from : Option Items → Result (List Data) TickLineFault
+items_from None = Err Usage
+items_from (Some items) = Ok (items_list items)
+
+-- an array that may be left out
+abbrev pub items_of : Option Data → Result (List Data) TickLineFault
+items_of None = Ok []
+items_of (Some d) = items_from (as_array d)
+
+abbrev pub only_object : Data → Result ⊤ TickLineFault
+only_object d = if is_some (as_object d) then Ok tt else Err Usage
+
+-- what a field holds, whatever its fault is
+abbrev pub held : {A : Type 0} → Result A FieldFault → Result A TickLineFault
+held (Ok x) = Ok x
+held (Err fault) = Err Usage
+
+-- a quantity that may be left out, in thousandths
+abbrev pub quantity_at : Option Data → Result (Option ℕ) TickLineFault
+quantity_at None = Ok None
+quantity_at (Some d) = held (quantity_in d) >>= λ thousandths. Ok (Some thousandths)

@@ -1,0 +1,17 @@
+-- What a call answers beside what the definition of a tick line gives.
+use Rattle.std.specs.Prelude.{Bool, true, false, Result}
+use Rattle.json_fields.specs.Reading.{GivesUnless}
+use Rattle.tick_lines.specs.declared.fault.TickLineFault.{TickLineFault}
+use Rattle.tick_lines.specs.declared.fault.TickLineFault.TheVariants.{Usage, OutOfMemory}
+
+abbrev pub is_memory : TickLineFault → Bool
+is_memory Usage = false
+is_memory OutOfMemory = true
+
+-- of a call that takes memory: a fault for want of it aside
+abbrev pub Gives : {X Y : Type 0} → (X → Y) → Result X TickLineFault → Result Y TickLineFault → Type 0
+Gives view result given = GivesUnless is_memory view result given
+
+-- of a call that takes none
+abbrev pub GivesExactly : {X Y : Type 0} → (X → Y) → Result X TickLineFault → Result Y TickLineFault → Type 0
+GivesExactly view result given = GivesUnless (λ fault. false) view result given

@@ -1,0 +1,81 @@
+//! The entries of a tick line, as they are written.
+
+ghost use Rattle.std.specs.Prelude.{◌≡◌, map, option_map};
+ghost use Rattle.serde_json.specs.View.{view};
+ghost use Rattle.json_fields.specs.Reading.{each};
+ghost use Rattle.tick_lines.specs.Gives.{Gives};
+ghost use Rattle.tick_lines.specs.Entries.{entry_of, with_entry, entries_of};
+
+use crate::fault::TickLineFault;
+use crate::fields::{items_of, text_of};
+use crate::listing::{Listing, listings_of};
+use crate::probing::{ProbeResult, results_of};
+use crate::usage::usage_of;
+use json_fields::{field, text_at};
+use manifest::Text;
+use observations::Usage;
+use sequence::Sequence;
+use serde_json::Value;
+use std::alloc::Global;
+
+/// A pod's entry.
+#[derive(Drop)]
+pub struct Entry {
+    /// The pod's key, as `NAMESPACE/NAME`.
+    pub key: Text,
+    /// The listings of its containers, in the order of the line.
+    pub listings: Sequence<Listing>,
+    /// The results of their probes, in the order of the line.
+    pub results: Sequence<ProbeResult>,
+    /// What the pod used, where the entry has a sample of it.
+    pub usage: Option<Usage>,
+}
+
+#[tactic(auto, unfolding(crate::specs::Entries::entry_of))]
+fn entry_of(alloc: Global, value: &Value) -> Result<Entry, TickLineFault>
+    ensures { Gives (λ e. e) result (entry_of (view value.now)) }
+{
+    let key = text_of(alloc, text_at(value, "pod"))?;
+    let listings = listings_of(alloc, field(value, "containers"))?;
+    let results = results_of(alloc, field(value, "probes"))?;
+    let usage = usage_of(field(value, "usage"))?;
+    Ok(Entry {
+        key,
+        listings,
+        results,
+        usage,
+    })
+}
+
+fn with_entry(
+    alloc: Global,
+    mut all: Vec<Entry>,
+    value: &Value,
+) -> Result<Vec<Entry>, TickLineFault>
+    ensures { Gives (λ v. v.items) result (with_entry all.items (view value.now)) }
+{
+    let entry = entry_of(alloc, value)?;
+    all.push(entry)?;
+    Ok(all)
+}
+
+fn entries(alloc: Global, values: &[Value]) -> Result<Vec<Entry>, TickLineFault>
+    ensures { Gives (λ v. v.items) result (each entry_of (map view values.now)) }
+{
+    let mut all = Vec::with_capacity(alloc, values.len())?;
+    for value in values {
+        all = with_entry(alloc, all, value)?;
+    }
+    Ok(all)
+}
+
+/// The entries of a tick line.
+pub(crate) fn entries_of(
+    alloc: Global,
+    found: Option<&Value>,
+) -> Result<Sequence<Entry>, TickLineFault>
+    ensures { Gives (λ s. s) result (entries_of (option_map (λ v. view v.now) found.entry)) }
+{
+    let entries = entries(alloc, items_of(found)?)?;
+    Ok(Sequence::from_vec(entries))
+}

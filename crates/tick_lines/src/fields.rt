@@ -1,0 +1,59 @@
+//! Fields of a tick line, all of which have one fault.
+
+ghost use Rattle.std.specs.Prelude.{◌≡◌, map, option_map};
+ghost use Rattle.serde_json.specs.View.{view};
+ghost use Rattle.tick_lines.specs.declared.fault.TickLineFault.TheVariants.{Usage};
+ghost use Rattle.json_fields.specs.Reading.{some_or};
+ghost use Rattle.tick_lines.specs.Gives.{Gives, GivesExactly};
+ghost use Rattle.tick_lines.specs.Fields.{items_of, only_object, quantity_at};
+
+use crate::fault::TickLineFault;
+use manifest::Text;
+use quantity::Quantity;
+use quantity_fields::quantity_in;
+use serde_json::Value;
+use std::alloc::Global;
+
+/// The text of a field that has to be there.
+pub(crate) fn text_of(alloc: Global, found: Option<&str>) -> Result<Text, TickLineFault>
+    ensures { Gives (λ t. t) result (some_or Usage (option_map (λ s. s.now) found.entry)) }
+{
+    match found {
+        None => Err(TickLineFault::Usage),
+        Some(text) => Ok(Text::new(String::from_str(alloc, text)?)),
+    }
+}
+
+/// The items of an array that may be left out.
+pub(crate) fn items_of(found: Option<&Value>) -> Result<&[Value], TickLineFault>
+    ensures { GivesExactly (λ v. map view v.now) result (items_of (option_map (λ v. view v.now) found.entry)) }
+{
+    let Some(value) = found else {
+        return Ok(&[]);
+    };
+    match value.as_array() {
+        None => Err(TickLineFault::Usage),
+        Some(list) => Ok(list.as_slice()),
+    }
+}
+
+/// A value that has to be an object.
+pub(crate) fn only_object(value: &Value) -> Result<(), TickLineFault>
+    ensures { GivesExactly (λ t. t) result (only_object (view value.now)) }
+{
+    if value.is_object() {
+        Ok(())
+    } else {
+        Err(TickLineFault::Usage)
+    }
+}
+
+/// A quantity that may be left out.
+pub(crate) fn quantity_at(found: Option<&Value>) -> Result<Option<Quantity>, TickLineFault>
+    ensures { GivesExactly (λ q. q) result (quantity_at (option_map (λ v. view v.now) found.entry)) }
+{
+    let Some(value) = found else {
+        return Ok(None);
+    };
+    Ok(Some(quantity_in(value)?))
+}

@@ -1,0 +1,18 @@
+//! What a tick line of a trace says, as it is written: the pods' entries and the node's signals.
+#![tactic(auto)]
+
+mod entry;
+mod fault;
+mod fields;
+pub mod laws;
+mod line;
+mod listing;
+mod probing;
+mod samples;
+mod usage;
+
+pub use entry::Entry;
+pub use fault::TickLineFault;
+pub use line::{TickLine, tick_line_of};
+pub use listing::{ListedInstance, Listing};
+pub use probing::ProbeResult;

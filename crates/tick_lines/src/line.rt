@@ -1,0 +1,49 @@
+//! A tick line, as it is written.
+
+ghost use Rattle.std.specs.Prelude.{◌≡◌, option_map};
+ghost use Rattle.serde_json.specs.View.{view};
+ghost use Rattle.tick_lines.specs.Gives.{Gives};
+ghost use Rattle.tick_lines.specs.Line.{tick_line_of};
+
+use crate::entry::{Entry, entries_of};
+use crate::fault::TickLineFault;
+use crate::samples::{Scope, samples_of};
+use json_fields::field;
+use quantity::Quantity;
+use sequence::Sequence;
+use serde_json::Value;
+use signals::BySignal;
+use std::alloc::Global;
+
+/// What a tick line says beside its moment.
+#[derive(Drop)]
+pub struct TickLine {
+    /// The pods' entries, in the order of the line.
+    pub entries: Sequence<Entry>,
+    /// What the node has left of each resource, in bytes, inodes and processes, where the line has
+    /// a sample. (Kubernetes, "Node-pressure Eviction", "Eviction signals".)
+    pub signals: BySignal<Option<Quantity>>,
+    /// The same after images and dead containers were deleted, of the file systems alone.
+    /// (Kubernetes, "Node-pressure Eviction", "Reclaiming node level resources".)
+    pub after_reclaim: BySignal<Option<Quantity>>,
+}
+
+/// Reads a tick line, all but its moment. A field with the value null counts as absent, and a field
+/// of another name is ignored, but for a name that is no signal's where signals are named. Exit
+/// codes are read as far as they are codes, and never refused.
+///
+/// `Usage` where a field that has to be there is missing, or one has a value of another kind or out
+/// of its range, a faulty quantity, or a signal that it may not name.
+#[tactic(auto, unfolding(crate::specs::Line::tick_line_of))]
+pub fn tick_line_of(alloc: Global, line: &Value) -> Result<TickLine, TickLineFault>
+    ensures { Gives (λ t. t) result (tick_line_of (view line.now)) }
+{
+    let entries = entries_of(alloc, field(line, "pods"))?;
+    let signals = samples_of(Scope::Node, field(line, "signals"))?;
+    let after_reclaim = samples_of(Scope::FileSystems, field(line, "afterReclaim"))?;
+    Ok(TickLine {
+        entries,
+        signals,
+        after_reclaim,
+    })
+}

@@ -1,0 +1,140 @@
+//! The listings of an entry, as they are written.
+
+ghost use Rattle.std.specs.Prelude.{◌≡◌, map, option_map};
+ghost use Rattle.serde_json.specs.View.{view};
+ghost use Rattle.json_fields.specs.Reading.{each};
+ghost use Rattle.tick_lines.specs.Gives.{Gives, GivesExactly};
+ghost use Rattle.tick_lines.specs.Listings.{attempt_of, state_named, state_numbered, state_of, code_of, instance_of, listing_of, listings_of};
+
+use crate::fault::TickLineFault;
+use crate::fields::{items_of, text_of};
+use json_fields::{field, text_at};
+use manifest::Text;
+use sequence::Sequence;
+use serde_json::Value;
+use state_diff::CriState;
+use std::alloc::Global;
+
+/// What a listing says of an instance.
+#[derive(Clone, Copy)]
+pub struct ListedInstance {
+    /// Which instance of the container it is, below 2^31: the attempt of its `ContainerMetadata`.
+    /// (Container Runtime Interface, CRI v1.)
+    pub attempt: u32,
+    /// Its state.
+    pub state: CriState,
+    /// What the field for the exit code says, if it is a code. In another state than exited nobody
+    /// looks at it.
+    pub code: Option<i32>,
+}
+
+/// A container's listing.
+#[derive(Drop)]
+pub struct Listing {
+    /// The container's name.
+    pub name: Text,
+    /// The instance that is listed.
+    pub instance: ListedInstance,
+}
+
+fn attempt_of(found: Option<&Value>) -> Result<u32, TickLineFault>
+    ensures { GivesExactly (λ n. n) result (attempt_of (option_map (λ v. view v.now) found.entry)) }
+{
+    let Some(value) = found else {
+        return Ok(0);
+    };
+    match value.as_u64() {
+        Some(attempt) if attempt < 1 << 31 => Ok(attempt as u32),
+        _ => Err(TickLineFault::Usage),
+    }
+}
+
+fn state_named(name: &str) -> Result<CriState, TickLineFault>
+    ensures { GivesExactly (λ s. s) result (state_named name.now) }
+{
+    match name {
+        "CONTAINER_CREATED" => Ok(CriState::Created),
+        "CONTAINER_RUNNING" => Ok(CriState::Running),
+        "CONTAINER_EXITED" => Ok(CriState::Exited),
+        "CONTAINER_UNKNOWN" => Ok(CriState::Unknown),
+        _ => Err(TickLineFault::Usage),
+    }
+}
+
+fn state_numbered(number: Option<u64>) -> Result<CriState, TickLineFault>
+    ensures { GivesExactly (λ s. s) result (state_numbered number) }
+{
+    match number {
+        Some(0) => Ok(CriState::Created),
+        Some(1) => Ok(CriState::Running),
+        Some(2) => Ok(CriState::Exited),
+        Some(3) => Ok(CriState::Unknown),
+        _ => Err(TickLineFault::Usage),
+    }
+}
+
+fn state_of(found: Option<&Value>) -> Result<CriState, TickLineFault>
+    ensures { GivesExactly (λ s. s) result (state_of (option_map (λ v. view v.now) found.entry)) }
+{
+    let Some(value) = found else {
+        return Err(TickLineFault::Usage);
+    };
+    match value.as_str() {
+        Some(name) => state_named(name),
+        None => state_numbered(value.as_u64()),
+    }
+}
+
+fn code_of(found: Option<&Value>) -> Option<i32>
+    ensures { result ≡ code_of (option_map (λ v. view v.now) found.entry) }
+{
+    match found?.as_i64() {
+        Some(code) if i32::MIN as i64 <= code && code <= i32::MAX as i64 => Some(code as i32),
+        _ => None,
+    }
+}
+
+#[tactic(auto, unfolding(crate::specs::Listings::instance_of))]
+fn instance_of(value: &Value) -> Result<ListedInstance, TickLineFault>
+    ensures { GivesExactly (λ i. i) result (instance_of (view value.now)) }
+{
+    let attempt = attempt_of(field(value, "attempt"))?;
+    let state = state_of(field(value, "state"))?;
+    let code = code_of(field(value, "exitCode"));
+    Ok(ListedInstance {
+        attempt,
+        state,
+        code,
+    })
+}
+
+#[tactic(auto, unfolding(crate::specs::Listings::listing_of))]
+fn listing_of(alloc: Global, value: &Value) -> Result<Listing, TickLineFault>
+    ensures { Gives (λ l. l) result (listing_of (view value.now)) }
+{
+    let name = text_of(alloc, text_at(value, "name"))?;
+    let instance = instance_of(value)?;
+    Ok(Listing { name, instance })
+}
+
+fn listings(alloc: Global, values: &[Value]) -> Result<Vec<Listing>, TickLineFault>
+    ensures { Gives (λ v. v.items) result (each listing_of (map view values.now)) }
+{
+    let mut all = Vec::with_capacity(alloc, values.len())?;
+    for value in values {
+        let listing = listing_of(alloc, value)?;
+        all.push(listing)?;
+    }
+    Ok(all)
+}
+
+/// The listings of an entry.
+pub(crate) fn listings_of(
+    alloc: Global,
+    found: Option<&Value>,
+) -> Result<Sequence<Listing>, TickLineFault>
+    ensures { Gives (λ s. s) result (listings_of (option_map (λ v. view v.now) found.entry)) }
+{
+    let listings = listings(alloc, items_of(found)?)?;
+    Ok(Sequence::from_vec(listings))
+}
