@@ -1,25 +1,24 @@
 -- The shape of a trace.
-use Rattle.std.proofs.Common.{◌≡◌, ◌∙◌, ◌⊎◌, ℕ, zero, suc, ◌+◌, ◌≤◌, ◌<◌, List, [], ◌∷◌, ◌++◌, length, Some, Result, Ok, Err, refl, ap, sym, subst, inl, inr, arith}
+use Rattle.std.proofs.Common.{◌≡◌, ◌∙◌, ◌⊎◌, ℕ, zero, suc, ◌≤◌, ◌<◌, List, [], ◌∷◌, ◌++◌, length, Some, Result, Ok, Err, refl, ap, sym, subst, inl, inr, arith}
 use Rattle.std.specs.Prelude.{slice_get, ◌^◌, codes, IfOk}
 use Rattle.std.proofs.lemmas.List.{length-append}
 use Rattle.json_fields.specs.Fields.{field_at}
 use Rattle.manifest.specs.declared.pod.PodSpec.{PodSpec}
-use Rattle.observations.specs.declared.pod.PodObs.{PodObs}
 use Rattle.observations.specs.declared.tick.TickObs.{TickObs}
 use Rattle.trace.specs.declared.fault.LineFault.{LineFault}
 use Rattle.trace.specs.declared.past.Trace.{Trace}
 use Rattle.trace.specs.declared.placing.PlacedEntry.{PlacedEntry}
 use Rattle.trace.specs.Gives.{GivesAt}
 use Rattle.trace.specs.Laws.{HasKey, Says, says_node, says_pod, says_tick}
-use Rattle.trace.specs.Observed.{entry_for, listings_of, results_of, pod_observed, pods_from, observed}
+use Rattle.trace.specs.Observed.{observed}
 use Rattle.trace.specs.Past.{Past}
 use Rattle.trace.specs.Pod.{key_of_pod, most_pods}
 use Rattle.trace.specs.Sound.{ShowsEach, HaveOwnKeys, HasShape}
 use Rattle.trace.specs.Tick.{most_ticks}
 use Rattle.trace.specs.Trace.{trace_of}
-use Rattle.trace.proofs.FollowedLemmas.{containers_shown}
 use Rattle.trace.proofs.Moments.{rising-more, moment_later, moment_low}
 use Rattle.trace.proofs.Said.{IsKept, of_trace}
+use Rattle.trace.proofs.Shown.{as_many, moment_shown, count_shown}
 
 -- an item of a list with one item more is one of the list, or the last
 pushed_at : {A : Type 0} (xs : List A) (x y : A) (n : ℕ) → slice_get (xs ++ x ∷ []) n ≡ Some y → (slice_get xs n ≡ Some y) ⊎ ((n ≡ length xs) × (x ≡ y))
@@ -35,28 +34,6 @@ one_more : {A : Type 0} (xs : List A) (x : A) (most : ℕ) → length xs < most 
 one_more xs x most room = let more = length-append xs (x ∷ []) in omega arith
 
 -- what a tick shows of the pods
-as_many : (at : ℕ) (es : List PlacedEntry) (n : ℕ) (pods : List PodSpec) → length (pods_from at es n pods) ≡ length pods
-as_many at es n [] = refl
-as_many at es n (p ∷ ps) = ap suc (as_many at es (n + 1) ps)
-
-moment_shown : (at : ℕ) (es : List PlacedEntry) (n : ℕ) (pods : List PodSpec) (k : ℕ) (shown : PodObs) → slice_get (pods_from at es n pods) k ≡ Some shown → shown.at ≡ at
-moment_shown at es n [] k shown e = absurd (cc)
-moment_shown at es n (p ∷ ps) zero shown e =
-    let is : pod_observed at (entry_for es n) p ≡ shown = cc in
-    sym (ap (λ (o : PodObs). o.at) is)
-moment_shown at es n (p ∷ ps) (suc k) shown e = moment_shown at es (n + 1) ps k shown e
-
-count_shown : (at : ℕ) (es : List PlacedEntry) (n : ℕ) (pods : List PodSpec) (k : ℕ) (pod : PodSpec) (shown : PodObs) → slice_get pods k ≡ Some pod
-    → slice_get (pods_from at es n pods) k ≡ Some shown → length shown.containers ≡ length pod.containers
-count_shown at es n [] k pod shown here e = absurd (cc)
-count_shown at es n (p ∷ ps) zero pod shown here e =
-    let is : pod_observed at (entry_for es n) p ≡ shown = cc in
-    let same : p ≡ pod = cc in
-    sym (ap (λ (o : PodObs). length o.containers) is)
-    ∙ containers_shown (listings_of (entry_for es n)) (results_of (entry_for es n)) 0 p.containers
-    ∙ ap (λ (q : PodSpec). length q.containers) same
-count_shown at es n (p ∷ ps) (suc k) pod shown here e = count_shown at es (n + 1) ps k pod shown here e
-
 shows_each : (at : ℕ) (es : List PlacedEntry) (pods : List PodSpec) → ShowsEach pods (observed at es pods)
 shows_each at es pods = record { as_many = as_many at es 0 pods; moment = moment_shown at es 0 pods; containers = count_shown at es 0 pods }
 

@@ -1,6 +1,6 @@
 -- What the trace of a text is, in the words of its format. The lines of a text have the places 0,
 -- 1, .. and, in an answer, the numbers 1, 2, ...
-use Rattle.std.specs.Prelude.{◌≡◌, ◌≢◌, ◌⊎◌, ◌↔◌, ◌+◌, ◌≤◌, ◌<◌, ℕ, zero, suc, true, false, List, [], ◌∷◌, ◌++◌, length, slice_get, Option, Some, None, is_some, Ok, Err, codes}
+use Rattle.std.specs.Prelude.{◌≡◌, ◌≢◌, ◌⊎◌, ◌↔◌, ◌+◌, ◌≤◌, ◌<◌, ℕ, zero, suc, true, false, List, [], length, slice_get, Option, Some, None, is_some, Ok, Err, codes}
 use Rattle.serde_json.specs.Data.{Data}
 use Rattle.json_fields.specs.Fields.{field_at, text_at}
 use Rattle.trace.specs.declared.fault.FaultKind.{FaultKind}
@@ -26,7 +26,7 @@ use Rattle.trace.specs.Pod.{key_of_pod, keys_of, most_pods, pod_from}
 use Rattle.trace.specs.Listings.{entries_of}
 use Rattle.trace.specs.Placing.{placed_of, has_twice, are_of_one_probe, is_doubled}
 use Rattle.trace.specs.Observed.{seen_listed, outcome_in, observed, some_code_missing}
-use Rattle.trace.specs.Backwards.{is_backwards}
+use Rattle.following.specs.Backwards.{is_backwards}
 use Rattle.manifest.specs.declared.fault.ManifestFault.{ManifestFault}
 use Rattle.manifest.specs.declared.fault.ManifestFault.TheVariants as manifest_faults
 use Rattle.manifest.specs.declared.pod.PodSpec.{PodSpec}

@@ -2,7 +2,6 @@
 #![tactic(auto)]
 
 mod fault;
-mod following;
 pub mod laws;
 mod lines;
 mod listing;

@@ -10,12 +10,12 @@ ghost use Rattle.trace.specs.Sound.{AreAcceptable, AreRising, HasShape};
 ghost use Rattle.trace.specs.Trace.{json_of, kind_from, with_node, with_new_pod, pod_line_at, line_at, trace_of, finished, in_order};
 
 use crate::fault::{FaultKind, LineFault};
-use crate::following::new_differs;
 use crate::lines::{first_line, is_blank};
 use crate::node::node_of;
 use crate::past::{LineKind, Reader, Trace};
 use crate::pod::{new_key, pod_in, room_for_pod};
 use crate::tick::take_tick;
+use following::Following;
 use json_fields::{field, text_at};
 use manifest::PodSpec;
 use name_list::NameList;
@@ -54,7 +54,7 @@ fn take_node(alloc: Global, reader: Reader, line: &Value) -> Result<Reader, Faul
         pods,
         ticks,
         keys,
-        differs,
+        following,
         ..
     } = reader;
     Ok(Reader {
@@ -62,13 +62,12 @@ fn take_node(alloc: Global, reader: Reader, line: &Value) -> Result<Reader, Faul
         pods,
         ticks,
         keys,
-        differs,
+        following,
     })
 }
 
-/// Adds a pod of a new key, before all ticks.
+/// Adds a pod of a new key.
 fn with_pod(alloc: Global, reader: Reader, pod: PodSpec, key: String) -> Result<Reader, FaultKind>
-    requires early { reader.ticks ≡ [] }
     requires key { string_bytes key ≡ key_of_pod pod }
     requires new { place_of (keys_of reader.pods) (string_bytes key) ≡ None }
     ensures { Gives (λ r. r) result (Ok (with_pod reader pod)) }
@@ -78,24 +77,22 @@ fn with_pod(alloc: Global, reader: Reader, pod: PodSpec, key: String) -> Result<
         mut pods,
         ticks,
         mut keys,
-        mut differs,
+        following,
     } = reader;
     keys.push(key)?;
-    let new = new_differs(alloc, pod.containers.as_slice().len())?;
-    differs.push(Sequence::from_vec(new))?;
+    let following = following.with_pod(alloc, pod.containers.as_slice().len())?;
     pods.push(pod)?;
     Ok(Reader {
         node,
         pods,
         ticks,
         keys,
-        differs,
+        following,
     })
 }
 
-/// Adds a pod before all ticks, if its key is new.
+/// Adds a pod, if its key is new.
 fn with_new_pod(alloc: Global, reader: Reader, pod: PodSpec) -> Result<Reader, FaultKind>
-    requires { reader.ticks ≡ [] }
     ensures { Gives (λ r. r) result (with_new_pod reader pod) }
 {
     let key = new_key(alloc, &reader, &pod)?;
@@ -163,7 +160,7 @@ fn finished(line: u64, reader: Reader) -> Result<Trace, LineFault>
     }
 }
 
-#[tactic(auto, using(crate::proofs::FollowedLemmas::none_followed), unfolding(crate::specs::Trace::trace_of))]
+#[tactic(auto, unfolding(crate::specs::Trace::trace_of))]
 fn read_lines(alloc: Global, text: &[u8]) -> Result<Trace, LineFault>
     ensures { GivesAt (λ t. t) result (trace_of text.now) }
 {
@@ -172,7 +169,7 @@ fn read_lines(alloc: Global, text: &[u8]) -> Result<Trace, LineFault>
         pods: Sequence::new(alloc),
         ticks: Sequence::new(alloc),
         keys: NameList::new(alloc),
-        differs: Sequence::new(alloc),
+        following: Following::new(alloc),
     };
     let mut rest = text;
     let mut line = 1u64;

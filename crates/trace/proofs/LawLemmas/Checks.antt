@@ -22,7 +22,7 @@ use Rattle.trace.proofs.Keys.{key_there, there_key, key_nowhere, nowhere_key}
 use Rattle.trace.specs.Listings.{entries_of}
 use Rattle.trace.specs.Placing.{placed_of, is_doubled}
 use Rattle.trace.specs.Observed.{observed, some_code_missing}
-use Rattle.trace.specs.Backwards.{is_backwards}
+use Rattle.following.specs.Backwards.{is_backwards}
 use Rattle.trace.specs.Past.{Past, with_pod, with_tick}
 use Rattle.trace.specs.Tick.{moment_of, most_ticks, observed_in, tick_at}
 use Rattle.trace.specs.Trace.{json_of, kind_from, with_node, pod_line_at, in_order, line_at}

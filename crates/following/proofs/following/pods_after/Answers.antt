@@ -1,8 +1,8 @@
 use Rattle.std.proofs.Common.{◌+◌, sym, subst}
 use Rattle.std.proofs.lemmas.Result.{err_from_is_err_and}
-use Rattle.trace.specs.Followed.{PodsHaveTaken}
-use Rattle.trace.proofs.FollowedLemmas.{pod_before, pod_taken_more, some_pod_refuses}
-use Rattle.trace.proofs.following.pods_after.Goals as goal
+use Rattle.following.specs.Followed.{PodsHaveTaken}
+use Rattle.following.proofs.Steps.{pod_before, pod_taken_more, some_pod_refuses}
+use Rattle.following.proofs.following.pods_after.Goals as goal
 
 pub pod_after-requires : goal.pod_after-requires
 pod_after-requires c =

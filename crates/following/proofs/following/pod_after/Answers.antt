@@ -1,8 +1,8 @@
 use Rattle.std.proofs.Common.{◌+◌, sym, subst, inr}
 use Rattle.std.proofs.lemmas.Result.{err_from_is_err_and}
-use Rattle.trace.specs.Followed.{HaveTaken}
-use Rattle.trace.proofs.FollowedLemmas.{differ_before, differ_more, some_refuses}
-use Rattle.trace.proofs.following.pod_after.Goals as goal
+use Rattle.following.specs.Followed.{HaveTaken}
+use Rattle.following.proofs.Steps.{differ_before, differ_more, some_refuses}
+use Rattle.following.proofs.following.pod_after.Goals as goal
 
 pub differ_after-requires : goal.differ_after-requires
 differ_after-requires c =
