@@ -26,9 +26,9 @@ use Rattle.following.proofs.Forwards.{pods_forwards}
 use Rattle.trace.proofs.Moments.{rising-more, moment_later}
 use Rattle.trace.proofs.Said.{IsKept, of_trace}
 
-record AreSound (pods : List PodSpec) (ticks : List TickObs) : Type 0 where
-  pub acceptable : AreAcceptable ticks
-  pub rising : AreRising ticks
+record IsSound (past : Past) : Type 0 where
+  pub acceptable : AreAcceptable past.ticks
+  pub rising : AreRising past.ticks
 
 -- ticks that are acceptable, and one more that doesn't go back behind them
 tick_acceptable : (ticks : List TickObs) (tick : TickObs) → AreAcceptable ticks → is_backwards ticks tick ≡ false → AreAcceptable (ticks ++ tick ∷ [])
@@ -50,15 +50,15 @@ tick_acceptable ticks tick all e pod container = after (shown_of tick pod) refl
         let next = acceptable_more h (recorded shown.at listed) (all pod container) ((is_acceptable_is h listed).0 accepted) in
         subst IsAcceptableHistory (sym (history_shown ticks tick pod container shown is)) next
 
-line_sound : (past : Past) (line : List ℕ) (next : Past) → AreSound past.pods past.ticks → Says past line next → AreSound next.pods next.ticks
-line_sound past line _ all (says_node d node is e) = all
+line_sound : (past : Past) (line : List ℕ) (next : Past) → IsSound past → Says past line next → IsSound next
+line_sound past line _ all (says_node d node is e) = record { acceptable = all.acceptable; rising = all.rising }
 line_sound past line _ all (says_pod d pod is new) = record { acceptable = all.acceptable; rising = all.rising }
 line_sound past line _ all (says_tick d at placed is coded) =
     let tick = observed at placed past.pods in
     let later = moment_later past.ticks (field_at (codes "at") d) at is.is_apart.has_places.has_entries.has_moment.moment in
     record { acceptable = tick_acceptable past.ticks tick all.acceptable is.forwards; rising = rising-more past.ticks tick all.rising later }
 
-kept : IsKept AreSound
+kept : IsKept IsSound
 kept = record {
   first = record { acceptable = λ pod container t lt. absurd (omega arith); rising = λ t u x y lt e f. absurd (cc) };
   line = line_sound;
@@ -66,9 +66,9 @@ kept = record {
 
 -- what a call answers that gives this trace
 pub given_acceptable : (text : List ℕ) (answer : Result Trace LineFault) → GivesAt (λ t. t) answer (trace_of text) → IfOk answer (λ t. AreAcceptable t.ticks)
-given_acceptable text (Ok trace) given = (of_trace AreSound kept text trace given).acceptable
+given_acceptable text (Ok trace) given = (of_trace IsSound kept text trace given).acceptable
 given_acceptable text (Err fault) given = tt
 
 pub given_rising : (text : List ℕ) (answer : Result Trace LineFault) → GivesAt (λ t. t) answer (trace_of text) → IfOk answer (λ t. AreRising t.ticks)
-given_rising text (Ok trace) given = (of_trace AreSound kept text trace given).rising
+given_rising text (Ok trace) given = (of_trace IsSound kept text trace given).rising
 given_rising text (Err fault) given = tt

@@ -1,6 +1,6 @@
 -- What the trace of a text is, in the words of its format. The lines of a text have the places 0,
 -- 1, .. and, in an answer, the numbers 1, 2, ...
-use Rattle.std.specs.Prelude.{◌≡◌, ◌≢◌, ◌⊎◌, ◌↔◌, ◌+◌, ◌≤◌, ◌<◌, ℕ, zero, suc, true, false, List, [], length, slice_get, Option, Some, None, is_some, Ok, Err, codes}
+use Rattle.std.specs.Prelude.{◌≡◌, ◌≢◌, ◌⊎◌, ◌↔◌, ◌+◌, ◌≤◌, ◌<◌, ℕ, zero, suc, true, false, List, [], length, slice_get, Option, Some, None, is_some, IsSomeAnd, Ok, Err, codes}
 use Rattle.serde_json.specs.Data.{Data}
 use Rattle.json_fields.specs.Fields.{field_at, text_at}
 use Rattle.trace.specs.declared.fault.FaultKind.{FaultKind}
@@ -35,7 +35,9 @@ use Rattle.observations.specs.Observations.{seen_of, history}
 use Rattle.state_diff.specs.declared.seen.Seen.{Seen}
 use Rattle.state_diff.specs.Instances.{IsAcceptable}
 use Rattle.trace.specs.declared.node.NodeConfig.{NodeConfig}
-use Rattle.trace.specs.Past.{Past, with_pod, with_tick}
+use Rattle.trace.specs.declared.node.Version.{Version}
+use Rattle.trace.specs.declared.node.Version.TheVariants.{One, Two}
+use Rattle.trace.specs.Past.{Past, version_in, of_node, with_pod, with_tick}
 use Rattle.trace.specs.Tick.{moment_of, most_ticks}
 use Rattle.trace.specs.Trace.{json_of, kind_from, line_at, nothing, trace_of}
 
@@ -75,6 +77,7 @@ pub record IsWhole (lines : List (List ℕ)) (trace : Trace) : Type 0 where
   pub said : AreSaid lines (length lines) past
   pub node : past.node ≡ Some trace.node
   pub pods : past.pods ≡ trace.pods
+  pub arrivals : past.arrivals ≡ trace.arrivals
   pub ticks : past.ticks ≡ trace.ticks
 
 -- a text is refused exactly with its first fault
@@ -101,10 +104,15 @@ pub record IsOfKind (line : List ℕ) (line_kind : LineKind) (d : Data) : Type 0
   pub json : IsJson line d
   pub kind : kind_from (text_at (codes "kind") d) ≡ Some line_kind
 
--- a node line stands before all other lines that count, and a pod line before all tick lines
+-- in version 1 a pod line stands before all tick lines; in version 2 it may follow one
+abbrev pub TakesPods : List TickObs → Version → Type 0
+TakesPods ticks One = ticks ≡ []
+TakesPods ticks Two = Unit {0}
+
+-- a node line stands before all other lines that count, and a pod line where the version takes it
 abbrev pub MayStand : Past → LineKind → Type 0
 MayStand past kinds.Node = past.node ≡ None
-MayStand past kinds.Pod = (is_some past.node ≡ true) × (past.ticks ≡ [])
+MayStand past kinds.Pod = IsSomeAnd (version_in past) (TakesPods past.ticks)
 MayStand past kinds.Tick = is_some past.node ≡ true
 
 -- the line is of this kind, and may stand where it does
@@ -174,7 +182,7 @@ FirstCheck = (past : Past) (line : List ℕ) (kind : FaultKind) → (line_at pas
 
 -- what is said after a line that passes all its checks
 pub data Says (past : Past) (line : List ℕ) : Past → Type 0 where
-  says_node : (d : Data) (node : NodeConfig) → Stands past line kinds.Node d → node_of d ≡ Ok node → Says past line (record { node = Some node; pods = past.pods; ticks = past.ticks })
+  says_node : (d : Data) (node : NodeConfig) → Stands past line kinds.Node d → node_of d ≡ Ok node → Says past line (of_node past node)
   says_pod : (d : Data) (pod : PodSpec) → HasPod past line d pod → (HasKey past.pods (key_of_pod pod) → ⊥) → Says past line (with_pod past pod)
   says_tick : (d : Data) (at : ℕ) (placed : List PlacedEntry) → IsForwards past line d at placed → some_code_missing placed ≡ false → Says past line (with_tick past (observed at placed past.pods))
 

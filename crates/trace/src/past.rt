@@ -21,6 +21,7 @@ pub(crate) enum LineKind {
 pub(crate) struct Reader {
     pub(crate) node: Option<NodeConfig>,
     pub(crate) pods: Sequence<PodSpec>,
+    pub(crate) arrivals: Sequence<usize>,
     pub(crate) ticks: Sequence<TickObs>,
     pub(crate) keys: NameList,
     pub(crate) following: Following,
@@ -34,7 +35,7 @@ impl Model for Reader {
 
     ghost Value = { Past };
 
-    ghost view = { λ r. record { node = r.node; pods = r.pods; ticks = r.ticks } };
+    ghost view = { λ r. record { node = r.node; pods = r.pods; arrivals = r.arrivals; ticks = r.ticks } };
 
     ghost invariant = { λ r. (r.keys ≡ keys_of r.pods) × HasFollowed r.ticks (container_counts r.pods) r.following };
 }
@@ -45,6 +46,8 @@ pub struct Trace {
     pub node: NodeConfig,
     /// The pods, by number.
     pub pods: Sequence<PodSpec>,
+    /// For each pod how many ticks stand before its line; the pod is present from the next tick on.
+    pub arrivals: Sequence<usize>,
     /// The ticks, in the order of their moments.
     pub ticks: Sequence<TickObs>,
 }

@@ -4,14 +4,14 @@ ghost use Rattle.std.specs.Prelude.{◌≡◌, [], option_map, None, Ok, IfOk, s
 ghost use Rattle.serde_json.specs.View.{view};
 ghost use Rattle.trace.specs.Gives.{Gives, GivesAt};
 ghost use Rattle.name_list.specs.Names.{place_of};
-ghost use Rattle.trace.specs.Past.{with_pod};
+ghost use Rattle.trace.specs.Past.{version_in, with_pod};
 ghost use Rattle.trace.specs.Pod.{key_of_pod, keys_of};
 ghost use Rattle.trace.specs.Sound.{AreAcceptable, AreRising, HasShape};
-ghost use Rattle.trace.specs.Trace.{json_of, kind_from, with_node, with_new_pod, pod_line_at, line_at, trace_of, finished, in_order};
+ghost use Rattle.trace.specs.Trace.{json_of, kind_from, with_node, with_new_pod, is_late, pod_line_at, line_at, trace_of, finished, in_order};
 
-use crate::fault::{FaultKind, LineFault};
+use crate::fault::{FaultKind, LineFault, refused_if};
 use crate::lines::{first_line, is_blank};
-use crate::node::node_of;
+use crate::node::{Version, node_of};
 use crate::past::{LineKind, Reader, Trace};
 use crate::pod::{new_key, pod_in, room_for_pod};
 use crate::tick::take_tick;
@@ -52,6 +52,7 @@ fn take_node(alloc: Global, reader: Reader, line: &Value) -> Result<Reader, Faul
     let node = node_of(alloc, line)?;
     let Reader {
         pods,
+        arrivals,
         ticks,
         keys,
         following,
@@ -60,6 +61,7 @@ fn take_node(alloc: Global, reader: Reader, line: &Value) -> Result<Reader, Faul
     Ok(Reader {
         node: Some(node),
         pods,
+        arrivals,
         ticks,
         keys,
         following,
@@ -75,6 +77,7 @@ fn with_pod(alloc: Global, reader: Reader, pod: PodSpec, key: String) -> Result<
     let Reader {
         node,
         mut pods,
+        mut arrivals,
         ticks,
         mut keys,
         following,
@@ -82,9 +85,11 @@ fn with_pod(alloc: Global, reader: Reader, pod: PodSpec, key: String) -> Result<
     keys.push(key)?;
     let following = following.with_pod(alloc, pod.containers.as_slice().len())?;
     pods.push(pod)?;
+    arrivals.push(ticks.as_slice().len())?;
     Ok(Reader {
         node,
         pods,
+        arrivals,
         ticks,
         keys,
         following,
@@ -99,17 +104,40 @@ fn with_new_pod(alloc: Global, reader: Reader, pod: PodSpec) -> Result<Reader, F
     with_pod(alloc, reader, pod, key)
 }
 
+/// Whether a pod line comes too late behind the ticks so far.
+fn is_late(version: Version, reader: &Reader) -> bool
+    ensures { result ≡ is_late version reader.now.ticks }
+{
+    match version {
+        Version::One => !reader.ticks.as_slice().is_empty(),
+        Version::Two => false,
+    }
+}
+
 /// Takes a pod line.
 #[tactic(auto, unfolding(crate::specs::Trace::pod_line_at))]
-fn take_pod(alloc: Global, reader: Reader, line: &Value) -> Result<Reader, FaultKind>
-    ensures { Gives (λ r. r) result (pod_line_at reader (view line.now)) }
+fn take_pod(
+    alloc: Global,
+    version: Version,
+    reader: Reader,
+    line: &Value,
+) -> Result<Reader, FaultKind>
+    ensures { Gives (λ r. r) result (pod_line_at version reader (view line.now)) }
 {
-    if !reader.ticks.as_slice().is_empty() {
-        return Err(FaultKind::Order);
-    }
+    refused_if(is_late(version, &reader), FaultKind::Order)?;
     room_for_pod(&reader)?;
     let pod = pod_in(alloc, field(line, "pod"))?;
     with_new_pod(alloc, reader, pod)
+}
+
+/// The version of the format, once there is a node.
+fn version_in(reader: &Reader) -> Option<Version>
+    ensures { result ≡ version_in reader.now }
+{
+    match &reader.node {
+        None => None,
+        Some(node) => Some(node.version),
+    }
 }
 
 fn take_in_order(
@@ -118,12 +146,12 @@ fn take_in_order(
     line_kind: LineKind,
     line: &Value,
 ) -> Result<Reader, FaultKind>
-    ensures { Gives (λ r. r) result (in_order reader.node reader line_kind (view line.now)) }
+    ensures { Gives (λ r. r) result (in_order (version_in reader) reader line_kind (view line.now)) }
 {
-    match (reader.node.is_some(), line_kind) {
-        (false, LineKind::Node) => take_node(alloc, reader, line),
-        (true, LineKind::Pod) => take_pod(alloc, reader, line),
-        (true, LineKind::Tick) => take_tick(alloc, reader, line),
+    match (version_in(&reader), line_kind) {
+        (None, LineKind::Node) => take_node(alloc, reader, line),
+        (Some(version), LineKind::Pod) => take_pod(alloc, version, reader, line),
+        (Some(_), LineKind::Tick) => take_tick(alloc, reader, line),
         _ => Err(FaultKind::Order),
     }
 }
@@ -148,6 +176,7 @@ fn finished(line: u64, reader: Reader) -> Result<Trace, LineFault>
     let Reader {
         node,
         pods,
+        arrivals,
         ticks,
         ..
     } = reader;
@@ -156,7 +185,12 @@ fn finished(line: u64, reader: Reader) -> Result<Trace, LineFault>
             line,
             kind: FaultKind::Order,
         }),
-        Some(node) => Ok(Trace { node, pods, ticks }),
+        Some(node) => Ok(Trace {
+            node,
+            pods,
+            arrivals,
+            ticks,
+        }),
     }
 }
 
@@ -167,6 +201,7 @@ fn read_lines(alloc: Global, text: &[u8]) -> Result<Trace, LineFault>
     let mut reader = Reader {
         node: None,
         pods: Sequence::new(alloc),
+        arrivals: Sequence::new(alloc),
         ticks: Sequence::new(alloc),
         keys: NameList::new(alloc),
         following: Following::new(alloc),
@@ -192,7 +227,7 @@ pub fn read_trace(alloc: Global, text: &[u8]) -> Result<Trace, LineFault>
     ensures gives { GivesAt (λ t. t) result (trace_of text.now) }
     ensures acceptable { IfOk result (λ t. AreAcceptable t.ticks) }
     ensures rising { IfOk result (λ t. AreRising t.ticks) }
-    ensures shape { IfOk result (λ t. HasShape t.pods t.ticks) }
+    ensures shape { IfOk result (λ t. HasShape t.pods t.arrivals t.ticks) }
 {
     read_lines(alloc, text)
 }

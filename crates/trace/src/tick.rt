@@ -275,6 +275,7 @@ fn with_tick(reader: Reader, tick: TickObs, following: Following) -> Result<Read
     let Reader {
         node,
         pods,
+        arrivals,
         mut ticks,
         keys,
         ..
@@ -283,6 +284,7 @@ fn with_tick(reader: Reader, tick: TickObs, following: Following) -> Result<Read
     Ok(Reader {
         node,
         pods,
+        arrivals,
         ticks,
         keys,
         following,
