@@ -88,7 +88,7 @@ fn pod_after(
     ensures taken { IfOk result (λ v. HaveTaken (length differs.now) tick.now pod differs.now v.items) }
     ensures refused { IfErr result (λ e. IsRefusal (SomeRefuses tick.now pod differs.now) e) }
 {
-    let mut all = Vec::new(alloc);
+    let mut all = Vec::with_capacity(alloc, differs.len())?;
     for (container, differ) in differs.iter().enumerate() {
         let next = differ_after(*differ, tick.at, seen_of(tick, pod, container))?;
         all.push(next)?;
@@ -105,7 +105,7 @@ fn pods_after(
     ensures taken { IfOk result (λ v. PodsHaveTaken (length differs.now) tick.now differs.now v.items) }
     ensures refused { IfErr result (λ e. IsRefusal (SomePodRefuses tick.now differs.now) e) }
 {
-    let mut all = Vec::new(alloc);
+    let mut all = Vec::with_capacity(alloc, differs.len())?;
     for (pod, of_pod) in differs.iter().enumerate() {
         let next = pod_after(alloc, of_pod.as_slice(), tick, pod)?;
         all.push(Sequence::from_vec(next))?;

@@ -6,7 +6,7 @@ pub mod Listings
 pub mod Results
 pub mod Strangers
 use Rattle.std.proofs.Common.{◌≡◌, ◌∙◌, ◌⊎◌, ℕ, zero, suc, ◌+◌, ◌≤◌, ◌<◌, true, false, List, [], ◌∷◌, ◌++◌, length, drop, get_or, slice_get, Option, Some, None, Result, Ok, Err, refl, ap, sym, subst, inl, inr, arith, is_some, drop-cons}
-use Rattle.std.specs.Prelude.{⊤, ◌-◌, nat_lt, nat_le, option_map, codes}
+use Rattle.std.specs.Prelude.{⊤, ◌-◌, nat_lt, nat_le, codes}
 use Rattle.std.proofs.Math.Seq.{drop-length}
 use Rattle.std.proofs.lemmas.Bool.{cases_Bool}
 use Rattle.std.proofs.lemmas.Option.{slice_get_within, slice_get-get_or, get_or_from_slice_get}
@@ -14,6 +14,7 @@ use Rattle.serde_json.specs.Data.{Data}
 use Rattle.json_fields.specs.Fields.{field_at, text_at}
 use Rattle.json_fields.specs.Reading.{◌>>=◌, refused_if, some_or}
 use Rattle.json_fields.proofs.Steps.{bind_ok}
+use Rattle.trace.proofs.Versions.{some_node}
 use Rattle.manifest.specs.declared.pod.PodSpec.{PodSpec}
 use Rattle.trace.specs.declared.fault.FaultKind.{FaultKind}
 use Rattle.trace.specs.declared.fault.FaultKind.TheVariants.{TooLong, DuplicatePod, UnknownKind, Order, TooMany}
@@ -144,17 +145,13 @@ tick_line_keeps past d next e =
     let is_next : with_tick past tick.0 ≡ next = cc in
     ap (λ (p : Past). p.node) {x = with_tick past tick.0} is_next
 
-some_version : (node : Option NodeConfig) (version : Version) → option_map (λ (n : NodeConfig). n.version) node ≡ Some version → is_some node ≡ true
-some_version None version is = absurd (cc)
-some_version (Some node) version is = refl
-
 in_order_some : (found : Option Version) (past : Past) (line_kind : LineKind) (d : Data) (next : Past) → version_in past ≡ found → in_order found past line_kind d ≡ Ok next → is_some next.node ≡ true
 in_order_some None past kinds.Node d next is e = with_node_some past d next e
 in_order_some None past kinds.Pod d next is e = absurd (cc)
 in_order_some None past kinds.Tick d next is e = absurd (cc)
 in_order_some (Some version) past kinds.Node d next is e = absurd (cc)
-in_order_some (Some version) past kinds.Pod d next is e = subst (λ (o : Option NodeConfig). is_some o ≡ true) (pod_line_keeps version past d next e) (some_version past.node version is)
-in_order_some (Some version) past kinds.Tick d next is e = subst (λ (o : Option NodeConfig). is_some o ≡ true) (tick_line_keeps past d next e) (some_version past.node version is)
+in_order_some (Some version) past kinds.Pod d next is e = subst (λ (o : Option NodeConfig). is_some o ≡ true) (pod_line_keeps version past d next e) (some_node past.node version is)
+in_order_some (Some version) past kinds.Tick d next is e = subst (λ (o : Option NodeConfig). is_some o ≡ true) (tick_line_keeps past d next e) (some_node past.node version is)
 
 line_some : (past : Past) (line : List ℕ) (next : Past) → line_at past line ≡ Ok next → is_some next.node ≡ true
 unfolding line_at

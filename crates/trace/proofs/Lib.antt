@@ -6,4 +6,5 @@ pub mod Said
 pub mod Shape
 pub mod Shown
 pub mod Sound
+pub mod Versions
 pub mod LawLemmas

@@ -101,7 +101,7 @@ fn containers_observed(
 ) -> Result<Vec<ContainerObs>, AllocError>
     ensures { IfOk result (λ v. v.items ≡ containers_from listings.now results.now 0 containers.now) }
 {
-    let mut all = Vec::new(alloc);
+    let mut all = Vec::with_capacity(alloc, containers.len())?;
     for (number, _) in containers.iter().enumerate() {
         let seen = seen_in(listings, number);
         let results = results_in(results, number);
@@ -166,7 +166,7 @@ fn pods_observed(
 ) -> Result<Vec<PodObs>, AllocError>
     ensures { IfOk result (λ v. v.items ≡ pods_from at entries.now 0 pods.now) }
 {
-    let mut all = Vec::new(alloc);
+    let mut all = Vec::with_capacity(alloc, pods.len())?;
     for (number, pod) in pods.iter().enumerate() {
         let observed = pod_observed(alloc, at, entry_for(entries, number), pod)?;
         all.push(observed)?;

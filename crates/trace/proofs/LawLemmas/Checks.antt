@@ -20,6 +20,7 @@ use Rattle.trace.specs.declared.listing.Entry.{Entry}
 use Rattle.trace.specs.declared.placing.PlacedEntry.{PlacedEntry}
 use Rattle.trace.specs.Node.{node_of}
 use Rattle.trace.specs.Pod.{key_of_pod, has_key, most_pods, pod_from}
+use Rattle.trace.proofs.Versions.{no_node, some_node}
 use Rattle.trace.proofs.Keys.{key_there, there_key, key_nowhere, nowhere_key}
 use Rattle.trace.specs.Listings.{entries_of}
 use Rattle.trace.specs.Placing.{placed_of, is_doubled}
@@ -223,18 +224,9 @@ node_fails past line d kind is e =
       | inr later ↦ absurd (no_fault (of_node past later.0) kind later.2)
     ]
 
--- without a version there is no node
-no_node : (node : Option NodeConfig) → option_map (λ (n : NodeConfig). n.version) node ≡ None → node ≡ None
-no_node None none = refl
-no_node (Some node) none = absurd (cc)
-
 not_some : (node : Option NodeConfig) → node ≡ None → is_some node ≡ true → ⊥
 not_some None none some = absurd (cc)
 not_some (Some node) none some = absurd (cc)
-
-some_node : (node : Option NodeConfig) (version : Version) → option_map (λ (n : NodeConfig). n.version) node ≡ Some version → is_some node ≡ true
-some_node None version is = absurd (cc)
-some_node (Some node) version is = refl
 
 place_fails : (found : Option Version) (past : Past) (line : List ℕ) (line_kind : LineKind) (d : Data) (kind : FaultKind) → version_in past ≡ found → IsOfKind line line_kind d → in_order found past line_kind d ≡ Err kind → Fails past line kind
 place_fails None past line kinds.Node d kind none is e = node_fails past line d kind (record { of_kind = is; here = no_node past.node none }) e

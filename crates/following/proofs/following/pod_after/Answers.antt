@@ -10,7 +10,7 @@ differ_after-requires c =
 
 pub returns-in_err-next-clause-refused : goal.returns-in_err-next-clause-refused
 returns-in_err-next-clause-refused c =
-    let p = err_from_is_err_and c.from_residual.result c.from_residual.ensures.1 in
+    let p = err_from_is_err_and c.from_residual-in_err-next.result c.from_residual-in_err-next.ensures.1 in
     let refused = c.in_err-next.ensures.refused in
     rw (p.1, p.2) (inr (refused.0, some_refuses c.args.tick.now c.args.pod c.loop-container.container c.args.differs.now c.index-differs-container.result c.seen_of.result c.loop-container-test.true c.index-differs-container.is c.seen_of.ensures refused.1))
 

@@ -10,7 +10,7 @@ pod_after-requires c =
 
 pub returns-in_err-next-clause-refused : goal.returns-in_err-next-clause-refused
 returns-in_err-next-clause-refused c =
-    let p = err_from_is_err_and c.from_residual.result c.from_residual.ensures.1 in
+    let p = err_from_is_err_and c.from_residual-in_err-next.result c.from_residual-in_err-next.ensures.1 in
     rw (p.1, p.2) (some_pod_refuses c.args.tick.now c.loop-pod.pod c.args.differs.now c.index-differs-pod.result c.as_slice.result.now c.in_err-next.field-0.0 c.loop-pod-test.true c.index-differs-pod.is c.as_slice.ensures c.in_err-next.ensures.refused)
 
 pub loop-pod-preserved : goal.loop-pod-preserved
