@@ -52,7 +52,8 @@ AreBefore differs moment = All (λ d. IsBefore d moment) differs
 
 -- the listing may come next, and the differ has followed it
 abbrev pub Takes : ℕ → Option Seen → Differ → Differ → Type 0
-Takes at seen old new = (h : List Tick) → IsStateOf h old → (is_acceptable h seen ≡ true) × IsStateOf (h ++ recorded at seen ∷ []) new
+Takes at seen old new =
+    (h : List Tick) → IsStateOf h old → (is_acceptable h seen ≡ true) × IsStateOf (h ++ recorded at seen ∷ []) new
 
 -- the listing may not come next
 abbrev pub Refuses : Option Seen → Differ → Type 0
@@ -61,12 +62,14 @@ Refuses seen d = (h : List Tick) → IsStateOf h d → is_acceptable h seen ≡ 
 -- of a pod, the first n differs have followed the tick
 pub record HaveTaken (n : ℕ) (tick : TickObs) (pod : ℕ) (old new : List Differ) : Type 0 where
   pub as_many : length new ≡ n
-  pub each : (c : ℕ) (d : Differ) → c < n → Takes tick.at (seen_of tick pod c) (slice_index_or old c d) (slice_index_or new c d)
+  pub each : (c : ℕ) (d : Differ) → c < n
+      → Takes tick.at (seen_of tick pod c) (slice_index_or old c d) (slice_index_or new c d)
 
 -- all differs of the first n pods have followed the tick
 pub record PodsHaveTaken (n : ℕ) (tick : TickObs) (old new : List (List Differ)) : Type 0 where
   pub as_many : length new ≡ n
-  pub each : (p : ℕ) (ds : List Differ) → p < n → HaveTaken (length (slice_index_or old p ds)) tick p (slice_index_or old p ds) (slice_index_or new p ds)
+  pub each : (p : ℕ) (ds : List Differ) → p < n
+      → HaveTaken (length (slice_index_or old p ds)) tick p (slice_index_or old p ds) (slice_index_or new p ds)
 
 -- a differ of the pod refuses what the tick lists
 pub record SomeRefuses (tick : TickObs) (pod : ℕ) (differs : List Differ) : Type 0 where

@@ -26,4 +26,5 @@ own_ticks ticks pod = filter_map (λ (tick : TickObs). shown_of tick pod) ticks
 
 -- the listings of a container, one for each of its pod's own ticks
 abbrev pub history : List TickObs → ℕ → ℕ → List Tick
-history ticks pod container = map (λ (shown : PodObs). recorded shown.at (listed_in shown container)) (own_ticks ticks pod)
+history ticks pod container =
+    map (λ (shown : PodObs). recorded shown.at (listed_in shown container)) (own_ticks ticks pod)

@@ -21,7 +21,17 @@ of_node past node = record { node = Some node; pods = past.pods; arrivals = past
 
 -- a pod goes behind the earlier ones; it arrives after the ticks so far
 abbrev pub with_pod : Past → PodSpec → Past
-with_pod past pod = record { node = past.node; pods = past.pods ++ pod ∷ []; arrivals = past.arrivals ++ length past.ticks ∷ []; ticks = past.ticks }
+with_pod past pod = record {
+  node = past.node;
+  pods = past.pods ++ pod ∷ [];
+  arrivals = past.arrivals ++ length past.ticks ∷ [];
+  ticks = past.ticks;
+}
 
 abbrev pub with_tick : Past → TickObs → Past
-with_tick past tick = record { node = past.node; pods = past.pods; arrivals = past.arrivals; ticks = past.ticks ++ tick ∷ [] }
+with_tick past tick = record {
+  node = past.node;
+  pods = past.pods;
+  arrivals = past.arrivals;
+  ticks = past.ticks ++ tick ∷ [];
+}

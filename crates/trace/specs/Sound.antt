@@ -36,7 +36,8 @@ HaveOwnKeys pods = (n m : ℕ) (p q : PodSpec) → slice_get pods n ≡ Some p �
 pub record AreArrivals (pods ticks : ℕ) (arrivals : List ℕ) : Type 0 where
   pub as_many : length arrivals ≡ pods
   pub in_range : (n arrival : ℕ) → slice_get arrivals n ≡ Some arrival → arrival ≤ ticks
-  pub in_order : (n m earlier later : ℕ) → n ≤ m → slice_get arrivals n ≡ Some earlier → slice_get arrivals m ≡ Some later → earlier ≤ later
+  pub in_order : (n m earlier later : ℕ) → n ≤ m → slice_get arrivals n ≡ Some earlier
+      → slice_get arrivals m ≡ Some later → earlier ≤ later
 
 -- each tick shows each pod that is present, at moments that rise and are in range; there are not too
 -- many of either
