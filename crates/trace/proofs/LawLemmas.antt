@@ -26,7 +26,7 @@ use Rattle.trace.specs.declared.past.LineKind.TheVariants as kinds
 use Rattle.observations.specs.declared.tick.TickObs.{TickObs}
 use Rattle.trace.specs.declared.listing.Entry.{Entry}
 use Rattle.trace.specs.declared.placing.PlacedEntry.{PlacedEntry}
-use Rattle.trace.specs.Lines.{lines_of, is_blank}
+use Rattle.trace.specs.Lines.{lines_of, is_blank, longest_line}
 use Rattle.trace.specs.Node.{node_of}
 use Rattle.serde_json.specs.Read.{read}
 use Rattle.trace.specs.Pod.{key_of_pod, has_key, most_pods, pod_from}
@@ -159,7 +159,7 @@ line_some past line next e =
     let take : Data → LineKind → Result Past FaultKind = λ d line_kind. in_order (version_in past) past line_kind d in
     let kind : Data → Result Past FaultKind = λ d. some_or UnknownKind (kind_from (text_at (codes "kind") d)) >>= take d in
     let parse : ⊤ → Result Past FaultKind = λ u. json_of line >>= kind in
-    let short = bind_ok (refused_if (nat_lt 1048576 (length line)) TooLong) parse next e in
+    let short = bind_ok (refused_if (nat_lt longest_line (length line)) TooLong) parse next e in
     let json = bind_ok (json_of line) kind next short.2 in
     let line_kind = bind_ok (some_or UnknownKind (kind_from (text_at (codes "kind") json.0))) (take json.0) next json.2 in
     in_order_some (version_in past) past line_kind.0 json.0 next refl line_kind.2

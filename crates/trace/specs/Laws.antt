@@ -20,7 +20,7 @@ use Rattle.trace.specs.declared.listing.ListedInstance.{ListedInstance}
 use Rattle.trace.specs.declared.placing.PlacedListing.{PlacedListing}
 use Rattle.trace.specs.declared.placing.PlacedResult.{PlacedResult}
 use Rattle.trace.specs.declared.placing.PlacedEntry.{PlacedEntry}
-use Rattle.trace.specs.Lines.{lines_of, is_blank}
+use Rattle.trace.specs.Lines.{lines_of, is_blank, longest_line}
 use Rattle.trace.specs.Node.{node_of}
 use Rattle.trace.specs.Pod.{key_of_pod, keys_of, most_pods, pod_from}
 use Rattle.trace.specs.Listings.{entries_of}
@@ -96,7 +96,7 @@ pub record OneFault : Type 0 where
 
 -- the line is at most 1 MiB long, and it is this JSON value
 pub record IsJson (line : List ℕ) (d : Data) : Type 0 where
-  pub short : length line ≤ 1048576
+  pub short : length line ≤ longest_line
   pub json : json_of line ≡ Ok d
 
 -- and of this kind
@@ -160,8 +160,8 @@ pub record IsForwards (past : Past) (line : List ℕ) (d : Data) (at : ℕ) (pla
 -- the first check that a line fails after what is said before it, with the fault that it answers:
 -- the checks of every line, and then those of a node line, of a pod line, or of a tick line
 pub data Fails (past : Past) (line : List ℕ) : FaultKind → Type 0 where
-  too_long : 1048576 < length line → Fails past line TooLong
-  not_json : (kind : FaultKind) → length line ≤ 1048576 → json_of line ≡ Err kind → Fails past line kind
+  too_long : longest_line < length line → Fails past line TooLong
+  not_json : (kind : FaultKind) → length line ≤ longest_line → json_of line ≡ Err kind → Fails past line kind
   unknown_kind : (d : Data) → IsJson line d → kind_from (text_at (codes "kind") d) ≡ None → Fails past line UnknownKind
   misplaced : (line_kind : LineKind) (d : Data) → IsOfKind line line_kind d → (MayStand past line_kind → ⊥) → Fails past line Order
   wrong_node : (d : Data) (kind : FaultKind) → Stands past line kinds.Node d → node_of d ≡ Err kind → Fails past line kind

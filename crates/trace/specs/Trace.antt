@@ -1,5 +1,5 @@
 -- What a text says as a trace, or its first faulty line with that line's first fault.
-use Rattle.std.specs.Prelude.{ℕ, ◌+◌, Bool, false, List, [], ◌∷◌, length, nat_lt, nat_le, Option, Some, None, if◌then◌else◌, Result, Ok, Err, bytes_eq, codes}
+use Rattle.std.specs.Prelude.{ℕ, ◌+◌, ⊤, Bool, false, List, [], ◌∷◌, length, nat_lt, nat_le, Option, Some, None, if◌then◌else◌, Result, Ok, Err, bytes_eq, codes}
 use Rattle.std.specs.Str.{is_utf8}
 use Rattle.serde_json.specs.Data.{Data}
 use Rattle.serde_json.specs.Read.{read}
@@ -16,7 +16,7 @@ use Rattle.trace.specs.declared.node.Version.TheVariants.{One, Two}
 use Rattle.trace.specs.declared.past.Trace.{Trace}
 use Rattle.trace.specs.declared.past.LineKind.{LineKind}
 use Rattle.trace.specs.declared.past.LineKind.TheVariants as kinds
-use Rattle.trace.specs.Lines.{lines_of, is_blank}
+use Rattle.trace.specs.Lines.{lines_of, is_blank, longest_line}
 use Rattle.trace.specs.Node.{node_of}
 use Rattle.trace.specs.Pod.{key_of_pod, has_key, most_pods, pod_from}
 use Rattle.trace.specs.Past.{Past, version_in, of_node, with_pod}
@@ -63,10 +63,13 @@ in_order (Some version) past kinds.Node d = Err Order
 in_order (Some version) past kinds.Pod d = pod_line_at version past d
 in_order (Some version) past kinds.Tick d = tick_at past d
 
+abbrev pub line_length : List ℕ → Result ⊤ FaultKind
+line_length line = refused_if (nat_lt longest_line (length line)) TooLong
+
 -- a line after those that say what is past
 unfoldable pub line_at : Past → List ℕ → Result Past FaultKind
 line_at past line = do
-  short ← refused_if (nat_lt 1048576 (length line)) TooLong
+  short ← line_length line
   d ← json_of line
   line_kind ← some_or UnknownKind (kind_from (text_at (codes "kind") d))
   in_order (version_in past) past line_kind d

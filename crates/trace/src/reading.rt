@@ -2,12 +2,12 @@
 
 ghost use Rattle.std.specs.Prelude.{◌≡◌, [], option_map, None, Ok, IfOk, string_bytes};
 ghost use Rattle.serde_json.specs.View.{view};
-ghost use Rattle.trace.specs.Gives.{Gives, GivesAt};
+ghost use Rattle.trace.specs.Gives.{Gives, GivesAt, GivesExactly};
 ghost use Rattle.name_list.specs.Names.{place_of};
 ghost use Rattle.trace.specs.Past.{version_in, with_pod};
 ghost use Rattle.trace.specs.Pod.{key_of_pod, keys_of};
 ghost use Rattle.trace.specs.Sound.{AreAcceptable, AreRising, HasShape};
-ghost use Rattle.trace.specs.Trace.{json_of, kind_from, with_node, with_new_pod, is_late, pod_line_at, line_at, trace_of, finished, in_order};
+ghost use Rattle.trace.specs.Trace.{json_of, kind_from, with_node, with_new_pod, is_late, pod_line_at, line_length, line_at, trace_of, finished, in_order};
 
 use crate::fault::{FaultKind, LineFault, refused_if};
 use crate::lines::{first_line, is_blank};
@@ -22,6 +22,9 @@ use name_list::NameList;
 use sequence::Sequence;
 use serde_json::Value;
 use std::alloc::Global;
+
+/// The most bytes of a line, 1 MiB.
+const LONGEST_LINE: usize = 1_048_576;
 
 fn json(alloc: Global, line: &[u8]) -> Result<Value, FaultKind>
     ensures { Gives view result (json_of line.now) }
@@ -156,13 +159,17 @@ fn take_in_order(
     }
 }
 
+fn line_length(line: &[u8]) -> Result<(), FaultKind>
+    ensures { GivesExactly (λ t. t) result (line_length line.now) }
+{
+    refused_if(line.len() > LONGEST_LINE, FaultKind::TooLong)
+}
+
 #[tactic(auto, unfolding(crate::specs::Trace::line_at))]
 fn take_line(alloc: Global, reader: Reader, line: &[u8]) -> Result<Reader, FaultKind>
     ensures { Gives (λ r. r) result (line_at reader line.now) }
 {
-    if line.len() > 1_048_576 {
-        return Err(FaultKind::TooLong);
-    }
+    line_length(line)?;
     let value = json(alloc, line)?;
     let Some(line_kind) = kind_from(text_at(&value, "kind")) else {
         return Err(FaultKind::UnknownKind);

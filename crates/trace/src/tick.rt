@@ -4,7 +4,7 @@ ghost use Rattle.std.specs.Prelude.{◌≡◌, ◌++◌, ◌∷◌, [], option_m
 ghost use Rattle.std.specs.List.{list_any};
 ghost use Rattle.serde_json.specs.View.{view};
 ghost use Rattle.json_fields.specs.Reading.{refused_if};
-ghost use Rattle.trace.specs.Gives.{Gives};
+ghost use Rattle.trace.specs.Gives.{Gives, GivesExactly};
 ghost use Rattle.trace.specs.Past.{with_tick};
 ghost use Rattle.trace.specs.Placing.{placed_of};
 ghost use Rattle.trace.specs.Observed.{seen_in, outcome_in, results_in, entry_for, listings_of, results_of, seen_listed, containers_from, pod_observed, pods_from, observed, lacks_code, some_code_missing};
@@ -29,7 +29,7 @@ use state_diff::{CriState, Seen};
 use std::alloc::{AllocError, Global};
 
 fn moment(ticks: &[TickObs], found: Option<&Value>) -> Result<u64, FaultKind>
-    ensures { Gives (λ n. n) result (moment_of ticks.now (option_map (λ v. view v.now) found.entry)) }
+    ensures { GivesExactly (λ n. n) result (moment_of ticks.now (option_map (λ v. view v.now) found.entry)) }
 {
     let Some(value) = found else {
         return Err(FaultKind::Moment);
@@ -210,13 +210,13 @@ fn some_code_missing(entries: &[PlacedEntry]) -> bool
 }
 
 fn room(reader: &Reader) -> Result<(), FaultKind>
-    ensures { Gives (λ t. t) result (refused_if (nat_le most_ticks (length reader.now.ticks)) FaultKind.TooMany) }
+    ensures { GivesExactly (λ t. t) result (refused_if (nat_le most_ticks (length reader.now.ticks)) FaultKind.TooMany) }
 {
     refused_if(reader.ticks.as_slice().len() >= 20_000, FaultKind::TooMany)
 }
 
 fn moment_after(reader: &Reader, found: Option<&Value>) -> Result<u64, FaultKind>
-    ensures gives { Gives (λ n. n) result (moment_of reader.now.ticks (option_map (λ v. view v.now) found.entry)) }
+    ensures gives { GivesExactly (λ n. n) result (moment_of reader.now.ticks (option_map (λ v. view v.now) found.entry)) }
     ensures later { IfOk result (λ at. EndBefore reader.now.ticks at) }
 {
     moment(reader.ticks.as_slice(), found)

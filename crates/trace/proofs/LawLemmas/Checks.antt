@@ -18,6 +18,7 @@ use Rattle.trace.specs.declared.past.LineKind.TheVariants as kinds
 use Rattle.observations.specs.declared.tick.TickObs.{TickObs}
 use Rattle.trace.specs.declared.listing.Entry.{Entry}
 use Rattle.trace.specs.declared.placing.PlacedEntry.{PlacedEntry}
+use Rattle.trace.specs.Lines.{longest_line}
 use Rattle.trace.specs.Node.{node_of}
 use Rattle.trace.specs.Pod.{key_of_pod, has_key, most_pods, pod_from}
 use Rattle.trace.proofs.Versions.{no_node, some_node}
@@ -244,7 +245,7 @@ kind_fails : (past : Past) (line : List ℕ) (d : Data) (found : Option LineKind
 kind_fails past line d None kind is found e = subst (λ (k : FaultKind). Fails past line k) (same_fault {A = Past} UnknownKind kind e) (unknown_kind d is found)
 kind_fails past line d (Some line_kind) kind is found e = place_fails (version_in past) past line line_kind d kind refl (record { json = is; kind = found }) e
 
-json_fails : (past : Past) (line : List ℕ) (kind : FaultKind) → length line ≤ 1048576 → (json_of line >>= with_json past) ≡ Err kind → Fails past line kind
+json_fails : (past : Past) (line : List ℕ) (kind : FaultKind) → length line ≤ longest_line → (json_of line >>= with_json past) ≡ Err kind → Fails past line kind
 json_fails past line kind short e = elim (bind_err (json_of line) (with_json past) kind e) [
   | inl here ↦ not_json kind short here
   | inr later ↦ kind_fails past line later.0 (kind_from (text_at (codes "kind") later.0)) kind (record { short = short; json = later.1 }) refl later.2
@@ -252,19 +253,19 @@ json_fails past line kind short e = elim (bind_err (json_of line) (with_json pas
 
 pub line_fails : (past : Past) (line : List ℕ) (kind : FaultKind) → line_at past line ≡ Err kind → Fails past line kind
 unfolding line_at
-line_fails past line kind e = elim (tested (nat_lt 1048576 (length line)) TooLong (λ u. json_of line >>= with_json past) kind e) [
-  | inl here ↦ subst (λ (k : FaultKind). Fails past line k) here.1 (too_long (ltb-true 1048576 (length line) here.0))
-  | inr later ↦ json_fails past line kind (ltb-false 1048576 (length line) later.0) later.1
+line_fails past line kind e = elim (tested (nat_lt longest_line (length line)) TooLong (λ u. json_of line >>= with_json past) kind e) [
+  | inl here ↦ subst (λ (k : FaultKind). Fails past line k) here.1 (too_long (ltb-true longest_line (length line) here.0))
+  | inr later ↦ json_fails past line kind (ltb-false longest_line (length line) later.0) later.1
 ]
 
 -- from a check that fails to the fault
-of_short : (past : Past) (line : List ℕ) → length line ≤ 1048576 → line_at past line ≡ (json_of line >>= with_json past)
+of_short : (past : Past) (line : List ℕ) → length line ≤ longest_line → line_at past line ≡ (json_of line >>= with_json past)
 unfolding line_at
-of_short past line short = passed (nat_lt 1048576 (length line)) TooLong (λ u. json_of line >>= with_json past) (le-ltb 1048576 (length line) short)
+of_short past line short = passed (nat_lt longest_line (length line)) TooLong (λ u. json_of line >>= with_json past) (le-ltb longest_line (length line) short)
 
-of_long : (past : Past) (line : List ℕ) → 1048576 < length line → line_at past line ≡ Err TooLong
+of_long : (past : Past) (line : List ℕ) → longest_line < length line → line_at past line ≡ Err TooLong
 unfolding line_at
-of_long past line long = failed (nat_lt 1048576 (length line)) TooLong (λ u. json_of line >>= with_json past) (lt-ltb 1048576 (length line) long)
+of_long past line long = failed (nat_lt longest_line (length line)) TooLong (λ u. json_of line >>= with_json past) (lt-ltb longest_line (length line) long)
 
 of_json : (past : Past) (line : List ℕ) (d : Data) → IsJson line d → line_at past line ≡ with_json past d
 of_json past line d is = of_short past line is.short ∙ then_ok (json_of line) (with_json past) d is.json
@@ -429,9 +430,9 @@ kind_says past line d (Some line_kind) next is found e = place_says (version_in 
 line_says_it : (past : Past) (line : List ℕ) (next : Past) → line_at past line ≡ Ok next → Says past line next
 unfolding line_at
 line_says_it past line next e =
-    let short = cleared (nat_lt 1048576 (length line)) TooLong (λ u. json_of line >>= with_json past) next e in
+    let short = cleared (nat_lt longest_line (length line)) TooLong (λ u. json_of line >>= with_json past) next e in
     let json = bind_ok (json_of line) (with_json past) next short.1 in
-    let is : IsJson line json.0 = record { short = ltb-false 1048576 (length line) short.0; json = json.1 } in
+    let is : IsJson line json.0 = record { short = ltb-false longest_line (length line) short.0; json = json.1 } in
     kind_says past line json.0 (kind_from (text_at (codes "kind") json.0)) next is refl json.2
 
 -- from what a line says to what it leaves
