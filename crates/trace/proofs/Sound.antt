@@ -8,7 +8,6 @@ use Rattle.state_diff.specs.declared.seen.Seen.{Seen}
 use Rattle.state_diff.specs.Instances.{Tick, IsAcceptableHistory}
 use Rattle.state_diff.proofs.Acceptable.{is_acceptable_is}
 use Rattle.state_diff.proofs.Order.{acceptable_more}
-use Rattle.manifest.specs.declared.pod.PodSpec.{PodSpec}
 use Rattle.observations.specs.declared.tick.TickObs.{TickObs}
 use Rattle.observations.specs.declared.pod.PodObs.{PodObs}
 use Rattle.observations.specs.Observations.{shown_of, listed_in, seen_of, history}

@@ -1,6 +1,7 @@
 //! Reading a whole trace.
 
-ghost use Rattle.std.specs.Prelude.{◌≡◌, [], option_map, None, Ok, IfOk, string_bytes};
+ghost use Rattle.serde_json.specs.Errors.{IsMemory};
+ghost use Rattle.std.specs.Prelude.{◌≡◌, ◌⊎◌, [], option_map, None, Ok, IfOk, string_bytes};
 ghost use Rattle.serde_json.specs.View.{view};
 ghost use Rattle.trace.specs.Gives.{Gives, GivesAt, GivesExactly};
 ghost use Rattle.name_list.specs.Names.{place_of};
@@ -26,13 +27,23 @@ use std::alloc::Global;
 /// The most bytes of a line, 1 MiB.
 const LONGEST_LINE: usize = 1_048_576;
 
+/// What an error in a line's JSON means.
+fn json_fault(error: &serde_json::Error) -> FaultKind
+    ensures { (IsMemory error.now × (result ≡ FaultKind.OutOfMemory)) ⊎ ((IsMemory error.now → ⊥) × (result ≡ FaultKind.NotJson)) }
+{
+    if error.is_memory() {
+        FaultKind::OutOfMemory
+    } else {
+        FaultKind::NotJson
+    }
+}
+
 fn json(alloc: Global, line: &[u8]) -> Result<Value, FaultKind>
     ensures { Gives view result (json_of line.now) }
 {
     match Value::from_slice(alloc, line) {
         Ok(value) => Ok(value),
-        Err(e) if e.is_memory() => Err(FaultKind::OutOfMemory),
-        Err(_) => Err(FaultKind::NotJson),
+        Err(e) => Err(json_fault(&e)),
     }
 }
 
