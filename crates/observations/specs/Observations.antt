@@ -1,5 +1,6 @@
--- What the ticks show of one container.
+-- What the ticks show of one pod and of one container.
 use Rattle.std.specs.Prelude.{ℕ, List, map, Option, option_and_then, slice_get}
+use Rattle.std.specs.List.{filter_map}
 use Rattle.histories.specs.Histories.{recorded}
 use Rattle.state_diff.specs.declared.seen.Seen.{Seen}
 use Rattle.state_diff.specs.Instances.{Tick}
@@ -7,12 +8,23 @@ use Rattle.observations.specs.declared.container.ContainerObs.{ContainerObs}
 use Rattle.observations.specs.declared.pod.PodObs.{PodObs}
 use Rattle.observations.specs.declared.tick.TickObs.{TickObs}
 
+-- a tick's observation of a pod, by number, if it has one
+abbrev pub shown_of : TickObs → ℕ → Option PodObs
+shown_of tick pod = slice_get tick.pods pod
+
+-- what an observation of a pod lists of a container, by number
+abbrev pub listed_in : PodObs → ℕ → Option Seen
+listed_in shown container = option_and_then (λ (o : ContainerObs). o.seen) (slice_get shown.containers container)
+
 -- what a tick lists of a container of a pod, both by number
 abbrev pub seen_of : TickObs → ℕ → ℕ → Option Seen
-seen_of tick pod container =
-    option_and_then (λ (o : ContainerObs). o.seen)
-    (option_and_then (λ (p : PodObs). slice_get p.containers container) (slice_get tick.pods pod))
+seen_of tick pod container = option_and_then (λ (shown : PodObs). listed_in shown container) (shown_of tick pod)
 
--- the listings of a container, tick by tick
+-- a pod's own ticks: what is shown of it, by the ticks that have an observation of it
+abbrev pub own_ticks : List TickObs → ℕ → List PodObs
+own_ticks ticks pod = filter_map (λ (tick : TickObs). shown_of tick pod) ticks
+
+-- the listings of a container, one for each of its pod's own ticks
 abbrev pub history : List TickObs → ℕ → ℕ → List Tick
-history ticks pod container = map (λ (tick : TickObs). recorded tick.at (seen_of tick pod container)) ticks
+history ticks pod container =
+    map (λ (shown : PodObs). recorded shown.at (listed_in shown container)) (own_ticks ticks pod)

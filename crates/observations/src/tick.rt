@@ -10,7 +10,7 @@ use state_diff::Seen;
 pub struct TickObs {
     /// The moment, in seconds, below 2^40 and later than the last tick's.
     pub at: u64,
-    /// One observation for each pod, by number.
+    /// One observation for each pod that is present, by number.
     pub pods: Sequence<PodObs>,
 }
 

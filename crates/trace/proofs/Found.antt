@@ -1,5 +1,6 @@
 -- What serde_json found, in the words of the definitions.
-use Rattle.std.proofs.Common.{◌≡◌, List, ℕ, map, Option, Some, None, Ok, Err, ap, refl, inl, inr}
+use Rattle.std.proofs.Common.{◌≡◌, ◌⊎◌, List, ℕ, map, Option, Some, None, Ok, Err, ap, refl, sym, subst, inl, inr}
+use Rattle.std.specs.Prelude.{MatchBool}
 use Rattle.std.specs.Str.{IsUtf8, is_utf8}
 use Rattle.std.proofs.lemmas.Bool.{cases_Bool}
 use Rattle.std.proofs.lemmas.Str.{IsUtf8-from_is_utf8, is_utf8-from_IsUtf8}
@@ -8,7 +9,9 @@ use Rattle.serde_json.specs.Read.{read}
 use Rattle.serde_json.specs.View.{view, items_view}
 use Rattle.serde_json.specs.declared.value.Value.{Value}
 use Rattle.json_fields.proofs.Items.{items_list-items_of}
-use Rattle.trace.specs.declared.fault.FaultKind.TheVariants.{NotJson}
+use Rattle.trace.specs.declared.fault.FaultKind.{FaultKind}
+use Rattle.trace.specs.declared.fault.FaultKind.TheVariants.{NotJson, OutOfMemory}
+use Rattle.trace.specs.Gives.{is_memory}
 use Rattle.trace.specs.Listings.{items_from}
 use Rattle.trace.specs.Trace.{json_of}
 
@@ -26,3 +29,11 @@ json_missing line none =
       | inl good ↦ rw (good, none (IsUtf8-from_is_utf8 line good)) refl
       | inr bad ↦ rw bad refl
     ]
+
+-- what is answered for an error: want of memory, or else that the line is no JSON
+pub json_refused : (line : List ℕ) (Memory : Type 0) (kind : FaultKind) → (Memory × (kind ≡ OutOfMemory)) ⊎ ((Memory → ⊥) × (kind ≡ NotJson))
+    → ((Memory → ⊥) → IsUtf8 line → read line ≡ None) → MatchBool (is_memory kind) (Unit {0}) (json_of line ≡ Err kind)
+json_refused line Memory kind (inl memory) none =
+    subst (λ (k : FaultKind). MatchBool (is_memory k) (Unit {0}) (json_of line ≡ Err k)) (sym memory.1) tt
+json_refused line Memory kind (inr other) none =
+    subst (λ (k : FaultKind). MatchBool (is_memory k) (Unit {0}) (json_of line ≡ Err k)) (sym other.1) (json_missing line (none other.0))

@@ -14,6 +14,7 @@ use Rattle.serde_json.specs.Data.{Data}
 use Rattle.json_fields.specs.Fields.{field_at, text_at}
 use Rattle.json_fields.specs.Reading.{◌>>=◌, refused_if, some_or}
 use Rattle.json_fields.proofs.Steps.{bind_ok}
+use Rattle.trace.proofs.Versions.{some_node}
 use Rattle.manifest.specs.declared.pod.PodSpec.{PodSpec}
 use Rattle.trace.specs.declared.fault.FaultKind.{FaultKind}
 use Rattle.trace.specs.declared.fault.FaultKind.TheVariants.{TooLong, DuplicatePod, UnknownKind, Order, TooMany}
@@ -25,15 +26,16 @@ use Rattle.trace.specs.declared.past.LineKind.TheVariants as kinds
 use Rattle.observations.specs.declared.tick.TickObs.{TickObs}
 use Rattle.trace.specs.declared.listing.Entry.{Entry}
 use Rattle.trace.specs.declared.placing.PlacedEntry.{PlacedEntry}
-use Rattle.trace.specs.Lines.{lines_of, is_blank}
+use Rattle.trace.specs.Lines.{lines_of, is_blank, longest_line}
 use Rattle.trace.specs.Node.{node_of}
 use Rattle.serde_json.specs.Read.{read}
 use Rattle.trace.specs.Pod.{key_of_pod, has_key, most_pods, pod_from}
 use Rattle.trace.specs.Listings.{entries_of}
 use Rattle.trace.specs.Placing.{placed_of}
-use Rattle.trace.specs.Past.{Past, with_tick}
+use Rattle.trace.specs.declared.node.Version.{Version}
+use Rattle.trace.specs.Past.{Past, version_in, of_node, with_pod, with_tick}
 use Rattle.trace.specs.Tick.{moment_of, most_ticks, observed_in, tick_at}
-use Rattle.trace.specs.Trace.{json_of, kind_from, with_node, pod_line_at, in_order, line_at, at_line, finished, read_on, nothing, trace_of}
+use Rattle.trace.specs.Trace.{json_of, kind_from, with_node, is_late, pod_line_at, in_order, line_at, at_line, finished, read_on, nothing, trace_of}
 use Rattle.trace.specs.Laws.{Leaves, AreSaid, IsFaultAt, NoneCounts, IsFirstFault, IsWhole, FirstFault, WholeTrace, OneFault}
 
 drop_here : (lines : List (List ℕ)) (n : ℕ) (line : List ℕ) → slice_get lines n ≡ Some line → drop n lines ≡ line ∷ drop (suc n) lines
@@ -104,28 +106,27 @@ said_or_fault lines (suc n) le = elim (said_or_fault lines n (omega arith)) [
 with_node_some : (past : Past) (d : Data) (next : Past) → with_node past d ≡ Ok next → is_some next.node ≡ true
 unfolding with_node
 with_node_some past d next e =
-    let with : NodeConfig → Past = λ node. record { node = Some node; pods = past.pods; ticks = past.ticks } in
+    let with : NodeConfig → Past = of_node past in
     let last : NodeConfig → Result Past FaultKind = λ node. Ok (with node) in
     let node = bind_ok (node_of d) last next e in
     let given : Ok (with node.0) ≡ Ok next = node.2 in
     let is_next : with node.0 ≡ next = cc in
     subst (λ (p : Past). is_some p.node ≡ true) is_next refl
 
-pod_line_keeps : (past : Past) (d : Data) (next : Past) → pod_line_at past d ≡ Ok next → past.node ≡ next.node
+pod_line_keeps : (version : Version) (past : Past) (d : Data) (next : Past) → pod_line_at version past d ≡ Ok next → past.node ≡ next.node
 unfolding pod_line_at
-pod_line_keeps past d next e =
-    let with_pod : PodSpec → Past = λ pod. record { node = past.node; pods = past.pods ++ pod ∷ []; ticks = past.ticks } in
-    let last : PodSpec → ⊤ → Result Past FaultKind = λ pod u. Ok (with_pod pod) in
+pod_line_keeps version past d next e =
+    let last : PodSpec → ⊤ → Result Past FaultKind = λ pod u. Ok (with_pod past pod) in
     let keyed : PodSpec → Result Past FaultKind = λ pod. refused_if (has_key past.pods (key_of_pod pod)) DuplicatePod >>= last pod in
     let read : ⊤ → Result Past FaultKind = λ u. pod_from (field_at (codes "pod") d) >>= keyed in
     let first : ⊤ → Result Past FaultKind = λ u. refused_if (nat_le most_pods (length past.pods)) TooMany >>= read in
-    let before = bind_ok (refused_if (nat_lt 0 (length past.ticks)) Order) first next e in
+    let before = bind_ok (refused_if (is_late version past.ticks) Order) first next e in
     let room = bind_ok (refused_if (nat_le most_pods (length past.pods)) TooMany) read next before.2 in
     let pod = bind_ok (pod_from (field_at (codes "pod") d)) keyed next room.2 in
     let new = bind_ok (refused_if (has_key past.pods (key_of_pod pod.0)) DuplicatePod) (last pod.0) next pod.2 in
-    let given : Ok (with_pod pod.0) ≡ Ok next = new.2 in
-    let is_next : with_pod pod.0 ≡ next = cc in
-    ap (λ (p : Past). p.node) is_next
+    let given : Ok (with_pod past pod.0) ≡ Ok next = new.2 in
+    let is_next : with_pod past pod.0 ≡ next = cc in
+    ap (λ (p : Past). p.node) {x = with_pod past pod.0} is_next
 
 tick_line_keeps : (past : Past) (d : Data) (next : Past) → tick_at past d ≡ Ok next → past.node ≡ next.node
 unfolding tick_at
@@ -144,24 +145,24 @@ tick_line_keeps past d next e =
     let is_next : with_tick past tick.0 ≡ next = cc in
     ap (λ (p : Past). p.node) {x = with_tick past tick.0} is_next
 
-in_order_some : (node : Option NodeConfig) (past : Past) (line_kind : LineKind) (d : Data) (next : Past) → past.node ≡ node → in_order node past line_kind d ≡ Ok next → is_some next.node ≡ true
+in_order_some : (found : Option Version) (past : Past) (line_kind : LineKind) (d : Data) (next : Past) → version_in past ≡ found → in_order found past line_kind d ≡ Ok next → is_some next.node ≡ true
 in_order_some None past kinds.Node d next is e = with_node_some past d next e
 in_order_some None past kinds.Pod d next is e = absurd (cc)
 in_order_some None past kinds.Tick d next is e = absurd (cc)
-in_order_some (Some node) past kinds.Node d next is e = absurd (cc)
-in_order_some (Some node) past kinds.Pod d next is e = subst (λ (o : Option NodeConfig). is_some o ≡ true) (sym is ∙ pod_line_keeps past d next e) refl
-in_order_some (Some node) past kinds.Tick d next is e = subst (λ (o : Option NodeConfig). is_some o ≡ true) (sym is ∙ tick_line_keeps past d next e) refl
+in_order_some (Some version) past kinds.Node d next is e = absurd (cc)
+in_order_some (Some version) past kinds.Pod d next is e = subst (λ (o : Option NodeConfig). is_some o ≡ true) (pod_line_keeps version past d next e) (some_node past.node version is)
+in_order_some (Some version) past kinds.Tick d next is e = subst (λ (o : Option NodeConfig). is_some o ≡ true) (tick_line_keeps past d next e) (some_node past.node version is)
 
 line_some : (past : Past) (line : List ℕ) (next : Past) → line_at past line ≡ Ok next → is_some next.node ≡ true
 unfolding line_at
 line_some past line next e =
-    let take : Data → LineKind → Result Past FaultKind = λ d line_kind. in_order past.node past line_kind d in
+    let take : Data → LineKind → Result Past FaultKind = λ d line_kind. in_order (version_in past) past line_kind d in
     let kind : Data → Result Past FaultKind = λ d. some_or UnknownKind (kind_from (text_at (codes "kind") d)) >>= take d in
     let parse : ⊤ → Result Past FaultKind = λ u. json_of line >>= kind in
-    let short = bind_ok (refused_if (nat_lt 1048576 (length line)) TooLong) parse next e in
+    let short = bind_ok (refused_if (nat_lt longest_line (length line)) TooLong) parse next e in
     let json = bind_ok (json_of line) kind next short.2 in
     let line_kind = bind_ok (some_or UnknownKind (kind_from (text_at (codes "kind") json.0))) (take json.0) next json.2 in
-    in_order_some past.node past line_kind.0 json.0 next refl line_kind.2
+    in_order_some (version_in past) past line_kind.0 json.0 next refl line_kind.2
 
 earlier : (n m : ℕ) → m < suc n → (m < n) ⊎ (m ≡ n)
 earlier zero zero lt = inr refl
@@ -214,12 +215,13 @@ end_whole : (lines : List (List ℕ)) (trace : Trace) (past : Past) (node : Opti
     → finished (length lines + 1) past node ≡ Ok trace → IsWhole lines trace
 end_whole lines trace past None said none e = absurd (cc)
 end_whole lines trace past (Some node) said some e =
-    let is : record { node = node; pods = past.pods; ticks = past.ticks } ≡ trace = cc in
+    let is : record { node = node; pods = past.pods; arrivals = past.arrivals; ticks = past.ticks } ≡ trace = cc in
     record {
       past = past;
       said = said;
       node = some ∙ ap (λ (t : Trace). Some t.node) is;
       pods = ap (λ (t : Trace). t.pods) is;
+      arrivals = ap (λ (t : Trace). t.arrivals) is;
       ticks = ap (λ (t : Trace). t.ticks) is;
     }
 
@@ -256,8 +258,9 @@ whole_is lines trace is =
     let past = is.past in
     ended lines past is.said
     ∙ ap (λ (o : Option NodeConfig). finished n past o) is.node
-    ∙ ap (λ (ps : List PodSpec). Ok (record { node = trace.node; pods = ps; ticks = past.ticks })) is.pods
-    ∙ ap (λ (ts : List TickObs). Ok (record { node = trace.node; pods = trace.pods; ticks = ts })) is.ticks
+    ∙ ap (λ (ps : List PodSpec). Ok (record { node = trace.node; pods = ps; arrivals = past.arrivals; ticks = past.ticks })) is.pods
+    ∙ ap (λ (arrivals : List ℕ). Ok (record { node = trace.node; pods = trace.pods; arrivals = arrivals; ticks = past.ticks })) is.arrivals
+    ∙ ap (λ (ts : List TickObs). Ok (record { node = trace.node; pods = trace.pods; arrivals = trace.arrivals; ticks = ts })) is.ticks
 
 -- lines say one thing at most
 one_left : (before past past' : Past) (line : List ℕ) → Leaves before line past → Leaves before line past' → past ≡ past'

@@ -1,11 +1,10 @@
 pub mod Cutting
-pub mod FollowedLemmas
-pub mod Forwards
 pub mod Found
 pub mod Keys
-pub mod Listed
 pub mod Moments
 pub mod Said
 pub mod Shape
+pub mod Shown
 pub mod Sound
+pub mod Versions
 pub mod LawLemmas

@@ -1,64 +1,66 @@
--- The moments of ticks, in the history of a container.
-use Rattle.std.proofs.Common.{◌≡◌, ℕ, zero, suc, ◌-◌, ◌<◌, ◌&&◌, cond, Bool, true, false, List, [], ◌∷◌, ◌++◌, length, Option, Some, None, Ok, Err, refl, sym, subst, arith}
+-- The moments of ticks.
+use Rattle.std.proofs.Common.{◌≡◌, ℕ, zero, suc, ◌-◌, ◌<◌, ◌&&◌, cond, Bool, true, false, List, [], ◌∷◌, ◌++◌, length, map, Option, Some, None, Ok, Err, refl, sym, subst, arith}
 use Rattle.std.specs.Prelude.{slice_get, option_map, option_and_then, nat_lt, ◌^◌, IfSome}
 use Rattle.std.proofs.lemmas.Bool.{ltb-true}
 use Rattle.std.proofs.lemmas.List.{length-map, map_push}
 use Rattle.serde_json.specs.Data.{Data}
 use Rattle.serde_json.specs.Find.{as_number, as_u64}
-use Rattle.histories.specs.Histories.{recorded, moment_at, IsRising, last_moment, EndsBefore}
+use Rattle.histories.specs.Histories.{Recorded, recorded, moment_at, IsRising, last_moment, EndsBefore}
 use Rattle.histories.proofs.Moments.{IsRising-more}
-use Rattle.state_diff.specs.Instances.{Tick}
 use Rattle.trace.specs.declared.fault.FaultKind.TheVariants.{Moment}
 use Rattle.observations.specs.declared.tick.TickObs.{TickObs}
-use Rattle.trace.specs.Followed.{EndBefore}
-use Rattle.observations.specs.Observations.{seen_of, history}
+use Rattle.following.specs.Followed.{EndBefore}
 use Rattle.trace.specs.Sound.{AreRising}
 use Rattle.trace.specs.Tick.{is_later, moment_from, moment_of}
 
-pub moment_at-history : (ticks : List TickObs) (pod container t : ℕ) → moment_at (history ticks pod container) t ≡ option_map (λ (tick : TickObs). tick.at) (slice_get ticks t)
-moment_at-history [] pod container t = refl
-moment_at-history (x ∷ xs) pod container zero = refl
-moment_at-history (x ∷ xs) pod container (suc t) = moment_at-history xs pod container t
+-- the ticks at their moments
+abbrev stamped : List TickObs → List (Recorded TickObs)
+stamped ticks = map (λ (tick : TickObs). recorded tick.at tick) ticks
+
+moment_at-stamped : (ticks : List TickObs) (t : ℕ) → moment_at (stamped ticks) t ≡ option_map (λ (tick : TickObs). tick.at) (slice_get ticks t)
+moment_at-stamped [] t = refl
+moment_at-stamped (x ∷ xs) zero = refl
+moment_at-stamped (x ∷ xs) (suc t) = moment_at-stamped xs t
 
 -- the tick whose moment it is
-tick_of_moment : (ticks : List TickObs) (pod container t m : ℕ) → moment_at (history ticks pod container) t ≡ Some m
+tick_of_moment : (ticks : List TickObs) (t m : ℕ) → moment_at (stamped ticks) t ≡ Some m
     → (tick : TickObs) × (slice_get ticks t ≡ Some tick) × (tick.at ≡ m)
-tick_of_moment [] pod container t m e = absurd (cc)
-tick_of_moment (x ∷ xs) pod container zero m e = (x, refl, cc)
-tick_of_moment (x ∷ xs) pod container (suc t) m e = tick_of_moment xs pod container t m e
+tick_of_moment [] t m e = absurd (cc)
+tick_of_moment (x ∷ xs) zero m e = (x, refl, cc)
+tick_of_moment (x ∷ xs) (suc t) m e = tick_of_moment xs t m e
 
-last_moment-history : (ticks : List TickObs) (pod container : ℕ) → last_moment (history ticks pod container) ≡ option_map (λ (tick : TickObs). tick.at) (slice_get ticks (length ticks - 1))
-last_moment-history ticks pod container =
-    let f : TickObs → Tick = λ t. recorded t.at (seen_of t pod container) in
-    rw (length-map ticks f) (moment_at-history ticks pod container (length ticks - 1))
+last_moment-stamped : (ticks : List TickObs) → last_moment (stamped ticks) ≡ option_map (λ (tick : TickObs). tick.at) (slice_get ticks (length ticks - 1))
+last_moment-stamped ticks =
+    let f : TickObs → Recorded TickObs = λ t. recorded t.at t in
+    rw (length-map ticks f) (moment_at-stamped ticks (length ticks - 1))
 
-pub history-ends_before : (ticks : List TickObs) (pod container moment : ℕ) → EndBefore ticks moment → EndsBefore (history ticks pod container) moment
-history-ends_before ticks pod container moment before =
-    subst (λ (o : Option ℕ). IfSome o (λ last. last < moment)) (sym (last_moment-history ticks pod container)) (of_tick (slice_get ticks (length ticks - 1)) before)
+stamped-ends_before : (ticks : List TickObs) (moment : ℕ) → EndBefore ticks moment → EndsBefore (stamped ticks) moment
+stamped-ends_before ticks moment before =
+    subst (λ (o : Option ℕ). IfSome o (λ last. last < moment)) (sym (last_moment-stamped ticks)) (of_tick (slice_get ticks (length ticks - 1)) before)
   where
     of_tick : (o : Option TickObs) → IfSome o (λ last. last.at < moment) → IfSome (option_map (λ (tick : TickObs). tick.at) o) (λ last. last < moment)
     of_tick None before = tt
     of_tick (Some tick) before = before
 
--- the moments of ticks rise where those of a container's listings do
-pub history-rising : (ticks : List TickObs) (pod container : ℕ) → AreRising ticks → IsRising (history ticks pod container)
-history-rising ticks pod container rising t u m n lt e f =
-    let earlier = tick_of_moment ticks pod container t m e in
-    let later = tick_of_moment ticks pod container u n f in
+-- the moments of ticks rise where they do as a history
+stamped-rising : (ticks : List TickObs) → AreRising ticks → IsRising (stamped ticks)
+stamped-rising ticks rising t u m n lt e f =
+    let earlier = tick_of_moment ticks t m e in
+    let later = tick_of_moment ticks u n f in
     let is : earlier.0.at < later.0.at = rising t u earlier.0 later.0 lt earlier.1 later.1 in
     let m_is : earlier.0.at ≡ m = earlier.2 in
     let n_is : later.0.at ≡ n = later.2 in
     omega arith
 
-rising-history : (ticks : List TickObs) (pod container : ℕ) → IsRising (history ticks pod container) → AreRising ticks
-rising-history ticks pod container rising t u earlier later lt e f =
-    rising t u earlier.at later.at lt (rw (moment_at-history ticks pod container t, e) refl) (rw (moment_at-history ticks pod container u, f) refl)
+rising-stamped : (ticks : List TickObs) → IsRising (stamped ticks) → AreRising ticks
+rising-stamped ticks rising t u earlier later lt e f =
+    rising t u earlier.at later.at lt (rw (moment_at-stamped ticks t, e) refl) (rw (moment_at-stamped ticks u, f) refl)
 
 -- one tick more, later than the last one
 pub rising-more : (ticks : List TickObs) (tick : TickObs) → AreRising ticks → EndBefore ticks tick.at → AreRising (ticks ++ tick ∷ [])
 rising-more ticks tick rising before =
-    let more = IsRising-more (history ticks 0 0) (recorded tick.at (seen_of tick 0 0)) (history-rising ticks 0 0 rising) (history-ends_before ticks 0 0 tick.at before) in
-    rising-history (ticks ++ tick ∷ []) 0 0 (subst (λ (h : List Tick). IsRising h) (sym (map_push (λ (t : TickObs). recorded t.at (seen_of t 0 0)) ticks tick)) more)
+    let more = IsRising-more (stamped ticks) (recorded tick.at tick) (stamped-rising ticks rising) (stamped-ends_before ticks tick.at before) in
+    rising-stamped (ticks ++ tick ∷ []) (subst (λ (h : List (Recorded TickObs)). IsRising h) (sym (map_push (λ (t : TickObs). recorded t.at t) ticks tick)) more)
 
 -- a tick's moment is later than the last one's
 pub moment_later : (ticks : List TickObs) (found : Option Data) (at : ℕ) → moment_of ticks found ≡ Ok at → EndBefore ticks at

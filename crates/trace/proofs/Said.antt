@@ -1,7 +1,8 @@
 -- What every line that counts keeps holds of the whole trace.
-use Rattle.std.proofs.Common.{◌≡◌, ℕ, zero, suc, List, length, Ok, sym, subst, inl, inr}
+use Rattle.std.proofs.Common.{◌≡◌, ℕ, zero, suc, List, length, Option, Some, Ok, sym, subst, inl, inr}
 use Rattle.manifest.specs.declared.pod.PodSpec.{PodSpec}
 use Rattle.observations.specs.declared.tick.TickObs.{TickObs}
+use Rattle.trace.specs.declared.node.NodeConfig.{NodeConfig}
 use Rattle.trace.specs.declared.past.Trace.{Trace}
 use Rattle.trace.specs.Lines.{lines_of}
 use Rattle.trace.specs.Past.{Past}
@@ -11,19 +12,27 @@ use Rattle.trace.proofs.LawLemmas.{whole_trace}
 use Rattle.trace.proofs.LawLemmas.Checks.{all_checks}
 
 -- it holds where nothing is said, and after each line
-pub record IsKept (P : List PodSpec → List TickObs → Type 0) : Type 0 where
-  pub first : P nothing.pods nothing.ticks
-  pub line : (past : Past) (line : List ℕ) (next : Past) → P past.pods past.ticks → Says past line next → P next.pods next.ticks
+pub record IsKept (P : Past → Type 0) : Type 0 where
+  pub first : P nothing
+  pub line : (past : Past) (line : List ℕ) (next : Past) → P past → Says past line next → P next
 
-all_said : (P : List PodSpec → List TickObs → Type 0) → IsKept P → (lines : List (List ℕ)) (n : ℕ) (past : Past) → AreSaid lines n past → P past.pods past.ticks
-all_said P kept lines zero past said = subst (λ (p : Past). P p.pods p.ticks) (sym said) kept.first
+-- what the lines of a trace say
+abbrev pub past_of : Trace → Past
+past_of trace = record { node = Some trace.node; pods = trace.pods; arrivals = trace.arrivals; ticks = trace.ticks }
+
+all_said : (P : Past → Type 0) → IsKept P → (lines : List (List ℕ)) (n : ℕ) (past : Past) → AreSaid lines n past → P past
+all_said P kept lines zero past said = subst P (sym said) kept.first
 all_said P kept lines (suc n) past (before, line, said, here, inl blank) =
-    subst (λ (p : Past). P p.pods p.ticks) (sym blank.1) (all_said P kept lines n before said)
+    subst P (sym blank.1) (all_said P kept lines n before said)
 all_said P kept lines (suc n) past (before, line, said, here, inr counts) =
     kept.line before line past (all_said P kept lines n before said) ((all_checks before line past).0 counts.1)
 
-pub of_trace : (P : List PodSpec → List TickObs → Type 0) → IsKept P → (text : List ℕ) (trace : Trace) → trace_of text ≡ Ok trace → P trace.pods trace.ticks
+pub of_trace : (P : Past → Type 0) → IsKept P → (text : List ℕ) (trace : Trace) → trace_of text ≡ Ok trace → P (past_of trace)
 of_trace P kept text trace e =
     let whole = (whole_trace text trace).0 e in
-    let holds = all_said P kept (lines_of text) (length (lines_of text)) whole.past whole.said in
-    subst (λ (ps : List PodSpec). P ps trace.ticks) whole.pods (subst (P whole.past.pods) whole.ticks holds)
+    let past = whole.past in
+    let holds : P past = all_said P kept (lines_of text) (length (lines_of text)) past whole.said in
+    let node = subst (λ (o : Option NodeConfig). P (record { node = o; pods = past.pods; arrivals = past.arrivals; ticks = past.ticks })) whole.node holds in
+    let pods = subst (λ (ps : List PodSpec). P (record { node = Some trace.node; pods = ps; arrivals = past.arrivals; ticks = past.ticks })) whole.pods node in
+    let arrivals = subst (λ (arrivals : List ℕ). P (record { node = Some trace.node; pods = trace.pods; arrivals = arrivals; ticks = past.ticks })) whole.arrivals pods in
+    subst (λ (ts : List TickObs). P (record { node = Some trace.node; pods = trace.pods; arrivals = trace.arrivals; ticks = ts })) whole.ticks arrivals

@@ -2,24 +2,24 @@
 use Rattle.std.proofs.Common.{◌≡◌, ◌∙◌, ◌⊎◌, ℕ, zero, suc, ◌+◌, ◌≤◌, ◌<◌, List, [], ◌∷◌, ◌++◌, length, Some, Result, Ok, Err, refl, ap, sym, subst, inl, inr, arith}
 use Rattle.std.specs.Prelude.{slice_get, ◌^◌, codes, IfOk}
 use Rattle.std.proofs.lemmas.List.{length-append}
+use Rattle.std.proofs.lemmas.Option.{slice_get_within}
 use Rattle.json_fields.specs.Fields.{field_at}
 use Rattle.manifest.specs.declared.pod.PodSpec.{PodSpec}
-use Rattle.observations.specs.declared.pod.PodObs.{PodObs}
 use Rattle.observations.specs.declared.tick.TickObs.{TickObs}
 use Rattle.trace.specs.declared.fault.LineFault.{LineFault}
 use Rattle.trace.specs.declared.past.Trace.{Trace}
 use Rattle.trace.specs.declared.placing.PlacedEntry.{PlacedEntry}
 use Rattle.trace.specs.Gives.{GivesAt}
 use Rattle.trace.specs.Laws.{HasKey, Says, says_node, says_pod, says_tick}
-use Rattle.trace.specs.Observed.{entry_for, listings_of, results_of, pod_observed, pods_from, observed}
+use Rattle.trace.specs.Observed.{observed}
 use Rattle.trace.specs.Past.{Past}
 use Rattle.trace.specs.Pod.{key_of_pod, most_pods}
-use Rattle.trace.specs.Sound.{ShowsEach, HaveOwnKeys, HasShape}
+use Rattle.trace.specs.Sound.{IsPresent, ShowsEach, AreArrivals, HaveOwnKeys, HasShape}
 use Rattle.trace.specs.Tick.{most_ticks}
 use Rattle.trace.specs.Trace.{trace_of}
-use Rattle.trace.proofs.FollowedLemmas.{containers_shown}
 use Rattle.trace.proofs.Moments.{rising-more, moment_later, moment_low}
 use Rattle.trace.proofs.Said.{IsKept, of_trace}
+use Rattle.trace.proofs.Shown.{as_many, moment_shown, count_shown}
 
 -- an item of a list with one item more is one of the list, or the last
 pushed_at : {A : Type 0} (xs : List A) (x y : A) (n : ℕ) → slice_get (xs ++ x ∷ []) n ≡ Some y → (slice_get xs n ≡ Some y) ⊎ ((n ≡ length xs) × (x ≡ y))
@@ -34,31 +34,75 @@ pushed_at (z ∷ xs) x y (suc n) e = elim (pushed_at xs x y n e) [
 one_more : {A : Type 0} (xs : List A) (x : A) (most : ℕ) → length xs < most → length (xs ++ x ∷ []) ≤ most
 one_more xs x most room = let more = length-append xs (x ∷ []) in omega arith
 
+-- the pods that are present at a tick
+present_within : (arrivals : List ℕ) (t n : ℕ) → IsPresent arrivals t n → n < length arrivals
+present_within [] t n is = absurd is
+present_within (a ∷ rest) t zero is = omega arith
+present_within (a ∷ rest) t (suc n) is = let lt = present_within rest t n is in omega arith
+
+present_all : (arrivals : List ℕ) (t n : ℕ) → ((m arrival : ℕ) → slice_get arrivals m ≡ Some arrival → arrival ≤ t) → n < length arrivals → IsPresent arrivals t n
+present_all [] t n all lt = absurd (omega arith)
+present_all (a ∷ rest) t zero all lt = all 0 a refl
+present_all (a ∷ rest) t (suc n) all lt = present_all rest t n (λ m arrival e. all (suc m) arrival e) (omega arith)
+
+present_more : (arrivals : List ℕ) (arrival t n : ℕ) → IsPresent arrivals t n → IsPresent (arrivals ++ arrival ∷ []) t n
+present_more [] arrival t n is = absurd is
+present_more (a ∷ rest) arrival t zero is = is
+present_more (a ∷ rest) arrival t (suc n) is = present_more rest arrival t n is
+
+present_before : (arrivals : List ℕ) (arrival t n : ℕ) → t < arrival → IsPresent (arrivals ++ arrival ∷ []) t n → IsPresent arrivals t n
+present_before [] arrival t zero lt is = let le : arrival ≤ t = is in absurd (omega arith)
+present_before [] arrival t (suc n) lt is = absurd is
+present_before (a ∷ rest) arrival t zero lt is = is
+present_before (a ∷ rest) arrival t (suc n) lt is = present_before rest arrival t n lt is
+
 -- what a tick shows of the pods
-as_many : (at : ℕ) (es : List PlacedEntry) (n : ℕ) (pods : List PodSpec) → length (pods_from at es n pods) ≡ length pods
-as_many at es n [] = refl
-as_many at es n (p ∷ ps) = ap suc (as_many at es (n + 1) ps)
+shows_each : (at : ℕ) (es : List PlacedEntry) (pods : List PodSpec) (arrivals : List ℕ) (t : ℕ) → AreArrivals (length pods) t arrivals → ShowsEach pods arrivals t (observed at es pods)
+shows_each at es pods arrivals t all = record {
+  present = λ n. (
+    λ lt. present_all arrivals t n all.in_range (omega (arith, as_many at es 0 pods, all.as_many)),
+    λ is. let within = present_within arrivals t n is in omega (arith, as_many at es 0 pods, all.as_many),
+  );
+  moment = moment_shown at es 0 pods;
+  containers = count_shown at es 0 pods;
+}
 
-moment_shown : (at : ℕ) (es : List PlacedEntry) (n : ℕ) (pods : List PodSpec) (k : ℕ) (shown : PodObs) → slice_get (pods_from at es n pods) k ≡ Some shown → shown.at ≡ at
-moment_shown at es n [] k shown e = absurd (cc)
-moment_shown at es n (p ∷ ps) zero shown e =
-    let is : pod_observed at (entry_for es n) p ≡ shown = cc in
-    sym (ap (λ (o : PodObs). o.at) is)
-moment_shown at es n (p ∷ ps) (suc k) shown e = moment_shown at es (n + 1) ps k shown e
+-- a tick shows what it did after one pod more, which arrives later
+shows_more : (pods : List PodSpec) (arrivals : List ℕ) (t : ℕ) (tick : TickObs) (pod : PodSpec) (arrival : ℕ) → t < arrival → length arrivals ≡ length pods
+    → ShowsEach pods arrivals t tick → ShowsEach (pods ++ pod ∷ []) (arrivals ++ arrival ∷ []) t tick
+shows_more pods arrivals t tick pod arrival lt as_many all = record {
+  present = λ n. (
+    λ within. present_more arrivals arrival t n ((all.present n).0 within),
+    λ is. (all.present n).1 (present_before arrivals arrival t n lt is),
+  );
+  moment = all.moment;
+  containers = λ n q shown here there. elim (pushed_at pods pod q n here) [
+    | inl before ↦ all.containers n q shown before there
+    | inr last ↦
+        let within = present_within arrivals t n ((all.present n).0 (slice_get_within tick.pods n shown there)) in
+        absurd (omega (arith, last.0, as_many))
+  ];
+}
 
-count_shown : (at : ℕ) (es : List PlacedEntry) (n : ℕ) (pods : List PodSpec) (k : ℕ) (pod : PodSpec) (shown : PodObs) → slice_get pods k ≡ Some pod
-    → slice_get (pods_from at es n pods) k ≡ Some shown → length shown.containers ≡ length pod.containers
-count_shown at es n [] k pod shown here e = absurd (cc)
-count_shown at es n (p ∷ ps) zero pod shown here e =
-    let is : pod_observed at (entry_for es n) p ≡ shown = cc in
-    let same : p ≡ pod = cc in
-    sym (ap (λ (o : PodObs). length o.containers) is)
-    ∙ containers_shown (listings_of (entry_for es n)) (results_of (entry_for es n)) 0 p.containers
-    ∙ ap (λ (q : PodSpec). length q.containers) same
-count_shown at es n (p ∷ ps) (suc k) pod shown here e = count_shown at es (n + 1) ps k pod shown here e
-
-shows_each : (at : ℕ) (es : List PlacedEntry) (pods : List PodSpec) → ShowsEach pods (observed at es pods)
-shows_each at es pods = record { as_many = as_many at es 0 pods; moment = moment_shown at es 0 pods; containers = count_shown at es 0 pods }
+-- the arrivals with one more, after all ticks
+arrivals_more : (pods ticks : ℕ) (arrivals : List ℕ) → AreArrivals pods ticks arrivals → AreArrivals (pods + 1) ticks (arrivals ++ ticks ∷ [])
+arrivals_more pods ticks arrivals all = record {
+  as_many = omega (arith, length-append arrivals (ticks ∷ []), all.as_many);
+  in_range = λ n arrival here. elim (pushed_at arrivals ticks arrival n here) [
+    | inl before ↦ all.in_range n arrival before
+    | inr last ↦ omega (arith, last.1)
+  ];
+  in_order = λ n m earlier later le here there. elim (pushed_at arrivals ticks later m there) [
+    | inl after ↦ elim (pushed_at arrivals ticks earlier n here) [
+      | inl before ↦ all.in_order n m earlier later le before after
+      | inr last ↦ let within = slice_get_within arrivals m later after in absurd (omega (arith, last.0))
+    ]
+    | inr last ↦ elim (pushed_at arrivals ticks earlier n here) [
+      | inl before ↦ let low = all.in_range n earlier before in omega (arith, last.1)
+      | inr same ↦ omega (arith, last.1, same.1)
+    ]
+  ];
+}
 
 -- the pods' keys stay apart
 apart_more : (pods : List PodSpec) (pod : PodSpec) → HaveOwnKeys pods → (HasKey pods (key_of_pod pod) → ⊥) → HaveOwnKeys (pods ++ pod ∷ [])
@@ -73,14 +117,18 @@ apart_more pods pod own new n m p q here there same = elim (pushed_at pods pod p
   ]
 ]
 
-none_there : {A : Type 0} (xs : List A) (n : ℕ) (x : A) → xs ≡ [] → slice_get xs n ≡ Some x → ⊥
-none_there [] n x none e = absurd (cc)
-none_there (y ∷ xs) n x none e = absurd (cc)
+abbrev IsShaped : Past → Type 0
+IsShaped past = HasShape past.pods past.arrivals past.ticks
 
-line_keeps : (past : Past) (line : List ℕ) (next : Past) → HasShape past.pods past.ticks → Says past line next → HasShape next.pods next.ticks
+line_keeps : (past : Past) (line : List ℕ) (next : Past) → IsShaped past → Says past line next → IsShaped next
 line_keeps past line _ all (says_node d node is e) = all
 line_keeps past line _ all (says_pod d pod is new) = record {
-  shown = λ t tick here. absurd (none_there past.ticks t tick is.stands.here.1 here);
+  shown = λ t tick here.
+      let lt = slice_get_within past.ticks t tick here in
+      shows_more past.pods past.arrivals t tick pod (length past.ticks) lt all.arrived.as_many (all.shown t tick here);
+  arrived =
+      let more : length past.pods + 1 ≡ length (past.pods ++ pod ∷ []) = sym (length-append past.pods (pod ∷ [])) in
+      subst (λ (n : ℕ). AreArrivals n (length past.ticks) (past.arrivals ++ length past.ticks ∷ [])) more (arrivals_more (length past.pods) (length past.ticks) past.arrivals all.arrived);
   below = all.below;
   rising = all.rising;
   few_ticks = all.few_ticks;
@@ -93,8 +141,15 @@ line_keeps past line _ all (says_tick d at placed is coded) =
     record {
       shown = λ t tick here. elim (pushed_at past.ticks now tick t here) [
         | inl before ↦ all.shown t tick before
-        | inr last ↦ subst (ShowsEach past.pods) last.1 (shows_each at placed past.pods)
+        | inr last ↦
+            let here = shows_each at placed past.pods past.arrivals (length past.ticks) all.arrived in
+            subst (λ (u : ℕ). ShowsEach past.pods past.arrivals u tick) (sym last.0) (subst (ShowsEach past.pods past.arrivals (length past.ticks)) last.1 here)
       ];
+      arrived = record {
+        as_many = all.arrived.as_many;
+        in_range = λ n arrival e. let le = all.arrived.in_range n arrival e in omega (arith, length-append past.ticks (now ∷ []));
+        in_order = all.arrived.in_order;
+      };
       below = λ t tick here. elim (pushed_at past.ticks now tick t here) [
         | inl before ↦ all.below t tick before
         | inr last ↦ subst (λ (o : TickObs). o.at < 2 ^ 40) last.1 (moment_low past.ticks (field_at (codes "at") d) at has.moment)
@@ -105,10 +160,11 @@ line_keeps past line _ all (says_tick d at placed is coded) =
       own_keys = all.own_keys;
     }
 
-kept : IsKept HasShape
+kept : IsKept IsShaped
 kept = record {
   first = record {
     shown = λ t tick here. absurd (cc);
+    arrived = record { as_many = refl; in_range = λ n arrival e. absurd (cc); in_order = λ n m earlier later le e f. absurd (cc) };
     below = λ t tick here. absurd (cc);
     rising = λ t u x y lt e f. absurd (cc);
     few_ticks = omega arith;
@@ -119,6 +175,6 @@ kept = record {
 }
 
 -- what a call answers that gives this trace
-pub given_shape : (text : List ℕ) (answer : Result Trace LineFault) → GivesAt (λ t. t) answer (trace_of text) → IfOk answer (λ t. HasShape t.pods t.ticks)
-given_shape text (Ok trace) given = of_trace HasShape kept text trace given
+pub given_shape : (text : List ℕ) (answer : Result Trace LineFault) → GivesAt (λ t. t) answer (trace_of text) → IfOk answer (λ t. HasShape t.pods t.arrivals t.ticks)
+given_shape text (Ok trace) given = of_trace IsShaped kept text trace given
 given_shape text (Err fault) given = tt

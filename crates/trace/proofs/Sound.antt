@@ -1,53 +1,63 @@
 -- The ticks of a trace are acceptable, and their moments rise.
-use Rattle.std.proofs.Common.{◌≡◌, ℕ, ◌+◌, false, true, List, [], ◌∷◌, ◌++◌, Result, Ok, Err, sym, subst, arith}
+use Rattle.std.proofs.Common.{◌≡◌, ℕ, ◌+◌, false, true, List, [], ◌∷◌, ◌++◌, Option, Some, None, Result, Ok, Err, refl, sym, subst, arith}
 use Rattle.std.specs.Prelude.{codes, IfOk}
-use Rattle.std.proofs.lemmas.List.{map_push}
 use Rattle.histories.specs.Histories.{recorded}
 use Rattle.json_fields.specs.Fields.{field_at}
 use Rattle.state_diff.specs.Acceptable.{is_acceptable}
-use Rattle.state_diff.specs.Instances.{IsAcceptableHistory}
+use Rattle.state_diff.specs.declared.seen.Seen.{Seen}
+use Rattle.state_diff.specs.Instances.{Tick, IsAcceptableHistory}
 use Rattle.state_diff.proofs.Acceptable.{is_acceptable_is}
 use Rattle.state_diff.proofs.Order.{acceptable_more}
-use Rattle.manifest.specs.declared.pod.PodSpec.{PodSpec}
 use Rattle.observations.specs.declared.tick.TickObs.{TickObs}
-use Rattle.observations.specs.Observations.{seen_of, history}
+use Rattle.observations.specs.declared.pod.PodObs.{PodObs}
+use Rattle.observations.specs.Observations.{shown_of, listed_in, seen_of, history}
+use Rattle.observations.proofs.OwnTicks.{seen_shown, history_shown, history_rests}
 use Rattle.trace.specs.declared.fault.LineFault.{LineFault}
 use Rattle.trace.specs.declared.past.Trace.{Trace}
-use Rattle.trace.specs.Backwards.{is_backwards}
+use Rattle.following.specs.Backwards.{is_backwards}
 use Rattle.trace.specs.Gives.{GivesAt}
 use Rattle.trace.specs.Laws.{Says, says_node, says_pod, says_tick}
 use Rattle.trace.specs.Observed.{observed}
 use Rattle.trace.specs.Past.{Past}
 use Rattle.trace.specs.Sound.{AreAcceptable, AreRising}
 use Rattle.trace.specs.Trace.{trace_of}
-use Rattle.trace.proofs.Forwards.{pods_forwards}
+use Rattle.following.proofs.Forwards.{pods_forwards}
 use Rattle.trace.proofs.Moments.{rising-more, moment_later}
 use Rattle.trace.proofs.Said.{IsKept, of_trace}
 
-record AreSound (pods : List PodSpec) (ticks : List TickObs) : Type 0 where
-  pub acceptable : AreAcceptable ticks
-  pub rising : AreRising ticks
+record IsSound (past : Past) : Type 0 where
+  pub acceptable : AreAcceptable past.ticks
+  pub rising : AreRising past.ticks
 
 -- ticks that are acceptable, and one more that doesn't go back behind them
 tick_acceptable : (ticks : List TickObs) (tick : TickObs) → AreAcceptable ticks → is_backwards ticks tick ≡ false → AreAcceptable (ticks ++ tick ∷ [])
-tick_acceptable ticks tick all e pod container =
-    let h = history ticks pod container in
-    let zeroth : 0 + pod ≡ pod = omega arith in
-    let here : is_acceptable h (seen_of tick pod container) ≡ true =
-    subst (λ (k : ℕ). is_acceptable (history ticks k container) (seen_of tick pod container) ≡ true) zeroth (pods_forwards ticks 0 tick.pods e pod container) in
-    let next = acceptable_more h (recorded tick.at (seen_of tick pod container)) (all pod container) ((is_acceptable_is h (seen_of tick pod container)).0 here) in
-    let more : history (ticks ++ tick ∷ []) pod container ≡ h ++ recorded tick.at (seen_of tick pod container) ∷ [] = map_push (λ (t : TickObs). recorded t.at (seen_of t pod container)) ticks tick in
-    subst IsAcceptableHistory (sym more) next
+tick_acceptable ticks tick all e pod container = after (shown_of tick pod) refl
+  where
+    h : List Tick
+    h = history ticks pod container
 
-line_sound : (past : Past) (line : List ℕ) (next : Past) → AreSound past.pods past.ticks → Says past line next → AreSound next.pods next.ticks
-line_sound past line _ all (says_node d node is e) = all
+    here : is_acceptable h (seen_of tick pod container) ≡ true
+    here =
+        let zeroth : 0 + pod ≡ pod = omega arith in
+        subst (λ (k : ℕ). is_acceptable (history ticks k container) (seen_of tick pod container) ≡ true) zeroth (pods_forwards ticks 0 tick.pods e pod container)
+
+    after : (o : Option PodObs) → shown_of tick pod ≡ o → IsAcceptableHistory (history (ticks ++ tick ∷ []) pod container)
+    after None none = subst IsAcceptableHistory (sym (history_rests ticks tick pod container none)) (all pod container)
+    after (Some shown) is =
+        let listed = listed_in shown container in
+        let accepted : is_acceptable h listed ≡ true = subst (λ (o : Option Seen). is_acceptable h o ≡ true) (seen_shown tick pod container shown is) here in
+        let next = acceptable_more h (recorded shown.at listed) (all pod container) ((is_acceptable_is h listed).0 accepted) in
+        subst IsAcceptableHistory (sym (history_shown ticks tick pod container shown is)) next
+
+line_sound : (past : Past) (line : List ℕ) (next : Past) → IsSound past → Says past line next → IsSound next
+line_sound past line _ all (says_node d node is e) = record { acceptable = all.acceptable; rising = all.rising }
 line_sound past line _ all (says_pod d pod is new) = record { acceptable = all.acceptable; rising = all.rising }
 line_sound past line _ all (says_tick d at placed is coded) =
     let tick = observed at placed past.pods in
     let later = moment_later past.ticks (field_at (codes "at") d) at is.is_apart.has_places.has_entries.has_moment.moment in
     record { acceptable = tick_acceptable past.ticks tick all.acceptable is.forwards; rising = rising-more past.ticks tick all.rising later }
 
-kept : IsKept AreSound
+kept : IsKept IsSound
 kept = record {
   first = record { acceptable = λ pod container t lt. absurd (omega arith); rising = λ t u x y lt e f. absurd (cc) };
   line = line_sound;
@@ -55,9 +65,9 @@ kept = record {
 
 -- what a call answers that gives this trace
 pub given_acceptable : (text : List ℕ) (answer : Result Trace LineFault) → GivesAt (λ t. t) answer (trace_of text) → IfOk answer (λ t. AreAcceptable t.ticks)
-given_acceptable text (Ok trace) given = (of_trace AreSound kept text trace given).acceptable
+given_acceptable text (Ok trace) given = (of_trace IsSound kept text trace given).acceptable
 given_acceptable text (Err fault) given = tt
 
 pub given_rising : (text : List ℕ) (answer : Result Trace LineFault) → GivesAt (λ t. t) answer (trace_of text) → IfOk answer (λ t. AreRising t.ticks)
-given_rising text (Ok trace) given = (of_trace AreSound kept text trace given).rising
+given_rising text (Ok trace) given = (of_trace IsSound kept text trace given).rising
 given_rising text (Err fault) given = tt

@@ -9,9 +9,14 @@ abbrev pub is_memory : FaultKind → Bool
 is_memory OutOfMemory = true
 is_memory kind = false
 
+-- of a call that takes memory: a fault for want of it aside
 abbrev pub Gives : {X Y : Type 0} → (X → Y) → Result X FaultKind → Result Y FaultKind → Type 0
 Gives view result given = GivesUnless is_memory view result given
 
--- the same, with the line
+-- of a call that takes none
+abbrev pub GivesExactly : {X Y : Type 0} → (X → Y) → Result X FaultKind → Result Y FaultKind → Type 0
+GivesExactly view result given = GivesUnless (λ kind. false) view result given
+
+-- of a call that takes memory, with the line
 abbrev pub GivesAt : {X Y : Type 0} → (X → Y) → Result X LineFault → Result Y LineFault → Type 0
 GivesAt view result given = GivesUnless (λ fault. is_memory fault.kind) view result given

@@ -1,6 +1,6 @@
 -- What the trace of a text is, in the words of its format. The lines of a text have the places 0,
 -- 1, .. and, in an answer, the numbers 1, 2, ...
-use Rattle.std.specs.Prelude.{◌≡◌, ◌≢◌, ◌⊎◌, ◌↔◌, ◌+◌, ◌≤◌, ◌<◌, ℕ, zero, suc, true, false, List, [], ◌∷◌, ◌++◌, length, slice_get, Option, Some, None, is_some, Ok, Err, codes}
+use Rattle.std.specs.Prelude.{◌≡◌, ◌≢◌, ◌⊎◌, ◌↔◌, ◌+◌, ◌≤◌, ◌<◌, ℕ, zero, suc, true, false, List, [], length, slice_get, Option, Some, None, is_some, IsSomeAnd, Ok, Err, codes}
 use Rattle.serde_json.specs.Data.{Data}
 use Rattle.json_fields.specs.Fields.{field_at, text_at}
 use Rattle.trace.specs.declared.fault.FaultKind.{FaultKind}
@@ -20,13 +20,13 @@ use Rattle.trace.specs.declared.listing.ListedInstance.{ListedInstance}
 use Rattle.trace.specs.declared.placing.PlacedListing.{PlacedListing}
 use Rattle.trace.specs.declared.placing.PlacedResult.{PlacedResult}
 use Rattle.trace.specs.declared.placing.PlacedEntry.{PlacedEntry}
-use Rattle.trace.specs.Lines.{lines_of, is_blank}
+use Rattle.trace.specs.Lines.{lines_of, is_blank, longest_line}
 use Rattle.trace.specs.Node.{node_of}
 use Rattle.trace.specs.Pod.{key_of_pod, keys_of, most_pods, pod_from}
 use Rattle.trace.specs.Listings.{entries_of}
 use Rattle.trace.specs.Placing.{placed_of, has_twice, are_of_one_probe, is_doubled}
 use Rattle.trace.specs.Observed.{seen_listed, outcome_in, observed, some_code_missing}
-use Rattle.trace.specs.Backwards.{is_backwards}
+use Rattle.following.specs.Backwards.{is_backwards}
 use Rattle.manifest.specs.declared.fault.ManifestFault.{ManifestFault}
 use Rattle.manifest.specs.declared.fault.ManifestFault.TheVariants as manifest_faults
 use Rattle.manifest.specs.declared.pod.PodSpec.{PodSpec}
@@ -35,7 +35,9 @@ use Rattle.observations.specs.Observations.{seen_of, history}
 use Rattle.state_diff.specs.declared.seen.Seen.{Seen}
 use Rattle.state_diff.specs.Instances.{IsAcceptable}
 use Rattle.trace.specs.declared.node.NodeConfig.{NodeConfig}
-use Rattle.trace.specs.Past.{Past, with_pod, with_tick}
+use Rattle.trace.specs.declared.node.Version.{Version}
+use Rattle.trace.specs.declared.node.Version.TheVariants.{One, Two}
+use Rattle.trace.specs.Past.{Past, version_in, of_node, with_pod, with_tick}
 use Rattle.trace.specs.Tick.{moment_of, most_ticks}
 use Rattle.trace.specs.Trace.{json_of, kind_from, line_at, nothing, trace_of}
 
@@ -75,6 +77,7 @@ pub record IsWhole (lines : List (List ℕ)) (trace : Trace) : Type 0 where
   pub said : AreSaid lines (length lines) past
   pub node : past.node ≡ Some trace.node
   pub pods : past.pods ≡ trace.pods
+  pub arrivals : past.arrivals ≡ trace.arrivals
   pub ticks : past.ticks ≡ trace.ticks
 
 -- a text is refused exactly with its first fault
@@ -93,7 +96,7 @@ pub record OneFault : Type 0 where
 
 -- the line is at most 1 MiB long, and it is this JSON value
 pub record IsJson (line : List ℕ) (d : Data) : Type 0 where
-  pub short : length line ≤ 1048576
+  pub short : length line ≤ longest_line
   pub json : json_of line ≡ Ok d
 
 -- and of this kind
@@ -101,10 +104,15 @@ pub record IsOfKind (line : List ℕ) (line_kind : LineKind) (d : Data) : Type 0
   pub json : IsJson line d
   pub kind : kind_from (text_at (codes "kind") d) ≡ Some line_kind
 
--- a node line stands before all other lines that count, and a pod line before all tick lines
+-- in version 1 a pod line stands before all tick lines; in version 2 it may follow one
+abbrev pub TakesPods : List TickObs → Version → Type 0
+TakesPods ticks One = ticks ≡ []
+TakesPods ticks Two = Unit {0}
+
+-- a node line stands before all other lines that count, and a pod line where the version takes it
 abbrev pub MayStand : Past → LineKind → Type 0
 MayStand past kinds.Node = past.node ≡ None
-MayStand past kinds.Pod = (is_some past.node ≡ true) × (past.ticks ≡ [])
+MayStand past kinds.Pod = IsSomeAnd (version_in past) (TakesPods past.ticks)
 MayStand past kinds.Tick = is_some past.node ≡ true
 
 -- the line is of this kind, and may stand where it does
@@ -152,8 +160,8 @@ pub record IsForwards (past : Past) (line : List ℕ) (d : Data) (at : ℕ) (pla
 -- the first check that a line fails after what is said before it, with the fault that it answers:
 -- the checks of every line, and then those of a node line, of a pod line, or of a tick line
 pub data Fails (past : Past) (line : List ℕ) : FaultKind → Type 0 where
-  too_long : 1048576 < length line → Fails past line TooLong
-  not_json : (kind : FaultKind) → length line ≤ 1048576 → json_of line ≡ Err kind → Fails past line kind
+  too_long : longest_line < length line → Fails past line TooLong
+  not_json : (kind : FaultKind) → length line ≤ longest_line → json_of line ≡ Err kind → Fails past line kind
   unknown_kind : (d : Data) → IsJson line d → kind_from (text_at (codes "kind") d) ≡ None → Fails past line UnknownKind
   misplaced : (line_kind : LineKind) (d : Data) → IsOfKind line line_kind d → (MayStand past line_kind → ⊥) → Fails past line Order
   wrong_node : (d : Data) (kind : FaultKind) → Stands past line kinds.Node d → node_of d ≡ Err kind → Fails past line kind
@@ -174,7 +182,7 @@ FirstCheck = (past : Past) (line : List ℕ) (kind : FaultKind) → (line_at pas
 
 -- what is said after a line that passes all its checks
 pub data Says (past : Past) (line : List ℕ) : Past → Type 0 where
-  says_node : (d : Data) (node : NodeConfig) → Stands past line kinds.Node d → node_of d ≡ Ok node → Says past line (record { node = Some node; pods = past.pods; ticks = past.ticks })
+  says_node : (d : Data) (node : NodeConfig) → Stands past line kinds.Node d → node_of d ≡ Ok node → Says past line (of_node past node)
   says_pod : (d : Data) (pod : PodSpec) → HasPod past line d pod → (HasKey past.pods (key_of_pod pod) → ⊥) → Says past line (with_pod past pod)
   says_tick : (d : Data) (at : ℕ) (placed : List PlacedEntry) → IsForwards past line d at placed → some_code_missing placed ≡ false → Says past line (with_tick past (observed at placed past.pods))
 

@@ -1,14 +1,12 @@
 pub mod Faults
 pub mod Gives
 pub mod Lines
-pub mod Backwards
 pub mod Node
 pub mod Pod
 pub mod Results
 pub mod Listings
 pub mod Placing
 pub mod Observed
-pub mod Followed
 pub mod Past
 pub mod Tick
 pub mod Trace

@@ -9,14 +9,16 @@ use Rattle.manifest.specs.RestartDelay.{most_max_delay, max_delay_of}
 use Rattle.trace.specs.declared.fault.FaultKind.{FaultKind}
 use Rattle.trace.specs.declared.fault.FaultKind.TheVariants.{Config}
 use Rattle.trace.specs.declared.node.NodeConfig.{NodeConfig}
+use Rattle.trace.specs.declared.node.Version.{Version}
+use Rattle.trace.specs.declared.node.Version.TheVariants.{One, Two}
 
-abbrev pub version_from : Option ℕ → Result ⊤ FaultKind
+abbrev pub version_from : Option ℕ → Result Version FaultKind
 version_from None = Err Config
-version_from (Some n) = if n == 1 then Ok tt else Err Config
+version_from (Some n) = if n == 1 then Ok One else (if n == 2 then Ok Two else Err Config)
 
--- the format's version is 1, also where none is written
-abbrev pub version_of : Option Data → Result ⊤ FaultKind
-version_of None = Ok tt
+-- the format's version: 1 or 2, and 1 where none is written
+abbrev pub version_of : Option Data → Result Version FaultKind
+version_of None = Ok One
 version_of (Some d) = version_from (option_and_then as_u64 (as_number d))
 
 abbrev pub name_from : Option (List ℕ) → Result (List ℕ) FaultKind
@@ -54,4 +56,4 @@ node_of d = do
   dedicated ← absent Config (field_at (codes "dedicatedImagefs") d)
   eviction ← eviction_unset d
   max_restart_delay ← restart_delay_of (field_at (codes "maxRestartDelay") d)
-  Ok (record { name = name; max_restart_delay = max_restart_delay })
+  Ok (record { name = name; version = version; max_restart_delay = max_restart_delay })

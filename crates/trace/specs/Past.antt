@@ -1,16 +1,37 @@
 -- What the lines so far say.
-use Rattle.std.specs.Prelude.{List, [], ◌∷◌, ◌++◌, Option}
+use Rattle.std.specs.Prelude.{ℕ, List, [], ◌∷◌, ◌++◌, length, Option, Some, option_map}
 use Rattle.manifest.specs.declared.pod.PodSpec.{PodSpec}
 use Rattle.trace.specs.declared.node.NodeConfig.{NodeConfig}
+use Rattle.trace.specs.declared.node.Version.{Version}
 use Rattle.observations.specs.declared.tick.TickObs.{TickObs}
 
 pub record Past : Type 0 where
   pub node : Option NodeConfig
   pub pods : List PodSpec
+  -- for each pod how many ticks stand before its line
+  pub arrivals : List ℕ
   pub ticks : List TickObs
 
+-- the version of the format, once the node is said
+abbrev pub version_in : Past → Option Version
+version_in past = option_map (λ (node : NodeConfig). node.version) past.node
+
+abbrev pub of_node : Past → NodeConfig → Past
+of_node past node = record { node = Some node; pods = past.pods; arrivals = past.arrivals; ticks = past.ticks }
+
+-- a pod goes behind the earlier ones; it arrives after the ticks so far
 abbrev pub with_pod : Past → PodSpec → Past
-with_pod past pod = record { node = past.node; pods = past.pods ++ pod ∷ []; ticks = past.ticks }
+with_pod past pod = record {
+  node = past.node;
+  pods = past.pods ++ pod ∷ [];
+  arrivals = past.arrivals ++ length past.ticks ∷ [];
+  ticks = past.ticks;
+}
 
 abbrev pub with_tick : Past → TickObs → Past
-with_tick past tick = record { node = past.node; pods = past.pods; ticks = past.ticks ++ tick ∷ [] }
+with_tick past tick = record {
+  node = past.node;
+  pods = past.pods;
+  arrivals = past.arrivals;
+  ticks = past.ticks ++ tick ∷ [];
+}

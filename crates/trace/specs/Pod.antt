@@ -1,5 +1,5 @@
 -- What a pod line says.
-use Rattle.std.specs.Prelude.{ℕ, Bool, List, ◌∷◌, ◌++◌, map, Option, Some, None, is_some, Result, Ok, Err}
+use Rattle.std.specs.Prelude.{ℕ, Bool, List, ◌∷◌, ◌++◌, length, map, Option, Some, None, is_some, Result, Ok, Err}
 use Rattle.serde_json.specs.Data.{Data}
 use Rattle.manifest.specs.declared.fault.ManifestFault.{ManifestFault}
 use Rattle.manifest.specs.declared.fault.ManifestFault.TheVariants.{Missing}
@@ -16,6 +16,10 @@ key_of_pod p = p.namespace ++ 47 ∷ p.name
 
 abbrev pub keys_of : List PodSpec → List (List ℕ)
 keys_of pods = map key_of_pod pods
+
+-- how many containers each of the pods has
+abbrev pub container_counts : List PodSpec → List ℕ
+container_counts pods = map (λ (p : PodSpec). length p.containers) pods
 
 abbrev pub most_pods : ℕ
 most_pods = 256

@@ -1,5 +1,5 @@
 -- What holds of every trace.
-use Rattle.std.specs.Prelude.{◌≡◌, ℕ, ◌<◌, ◌≤◌, ◌^◌, List, length, slice_get, Some}
+use Rattle.std.specs.Prelude.{◌≡◌, ◌↔◌, IsSomeAnd, ℕ, ◌<◌, ◌≤◌, ◌^◌, List, length, slice_get, Some}
 use Rattle.state_diff.specs.Instances.{IsAcceptableHistory}
 use Rattle.manifest.specs.declared.pod.PodSpec.{PodSpec}
 use Rattle.observations.specs.declared.pod.PodObs.{PodObs}
@@ -16,9 +16,14 @@ AreAcceptable ticks = (pod container : ℕ) → IsAcceptableHistory (history tic
 abbrev pub AreRising : List TickObs → Type 0
 AreRising ticks = (t u : ℕ) (earlier later : TickObs) → t < u → slice_get ticks t ≡ Some earlier → slice_get ticks u ≡ Some later → earlier.at < later.at
 
--- of each pod one observation, at the tick's moment, with one entry for each of its containers
-pub record ShowsEach (pods : List PodSpec) (tick : TickObs) : Type 0 where
-  pub as_many : length tick.pods ≡ length pods
+-- the pod with the number is present at tick t: its line stands before it
+abbrev pub IsPresent : List ℕ → ℕ → ℕ → Type 0
+IsPresent arrivals t n = IsSomeAnd (slice_get arrivals n) (λ arrival. arrival ≤ t)
+
+-- of exactly the pods that are present at tick t one observation, at the tick's moment, with one
+-- entry for each of its containers
+pub record ShowsEach (pods : List PodSpec) (arrivals : List ℕ) (t : ℕ) (tick : TickObs) : Type 0 where
+  pub present : (n : ℕ) → (n < length tick.pods ↔ IsPresent arrivals t n)
   pub moment : (n : ℕ) (shown : PodObs) → slice_get tick.pods n ≡ Some shown → shown.at ≡ tick.at
   pub containers : (n : ℕ) (pod : PodSpec) (shown : PodObs) → slice_get pods n ≡ Some pod → slice_get tick.pods n ≡ Some shown
       → length shown.containers ≡ length pod.containers
@@ -27,9 +32,18 @@ pub record ShowsEach (pods : List PodSpec) (tick : TickObs) : Type 0 where
 abbrev pub HaveOwnKeys : List PodSpec → Type 0
 HaveOwnKeys pods = (n m : ℕ) (p q : PodSpec) → slice_get pods n ≡ Some p → slice_get pods m ≡ Some q → key_of_pod p ≡ key_of_pod q → n ≡ m
 
--- each tick shows each pod, at moments that rise and are in range; there are not too many of either
-pub record HasShape (pods : List PodSpec) (ticks : List TickObs) : Type 0 where
-  pub shown : (t : ℕ) (tick : TickObs) → slice_get ticks t ≡ Some tick → ShowsEach pods tick
+-- each pod arrives once, after ticks that there are, and not before an earlier one
+pub record AreArrivals (pods ticks : ℕ) (arrivals : List ℕ) : Type 0 where
+  pub as_many : length arrivals ≡ pods
+  pub in_range : (n arrival : ℕ) → slice_get arrivals n ≡ Some arrival → arrival ≤ ticks
+  pub in_order : (n m earlier later : ℕ) → n ≤ m → slice_get arrivals n ≡ Some earlier
+      → slice_get arrivals m ≡ Some later → earlier ≤ later
+
+-- each tick shows each pod that is present, at moments that rise and are in range; there are not too
+-- many of either
+pub record HasShape (pods : List PodSpec) (arrivals : List ℕ) (ticks : List TickObs) : Type 0 where
+  pub shown : (t : ℕ) (tick : TickObs) → slice_get ticks t ≡ Some tick → ShowsEach pods arrivals t tick
+  pub arrived : AreArrivals (length pods) (length ticks) arrivals
   pub below : (t : ℕ) (tick : TickObs) → slice_get ticks t ≡ Some tick → tick.at < 2 ^ 40
   pub rising : AreRising ticks
   pub few_ticks : length ticks ≤ most_ticks

@@ -13,7 +13,7 @@ use Rattle.trace.specs.Past.{Past, with_tick}
 use Rattle.trace.specs.Listings.{entries_of}
 use Rattle.trace.specs.Placing.{placed_of, is_doubled}
 use Rattle.trace.specs.Observed.{observed, some_code_missing}
-use Rattle.trace.specs.Backwards.{is_backwards}
+use Rattle.following.specs.Backwards.{is_backwards}
 
 abbrev pub most_ticks : ℕ
 most_ticks = 20000

@@ -1,22 +1,25 @@
 -- What a text says as a trace, or its first faulty line with that line's first fault.
-use Rattle.std.specs.Prelude.{ℕ, ◌+◌, ◌++◌, List, [], ◌∷◌, length, nat_lt, nat_le, Option, Some, None, if◌then◌else◌, Result, Ok, Err, bytes_eq, codes}
+use Rattle.std.specs.Prelude.{ℕ, ◌+◌, ⊤, Bool, false, List, [], ◌∷◌, length, nat_lt, nat_le, Option, Some, None, if◌then◌else◌, Result, Ok, Err, bytes_eq, codes}
 use Rattle.std.specs.Str.{is_utf8}
 use Rattle.serde_json.specs.Data.{Data}
 use Rattle.serde_json.specs.Read.{read}
 use Rattle.json_fields.specs.Fields.{field_at, text_at}
 use Rattle.manifest.specs.declared.pod.PodSpec.{PodSpec}
+use Rattle.observations.specs.declared.tick.TickObs.{TickObs}
 use Rattle.json_fields.specs.Reading.{◌>>=◌, refused_if, some_or}
 use Rattle.trace.specs.declared.fault.FaultKind.{FaultKind}
 use Rattle.trace.specs.declared.fault.FaultKind.TheVariants.{TooLong, NotJson, UnknownKind, Order, TooMany, DuplicatePod}
 use Rattle.trace.specs.declared.fault.LineFault.{LineFault}
 use Rattle.trace.specs.declared.node.NodeConfig.{NodeConfig}
+use Rattle.trace.specs.declared.node.Version.{Version}
+use Rattle.trace.specs.declared.node.Version.TheVariants.{One, Two}
 use Rattle.trace.specs.declared.past.Trace.{Trace}
 use Rattle.trace.specs.declared.past.LineKind.{LineKind}
 use Rattle.trace.specs.declared.past.LineKind.TheVariants as kinds
-use Rattle.trace.specs.Lines.{lines_of, is_blank}
+use Rattle.trace.specs.Lines.{lines_of, is_blank, longest_line}
 use Rattle.trace.specs.Node.{node_of}
 use Rattle.trace.specs.Pod.{key_of_pod, has_key, most_pods, pod_from}
-use Rattle.trace.specs.Past.{Past, with_pod}
+use Rattle.trace.specs.Past.{Past, version_in, of_node, with_pod}
 use Rattle.trace.specs.Tick.{tick_at}
 
 -- a line's JSON value
@@ -33,36 +36,43 @@ kind_from (Some s) =
 unfoldable pub with_node : Past → Data → Result Past FaultKind
 with_node past d = do
   node ← node_of d
-  Ok (record { node = Some node; pods = past.pods; ticks = past.ticks })
+  Ok (of_node past node)
 
 -- a pod goes behind the earlier ones, if none of them has its key
 abbrev pub with_new_pod : Past → PodSpec → Result Past FaultKind
 with_new_pod past pod = refused_if (has_key past.pods (key_of_pod pod)) DuplicatePod >>= λ new. Ok (with_pod past pod)
 
--- a pod line stands before all ticks
-unfoldable pub pod_line_at : Past → Data → Result Past FaultKind
-pod_line_at past d = do
-  before_ticks ← refused_if (nat_lt 0 (length past.ticks)) Order
+-- in version 1 a pod line stands before all tick lines; in version 2 it may follow one
+abbrev pub is_late : Version → List TickObs → Bool
+is_late One ticks = nat_lt 0 (length ticks)
+is_late Two ticks = false
+
+unfoldable pub pod_line_at : Version → Past → Data → Result Past FaultKind
+pod_line_at version past d = do
+  in_time ← refused_if (is_late version past.ticks) Order
   room ← refused_if (nat_le most_pods (length past.pods)) TooMany
   pod ← pod_from (field_at (codes "pod") d)
   with_new_pod past pod
 
 -- a node line stands first, and nowhere else
-abbrev pub in_order : Option NodeConfig → Past → LineKind → Data → Result Past FaultKind
+abbrev pub in_order : Option Version → Past → LineKind → Data → Result Past FaultKind
 in_order None past kinds.Node d = with_node past d
 in_order None past kinds.Pod d = Err Order
 in_order None past kinds.Tick d = Err Order
-in_order (Some node) past kinds.Node d = Err Order
-in_order (Some node) past kinds.Pod d = pod_line_at past d
-in_order (Some node) past kinds.Tick d = tick_at past d
+in_order (Some version) past kinds.Node d = Err Order
+in_order (Some version) past kinds.Pod d = pod_line_at version past d
+in_order (Some version) past kinds.Tick d = tick_at past d
+
+abbrev pub line_length : List ℕ → Result ⊤ FaultKind
+line_length line = refused_if (nat_lt longest_line (length line)) TooLong
 
 -- a line after those that say what is past
 unfoldable pub line_at : Past → List ℕ → Result Past FaultKind
 line_at past line = do
-  short ← refused_if (nat_lt 1048576 (length line)) TooLong
+  short ← line_length line
   d ← json_of line
   line_kind ← some_or UnknownKind (kind_from (text_at (codes "kind") d))
-  in_order past.node past line_kind d
+  in_order (version_in past) past line_kind d
 
 abbrev pub at_line : {A : Type 0} → ℕ → Result A FaultKind → Result A LineFault
 at_line n (Ok x) = Ok x
@@ -71,7 +81,7 @@ at_line n (Err kind) = Err (record { line = n; kind = kind })
 -- a text without a line that counts lacks a node line at its end
 abbrev pub finished : ℕ → Past → Option NodeConfig → Result Trace LineFault
 finished n past None = Err (record { line = n; kind = Order })
-finished n past (Some node) = Ok (record { node = node; pods = past.pods; ticks = past.ticks })
+finished n past (Some node) = Ok (record { node = node; pods = past.pods; arrivals = past.arrivals; ticks = past.ticks })
 
 -- the lines from the nth on, after those that say what is past
 abbrev pub read_on : ℕ → Past → List (List ℕ) → Result Trace LineFault
@@ -82,7 +92,7 @@ read_on n past (line ∷ lines) =
 
 -- no line was read yet
 abbrev pub nothing : Past
-nothing = record { node = None; pods = []; ticks = [] }
+nothing = record { node = None; pods = []; arrivals = []; ticks = [] }
 
 -- the trace of a text
 unfoldable pub trace_of : List ℕ → Result Trace LineFault

@@ -3,7 +3,7 @@
 ghost use Rattle.std.specs.Prelude.{◌≡◌};
 ghost use Rattle.trace.specs.declared.fault.FaultKind.TheVariants.{OutOfMemory};
 ghost use Rattle.json_fields.specs.Reading.{refused_if};
-ghost use Rattle.trace.specs.Gives.{Gives};
+ghost use Rattle.trace.specs.Gives.{GivesExactly};
 
 use manifest::ManifestFault;
 use std::alloc::{AllocError, AllocFailed};
@@ -116,7 +116,7 @@ impl<T: Drop> From<AllocFailed<T>> for FaultKind {
 }
 
 pub(crate) fn refused_if(test: bool, kind: FaultKind) -> Result<(), FaultKind>
-    ensures { Gives (λ t. t) result (refused_if test kind) }
+    ensures { GivesExactly (λ t. t) result (refused_if test kind) }
 {
     if test { Err(kind) } else { Ok(()) }
 }

@@ -2,7 +2,6 @@
 #![tactic(auto)]
 
 mod fault;
-mod following;
 pub mod laws;
 mod lines;
 mod listing;
@@ -15,6 +14,6 @@ mod reading;
 mod tick;
 
 pub use fault::{FaultKind, LineFault};
-pub use node::NodeConfig;
+pub use node::{NodeConfig, Version};
 pub use past::Trace;
 pub use reading::read_trace;

@@ -12,23 +12,35 @@ use manifest::{MaxRestartDelay, Text, is_name};
 use serde_json::Value;
 use std::alloc::Global;
 
+/// The version of the format that a trace is written in.
+#[derive(Clone, Copy, Debug, PartialEq, Eq)]
+pub enum Version {
+    /// Every pod line stands before the first tick line.
+    One,
+    /// A pod line may follow a tick line.
+    Two,
+}
+
 /// The node and its configuration (Kubernetes, "Node-pressure Eviction").
 #[derive(Drop)]
 pub struct NodeConfig {
     /// 1 to 253 bytes.
     pub name: Text,
+    /// 1 where none is written.
+    pub version: Version,
     /// By how much a restart is put off at most; 300 seconds where none is written.
     pub max_restart_delay: MaxRestartDelay,
 }
 
-fn version(found: Option<&Value>) -> Result<(), FaultKind>
-    ensures { Gives (λ t. t) result (version_of (option_map (λ v. view v.now) found.entry)) }
+fn version_written(found: Option<&Value>) -> Result<Version, FaultKind>
+    ensures { Gives (λ v. v) result (version_of (option_map (λ v. view v.now) found.entry)) }
 {
     let Some(value) = found else {
-        return Ok(());
+        return Ok(Version::One);
     };
     match value.as_u64() {
-        Some(1) => Ok(()),
+        Some(1) => Ok(Version::One),
+        Some(2) => Ok(Version::Two),
         _ => Err(FaultKind::Config),
     }
 }
@@ -87,7 +99,7 @@ fn eviction_unset(node: &Value) -> Result<(), FaultKind>
 pub(crate) fn node_of(alloc: Global, node: &Value) -> Result<NodeConfig, FaultKind>
     ensures { Gives (λ n. n) result (node_of (view node.now)) }
 {
-    version(field(node, "version"))?;
+    let version = version_written(field(node, "version"))?;
     let name = node_name(alloc, text_at(node, "name"))?;
     absent(FaultKind::Config, field(node, "capacity"))?;
     absent(FaultKind::Config, field(node, "dedicatedImagefs"))?;
@@ -95,6 +107,7 @@ pub(crate) fn node_of(alloc: Global, node: &Value) -> Result<NodeConfig, FaultKi
     let max_restart_delay = restart_delay(field(node, "maxRestartDelay"))?;
     Ok(NodeConfig {
         name,
+        version,
         max_restart_delay,
     })
 }

@@ -1,11 +1,11 @@
 //! What the lines so far say.
 
 use crate::node::NodeConfig;
+use following::Following;
 use manifest::PodSpec;
 use name_list::NameList;
 use observations::TickObs;
 use sequence::Sequence;
-use state_diff::Differ;
 use std::marker::Model;
 
 /// The kinds of line.
@@ -16,28 +16,28 @@ pub(crate) enum LineKind {
     Tick,
 }
 
-/// What the lines so far say, with the pods' keys by number, and a differ for each container of
-/// each pod that has followed the ticks.
+/// What the lines so far say, with the pods' keys by number, and what follows their containers.
 #[derive(Drop)]
 pub(crate) struct Reader {
     pub(crate) node: Option<NodeConfig>,
     pub(crate) pods: Sequence<PodSpec>,
+    pub(crate) arrivals: Sequence<usize>,
     pub(crate) ticks: Sequence<TickObs>,
     pub(crate) keys: NameList,
-    pub(crate) differs: Sequence<Sequence<Differ>>,
+    pub(crate) following: Following,
 }
 
 impl Model for Reader {
     ghost use Rattle.std.specs.Prelude.{◌≡◌};
-    ghost use Rattle.trace.specs.Followed.{AreFollowed};
+    ghost use Rattle.following.specs.Followed.{HasFollowed};
     ghost use Rattle.trace.specs.Past.{Past};
-    ghost use Rattle.trace.specs.Pod.{keys_of};
+    ghost use Rattle.trace.specs.Pod.{container_counts, keys_of};
 
     ghost Value = { Past };
 
-    ghost view = { λ r. record { node = r.node; pods = r.pods; ticks = r.ticks } };
+    ghost view = { λ r. record { node = r.node; pods = r.pods; arrivals = r.arrivals; ticks = r.ticks } };
 
-    ghost invariant = { λ r. (r.keys ≡ keys_of r.pods) × AreFollowed r.ticks r.pods r.differs };
+    ghost invariant = { λ r. (r.keys ≡ keys_of r.pods) × HasFollowed r.ticks (container_counts r.pods) r.following };
 }
 
 /// A whole trace: the node, its pods, and what was recorded of them tick by tick.
@@ -46,6 +46,8 @@ pub struct Trace {
     pub node: NodeConfig,
     /// The pods, by number.
     pub pods: Sequence<PodSpec>,
+    /// For each pod how many ticks stand before its line; the pod is present from the next tick on.
+    pub arrivals: Sequence<usize>,
     /// The ticks, in the order of their moments.
     pub ticks: Sequence<TickObs>,
 }

@@ -3,7 +3,7 @@
 ghost use Rattle.std.specs.Prelude.{◌≡◌, ◌==◌};
 ghost use Rattle.name_list.specs.Names.{place_of};
 ghost use Rattle.json_fields.specs.Reading.{each, some_or};
-ghost use Rattle.trace.specs.Gives.{Gives};
+ghost use Rattle.trace.specs.Gives.{Gives, GivesExactly};
 ghost use Rattle.trace.specs.Pod.{keys_of};
 ghost use Rattle.trace.specs.Placing.{number_in, container_number, placed_listing, placed_result, pod_numbered, placed_entry, has_twice, are_of_one_pod, are_of_one_container, is_of_probe, are_of_one_probe, repeats, is_doubled};
 ghost use Rattle.std.specs.List.{list_any};
@@ -40,7 +40,7 @@ pub(crate) struct PlacedEntry {
 }
 
 fn pod_number(keys: &NameList, entry: &Entry) -> Result<usize, FaultKind>
-    ensures { Gives (λ n. n) result (number_in keys.now entry.now) }
+    ensures { GivesExactly (λ n. n) result (number_in keys.now entry.now) }
 {
     match keys.number_of(entry.key.as_str()) {
         None => Err(FaultKind::StrangerPod),
@@ -65,7 +65,7 @@ pub(crate) fn pod_numbers(
 }
 
 fn container_number(pod: &PodSpec, name: &str) -> Result<usize, FaultKind>
-    ensures { Gives (λ n. n) result (container_number pod.now name.now) }
+    ensures { GivesExactly (λ n. n) result (container_number pod.now name.now) }
 {
     match pod.containers.number_of(name) {
         None => Err(FaultKind::StrangerContainer),
@@ -74,7 +74,7 @@ fn container_number(pod: &PodSpec, name: &str) -> Result<usize, FaultKind>
 }
 
 fn placed_listing(pod: &PodSpec, listing: &Listing) -> Result<PlacedListing, FaultKind>
-    ensures { Gives (λ l. l) result (placed_listing pod.now listing.now) }
+    ensures { GivesExactly (λ l. l) result (placed_listing pod.now listing.now) }
 {
     let container = container_number(pod, listing.name.as_str())?;
     Ok(PlacedListing {
@@ -84,7 +84,7 @@ fn placed_listing(pod: &PodSpec, listing: &Listing) -> Result<PlacedListing, Fau
 }
 
 fn placed_result(pod: &PodSpec, written: &ProbeResult) -> Result<PlacedResult, FaultKind>
-    ensures { Gives (λ r. r) result (placed_result pod.now written.now) }
+    ensures { GivesExactly (λ r. r) result (placed_result pod.now written.now) }
 {
     let container = container_number(pod, written.container.as_str())?;
     Ok(PlacedResult {
@@ -125,7 +125,7 @@ fn placed_results(
 }
 
 fn pod_numbered(pods: &[PodSpec], number: usize) -> Result<&PodSpec, FaultKind>
-    ensures { Gives (λ p. p.now) result (pod_numbered pods.now number) }
+    ensures { GivesExactly (λ p. p.now) result (pod_numbered pods.now number) }
 {
     match pods.get(number) {
         None => Err(FaultKind::StrangerPod),

@@ -4,7 +4,7 @@ ghost use Rattle.std.specs.Prelude.{◌≡◌, option_map, is_some, length, nat_
 ghost use Rattle.serde_json.specs.View.{view};
 ghost use Rattle.json_fields.specs.Reading.{refused_if};
 ghost use Rattle.name_list.specs.Names.{place_of};
-ghost use Rattle.trace.specs.Gives.{Gives};
+ghost use Rattle.trace.specs.Gives.{Gives, GivesExactly};
 ghost use Rattle.trace.specs.Pod.{key_of_pod, keys_of, most_pods, has_key, pod_from};
 
 use crate::fault::{FaultKind, refused_if};
@@ -39,7 +39,7 @@ fn key_text(alloc: Global, pod: &PodSpec) -> Result<String, AllocError>
 
 /// There is room for one pod more.
 pub(crate) fn room_for_pod(reader: &Reader) -> Result<(), FaultKind>
-    ensures { Gives (λ t. t) result (refused_if (nat_le most_pods (length reader.now.pods)) FaultKind.TooMany) }
+    ensures { GivesExactly (λ t. t) result (refused_if (nat_le most_pods (length reader.now.pods)) FaultKind.TooMany) }
 {
     refused_if(reader.pods.as_slice().len() >= 256, FaultKind::TooMany)
 }

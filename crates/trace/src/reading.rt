@@ -1,21 +1,22 @@
 //! Reading a whole trace.
 
-ghost use Rattle.std.specs.Prelude.{◌≡◌, [], option_map, None, Ok, IfOk, string_bytes};
+ghost use Rattle.serde_json.specs.Errors.{IsMemory};
+ghost use Rattle.std.specs.Prelude.{◌≡◌, ◌⊎◌, [], option_map, None, Ok, IfOk, string_bytes};
 ghost use Rattle.serde_json.specs.View.{view};
-ghost use Rattle.trace.specs.Gives.{Gives, GivesAt};
+ghost use Rattle.trace.specs.Gives.{Gives, GivesAt, GivesExactly};
 ghost use Rattle.name_list.specs.Names.{place_of};
-ghost use Rattle.trace.specs.Past.{with_pod};
+ghost use Rattle.trace.specs.Past.{version_in, with_pod};
 ghost use Rattle.trace.specs.Pod.{key_of_pod, keys_of};
 ghost use Rattle.trace.specs.Sound.{AreAcceptable, AreRising, HasShape};
-ghost use Rattle.trace.specs.Trace.{json_of, kind_from, with_node, with_new_pod, pod_line_at, line_at, trace_of, finished, in_order};
+ghost use Rattle.trace.specs.Trace.{json_of, kind_from, with_node, with_new_pod, is_late, pod_line_at, line_length, line_at, trace_of, finished, in_order};
 
-use crate::fault::{FaultKind, LineFault};
-use crate::following::new_differs;
+use crate::fault::{FaultKind, LineFault, refused_if};
 use crate::lines::{first_line, is_blank};
-use crate::node::node_of;
+use crate::node::{Version, node_of};
 use crate::past::{LineKind, Reader, Trace};
 use crate::pod::{new_key, pod_in, room_for_pod};
 use crate::tick::take_tick;
+use following::Following;
 use json_fields::{field, text_at};
 use manifest::PodSpec;
 use name_list::NameList;
@@ -23,13 +24,26 @@ use sequence::Sequence;
 use serde_json::Value;
 use std::alloc::Global;
 
+/// The most bytes of a line, 1 MiB.
+const LONGEST_LINE: usize = 1_048_576;
+
+/// What an error in a line's JSON means.
+fn json_fault(error: &serde_json::Error) -> FaultKind
+    ensures { (IsMemory error.now × (result ≡ FaultKind.OutOfMemory)) ⊎ ((IsMemory error.now → ⊥) × (result ≡ FaultKind.NotJson)) }
+{
+    if error.is_memory() {
+        FaultKind::OutOfMemory
+    } else {
+        FaultKind::NotJson
+    }
+}
+
 fn json(alloc: Global, line: &[u8]) -> Result<Value, FaultKind>
     ensures { Gives view result (json_of line.now) }
 {
     match Value::from_slice(alloc, line) {
         Ok(value) => Ok(value),
-        Err(e) if e.is_memory() => Err(FaultKind::OutOfMemory),
-        Err(_) => Err(FaultKind::NotJson),
+        Err(e) => Err(json_fault(&e)),
     }
 }
 
@@ -52,23 +66,24 @@ fn take_node(alloc: Global, reader: Reader, line: &Value) -> Result<Reader, Faul
     let node = node_of(alloc, line)?;
     let Reader {
         pods,
+        arrivals,
         ticks,
         keys,
-        differs,
+        following,
         ..
     } = reader;
     Ok(Reader {
         node: Some(node),
         pods,
+        arrivals,
         ticks,
         keys,
-        differs,
+        following,
     })
 }
 
-/// Adds a pod of a new key, before all ticks.
+/// Adds a pod of a new key.
 fn with_pod(alloc: Global, reader: Reader, pod: PodSpec, key: String) -> Result<Reader, FaultKind>
-    requires early { reader.ticks ≡ [] }
     requires key { string_bytes key ≡ key_of_pod pod }
     requires new { place_of (keys_of reader.pods) (string_bytes key) ≡ None }
     ensures { Gives (λ r. r) result (Ok (with_pod reader pod)) }
@@ -76,43 +91,67 @@ fn with_pod(alloc: Global, reader: Reader, pod: PodSpec, key: String) -> Result<
     let Reader {
         node,
         mut pods,
+        mut arrivals,
         ticks,
         mut keys,
-        mut differs,
+        following,
     } = reader;
     keys.push(key)?;
-    let new = new_differs(alloc, pod.containers.as_slice().len())?;
-    differs.push(Sequence::from_vec(new))?;
+    let following = following.with_pod(alloc, pod.containers.as_slice().len())?;
     pods.push(pod)?;
+    arrivals.push(ticks.as_slice().len())?;
     Ok(Reader {
         node,
         pods,
+        arrivals,
         ticks,
         keys,
-        differs,
+        following,
     })
 }
 
-/// Adds a pod before all ticks, if its key is new.
+/// Adds a pod, if its key is new.
 fn with_new_pod(alloc: Global, reader: Reader, pod: PodSpec) -> Result<Reader, FaultKind>
-    requires { reader.ticks ≡ [] }
     ensures { Gives (λ r. r) result (with_new_pod reader pod) }
 {
     let key = new_key(alloc, &reader, &pod)?;
     with_pod(alloc, reader, pod, key)
 }
 
+/// Whether a pod line comes too late behind the ticks so far.
+fn is_late(version: Version, reader: &Reader) -> bool
+    ensures { result ≡ is_late version reader.now.ticks }
+{
+    match version {
+        Version::One => !reader.ticks.as_slice().is_empty(),
+        Version::Two => false,
+    }
+}
+
 /// Takes a pod line.
 #[tactic(auto, unfolding(crate::specs::Trace::pod_line_at))]
-fn take_pod(alloc: Global, reader: Reader, line: &Value) -> Result<Reader, FaultKind>
-    ensures { Gives (λ r. r) result (pod_line_at reader (view line.now)) }
+fn take_pod(
+    alloc: Global,
+    version: Version,
+    reader: Reader,
+    line: &Value,
+) -> Result<Reader, FaultKind>
+    ensures { Gives (λ r. r) result (pod_line_at version reader (view line.now)) }
 {
-    if !reader.ticks.as_slice().is_empty() {
-        return Err(FaultKind::Order);
-    }
+    refused_if(is_late(version, &reader), FaultKind::Order)?;
     room_for_pod(&reader)?;
     let pod = pod_in(alloc, field(line, "pod"))?;
     with_new_pod(alloc, reader, pod)
+}
+
+/// The version of the format, once there is a node.
+fn version_in(reader: &Reader) -> Option<Version>
+    ensures { result ≡ version_in reader.now }
+{
+    match &reader.node {
+        None => None,
+        Some(node) => Some(node.version),
+    }
 }
 
 fn take_in_order(
@@ -121,23 +160,27 @@ fn take_in_order(
     line_kind: LineKind,
     line: &Value,
 ) -> Result<Reader, FaultKind>
-    ensures { Gives (λ r. r) result (in_order reader.node reader line_kind (view line.now)) }
+    ensures { Gives (λ r. r) result (in_order (version_in reader) reader line_kind (view line.now)) }
 {
-    match (reader.node.is_some(), line_kind) {
-        (false, LineKind::Node) => take_node(alloc, reader, line),
-        (true, LineKind::Pod) => take_pod(alloc, reader, line),
-        (true, LineKind::Tick) => take_tick(alloc, reader, line),
+    match (version_in(&reader), line_kind) {
+        (None, LineKind::Node) => take_node(alloc, reader, line),
+        (Some(version), LineKind::Pod) => take_pod(alloc, version, reader, line),
+        (Some(_), LineKind::Tick) => take_tick(alloc, reader, line),
         _ => Err(FaultKind::Order),
     }
+}
+
+fn line_length(line: &[u8]) -> Result<(), FaultKind>
+    ensures { GivesExactly (λ t. t) result (line_length line.now) }
+{
+    refused_if(line.len() > LONGEST_LINE, FaultKind::TooLong)
 }
 
 #[tactic(auto, unfolding(crate::specs::Trace::line_at))]
 fn take_line(alloc: Global, reader: Reader, line: &[u8]) -> Result<Reader, FaultKind>
     ensures { Gives (λ r. r) result (line_at reader line.now) }
 {
-    if line.len() > 1_048_576 {
-        return Err(FaultKind::TooLong);
-    }
+    line_length(line)?;
     let value = json(alloc, line)?;
     let Some(line_kind) = kind_from(text_at(&value, "kind")) else {
         return Err(FaultKind::UnknownKind);
@@ -151,6 +194,7 @@ fn finished(line: u64, reader: Reader) -> Result<Trace, LineFault>
     let Reader {
         node,
         pods,
+        arrivals,
         ticks,
         ..
     } = reader;
@@ -159,20 +203,26 @@ fn finished(line: u64, reader: Reader) -> Result<Trace, LineFault>
             line,
             kind: FaultKind::Order,
         }),
-        Some(node) => Ok(Trace { node, pods, ticks }),
+        Some(node) => Ok(Trace {
+            node,
+            pods,
+            arrivals,
+            ticks,
+        }),
     }
 }
 
-#[tactic(auto, using(crate::proofs::FollowedLemmas::none_followed), unfolding(crate::specs::Trace::trace_of))]
+#[tactic(auto, unfolding(crate::specs::Trace::trace_of))]
 fn read_lines(alloc: Global, text: &[u8]) -> Result<Trace, LineFault>
     ensures { GivesAt (λ t. t) result (trace_of text.now) }
 {
     let mut reader = Reader {
         node: None,
         pods: Sequence::new(alloc),
+        arrivals: Sequence::new(alloc),
         ticks: Sequence::new(alloc),
         keys: NameList::new(alloc),
-        differs: Sequence::new(alloc),
+        following: Following::new(alloc),
     };
     let mut rest = text;
     let mut line = 1u64;
@@ -195,7 +245,7 @@ pub fn read_trace(alloc: Global, text: &[u8]) -> Result<Trace, LineFault>
     ensures gives { GivesAt (λ t. t) result (trace_of text.now) }
     ensures acceptable { IfOk result (λ t. AreAcceptable t.ticks) }
     ensures rising { IfOk result (λ t. AreRising t.ticks) }
-    ensures shape { IfOk result (λ t. HasShape t.pods t.ticks) }
+    ensures shape { IfOk result (λ t. HasShape t.pods t.arrivals t.ticks) }
 {
     read_lines(alloc, text)
 }

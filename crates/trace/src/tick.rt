@@ -4,30 +4,32 @@ ghost use Rattle.std.specs.Prelude.{◌≡◌, ◌++◌, ◌∷◌, [], option_m
 ghost use Rattle.std.specs.List.{list_any};
 ghost use Rattle.serde_json.specs.View.{view};
 ghost use Rattle.json_fields.specs.Reading.{refused_if};
-ghost use Rattle.trace.specs.Gives.{Gives};
+ghost use Rattle.trace.specs.Gives.{Gives, GivesExactly};
 ghost use Rattle.trace.specs.Past.{with_tick};
 ghost use Rattle.trace.specs.Placing.{placed_of};
 ghost use Rattle.trace.specs.Observed.{seen_in, outcome_in, results_in, entry_for, listings_of, results_of, seen_listed, containers_from, pod_observed, pods_from, observed, lacks_code, some_code_missing};
-ghost use Rattle.trace.specs.Followed.{AreFollowed, EndBefore};
+ghost use Rattle.following.specs.Backwards.{is_backwards};
+ghost use Rattle.following.specs.Followed.{EndBefore, ComesNext, HasFollowed};
+ghost use Rattle.trace.specs.Pod.{container_counts};
 ghost use Rattle.trace.specs.Tick.{moment_of, most_ticks, observed_in, tick_at};
 
 use crate::fault::{FaultKind, refused_if};
-use crate::following::differs_after;
 use crate::listing::{Entry, ListedInstance, entries_of};
 use crate::past::Reader;
 use crate::placing::{
     PlacedEntry, PlacedListing, PlacedResult, is_doubled, is_of_probe, placed_entries, pod_numbers,
 };
+use following::{FollowError, Following};
 use json_fields::field;
 use manifest::{ContainerSpec, Outcome, PodSpec, ProbeKind};
 use observations::{ContainerObs, PodObs, TickObs};
 use sequence::Sequence;
 use serde_json::Value;
-use state_diff::{CriState, Differ, Seen};
+use state_diff::{CriState, Seen};
 use std::alloc::{AllocError, Global};
 
 fn moment(ticks: &[TickObs], found: Option<&Value>) -> Result<u64, FaultKind>
-    ensures { Gives (λ n. n) result (moment_of ticks.now (option_map (λ v. view v.now) found.entry)) }
+    ensures { GivesExactly (λ n. n) result (moment_of ticks.now (option_map (λ v. view v.now) found.entry)) }
 {
     let Some(value) = found else {
         return Err(FaultKind::Moment);
@@ -99,7 +101,7 @@ fn containers_observed(
 ) -> Result<Vec<ContainerObs>, AllocError>
     ensures { IfOk result (λ v. v.items ≡ containers_from listings.now results.now 0 containers.now) }
 {
-    let mut all = Vec::new(alloc);
+    let mut all = Vec::with_capacity(alloc, containers.len())?;
     for (number, _) in containers.iter().enumerate() {
         let seen = seen_in(listings, number);
         let results = results_in(results, number);
@@ -164,7 +166,7 @@ fn pods_observed(
 ) -> Result<Vec<PodObs>, AllocError>
     ensures { IfOk result (λ v. v.items ≡ pods_from at entries.now 0 pods.now) }
 {
-    let mut all = Vec::new(alloc);
+    let mut all = Vec::with_capacity(alloc, pods.len())?;
     for (number, pod) in pods.iter().enumerate() {
         let observed = pod_observed(alloc, at, entry_for(entries, number), pod)?;
         all.push(observed)?;
@@ -208,13 +210,13 @@ fn some_code_missing(entries: &[PlacedEntry]) -> bool
 }
 
 fn room(reader: &Reader) -> Result<(), FaultKind>
-    ensures { Gives (λ t. t) result (refused_if (nat_le most_ticks (length reader.now.ticks)) FaultKind.TooMany) }
+    ensures { GivesExactly (λ t. t) result (refused_if (nat_le most_ticks (length reader.now.ticks)) FaultKind.TooMany) }
 {
     refused_if(reader.ticks.as_slice().len() >= 20_000, FaultKind::TooMany)
 }
 
 fn moment_after(reader: &Reader, found: Option<&Value>) -> Result<u64, FaultKind>
-    ensures gives { Gives (λ n. n) result (moment_of reader.now.ticks (option_map (λ v. view v.now) found.entry)) }
+    ensures gives { GivesExactly (λ n. n) result (moment_of reader.now.ticks (option_map (λ v. view v.now) found.entry)) }
     ensures later { IfOk result (λ at. EndBefore reader.now.ticks at) }
 {
     moment(reader.ticks.as_slice(), found)
@@ -233,36 +235,47 @@ fn placed_of(
     placed_entries(alloc, &reader.keys, reader.pods.as_slice(), entries)
 }
 
-/// The tick, checked against the earlier ticks, and the differs after it.
+/// What follows the containers after the tick, unless some listing of it may not come after those of
+/// the earlier ticks.
+fn following_after(alloc: Global, reader: &Reader, tick: &TickObs) -> Result<Following, FaultKind>
+    requires { ComesNext reader.now.ticks (container_counts reader.now.pods) tick.now }
+    ensures gives { Gives (λ _. tt) result (refused_if (is_backwards reader.now.ticks tick.now) FaultKind.Backwards) }
+    ensures followed { IfOk result (λ f. HasFollowed (reader.now.ticks ++ tick.now ∷ []) (container_counts reader.now.pods) f) }
+{
+    match reader.following.with_tick(alloc, tick) {
+        Ok(following) => Ok(following),
+        Err(FollowError::Backwards) => Err(FaultKind::Backwards),
+        Err(FollowError::OutOfMemory) => Err(FaultKind::OutOfMemory),
+    }
+}
+
+/// The tick, checked against the earlier ticks, and what follows the containers after it.
 #[tactic(auto, unfolding(crate::specs::Tick::observed_in))]
 fn observed_in(
     alloc: Global,
     reader: &Reader,
     at: u64,
     entries: &[PlacedEntry],
-) -> Result<(TickObs, Sequence<Sequence<Differ>>), FaultKind>
+) -> Result<(TickObs, Following), FaultKind>
     requires { EndBefore reader.now.ticks at }
     ensures gives { Gives (λ r. r.0) result (observed_in reader.now at entries.now) }
-    ensures followed { IfOk result (λ r. AreFollowed (reader.now.ticks ++ r.0 ∷ []) reader.now.pods r.1) }
+    ensures followed { IfOk result (λ r. HasFollowed (reader.now.ticks ++ r.0 ∷ []) (container_counts reader.now.pods) r.1) }
 {
     refused_if(is_doubled(entries), FaultKind::Doubled)?;
     let tick = observed(alloc, at, entries, reader.pods.as_slice())?;
-    let differs = differs_after(alloc, reader, &tick)?;
+    let following = following_after(alloc, reader, &tick)?;
     refused_if(some_code_missing(entries), FaultKind::ExitCode)?;
-    Ok((tick, differs))
+    Ok((tick, following))
 }
 
-fn with_tick(
-    reader: Reader,
-    tick: TickObs,
-    differs: Sequence<Sequence<Differ>>,
-) -> Result<Reader, FaultKind>
-    requires { AreFollowed (reader.ticks ++ tick ∷ []) reader.pods differs }
+fn with_tick(reader: Reader, tick: TickObs, following: Following) -> Result<Reader, FaultKind>
+    requires { HasFollowed (reader.ticks ++ tick ∷ []) (container_counts reader.pods) following }
     ensures { Gives (λ r. r) result (Ok (with_tick reader tick)) }
 {
     let Reader {
         node,
         pods,
+        arrivals,
         mut ticks,
         keys,
         ..
@@ -271,9 +284,10 @@ fn with_tick(
     Ok(Reader {
         node,
         pods,
+        arrivals,
         ticks,
         keys,
-        differs,
+        following,
     })
 }
 
@@ -286,6 +300,6 @@ pub(crate) fn take_tick(alloc: Global, reader: Reader, line: &Value) -> Result<R
     let at = moment_after(&reader, field(line, "at"))?;
     let entries = entries_of(alloc, line)?;
     let placed = placed_of(alloc, &reader, &entries)?;
-    let (tick, differs) = observed_in(alloc, &reader, at, &placed)?;
-    with_tick(reader, tick, differs)
+    let (tick, following) = observed_in(alloc, &reader, at, &placed)?;
+    with_tick(reader, tick, following)
 }

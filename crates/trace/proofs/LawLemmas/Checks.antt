@@ -1,7 +1,7 @@
 -- A line's fault is that of its first check that fails; a line without one says its node, its pod
 -- or its tick.
 use Rattle.std.proofs.Common.{◌≡◌, ◌≢◌, ◌∙◌, ◌⊎◌, ℕ, ◌≤◌, ◌<◌, Bool, true, false, List, [], ◌∷◌, length, Option, Some, None, Result, Ok, Err, refl, ap, sym, subst, inl, inr, arith, is_some}
-use Rattle.std.specs.Prelude.{⊤, nat_lt, nat_le, codes}
+use Rattle.std.specs.Prelude.{⊤, nat_lt, nat_le, option_map, IsSomeAnd, codes}
 use Rattle.std.proofs.lemmas.Bool.{ltb-true, ltb-false, lt-ltb, le-ltb, leb-true, leb-false, le-leb, lt-leb}
 use Rattle.serde_json.specs.Data.{Data}
 use Rattle.json_fields.specs.Fields.{field_at, text_at}
@@ -11,22 +11,26 @@ use Rattle.manifest.specs.declared.pod.PodSpec.{PodSpec}
 use Rattle.trace.specs.declared.fault.FaultKind.{FaultKind}
 use Rattle.trace.specs.declared.fault.FaultKind.TheVariants.{TooLong, UnknownKind, Order, TooMany, DuplicatePod, Doubled, Backwards, ExitCode}
 use Rattle.trace.specs.declared.node.NodeConfig.{NodeConfig}
+use Rattle.trace.specs.declared.node.Version.{Version}
+use Rattle.trace.specs.declared.node.Version.TheVariants.{One, Two}
 use Rattle.trace.specs.declared.past.LineKind.{LineKind}
 use Rattle.trace.specs.declared.past.LineKind.TheVariants as kinds
 use Rattle.observations.specs.declared.tick.TickObs.{TickObs}
 use Rattle.trace.specs.declared.listing.Entry.{Entry}
 use Rattle.trace.specs.declared.placing.PlacedEntry.{PlacedEntry}
+use Rattle.trace.specs.Lines.{longest_line}
 use Rattle.trace.specs.Node.{node_of}
 use Rattle.trace.specs.Pod.{key_of_pod, has_key, most_pods, pod_from}
+use Rattle.trace.proofs.Versions.{no_node, some_node}
 use Rattle.trace.proofs.Keys.{key_there, there_key, key_nowhere, nowhere_key}
 use Rattle.trace.specs.Listings.{entries_of}
 use Rattle.trace.specs.Placing.{placed_of, is_doubled}
 use Rattle.trace.specs.Observed.{observed, some_code_missing}
-use Rattle.trace.specs.Backwards.{is_backwards}
-use Rattle.trace.specs.Past.{Past, with_pod, with_tick}
+use Rattle.following.specs.Backwards.{is_backwards}
+use Rattle.trace.specs.Past.{Past, version_in, of_node, with_pod, with_tick}
 use Rattle.trace.specs.Tick.{moment_of, most_ticks, observed_in, tick_at}
-use Rattle.trace.specs.Trace.{json_of, kind_from, with_node, pod_line_at, in_order, line_at}
-use Rattle.trace.specs.Laws.{IsJson, IsOfKind, MayStand, Stands, HasPod, HasMoment, HasEntries, HasPlaces, IsApart, IsForwards, Fails, too_long, not_json, unknown_kind, misplaced, wrong_node, many_pods, wrong_pod, duplicate_pod, many_ticks, wrong_moment, wrong_entry, stranger, doubled, backwards, no_code, FirstCheck, Says, says_node, says_pod, says_tick, AllChecks}
+use Rattle.trace.specs.Trace.{json_of, kind_from, with_node, is_late, pod_line_at, in_order, line_at}
+use Rattle.trace.specs.Laws.{IsJson, IsOfKind, TakesPods, MayStand, Stands, HasPod, HasMoment, HasEntries, HasPlaces, IsApart, IsForwards, Fails, too_long, not_json, unknown_kind, misplaced, wrong_node, many_pods, wrong_pod, duplicate_pod, many_ticks, wrong_moment, wrong_entry, stranger, doubled, backwards, no_code, FirstCheck, Says, says_node, says_pod, says_tick, AllChecks}
 
 pub bind_err : {A B E : Type 0} (r : Result A E) (f : A → Result B E) (fault : E) → (r >>= f) ≡ Err fault → (r ≡ Err fault) ⊎ ((x : A) × (r ≡ Ok x) × (f x ≡ Err fault))
 bind_err (Ok x) f fault e = inr (x, refl, e)
@@ -51,7 +55,10 @@ tested false fault f given e = inr (refl, e)
 
 -- the steps of a line, each with those after it
 abbrev in_place : Past → Data → LineKind → Result Past FaultKind
-in_place past d line_kind = in_order past.node past line_kind d
+in_place past d line_kind = in_order (version_in past) past line_kind d
+
+abbrev PodStands : Past → Option Version → Type 0
+PodStands past found = IsSomeAnd found (TakesPods past.ticks)
 
 abbrev with_kind : Past → Data → Option LineKind → Result Past FaultKind
 with_kind past d kind = some_or UnknownKind kind >>= in_place past d
@@ -109,6 +116,23 @@ in_some (x ∷ xs) some = lt-ltb 0 (length (x ∷ xs)) (omega arith)
 
 in_none : {A : Type 0} (xs : List A) → xs ≡ [] → nat_lt 0 (length xs) ≡ false
 in_none xs none = rw none refl
+
+-- whether the version takes a pod line behind these ticks
+takes_pods : (version : Version) (ticks : List TickObs) → is_late version ticks ≡ false → TakesPods ticks version
+takes_pods One ticks e = none_in ticks e
+takes_pods Two ticks e = tt
+
+too_late : (version : Version) (ticks : List TickObs) → is_late version ticks ≡ true → TakesPods ticks version → ⊥
+too_late One ticks e none = some_in ticks e none
+too_late Two ticks e may = absurd (cc)
+
+in_time : (version : Version) (ticks : List TickObs) → TakesPods ticks version → is_late version ticks ≡ false
+in_time One ticks none = in_none ticks none
+in_time Two ticks may = refl
+
+comes_late : (version : Version) (ticks : List TickObs) → (TakesPods ticks version → ⊥) → is_late version ticks ≡ true
+comes_late One ticks never = in_some ticks never
+comes_late Two ticks never = absurd (never tt)
 
 pub no_fault : {A E : Type 0} (x : A) (fault : E) → ◌≡◌ {A = Result A E} (Ok x) (Err fault) → ⊥
 no_fault x fault e = absurd (cc)
@@ -185,47 +209,43 @@ early_fails past line d kind is e = elim (tested (nat_le most_pods (length past.
   | inr later ↦ read_fails past line d kind is (leb-false most_pods (length past.pods) later.0) later.1
 ]
 
-pod_fails : (past : Past) (line : List ℕ) (d : Data) (kind : FaultKind) → is_some past.node ≡ true → IsOfKind line kinds.Pod d → pod_line_at past d ≡ Err kind → Fails past line kind
+pod_fails : (version : Version) (past : Past) (line : List ℕ) (d : Data) (kind : FaultKind) → version_in past ≡ Some version → IsOfKind line kinds.Pod d → pod_line_at version past d ≡ Err kind → Fails past line kind
 unfolding pod_line_at
-pod_fails past line d kind node is e = elim (tested (nat_lt 0 (length past.ticks)) Order (pod_early past d) kind e) [
-  | inl here ↦ subst (λ (k : FaultKind). Fails past line k) here.1 (misplaced kinds.Pod d is (λ may. some_in past.ticks here.0 may.1))
-  | inr later ↦ early_fails past line d kind (record { of_kind = is; here = (node, none_in past.ticks later.0) }) later.1
+pod_fails version past line d kind some is e = elim (tested (is_late version past.ticks) Order (pod_early past d) kind e) [
+  | inl here ↦ subst (λ (k : FaultKind). Fails past line k) here.1 (misplaced kinds.Pod d is (λ may. too_late version past.ticks here.0 (subst (PodStands past) some may)))
+  | inr later ↦ early_fails past line d kind (record { of_kind = is; here = subst (PodStands past) (sym some) (takes_pods version past.ticks later.0) }) later.1
 ]
 
 node_fails : (past : Past) (line : List ℕ) (d : Data) (kind : FaultKind) → Stands past line kinds.Node d → with_node past d ≡ Err kind → Fails past line kind
 unfolding with_node
 node_fails past line d kind is e =
-    let said : NodeConfig → Result Past FaultKind = λ node. Ok (record { node = Some node; pods = past.pods; ticks = past.ticks }) in
+    let said : NodeConfig → Result Past FaultKind = λ node. Ok (of_node past node) in
     elim (bind_err (node_of d) said kind e) [
       | inl here ↦ wrong_node d kind is here
-      | inr later ↦ absurd (no_fault (record { node = Some later.0; pods = past.pods; ticks = past.ticks }) kind later.2)
+      | inr later ↦ absurd (no_fault (of_node past later.0) kind later.2)
     ]
 
 not_some : (node : Option NodeConfig) → node ≡ None → is_some node ≡ true → ⊥
 not_some None none some = absurd (cc)
 not_some (Some node) none some = absurd (cc)
 
-none_some : {A : Type 0} (x : A) → ◌≡◌ {A = Option A} None (Some x) → ⊥
-none_some x e = absurd (cc)
-
-place_fails : (node : Option NodeConfig) (past : Past) (line : List ℕ) (line_kind : LineKind) (d : Data) (kind : FaultKind) → past.node ≡ node → IsOfKind line line_kind d → in_order node past line_kind d ≡ Err kind → Fails past line kind
-place_fails None past line kinds.Node d kind none is e = node_fails past line d kind (record { of_kind = is; here = none }) e
+place_fails : (found : Option Version) (past : Past) (line : List ℕ) (line_kind : LineKind) (d : Data) (kind : FaultKind) → version_in past ≡ found → IsOfKind line line_kind d → in_order found past line_kind d ≡ Err kind → Fails past line kind
+place_fails None past line kinds.Node d kind none is e = node_fails past line d kind (record { of_kind = is; here = no_node past.node none }) e
 place_fails None past line kinds.Pod d kind none is e =
-    subst (λ (k : FaultKind). Fails past line k) (same_fault {A = Past} Order kind e) (misplaced kinds.Pod d is (λ may. not_some past.node none may.0))
+    subst (λ (k : FaultKind). Fails past line k) (same_fault {A = Past} Order kind e) (misplaced kinds.Pod d is (λ may. subst (PodStands past) none may))
 place_fails None past line kinds.Tick d kind none is e =
-    subst (λ (k : FaultKind). Fails past line k) (same_fault {A = Past} Order kind e) (misplaced kinds.Tick d is (λ may. not_some past.node none may))
-place_fails (Some node) past line kinds.Node d kind some is e =
-    subst (λ (k : FaultKind). Fails past line k) (same_fault {A = Past} Order kind e) (misplaced kinds.Node d is (λ may. none_some node (sym may ∙ some)))
-place_fails (Some node) past line kinds.Pod d kind some is e =
-    pod_fails past line d kind (ap (λ (o : Option NodeConfig). is_some o) some) is e
-place_fails (Some node) past line kinds.Tick d kind some is e =
-    tick_fails past line d kind (record { of_kind = is; here = ap (λ (o : Option NodeConfig). is_some o) some }) e
+    subst (λ (k : FaultKind). Fails past line k) (same_fault {A = Past} Order kind e) (misplaced kinds.Tick d is (λ may. not_some past.node (no_node past.node none) may))
+place_fails (Some version) past line kinds.Node d kind some is e =
+    subst (λ (k : FaultKind). Fails past line k) (same_fault {A = Past} Order kind e) (misplaced kinds.Node d is (λ may. not_some past.node may (some_node past.node version some)))
+place_fails (Some version) past line kinds.Pod d kind some is e = pod_fails version past line d kind some is e
+place_fails (Some version) past line kinds.Tick d kind some is e =
+    tick_fails past line d kind (record { of_kind = is; here = some_node past.node version some }) e
 
 kind_fails : (past : Past) (line : List ℕ) (d : Data) (found : Option LineKind) (kind : FaultKind) → IsJson line d → kind_from (text_at (codes "kind") d) ≡ found → with_kind past d found ≡ Err kind → Fails past line kind
 kind_fails past line d None kind is found e = subst (λ (k : FaultKind). Fails past line k) (same_fault {A = Past} UnknownKind kind e) (unknown_kind d is found)
-kind_fails past line d (Some line_kind) kind is found e = place_fails past.node past line line_kind d kind refl (record { json = is; kind = found }) e
+kind_fails past line d (Some line_kind) kind is found e = place_fails (version_in past) past line line_kind d kind refl (record { json = is; kind = found }) e
 
-json_fails : (past : Past) (line : List ℕ) (kind : FaultKind) → length line ≤ 1048576 → (json_of line >>= with_json past) ≡ Err kind → Fails past line kind
+json_fails : (past : Past) (line : List ℕ) (kind : FaultKind) → length line ≤ longest_line → (json_of line >>= with_json past) ≡ Err kind → Fails past line kind
 json_fails past line kind short e = elim (bind_err (json_of line) (with_json past) kind e) [
   | inl here ↦ not_json kind short here
   | inr later ↦ kind_fails past line later.0 (kind_from (text_at (codes "kind") later.0)) kind (record { short = short; json = later.1 }) refl later.2
@@ -233,60 +253,58 @@ json_fails past line kind short e = elim (bind_err (json_of line) (with_json pas
 
 pub line_fails : (past : Past) (line : List ℕ) (kind : FaultKind) → line_at past line ≡ Err kind → Fails past line kind
 unfolding line_at
-line_fails past line kind e = elim (tested (nat_lt 1048576 (length line)) TooLong (λ u. json_of line >>= with_json past) kind e) [
-  | inl here ↦ subst (λ (k : FaultKind). Fails past line k) here.1 (too_long (ltb-true 1048576 (length line) here.0))
-  | inr later ↦ json_fails past line kind (ltb-false 1048576 (length line) later.0) later.1
+line_fails past line kind e = elim (tested (nat_lt longest_line (length line)) TooLong (λ u. json_of line >>= with_json past) kind e) [
+  | inl here ↦ subst (λ (k : FaultKind). Fails past line k) here.1 (too_long (ltb-true longest_line (length line) here.0))
+  | inr later ↦ json_fails past line kind (ltb-false longest_line (length line) later.0) later.1
 ]
 
 -- from a check that fails to the fault
-of_short : (past : Past) (line : List ℕ) → length line ≤ 1048576 → line_at past line ≡ (json_of line >>= with_json past)
+of_short : (past : Past) (line : List ℕ) → length line ≤ longest_line → line_at past line ≡ (json_of line >>= with_json past)
 unfolding line_at
-of_short past line short = passed (nat_lt 1048576 (length line)) TooLong (λ u. json_of line >>= with_json past) (le-ltb 1048576 (length line) short)
+of_short past line short = passed (nat_lt longest_line (length line)) TooLong (λ u. json_of line >>= with_json past) (le-ltb longest_line (length line) short)
 
-of_long : (past : Past) (line : List ℕ) → 1048576 < length line → line_at past line ≡ Err TooLong
+of_long : (past : Past) (line : List ℕ) → longest_line < length line → line_at past line ≡ Err TooLong
 unfolding line_at
-of_long past line long = failed (nat_lt 1048576 (length line)) TooLong (λ u. json_of line >>= with_json past) (lt-ltb 1048576 (length line) long)
+of_long past line long = failed (nat_lt longest_line (length line)) TooLong (λ u. json_of line >>= with_json past) (lt-ltb longest_line (length line) long)
 
 of_json : (past : Past) (line : List ℕ) (d : Data) → IsJson line d → line_at past line ≡ with_json past d
 of_json past line d is = of_short past line is.short ∙ then_ok (json_of line) (with_json past) d is.json
 
-of_kind : (past : Past) (line : List ℕ) (line_kind : LineKind) (d : Data) → IsOfKind line line_kind d → line_at past line ≡ in_order past.node past line_kind d
+of_kind : (past : Past) (line : List ℕ) (line_kind : LineKind) (d : Data) → IsOfKind line line_kind d → line_at past line ≡ in_order (version_in past) past line_kind d
 of_kind past line line_kind d is = of_json past line d is.json ∙ ap (λ (found : Option LineKind). with_kind past d found) is.kind
 
-misplaced_kind : (node : Option NodeConfig) (past : Past) (line_kind : LineKind) (d : Data) → past.node ≡ node → (MayStand past line_kind → ⊥) → in_order node past line_kind d ≡ Err Order
+misplaced_kind : (found : Option Version) (past : Past) (line_kind : LineKind) (d : Data) → version_in past ≡ found → (MayStand past line_kind → ⊥) → in_order found past line_kind d ≡ Err Order
 unfolding pod_line_at
-misplaced_kind None past kinds.Node d none never = absurd (never none)
+misplaced_kind None past kinds.Node d none never = absurd (never (no_node past.node none))
 misplaced_kind None past kinds.Pod d none never = refl
 misplaced_kind None past kinds.Tick d none never = refl
-misplaced_kind (Some node) past kinds.Node d some never = refl
-misplaced_kind (Some node) past kinds.Pod d some never =
-    let ticks : past.ticks ≢ [] = λ none. never (ap (λ (o : Option NodeConfig). is_some o) some, none) in
-    failed (nat_lt 0 (length past.ticks)) Order (pod_early past d) (in_some past.ticks ticks)
-misplaced_kind (Some node) past kinds.Tick d some never = absurd (never (ap (λ (o : Option NodeConfig). is_some o) some))
+misplaced_kind (Some version) past kinds.Node d some never = refl
+misplaced_kind (Some version) past kinds.Pod d some never =
+    let late = comes_late version past.ticks (λ may. never (subst (PodStands past) (sym some) may)) in
+    failed (is_late version past.ticks) Order (pod_early past d) late
+misplaced_kind (Some version) past kinds.Tick d some never = absurd (never (some_node past.node version some))
 
-node_in_order : (node : Option NodeConfig) (past : Past) (d : Data) → node ≡ None → in_order node past kinds.Node d ≡ with_node past d
+node_in_order : (node : Option NodeConfig) (past : Past) (d : Data) → node ≡ None → in_order (option_map (λ (n : NodeConfig). n.version) node) past kinds.Node d ≡ with_node past d
 node_in_order None past d is = refl
 node_in_order (Some node) past d is = absurd (cc)
 
-pod_in_order : (node : Option NodeConfig) (past : Past) (d : Data) → is_some node ≡ true → in_order node past kinds.Pod d ≡ pod_line_at past d
-pod_in_order None past d is = absurd (cc)
-pod_in_order (Some node) past d is = refl
+pod_in_order : (found : Option Version) (past : Past) (d : Data) → PodStands past found → in_order found past kinds.Pod d ≡ pod_early past d tt
+unfolding pod_line_at
+pod_in_order None past d may = absurd may
+pod_in_order (Some version) past d may = passed (is_late version past.ticks) Order (pod_early past d) (in_time version past.ticks may)
 
-tick_in_order : (node : Option NodeConfig) (past : Past) (d : Data) → is_some node ≡ true → in_order node past kinds.Tick d ≡ tick_at past d
+tick_in_order : (node : Option NodeConfig) (past : Past) (d : Data) → is_some node ≡ true → in_order (option_map (λ (n : NodeConfig). n.version) node) past kinds.Tick d ≡ tick_at past d
 tick_in_order None past d is = absurd (cc)
 tick_in_order (Some node) past d is = refl
 
-of_node : (past : Past) (line : List ℕ) (d : Data) (kind : FaultKind) → Stands past line kinds.Node d → node_of d ≡ Err kind → line_at past line ≡ Err kind
+of_wrong_node : (past : Past) (line : List ℕ) (d : Data) (kind : FaultKind) → Stands past line kinds.Node d → node_of d ≡ Err kind → line_at past line ≡ Err kind
 unfolding with_node
-of_node past line d kind is e =
-    let said : NodeConfig → Result Past FaultKind = λ node. Ok (record { node = Some node; pods = past.pods; ticks = past.ticks }) in
+of_wrong_node past line d kind is e =
+    let said : NodeConfig → Result Past FaultKind = λ node. Ok (of_node past node) in
     of_kind past line kinds.Node d is.of_kind ∙ node_in_order past.node past d is.here ∙ then_err (node_of d) said kind e
 
 of_pod : (past : Past) (line : List ℕ) (d : Data) → Stands past line kinds.Pod d → line_at past line ≡ pod_early past d tt
-unfolding pod_line_at
-of_pod past line d is =
-    of_kind past line kinds.Pod d is.of_kind ∙ pod_in_order past.node past d is.here.0
-    ∙ passed (nat_lt 0 (length past.ticks)) Order (pod_early past d) (in_none past.ticks is.here.1)
+of_pod past line d is = of_kind past line kinds.Pod d is.of_kind ∙ pod_in_order (version_in past) past d is.here
 
 of_pod_room : (past : Past) (line : List ℕ) (d : Data) → Stands past line kinds.Pod d → length past.pods < most_pods → line_at past line ≡ pod_read past d tt
 of_pod_room past line d is room = of_pod past line d is ∙ passed (nat_le most_pods (length past.pods)) TooMany (pod_read past d) (lt-leb most_pods (length past.pods) room)
@@ -328,8 +346,8 @@ fails_line : (past : Past) (line : List ℕ) (kind : FaultKind) → Fails past l
 fails_line past line _ (too_long long) = of_long past line long
 fails_line past line _ (not_json kind short e) = of_short past line short ∙ then_err (json_of line) (with_json past) kind e
 fails_line past line _ (unknown_kind d is none) = of_json past line d is ∙ ap (λ (found : Option LineKind). with_kind past d found) none
-fails_line past line _ (misplaced line_kind d is never) = of_kind past line line_kind d is ∙ misplaced_kind past.node past line_kind d refl never
-fails_line past line _ (wrong_node d kind is e) = of_node past line d kind is e
+fails_line past line _ (misplaced line_kind d is never) = of_kind past line line_kind d is ∙ misplaced_kind (version_in past) past line_kind d refl never
+fails_line past line _ (wrong_node d kind is e) = of_wrong_node past line d kind is e
 fails_line past line _ (many_pods d is many) = of_pod past line d is ∙ failed (nat_le most_pods (length past.pods)) TooMany (pod_read past d) (le-leb most_pods (length past.pods) many)
 fails_line past line _ (wrong_pod d kind is room e) = of_pod_room past line d is room ∙ then_err (pod_from (field_at (codes "pod") d)) (pod_said past) kind e
 fails_line past line _ (duplicate_pod d pod is known) = of_pod_said past line d pod is ∙ failed (has_key past.pods (key_of_pod pod)) DuplicatePod (pod_new past pod) (there_key past.pods (key_of_pod pod) known)
@@ -375,54 +393,54 @@ tick_says past line d next is e =
     subst (λ (p : Past). Says past line p) {x = with_tick past tick.0} {y = next} is_next
     (subst (λ (t : TickObs). Says past line (with_tick past t)) {x = observed at.0 placed.0 past.pods} {y = tick.0} is_tick says)
 
-pod_says : (past : Past) (line : List ℕ) (d : Data) (next : Past) → is_some past.node ≡ true → IsOfKind line kinds.Pod d → pod_line_at past d ≡ Ok next → Says past line next
+pod_says : (version : Version) (past : Past) (line : List ℕ) (d : Data) (next : Past) → version_in past ≡ Some version → IsOfKind line kinds.Pod d → pod_line_at version past d ≡ Ok next → Says past line next
 unfolding pod_line_at
-pod_says past line d next node is e =
-    let before = cleared (nat_lt 0 (length past.ticks)) Order (pod_early past d) next e in
+pod_says version past line d next some is e =
+    let before = cleared (is_late version past.ticks) Order (pod_early past d) next e in
     let room = cleared (nat_le most_pods (length past.pods)) TooMany (pod_read past d) next before.1 in
     let pod = bind_ok (pod_from (field_at (codes "pod") d)) (pod_said past) next room.1 in
     let new = cleared (has_key past.pods (key_of_pod pod.0)) DuplicatePod (pod_new past pod.0) next pod.2 in
     let is_next : with_pod past pod.0 ≡ next = same_value {E = FaultKind} (with_pod past pod.0) next new.1 in
-    let stands : Stands past line kinds.Pod d = record { of_kind = is; here = (node, none_in past.ticks before.0) } in
+    let stands : Stands past line kinds.Pod d = record { of_kind = is; here = subst (PodStands past) (sym some) (takes_pods version past.ticks before.0) } in
     let has_pod : HasPod past line d pod.0 = record { stands = stands; room = leb-false most_pods (length past.pods) room.0; pod_is = pod.1 } in
     subst (λ (p : Past). Says past line p) {x = with_pod past pod.0} is_next (says_pod d pod.0 has_pod (key_nowhere past.pods (key_of_pod pod.0) new.0))
 
 node_says : (past : Past) (line : List ℕ) (d : Data) (next : Past) → Stands past line kinds.Node d → with_node past d ≡ Ok next → Says past line next
 unfolding with_node
 node_says past line d next is e =
-    let said : NodeConfig → Past = λ node. record { node = Some node; pods = past.pods; ticks = past.ticks } in
+    let said : NodeConfig → Past = of_node past in
     let last : NodeConfig → Result Past FaultKind = λ node. Ok (said node) in
     let node = bind_ok (node_of d) last next e in
     let is_next : said node.0 ≡ next = same_value {E = FaultKind} (said node.0) next node.2 in
     subst (λ (p : Past). Says past line p) {x = said node.0} is_next (says_node d node.0 is node.1)
 
-place_says : (node : Option NodeConfig) (past : Past) (line : List ℕ) (line_kind : LineKind) (d : Data) (next : Past) → past.node ≡ node → IsOfKind line line_kind d → in_order node past line_kind d ≡ Ok next → Says past line next
-place_says None past line kinds.Node d next none is e = node_says past line d next (record { of_kind = is; here = none }) e
+place_says : (found : Option Version) (past : Past) (line : List ℕ) (line_kind : LineKind) (d : Data) (next : Past) → version_in past ≡ found → IsOfKind line line_kind d → in_order found past line_kind d ≡ Ok next → Says past line next
+place_says None past line kinds.Node d next none is e = node_says past line d next (record { of_kind = is; here = no_node past.node none }) e
 place_says None past line kinds.Pod d next none is e = absurd (no_fault next Order (sym e))
 place_says None past line kinds.Tick d next none is e = absurd (no_fault next Order (sym e))
-place_says (Some node) past line kinds.Node d next some is e = absurd (no_fault next Order (sym e))
-place_says (Some node) past line kinds.Pod d next some is e = pod_says past line d next (ap (λ (o : Option NodeConfig). is_some o) some) is e
-place_says (Some node) past line kinds.Tick d next some is e =
-    tick_says past line d next (record { of_kind = is; here = ap (λ (o : Option NodeConfig). is_some o) some }) e
+place_says (Some version) past line kinds.Node d next some is e = absurd (no_fault next Order (sym e))
+place_says (Some version) past line kinds.Pod d next some is e = pod_says version past line d next some is e
+place_says (Some version) past line kinds.Tick d next some is e =
+    tick_says past line d next (record { of_kind = is; here = some_node past.node version some }) e
 
 kind_says : (past : Past) (line : List ℕ) (d : Data) (found : Option LineKind) (next : Past) → IsJson line d → kind_from (text_at (codes "kind") d) ≡ found → with_kind past d found ≡ Ok next → Says past line next
 kind_says past line d None next is found e = absurd (no_fault next UnknownKind (sym e))
-kind_says past line d (Some line_kind) next is found e = place_says past.node past line line_kind d next refl (record { json = is; kind = found }) e
+kind_says past line d (Some line_kind) next is found e = place_says (version_in past) past line line_kind d next refl (record { json = is; kind = found }) e
 
 line_says_it : (past : Past) (line : List ℕ) (next : Past) → line_at past line ≡ Ok next → Says past line next
 unfolding line_at
 line_says_it past line next e =
-    let short = cleared (nat_lt 1048576 (length line)) TooLong (λ u. json_of line >>= with_json past) next e in
+    let short = cleared (nat_lt longest_line (length line)) TooLong (λ u. json_of line >>= with_json past) next e in
     let json = bind_ok (json_of line) (with_json past) next short.1 in
-    let is : IsJson line json.0 = record { short = ltb-false 1048576 (length line) short.0; json = json.1 } in
+    let is : IsJson line json.0 = record { short = ltb-false longest_line (length line) short.0; json = json.1 } in
     kind_says past line json.0 (kind_from (text_at (codes "kind") json.0)) next is refl json.2
 
 -- from what a line says to what it leaves
 node_line : (past : Past) (line : List ℕ) (d : Data) (node : NodeConfig) → Stands past line kinds.Node d → node_of d ≡ Ok node
-    → line_at past line ≡ Ok (record { node = Some node; pods = past.pods; ticks = past.ticks })
+    → line_at past line ≡ Ok (of_node past node)
 unfolding with_node
 node_line past line d node is e =
-    let said : NodeConfig → Result Past FaultKind = λ node. Ok (record { node = Some node; pods = past.pods; ticks = past.ticks }) in
+    let said : NodeConfig → Result Past FaultKind = λ node. Ok (of_node past node) in
     of_kind past line kinds.Node d is.of_kind ∙ node_in_order past.node past d is.here ∙ then_ok (node_of d) said node e
 
 tick_line : (past : Past) (line : List ℕ) (d : Data) (at : ℕ) (placed : List PlacedEntry) → IsForwards past line d at placed → some_code_missing placed ≡ false

@@ -10,9 +10,9 @@ use Rattle.observations.specs.declared.container.ContainerObs.{ContainerObs}
 use Rattle.observations.specs.declared.pod.PodObs.{PodObs}
 use Rattle.observations.specs.declared.tick.TickObs.{TickObs}
 use Rattle.observations.specs.Observations.{seen_of, history}
-use Rattle.trace.specs.Backwards.{some_container_backwards, some_pod_backwards, is_backwards}
+use Rattle.following.specs.Backwards.{some_container_backwards, some_pod_backwards, is_backwards}
 use Rattle.trace.specs.Laws.{GoesBack, BackwardsListing}
-use Rattle.trace.proofs.Forwards.{seen_in_pod, pods_forwards}
+use Rattle.following.proofs.Forwards.{seen_in_pod, pods_forwards}
 
 -- what is listed of a container, if it may not come next
 abbrev Refused : List Tick → Option Seen → Type 0

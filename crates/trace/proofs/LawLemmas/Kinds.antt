@@ -18,6 +18,7 @@ use Rattle.manifest.specs.declared.outcome.Outcome.TheVariants as outcomes
 use Rattle.manifest.specs.declared.outcome.ProbeKind.TheVariants.{Startup, Liveness, Readiness}
 use Rattle.trace.specs.Lines.{lines_of}
 use Rattle.manifest.specs.RestartDelay.{most_max_delay, max_delay_of}
+use Rattle.trace.specs.declared.node.Version.TheVariants.{One, Two}
 use Rattle.trace.specs.Node.{version_from, version_of, name_from, or_config, restart_delay_of, absent, eviction_unset, node_of}
 use Rattle.manifest.specs.declared.fault.ManifestFault.{ManifestFault}
 use Rattle.manifest.specs.declared.fault.ManifestFault.TheVariants.{Missing}
@@ -49,10 +50,12 @@ Is given kind = kind ≡ given
 
 version_from_only : (found : Option ℕ) → Only (Is Config) (version_from found)
 version_from_only None = only_err (Is Config) Config refl
-version_from_only (Some n) = only_if (Is Config) (n == 1) (Ok tt) (Err Config) (only_ok (Is Config) tt) (only_err (Is Config) Config refl)
+version_from_only (Some n) =
+    only_if (Is Config) (n == 1) (Ok One) (if n == 2 then Ok Two else Err Config) (only_ok (Is Config) One)
+    (only_if (Is Config) (n == 2) (Ok Two) (Err Config) (only_ok (Is Config) Two) (only_err (Is Config) Config refl))
 
 version_only : (found : Option Data) → Only (Is Config) (version_of found)
-version_only None = only_ok (Is Config) tt
+version_only None = only_ok (Is Config) One
 version_only (Some d) = version_from_only (option_and_then as_u64 (as_number d))
 
 name_only : (found : Option (List ℕ)) → Only (Is Config) (name_from found)

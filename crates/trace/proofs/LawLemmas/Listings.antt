@@ -10,7 +10,7 @@ use Rattle.manifest.specs.declared.pod.ContainerSpec.{ContainerSpec}
 use Rattle.manifest.specs.declared.pod.PodSpec.{PodSpec}
 use Rattle.observations.specs.declared.container.ContainerObs.{ContainerObs}
 use Rattle.observations.specs.declared.pod.PodObs.{PodObs}
-use Rattle.observations.specs.Observations.{seen_of}
+use Rattle.observations.specs.Observations.{listed_in, seen_of}
 use Rattle.trace.specs.declared.placing.PlacedEntry.{PlacedEntry}
 use Rattle.trace.specs.declared.placing.PlacedResult.{PlacedResult}
 use Rattle.trace.specs.Placing.{has_twice, are_of_one_pod, are_of_one_container, repeats, is_doubled}
@@ -126,7 +126,7 @@ seen_is at es pods n c pod here lt =
     let first : 0 + c ≡ c = omega arith in
     let entry = entry_for es n in
     let shown = pod_at at es 0 pods n pod here ∙ ap (λ (k : ℕ). Some (pod_observed at (entry_for es k) pod)) zeroth in
-    ap (λ (o : Option PodObs). option_and_then (λ (q : ContainerObs). q.seen) (option_and_then (λ (p : PodObs). slice_get p.containers c) o)) shown
+    ap (λ (o : Option PodObs). option_and_then (λ (p : PodObs). listed_in p c) o) shown
     ∙ container_at (listings_of entry) (results_of entry) 0 pod.containers c lt
     ∙ ap (seen_in (listings_of entry)) first
 

@@ -1,5 +1,5 @@
-use Rattle.trace.specs.Followed.{HaveTaken}
-use Rattle.trace.proofs.following.pod_after.Given as goal
+use Rattle.following.specs.Followed.{HaveTaken}
+use Rattle.following.proofs.following.pod_after.Given as goal
 
 abbrev pub invariant-loop-container : goal.invariant-loop-container
 invariant-loop-container l = HaveTaken l.container l.tick l.pod l.differs l.all.items

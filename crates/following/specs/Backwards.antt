@@ -1,4 +1,5 @@
--- Whether a tick's listings go back behind those of earlier ticks.
+-- Whether a tick's listings go back behind those of earlier ticks. What came before a listing is
+-- what its pod's own ticks list.
 use Rattle.std.specs.Prelude.{ℕ, ◌+◌, ◌||◌, Bool, false, not, List, [], ◌∷◌}
 use Rattle.state_diff.specs.Acceptable.{is_acceptable}
 use Rattle.observations.specs.declared.container.ContainerObs.{ContainerObs}
@@ -9,12 +10,14 @@ use Rattle.observations.specs.Observations.{history}
 -- of a pod's containers, numbered from n on, some listing may not come after these ticks
 abbrev pub some_container_backwards : List TickObs → ℕ → ℕ → List ContainerObs → Bool
 some_container_backwards ticks pod n [] = false
-some_container_backwards ticks pod n (o ∷ os) = not (is_acceptable (history ticks pod n) o.seen) || some_container_backwards ticks pod (n + 1) os
+some_container_backwards ticks pod n (o ∷ os) =
+    not (is_acceptable (history ticks pod n) o.seen) || some_container_backwards ticks pod (n + 1) os
 
 -- the same of pods, numbered from n on
 abbrev pub some_pod_backwards : List TickObs → ℕ → List PodObs → Bool
 some_pod_backwards ticks n [] = false
-some_pod_backwards ticks n (p ∷ ps) = some_container_backwards ticks n 0 p.containers || some_pod_backwards ticks (n + 1) ps
+some_pod_backwards ticks n (p ∷ ps) =
+    some_container_backwards ticks n 0 p.containers || some_pod_backwards ticks (n + 1) ps
 
 -- some listing of the tick may not come after these ticks
 abbrev pub is_backwards : List TickObs → TickObs → Bool

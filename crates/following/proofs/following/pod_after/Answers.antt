@@ -1,8 +1,8 @@
 use Rattle.std.proofs.Common.{◌+◌, sym, subst, inr}
 use Rattle.std.proofs.lemmas.Result.{err_from_is_err_and}
-use Rattle.trace.specs.Followed.{HaveTaken}
-use Rattle.trace.proofs.FollowedLemmas.{differ_before, differ_more, some_refuses}
-use Rattle.trace.proofs.following.pod_after.Goals as goal
+use Rattle.following.specs.Followed.{HaveTaken}
+use Rattle.following.proofs.Steps.{differ_before, differ_more, some_refuses}
+use Rattle.following.proofs.following.pod_after.Goals as goal
 
 pub differ_after-requires : goal.differ_after-requires
 differ_after-requires c =
@@ -10,7 +10,7 @@ differ_after-requires c =
 
 pub returns-in_err-next-clause-refused : goal.returns-in_err-next-clause-refused
 returns-in_err-next-clause-refused c =
-    let p = err_from_is_err_and c.from_residual.result c.from_residual.ensures.1 in
+    let p = err_from_is_err_and c.from_residual-in_err-next.result c.from_residual-in_err-next.ensures.1 in
     let refused = c.in_err-next.ensures.refused in
     rw (p.1, p.2) (inr (refused.0, some_refuses c.args.tick.now c.args.pod c.loop-container.container c.args.differs.now c.index-differs-container.result c.seen_of.result c.loop-container-test.true c.index-differs-container.is c.seen_of.ensures refused.1))
 

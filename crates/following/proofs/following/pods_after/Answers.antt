@@ -1,8 +1,8 @@
 use Rattle.std.proofs.Common.{◌+◌, sym, subst}
 use Rattle.std.proofs.lemmas.Result.{err_from_is_err_and}
-use Rattle.trace.specs.Followed.{PodsHaveTaken}
-use Rattle.trace.proofs.FollowedLemmas.{pod_before, pod_taken_more, some_pod_refuses}
-use Rattle.trace.proofs.following.pods_after.Goals as goal
+use Rattle.following.specs.Followed.{PodsHaveTaken}
+use Rattle.following.proofs.Steps.{pod_before, pod_taken_more, some_pod_refuses}
+use Rattle.following.proofs.following.pods_after.Goals as goal
 
 pub pod_after-requires : goal.pod_after-requires
 pod_after-requires c =
@@ -10,7 +10,7 @@ pod_after-requires c =
 
 pub returns-in_err-next-clause-refused : goal.returns-in_err-next-clause-refused
 returns-in_err-next-clause-refused c =
-    let p = err_from_is_err_and c.from_residual.result c.from_residual.ensures.1 in
+    let p = err_from_is_err_and c.from_residual-in_err-next.result c.from_residual-in_err-next.ensures.1 in
     rw (p.1, p.2) (some_pod_refuses c.args.tick.now c.loop-pod.pod c.args.differs.now c.index-differs-pod.result c.as_slice.result.now c.in_err-next.field-0.0 c.loop-pod-test.true c.index-differs-pod.is c.as_slice.ensures c.in_err-next.ensures.refused)
 
 pub loop-pod-preserved : goal.loop-pod-preserved

@@ -1,5 +1,5 @@
-use Rattle.trace.specs.Followed.{PodsHaveTaken}
-use Rattle.trace.proofs.following.pods_after.Given as goal
+use Rattle.following.specs.Followed.{PodsHaveTaken}
+use Rattle.following.proofs.following.pods_after.Given as goal
 
 abbrev pub invariant-loop-pod : goal.invariant-loop-pod
 invariant-loop-pod l = PodsHaveTaken l.pod l.tick l.differs l.all.items

@@ -7,8 +7,8 @@ use Rattle.state_diff.specs.Acceptable.{is_acceptable}
 use Rattle.observations.specs.declared.container.ContainerObs.{ContainerObs}
 use Rattle.observations.specs.declared.pod.PodObs.{PodObs}
 use Rattle.observations.specs.declared.tick.TickObs.{TickObs}
-use Rattle.observations.specs.Observations.{history}
-use Rattle.trace.specs.Backwards.{some_container_backwards, some_pod_backwards}
+use Rattle.observations.specs.Observations.{listed_in, history}
+use Rattle.following.specs.Backwards.{some_container_backwards, some_pod_backwards}
 
 first_holds : (a rest : Bool) → (not a || rest) ≡ false → (a ≡ true) × (rest ≡ false)
 first_holds true rest e = (refl, e)
@@ -28,7 +28,7 @@ containers_forwards ticks pod n (o ∷ os) e (suc c) =
     subst (λ (k : ℕ). is_acceptable (history ticks pod k) (option_and_then (λ (o : ContainerObs). o.seen) (slice_get os c)) ≡ true) same (containers_forwards ticks pod (n + 1) os rest c)
 
 abbrev pub seen_in_pod : Option PodObs → ℕ → Option Seen
-seen_in_pod p c = option_and_then (λ (o : ContainerObs). o.seen) (option_and_then (λ (q : PodObs). slice_get q.containers c) p)
+seen_in_pod p c = option_and_then (λ (shown : PodObs). listed_in shown c) p
 
 pub pods_forwards : (ticks : List TickObs) (n : ℕ) (ps : List PodObs) → some_pod_backwards ticks n ps ≡ false
     → (p c : ℕ) → is_acceptable (history ticks (n + p) c) (seen_in_pod (slice_get ps p) c) ≡ true

@@ -1,0 +1,4 @@
+pub mod Forwards
+pub mod Steps
+pub mod Followed
+pub mod Accepted
