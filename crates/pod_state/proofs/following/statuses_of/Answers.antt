@@ -1,0 +1,35 @@
+use Rattle.std.proofs.Common.{◌≡◌, ◌∙◌, ◌+◌, ℕ, ◌<◌, List, length, get_or, slice_index_or, sym, subst, arith}
+use Rattle.std.specs.Prelude.{IsTrue}
+use Rattle.manifest.specs.declared.pod.PodSpec.{PodSpec}
+use Rattle.containers.specs.declared.status.ContainerStatus.{ContainerStatus}
+use Rattle.containers.specs.declared.container.Container.{Container}
+use Rattle.histories.proofs.Items.{any_default, pushed_each}
+use Rattle.pod_state.specs.Pods.{PodTick}
+use Rattle.pod_state.specs.Containers.{IsContainerOf, IsShownOf}
+use Rattle.pod_state.proofs.ContainerLemmas.{item_at, some_item, shown_is}
+use Rattle.pod_state.proofs.following.statuses_of.Goals as goal
+
+pub loop-container-preserved : goal.loop-container-preserved
+loop-container-preserved c =
+    let n = c.loop-container.container-index in
+    let P : ℕ → ContainerStatus → Type 0 = λ k v. (e : Container) (pod : PodSpec) (greatest : ℕ) (h : List PodTick)
+    → IsContainerOf pod greatest h k (slice_index_or c.args.containers.now k e) → IsShownOf pod (IsTrue c.args.is_evicted) h k v in
+    let so_far = c.loop-container.invariant in
+    let here : P n c.status.result = λ e pod greatest h is.
+    shown_is pod greatest n h c.container-item.result (IsTrue c.args.is_evicted) c.status.result (λ spec k st. c.status.ensures spec greatest k st)
+    (item_at pod greatest h n c.args.containers.now c.container-item.result e c.loop-container-test.true c.container-item.is is) in
+    let Q : List ContainerStatus → Type 0 = λ xs. (k : ℕ) (d : ContainerStatus) → k < n + 1 → P k (slice_index_or xs k d) in
+    record {
+      as_many = omega (arith, c.in_ok-push.ensures.len, so_far.as_many);
+      each = subst Q (sym c.in_ok-push.ensures.items) (pushed_each P c.loop-container.statuses.items c.status.result n so_far.as_many so_far.each here);
+    }
+
+pub returns : goal.returns
+returns c = λ pod greatest h are.
+    let long : c.loop-container.container-index ≡ length c.args.containers.now = omega arith in
+    record {
+      as_many = omega (arith, c.loop-container.invariant.as_many, are.as_many);
+      each = λ n d lt.
+          let e = some_item c.args.containers.now n (omega (arith, are.as_many)) in
+          c.loop-container.invariant.each n d (omega (arith, are.as_many)) e pod greatest h (are.each n e lt);
+    }

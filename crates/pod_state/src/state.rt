@@ -1,0 +1,95 @@
+ghost use Rattle.std.specs.Prelude.{◌≡◌, ◌↔◌, ◌^◌, ◌<◌, ℕ, List, [], ◌∷◌, ◌++◌, length, Option, Some, IsTrue, IfOk, OnOk, OnErr};
+ghost use Rattle.manifest.specs.declared.pod.PodSpec.{PodSpec};
+ghost use Rattle.pod_state.specs.Pods.{PodTick, pod_tick, IsEnd, EndsEvicted};
+ghost use Rattle.pod_state.specs.Containers.{AreStatusesOf};
+ghost use Rattle.pod_state.specs.States.{IsStateOf, MayFollow};
+
+use crate::following::{all_ready, first_containers, next_containers, statuses_of, views_of};
+use crate::lifecycle::Lifecycle;
+use containers::{Container, ContainerStatus};
+use manifest::{MaxRestartDelay, PodSpec, Policy};
+use observations::PodObs;
+use std::alloc::{AllocError, Global};
+
+/// A pod as its ticks so far leave it: its containers, its phase and its conditions. It keeps none
+/// of the ticks. (Kubernetes, "Pod Lifecycle".)
+#[derive(Drop)]
+pub struct PodState {
+    containers: Vec<Container>,
+    lifecycle: Lifecycle,
+}
+
+impl PodState {
+    /// A pod that no tick has shown yet, on a node with this greatest restart delay.
+    pub fn new(
+        alloc: Global,
+        spec: &PodSpec,
+        greatest: MaxRestartDelay,
+    ) -> Result<PodState, AllocError>
+        ensures { IfOk result (λ state. (evicted : Option ℕ) → IsStateOf spec.now greatest evicted [] state) }
+    {
+        let containers = first_containers(alloc, spec.containers.as_slice(), greatest)?;
+        let views = views_of(alloc, &containers)?;
+        let lifecycle = Lifecycle::new(&views);
+        Ok(PodState {
+            containers,
+            lifecycle,
+        })
+    }
+
+    /// The phase and the conditions.
+    pub fn lifecycle(&self) -> Lifecycle
+        ensures { result ≡ self.now.lifecycle }
+    {
+        self.lifecycle
+    }
+
+    /// A tick comes, which doesn't evict the pod and shows this of it, at a moment below 2^40.
+    /// Once the pod has ended, only the tick's moment is looked at. An `Err` changes nothing.
+    pub fn take(
+        &mut self,
+        alloc: Global,
+        policy: Policy,
+        observed: &PodObs,
+    ) -> Result<(), AllocError>
+        requires follows { MayFollow self.old observed.now.at observed.now.containers }
+        requires bounded { observed.now.at < 2 ^ 40 }
+        ensures ok { OnOk result ((pod : PodSpec) (greatest : ℕ) (evicted : Option ℕ) (h : List PodTick)
+            → pod.policy ≡ policy
+            → (evicted ≡ Some (length h) → ⊥)
+            → IsStateOf pod greatest evicted h self.old
+            → IsStateOf pod greatest evicted (h ++ pod_tick observed.now ∷ []) self.new) }
+        ensures err { OnErr result (self.new ≡ self.old) }
+    {
+        let mut lifecycle = self.lifecycle;
+        if lifecycle.has_ended() {
+            lifecycle.advance(policy, observed.at, &[], false, false);
+            self.lifecycle = lifecycle;
+            return Ok(());
+        }
+        let containers = next_containers(alloc, &self.containers, policy, observed)?;
+        let views = views_of(alloc, &containers)?;
+        let ready = all_ready(&containers);
+        lifecycle.advance(policy, observed.at, &views, ready, false);
+        self.containers = containers;
+        self.lifecycle = lifecycle;
+        Ok(())
+    }
+
+    /// The statuses of the containers, by number; `is_evicted` says whether the pod has ended by
+    /// its eviction.
+    pub fn statuses(
+        &self,
+        alloc: Global,
+        is_evicted: bool,
+    ) -> Result<Vec<ContainerStatus>, AllocError>
+        ensures { IfOk result (λ v. (pod : PodSpec) (greatest : ℕ) (evicted end : Option ℕ) (h : List PodTick)
+            → IsEnd pod evicted h end
+            → (IsTrue is_evicted ↔ EndsEvicted evicted end)
+            → IsStateOf pod greatest evicted h self.now
+            → AreStatusesOf pod evicted h v.items) }
+    {
+        let statuses = statuses_of(alloc, &self.containers, is_evicted)?;
+        Ok(statuses)
+    }
+}
