@@ -3,6 +3,7 @@ use Rattle.std.proofs.Common.{◌≡◌, inl, inr, ℕ, ◌<◌, Bool, List, [],
 use Rattle.std.specs.Prelude.{◌↔◌, ◌≢◌, IsSomeAnd, IsTrue, slice_get, unwrap_or}
 use Rattle.histories.specs.Histories.{recorded}
 use Rattle.histories.proofs.Items.{any_default}
+use Rattle.histories.proofs.Places.{length-project}
 use Rattle.manifest.specs.declared.pod.ContainerSpec.{ContainerSpec}
 use Rattle.manifest.specs.declared.pod.PodSpec.{PodSpec}
 use Rattle.manifest.specs.declared.pod.Role.TheVariants.{Init}
@@ -12,10 +13,14 @@ use Rattle.phase.specs.declared.view.ContainerView.{ContainerView}
 use Rattle.containers.specs.declared.container.Container.{Container}
 use Rattle.containers.specs.Ticks.{ContainerTick}
 use Rattle.containers.specs.Container.{IsStateOf}
+use Rattle.containers.specs.declared.events.ContainerEvents.{ContainerEvents}
+use Rattle.containers.specs.Events.{AreEvents}
+use Rattle.manifest.specs.declared.policy.Policy.{Policy}
 use Rattle.containers.specs.Probed as probed
 use Rattle.containers.specs.Shown as shown
 use Rattle.containers.specs.declared.status.ContainerStatus.{ContainerStatus}
-use Rattle.pod_state.specs.Pods.{PodTick, pod_tick, ticks_of, unseen, OfSpec, Serves, IsReady, IsViewOf, IsEnd, counted, EndsEvicted}
+use Rattle.pod_state.specs.Events.{IsMadeOf}
+use Rattle.pod_state.specs.Pods.{PodEntry, PodTick, pod_tick, ticks_of, unseen, OfSpec, Serves, IsReady, IsViewOf, IsEnd, counted, EndsEvicted}
 use Rattle.pod_state.specs.Containers.{IsShownOf, AreShown, AreStatusesOf, IsContainerOf, AreContainersOf, AreKept}
 use Rattle.pod_state.proofs.EndLemmas.{IsEnd-unique}
 use Rattle.pod_state.proofs.TickLemmas.{ticks_more, of_spec, implies, within}
@@ -35,6 +40,21 @@ next_is pod greatest n h observed before after step is =
     let more = sym (ticks_more h (pod_tick observed) n) in
     implies pod n (λ spec. IsStateOf spec greatest (ticks_of h n) before) (λ spec. IsStateOf spec greatest (ticks_of (h ++ pod_tick observed ∷ []) n) after)
     (λ spec st. subst (λ (k : List ContainerTick). IsStateOf spec greatest k after) more (step spec (ticks_of h n) st)) is
+
+-- and what the tick makes of it
+pub made_is : (pod : PodSpec) (greatest n : ℕ) (h : List PodTick) (observed : PodObs) (policy : Policy) (before : Container) (made : ContainerEvents) → pod.policy ≡ policy
+    → ((spec : ContainerSpec) (k : List ContainerTick) → IsStateOf spec greatest k before
+    → AreEvents policy greatest spec (k ++ recorded observed.at (unwrap_or (slice_get observed.containers n) unseen) ∷ []) (length k) made)
+    → IsContainerOf pod greatest h n before → IsMadeOf pod greatest h (pod_tick observed) n made
+made_is pod greatest n h observed policy before made same step is =
+    let more = sym (ticks_more h (pod_tick observed) n) in
+    let long = length-project (λ (entry : PodEntry). unwrap_or (slice_get entry.containers n) unseen) h in
+    let Q : ContainerSpec → Type 0 = λ spec. AreEvents pod.policy greatest spec (ticks_of (h ++ pod_tick observed ∷ []) n) (length h) made in
+    implies pod n (λ spec. IsStateOf spec greatest (ticks_of h n) before) Q
+    (λ spec st.
+    subst (λ (p : Policy). AreEvents p greatest spec (ticks_of (h ++ pod_tick observed ∷ []) n) (length h) made) (sym same)
+    (subst (λ (t : ℕ). AreEvents policy greatest spec (ticks_of (h ++ pod_tick observed ∷ []) n) t made) long
+    (subst (λ (k : List ContainerTick). AreEvents policy greatest spec k (length (ticks_of h n)) made) more (step spec (ticks_of h n) st)))) is
 
 -- as a view shows it
 pub view_is : (pod : PodSpec) (greatest n : ℕ) (h : List PodTick) (container : Container) (view : ContainerView)
@@ -98,6 +118,11 @@ pub item_at : (pod : PodSpec) (greatest : ℕ) (h : List PodTick) (n : ℕ) (con
     → IsContainerOf pod greatest h n (get_or containers n e) → IsContainerOf pod greatest h n container
 item_at pod greatest h n containers container e lt is of =
     subst (λ (x : Container). IsContainerOf pod greatest h n x) (any_default containers n e container lt ∙ sym is) of
+
+-- what holds of what stands at the place, whatever stands for an item that is missing
+pub item_at_any : (containers : List Container) (n : ℕ) (container : Container) → n < length containers → container ≡ get_or containers n container
+    → (P : Container → Type 0) (e : Container) → P (get_or containers n e) → P container
+item_at_any containers n container lt is P e of = subst P (any_default containers n e container lt ∙ sym is) of
 
 -- a list with a place has an item
 pub some_item : {A : Type 0} (xs : List A) (n : ℕ) → n < length xs → A

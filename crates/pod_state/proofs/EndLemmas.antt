@@ -10,7 +10,7 @@ use Rattle.phase.specs.declared.phase.Phase.{Phase}
 use Rattle.phase.specs.declared.phase.Phase.TheVariants.{Pending, Running, Succeeded, Failed}
 use Rattle.manifest.specs.declared.pod.PodSpec.{PodSpec}
 use Rattle.phase.specs.RawPhase.{IsTerminal, AreInitialized}
-use Rattle.pod_state.specs.Pods.{PodTick, facts, numbers, AllReady, IsRawPhaseAfter, EndsPod, IsEnd, counted, IsPhaseBy, IsPhase, IsInitialized, AreContainersReady, HasEnded}
+use Rattle.pod_state.specs.Pods.{PodTick, facts, numbers, AllReady, IsRawPhaseAfter, EndsPod, IsEnd, counted, IsPhaseBy, IsPhase, IsInitialized, AreContainersReady, HasEnded, EndsEvicted}
 use Rattle.containers.specs.declared.container.Container.{Container}
 use Rattle.pod_state.specs.Containers.{AreContainersOf, AreKept}
 use Rattle.phase.proofs.PhaseLemmas.{where_same, IsRawPhase-unique}
@@ -21,7 +21,7 @@ IsEnd-unique pod evicted h o p = IsFirstPlace-unique (IsSo (EndsPod pod evicted)
 pub some_more : (h : List PodTick) (x : PodTick) → h ++ x ∷ [] ≡ [] → ⊥
 some_more h x e = let n : length (h ++ x ∷ []) ≡ 0 = ap length e in absurd (omega (arith, length-more h x))
 
-raw_unique : (pod : PodSpec) (h : List PodTick) (p q : Phase) → IsRawPhaseAfter pod h p → IsRawPhaseAfter pod h q → p ≡ q
+pub raw_unique : (pod : PodSpec) (h : List PodTick) (p q : Phase) → IsRawPhaseAfter pod h p → IsRawPhaseAfter pod h q → p ≡ q
 raw_unique pod h p q = IsRawPhase-unique (facts pod h) pod.policy (numbers pod) p q
 
 -- there is one phase
@@ -167,6 +167,25 @@ counted_all pod evicted h x none (Some t) end =
       | inl old ↦ absurd (none t old.holds)
       | inr w ↦ let P : ℕ → Type 0 = λ k. up_to (h ++ x ∷ []) k ≡ h ++ x ∷ [] in subst P (sym w.0) (up_to-new h x)
     ]
+
+-- the phase of a pod that hadn't ended and is not evicted is that of its containers
+pub phase_raw : (pod : PodSpec) (evicted : Option ℕ) (h : List PodTick) (x : PodTick) (p q : Phase) → IsPhase pod evicted h p → (IsTerminal p → ⊥)
+    → (evicted ≡ Some (length h) → ⊥) → IsPhase pod evicted (h ++ x ∷ []) q → IsRawPhaseAfter pod (h ++ x ∷ []) q
+phase_raw pod evicted h x p q is not stays (end, is_end, by) = elim by [
+  | inl w ↦ absurd (some_more h x w.0)
+  | inr v ↦ elim v.1 [
+    | inl w ↦ absurd (ends_elsewhere end is_end w.0)
+    | inr w ↦ subst (λ k. IsRawPhaseAfter pod k q) (counted_all pod evicted h x (lives pod evicted h p is not) end is_end) w.1
+  ]
+]
+  where
+    ends_elsewhere : (end : Option ℕ) → IsEnd pod evicted (h ++ x ∷ []) end → EndsEvicted evicted end → ⊥
+    ends_elsewhere None is_end evicted_there = evicted_there
+    ends_elsewhere (Some t) is_end evicted_there =
+        elim (IsFirst-split (length h) _ _ _ (grows pod evicted h x) t is_end) [
+          | inl old ↦ lives pod evicted h p is not t old.holds
+          | inr w ↦ stays (evicted_there ∙ ap Some w.0)
+        ]
 
 pub initialized_lives : (pod : PodSpec) (evicted : Option ℕ) (h : List PodTick) (x : PodTick) (p q : Phase) → IsPhase pod evicted h p → (IsTerminal p → ⊥)
     → IsPhase pod evicted (h ++ x ∷ []) q

@@ -4,5 +4,6 @@ pub mod EndLemmas
 pub mod LifecycleLemmas
 pub mod ContainerLemmas
 pub mod StateLemmas
+pub mod PodEventLemmas
 pub mod UniqueLemmas
 pub mod LawLemmas

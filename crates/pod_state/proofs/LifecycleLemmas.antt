@@ -9,7 +9,7 @@ use Rattle.histories.proofs.Growth.{grows_entry, grows_so}
 use Rattle.histories.proofs.Transitions.{transition_same}
 use Rattle.state_diff.specs.Instances.{Tick}
 use Rattle.phase.specs.declared.phase.Phase.{Phase}
-use Rattle.phase.specs.declared.phase.Phase.TheVariants.{Pending}
+use Rattle.phase.specs.declared.phase.Phase.TheVariants.{Pending, Failed}
 use Rattle.phase.specs.declared.conditions.Condition.{Condition}
 use Rattle.phase.specs.declared.conditions.Conditions.{Conditions}
 use Rattle.phase.specs.declared.conditions.Values.{Values}
@@ -22,7 +22,7 @@ use Rattle.phase.specs.Conditions.{last_or, IsConditionOf, IsStateOf}
 use Rattle.pod_state.specs.Pods.{PodTick, facts, numbers, counted, AllReady, IsPhase, IsInitialized, AreContainersReady, AreViewsOf}
 use Rattle.pod_state.specs.Lifecycles.{IsConditionAfter, IsLifecycleOf, AreValuesOf, IsProgressOf}
 use Rattle.phase.proofs.ConditionLemmas.{IsTrueAt, last_or-more}
-use Rattle.pod_state.proofs.EndLemmas.{IsPhase-unique, phase_ended, terminal_cases, terminal_end, initialized_ended, initialized_lives, ready_is}
+use Rattle.pod_state.proofs.EndLemmas.{IsPhase-unique, phase_ended, phase_evicted, terminal_cases, terminal_end, initialized_ended, initialized_lives, ready_is}
 use Rattle.pod_state.proofs.ViewLemmas.{initialized_after}
 
 moments_more : (vs : List (Recorded Bool)) (h : List PodTick) (v : Recorded Bool) (x : PodTick) → v.moment ≡ x.moment → length vs ≡ length h
@@ -185,3 +185,22 @@ ready_more pod evicted h x ready phase next b are now then is =
             (λ w. let v = r.0 w in is.1 (v.0, a.1 v.1)),
           )
     ]
+
+-- of a pod that had not ended before, and that this tick evicts
+pub progress_evicted : (pod : PodSpec) (h : List PodTick) (x : PodTick) (before updated : Lifecycle) (conditions : Conditions) → (IsTerminal updated.phase → ⊥)
+    → IsLifecycleOf pod None h before → IsLifecycleOf pod None (h ++ x ∷ []) updated → IsProgressOf pod (Some (length h)) h before
+    → ((has_init : Bool) (vs : List (Recorded Values)) → IsStateOf has_init vs before.conditions
+    → IsStateOf has_init (vs ++ recorded x.moment (record { initialized = updated.conditions.initialized.value; containers_ready = false }) ∷ []) conditions)
+    → IsProgressOf pod (Some (length h)) (h ++ x ∷ []) (record { phase = Failed; conditions = conditions })
+progress_evicted pod h x before updated conditions goes_on was after progress advanced =
+    let at : Option ℕ = Some (length h) in
+    let lives : IsTerminal before.phase → ⊥ = λ ended.
+    goes_on (subst IsTerminal (IsPhase-unique pod None (h ++ x ∷ []) before.phase updated.phase (phase_ended pod None h x before.phase was.phase ended) after.phase) ended) in
+    let failed : IsPhase pod at (h ++ x ∷ []) Failed = phase_evicted pod at h x before.phase progress.so_far.phase lives refl in
+    let one = initialized_lives pod None h x before.phase updated.phase was.phase lives after.phase in
+    let other = initialized_lives pod at h x before.phase Failed progress.so_far.phase lives failed in
+    let ready = ready_is pod at h x Failed failed in
+    progress_more pod at h x before Failed conditions (record { initialized = updated.conditions.initialized.value; containers_ready = false }) progress failed
+    ((λ t. other.1 (one.0 (after.initialized.value.0 t))), (λ i. after.initialized.value.1 (one.1 (other.0 i))))
+    ((λ t. absurd (let t' : IsTrue false = t in cc)), (λ r. absurd ((ready.0 r).0 (inr refl))))
+    advanced

@@ -5,6 +5,7 @@ use Rattle.observations.specs.declared.container.ContainerObs.{ContainerObs}
 use Rattle.containers.specs.declared.container.Container.{Container}
 use Rattle.containers.specs.Container.{Accepts, IsBefore}
 use Rattle.phase.specs.RawPhase.{IsTerminal}
+use Rattle.pod_state.specs.declared.lifecycle.Lifecycle.{Lifecycle}
 use Rattle.pod_state.specs.declared.state.PodState.{PodState}
 use Rattle.pod_state.specs.Pods.{PodTick, unseen}
 use Rattle.pod_state.specs.Containers.{AreKept}
@@ -15,6 +16,10 @@ use Rattle.pod_state.specs.Lifecycles.{IsProgressOf}
 pub record IsStateOf (pod : PodSpec) (greatest : ℕ) (evicted : Option ℕ) (h : List PodTick) (state : PodState) : Type 0 where
   pub progress : IsProgressOf pod evicted h state.lifecycle
   pub containers : AreKept pod greatest evicted h state.containers.items
+
+-- the phase and the conditions before the last tick
+abbrev pub before_of : PodState → Lifecycle
+before_of state = state.before
 
 -- each container may be shown so next
 abbrev pub AllAccept : List Container → List ContainerObs → Type 0

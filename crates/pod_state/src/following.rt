@@ -1,18 +1,20 @@
 //! The containers of a pod, one tick after the other.
 
-ghost use Rattle.std.specs.Prelude.{◌≡◌, ◌≢◌, ◌↔◌, ◌^◌, ◌<◌, ℕ, List, [], ◌∷◌, ◌++◌, slice_get, unwrap_or, IsTrue, IfOk};
+ghost use Rattle.std.specs.Prelude.{◌≡◌, ◌≢◌, ◌↔◌, ◌^◌, ◌<◌, ℕ, List, [], ◌∷◌, ◌++◌, length, slice_get, unwrap_or, IsTrue, IfOk};
 ghost use Rattle.histories.specs.Histories.{recorded};
 ghost use Rattle.manifest.specs.declared.pod.ContainerSpec.{ContainerSpec};
 ghost use Rattle.manifest.specs.declared.pod.PodSpec.{PodSpec};
 ghost use Rattle.manifest.specs.declared.pod.Role.TheVariants.{Init};
 ghost use Rattle.containers.specs.Ticks.{ContainerTick};
 ghost use Rattle.containers.specs.Probed.{IsReady};
+ghost use Rattle.containers.specs.Events.{AreEvents};
 ghost use Rattle.containers.specs.Container.{Accepts, IsBefore, IsStateOf};
 ghost use Rattle.pod_state.specs.Pods.{PodTick, pod_tick, unseen, AreViewsOf, AllReady};
 ghost use Rattle.pod_state.specs.Containers.{AreContainersOf, AreShown};
+ghost use Rattle.pod_state.specs.Events.{AreMade};
 ghost use Rattle.pod_state.specs.States.{AllAccept, AllBefore};
 
-use containers::{Container, ContainerStatus};
+use containers::{Container, ContainerEvents, ContainerStatus};
 use manifest::{ContainerSpec, MaxRestartDelay, Policy};
 use observations::{ContainerObs, PodObs};
 use phase::ContainerView;
@@ -47,18 +49,38 @@ fn shown_of(observed: &PodObs, number: usize) -> ContainerObs
     }
 }
 
+/// A container after a tick, and its events in it.
+#[derive(Clone, Copy)]
+struct Stepped {
+    container: Container,
+    made: ContainerEvents,
+}
+
+/// The containers of a pod after a tick, and the events of each in it.
+#[derive(Drop)]
+pub(crate) struct AllStepped {
+    pub(crate) containers: Vec<Container>,
+    pub(crate) made: Vec<ContainerEvents>,
+}
+
 /// The container after one tick more.
-fn stepped(container: &Container, policy: Policy, at: u64, shown: ContainerObs) -> Container
+fn after_tick(container: &Container, policy: Policy, at: u64, shown: ContainerObs) -> Stepped
     requires accepted { Accepts container.now shown.seen }
     requires later { IsBefore container.now at }
     requires bounded { at < 2 ^ 40 }
-    ensures { (spec : ContainerSpec) (greatest : ℕ) (h : List ContainerTick)
+    ensures state { (spec : ContainerSpec) (greatest : ℕ) (h : List ContainerTick)
         → IsStateOf spec greatest h container.now
-        → IsStateOf spec greatest (h ++ recorded at shown ∷ []) result }
+        → IsStateOf spec greatest (h ++ recorded at shown ∷ []) result.container }
+    ensures made { (spec : ContainerSpec) (greatest : ℕ) (h : List ContainerTick)
+        → IsStateOf spec greatest h container.now
+        → AreEvents policy greatest spec (h ++ recorded at shown ∷ []) (length h) result.made }
 {
     let mut next = *container;
-    next.step(policy, at, shown);
-    next
+    let made = next.step(policy, at, shown);
+    Stepped {
+        container: next,
+        made,
+    }
 }
 
 /// The containers after one tick more.
@@ -67,20 +89,29 @@ pub(crate) fn next_containers(
     containers: &[Container],
     policy: Policy,
     observed: &PodObs,
-) -> Result<Vec<Container>, AllocError>
+) -> Result<AllStepped, AllocError>
     requires accepted { AllAccept containers.now observed.now.containers }
     requires later { AllBefore containers.now observed.now.at }
     requires bounded { observed.now.at < 2 ^ 40 }
-    ensures { IfOk result (λ v. (pod : PodSpec) (greatest : ℕ) (h : List PodTick)
+    ensures containers { IfOk result (λ next. (pod : PodSpec) (greatest : ℕ) (h : List PodTick)
         → AreContainersOf pod greatest h containers.now
-        → AreContainersOf pod greatest (h ++ pod_tick observed.now ∷ []) v.items) }
+        → AreContainersOf pod greatest (h ++ pod_tick observed.now ∷ []) next.containers.items) }
+    ensures made { IfOk result (λ next. (pod : PodSpec) (greatest : ℕ) (h : List PodTick)
+        → pod.policy ≡ policy → AreContainersOf pod greatest h containers.now
+        → AreMade pod greatest h (pod_tick observed.now) next.made.items) }
 {
     let mut all = Vec::new(alloc);
+    let mut made = Vec::new(alloc);
     for (number, container) in containers.iter().enumerate() {
         let shown = shown_of(observed, number);
-        all.push(stepped(container, policy, observed.at, shown))?;
+        let next = after_tick(container, policy, observed.at, shown);
+        all.push(next.container)?;
+        made.push(next.made)?;
     }
-    Ok(all)
+    Ok(AllStepped {
+        containers: all,
+        made,
+    })
 }
 
 /// The containers as the rules on phases see them.

@@ -1,8 +1,9 @@
-ghost use Rattle.std.specs.Prelude.{◌≡◌, ◌↔◌, ℕ, List, [], Option, IsTrue};
+ghost use Rattle.std.specs.Prelude.{◌≡◌, ◌↔◌, ℕ, List, [], ◌∷◌, ◌++◌, length, Option, Some, None, IsTrue};
+ghost use Rattle.histories.specs.Histories.{recorded};
 ghost use Rattle.manifest.specs.declared.pod.PodSpec.{PodSpec};
 ghost use Rattle.phase.specs.Facts.{of_view};
 ghost use Rattle.phase.specs.RawPhase.{IsTerminal, AreInitialized};
-ghost use Rattle.pod_state.specs.Pods.{PodTick, HasEnded, AreViewsOf};
+ghost use Rattle.pod_state.specs.Pods.{PodEntry, PodTick, HasEnded, AreViewsOf};
 ghost use Rattle.pod_state.specs.Lifecycles.{IsLifecycleOf, IsProgressOf, IsNextPhase, IsNext};
 
 use manifest::Policy;
@@ -87,6 +88,31 @@ impl Lifecycle {
         };
         self.phase = phase;
         self.conditions.advance(at, values);
+    }
+}
+
+impl Lifecycle {
+    /// The lifecycle of a pod that the last tick, at the moment, evicts. This one is from before that
+    /// tick, and `updated` from after it where it doesn't evict: what only that made true, and the
+    /// eviction false again, was never true.
+    pub(crate) fn evicted(&self, at: u64, updated: &Lifecycle) -> Lifecycle
+        requires { IsTerminal updated.now.phase → ⊥ }
+        ensures { (pod : PodSpec) (h : List PodTick) (entry : PodEntry)
+            → IsLifecycleOf pod None h self.now
+            → IsLifecycleOf pod None (h ++ recorded at entry ∷ []) updated.now
+            → IsProgressOf pod (Some (length h)) h self.now
+            → IsProgressOf pod (Some (length h)) (h ++ recorded at entry ∷ []) result }
+    {
+        let values = Values {
+            initialized: updated.conditions.initialized.value,
+            containers_ready: false,
+        };
+        let mut conditions = self.conditions;
+        conditions.advance(at, values);
+        Lifecycle {
+            phase: Phase::Failed,
+            conditions,
+        }
     }
 }
 
