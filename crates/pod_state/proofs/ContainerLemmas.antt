@@ -1,5 +1,5 @@
 -- The containers of a pod, as its ticks leave them.
-use Rattle.std.proofs.Common.{◌≡◌, inl, inr, ℕ, ◌<◌, Bool, List, [], ◌∷◌, ◌++◌, length, get_or, Option, Some, None, refl, ap, subst, sym, ◌∙◌, arith}
+use Rattle.std.proofs.Common.{◌≡◌, inl, inr, ℕ, suc, ◌<◌, Bool, List, [], ◌∷◌, ◌++◌, length, get_or, Option, Some, None, refl, ap, subst, sym, ◌∙◌, arith}
 use Rattle.std.specs.Prelude.{◌↔◌, ◌≢◌, IsSomeAnd, IsTrue, slice_get, unwrap_or}
 use Rattle.histories.specs.Histories.{recorded}
 use Rattle.histories.proofs.Items.{any_default}
@@ -128,6 +128,16 @@ item_at_any containers n container lt is P e of = subst P (any_default container
 pub some_item : {A : Type 0} (xs : List A) (n : ℕ) → n < length xs → A
 some_item [] n lt = absurd (omega arith)
 some_item (x ∷ xs) n lt = x
+
+-- lists of one length with the same items
+pub same_items : {A : Type 0} (xs ys : List A) → length xs ≡ length ys → ((i : ℕ) (d : A) → i < length xs → get_or xs i d ≡ get_or ys i d) → xs ≡ ys
+same_items [] [] e same = refl
+same_items [] (y ∷ ys) e same = absurd (omega arith)
+same_items (x ∷ xs) [] e same = absurd (omega arith)
+same_items (x ∷ xs) (y ∷ ys) e same =
+    let first : x ≡ y = same 0 x (omega arith) in
+    let rest : xs ≡ ys = same_items xs ys (omega arith) (λ i d lt. same (suc i) d (omega arith)) in
+    cc
 
 -- one that serves is one of the pod's
 pub serving_within : (pod : PodSpec) (n : ℕ) → Serves pod n → n < length pod.containers

@@ -1,5 +1,5 @@
 -- The events of a pod, one place and one container more.
-use Rattle.std.proofs.Common.{◌≡◌, ◌∙◌, ℕ, suc, zero, ◌+◌, ◌<◌, List, [], ◌∷◌, ◌++◌, length, take, get_or, Option, Some, None, refl, ap, sym, arith}
+use Rattle.std.proofs.Common.{◌≡◌, ◌∙◌, inl, inr, ℕ, suc, zero, ◌+◌, ◌<◌, List, [], ◌∷◌, ◌++◌, length, take, get_or, Option, Some, None, refl, ap, sym, arith}
 use Rattle.std.specs.List.{filter_map}
 use Rattle.std.specs.Prelude.{option_map}
 use Rattle.std.proofs.Math.Seq.{take-suc}
@@ -9,7 +9,16 @@ use Rattle.phase.specs.declared.phase.Phase.{Phase}
 use Rattle.containers.specs.declared.what.What.{What}
 use Rattle.containers.specs.declared.events.ContainerEvents.{ContainerEvents}
 use Rattle.pod_state.specs.declared.events.PodEvent.{PodEvent}
-use Rattle.pod_state.specs.Events.{places_in, events_at, events_from}
+use Rattle.containers.specs.Events.{AreEvents}
+use Rattle.containers.proofs.LawLemmas.{event_one, one_list_of_events}
+use Rattle.manifest.specs.declared.pod.ContainerSpec.{ContainerSpec}
+use Rattle.manifest.specs.declared.pod.PodSpec.{PodSpec}
+use Rattle.pod_state.specs.Pods.{PodTick, ticks_of}
+use Rattle.pod_state.specs.Events.{IsMadeOf, ChangesPhase, AreNews, places_in, events_at, events_from}
+use Rattle.pod_state.specs.Laws.{NoEventsAfterTheEnd, OneListOfEvents}
+use Rattle.pod_state.proofs.TickLemmas.{whatever, together}
+use Rattle.pod_state.proofs.ContainerLemmas.{same_items}
+use Rattle.pod_state.proofs.EndLemmas.{raw_unique}
 
 -- the items up to a place, and the item there
 taken_more : {A : Type 0} (xs : List A) (i : ℕ) (d : A) → i < length xs → take (i + 1) xs ≡ take i xs ++ get_or xs i d ∷ []
@@ -43,3 +52,42 @@ containers_more phase made i d places old new lt so_far are here =
     ∙ ap (λ k. events_from phase 0 (take i made) ++ events_at (Some k) (places_in phase next)) {x = i} {y = 0 + length (take i made)} (omega (arith, length-take-le i made (omega (arith, lt))))
     ∙ sym (from_more phase 0 (take i made) next)
     ∙ ap (λ xs. events_from phase 0 xs) (sym (taken_more made i d lt))
+
+-- a pod that has ended makes none
+pub no_events_after_the_end : NoEventsAfterTheEnd
+no_events_after_the_end pod greatest evicted before tick events ended is = elim is [
+  | inl none ↦ none.1
+  | inr w ↦ absurd (w.0 ended)
+]
+
+-- there is one list of them
+made_one : (pod : PodSpec) (greatest : ℕ) (before : List PodTick) (tick : PodTick) (number : ℕ) (made other : ContainerEvents) → IsMadeOf pod greatest before tick number made
+    → IsMadeOf pod greatest before tick number other → made ≡ other
+made_one pod greatest before tick number made other is was =
+    let h = ticks_of (before ++ tick ∷ []) number in
+    let A : ContainerEvents → ContainerSpec → Type 0 = λ es spec. AreEvents pod.policy greatest spec h (length before) es in
+    whatever pod number (λ spec. made ≡ other) (made ≡ other) (λ spec e. e)
+    (together pod number (A made) (A other) (λ spec. made ≡ other) (λ spec one two. one_list_of_events pod.policy greatest spec h (length before) made other one two) is was)
+
+news_one : (pod : PodSpec) (greatest : ℕ) (evicted : Option ℕ) (before : List PodTick) (tick : PodTick) (events others : List PodEvent) → AreNews pod greatest evicted before tick events
+    → AreNews pod greatest evicted before tick others → events ≡ others
+news_one pod greatest evicted before tick events others one two =
+    let made : one.made ≡ two.made = same_items one.made two.made (one.are_made.as_many ∙ sym two.are_made.as_many)
+    (λ n d lt. made_one pod greatest before tick n _ _ (one.are_made.each n d (omega (arith, one.are_made.as_many))) (two.are_made.each n d (omega (arith, one.are_made.as_many)))) in
+    let phase : one.phase ≡ two.phase = raw_unique pod (before ++ tick ∷ []) one.phase two.phase one.is_phase two.is_phase in
+    let change : one.change ≡ two.change = event_one (ChangesPhase pod evicted before tick) one.change two.change one.changes two.changes in
+    one.in_order ∙ ap (λ (p : Phase). events_from p 0 one.made ++ events_at None (one.change ∷ [])) phase
+    ∙ ap (λ (ms : List ContainerEvents). events_from two.phase 0 ms ++ events_at None (one.change ∷ [])) made
+    ∙ ap (λ (c : Option What). events_from two.phase 0 two.made ++ events_at None (c ∷ [])) change ∙ sym two.in_order
+
+pub one_list_of_pod_events : OneListOfEvents
+one_list_of_pod_events pod greatest evicted before tick events others is was = elim is [
+  | inl none ↦ elim was [
+    | inl never ↦ none.1 ∙ sym never.1
+    | inr w ↦ absurd (w.0 none.0)
+  ]
+  | inr v ↦ elim was [
+    | inl never ↦ absurd (v.0 never.0)
+    | inr w ↦ news_one pod greatest evicted before tick events others v.1 w.1
+  ]
+]

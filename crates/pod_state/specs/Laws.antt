@@ -1,5 +1,5 @@
 -- Laws of phases, conditions and container states, over the definitions alone.
-use Rattle.std.specs.Prelude.{◌≡◌, ◌⊎◌, ◌↔◌, ◌-◌, ◌≤◌, ℕ, suc, List, ◌++◌, length, Option, Some}
+use Rattle.std.specs.Prelude.{◌≡◌, ◌⊎◌, ◌↔◌, ◌-◌, ◌≤◌, ℕ, suc, List, [], ◌++◌, length, Option, Some}
 use Rattle.histories.specs.Histories.{IsSo, IsRising, moment_at}
 use Rattle.manifest.specs.declared.pod.PodSpec.{PodSpec}
 use Rattle.phase.specs.declared.phase.Phase.{Phase}
@@ -7,7 +7,9 @@ use Rattle.phase.specs.declared.view.ContainerView.{ContainerView}
 use Rattle.phase.specs.RawPhase.{IsTerminal}
 use Rattle.pod_state.specs.declared.lifecycle.Lifecycle.{Lifecycle}
 use Rattle.containers.specs.declared.status.ContainerStatus.{ContainerStatus}
-use Rattle.pod_state.specs.Pods.{PodTick, AreViewsOf, IsRawPhaseAfter, IsPhase, IsInitialized, AreContainersReady}
+use Rattle.pod_state.specs.declared.events.PodEvent.{PodEvent}
+use Rattle.pod_state.specs.Events.{AreEventsOf}
+use Rattle.pod_state.specs.Pods.{PodTick, HasEnded, AreViewsOf, IsRawPhaseAfter, IsPhase, IsInitialized, AreContainersReady}
 use Rattle.pod_state.specs.Lifecycles.{IsLifecycleOf}
 use Rattle.pod_state.specs.Containers.{IsContainerStatus}
 
@@ -56,3 +58,15 @@ pub record OneStatus : Type 0 where
       → IsLifecycleOf pod evicted h s → IsLifecycleOf pod evicted h t → s ≡ t
   pub of_container : (pod : PodSpec) (evicted : Option ℕ) (h : List PodTick) (container : ℕ) (s t : ContainerStatus)
       → IsContainerStatus pod evicted h container s → IsContainerStatus pod evicted h container t → s ≡ t
+
+-- a pod that has ended makes no events, whatever its containers do
+abbrev pub NoEventsAfterTheEnd : Type 0
+NoEventsAfterTheEnd =
+    (pod : PodSpec) (greatest : ℕ) (evicted : Option ℕ) (before : List PodTick) (tick : PodTick) (events : List PodEvent)
+    → HasEnded pod evicted before → AreEventsOf pod greatest evicted before tick events → events ≡ []
+
+-- the events of a tick are determined, with their order
+abbrev pub OneListOfEvents : Type 0
+OneListOfEvents =
+    (pod : PodSpec) (greatest : ℕ) (evicted : Option ℕ) (before : List PodTick) (tick : PodTick) (events others : List PodEvent)
+    → AreEventsOf pod greatest evicted before tick events → AreEventsOf pod greatest evicted before tick others → events ≡ others
