@@ -1,5 +1,5 @@
 -- Where the ticks of a pod lead.
-use Rattle.std.specs.Prelude.{ℕ, ◌<◌, List, length, Option, slice_get, slice_index_or, unwrap_or}
+use Rattle.std.specs.Prelude.{◌≡◌, ℕ, ◌<◌, List, length, Option, slice_get, slice_index_or, unwrap_or}
 use Rattle.manifest.specs.declared.pod.PodSpec.{PodSpec}
 use Rattle.observations.specs.declared.container.ContainerObs.{ContainerObs}
 use Rattle.containers.specs.declared.container.Container.{Container}
@@ -16,6 +16,10 @@ use Rattle.pod_state.specs.Lifecycles.{IsProgressOf}
 pub record IsStateOf (pod : PodSpec) (greatest : ℕ) (evicted : Option ℕ) (h : List PodTick) (state : PodState) : Type 0 where
   pub progress : IsProgressOf pod evicted h state.lifecycle
   pub containers : AreKept pod greatest evicted h state.containers.items
+
+-- it has so many containers
+abbrev pub HasContainers : ℕ → PodState → Type 0
+HasContainers count state = count ≡ length state.containers.items
 
 -- the phase and the conditions before the last tick
 abbrev pub before_of : PodState → Lifecycle

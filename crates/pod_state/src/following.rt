@@ -129,20 +129,15 @@ pub(crate) fn views_of(
     Ok(views)
 }
 
-/// What the pod's status shows of each container; `is_evicted` says whether the pod was evicted.
-pub(crate) fn statuses_of(
-    alloc: Global,
-    containers: &[Container],
-    is_evicted: bool,
-) -> Result<Vec<ContainerStatus>, AllocError>
-    ensures { IfOk result (λ v. (pod : PodSpec) (greatest : ℕ) (h : List PodTick)
-        → AreContainersOf pod greatest h containers.now → AreShown pod (IsTrue is_evicted) h v.items) }
+/// Shows each container in its place; `is_evicted` says whether the pod was evicted.
+pub(crate) fn show(containers: &[Container], is_evicted: bool, statuses: &mut [ContainerStatus])
+    requires { length statuses.old ≡ length containers.now }
+    ensures { (pod : PodSpec) (greatest : ℕ) (h : List PodTick)
+        → AreContainersOf pod greatest h containers.now → AreShown pod (IsTrue is_evicted) h statuses.new }
 {
-    let mut statuses = Vec::new(alloc);
-    for container in containers {
-        statuses.push(container.status(is_evicted))?;
+    for (number, container) in containers.iter().enumerate() {
+        statuses[number] = container.status(is_evicted);
     }
-    Ok(statuses)
 }
 
 /// Whether it is ready, or an init container.

@@ -6,10 +6,10 @@ ghost use Rattle.pod_state.specs.Pods.{PodEntry, PodTick, pod_tick, IsEnd, EndsE
 ghost use Rattle.pod_state.specs.Containers.{AreStatusesOf};
 ghost use Rattle.pod_state.specs.Events.{AreEventsOf};
 ghost use Rattle.pod_state.specs.Lifecycles.{IsLifecycleOf, IsProgressOf};
-ghost use Rattle.pod_state.specs.States.{before_of, IsStateOf, MayFollow};
+ghost use Rattle.pod_state.specs.States.{before_of, HasContainers, IsStateOf, MayFollow};
 
 use crate::events::{PodEvent, events_of, phase_event};
-use crate::following::{all_ready, first_containers, next_containers, statuses_of, views_of};
+use crate::following::{all_ready, first_containers, next_containers, show, views_of};
 use crate::lifecycle::Lifecycle;
 use containers::{Container, ContainerStatus};
 use manifest::{MaxRestartDelay, PodSpec, Policy};
@@ -107,20 +107,16 @@ impl PodState {
         self.lifecycle = self.before.evicted(at, &self.lifecycle);
     }
 
-    /// The statuses of the containers, by number; `is_evicted` says whether the pod has ended by
-    /// its eviction.
-    pub fn statuses(
-        &self,
-        alloc: Global,
-        is_evicted: bool,
-    ) -> Result<Vec<ContainerStatus>, AllocError>
-        ensures { IfOk result (λ v. (pod : PodSpec) (greatest : ℕ) (evicted end : Option ℕ) (h : List PodTick)
+    /// Writes the status of each container, by number, in its place; `is_evicted` says whether the
+    /// pod has ended by its eviction.
+    pub fn show(&self, is_evicted: bool, statuses: &mut [ContainerStatus])
+        requires { HasContainers (length statuses.old) self.now }
+        ensures { (pod : PodSpec) (greatest : ℕ) (evicted end : Option ℕ) (h : List PodTick)
             → IsEnd pod evicted h end
             → (IsTrue is_evicted ↔ EndsEvicted evicted end)
             → IsStateOf pod greatest evicted h self.now
-            → AreStatusesOf pod evicted h v.items) }
+            → AreStatusesOf pod evicted h statuses.new }
     {
-        let statuses = statuses_of(alloc, &self.containers, is_evicted)?;
-        Ok(statuses)
+        show(&self.containers, is_evicted, statuses);
     }
 }
