@@ -1,0 +1,5 @@
+pub mod Usage
+pub mod Listings
+pub mod Piece
+pub mod Status
+pub mod Kept
