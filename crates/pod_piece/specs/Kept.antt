@@ -29,8 +29,8 @@ pub record IsKept (p : Piece) (differs : List Differ) (state : PodState) (status
   pub listed : AreListed p.pod p.handed differs
   pub pending : IsTrue p.is_pending → IsSomeAnd (last_of p.handed) (IsNextTick p.pod (before_last p.handed))
   pub evicted : IfSome (evicted_at p) (EndsAt p)
-  pub state : (e : Option ℕ) → MayBe (evicted_at p) (length (ticks p)) e → IsStateOf p.pod p.greatest e (ticks p) state
-  pub before : p.eviction ≡ None → (e : Option ℕ) → MayBe None (length (before_last (ticks p))) e
+  pub is_state : (e : Option ℕ) → MayBe (evicted_at p) (length (ticks p)) e → IsStateOf p.pod p.greatest e (ticks p) state
+  pub was_state : p.eviction ≡ None → (e : Option ℕ) → MayBe None (length (before_last (ticks p))) e
       → IsProgressOf p.pod e (before_last (ticks p)) (before_of state)
-  pub status : IsStatusOf p status
-  pub events : AreLastEvents p events
+  pub is_status : IsStatusOf p status
+  pub are_events : AreLastEvents p events

@@ -1,8 +1,9 @@
 -- A pod, all that was handed to it, and its eviction.
-use Rattle.std.specs.Prelude.{◌≡◌, ℕ, ◌-◌, Bool, true, false, List, [], ◌∷◌, ◌++◌, length, take, slice_get, nat_lt, Option, Some, None, IsTrue, option_map, if◌then◌else◌}
+use Rattle.std.specs.Prelude.{◌≡◌, ℕ, ◌-◌, Bool, true, false, List, [], ◌∷◌, ◌++◌, length, map, take, slice_get, nat_lt, Option, Some, None, IsTrue, option_map, if◌then◌else◌}
 use Rattle.histories.specs.Histories.{last_moment}
 use Rattle.manifest.specs.declared.pod.PodSpec.{PodSpec}
-use Rattle.pod_state.specs.Pods.{PodTick, HasEnded}
+use Rattle.pod_state.specs.Pods.{PodTick, pod_tick, HasEnded}
+use Rattle.observations.specs.declared.pod.PodObs.{PodObs}
 use Rattle.pod_piece.specs.declared.order.EvictOrder.{EvictOrder}
 use Rattle.pod_piece.specs.declared.piece.Eviction.{Eviction}
 
@@ -16,6 +17,12 @@ pub record Piece : Type 0 where
   -- the last of them is still to come into its status
   pub is_pending : Bool
   pub eviction : Option Eviction
+
+-- one of these values, with its observations as ticks
+abbrev pub piece : ℕ → PodSpec → ℕ → List PodObs → Bool → Option Eviction → Piece
+piece number pod greatest history is_pending eviction = record {
+  number = number; pod = pod; greatest = greatest; handed = map pod_tick history; is_pending = is_pending; eviction = eviction;
+}
 
 -- all ticks but the last
 abbrev pub before_last : List PodTick → List PodTick

@@ -3,6 +3,7 @@
 ghost use Rattle.std.specs.Prelude.{◌≡◌, ◌↔◌, ◌^◌, ◌<◌, ℕ, [], length, Option, Some, None, false, IsTrue, IfOk, IfErr, OnOk, OnErr};
 ghost use Rattle.histories.specs.Histories.{last_moment};
 ghost use Rattle.pod_state.specs.Pods.{pod_tick};
+ghost use Rattle.pod_state.specs.States.{IsStateOf};
 ghost use Rattle.pod_piece.specs.Listings.{MayComeNext, IsNextTick};
 ghost use Rattle.pod_piece.specs.Piece.{Piece, ticks, Lives, new_piece, with_tick, updated, with_eviction};
 ghost use Rattle.pod_piece.specs.Status.{IsStatusOf, AreLastEvents};
@@ -10,7 +11,7 @@ ghost use Rattle.pod_piece.specs.Status.{IsStatusOf, AreLastEvents};
 use crate::listings::{are_acceptable, first_differs, follow};
 use crate::order::EvictOrder;
 use crate::status::{EffectiveRequests, PodStatus};
-use crate::usage::{newer, nothing};
+use crate::usage::{newer_while, nothing};
 use containers::ContainerStatus;
 use manifest::{MaxRestartDelay, PodSpec};
 use observations::PodObs;
@@ -81,8 +82,12 @@ fn first_status(
     alloc: Global,
     number: usize,
     pod: &PodSpec,
+    greatest: MaxRestartDelay,
     state: &PodState,
-) -> Result<PodStatus, AllocError> {
+) -> Result<PodStatus, AllocError>
+    requires { (e : Option ℕ) → IsStateOf pod.now greatest e [] state.now }
+    ensures { IfOk result (IsStatusOf (new_piece number pod.now greatest)) }
+{
     let count = pod.containers.as_slice().len();
     let mut containers = vec![in alloc; UNLISTED; count]?;
     state.show(false, &mut containers);
@@ -113,7 +118,7 @@ impl PodPiece {
     {
         let differs = first_differs(alloc, pod.containers.as_slice().len())?;
         let state = PodState::new(alloc, &pod, greatest)?;
-        let status = first_status(alloc, number, &pod, &state)?;
+        let status = first_status(alloc, number, &pod, greatest, &state)?;
         Ok(PodPiece {
             alloc,
             number,
@@ -162,9 +167,9 @@ impl PodPiece {
         ensures ok { OnOk result (self.new ≡ with_tick self.old (pod_tick observed)) }
         ensures err { OnErr result (self.new ≡ self.old) }
     {
-        self.history.reserve(1)?;
-        follow(&mut self.differs, &observed);
         self.history.push(observed)?;
+        let last = self.history.len() - 1;
+        follow(&mut self.differs, &self.history[last]);
         self.is_pending = true;
         Ok(())
     }
@@ -179,6 +184,27 @@ impl PodPiece {
             Ok(()) => Ok(self),
             Err(_) => Err(Refused { piece: self }),
         }
+    }
+
+    /// Takes the last tick of its history into its status. An `Err` changes nothing.
+    fn take_last(&mut self) -> Result<(), AllocError>
+        requires { IsTrue self.old.is_pending }
+        ensures ok { OnOk result (self.new ≡ updated self.old) }
+        ensures err { OnErr result (self.new ≡ self.old) }
+    {
+        let last = self.history.len() - 1;
+        let observed = &self.history[last];
+        let had_ended = self.state.lifecycle().has_ended();
+        let events = self.state.take(self.alloc, self.pod.policy, observed)?;
+        self.status.usage = newer_while(!had_ended, self.status.usage, &observed.usage);
+        self.state
+            .show(self.eviction.is_some(), &mut self.status.containers);
+        let lifecycle = self.state.lifecycle();
+        self.status.phase = lifecycle.phase;
+        self.status.conditions = lifecycle.conditions;
+        self.events = events;
+        self.is_pending = false;
+        Ok(())
     }
 
     /// Evicts the pod by the tick that came last. It makes no event.

@@ -116,11 +116,16 @@ phase_ended pod evicted h x p is term =
     )
 
 -- an eviction ends it
+pub end_evicted : (pod : PodSpec) (evicted : Option ℕ) (h : List PodTick) (x : PodTick) (p : Phase) → IsPhase pod evicted h p → (IsTerminal p → ⊥)
+    → evicted ≡ Some (length h) → IsEnd pod evicted (h ++ x ∷ []) (Some (length h))
+end_evicted pod evicted h x p is not e =
+    IsFirst-new (length h) _ _ _ (grows pod evicted h x) (lives pod evicted h p is not) (inr (evicted_now evicted _ (length h) (length-more h x) e))
+
 pub phase_evicted : (pod : PodSpec) (evicted : Option ℕ) (h : List PodTick) (x : PodTick) (p : Phase) → IsPhase pod evicted h p → (IsTerminal p → ⊥)
     → evicted ≡ Some (length h) → IsPhase pod evicted (h ++ x ∷ []) Failed
 phase_evicted pod evicted h x p is not e = (
   Some (length h),
-  IsFirst-new (length h) _ _ _ (grows pod evicted h x) (lives pod evicted h p is not) (inr (evicted_now evicted _ (length h) (length-more h x) e)),
+  end_evicted pod evicted h x p is not e,
   inr (some_more h x, inl (e, refl)),
 )
 

@@ -1,5 +1,5 @@
 -- A pod after one more tick.
-use Rattle.std.proofs.Common.{◌≡◌, ◌∙◌, inl, inr, ℕ, ◌<◌, List, [], ◌∷◌, ◌++◌, length, Option, Some, None, false, slice_index_or, sym, subst, ap, arith}
+use Rattle.std.proofs.Common.{◌≡◌, ◌∙◌, inl, inr, ℕ, ◌<◌, List, [], ◌∷◌, ◌++◌, length, Option, Some, None, false, slice_index_or, refl, sym, subst, ap, arith}
 use Rattle.std.specs.Prelude.{◌↔◌, ◌≢◌, IsSomeAnd, IsTrue, slice_get, unwrap_or}
 use Rattle.histories.specs.Histories.{EndsBefore}
 use Rattle.state_diff.specs.declared.seen.Seen.{Seen}
@@ -13,7 +13,7 @@ use Rattle.manifest.specs.declared.pod.PodSpec.{PodSpec}
 use Rattle.phase.specs.RawPhase.{IsTerminal}
 use Rattle.containers.specs.declared.container.Container.{Container}
 use Rattle.pod_state.specs.declared.state.PodState.{PodState}
-use Rattle.pod_state.specs.Pods.{PodTick, ticks_of, unseen, IsPhase}
+use Rattle.pod_state.specs.Pods.{PodTick, ticks_of, unseen, IsPhase, IsEnd}
 use Rattle.pod_state.specs.Lifecycles.{IsLifecycleOf, IsProgressOf}
 use Rattle.pod_state.specs.Containers.{AreContainersOf, AreKept}
 use Rattle.pod_state.specs.States.{IsStateOf, MayFollow}
@@ -23,7 +23,7 @@ use Rattle.pod_state.specs.declared.lifecycle.Lifecycle.{Lifecycle}
 use Rattle.containers.specs.declared.what.What.{What}
 use Rattle.containers.specs.declared.what.What.TheVariants as whats
 use Rattle.containers.specs.declared.events.ContainerEvents.{ContainerEvents}
-use Rattle.pod_state.proofs.EndLemmas.{IsPhase-unique, raw_unique, ended_is, phase_ended, phase_raw, kept_all, kept_ended, kept_lives}
+use Rattle.pod_state.proofs.EndLemmas.{IsPhase-unique, raw_unique, ended_is, phase_ended, phase_raw, end_evicted, kept_all, kept_ended, kept_lives}
 
 -- the flag of a tick that doesn't evict
 pub not_evicted : (evicted : Option ℕ) (h : List PodTick) → (evicted ≡ Some (length h) → ⊥) → (IsTrue false ↔ (evicted ≡ Some (length h)))
@@ -115,13 +115,23 @@ events_lives pod greatest evicted h x state next made change events is lives sta
       },
     )
 
+-- a pod that has not ended had not before the last tick
+lived : (pod : PodSpec) (greatest : ℕ) (h : List PodTick) (x : PodTick) (old : PodState) → (IsTerminal old.lifecycle.phase → ⊥) → IsLifecycleOf pod None h old.before
+    → IsStateOf pod greatest None (h ++ x ∷ []) old → IsTerminal old.before.phase → ⊥
+lived pod greatest h x old goes_on was is ended =
+    goes_on (subst IsTerminal (IsPhase-unique pod None (h ++ x ∷ []) old.before.phase old.lifecycle.phase (phase_ended pod None h x old.before.phase was.phase ended) is.progress.so_far.phase) ended)
+
+-- so an eviction ends it
+pub ends_evicted : (pod : PodSpec) (greatest : ℕ) (h : List PodTick) (x : PodTick) (old : PodState) → (IsTerminal old.lifecycle.phase → ⊥) → IsLifecycleOf pod None h old.before
+    → IsProgressOf pod (Some (length h)) h old.before → IsStateOf pod greatest None (h ++ x ∷ []) old → IsEnd pod (Some (length h)) (h ++ x ∷ []) (Some (length h))
+ends_evicted pod greatest h x old goes_on was before is = end_evicted pod (Some (length h)) h x old.before.phase before.so_far.phase (lived pod greatest h x old goes_on was is) refl
+
 -- where the last tick evicts the pod
 pub when_evicted : (pod : PodSpec) (greatest : ℕ) (h : List PodTick) (x : PodTick) (old new : PodState) → (IsTerminal old.lifecycle.phase → ⊥) → new.containers ≡ old.containers
     → IsLifecycleOf pod None h old.before → IsStateOf pod greatest None (h ++ x ∷ []) old → IsProgressOf pod (Some (length h)) h old.before
     → IsProgressOf pod (Some (length h)) (h ++ x ∷ []) new.lifecycle → IsStateOf pod greatest (Some (length h)) (h ++ x ∷ []) new
 when_evicted pod greatest h x old new goes_on same was is before progress =
-    let lives : IsTerminal old.before.phase → ⊥ = λ ended.
-    goes_on (subst IsTerminal (IsPhase-unique pod None (h ++ x ∷ []) old.before.phase old.lifecycle.phase (phase_ended pod None h x old.before.phase was.phase ended) is.progress.so_far.phase) ended) in
+    let lives = lived pod greatest h x old goes_on was is in
     let containers = kept_all pod greatest None (h ++ x ∷ []) old.lifecycle.phase old.containers.items is.progress.so_far.phase goes_on is.containers in
     let kept = kept_lives pod greatest (Some (length h)) h x old.before.phase new.lifecycle.phase old.containers.items before.so_far.phase lives progress.so_far.phase containers in
     record {

@@ -33,7 +33,8 @@ impl PodState {
         spec: &PodSpec,
         greatest: MaxRestartDelay,
     ) -> Result<PodState, AllocError>
-        ensures { IfOk result (λ state. (evicted : Option ℕ) → IsStateOf spec.now greatest evicted [] state) }
+        ensures state { IfOk result (λ state. (evicted : Option ℕ) → IsStateOf spec.now greatest evicted [] state) }
+        ensures before { IfOk result (λ state. (evicted : Option ℕ) → IsProgressOf spec.now evicted [] (before_of state)) }
     {
         let containers = first_containers(alloc, spec.containers.as_slice(), greatest)?;
         let views = views_of(alloc, &containers)?;
@@ -98,11 +99,16 @@ impl PodState {
     /// The pod is evicted by the tick that came last, at the moment. It makes no event.
     pub fn evict(&mut self, at: u64)
         requires { IsTerminal self.old.lifecycle.phase → ⊥ }
-        ensures { (pod : PodSpec) (greatest : ℕ) (h : List PodTick) (entry : PodEntry)
+        ensures state { (pod : PodSpec) (greatest : ℕ) (h : List PodTick) (entry : PodEntry)
             → IsLifecycleOf pod None h (before_of self.old)
             → IsProgressOf pod (Some (length h)) h (before_of self.old)
             → IsStateOf pod greatest None (h ++ recorded at entry ∷ []) self.old
             → IsStateOf pod greatest (Some (length h)) (h ++ recorded at entry ∷ []) self.new }
+        ensures ends { (pod : PodSpec) (greatest : ℕ) (h : List PodTick) (entry : PodEntry)
+            → IsLifecycleOf pod None h (before_of self.old)
+            → IsProgressOf pod (Some (length h)) h (before_of self.old)
+            → IsStateOf pod greatest None (h ++ recorded at entry ∷ []) self.old
+            → IsEnd pod (Some (length h)) (h ++ recorded at entry ∷ []) (Some (length h)) }
     {
         self.lifecycle = self.before.evicted(at, &self.lifecycle);
     }
