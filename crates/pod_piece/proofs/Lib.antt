@@ -1,1 +1,3 @@
 pub mod ListingLemmas
+pub mod UsageLemmas
+pub mod PieceLemmas

@@ -3,7 +3,8 @@ use Rattle.std.specs.Prelude.{◌≡◌, ℕ, ◌≤◌, ◌<◌, List, length, 
 use Rattle.state_diff.specs.declared.differ.Differ.{Differ}
 use Rattle.pod_state.specs.declared.events.PodEvent.{PodEvent}
 use Rattle.pod_state.specs.declared.state.PodState.{PodState}
-use Rattle.pod_state.specs.Pods.{IsEnd}
+use Rattle.manifest.specs.declared.pod.PodSpec.{PodSpec}
+use Rattle.pod_state.specs.Pods.{PodTick, IsEnd}
 use Rattle.pod_state.specs.Lifecycles.{IsProgressOf}
 use Rattle.pod_state.specs.States.{before_of, IsStateOf}
 use Rattle.pod_piece.specs.declared.piece.Eviction.{Eviction}
@@ -19,18 +20,21 @@ MayBe None n None = Unit {0}
 MayBe None n (Some t) = n ≤ t
 MayBe (Some place) n evicted = evicted ≡ Some place
 
--- the pod ended by its eviction
-pub record EndsAt (p : Piece) (place : ℕ) : Type 0 where
-  pub within : place < length (ticks p)
-  pub is_end : IsEnd p.pod (Some place) (ticks p) (Some place)
+-- the pod ended by its eviction, at this place
+pub record EndsAt (pod : PodSpec) (h : List PodTick) (place : ℕ) : Type 0 where
+  pub within : place < length h
+  pub is_end : IsEnd pod (Some place) h (Some place)
+
+-- the counters are the state of these ticks, whatever eviction is still to come
+pub record IsStateAfter (pod : PodSpec) (greatest : ℕ) (evicted : Option ℕ) (h : List PodTick) (state : PodState) : Type 0 where
+  pub ended : IfSome evicted (EndsAt pod h)
+  pub now : (e : Option ℕ) → MayBe evicted (length h) e → IsStateOf pod greatest e h state
+  pub before : evicted ≡ None → (e : Option ℕ) → MayBe None (length (before_last h)) e → IsProgressOf pod e (before_last h) (before_of state)
 
 -- the values beside the history are those that the history leaves
 pub record IsKept (p : Piece) (differs : List Differ) (state : PodState) (status : PodStatus) (events : List PodEvent) : Type 0 where
   pub listed : AreListed p.pod p.handed differs
-  pub pending : IsTrue p.is_pending → IsSomeAnd (last_of p.handed) (IsNextTick p.pod (before_last p.handed))
-  pub evicted : IfSome (evicted_at p) (EndsAt p)
-  pub is_state : (e : Option ℕ) → MayBe (evicted_at p) (length (ticks p)) e → IsStateOf p.pod p.greatest e (ticks p) state
-  pub was_state : p.eviction ≡ None → (e : Option ℕ) → MayBe None (length (before_last (ticks p))) e
-      → IsProgressOf p.pod e (before_last (ticks p)) (before_of state)
-  pub is_status : IsStatusOf p status
-  pub are_events : AreLastEvents p events
+  pub next : IsTrue p.is_pending → IsSomeAnd (last_of p.handed) (IsNextTick p.pod (before_last p.handed))
+  pub after : IsStateAfter p.pod p.greatest (evicted_at p) (ticks p) state
+  pub shown : IsStatusOf p status
+  pub made : AreLastEvents p events

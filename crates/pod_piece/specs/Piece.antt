@@ -40,9 +40,12 @@ taken false handed = handed
 abbrev pub ticks : Piece → List PodTick
 ticks p = taken p.is_pending p.handed
 
--- the place of the tick that evicted it
+-- the place of the tick that evicts a pod
+abbrev pub place_of : Option Eviction → Option ℕ
+place_of eviction = option_map (λ (e : Eviction). e.place) eviction
+
 abbrev pub evicted_at : Piece → Option ℕ
-evicted_at p = option_map (λ (e : Eviction). e.place) p.eviction
+evicted_at p = place_of p.eviction
 
 -- the same, if that tick was before a place
 abbrev pub evicted_before : Option ℕ → ℕ → Option ℕ

@@ -6,13 +6,14 @@ use Rattle.manifest.specs.declared.resources.Resource.TheVariants.{Cpu, Memory, 
 use Rattle.qos.specs.Class.{IsOfClass}
 use Rattle.qos.specs.Requests.{effective_request_of}
 use Rattle.pod_state.specs.declared.events.PodEvent.{PodEvent}
+use Rattle.pod_state.specs.Pods.{PodTick}
 use Rattle.pod_state.specs.Containers.{AreStatusesOf}
 use Rattle.pod_state.specs.Lifecycles.{IsLifecycleOf}
 use Rattle.pod_state.specs.Events.{AreEventsOf}
 use Rattle.pod_piece.specs.declared.piece.Eviction.{Eviction}
 use Rattle.pod_piece.specs.declared.status.EffectiveRequests.{EffectiveRequests}
 use Rattle.pod_piece.specs.declared.status.PodStatus.{PodStatus}
-use Rattle.pod_piece.specs.Piece.{Piece, before_last, last_of, ticks, evicted_at, evicted_before}
+use Rattle.pod_piece.specs.Piece.{Piece, before_last, last_of, ticks, place_of, evicted_at, evicted_before}
 use Rattle.pod_piece.specs.Usage.{IsUsageOf}
 
 -- what a pod asks for in effect, of each resource
@@ -23,21 +24,28 @@ requests_of pod = record {
   ephemeral_storage = effective_request_of EphemeralStorage pod.containers;
 }
 
--- the status of the pod after the ticks that have come into it
-pub record IsStatusOf (p : Piece) (status : PodStatus) : Type 0 where
-  pub number : status.number ≡ p.number
-  pub lifecycle : IsLifecycleOf p.pod (evicted_at p) (ticks p) (record { phase = status.phase; conditions = status.conditions })
-  pub containers : AreStatusesOf p.pod (evicted_at p) (ticks p) status.containers.items
-  pub class : IsOfClass p.pod.containers status.class
-  pub requests : status.requests ≡ requests_of p.pod
-  pub usage : IsUsageOf p.pod (evicted_at p) (ticks p) status.usage
-  pub priority : status.priority ≡ p.pod.priority
-  pub order : status.order ≡ option_map (λ (e : Eviction). e.order) p.eviction
+-- what a status shows of a pod with a number, after these ticks of it
+pub record IsStatusAfter (number : ℕ) (pod : PodSpec) (eviction : Option Eviction) (h : List PodTick) (status : PodStatus) : Type 0 where
+  pub number_is : status.number ≡ number
+  pub lifecycle : IsLifecycleOf pod (place_of eviction) h (record { phase = status.phase; conditions = status.conditions })
+  pub containers : AreStatusesOf pod (place_of eviction) h status.containers.items
+  pub class : IsOfClass pod.containers status.class
+  pub requests : status.requests ≡ requests_of pod
+  pub usage : IsUsageOf pod (place_of eviction) h status.usage
+  pub priority : status.priority ≡ pod.priority
+  pub order : status.order ≡ option_map (λ (e : Eviction). e.order) eviction
+
+-- the status of a piece, after the ticks that have come into it
+abbrev pub IsStatusOf : Piece → PodStatus → Type 0
+IsStatusOf p status = IsStatusAfter p.number p.pod p.eviction (ticks p) status
 
 -- the events of the last of these ticks, as that tick made them: an eviction in it adds none and
 -- takes none away
+abbrev pub AreEventsAfter : PodSpec → ℕ → Option ℕ → List PodTick → List PodEvent → Type 0
+AreEventsAfter pod greatest evicted h events =
+    MatchOption (last_of h) (events ≡ [])
+    (λ tick. AreEventsOf pod greatest (evicted_before evicted (length (before_last h))) (before_last h) tick events)
+
+-- the events of a piece
 abbrev pub AreLastEvents : Piece → List PodEvent → Type 0
-AreLastEvents p events =
-    MatchOption (last_of (ticks p)) (events ≡ [])
-    (λ tick. let before = before_last (ticks p) in
-    AreEventsOf p.pod p.greatest (evicted_before (evicted_at p) (length before)) before tick events)
+AreLastEvents p events = AreEventsAfter p.pod p.greatest (evicted_at p) (ticks p) events

@@ -1,7 +1,7 @@
 -- What a pod uses: each resource by its newest sample (Kubernetes, "Node-pressure Eviction", "Pod
 -- selection for kubelet eviction"; that a sample stands until the next, and that those after the
 -- pod's end don't count, are this profile's rules).
-use Rattle.std.specs.Prelude.{◌≡◌, ℕ, List, Option, Some, None, option_and_then, IsSome}
+use Rattle.std.specs.Prelude.{◌≡◌, ℕ, List, Option, Some, None, option_and_then, IsSome, IsSomeAnd}
 use Rattle.std.specs.Option.{option_or}
 use Rattle.histories.specs.Histories.{entry_at, IsLast}
 use Rattle.manifest.specs.declared.pod.PodSpec.{PodSpec}
@@ -12,13 +12,15 @@ use Rattle.pod_state.specs.Pods.{PodEntry, PodTick, IsEnd, counted}
 abbrev pub sample_in : (Usage → Option ℕ) → PodEntry → Option ℕ
 sample_in resource entry = option_and_then resource entry.usage
 
-abbrev pub sample_at : (Usage → Option ℕ) → List PodTick → ℕ → Option ℕ
-sample_at resource h t = option_and_then (sample_in resource) (entry_at h t)
+abbrev pub HasSample : (Usage → Option ℕ) → PodEntry → Type 0
+HasSample resource entry = IsSome (sample_in resource entry)
 
 -- the sample of the last tick that has one, if any has
 abbrev pub IsNewestSample : (Usage → Option ℕ) → List PodTick → Option ℕ → Type 0
-IsNewestSample resource h None = (t : ℕ) → IsSome (sample_at resource h t) → ⊥
-IsNewestSample resource h (Some amount) = (t : ℕ) × IsLast (λ u. IsSome (sample_at resource h u)) t × (sample_at resource h t ≡ Some amount)
+IsNewestSample resource h None = (t : ℕ) → IsSomeAnd (entry_at h t) (HasSample resource) → ⊥
+IsNewestSample resource h (Some amount) =
+    (t : ℕ) × IsLast (λ u. IsSomeAnd (entry_at h u) (HasSample resource)) t
+    × IsSomeAnd (entry_at h t) (λ entry. sample_in resource entry ≡ Some amount)
 
 -- and of each resource
 pub record AreNewestSamples (h : List PodTick) (usage : Usage) : Type 0 where

@@ -115,13 +115,13 @@ impl PodState {
 
     /// Writes the status of each container, by number, in its place; `is_evicted` says whether the
     /// pod has ended by its eviction.
-    pub fn show(&self, is_evicted: bool, statuses: &mut [ContainerStatus])
-        requires { HasContainers (length statuses.old) self.now }
+    pub fn show(&self, is_evicted: bool, statuses: &mut Vec<ContainerStatus>)
+        requires { HasContainers (length statuses.old.items) self.now }
         ensures { (pod : PodSpec) (greatest : ℕ) (evicted end : Option ℕ) (h : List PodTick)
             → IsEnd pod evicted h end
             → (IsTrue is_evicted ↔ EndsEvicted evicted end)
             → IsStateOf pod greatest evicted h self.now
-            → AreStatusesOf pod evicted h statuses.new }
+            → AreStatusesOf pod evicted h statuses.new.items }
     {
         show(&self.containers, is_evicted, statuses);
     }
