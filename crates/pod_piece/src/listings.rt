@@ -51,10 +51,10 @@ fn differ_after(differ: Differ, at: u64, seen: Option<Seen>) -> Differ
 }
 
 /// Follows a tick, of which each listing may come next.
-pub(crate) fn follow(differs: &mut [Differ], observed: &PodObs)
-    requires { AllFollow differs.old observed.now.at observed.now.containers }
-    ensures { (pod : PodSpec) (h : List PodTick) → AreListed pod h differs.old
-        → AreListed pod (h ++ pod_tick observed.now ∷ []) differs.new }
+pub(crate) fn follow(differs: &mut Vec<Differ>, observed: &PodObs)
+    requires { AllFollow differs.old.items observed.now.at observed.now.containers }
+    ensures { (pod : PodSpec) (h : List PodTick) → AreListed pod h differs.old.items
+        → AreListed pod (h ++ pod_tick observed.now ∷ []) differs.new.items }
 {
     for number in 0..differs.len() {
         let seen = listed_in(observed, number);

@@ -1,6 +1,6 @@
 //! A pod with its history.
 
-ghost use Rattle.std.specs.Prelude.{◌≡◌, ◌↔◌, ◌^◌, ◌<◌, ℕ, [], length, Option, Some, None, false, IsTrue, IfOk, IfErr, OnOk, OnErr};
+ghost use Rattle.std.specs.Prelude.{◌≡◌, ◌↔◌, ◌^◌, ◌<◌, ℕ, [], length, map, Option, Some, None, false, IsTrue, IfOk, IfErr, OnOk, OnErr};
 ghost use Rattle.histories.specs.Histories.{last_moment};
 ghost use Rattle.pod_state.specs.Pods.{pod_tick};
 ghost use Rattle.pod_state.specs.States.{IsStateOf};
@@ -141,13 +141,25 @@ impl PodPiece {
         self.is_pending
     }
 
+    /// The ticks that have come into its status.
+    fn taken(&self) -> &[PodObs]
+        ensures { ticks self.now ≡ map pod_tick result.now }
+    {
+        if self.is_pending {
+            &self.history[..self.history.len() - 1]
+        } else {
+            &self.history
+        }
+    }
+
     /// The moment of the last update's tick, in seconds; none before the first.
     pub fn last_at(&self) -> Option<u64>
         ensures { result ≡ last_moment (ticks self.now) }
     {
-        let count = self.history.len().checked_sub(usize::from(self.is_pending))?;
-        let last = self.history.get(count.checked_sub(1)?)?;
-        Some(last.at)
+        match self.taken().last() {
+            Some(last) => Some(last.at),
+            None => None,
+        }
     }
 
     /// Whether the observation has one entry for each container, each with a listing that may come
