@@ -2,7 +2,9 @@ ghost use Rattle.std.specs.Prelude.{◌≡◌};
 ghost use Rattle.observations.specs.Observations.{seen_of};
 
 use crate::pod::PodObs;
+use quantity::Quantity;
 use sequence::Sequence;
+use signals::BySignal;
 use state_diff::Seen;
 
 /// One tick. A pod of which it has no entry lists none of its containers.

@@ -9,6 +9,5 @@ mod replay_tests;
 #[cfg(test)]
 mod size_tests;
 #[cfg(test)]
-mod tick_lines_tests;
 #[cfg(test)]
 mod trace_tests;
