@@ -14,6 +14,10 @@ pub struct TickObs {
     pub at: u64,
     /// One observation for each pod that is present, by number.
     pub pods: Sequence<PodObs>,
+    /// The values of the node's signals, where the tick has one.
+    pub signals: BySignal<Option<Quantity>>,
+    /// The values of the file system signals after space was reclaimed, where the tick has one.
+    pub after_reclaim: BySignal<Option<Quantity>>,
 }
 
 /// What the tick lists of a container of a pod, both by number.
