@@ -85,7 +85,7 @@ killed_once spec h t u a cause other range killed killed' =
     (IsFirst-unique (IsSo (IsKillOrdered spec other a) h) t u k' l, same)
 
 -- there is one event of a place
-event_one : (P : What → Type 0) (o p : Option What) → Gives P o → Gives P p → o ≡ p
+pub event_one : (P : What → Type 0) (o p : Option What) → Gives P o → Gives P p → o ≡ p
 event_one P None None is is' = refl
 event_one P None (Some w) is is' = (is w).1 ((is' w).0 refl)
 event_one P (Some w) p is is' = sym ((is' w).1 ((is w).0 refl))

@@ -10,4 +10,4 @@ mod RestartLemmas
 mod ComesLemmas
 mod EventLemmas
 mod StepLemmas
-mod LawLemmas
+pub mod LawLemmas

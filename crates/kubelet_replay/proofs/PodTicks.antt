@@ -12,10 +12,10 @@ use Rattle.state_diff.specs.declared.seen.Seen.{Seen}
 use Rattle.state_diff.specs.Instances.{Tick, seen_at, IsAcceptable, IsAcceptableHistory}
 use Rattle.manifest.specs.declared.pod.PodSpec.{PodSpec}
 use Rattle.containers.specs.Ticks.{listings}
-use Rattle.pod_piece.specs.Pods.{PodTick, pod_tick, ticks_of, unseen, EndsEvicted}
-use Rattle.pod_piece.specs.declared.state.PodState.{PodState}
-use Rattle.pod_piece.specs.States.{IsStateOf, MayFollow}
-use Rattle.pod_piece.proofs.StateLemmas.{may_follow}
+use Rattle.pod_state.specs.Pods.{PodTick, pod_tick, ticks_of, unseen, EndsEvicted}
+use Rattle.pod_state.specs.declared.state.PodState.{PodState}
+use Rattle.pod_state.specs.States.{IsStateOf, MayFollow}
+use Rattle.pod_state.proofs.StateLemmas.{may_follow}
 use Rattle.observations.specs.declared.container.ContainerObs.{ContainerObs}
 use Rattle.observations.specs.declared.pod.PodObs.{PodObs}
 use Rattle.observations.specs.declared.tick.TickObs.{TickObs}

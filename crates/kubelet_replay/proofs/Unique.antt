@@ -2,8 +2,8 @@
 use Rattle.std.proofs.Common.{◌≡◌, ◌∙◌, ℕ, suc, ◌<◌, ◌≤◌, List, [], ◌∷◌, length, get_or, None, slice_index_or, Ok, refl, ap, sym, subst, arith}
 use Rattle.manifest.specs.declared.pod.PodSpec.{PodSpec}
 use Rattle.containers.specs.declared.status.ContainerStatus.{ContainerStatus}
-use Rattle.pod_piece.specs.declared.lifecycle.Lifecycle.{Lifecycle}
-use Rattle.pod_piece.proofs.UniqueLemmas.{status_one, container_one}
+use Rattle.pod_state.specs.declared.lifecycle.Lifecycle.{Lifecycle}
+use Rattle.pod_state.proofs.UniqueLemmas.{status_one, container_one}
 use Rattle.observations.specs.declared.tick.TickObs.{TickObs}
 use Rattle.trace.specs.declared.past.Trace.{Trace}
 use Rattle.kubelet_replay.specs.Lines.{pod_text}

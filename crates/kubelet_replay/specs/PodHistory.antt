@@ -1,7 +1,7 @@
 -- What the ticks of a trace show of one pod.
 use Rattle.std.specs.Prelude.{ℕ, List, option_map, slice_get}
 use Rattle.std.specs.List.{filter_map}
-use Rattle.pod_piece.specs.Pods.{PodTick, pod_tick}
+use Rattle.pod_state.specs.Pods.{PodTick, pod_tick}
 use Rattle.observations.specs.declared.tick.TickObs.{TickObs}
 
 -- the pod's own ticks: those that have an observation of it

@@ -4,9 +4,9 @@ use Rattle.manifest.specs.declared.pod.PodSpec.{PodSpec}
 use Rattle.qos.specs.declared.class.Qos.{Qos}
 use Rattle.qos.specs.Class.{IsOfClass}
 use Rattle.containers.specs.declared.status.ContainerStatus.{ContainerStatus}
-use Rattle.pod_piece.specs.declared.lifecycle.Lifecycle.{Lifecycle}
-use Rattle.pod_piece.specs.Containers.{AreStatusesOf}
-use Rattle.pod_piece.specs.Lifecycles.{IsLifecycleOf}
+use Rattle.pod_state.specs.declared.lifecycle.Lifecycle.{Lifecycle}
+use Rattle.pod_state.specs.Containers.{AreStatusesOf}
+use Rattle.pod_state.specs.Lifecycles.{IsLifecycleOf}
 use Rattle.observations.specs.declared.tick.TickObs.{TickObs}
 use Rattle.kubelet_replay.specs.Lines.{pod_text}
 use Rattle.kubelet_replay.specs.PodHistory.{pod_history}

@@ -3,13 +3,13 @@
 ghost use Rattle.std.specs.Prelude.{ℕ, ◌<◌, List, length, None, IfOk};
 ghost use Rattle.state_diff.specs.Instances.{IsAcceptableHistory};
 ghost use Rattle.observations.specs.Observations.{history};
-ghost use Rattle.pod_piece.specs.States.{IsStateOf};
+ghost use Rattle.pod_state.specs.States.{IsStateOf};
 ghost use Rattle.trace.specs.Sound.{HasShape};
 ghost use Rattle.kubelet_replay.specs.PodHistory.{pod_history};
 
 use manifest::{MaxRestartDelay, PodSpec};
 use observations::TickObs;
-use pod_piece::PodState;
+use pod_state::PodState;
 use std::alloc::{AllocError, Global};
 
 /// The pod with the number among these, as these ticks leave it.

@@ -6,7 +6,7 @@ ghost use Rattle.kubelet_replay.specs.Lines.{phase_word, state_word, qos_word, t
 
 use manifest::{ContainerSpec, PodSpec};
 use phase::{Condition, Conditions, ContainerState, Phase};
-use pod_piece::ContainerStatus;
+use pod_state::ContainerStatus;
 use qos::Qos;
 use std::alloc::{AllocError, Global};
 

@@ -1,5 +1,5 @@
-pub mod Pods
-pub mod Containers
-pub mod Lifecycles
-pub mod States
-pub mod Laws
+pub mod Usage
+pub mod Listings
+pub mod Piece
+pub mod Status
+pub mod Kept

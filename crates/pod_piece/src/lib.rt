@@ -1,12 +1,14 @@
-//! What the ticks make of one pod: its phase, its conditions and the statuses of its containers.
-//! (Kubernetes, "Pod Lifecycle".)
+//! One pod as an owned value: its specification, all that was handed to it, and what the rules make
+//! of that. (Kubernetes, "Pod Lifecycle" and "Node-pressure Eviction".)
 #![tactic(auto)]
 
-mod following;
-pub mod laws;
-mod lifecycle;
-mod state;
+mod listings;
+mod order;
+mod piece;
+mod status;
+mod usage;
 
-pub use containers::ContainerStatus;
-pub use lifecycle::Lifecycle;
-pub use state::PodState;
+pub use order::EvictOrder;
+pub use piece::{PodPiece, Refused};
+pub use pod_state::{ContainerStatus, PodEvent, What};
+pub use status::{EffectiveRequests, PodStatus, Reason};

@@ -4,7 +4,7 @@ use manifest::Policy::Always;
 use manifest::Role;
 use phase::ContainerView;
 use phase::Phase::{self, Failed};
-use pod_piece::Lifecycle;
+use pod_state::Lifecycle;
 use state_diff::{CriState, Seen};
 
 /// An app container that no tick has listed.

@@ -1,7 +1,7 @@
 use Rattle.std.proofs.Common.{◌+◌, List, None, take, refl, sym, subst}
-use Rattle.pod_piece.specs.Pods.{PodTick}
-use Rattle.pod_piece.specs.States.{IsStateOf}
-use Rattle.pod_piece.specs.declared.state.PodState.{PodState}
+use Rattle.pod_state.specs.Pods.{PodTick}
+use Rattle.pod_state.specs.States.{IsStateOf}
+use Rattle.pod_state.specs.declared.state.PodState.{PodState}
 use Rattle.kubelet_replay.specs.PodHistory.{pod_history}
 use Rattle.kubelet_replay.proofs.PodTicks as ticks
 use Rattle.kubelet_replay.proofs.follow.follow.Goals as goal

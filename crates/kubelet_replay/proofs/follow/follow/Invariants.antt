@@ -1,5 +1,5 @@
 use Rattle.std.proofs.Common.{None, take}
-use Rattle.pod_piece.specs.States.{IsStateOf}
+use Rattle.pod_state.specs.States.{IsStateOf}
 use Rattle.kubelet_replay.specs.PodHistory.{pod_history}
 use Rattle.kubelet_replay.proofs.follow.follow.Given as goal
 

@@ -1,9 +1,9 @@
 use Rattle.std.proofs.Common.{◌≡◌, ◌∙◌, List, length, None, ap, sym, subst}
 use Rattle.observations.specs.declared.tick.TickObs.{TickObs}
-use Rattle.pod_piece.specs.declared.lifecycle.Lifecycle.{Lifecycle}
-use Rattle.pod_piece.specs.Containers.{AreStatusesOf}
-use Rattle.pod_piece.specs.Lifecycles.{IsLifecycleOf}
-use Rattle.pod_piece.specs.States.{IsStateOf}
+use Rattle.pod_state.specs.declared.lifecycle.Lifecycle.{Lifecycle}
+use Rattle.pod_state.specs.Containers.{AreStatusesOf}
+use Rattle.pod_state.specs.Lifecycles.{IsLifecycleOf}
+use Rattle.pod_state.specs.States.{IsStateOf}
 use Rattle.kubelet_replay.specs.Lines.{pod_text}
 use Rattle.kubelet_replay.specs.PodHistory.{pod_history}
 use Rattle.kubelet_replay.proofs.PodTicks.{never_evicted}

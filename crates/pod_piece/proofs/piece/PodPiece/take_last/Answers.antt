@@ -1,0 +1,68 @@
+use Rattle.std.proofs.Common.{◌≡◌, ◌∙◌, ◌++◌, ◌∷◌, [], ℕ, suc, List, length, map, Bool, Option, Some, true, false, refl, ap, sym, subst, arith}
+use Rattle.std.specs.Prelude.{◌↔◌, IsTrue, IsSome}
+use Rattle.observations.specs.declared.usage.Usage.{Usage}
+use Rattle.pod_state.specs.declared.lifecycle.Lifecycle.{Lifecycle}
+use Rattle.pod_state.specs.Pods.{PodTick, pod_tick, HasEnded}
+use Rattle.pod_state.specs.Lifecycles.{IsLifecycleOf, IsProgressOf}
+use Rattle.pod_piece.specs.Kept.{IsKept}
+use Rattle.pod_piece.specs.Listings.{IsNextTick}
+use Rattle.pod_piece.specs.Usage.{IsUsageOf}
+use Rattle.pod_piece.specs.Piece.{Piece, piece, before_last, last_of, place_of}
+use Rattle.pod_piece.proofs.PieceLemmas.{observed_last, some_last, of_last, state_pending, may_self, may_take, has_containers, kept_updated, state_more, by_eviction, end_is, flag_says, at_last}
+use Rattle.pod_piece.proofs.UsageLemmas.{usage_more}
+use Rattle.pod_piece.proofs.piece.PodPiece.take_last.Goals as goal
+
+pub take-requires-clause-follows : goal.take-requires-clause-follows
+take-requires-clause-follows c =
+    let i = c.self.inside in
+    let observed = c.index-observed.result.now in
+    let here = at_last c.args.self.now i.number i.pod i.greatest i.history.items i.is_pending i.eviction i.differs.items i.state i.status i.events.items c.len-last.result observed
+    c.self.view_is c.requires c.self.invariant (omega (arith, c.len-last.ensures, i.history.ok)) c.index-observed.ensures in
+    may_take i.pod i.greatest (place_of i.eviction) (before_last (map pod_tick i.history.items)) i.state observed here.now here.next
+
+pub take-requires-clause-bounded : goal.take-requires-clause-bounded
+take-requires-clause-bounded c =
+    let i = c.self.inside in
+    let observed = c.index-observed.result.now in
+    (at_last c.args.self.now i.number i.pod i.greatest i.history.items i.is_pending i.eviction i.differs.items i.state i.status i.events.items c.len-last.result observed
+    c.self.view_is c.requires c.self.invariant (omega (arith, c.len-last.ensures, i.history.ok)) c.index-observed.ensures).next.bounded
+
+pub show-requires : goal.show-requires
+show-requires c =
+    let i = c.self.inside in
+    let observed = c.index-observed.result.now in
+    let h = before_last (map pod_tick i.history.items) in
+    let here = at_last c.args.self.now i.number i.pod i.greatest i.history.items i.is_pending i.eviction i.differs.items i.state i.status i.events.items c.len-last.result observed
+    c.self.view_is c.requires c.self.invariant (omega (arith, c.len-last.ensures, i.history.ok)) c.index-observed.ensures in
+    let after = c.in_ok-events.ensures.ok i.pod i.greatest (place_of i.eviction) h refl here.not_now here.now in
+    c.self.invariant.shown.containers.as_many ∙ has_containers i.pod i.greatest (place_of i.eviction) (h ++ pod_tick observed ∷ []) c.take.new.self after
+
+pub invariant_of-self-2 : goal.invariant_of-self-2
+invariant_of-self-2 c =
+    let i = c.self.inside in
+    let observed = c.index-observed.result.now in
+    let h = before_last (map pod_tick i.history.items) in
+    let k = h ++ pod_tick observed ∷ [] in
+    let e = place_of i.eviction in
+    let here = at_last c.args.self.now i.number i.pod i.greatest i.history.items i.is_pending i.eviction i.differs.items i.state i.status i.events.items c.len-last.result observed
+    c.self.view_is c.requires c.self.invariant (omega (arith, c.len-last.ensures, i.history.ok)) c.index-observed.ensures in
+    kept_updated (piece i.number i.pod i.greatest i.history.items i.is_pending i.eviction) (pod_tick observed) i.differs.items i.state c.take.new.self i.status _ i.events.items c.in_ok-events.events.items
+    here.pending here.last c.self.invariant
+    (λ e not is. c.in_ok-events.ensures.ok i.pod i.greatest e h refl not is)
+    (λ e is. subst (λ (l : Lifecycle). IsProgressOf i.pod e h l) (sym c.in_ok-events.ensures.before) is.progress)
+    (λ e not is. c.in_ok-events.ensures.events i.pod i.greatest e h refl not is)
+    (λ shown before after.
+    let st = after.now e (may_self e (length k)) in
+    let phase = st.progress.so_far.phase in
+    let was : IsLifecycleOf i.pod e h c.lifecycle.result = subst (λ (l : Lifecycle). IsLifecycleOf i.pod e h l) (sym c.lifecycle.ensures) here.now.progress.so_far in
+    record {
+      number_is = shown.number_is;
+      lifecycle = subst (λ (l : Lifecycle). IsLifecycleOf i.pod e k l) (sym c.lifecycle-lifecycle.ensures) st.progress.so_far;
+      containers = c.show.ensures i.pod i.greatest e phase.0 k phase.1 (by_eviction e phase.0 c.is_some.result (flag_says i.eviction c.is_some.result c.is_some.ensures) (end_is i.pod k e phase.0 after.ended phase.1)) st;
+      class = shown.class;
+      requests = shown.requests;
+      usage = subst (λ (u : Usage). IsUsageOf i.pod e k u) (sym c.newer_while-self-inside.ensures)
+          (usage_more i.pod e phase.0 h (pod_tick observed) i.status.usage c.has_ended-had_ended.result shown.usage (c.has_ended-had_ended.ensures.ended i.pod e h was) phase.1);
+      priority = shown.priority;
+      order = shown.order;
+    })

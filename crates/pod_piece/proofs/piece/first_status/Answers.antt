@@ -1,0 +1,31 @@
+use Rattle.std.proofs.Common.{◌≡◌, ◌∙◌, ℕ, [], List, length, None, true, false, rules, SFits, w32, refl, ap, sym, subst, arith}
+use Rattle.std.proofs.lemmas.Int.{ints}
+use Rattle.manifest.specs.declared.pod.PodSpec.{PodSpec}
+use Rattle.pod_state.specs.declared.lifecycle.Lifecycle.{Lifecycle}
+use Rattle.pod_state.specs.Lifecycles.{IsLifecycleOf}
+use Rattle.observations.specs.declared.usage.Usage.{Usage}
+use Rattle.pod_piece.specs.Usage.{IsUsageOf}
+use Rattle.pod_piece.proofs.PieceLemmas.{by_eviction, has_containers}
+use Rattle.pod_piece.proofs.UsageLemmas.{no_usage}
+use Rattle.pod_piece.proofs.piece.first_status.Goals as goal
+
+pub show-requires : goal.show-requires
+show-requires c =
+    let have = has_containers c.args.pod.now c.args.greatest None [] c.args.state.now (c.requires None) in
+    omega (arith, have, c.in_ok-containers.ensures.len, ap length c.as_slice-count.ensures.same)
+
+pub returns : goal.returns
+returns c =
+    let pod = c.args.pod.now in
+    let is = c.requires None in
+    let phase = is.progress.so_far.phase in
+    record {
+      number_is = refl;
+      lifecycle = subst (λ (l : Lifecycle). IsLifecycleOf pod None [] l) (sym c.lifecycle-lifecycle.ensures) is.progress.so_far;
+      containers = c.show.ensures pod c.args.greatest None phase.0 [] phase.1 (by_eviction None phase.0 false ((λ t. let w : false ≡ true = t in absurd (cc)), (λ w. let v : false ≡ true = w in absurd (cc))) tt) is;
+      class = c.qos_class.ensures;
+      requests = c.of.ensures;
+      usage = subst (λ (u : Usage). IsUsageOf pod None [] u) (sym c.nothing.ensures) (no_usage pod None);
+      priority = let fits : SFits w32 c.args.pod.now.priority = search rules in omega (arith, ints);
+      order = refl;
+    }

@@ -1,0 +1,40 @@
+-- What a piece keeps beside its history.
+use Rattle.std.specs.Prelude.{◌≡◌, ℕ, ◌≤◌, ◌<◌, List, length, Option, Some, None, IsTrue, IfSome, IsSomeAnd}
+use Rattle.state_diff.specs.declared.differ.Differ.{Differ}
+use Rattle.pod_state.specs.declared.events.PodEvent.{PodEvent}
+use Rattle.pod_state.specs.declared.state.PodState.{PodState}
+use Rattle.manifest.specs.declared.pod.PodSpec.{PodSpec}
+use Rattle.pod_state.specs.Pods.{PodTick, IsEnd}
+use Rattle.pod_state.specs.Lifecycles.{IsProgressOf}
+use Rattle.pod_state.specs.States.{before_of, IsStateOf}
+use Rattle.pod_piece.specs.declared.piece.Eviction.{Eviction}
+use Rattle.pod_piece.specs.declared.status.PodStatus.{PodStatus}
+use Rattle.pod_piece.specs.Piece.{Piece, before_last, last_of, ticks, evicted_at}
+use Rattle.pod_piece.specs.Listings.{IsNextTick, AreListed}
+use Rattle.pod_piece.specs.Status.{IsStatusOf, AreLastEvents}
+
+-- what may be said of the pod's eviction once all is known: what happened, or that it comes no
+-- earlier than place n
+abbrev pub MayBe : Option ℕ → ℕ → Option ℕ → Type 0
+MayBe None n None = Unit {0}
+MayBe None n (Some t) = n ≤ t
+MayBe (Some place) n evicted = evicted ≡ Some place
+
+-- the pod ended by its eviction, at this place
+pub record EndsAt (pod : PodSpec) (h : List PodTick) (place : ℕ) : Type 0 where
+  pub within : place < length h
+  pub is_end : IsEnd pod (Some place) h (Some place)
+
+-- the counters are the state of these ticks, whatever eviction is still to come
+pub record IsStateAfter (pod : PodSpec) (greatest : ℕ) (evicted : Option ℕ) (h : List PodTick) (state : PodState) : Type 0 where
+  pub ended : IfSome evicted (EndsAt pod h)
+  pub now : (e : Option ℕ) → MayBe evicted (length h) e → IsStateOf pod greatest e h state
+  pub before : evicted ≡ None → (e : Option ℕ) → MayBe None (length (before_last h)) e → IsProgressOf pod e (before_last h) (before_of state)
+
+-- the values beside the history are those that the history leaves
+pub record IsKept (p : Piece) (differs : List Differ) (state : PodState) (status : PodStatus) (events : List PodEvent) : Type 0 where
+  pub listed : AreListed p.pod p.handed differs
+  pub next : IsTrue p.is_pending → IsSomeAnd (last_of p.handed) (IsNextTick p.pod (before_last p.handed))
+  pub after : IsStateAfter p.pod p.greatest (evicted_at p) (ticks p) state
+  pub shown : IsStatusOf p status
+  pub made : AreLastEvents p events

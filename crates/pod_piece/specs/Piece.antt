@@ -1,0 +1,76 @@
+-- A pod, all that was handed to it, and its eviction.
+use Rattle.std.specs.Prelude.{◌≡◌, ℕ, ◌-◌, Bool, true, false, List, [], ◌∷◌, ◌++◌, length, map, take, slice_get, nat_lt, Option, Some, None, IsTrue, option_map, if◌then◌else◌}
+use Rattle.histories.specs.Histories.{last_moment}
+use Rattle.manifest.specs.declared.pod.PodSpec.{PodSpec}
+use Rattle.pod_state.specs.Pods.{PodTick, pod_tick, HasEnded}
+use Rattle.observations.specs.declared.pod.PodObs.{PodObs}
+use Rattle.pod_piece.specs.declared.order.EvictOrder.{EvictOrder}
+use Rattle.pod_piece.specs.declared.piece.Eviction.{Eviction}
+
+pub record Piece : Type 0 where
+  pub number : ℕ
+  pub pod : PodSpec
+  -- the node's greatest restart delay, in seconds
+  pub greatest : ℕ
+  -- every tick that was handed to it
+  pub handed : List PodTick
+  -- the last of them is still to come into its status
+  pub is_pending : Bool
+  pub eviction : Option Eviction
+
+-- one of these values, with its observations as ticks
+abbrev pub piece : ℕ → PodSpec → ℕ → List PodObs → Bool → Option Eviction → Piece
+piece number pod greatest history is_pending eviction = record {
+  number = number; pod = pod; greatest = greatest; handed = map pod_tick history; is_pending = is_pending; eviction = eviction;
+}
+
+-- all ticks but the last
+abbrev pub before_last : List PodTick → List PodTick
+before_last h = take (length h - 1) h
+
+-- the last one
+abbrev pub last_of : List PodTick → Option PodTick
+last_of h = slice_get h (length h - 1)
+
+-- the ticks that have come into its status
+abbrev pub taken : Bool → List PodTick → List PodTick
+taken true handed = before_last handed
+taken false handed = handed
+
+abbrev pub ticks : Piece → List PodTick
+ticks p = taken p.is_pending p.handed
+
+-- the place of the tick that evicts a pod
+abbrev pub place_of : Option Eviction → Option ℕ
+place_of eviction = option_map (λ (e : Eviction). e.place) eviction
+
+abbrev pub evicted_at : Piece → Option ℕ
+evicted_at p = place_of p.eviction
+
+-- the same, if that tick was before a place
+abbrev pub evicted_before : Option ℕ → ℕ → Option ℕ
+evicted_before None t = None
+evicted_before (Some place) t = if nat_lt place t then Some place else None
+
+-- it has not ended
+abbrev pub Lives : Piece → Type 0
+Lives p = HasEnded p.pod (evicted_at p) (ticks p) → ⊥
+
+-- a pod that nothing was handed to
+abbrev pub new_piece : ℕ → PodSpec → ℕ → Piece
+new_piece number pod greatest = record { number = number; pod = pod; greatest = greatest; handed = []; is_pending = false; eviction = None }
+
+-- one tick more is handed to it
+abbrev pub with_tick : Piece → PodTick → Piece
+with_tick p tick = record { number = p.number; pod = p.pod; greatest = p.greatest; handed = p.handed ++ tick ∷ []; is_pending = true; eviction = p.eviction }
+
+-- the tick that was handed to it has come into its status
+abbrev pub updated : Piece → Piece
+updated p = record { number = p.number; pod = p.pod; greatest = p.greatest; handed = p.handed; is_pending = false; eviction = p.eviction }
+
+-- its last tick evicts it
+abbrev pub with_eviction : Piece → EvictOrder → Piece
+with_eviction p order = record {
+  number = p.number; pod = p.pod; greatest = p.greatest; handed = p.handed; is_pending = p.is_pending;
+  eviction = Some (record { place = length p.handed - 1; order = order });
+}

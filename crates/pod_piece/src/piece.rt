@@ -1,0 +1,252 @@
+//! A pod with its history.
+
+ghost use Rattle.std.specs.Prelude.{◌≡◌, ◌↔◌, ◌^◌, ◌<◌, ℕ, [], length, map, Option, Some, None, false, IsTrue, IfOk, IfErr, OnOk, OnErr};
+ghost use Rattle.histories.specs.Histories.{last_moment};
+ghost use Rattle.pod_state.specs.Pods.{pod_tick};
+ghost use Rattle.pod_state.specs.States.{IsStateOf};
+ghost use Rattle.pod_piece.specs.Listings.{MayComeNext, IsNextTick};
+ghost use Rattle.pod_piece.specs.Piece.{Piece, ticks, Lives, new_piece, with_tick, updated, with_eviction};
+ghost use Rattle.pod_piece.specs.Status.{IsStatusOf, AreLastEvents};
+
+use crate::listings::{are_acceptable, first_differs, follow};
+use crate::order::EvictOrder;
+use crate::status::{EffectiveRequests, PodStatus};
+use crate::usage::{newer_while, nothing};
+use containers::ContainerStatus;
+use manifest::{MaxRestartDelay, PodSpec};
+use observations::PodObs;
+use phase::ContainerState;
+use pod_state::{PodEvent, PodState};
+use qos::qos_class;
+use state_diff::Differ;
+use std::alloc::{AllocError, Global};
+use std::marker::Model;
+
+/// The eviction of a pod: the place of its tick in the pod's history, and the order.
+#[derive(Clone, Copy, Debug, PartialEq, Eq)]
+pub(crate) struct Eviction {
+    pub(crate) place: usize,
+    pub(crate) order: EvictOrder,
+}
+
+/// One pod: its specification, all that was handed to it, and what the rules make of that. Its type
+/// keeps that every counter in it is the state of the history that it keeps.
+#[derive(Drop)]
+pub struct PodPiece {
+    alloc: Global,
+    number: usize,
+    pod: PodSpec,
+    greatest: MaxRestartDelay,
+    history: Vec<PodObs>,
+    is_pending: bool,
+    eviction: Option<Eviction>,
+    differs: Vec<Differ>,
+    state: PodState,
+    status: PodStatus,
+    events: Vec<PodEvent>,
+}
+
+impl Model for PodPiece {
+    ghost use Rattle.std.specs.Prelude.{map};
+    ghost use Rattle.pod_state.specs.Pods.{pod_tick};
+    ghost use Rattle.pod_piece.specs.Kept.{IsKept};
+    ghost use Rattle.pod_piece.specs.Piece.{Piece, piece};
+
+    ghost Value = { Piece };
+
+    ghost view = { λ p. piece p.number p.pod p.greatest p.history.items p.is_pending p.eviction };
+
+    ghost invariant = { λ p.
+        IsKept (piece p.number p.pod p.greatest p.history.items p.is_pending p.eviction)
+        p.differs.items p.state p.status p.events.items };
+}
+
+/// A piece whose update was refused for want of memory.
+#[derive(Drop)]
+pub struct Refused {
+    /// The piece as it was, still pending.
+    pub piece: PodPiece,
+}
+
+/// What a status shows of a container that was never listed.
+const UNLISTED: ContainerStatus = ContainerStatus {
+    state: ContainerState::Waiting,
+    code: None,
+    restarts: 0,
+    ready: false,
+    started: false,
+};
+
+/// What a pod shows that nothing was handed to.
+fn first_status(
+    alloc: Global,
+    number: usize,
+    pod: &PodSpec,
+    greatest: MaxRestartDelay,
+    state: &PodState,
+) -> Result<PodStatus, AllocError>
+    requires { (e : Option ℕ) → IsStateOf pod.now greatest e [] state.now }
+    ensures { IfOk result (IsStatusOf (new_piece number pod.now greatest)) }
+{
+    let count = pod.containers.as_slice().len();
+    let mut containers = vec![in alloc; UNLISTED; count]?;
+    state.show(false, &mut containers);
+    let lifecycle = state.lifecycle();
+    Ok(PodStatus {
+        number,
+        phase: lifecycle.phase,
+        conditions: lifecycle.conditions,
+        containers,
+        class: qos_class(pod),
+        requests: EffectiveRequests::of(pod),
+        usage: nothing(),
+        priority: pod.priority,
+        order: None,
+    })
+}
+
+impl PodPiece {
+    /// The pod with this number and specification, on a node with this greatest restart delay.
+    /// Nothing was handed to it yet.
+    pub fn new(
+        alloc: Global,
+        number: usize,
+        pod: PodSpec,
+        greatest: MaxRestartDelay,
+    ) -> Result<PodPiece, AllocError>
+        ensures { IfOk result (λ piece. piece ≡ new_piece number pod greatest) }
+    {
+        let differs = first_differs(alloc, pod.containers.as_slice().len())?;
+        let state = PodState::new(alloc, &pod, greatest)?;
+        let status = first_status(alloc, number, &pod, greatest, &state)?;
+        Ok(PodPiece {
+            alloc,
+            number,
+            pod,
+            greatest,
+            history: Vec::new(alloc),
+            is_pending: false,
+            eviction: None,
+            differs,
+            state,
+            status,
+            events: Vec::new(alloc),
+        })
+    }
+
+    /// Whether a tick was handed to it that has not come into its status yet.
+    pub fn pending(&self) -> bool
+        ensures { result ≡ self.now.is_pending }
+    {
+        self.is_pending
+    }
+
+    /// The ticks that have come into its status.
+    fn taken(&self) -> &[PodObs]
+        ensures { ticks self.now ≡ map pod_tick result.now }
+    {
+        if self.is_pending {
+            &self.history[..self.history.len() - 1]
+        } else {
+            &self.history
+        }
+    }
+
+    /// The moment of the last update's tick, in seconds; none before the first.
+    pub fn last_at(&self) -> Option<u64>
+        ensures { result ≡ last_moment (ticks self.now) }
+    {
+        match self.taken().last() {
+            Some(last) => Some(last.at),
+            None => None,
+        }
+    }
+
+    /// Whether the observation has one entry for each container, each with a listing that may come
+    /// after all earlier ones of its container.
+    pub fn accepts(&self, observed: &PodObs) -> bool
+        requires { self.now.is_pending ≡ false }
+        ensures { IsTrue result ↔ MayComeNext self.now.pod self.now.handed observed.now.containers }
+    {
+        observed.containers.as_slice().len() == self.pod.containers.as_slice().len()
+            && are_acceptable(&self.differs, observed)
+    }
+
+    /// Hands it what a tick shows of the pod. An `Err` changes nothing.
+    pub fn hand(&mut self, observed: PodObs) -> Result<(), AllocError>
+        requires free { self.old.is_pending ≡ false }
+        requires next { IsNextTick self.old.pod self.old.handed (pod_tick observed) }
+        ensures ok { OnOk result (self.new ≡ with_tick self.old (pod_tick observed)) }
+        ensures err { OnErr result (self.new ≡ self.old) }
+    {
+        self.history.push(observed)?;
+        let last = self.history.len() - 1;
+        follow(&mut self.differs, &self.history[last]);
+        self.is_pending = true;
+        Ok(())
+    }
+
+    /// Takes what was handed to it into its status. A refused growth of memory gives the piece back.
+    pub fn update(mut self) -> Result<PodPiece, Refused>
+        requires { IsTrue self.is_pending }
+        ensures ok { IfOk result (λ piece. piece ≡ updated self) }
+        ensures err { IfErr result (λ refused. refused.piece ≡ self) }
+    {
+        match self.take_last() {
+            Ok(()) => Ok(self),
+            Err(_) => Err(Refused { piece: self }),
+        }
+    }
+
+    /// Takes the last tick of its history into its status. An `Err` changes nothing.
+    fn take_last(&mut self) -> Result<(), AllocError>
+        requires { IsTrue self.old.is_pending }
+        ensures ok { OnOk result (self.new ≡ updated self.old) }
+        ensures err { OnErr result (self.new ≡ self.old) }
+    {
+        let last = self.history.len() - 1;
+        let observed = &self.history[last];
+        let had_ended = self.state.lifecycle().has_ended();
+        let events = self.state.take(self.alloc, self.pod.policy, observed)?;
+        self.status.usage = newer_while(!had_ended, self.status.usage, &observed.usage);
+        self.state
+            .show(self.eviction.is_some(), &mut self.status.containers);
+        let lifecycle = self.state.lifecycle();
+        self.status.phase = lifecycle.phase;
+        self.status.conditions = lifecycle.conditions;
+        self.events = events;
+        self.is_pending = false;
+        Ok(())
+    }
+
+    /// Evicts the pod by the tick that came last. It makes no event.
+    pub fn evict(&mut self, order: EvictOrder)
+        requires free { self.old.is_pending ≡ false }
+        requires lives { Lives self.old }
+        requires last { last_moment self.old.handed ≡ Some order.at }
+        ensures { self.new ≡ with_eviction self.old order }
+    {
+        self.state.evict(order.at);
+        self.state.show(true, &mut self.status.containers);
+        let lifecycle = self.state.lifecycle();
+        self.status.phase = lifecycle.phase;
+        self.status.conditions = lifecycle.conditions;
+        self.status.order = Some(order);
+        let place = self.history.len() - 1;
+        self.eviction = Some(Eviction { place, order });
+    }
+
+    /// Its status after the last update, or eviction.
+    pub fn status(&self) -> &PodStatus
+        ensures { IsStatusOf self.now result.now }
+    {
+        &self.status
+    }
+
+    /// The events of the last update.
+    pub fn events(&self) -> &[PodEvent]
+        ensures { AreLastEvents self.now result.now }
+    {
+        &self.events
+    }
+}

@@ -1,0 +1,53 @@
+//! What a pod used, by the newest sample of each resource.
+
+ghost use Rattle.std.specs.Prelude.{◌≡◌, option_map, if◌then◌else◌};
+ghost use Rattle.std.specs.Option.{option_or};
+ghost use Rattle.pod_piece.specs.Usage.{nothing, newer};
+
+use observations::Usage;
+use quantity::Quantity;
+
+/// No sample so far.
+pub(crate) fn nothing() -> Usage
+    ensures { result ≡ nothing }
+{
+    Usage {
+        memory: None,
+        volumes: None,
+        logs: None,
+        writable: None,
+        inodes: None,
+        pids: None,
+    }
+}
+
+/// The newer of two samples, if it is there.
+fn newer_of(old: Option<Quantity>, new: Option<Quantity>) -> Option<Quantity>
+    ensures { result ≡ option_or new old }
+{
+    new.or(old)
+}
+
+/// The newest samples, with those of a tick more, if that counts.
+pub(crate) fn newer_while(counts: bool, old: Usage, tick: &Option<Box<Usage>>) -> Usage
+    ensures { result ≡ (if counts then newer old (option_map (λ b. b.value) tick.now) else old) }
+{
+    if counts { newer(old, tick) } else { old }
+}
+
+/// The newest samples, with those of a tick more.
+fn newer(old: Usage, tick: &Option<Box<Usage>>) -> Usage
+    ensures { result ≡ newer old (option_map (λ b. b.value) tick.now) }
+{
+    match tick {
+        None => old,
+        Some(new) => Usage {
+            memory: newer_of(old.memory, new.memory),
+            volumes: newer_of(old.volumes, new.volumes),
+            logs: newer_of(old.logs, new.logs),
+            writable: newer_of(old.writable, new.writable),
+            inodes: newer_of(old.inodes, new.inodes),
+            pids: newer_of(old.pids, new.pids),
+        },
+    }
+}

@@ -1,0 +1,244 @@
+-- The end of a pod and its phase, after one more tick.
+use Rattle.std.proofs.Common.{◌≡◌, ◌⊎◌, inl, inr, ℕ, suc, ◌<◌, List, [], ◌∷◌, ◌++◌, length, Option, Some, None, refl, ap, subst, sym, ◌∙◌, arith}
+use Rattle.std.specs.Prelude.{◌↔◌, IsSomeAnd, All}
+use Rattle.std.proofs.lemmas.List.{length-take-le}
+use Rattle.histories.specs.Histories.{up_to, IsSo}
+use Rattle.histories.proofs.Places.{length-more, up_to-old, up_to-new}
+use Rattle.histories.proofs.First.{Grows, IsFirst-old, IsFirst-new, IsFirst-split, IsFirstPlace-unique, none_more}
+use Rattle.histories.proofs.Growth.{grows_so, so_last}
+use Rattle.phase.specs.declared.phase.Phase.{Phase}
+use Rattle.phase.specs.declared.phase.Phase.TheVariants.{Pending, Running, Succeeded, Failed}
+use Rattle.manifest.specs.declared.pod.PodSpec.{PodSpec}
+use Rattle.phase.specs.RawPhase.{IsTerminal, AreInitialized}
+use Rattle.pod_state.specs.Pods.{PodTick, facts, numbers, AllReady, IsRawPhaseAfter, EndsPod, IsEnd, counted, IsPhaseBy, IsPhase, IsInitialized, AreContainersReady, HasEnded, EndsEvicted}
+use Rattle.containers.specs.declared.container.Container.{Container}
+use Rattle.pod_state.specs.Containers.{AreContainersOf, AreKept}
+use Rattle.phase.proofs.PhaseLemmas.{where_same, IsRawPhase-unique}
+
+pub IsEnd-unique : (pod : PodSpec) (evicted : Option ℕ) (h : List PodTick) (o p : Option ℕ) → IsEnd pod evicted h o → IsEnd pod evicted h p → o ≡ p
+IsEnd-unique pod evicted h o p = IsFirstPlace-unique (IsSo (EndsPod pod evicted) h) o p
+
+pub some_more : (h : List PodTick) (x : PodTick) → h ++ x ∷ [] ≡ [] → ⊥
+some_more h x e = let n : length (h ++ x ∷ []) ≡ 0 = ap length e in absurd (omega (arith, length-more h x))
+
+pub raw_unique : (pod : PodSpec) (h : List PodTick) (p q : Phase) → IsRawPhaseAfter pod h p → IsRawPhaseAfter pod h q → p ≡ q
+raw_unique pod h p q = IsRawPhase-unique (facts pod h) pod.policy (numbers pod) p q
+
+-- there is one phase
+pub IsPhase-unique : (pod : PodSpec) (evicted : Option ℕ) (h : List PodTick) (p q : Phase) → IsPhase pod evicted h p → IsPhase pod evicted h q → p ≡ q
+IsPhase-unique pod evicted h p q (o, is, by) (o', is', by') =
+    let P : Option ℕ → Type 0 = λ e. IsPhaseBy pod evicted h e p in
+    where_same _ _ _ _ _ (λ a b. a ∙ sym b)
+    (where_same _ _ _ _ _ (λ a b. a ∙ sym b) (raw_unique pod (counted h o') p q))
+    (subst P (IsEnd-unique pod evicted h o o' is is') by) by'
+
+not_pending : (p : Phase) → p ≡ Pending → IsTerminal p → ⊥
+not_pending p is (inl e) = let x : Pending ≡ Succeeded = sym is ∙ e in cc
+not_pending p is (inr e) = let x : Pending ≡ Failed = sym is ∙ e in cc
+
+-- a phase is terminal or not
+pub terminal_cases : (p : Phase) → IsTerminal p ⊎ (IsTerminal p → ⊥)
+terminal_cases Succeeded = inl (inl refl)
+terminal_cases Failed = inl (inr refl)
+terminal_cases Pending = inr (λ w. elim w [ inl e ↦ cc | inr e ↦ cc ])
+terminal_cases Running = inr (λ w. elim w [ inl e ↦ cc | inr e ↦ cc ])
+
+evicted_at : (evicted : Option ℕ) (n m : ℕ) → n ≡ suc m → IsSomeAnd evicted (λ t. n ≡ suc t) → evicted ≡ Some m
+evicted_at None n m e q = absurd q
+evicted_at (Some t) n m e q = let x : t ≡ m = omega arith in ap (λ k. Some k) x
+
+evicted_now : (evicted : Option ℕ) (n m : ℕ) → n ≡ suc m → evicted ≡ Some m → IsSomeAnd evicted (λ t. n ≡ suc t)
+evicted_now evicted n m e is = rw is e
+
+-- a pod of a terminal phase has ended
+pub terminal_end : (pod : PodSpec) (evicted : Option ℕ) (h : List PodTick) (p : Phase) → IsPhase pod evicted h p → IsTerminal p
+    → (t : ℕ) × IsEnd pod evicted h (Some t)
+terminal_end pod evicted h p (Some t, end, by) term = (t, end)
+terminal_end pod evicted h p (None, end, inl w) term = absurd (not_pending p w.1 term)
+terminal_end pod evicted h p (None, end, inr (some, inl w)) term = absurd w.0
+terminal_end pod evicted h p (None, end, inr (some, inr w)) term =
+    let last = so_last (EndsPod pod evicted) h some (inl (p, term, w.1)) in absurd (end last.0 last.1)
+
+-- and a pod that has ended has a terminal phase
+ended_by : (pod : PodSpec) (evicted : Option ℕ) (h : List PodTick) (p : Phase) (t : ℕ) → IsEnd pod evicted h (Some t) → IsPhaseBy pod evicted h (Some t) p → IsTerminal p
+ended_by pod evicted h p t end (inl w) =
+    let lt : t < length h = end.holds.within in
+    let n : length h ≡ 0 = ap length w.0 in absurd (omega arith)
+ended_by pod evicted h p t end (inr (some, inl w)) = inr w.1
+ended_by pod evicted h p t end (inr (some, inr w)) = elim (end.holds.so) [
+  | inl q ↦ subst IsTerminal (raw_unique pod (up_to h t) q.0 p q.2 w.1) q.1
+  | inr e ↦ absurd (w.0 (evicted_at evicted (length (up_to h t)) t (length-take-le (suc t) h (let lt : t < length h = end.holds.within in omega arith)) e))
+]
+
+at_end : (pod : PodSpec) (evicted : Option ℕ) (h : List PodTick) (p : Phase) (t : ℕ) → IsPhase pod evicted h p → IsEnd pod evicted h (Some t) → IsPhaseBy pod evicted h (Some t) p
+at_end pod evicted h p t (o, end, by) e =
+    let P : Option ℕ → Type 0 = λ o. IsPhaseBy pod evicted h o p in
+    subst P (IsEnd-unique pod evicted h o (Some t) end e) by
+
+pub end_terminal : (pod : PodSpec) (evicted : Option ℕ) (h : List PodTick) (p : Phase) (t : ℕ) → IsPhase pod evicted h p → IsEnd pod evicted h (Some t) → IsTerminal p
+end_terminal pod evicted h p t is e = ended_by pod evicted h p t e (at_end pod evicted h p t is e)
+
+-- a pod of another phase hasn't ended
+pub lives : (pod : PodSpec) (evicted : Option ℕ) (h : List PodTick) (p : Phase) → IsPhase pod evicted h p → (IsTerminal p → ⊥) → IsEnd pod evicted h None
+lives pod evicted h p (None, end, by) not = end
+lives pod evicted h p (Some t, end, by) not = absurd (not (ended_by pod evicted h p t end by))
+
+-- a pod has ended exactly if its phase is terminal
+pub ended_is : (pod : PodSpec) (evicted : Option ℕ) (h : List PodTick) (p : Phase) → IsPhase pod evicted h p → (IsTerminal p ↔ HasEnded pod evicted h)
+ended_is pod evicted h p is = (terminal_end pod evicted h p is, (λ w. end_terminal pod evicted h p w.0 is w.1))
+
+-- one more tick
+grows : (pod : PodSpec) (evicted : Option ℕ) (h : List PodTick) (x : PodTick)
+    → Grows (length h) (IsSo (EndsPod pod evicted) h) (IsSo (EndsPod pod evicted) (h ++ x ∷ [])) (EndsPod pod evicted (h ++ x ∷ []))
+grows pod evicted h x = grows_so (EndsPod pod evicted) h x
+
+pub end_old : (pod : PodSpec) (evicted : Option ℕ) (h : List PodTick) (x : PodTick) (t : ℕ) → IsEnd pod evicted h (Some t) → IsEnd pod evicted (h ++ x ∷ []) (Some t)
+end_old pod evicted h x t end = IsFirst-old (length h) _ _ _ (grows pod evicted h x) t end
+
+-- a pod that has ended keeps its phase
+pub phase_ended : (pod : PodSpec) (evicted : Option ℕ) (h : List PodTick) (x : PodTick) (p : Phase) → IsPhase pod evicted h p → IsTerminal p → IsPhase pod evicted (h ++ x ∷ []) p
+phase_ended pod evicted h x p is term =
+    let w = terminal_end pod evicted h p is term in
+    let lt : w.0 < length h = w.1.holds.within in
+    let P : List PodTick → Type 0 = λ k. IsRawPhaseAfter pod k p in (
+      Some w.0,
+      end_old pod evicted h x w.0 w.1,
+      elim (at_end pod evicted h p w.0 is w.1) as (λ _. IsPhaseBy pod evicted (h ++ x ∷ []) (Some w.0) p) [
+        | inl none ↦ let n : length h ≡ 0 = ap length none.0 in absurd (omega arith)
+        | inr some ↦ inr (
+          some_more h x,
+          elim (some.1) [
+            | inl e ↦ inl e
+            | inr raw ↦ inr (raw.0, subst P (sym (up_to-old h x w.0 lt)) raw.1)
+          ],
+        )
+      ],
+    )
+
+-- an eviction ends it
+pub end_evicted : (pod : PodSpec) (evicted : Option ℕ) (h : List PodTick) (x : PodTick) (p : Phase) → IsPhase pod evicted h p → (IsTerminal p → ⊥)
+    → evicted ≡ Some (length h) → IsEnd pod evicted (h ++ x ∷ []) (Some (length h))
+end_evicted pod evicted h x p is not e =
+    IsFirst-new (length h) _ _ _ (grows pod evicted h x) (lives pod evicted h p is not) (inr (evicted_now evicted _ (length h) (length-more h x) e))
+
+pub phase_evicted : (pod : PodSpec) (evicted : Option ℕ) (h : List PodTick) (x : PodTick) (p : Phase) → IsPhase pod evicted h p → (IsTerminal p → ⊥)
+    → evicted ≡ Some (length h) → IsPhase pod evicted (h ++ x ∷ []) Failed
+phase_evicted pod evicted h x p is not e = (
+  Some (length h),
+  end_evicted pod evicted h x p is not e,
+  inr (some_more h x, inl (e, refl)),
+)
+
+-- else the phase is that of its containers
+pub phase_lives : (pod : PodSpec) (evicted : Option ℕ) (h : List PodTick) (x : PodTick) (p q : Phase) → IsPhase pod evicted h p → (IsTerminal p → ⊥)
+    → (evicted ≡ Some (length h) → ⊥) → IsRawPhaseAfter pod (h ++ x ∷ []) q → IsPhase pod evicted (h ++ x ∷ []) q
+phase_lives pod evicted h x p q is not stays raw =
+    let P : List PodTick → Type 0 = λ k. IsRawPhaseAfter pod k q in
+    elim (terminal_cases q) as (λ _. IsPhase pod evicted (h ++ x ∷ []) q) [
+      | inl term ↦ (
+        Some (length h),
+        IsFirst-new (length h) _ _ _ (grows pod evicted h x) (lives pod evicted h p is not) (inl (q, term, raw)),
+        inr (some_more h x, inr (stays, subst P (sym (up_to-new h x)) raw)),
+      )
+      | inr goes_on ↦ (
+        None,
+        none_more (length h) _ _ _ (grows pod evicted h x) (lives pod evicted h p is not) (λ ends. elim ends [
+          | inl w ↦ goes_on (subst IsTerminal (raw_unique pod (h ++ x ∷ []) w.0 q w.2 raw) w.1)
+          | inr e ↦ stays (evicted_at evicted _ (length h) (length-more h x) e)
+        ]),
+        inr (some_more h x, inr ((λ e. e), raw)),
+      )
+    ]
+
+-- the init containers of a pod that has ended stay as they are
+pub initialized_ended : (pod : PodSpec) (evicted : Option ℕ) (h : List PodTick) (x : PodTick) (t : ℕ) → IsEnd pod evicted h (Some t)
+    → (IsInitialized pod evicted h ↔ IsInitialized pod evicted (h ++ x ∷ []))
+initialized_ended pod evicted h x t end =
+    let P : List PodTick → Type 0 = λ k. AreInitialized (facts pod k) (numbers pod) in
+    let Q : Option ℕ → Type 0 = λ o. P (counted h o) in
+    let R : Option ℕ → Type 0 = λ o. P (counted (h ++ x ∷ []) o) in
+    let same : up_to (h ++ x ∷ []) t ≡ up_to h t = up_to-old h x t end.holds.within in
+    let later = end_old pod evicted h x t end in (
+      (λ w. (Some t, later, subst P (sym same) (subst Q (IsEnd-unique pod evicted h w.0 (Some t) w.1 end) w.2))),
+      (λ w. (Some t, end, subst P same (subst R (IsEnd-unique pod evicted (h ++ x ∷ []) w.0 (Some t) w.1 later) w.2))),
+    )
+
+-- all ticks count of a pod that hadn't ended before the last
+pub counted_all : (pod : PodSpec) (evicted : Option ℕ) (h : List PodTick) (x : PodTick) → IsEnd pod evicted h None → (o : Option ℕ) → IsEnd pod evicted (h ++ x ∷ []) o
+    → counted (h ++ x ∷ []) o ≡ h ++ x ∷ []
+counted_all pod evicted h x none None end = refl
+counted_all pod evicted h x none (Some t) end =
+    elim (IsFirst-split (length h) _ _ _ (grows pod evicted h x) t end) [
+      | inl old ↦ absurd (none t old.holds)
+      | inr w ↦ let P : ℕ → Type 0 = λ k. up_to (h ++ x ∷ []) k ≡ h ++ x ∷ [] in subst P (sym w.0) (up_to-new h x)
+    ]
+
+-- the phase of a pod that hadn't ended and is not evicted is that of its containers
+pub phase_raw : (pod : PodSpec) (evicted : Option ℕ) (h : List PodTick) (x : PodTick) (p q : Phase) → IsPhase pod evicted h p → (IsTerminal p → ⊥)
+    → (evicted ≡ Some (length h) → ⊥) → IsPhase pod evicted (h ++ x ∷ []) q → IsRawPhaseAfter pod (h ++ x ∷ []) q
+phase_raw pod evicted h x p q is not stays (end, is_end, by) = elim by [
+  | inl w ↦ absurd (some_more h x w.0)
+  | inr v ↦ elim v.1 [
+    | inl w ↦ absurd (ends_elsewhere end is_end w.0)
+    | inr w ↦ subst (λ k. IsRawPhaseAfter pod k q) (counted_all pod evicted h x (lives pod evicted h p is not) end is_end) w.1
+  ]
+]
+  where
+    ends_elsewhere : (end : Option ℕ) → IsEnd pod evicted (h ++ x ∷ []) end → EndsEvicted evicted end → ⊥
+    ends_elsewhere None is_end evicted_there = evicted_there
+    ends_elsewhere (Some t) is_end evicted_there =
+        elim (IsFirst-split (length h) _ _ _ (grows pod evicted h x) t is_end) [
+          | inl old ↦ lives pod evicted h p is not t old.holds
+          | inr w ↦ stays (evicted_there ∙ ap Some w.0)
+        ]
+
+pub initialized_lives : (pod : PodSpec) (evicted : Option ℕ) (h : List PodTick) (x : PodTick) (p q : Phase) → IsPhase pod evicted h p → (IsTerminal p → ⊥)
+    → IsPhase pod evicted (h ++ x ∷ []) q
+    → (IsInitialized pod evicted (h ++ x ∷ []) ↔ AreInitialized (facts pod (h ++ x ∷ [])) (numbers pod))
+initialized_lives pod evicted h x p q is not next =
+    let P : List PodTick → Type 0 = λ k. AreInitialized (facts pod k) (numbers pod) in
+    let none = lives pod evicted h p is not in (
+      (λ w. subst P (counted_all pod evicted h x none w.0 w.1) w.2),
+      (λ all. (next.0, next.1, subst P (sym (counted_all pod evicted h x none next.0 next.1)) all)),
+    )
+
+-- the containers are ready where the pod hasn't ended and each that serves is
+pub ready_is : (pod : PodSpec) (evicted : Option ℕ) (h : List PodTick) (x : PodTick) (q : Phase) → IsPhase pod evicted (h ++ x ∷ []) q
+    → (AreContainersReady pod evicted (h ++ x ∷ []) ↔ ((IsTerminal q → ⊥) × AllReady pod (h ++ x ∷ [])))
+ready_is pod evicted h x q is = (
+  (λ w. ((λ term. let e = terminal_end pod evicted (h ++ x ∷ []) q is term in w.1 e.0 e.1.holds), w.2)),
+  (λ w. (some_more h x, lives pod evicted (h ++ x ∷ []) q is w.0, w.1)),
+)
+
+-- as long as the pod hasn't ended the containers that are kept are those after all ticks
+pub kept_all : (pod : PodSpec) (greatest : ℕ) (evicted : Option ℕ) (h : List PodTick) (p : Phase) (containers : List Container) → IsPhase pod evicted h p → (IsTerminal p → ⊥)
+    → AreKept pod greatest evicted h containers → AreContainersOf pod greatest h containers
+kept_all pod greatest evicted h p containers is not are =
+    let P : Option ℕ → Type 0 = λ o. AreContainersOf pod greatest (counted h o) containers in
+    subst P (IsEnd-unique pod evicted h are.end None are.is_end (lives pod evicted h p is not)) are.kept
+
+-- once the pod has ended they stay
+pub kept_ended : (pod : PodSpec) (greatest : ℕ) (evicted : Option ℕ) (h : List PodTick) (x : PodTick) (p : Phase) (containers : List Container) → IsPhase pod evicted h p → IsTerminal p
+    → AreKept pod greatest evicted h containers → AreKept pod greatest evicted (h ++ x ∷ []) containers
+kept_ended pod greatest evicted h x p containers is term are =
+    let w = terminal_end pod evicted h p is term in
+    let e : are.end ≡ Some w.0 = IsEnd-unique pod evicted h are.end (Some w.0) are.is_end w.1 in
+    let P : Option ℕ → Type 0 = λ o. AreContainersOf pod greatest (counted h o) containers in
+    let Q : List PodTick → Type 0 = λ k. AreContainersOf pod greatest k containers in
+    record {
+      end = Some w.0;
+      is_end = end_old pod evicted h x w.0 w.1;
+      kept = subst Q (sym (up_to-old h x w.0 w.1.holds.within)) (subst P e are.kept);
+    }
+
+-- and until then those after all ticks are kept
+pub kept_lives : (pod : PodSpec) (greatest : ℕ) (evicted : Option ℕ) (h : List PodTick) (x : PodTick) (p q : Phase) (containers : List Container) → IsPhase pod evicted h p → (IsTerminal p → ⊥)
+    → IsPhase pod evicted (h ++ x ∷ []) q → AreContainersOf pod greatest (h ++ x ∷ []) containers → AreKept pod greatest evicted (h ++ x ∷ []) containers
+kept_lives pod greatest evicted h x p q containers is not next are =
+    let none = lives pod evicted h p is not in
+    let Q : List PodTick → Type 0 = λ k. AreContainersOf pod greatest k containers in
+    record { end = next.0; is_end = next.1; kept = subst Q (sym (counted_all pod evicted h x none next.0 next.1)) are }
+
+-- before any tick
+pub kept_none : (pod : PodSpec) (greatest : ℕ) (evicted : Option ℕ) (containers : List Container) → AreContainersOf pod greatest [] containers → AreKept pod greatest evicted [] containers
+kept_none pod greatest evicted containers are = record { end = None; is_end = λ t s. let lt : t < 0 = s.within in absurd (omega arith); kept = are }

@@ -1,0 +1,34 @@
+use Rattle.std.proofs.Common.{◌≡◌, ◌∙◌, ◌+◌, ℕ, ◌<◌, List, length, get_or, slice_index_or, sym, subst, arith}
+use Rattle.std.specs.Prelude.{IsTrue}
+use Rattle.manifest.specs.declared.pod.PodSpec.{PodSpec}
+use Rattle.containers.specs.declared.status.ContainerStatus.{ContainerStatus}
+use Rattle.containers.specs.declared.container.Container.{Container}
+use Rattle.std.proofs.lemmas.List.{length-set}
+use Rattle.histories.proofs.Items.{set_each}
+use Rattle.pod_state.specs.Pods.{PodTick}
+use Rattle.pod_state.specs.Containers.{IsContainerOf, IsShownOf}
+use Rattle.pod_state.proofs.ContainerLemmas.{item_at_any, some_item, shown_is}
+use Rattle.pod_state.proofs.following.show.Goals as goal
+
+pub loop-number-preserved : goal.loop-number-preserved
+loop-number-preserved c =
+    let n = c.loop-number.number in
+    let so_far = c.loop-number.invariant in
+    let P : ℕ → ContainerStatus → Type 0 = λ k s. (e : Container) (pod : PodSpec) (greatest : ℕ) (h : List PodTick)
+    → IsContainerOf pod greatest h k (slice_index_or c.args.containers.now k e) → IsShownOf pod (IsTrue c.args.is_evicted) h k s in
+    let here : P n c.status.result = λ e pod greatest h is.
+    shown_is pod greatest n h c.index-containers-number.result (IsTrue c.args.is_evicted) c.status.result (λ spec k st. c.status.ensures spec greatest k st)
+    (item_at_any c.args.containers.now n c.index-containers-number.result c.loop-number-test.true c.index-containers-number.is (λ x. IsContainerOf pod greatest h n x) e is) in
+    let all = set_each P c.loop-number.statuses.items c.status.result n (omega (arith, so_far.as_many, c.loop-number-test.true)) (λ k d lt e. so_far.each k d e lt) here in
+    record {
+      as_many = length-set c.loop-number.statuses.items n c.status.result ∙ so_far.as_many;
+      each = λ k d e lt. all k d lt e;
+    }
+
+pub returns : goal.returns
+returns c = λ pod greatest h are. record {
+  as_many = omega (arith, c.loop-number.invariant.as_many, are.as_many);
+  each = λ n d lt.
+      let e = some_item c.args.containers.now n (omega (arith, are.as_many)) in
+      c.loop-number.invariant.each n d e (omega (arith, are.as_many)) pod greatest h (are.each n e lt);
+}

@@ -1,0 +1,5 @@
+use Rattle.pod_state.proofs.LawLemmas as laws
+use Rattle.pod_state.proofs.laws.one_raw_phase.Goals as goal
+
+pub returns : goal.returns
+returns c = laws.one_raw_phase

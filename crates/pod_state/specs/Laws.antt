@@ -1,0 +1,72 @@
+-- Laws of phases, conditions and container states, over the definitions alone.
+use Rattle.std.specs.Prelude.{◌≡◌, ◌⊎◌, ◌↔◌, ◌-◌, ◌≤◌, ℕ, suc, List, [], ◌++◌, length, Option, Some}
+use Rattle.histories.specs.Histories.{IsSo, IsRising, moment_at}
+use Rattle.manifest.specs.declared.pod.PodSpec.{PodSpec}
+use Rattle.phase.specs.declared.phase.Phase.{Phase}
+use Rattle.phase.specs.declared.view.ContainerView.{ContainerView}
+use Rattle.phase.specs.RawPhase.{IsTerminal}
+use Rattle.pod_state.specs.declared.lifecycle.Lifecycle.{Lifecycle}
+use Rattle.containers.specs.declared.status.ContainerStatus.{ContainerStatus}
+use Rattle.pod_state.specs.declared.events.PodEvent.{PodEvent}
+use Rattle.pod_state.specs.Events.{AreEventsOf}
+use Rattle.pod_state.specs.Pods.{PodTick, HasEnded, AreViewsOf, IsRawPhaseAfter, IsPhase, IsInitialized, AreContainersReady}
+use Rattle.pod_state.specs.Lifecycles.{IsLifecycleOf}
+use Rattle.pod_state.specs.Containers.{IsContainerStatus}
+
+-- of the listings of which each container has a view there is one raw phase, and no other
+pub record OneRawPhase : Type 0 where
+  pub some : (pod : PodSpec) (h : List PodTick) (views : List ContainerView) → AreViewsOf pod h views
+      → (p : Phase) × IsRawPhaseAfter pod h p
+  pub no_other : (pod : PodSpec) (h : List PodTick) (p q : Phase) → IsRawPhaseAfter pod h p
+      → IsRawPhaseAfter pod h q → p ≡ q
+
+-- there is at most one phase
+abbrev pub OnePhase : Type 0
+OnePhase = (pod : PodSpec) (evicted : Option ℕ) (h : List PodTick) (p q : Phase) → IsPhase pod evicted h p
+    → IsPhase pod evicted h q → p ≡ q
+
+-- a pod that has succeeded or failed keeps that phase, and no other, whatever ticks come later
+pub record EndedStaysEnded : Type 0 where
+  pub keeps : (pod : PodSpec) (evicted : Option ℕ) (h later : List PodTick) (p : Phase)
+      → IsPhase pod evicted h p → IsTerminal p → IsPhase pod evicted (h ++ later) p
+  pub no_other : (pod : PodSpec) (evicted : Option ℕ) (h later : List PodTick) (p q : Phase)
+      → IsPhase pod evicted h p → IsTerminal p → IsPhase pod evicted (h ++ later) q → q ≡ p
+
+-- m is the moment of a tick, which is the first, or C was otherwise one tick before; and where
+-- moments rise it isn't later than the last tick's
+pub record ChangesAt (h : List PodTick) (C : List PodTick → Type 0) (m : ℕ) : Type 0 where
+  pub place : ℕ
+  pub moment : moment_at h place ≡ Some m
+  pub change : (place ≡ 0) ⊎ ((u : ℕ) × (place ≡ suc u) × ((IsSo C h u ↔ IsSo C h place) → ⊥))
+  pub not_later : (last : ℕ) → IsRising h → moment_at h (length h - 1) ≡ Some last → m ≤ last
+
+-- a transition moment is that of a tick that changed the condition, or of the first
+pub record TransitionsAreChanges : Type 0 where
+  pub pod_scheduled : (pod : PodSpec) (evicted : Option ℕ) (h : List PodTick) (status : Lifecycle) (m : ℕ)
+      → IsLifecycleOf pod evicted h status
+      → status.conditions.pod_scheduled.since ≡ Some m → ChangesAt h (λ _. Unit {0}) m
+  pub initialized : (pod : PodSpec) (evicted : Option ℕ) (h : List PodTick) (status : Lifecycle) (m : ℕ)
+      → IsLifecycleOf pod evicted h status
+      → status.conditions.initialized.since ≡ Some m → ChangesAt h (IsInitialized pod evicted) m
+  pub containers_ready : (pod : PodSpec) (evicted : Option ℕ) (h : List PodTick) (status : Lifecycle) (m : ℕ)
+      → IsLifecycleOf pod evicted h status
+      → status.conditions.containers_ready.since ≡ Some m → ChangesAt h (AreContainersReady pod evicted) m
+
+-- there is at most one phase with conditions of a pod, and one status of each of its containers
+pub record OneStatus : Type 0 where
+  pub of_pod : (pod : PodSpec) (evicted : Option ℕ) (h : List PodTick) (s t : Lifecycle)
+      → IsLifecycleOf pod evicted h s → IsLifecycleOf pod evicted h t → s ≡ t
+  pub of_container : (pod : PodSpec) (evicted : Option ℕ) (h : List PodTick) (container : ℕ) (s t : ContainerStatus)
+      → IsContainerStatus pod evicted h container s → IsContainerStatus pod evicted h container t → s ≡ t
+
+-- a pod that has ended makes no events, whatever its containers do
+abbrev pub NoEventsAfterTheEnd : Type 0
+NoEventsAfterTheEnd =
+    (pod : PodSpec) (greatest : ℕ) (evicted : Option ℕ) (before : List PodTick) (tick : PodTick) (events : List PodEvent)
+    → HasEnded pod evicted before → AreEventsOf pod greatest evicted before tick events → events ≡ []
+
+-- the events of a tick are determined, with their order
+abbrev pub OneListOfEvents : Type 0
+OneListOfEvents =
+    (pod : PodSpec) (greatest : ℕ) (evicted : Option ℕ) (before : List PodTick) (tick : PodTick) (events others : List PodEvent)
+    → AreEventsOf pod greatest evicted before tick events → AreEventsOf pod greatest evicted before tick others → events ≡ others

@@ -1,0 +1,6 @@
+pub mod Pods
+pub mod Containers
+pub mod Lifecycles
+pub mod States
+pub mod Events
+pub mod Laws

@@ -1,0 +1,97 @@
+//! The events of a tick, one pod's containers after the other.
+
+ghost use Rattle.std.specs.Prelude.{◌≡◌, ◌≢◌, ◌↔◌, ◌++◌, ◌∷◌, [], Some, None, OnOk, IfOk};
+ghost use Rattle.containers.specs.declared.what.What.{What};
+ghost use Rattle.containers.specs.declared.what.What.TheVariants as whats;
+ghost use Rattle.pod_state.specs.Events.{restart_in, places_in, events_at, events_from};
+
+use containers::{ContainerEvents, What};
+use phase::Phase;
+use std::alloc::{AllocError, Global};
+
+/// What happened to a pod, or to one of its containers.
+#[derive(Clone, Copy, Debug, PartialEq, Eq)]
+pub struct PodEvent {
+    /// The container's number; none where it happened to the pod.
+    pub container: Option<usize>,
+    /// What happened.
+    pub what: What,
+}
+
+/// A restart, in a pod that a tick leaves in this phase.
+fn restart_in(phase: Phase, restart: Option<What>) -> Option<What>
+    ensures { result ≡ restart_in phase restart }
+{
+    match phase {
+        Phase::Pending | Phase::Running => restart,
+        Phase::Succeeded | Phase::Failed => None,
+    }
+}
+
+/// The places of a container's events, in a pod that the tick leaves in this phase.
+fn places_in(phase: Phase, made: &ContainerEvents) -> [Option<What>; 8]
+    ensures { result ≡ places_in phase made.now }
+{
+    let mut in_pod = *made;
+    in_pod.restart = restart_in(phase, made.restart);
+    in_pod.in_order()
+}
+
+/// Adds the event of a place, if there is one.
+fn add_event(
+    events: &mut Vec<PodEvent>,
+    container: Option<usize>,
+    place: Option<What>,
+) -> Result<(), AllocError>
+    ensures { OnOk result (events.new.items ≡ events.old.items ++ events_at container (place ∷ [])) }
+{
+    if let Some(what) = place {
+        events.push(PodEvent { container, what })?;
+    }
+    Ok(())
+}
+
+/// Adds the events of these places.
+fn add_events(
+    events: &mut Vec<PodEvent>,
+    container: Option<usize>,
+    places: &[Option<What>],
+) -> Result<(), AllocError>
+    ensures { OnOk result (events.new.items ≡ events.old.items ++ events_at container places.now) }
+{
+    for place in places {
+        let place = *place;
+        add_event(events, container, place)?;
+    }
+    Ok(())
+}
+
+/// The pod's new phase, if it is another than the old one.
+pub(crate) fn phase_event(old: Phase, new: Phase) -> Option<What>
+    ensures { (what : What) → ((result ≡ Some what) ↔ ((what ≡ whats.Phase new) × (old ≢ new))) }
+{
+    if old == new {
+        None
+    } else {
+        Some(What::Phase(new))
+    }
+}
+
+/// The events of a tick that makes this of the containers, leaves the pod in the phase, and has
+/// this event of the pod itself.
+pub(crate) fn events_of(
+    alloc: Global,
+    made: &[ContainerEvents],
+    phase: Phase,
+    change: Option<What>,
+) -> Result<Vec<PodEvent>, AllocError>
+    ensures { IfOk result (λ v. v.items ≡ events_from phase 0 made.now ++ events_at None (change ∷ [])) }
+{
+    let mut events = Vec::new(alloc);
+    for (number, container) in made.iter().enumerate() {
+        let places = places_in(phase, container);
+        add_events(&mut events, Some(number), &places)?;
+    }
+    add_events(&mut events, None, &[change])?;
+    Ok(events)
+}

@@ -1,0 +1,38 @@
+//! What the definitions of phases, conditions, container states and events imply. The functions do nothing;
+//! their contracts are the laws.
+ghost use Rattle.pod_state.specs.Laws.{OneRawPhase, OnePhase, EndedStaysEnded, TransitionsAreChanges, OneStatus, NoEventsAfterTheEnd, OneListOfEvents};
+
+/// Of the listings of a pod there is one raw phase, and no other.
+pub fn one_raw_phase()
+    ensures { OneRawPhase }
+{}
+
+/// There is at most one phase.
+pub fn one_phase()
+    ensures { OnePhase }
+{}
+
+/// A pod that has succeeded or failed keeps its phase.
+pub fn ended_stays_ended()
+    ensures { EndedStaysEnded }
+{}
+
+/// A transition moment is that of a change, or of the first tick.
+pub fn transitions_are_changes()
+    ensures { TransitionsAreChanges }
+{}
+
+/// There is at most one status of a pod, and of each of its containers.
+pub fn one_status()
+    ensures { OneStatus }
+{}
+
+/// A pod that has ended makes no events.
+pub fn no_events_after_the_end()
+    ensures { NoEventsAfterTheEnd }
+{}
+
+/// There is at most one list of a pod's events at a tick.
+pub fn one_list_of_events()
+    ensures { OneListOfEvents }
+{}

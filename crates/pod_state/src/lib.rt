@@ -1,0 +1,14 @@
+//! What the ticks make of one pod: its phase, its conditions and the statuses of its containers.
+//! (Kubernetes, "Pod Lifecycle".)
+#![tactic(auto)]
+
+mod events;
+mod following;
+pub mod laws;
+mod lifecycle;
+mod state;
+
+pub use containers::{ContainerStatus, What};
+pub use events::PodEvent;
+pub use lifecycle::Lifecycle;
+pub use state::PodState;

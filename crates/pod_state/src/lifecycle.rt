@@ -1,0 +1,125 @@
+ghost use Rattle.std.specs.Prelude.{◌≡◌, ◌↔◌, ℕ, List, [], ◌∷◌, ◌++◌, length, Option, Some, None, IsTrue};
+ghost use Rattle.histories.specs.Histories.{recorded};
+ghost use Rattle.manifest.specs.declared.pod.PodSpec.{PodSpec};
+ghost use Rattle.phase.specs.Facts.{of_view};
+ghost use Rattle.phase.specs.RawPhase.{IsTerminal, AreInitialized};
+ghost use Rattle.pod_state.specs.Pods.{PodEntry, PodTick, HasEnded, AreViewsOf};
+ghost use Rattle.pod_state.specs.Lifecycles.{IsLifecycleOf, IsProgressOf, IsNextPhase, IsNext};
+
+use manifest::Policy;
+use phase::{Conditions, ContainerView, Phase, Values, are_initialized, raw_phase};
+
+/// A pod's phase and conditions, from tick to tick. A pod that has succeeded, failed or been
+/// evicted has ended: from then on it keeps its phase, whatever its containers do. (Kubernetes,
+/// "Pod Lifecycle", "Pod phase" and "Pod conditions".)
+#[derive(Clone, Copy, Debug, PartialEq, Eq)]
+pub struct Lifecycle {
+    /// The phase.
+    pub phase: Phase,
+    /// The conditions, each with the moment of its last transition.
+    pub conditions: Conditions,
+}
+
+impl Lifecycle {
+    /// That of a pod that no tick has shown yet, with these containers.
+    pub fn new(containers: &[ContainerView]) -> Self
+        ensures { (pod : PodSpec) (evicted : Option ℕ) → AreViewsOf pod [] containers.now
+            → IsProgressOf pod evicted [] result }
+    {
+        Lifecycle {
+            phase: Phase::Pending,
+            conditions: Conditions::new(!are_initialized(containers)),
+        }
+    }
+
+    /// Whether the pod has ended: it has succeeded, failed or been evicted.
+    pub fn has_ended(&self) -> bool
+        ensures terminal { IsTrue result ↔ IsTerminal self.now.phase }
+        ensures ended { (pod : PodSpec) (evicted : Option ℕ) (h : List PodTick)
+            → IsLifecycleOf pod evicted h self.now → (IsTrue result ↔ HasEnded pod evicted h) }
+    {
+        self.phase.is_terminal()
+    }
+
+    /// The phase after a tick.
+    fn next_phase(&self, policy: Policy, containers: &[ContainerView], is_evicted: bool) -> Phase
+        ensures { IsNextPhase policy containers.now is_evicted self.now.phase result }
+    {
+        if self.phase.is_terminal() {
+            self.phase
+        } else if is_evicted {
+            Phase::Failed
+        } else {
+            raw_phase(policy, containers)
+        }
+    }
+
+    /// Whether the pod is initialized after a tick.
+    fn next_initialized(&self, containers: &[ContainerView]) -> bool
+        ensures ended { IsTerminal self.now.phase → result ≡ self.now.conditions.initialized.value }
+        ensures lives { (IsTerminal self.now.phase → ⊥)
+            → (IsTrue result ↔ AreInitialized of_view containers.now) }
+    {
+        if self.phase.is_terminal() {
+            self.conditions.initialized.value
+        } else {
+            are_initialized(containers)
+        }
+    }
+
+    /// A tick comes, at the moment, in seconds, after which the containers are as these views show
+    /// them; `ready` says whether all app containers and sidecars are ready after it, and
+    /// `is_evicted` whether it evicts the pod. Once the pod has ended, the containers are not
+    /// looked at.
+    pub fn advance(
+        &mut self,
+        policy: Policy,
+        at: u64,
+        containers: &[ContainerView],
+        ready: bool,
+        is_evicted: bool,
+    )
+        ensures { IsNext policy at containers.now ready is_evicted self.old self.new }
+    {
+        let phase = self.next_phase(policy, containers, is_evicted);
+        let values = Values {
+            initialized: self.next_initialized(containers),
+            containers_ready: are_ready(phase, ready),
+        };
+        self.phase = phase;
+        self.conditions.advance(at, values);
+    }
+}
+
+impl Lifecycle {
+    /// The lifecycle of a pod that the last tick, at the moment, evicts. This one is from before that
+    /// tick, and `updated` from after it where it doesn't evict: what only that made true, and the
+    /// eviction false again, was never true.
+    pub(crate) fn evicted(&self, at: u64, updated: &Lifecycle) -> Lifecycle
+        requires { IsTerminal updated.now.phase → ⊥ }
+        ensures { (pod : PodSpec) (h : List PodTick) (entry : PodEntry)
+            → IsLifecycleOf pod None h self.now
+            → IsLifecycleOf pod None (h ++ recorded at entry ∷ []) updated.now
+            → IsProgressOf pod (Some (length h)) h self.now
+            → IsProgressOf pod (Some (length h)) (h ++ recorded at entry ∷ []) result }
+    {
+        let values = Values {
+            initialized: updated.conditions.initialized.value,
+            containers_ready: false,
+        };
+        let mut conditions = self.conditions;
+        conditions.advance(at, values);
+        Lifecycle {
+            phase: Phase::Failed,
+            conditions,
+        }
+    }
+}
+
+/// Whether the containers of a pod of this phase are ready, where the flag says that all app
+/// containers and sidecars are.
+fn are_ready(phase: Phase, all_ready: bool) -> bool
+    ensures { IsTrue result ↔ ((IsTerminal phase → ⊥) × IsTrue all_ready) }
+{
+    !phase.is_terminal() && all_ready
+}

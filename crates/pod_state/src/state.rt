@@ -1,0 +1,128 @@
+ghost use Rattle.std.specs.Prelude.{◌≡◌, ◌↔◌, ◌^◌, ◌<◌, ℕ, List, [], ◌∷◌, ◌++◌, length, Option, Some, None, IsTrue, IfOk, OnOk, OnErr};
+ghost use Rattle.histories.specs.Histories.{recorded};
+ghost use Rattle.manifest.specs.declared.pod.PodSpec.{PodSpec};
+ghost use Rattle.phase.specs.RawPhase.{IsTerminal};
+ghost use Rattle.pod_state.specs.Pods.{PodEntry, PodTick, pod_tick, IsEnd, EndsEvicted};
+ghost use Rattle.pod_state.specs.Containers.{AreStatusesOf};
+ghost use Rattle.pod_state.specs.Events.{AreEventsOf};
+ghost use Rattle.pod_state.specs.Lifecycles.{IsLifecycleOf, IsProgressOf};
+ghost use Rattle.pod_state.specs.States.{before_of, HasContainers, IsStateOf, MayFollow};
+
+use crate::events::{PodEvent, events_of, phase_event};
+use crate::following::{all_ready, first_containers, next_containers, show, views_of};
+use crate::lifecycle::Lifecycle;
+use containers::{Container, ContainerStatus};
+use manifest::{MaxRestartDelay, PodSpec, Policy};
+use observations::PodObs;
+use std::alloc::{AllocError, Global};
+
+/// A pod as its ticks so far leave it: its containers, its phase and its conditions. It keeps none
+/// of the ticks. (Kubernetes, "Pod Lifecycle".)
+#[derive(Drop)]
+pub struct PodState {
+    containers: Vec<Container>,
+    lifecycle: Lifecycle,
+    /// From before the last tick.
+    before: Lifecycle,
+}
+
+impl PodState {
+    /// A pod that no tick has shown yet, on a node with this greatest restart delay.
+    pub fn new(
+        alloc: Global,
+        spec: &PodSpec,
+        greatest: MaxRestartDelay,
+    ) -> Result<PodState, AllocError>
+        ensures state { IfOk result (λ state. (evicted : Option ℕ) → IsStateOf spec.now greatest evicted [] state) }
+        ensures before { IfOk result (λ state. (evicted : Option ℕ) → IsProgressOf spec.now evicted [] (before_of state)) }
+    {
+        let containers = first_containers(alloc, spec.containers.as_slice(), greatest)?;
+        let views = views_of(alloc, &containers)?;
+        let lifecycle = Lifecycle::new(&views);
+        Ok(PodState {
+            containers,
+            lifecycle,
+            before: lifecycle,
+        })
+    }
+
+    /// The phase and the conditions.
+    pub fn lifecycle(&self) -> Lifecycle
+        ensures { result ≡ self.now.lifecycle }
+    {
+        self.lifecycle
+    }
+
+    /// A tick comes, which doesn't evict the pod and shows this of it, at a moment below 2^40: the
+    /// events of the tick. Once the pod has ended, only the tick's moment is looked at. An `Err`
+    /// changes nothing.
+    pub fn take(
+        &mut self,
+        alloc: Global,
+        policy: Policy,
+        observed: &PodObs,
+    ) -> Result<Vec<PodEvent>, AllocError>
+        requires follows { MayFollow self.old observed.now.at observed.now.containers }
+        requires bounded { observed.now.at < 2 ^ 40 }
+        ensures ok { OnOk result ((pod : PodSpec) (greatest : ℕ) (evicted : Option ℕ) (h : List PodTick)
+            → pod.policy ≡ policy
+            → (evicted ≡ Some (length h) → ⊥)
+            → IsStateOf pod greatest evicted h self.old
+            → IsStateOf pod greatest evicted (h ++ pod_tick observed.now ∷ []) self.new) }
+        ensures before { OnOk result (before_of self.new ≡ self.old.lifecycle) }
+        ensures events { IfOk result (λ v. (pod : PodSpec) (greatest : ℕ) (evicted : Option ℕ) (h : List PodTick)
+            → pod.policy ≡ policy
+            → (evicted ≡ Some (length h) → ⊥)
+            → IsStateOf pod greatest evicted h self.old
+            → AreEventsOf pod greatest evicted h (pod_tick observed.now) v.items) }
+        ensures err { OnErr result (self.new ≡ self.old) }
+    {
+        let mut lifecycle = self.lifecycle;
+        if lifecycle.has_ended() {
+            lifecycle.advance(policy, observed.at, &[], false, false);
+            self.before = self.lifecycle;
+            self.lifecycle = lifecycle;
+            return Ok(Vec::new(alloc));
+        }
+        let next = next_containers(alloc, &self.containers, policy, observed)?;
+        let views = views_of(alloc, &next.containers)?;
+        let ready = all_ready(&next.containers);
+        lifecycle.advance(policy, observed.at, &views, ready, false);
+        let change = phase_event(self.lifecycle.phase, lifecycle.phase);
+        let events = events_of(alloc, &next.made, lifecycle.phase, change)?;
+        self.before = self.lifecycle;
+        self.containers = next.containers;
+        self.lifecycle = lifecycle;
+        Ok(events)
+    }
+
+    /// The pod is evicted by the tick that came last, at the moment. It makes no event.
+    pub fn evict(&mut self, at: u64)
+        requires { IsTerminal self.old.lifecycle.phase → ⊥ }
+        ensures state { (pod : PodSpec) (greatest : ℕ) (h : List PodTick) (entry : PodEntry)
+            → IsLifecycleOf pod None h (before_of self.old)
+            → IsProgressOf pod (Some (length h)) h (before_of self.old)
+            → IsStateOf pod greatest None (h ++ recorded at entry ∷ []) self.old
+            → IsStateOf pod greatest (Some (length h)) (h ++ recorded at entry ∷ []) self.new }
+        ensures ends { (pod : PodSpec) (greatest : ℕ) (h : List PodTick) (entry : PodEntry)
+            → IsLifecycleOf pod None h (before_of self.old)
+            → IsProgressOf pod (Some (length h)) h (before_of self.old)
+            → IsStateOf pod greatest None (h ++ recorded at entry ∷ []) self.old
+            → IsEnd pod (Some (length h)) (h ++ recorded at entry ∷ []) (Some (length h)) }
+    {
+        self.lifecycle = self.before.evicted(at, &self.lifecycle);
+    }
+
+    /// Writes the status of each container, by number, in its place; `is_evicted` says whether the
+    /// pod has ended by its eviction.
+    pub fn show(&self, is_evicted: bool, statuses: &mut Vec<ContainerStatus>)
+        requires { HasContainers (length statuses.old.items) self.now }
+        ensures { (pod : PodSpec) (greatest : ℕ) (evicted end : Option ℕ) (h : List PodTick)
+            → IsEnd pod evicted h end
+            → (IsTrue is_evicted ↔ EndsEvicted evicted end)
+            → IsStateOf pod greatest evicted h self.now
+            → AreStatusesOf pod evicted h statuses.new.items }
+    {
+        show(&self.containers, is_evicted, statuses);
+    }
+}
