@@ -2,7 +2,7 @@
 #![tactic(auto)]
 
 mod fault;
-mod follow;
+mod pieces;
 pub mod laws;
 mod replay;
 mod report;

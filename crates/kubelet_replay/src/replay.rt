@@ -41,7 +41,7 @@ fn report_of_text(alloc: Global, text: &[u8]) -> Result<String, RunFault>
     ensures err { IfErr result (RefusesText text.now) }
 {
     match read_trace(alloc, text) {
-        Ok(trace) => match report_of(alloc, &trace) {
+        Ok(trace) => match report_of(alloc, trace) {
             Ok(report) => Ok(report),
             Err(_) => Err(RunFault::OutOfMemory),
         },
