@@ -4,5 +4,6 @@ pub mod PodHistory
 pub mod Pieces
 pub mod Lines
 pub mod Report
+pub mod Samples
 pub mod Run
 pub mod Laws

@@ -6,6 +6,7 @@ mod pieces;
 pub mod laws;
 mod replay;
 mod report;
+mod samples;
 mod text;
 
 pub use fault::{RunFault, fault_line, status_of};
