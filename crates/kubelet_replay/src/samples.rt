@@ -24,7 +24,7 @@ fn has_value(values: &BySignal<Option<Quantity>>) -> bool
 fn some_usage(pods: &[PodObs]) -> bool
     ensures { result ≡ list_any has_usage pods.now }
 {
-    pods.iter().any(|shown| shown.usage.is_some())
+    pods.iter().any(|shown| shown.usage.usage().is_some())
 }
 
 /// Whether the tick has a sample of a signal, or of a pod's usage.

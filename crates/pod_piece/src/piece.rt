@@ -215,7 +215,7 @@ impl PodPiece {
         let observed = &self.history[last];
         let had_ended = self.state.lifecycle().has_ended();
         let events = self.state.take(self.alloc, self.pod.policy, observed)?;
-        self.status.usage = newer_while(!had_ended, self.status.usage, &observed.usage);
+        self.status.usage = newer_while(!had_ended, self.status.usage, observed.usage.usage());
         self.state
             .show(self.eviction.is_some(), &mut self.status.containers);
         let lifecycle = self.state.lifecycle();

@@ -1,6 +1,6 @@
 //! What a pod used, by the newest sample of each resource.
 
-ghost use Rattle.std.specs.Prelude.{◌≡◌, option_map, if◌then◌else◌};
+ghost use Rattle.std.specs.Prelude.{◌≡◌, if◌then◌else◌};
 ghost use Rattle.std.specs.Option.{option_or};
 ghost use Rattle.pod_piece.specs.Usage.{nothing, newer};
 
@@ -29,17 +29,17 @@ fn newer_of(old: Option<Quantity>, new: Option<Quantity>) -> Option<Quantity>
 }
 
 /// The newest samples, with those of a tick more, if that counts.
-pub(crate) fn newer_while(counts: bool, old: Usage, tick: &Option<Box<Usage>>) -> Usage
-    ensures { result ≡ (if counts then newer old (option_map (λ b. b.value) tick.now) else old) }
+pub(crate) fn newer_while(counts: bool, old: Usage, sample: Option<Usage>) -> Usage
+    ensures { result ≡ (if counts then newer old sample else old) }
 {
-    if counts { newer(old, tick) } else { old }
+    if counts { newer(old, sample) } else { old }
 }
 
 /// The newest samples, with those of a tick more.
-fn newer(old: Usage, tick: &Option<Box<Usage>>) -> Usage
-    ensures { result ≡ newer old (option_map (λ b. b.value) tick.now) }
+fn newer(old: Usage, sample: Option<Usage>) -> Usage
+    ensures { result ≡ newer old sample }
 {
-    match tick {
+    match sample {
         None => old,
         Some(new) => Usage {
             memory: newer_of(old.memory, new.memory),

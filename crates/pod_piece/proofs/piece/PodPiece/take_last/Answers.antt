@@ -1,12 +1,12 @@
 use Rattle.std.proofs.Common.{◌≡◌, ◌∙◌, ◌++◌, ◌∷◌, [], ℕ, suc, List, length, map, Bool, Option, Some, true, false, refl, ap, sym, subst, arith}
-use Rattle.std.specs.Prelude.{◌↔◌, IsTrue, IsSome}
+use Rattle.std.specs.Prelude.{◌↔◌, IsTrue, IsSome, not, if◌then◌else◌}
 use Rattle.observations.specs.declared.usage.Usage.{Usage}
 use Rattle.pod_state.specs.declared.lifecycle.Lifecycle.{Lifecycle}
 use Rattle.pod_state.specs.Pods.{PodTick, pod_tick, HasEnded}
 use Rattle.pod_state.specs.Lifecycles.{IsLifecycleOf, IsProgressOf}
 use Rattle.pod_piece.specs.Kept.{IsKept}
 use Rattle.pod_piece.specs.Listings.{IsNextTick}
-use Rattle.pod_piece.specs.Usage.{IsUsageOf}
+use Rattle.pod_piece.specs.Usage.{IsUsageOf, newer}
 use Rattle.pod_piece.specs.Piece.{Piece, piece, before_last, last_of, place_of}
 use Rattle.pod_piece.proofs.PieceLemmas.{observed_last, some_last, of_last, state_pending, may_self, may_take, has_containers, kept_updated, state_more, by_eviction, end_is, flag_says, at_last}
 use Rattle.pod_piece.proofs.UsageLemmas.{usage_more}
@@ -62,7 +62,8 @@ invariant_of-self-2 c =
       class = shown.class;
       requests = shown.requests;
       usage = subst (λ (u : Usage). IsUsageOf i.pod e k u) (sym c.newer_while-self-inside.ensures)
-          (usage_more i.pod e phase.0 h (pod_tick observed) i.status.usage c.has_ended-had_ended.result shown.usage (c.has_ended-had_ended.ensures.ended i.pod e h was) phase.1);
+          (subst (λ (o : Option Usage). IsUsageOf i.pod e k (if not c.has_ended-had_ended.result then newer i.status.usage o else i.status.usage)) (sym c.usage.ensures)
+          (usage_more i.pod e phase.0 h (pod_tick observed) i.status.usage c.has_ended-had_ended.result shown.usage (c.has_ended-had_ended.ensures.ended i.pod e h was) phase.1));
       priority = shown.priority;
       order = shown.order;
     })
