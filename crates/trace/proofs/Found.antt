@@ -1,22 +1,15 @@
 -- What serde_json found, in the words of the definitions.
-use Rattle.std.proofs.Common.{◌≡◌, ◌⊎◌, List, ℕ, map, Option, Some, None, Ok, Err, ap, refl, sym, subst, inl, inr}
+use Rattle.std.proofs.Common.{◌≡◌, ◌⊎◌, List, ℕ, Some, None, Ok, Err, refl, sym, subst, inl, inr}
 use Rattle.std.specs.Prelude.{MatchBool}
 use Rattle.std.specs.Str.{IsUtf8, is_utf8}
 use Rattle.std.proofs.lemmas.Bool.{cases_Bool}
 use Rattle.std.proofs.lemmas.Str.{IsUtf8-from_is_utf8, is_utf8-from_IsUtf8}
-use Rattle.serde_json.specs.Data.{Data, Items}
+use Rattle.serde_json.specs.Data.{Data}
 use Rattle.serde_json.specs.Read.{read}
-use Rattle.serde_json.specs.View.{view, items_view}
-use Rattle.serde_json.specs.declared.value.Value.{Value}
-use Rattle.json_fields.proofs.Items.{items_list-items_of}
 use Rattle.trace.specs.declared.fault.FaultKind.{FaultKind}
 use Rattle.trace.specs.declared.fault.FaultKind.TheVariants.{NotJson, OutOfMemory}
 use Rattle.trace.specs.Gives.{is_memory}
-use Rattle.trace.specs.Listings.{items_from}
 use Rattle.trace.specs.Trace.{json_of}
-
-pub items_found : (vs : List Value) (found : Option Items) → Some (items_view vs) ≡ found → items_from found ≡ Ok (map view vs)
-items_found vs found e = rw (← e) (ap Ok (items_list-items_of (map view vs)))
 
 pub json_found : (line : List ℕ) (d : Data) → IsUtf8 line → read line ≡ Some d → json_of line ≡ Ok d
 unfolding json_of

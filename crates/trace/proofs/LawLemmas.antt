@@ -5,6 +5,7 @@ pub mod Kinds
 pub mod Listings
 pub mod Results
 pub mod Strangers
+pub mod Usages
 use Rattle.std.proofs.Common.{◌≡◌, ◌∙◌, ◌⊎◌, ℕ, zero, suc, ◌+◌, ◌≤◌, ◌<◌, true, false, List, [], ◌∷◌, ◌++◌, length, drop, get_or, slice_get, Option, Some, None, Result, Ok, Err, refl, ap, sym, subst, inl, inr, arith, is_some, drop-cons}
 use Rattle.std.specs.Prelude.{⊤, ◌-◌, nat_lt, nat_le, codes}
 use Rattle.std.proofs.Math.Seq.{drop-length}
@@ -19,20 +20,19 @@ use Rattle.manifest.specs.declared.pod.PodSpec.{PodSpec}
 use Rattle.trace.specs.declared.fault.FaultKind.{FaultKind}
 use Rattle.trace.specs.declared.fault.FaultKind.TheVariants.{TooLong, DuplicatePod, UnknownKind, Order, TooMany}
 use Rattle.trace.specs.declared.fault.LineFault.{LineFault}
-use Rattle.trace.specs.declared.node.NodeConfig.{NodeConfig}
+use Rattle.node_config.specs.declared.node.NodeConfig.{NodeConfig}
 use Rattle.trace.specs.declared.past.Trace.{Trace}
 use Rattle.trace.specs.declared.past.LineKind.{LineKind}
 use Rattle.trace.specs.declared.past.LineKind.TheVariants as kinds
 use Rattle.observations.specs.declared.tick.TickObs.{TickObs}
-use Rattle.trace.specs.declared.listing.Entry.{Entry}
+use Rattle.tick_lines.specs.declared.line.TickLine.{TickLine}
 use Rattle.trace.specs.declared.placing.PlacedEntry.{PlacedEntry}
 use Rattle.trace.specs.Lines.{lines_of, is_blank, longest_line}
-use Rattle.trace.specs.Node.{node_of}
+use Rattle.trace.specs.Written.{node_in, tick_line_in}
 use Rattle.serde_json.specs.Read.{read}
 use Rattle.trace.specs.Pod.{key_of_pod, has_key, most_pods, pod_from}
-use Rattle.trace.specs.Listings.{entries_of}
 use Rattle.trace.specs.Placing.{placed_of}
-use Rattle.trace.specs.declared.node.Version.{Version}
+use Rattle.node_config.specs.declared.node.Version.{Version}
 use Rattle.trace.specs.Past.{Past, version_in, of_node, with_pod, with_tick}
 use Rattle.trace.specs.Tick.{moment_of, most_ticks, observed_in, tick_at}
 use Rattle.trace.specs.Trace.{json_of, kind_from, with_node, is_late, pod_line_at, in_order, line_at, at_line, finished, read_on, nothing, trace_of}
@@ -108,7 +108,7 @@ unfolding with_node
 with_node_some past d next e =
     let with : NodeConfig → Past = of_node past in
     let last : NodeConfig → Result Past FaultKind = λ node. Ok (with node) in
-    let node = bind_ok (node_of d) last next e in
+    let node = bind_ok (node_in d) last next e in
     let given : Ok (with node.0) ≡ Ok next = node.2 in
     let is_next : with node.0 ≡ next = cc in
     subst (λ (p : Past). is_some p.node ≡ true) is_next refl
@@ -132,15 +132,15 @@ tick_line_keeps : (past : Past) (d : Data) (next : Past) → tick_at past d ≡ 
 unfolding tick_at
 tick_line_keeps past d next e =
     let last : TickObs → Result Past FaultKind = λ t. Ok (with_tick past t) in
-    let seen : ℕ → List PlacedEntry → Result Past FaultKind = λ at ps. observed_in past at ps >>= last in
-    let place : ℕ → List Entry → Result Past FaultKind = λ at es. placed_of past.pods es >>= seen at in
-    let list : ℕ → Result Past FaultKind = λ at. entries_of d >>= place at in
+    let seen : ℕ → TickLine → List PlacedEntry → Result Past FaultKind = λ at w ps. observed_in past at w ps >>= last in
+    let place : ℕ → TickLine → Result Past FaultKind = λ at w. placed_of past.pods w.entries >>= seen at w in
+    let list : ℕ → Result Past FaultKind = λ at. tick_line_in d >>= place at in
     let moment : ⊤ → Result Past FaultKind = λ u. moment_of past.ticks (field_at (codes "at") d) >>= list in
     let room = bind_ok (refused_if (nat_le most_ticks (length past.ticks)) TooMany) moment next e in
     let at = bind_ok (moment_of past.ticks (field_at (codes "at") d)) list next room.2 in
-    let entries = bind_ok (entries_of d) (place at.0) next at.2 in
-    let placed = bind_ok (placed_of past.pods entries.0) (seen at.0) next entries.2 in
-    let tick = bind_ok (observed_in past at.0 placed.0) last next placed.2 in
+    let written = bind_ok (tick_line_in d) (place at.0) next at.2 in
+    let placed = bind_ok (placed_of past.pods written.0.entries) (seen at.0 written.0) next written.2 in
+    let tick = bind_ok (observed_in past at.0 written.0 placed.0) last next placed.2 in
     let given : Ok (with_tick past tick.0) ≡ Ok next = tick.2 in
     let is_next : with_tick past tick.0 ≡ next = cc in
     ap (λ (p : Past). p.node) {x = with_tick past tick.0} is_next

@@ -2,7 +2,7 @@
 use Rattle.std.proofs.Common.{◌≡◌, ℕ, zero, suc, List, length, Option, Some, Ok, sym, subst, inl, inr}
 use Rattle.manifest.specs.declared.pod.PodSpec.{PodSpec}
 use Rattle.observations.specs.declared.tick.TickObs.{TickObs}
-use Rattle.trace.specs.declared.node.NodeConfig.{NodeConfig}
+use Rattle.node_config.specs.declared.node.NodeConfig.{NodeConfig}
 use Rattle.trace.specs.declared.past.Trace.{Trace}
 use Rattle.trace.specs.Lines.{lines_of}
 use Rattle.trace.specs.Past.{Past}

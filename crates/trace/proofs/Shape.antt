@@ -8,6 +8,7 @@ use Rattle.manifest.specs.declared.pod.PodSpec.{PodSpec}
 use Rattle.observations.specs.declared.tick.TickObs.{TickObs}
 use Rattle.trace.specs.declared.fault.LineFault.{LineFault}
 use Rattle.trace.specs.declared.past.Trace.{Trace}
+use Rattle.tick_lines.specs.declared.line.TickLine.{TickLine}
 use Rattle.trace.specs.declared.placing.PlacedEntry.{PlacedEntry}
 use Rattle.trace.specs.Gives.{GivesAt}
 use Rattle.trace.specs.Laws.{HasKey, Says, says_node, says_pod, says_tick}
@@ -57,8 +58,8 @@ present_before (a ∷ rest) arrival t zero lt is = is
 present_before (a ∷ rest) arrival t (suc n) lt is = present_before rest arrival t n lt is
 
 -- what a tick shows of the pods
-shows_each : (at : ℕ) (es : List PlacedEntry) (pods : List PodSpec) (arrivals : List ℕ) (t : ℕ) → AreArrivals (length pods) t arrivals → ShowsEach pods arrivals t (observed at es pods)
-shows_each at es pods arrivals t all = record {
+shows_each : (at : ℕ) (written : TickLine) (es : List PlacedEntry) (pods : List PodSpec) (arrivals : List ℕ) (t : ℕ) → AreArrivals (length pods) t arrivals → ShowsEach pods arrivals t (observed at written es pods)
+shows_each at written es pods arrivals t all = record {
   present = λ n. (
     λ lt. present_all arrivals t n all.in_range (omega (arith, as_many at es 0 pods, all.as_many)),
     λ is. let within = present_within arrivals t n is in omega (arith, as_many at es 0 pods, all.as_many),
@@ -135,14 +136,14 @@ line_keeps past line _ all (says_pod d pod is new) = record {
   few_pods = one_more past.pods pod most_pods is.room;
   own_keys = apart_more past.pods pod all.own_keys new;
 }
-line_keeps past line _ all (says_tick d at placed is coded) =
-    let now = observed at placed past.pods in
-    let has = is.is_apart.has_places.has_entries.has_moment in
+line_keeps past line _ all (says_tick d at written placed is coded) =
+    let now = observed at written placed past.pods in
+    let has = is.is_apart.has_places.has_written.has_moment in
     record {
       shown = λ t tick here. elim (pushed_at past.ticks now tick t here) [
         | inl before ↦ all.shown t tick before
         | inr last ↦
-            let here = shows_each at placed past.pods past.arrivals (length past.ticks) all.arrived in
+            let here = shows_each at written placed past.pods past.arrivals (length past.ticks) all.arrived in
             subst (λ (u : ℕ). ShowsEach past.pods past.arrivals u tick) (sym last.0) (subst (ShowsEach past.pods past.arrivals (length past.ticks)) last.1 here)
       ];
       arrived = record {

@@ -6,6 +6,7 @@ use Rattle.manifest.specs.declared.pod.PodSpec.{PodSpec}
 use Rattle.observations.specs.declared.pod.PodObs.{PodObs}
 use Rattle.observations.specs.declared.tick.TickObs.{TickObs}
 use Rattle.following.specs.Followed.{EndBefore, ComesNext}
+use Rattle.tick_lines.specs.declared.line.TickLine.{TickLine}
 use Rattle.trace.specs.declared.placing.PlacedEntry.{PlacedEntry}
 use Rattle.trace.specs.declared.placing.PlacedListing.{PlacedListing}
 use Rattle.trace.specs.declared.placing.PlacedResult.{PlacedResult}
@@ -43,6 +44,6 @@ count_shown at es n (p ∷ ps) zero pod shown here e =
 count_shown at es n (p ∷ ps) (suc k) pod shown here e = count_shown at es (n + 1) ps k pod shown here e
 
 -- it may stand behind ticks of these pods that end before it
-pub comes_next : (ticks : List TickObs) (at : ℕ) (es : List PlacedEntry) (pods : List PodSpec) → EndBefore ticks at
-    → ComesNext ticks (container_counts pods) (observed at es pods)
-comes_next ticks at es pods later = record { containers = pods_shown at es 0 pods; moment = moment_shown at es 0 pods; later = later }
+pub comes_next : (ticks : List TickObs) (at : ℕ) (written : TickLine) (es : List PlacedEntry) (pods : List PodSpec) → EndBefore ticks at
+    → ComesNext ticks (container_counts pods) (observed at written es pods)
+comes_next ticks at written es pods later = record { containers = pods_shown at es 0 pods; moment = moment_shown at es 0 pods; later = later }

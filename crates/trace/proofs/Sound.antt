@@ -52,9 +52,9 @@ tick_acceptable ticks tick all e pod container = after (shown_of tick pod) refl
 line_sound : (past : Past) (line : List ℕ) (next : Past) → IsSound past → Says past line next → IsSound next
 line_sound past line _ all (says_node d node is e) = record { acceptable = all.acceptable; rising = all.rising }
 line_sound past line _ all (says_pod d pod is new) = record { acceptable = all.acceptable; rising = all.rising }
-line_sound past line _ all (says_tick d at placed is coded) =
-    let tick = observed at placed past.pods in
-    let later = moment_later past.ticks (field_at (codes "at") d) at is.is_apart.has_places.has_entries.has_moment.moment in
+line_sound past line _ all (says_tick d at written placed is coded) =
+    let tick = observed at written placed past.pods in
+    let later = moment_later past.ticks (field_at (codes "at") d) at is.is_apart.has_places.has_written.has_moment.moment in
     record { acceptable = tick_acceptable past.ticks tick all.acceptable is.forwards; rising = rising-more past.ticks tick all.rising later }
 
 kept : IsKept IsSound

@@ -1,8 +1,8 @@
 -- The version of the format, and the node.
 use Rattle.std.proofs.Common.{◌≡◌, true, Option, Some, None, is_some, refl}
 use Rattle.std.specs.Prelude.{option_map}
-use Rattle.trace.specs.declared.node.NodeConfig.{NodeConfig}
-use Rattle.trace.specs.declared.node.Version.{Version}
+use Rattle.node_config.specs.declared.node.NodeConfig.{NodeConfig}
+use Rattle.node_config.specs.declared.node.Version.{Version}
 
 -- without a version there is no node
 pub no_node : (node : Option NodeConfig) → option_map (λ (n : NodeConfig). n.version) node ≡ None → node ≡ None

@@ -1,42 +1,48 @@
 -- What the trace of a text is, in the words of its format. The lines of a text have the places 0,
 -- 1, .. and, in an answer, the numbers 1, 2, ...
-use Rattle.std.specs.Prelude.{◌≡◌, ◌≢◌, ◌⊎◌, ◌↔◌, ◌+◌, ◌≤◌, ◌<◌, ℕ, zero, suc, true, false, List, [], length, slice_get, Option, Some, None, is_some, IsSomeAnd, Ok, Err, codes}
+use Rattle.std.specs.Prelude.{◌≡◌, ◌≢◌, ◌⊎◌, ◌↔◌, ◌+◌, ◌≤◌, ◌<◌, ℕ, zero, suc, true, false, List, [], length, slice_get, Option, Some, None, is_some, option_and_then, IsSomeAnd, Ok, Err, codes}
 use Rattle.serde_json.specs.Data.{Data}
 use Rattle.json_fields.specs.Fields.{field_at, text_at}
 use Rattle.trace.specs.declared.fault.FaultKind.{FaultKind}
-use Rattle.trace.specs.declared.fault.FaultKind.TheVariants.{TooLong, NotJson, UnknownKind, Order, Manifest, Config, DuplicatePod, StrangerPod, StrangerContainer, Doubled, Moment, Backwards, ExitCode, TooMany, Usage, OutOfMemory}
+use Rattle.trace.specs.declared.fault.FaultKind.TheVariants.{TooLong, NotJson, UnknownKind, Order, Manifest, Config, SoftWithoutGrace, DuplicatePod, StrangerPod, StrangerContainer, Doubled, Moment, Backwards, ExitCode, TooMany, Usage, OutOfMemory}
 use Rattle.trace.specs.declared.fault.LineFault.{LineFault}
 use Rattle.trace.specs.declared.past.Trace.{Trace}
 use Rattle.trace.specs.declared.past.LineKind.{LineKind}
 use Rattle.trace.specs.declared.past.LineKind.TheVariants as kinds
-use Rattle.trace.specs.declared.listing.Listing.{Listing}
-use Rattle.trace.specs.declared.listing.Entry.{Entry}
-use Rattle.trace.specs.declared.probing.ProbeResult.{ProbeResult}
+use Rattle.tick_lines.specs.declared.listing.Listing.{Listing}
+use Rattle.tick_lines.specs.declared.entry.Entry.{Entry}
+use Rattle.tick_lines.specs.declared.probing.ProbeResult.{ProbeResult}
 use Rattle.name_list.specs.Names.{place_of}
 use Rattle.manifest.specs.Containers.{names_of}
 use Rattle.manifest.specs.declared.outcome.Outcome.{Outcome}
 use Rattle.manifest.specs.declared.outcome.ProbeKind.{ProbeKind}
-use Rattle.trace.specs.declared.listing.ListedInstance.{ListedInstance}
+use Rattle.tick_lines.specs.declared.listing.ListedInstance.{ListedInstance}
+use Rattle.tick_lines.specs.declared.line.TickLine.{TickLine}
+use Rattle.tick_lines.specs.Laws.{IsSample}
+use Rattle.signals.specs.declared.signal.Signal.{Signal}
+use Rattle.signals.specs.Signals.{name_of}
+use Rattle.signals.specs.BySignal.{of}
 use Rattle.trace.specs.declared.placing.PlacedListing.{PlacedListing}
 use Rattle.trace.specs.declared.placing.PlacedResult.{PlacedResult}
 use Rattle.trace.specs.declared.placing.PlacedEntry.{PlacedEntry}
 use Rattle.trace.specs.Lines.{lines_of, is_blank, longest_line}
-use Rattle.trace.specs.Node.{node_of}
+use Rattle.trace.specs.Written.{node_in, tick_line_in}
 use Rattle.trace.specs.Pod.{key_of_pod, keys_of, most_pods, pod_from}
-use Rattle.trace.specs.Listings.{entries_of}
-use Rattle.trace.specs.Placing.{placed_of, has_twice, are_of_one_probe, is_doubled}
+use Rattle.trace.specs.Placing.{placed_of, has_twice, are_of_one_pod, are_of_one_probe, is_doubled}
 use Rattle.trace.specs.Observed.{seen_listed, outcome_in, observed, some_code_missing}
 use Rattle.following.specs.Backwards.{is_backwards}
 use Rattle.manifest.specs.declared.fault.ManifestFault.{ManifestFault}
 use Rattle.manifest.specs.declared.fault.ManifestFault.TheVariants as manifest_faults
 use Rattle.manifest.specs.declared.pod.PodSpec.{PodSpec}
+use Rattle.observations.specs.declared.pod.PodObs.{PodObs}
 use Rattle.observations.specs.declared.tick.TickObs.{TickObs}
+use Rattle.observations.specs.declared.usage.Usage.{Usage as PodUsage}
 use Rattle.observations.specs.Observations.{seen_of, history}
 use Rattle.state_diff.specs.declared.seen.Seen.{Seen}
 use Rattle.state_diff.specs.Instances.{IsAcceptable}
-use Rattle.trace.specs.declared.node.NodeConfig.{NodeConfig}
-use Rattle.trace.specs.declared.node.Version.{Version}
-use Rattle.trace.specs.declared.node.Version.TheVariants.{One, Two}
+use Rattle.node_config.specs.declared.node.NodeConfig.{NodeConfig}
+use Rattle.node_config.specs.declared.node.Version.{Version}
+use Rattle.node_config.specs.declared.node.Version.TheVariants.{One, Two}
 use Rattle.trace.specs.Past.{Past, version_in, of_node, with_pod, with_tick}
 use Rattle.trace.specs.Tick.{moment_of, most_ticks}
 use Rattle.trace.specs.Trace.{json_of, kind_from, line_at, nothing, trace_of}
@@ -136,26 +142,25 @@ pub record HasMoment (past : Past) (line : List ℕ) (d : Data) (at : ℕ) : Typ
   pub room : length past.ticks < most_ticks
   pub moment : moment_of past.ticks (field_at (codes "at") d) ≡ Ok at
 
--- and with these entries
-pub record HasEntries (past : Past) (line : List ℕ) (d : Data) (at : ℕ) (entries : List Entry) : Type 0 where
+-- and with this written beside it
+pub record HasWritten (past : Past) (line : List ℕ) (d : Data) (at : ℕ) (written : TickLine) : Type 0 where
   pub has_moment : HasMoment past line d at
-  pub entries_are : entries_of d ≡ Ok entries
+  pub written_is : tick_line_in d ≡ Ok written
 
--- which are of pods and containers that are known
-pub record HasPlaces (past : Past) (line : List ℕ) (d : Data) (at : ℕ) (placed : List PlacedEntry) : Type 0 where
-  pub entries : List Entry
-  pub has_entries : HasEntries past line d at entries
-  pub placed_are : placed_of past.pods entries ≡ Ok placed
+-- whose entries are of pods and containers that are known
+pub record HasPlaces (past : Past) (line : List ℕ) (d : Data) (at : ℕ) (written : TickLine) (placed : List PlacedEntry) : Type 0 where
+  pub has_written : HasWritten past line d at written
+  pub placed_are : placed_of past.pods written.entries ≡ Ok placed
 
 -- no two of them are of one pod, and none has a container or a probe twice
-pub record IsApart (past : Past) (line : List ℕ) (d : Data) (at : ℕ) (placed : List PlacedEntry) : Type 0 where
-  pub has_places : HasPlaces past line d at placed
+pub record IsApart (past : Past) (line : List ℕ) (d : Data) (at : ℕ) (written : TickLine) (placed : List PlacedEntry) : Type 0 where
+  pub has_places : HasPlaces past line d at written placed
   pub apart : is_doubled placed ≡ false
 
 -- and none of them goes back behind an earlier one
-pub record IsForwards (past : Past) (line : List ℕ) (d : Data) (at : ℕ) (placed : List PlacedEntry) : Type 0 where
-  pub is_apart : IsApart past line d at placed
-  pub forwards : is_backwards past.ticks (observed at placed past.pods) ≡ false
+pub record IsForwards (past : Past) (line : List ℕ) (d : Data) (at : ℕ) (written : TickLine) (placed : List PlacedEntry) : Type 0 where
+  pub is_apart : IsApart past line d at written placed
+  pub forwards : is_backwards past.ticks (observed at written placed past.pods) ≡ false
 
 -- the first check that a line fails after what is said before it, with the fault that it answers:
 -- the checks of every line, and then those of a node line, of a pod line, or of a tick line
@@ -164,17 +169,17 @@ pub data Fails (past : Past) (line : List ℕ) : FaultKind → Type 0 where
   not_json : (kind : FaultKind) → length line ≤ longest_line → json_of line ≡ Err kind → Fails past line kind
   unknown_kind : (d : Data) → IsJson line d → kind_from (text_at (codes "kind") d) ≡ None → Fails past line UnknownKind
   misplaced : (line_kind : LineKind) (d : Data) → IsOfKind line line_kind d → (MayStand past line_kind → ⊥) → Fails past line Order
-  wrong_node : (d : Data) (kind : FaultKind) → Stands past line kinds.Node d → node_of d ≡ Err kind → Fails past line kind
+  wrong_node : (d : Data) (kind : FaultKind) → Stands past line kinds.Node d → node_in d ≡ Err kind → Fails past line kind
   many_pods : (d : Data) → Stands past line kinds.Pod d → most_pods ≤ length past.pods → Fails past line TooMany
   wrong_pod : (d : Data) (kind : FaultKind) → Stands past line kinds.Pod d → length past.pods < most_pods → pod_from (field_at (codes "pod") d) ≡ Err kind → Fails past line kind
   duplicate_pod : (d : Data) (pod : PodSpec) → HasPod past line d pod → HasKey past.pods (key_of_pod pod) → Fails past line DuplicatePod
   many_ticks : (d : Data) → Stands past line kinds.Tick d → most_ticks ≤ length past.ticks → Fails past line TooMany
   wrong_moment : (d : Data) (kind : FaultKind) → Stands past line kinds.Tick d → length past.ticks < most_ticks → moment_of past.ticks (field_at (codes "at") d) ≡ Err kind → Fails past line kind
-  wrong_entry : (d : Data) (at : ℕ) (kind : FaultKind) → HasMoment past line d at → entries_of d ≡ Err kind → Fails past line kind
-  stranger : (d : Data) (at : ℕ) (es : List Entry) (kind : FaultKind) → HasEntries past line d at es → placed_of past.pods es ≡ Err kind → Fails past line kind
-  doubled : (d : Data) (at : ℕ) (placed : List PlacedEntry) → HasPlaces past line d at placed → is_doubled placed ≡ true → Fails past line Doubled
-  backwards : (d : Data) (at : ℕ) (placed : List PlacedEntry) → IsApart past line d at placed → is_backwards past.ticks (observed at placed past.pods) ≡ true → Fails past line Backwards
-  no_code : (d : Data) (at : ℕ) (placed : List PlacedEntry) → IsForwards past line d at placed → some_code_missing placed ≡ true → Fails past line ExitCode
+  wrong_field : (d : Data) (at : ℕ) (kind : FaultKind) → HasMoment past line d at → tick_line_in d ≡ Err kind → Fails past line kind
+  stranger : (d : Data) (at : ℕ) (written : TickLine) (kind : FaultKind) → HasWritten past line d at written → placed_of past.pods written.entries ≡ Err kind → Fails past line kind
+  doubled : (d : Data) (at : ℕ) (written : TickLine) (placed : List PlacedEntry) → HasPlaces past line d at written placed → is_doubled placed ≡ true → Fails past line Doubled
+  backwards : (d : Data) (at : ℕ) (written : TickLine) (placed : List PlacedEntry) → IsApart past line d at written placed → is_backwards past.ticks (observed at written placed past.pods) ≡ true → Fails past line Backwards
+  no_code : (d : Data) (at : ℕ) (written : TickLine) (placed : List PlacedEntry) → IsForwards past line d at written placed → some_code_missing placed ≡ true → Fails past line ExitCode
 
 -- a line's fault is that of the first check that it fails
 abbrev pub FirstCheck : Type 0
@@ -182,9 +187,9 @@ FirstCheck = (past : Past) (line : List ℕ) (kind : FaultKind) → (line_at pas
 
 -- what is said after a line that passes all its checks
 pub data Says (past : Past) (line : List ℕ) : Past → Type 0 where
-  says_node : (d : Data) (node : NodeConfig) → Stands past line kinds.Node d → node_of d ≡ Ok node → Says past line (of_node past node)
+  says_node : (d : Data) (node : NodeConfig) → Stands past line kinds.Node d → node_in d ≡ Ok node → Says past line (of_node past node)
   says_pod : (d : Data) (pod : PodSpec) → HasPod past line d pod → (HasKey past.pods (key_of_pod pod) → ⊥) → Says past line (with_pod past pod)
-  says_tick : (d : Data) (at : ℕ) (placed : List PlacedEntry) → IsForwards past line d at placed → some_code_missing placed ≡ false → Says past line (with_tick past (observed at placed past.pods))
+  says_tick : (d : Data) (at : ℕ) (written : TickLine) (placed : List PlacedEntry) → IsForwards past line d at written placed → some_code_missing placed ≡ false → Says past line (with_tick past (observed at written placed past.pods))
 
 -- a line without a fault says its node, its pod or its tick, behind what is said before it
 abbrev pub AllChecks : Type 0
@@ -193,10 +198,10 @@ AllChecks = (past : Past) (line : List ℕ) (next : Past) → (line_at past line
 -- the kinds of fault that a check answers
 pub record KindsOfChecks : Type 0 where
   pub json : (line : List ℕ) (kind : FaultKind) → json_of line ≡ Err kind → kind ≡ NotJson
-  pub node : (d : Data) (kind : FaultKind) → node_of d ≡ Err kind → kind ≡ Config
+  pub node : (d : Data) (kind : FaultKind) → node_in d ≡ Err kind → (kind ≡ Config) ⊎ (kind ≡ SoftWithoutGrace)
   pub pod : (found : Option Data) (kind : FaultKind) → pod_from found ≡ Err kind → (fault : ManifestFault) × (kind ≡ Manifest fault)
   pub moment : (ticks : List TickObs) (found : Option Data) (kind : FaultKind) → moment_of ticks found ≡ Err kind → kind ≡ Moment
-  pub entries : (d : Data) (kind : FaultKind) → entries_of d ≡ Err kind → kind ≡ Usage
+  pub tick : (d : Data) (kind : FaultKind) → tick_line_in d ≡ Err kind → kind ≡ Usage
   pub places : (pods : List PodSpec) (es : List Entry) (kind : FaultKind) → placed_of pods es ≡ Err kind → (kind ≡ StrangerPod) ⊎ (kind ≡ StrangerContainer)
 
 -- an entry names a pod that isn't known
@@ -253,8 +258,29 @@ Lists es pod container seen = (k : ℕ) × (entry : PlacedEntry) × (slice_get e
 -- where no pod and no container is listed twice, what a tick shows of a container is exactly what
 -- its line lists, wherever it stands
 abbrev pub ListingsShown : Type 0
-ListingsShown = (at : ℕ) (es : List PlacedEntry) (pods : List PodSpec) (n c : ℕ) (pod : PodSpec) (seen : Seen) → is_doubled es ≡ false
-    → slice_get pods n ≡ Some pod → c < length pod.containers → (seen_of (observed at es pods) n c ≡ Some seen ↔ Lists es n c seen)
+ListingsShown = (at : ℕ) (written : TickLine) (es : List PlacedEntry) (pods : List PodSpec) (n c : ℕ) (pod : PodSpec) (seen : Seen) → is_doubled es ≡ false
+    → slice_get pods n ≡ Some pod → c < length pod.containers → (seen_of (observed at written es pods) n c ≡ Some seen ↔ Lists es n c seen)
+
+-- one of the entries is of the pod with the number, and tells this use
+abbrev pub Tells : List PlacedEntry → ℕ → PodUsage → Type 0
+Tells es pod usage = (k : ℕ) × (entry : PlacedEntry) × (slice_get es k ≡ Some entry) × (entry.pod ≡ pod) × (entry.usage ≡ Some usage)
+
+-- what the tick shows of the use of the pod with the number
+abbrev pub usage_shown_of : TickObs → ℕ → Option PodUsage
+usage_shown_of tick n = option_and_then (λ (p : PodObs). p.usage) (slice_get tick.pods n)
+
+-- where no pod is listed twice, what a tick shows of a pod's use is exactly what the pod's entry
+-- tells, wherever it stands
+abbrev pub UsageShown : Type 0
+UsageShown = (at : ℕ) (written : TickLine) (es : List PlacedEntry) (pods : List PodSpec) (n : ℕ) (pod : PodSpec) (usage : PodUsage) → has_twice are_of_one_pod es ≡ false
+    → slice_get pods n ≡ Some pod → (usage_shown_of (observed at written es pods) n ≡ Some usage ↔ Tells es n usage)
+
+-- what a tick shows of a signal is exactly the quantity that its line has under the signal's name
+pub record SignalsShown : Type 0 where
+  pub signals : (d : Data) (at : ℕ) (written : TickLine) (placed : List PlacedEntry) (pods : List PodSpec) (signal : Signal) → tick_line_in d ≡ Ok written
+      → IsSample (field_at (codes "signals") d) (name_of signal) (of (observed at written placed pods).signals signal)
+  pub after_reclaim : (d : Data) (at : ℕ) (written : TickLine) (placed : List PlacedEntry) (pods : List PodSpec) (signal : Signal) → tick_line_in d ≡ Ok written
+      → IsSample (field_at (codes "afterReclaim") d) (name_of signal) (of (observed at written placed pods).after_reclaim signal)
 
 -- of some container of some pod, both by number, the tick has a listing that may not come after all
 -- those of the earlier ticks

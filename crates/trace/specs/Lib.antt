@@ -1,10 +1,8 @@
 pub mod Faults
 pub mod Gives
 pub mod Lines
-pub mod Node
+pub mod Written
 pub mod Pod
-pub mod Results
-pub mod Listings
 pub mod Placing
 pub mod Observed
 pub mod Past

@@ -7,7 +7,7 @@ use Rattle.state_diff.specs.declared.seen.CriState.{CriState}
 use Rattle.state_diff.specs.declared.seen.CriState.TheVariants.{Created, Running, Exited, Unknown}
 use Rattle.state_diff.specs.declared.seen.Seen.{Seen}
 use Rattle.state_diff.specs.States.{is_exited}
-use Rattle.trace.specs.declared.listing.ListedInstance.{ListedInstance}
+use Rattle.tick_lines.specs.declared.listing.ListedInstance.{ListedInstance}
 use Rattle.manifest.specs.declared.outcome.Outcome.{Outcome}
 use Rattle.manifest.specs.declared.outcome.ProbeKind.{ProbeKind}
 use Rattle.manifest.specs.declared.outcome.ProbeKind.TheVariants.{Startup, Liveness, Readiness}
@@ -17,6 +17,8 @@ use Rattle.trace.specs.declared.placing.PlacedEntry.{PlacedEntry}
 use Rattle.observations.specs.declared.container.ContainerObs.{ContainerObs}
 use Rattle.observations.specs.declared.pod.PodObs.{PodObs}
 use Rattle.observations.specs.declared.tick.TickObs.{TickObs}
+use Rattle.observations.specs.declared.usage.Usage.{Usage}
+use Rattle.tick_lines.specs.declared.line.TickLine.{TickLine}
 use Rattle.trace.specs.Placing.{is_of_probe}
 
 abbrev pub seen_as : CriState → ListedInstance → Seen
@@ -54,7 +56,7 @@ abbrev pub entry_for : List PlacedEntry → ℕ → Option PlacedEntry
 entry_for [] n = None
 entry_for (e ∷ es) n = if e.pod == n then Some e else entry_for es n
 
--- a pod without an entry has no listings and no results
+-- a pod without an entry has no listings, no results and no sample of its use
 abbrev pub listings_of : Option PlacedEntry → List PlacedListing
 listings_of None = []
 listings_of (Some e) = e.listings
@@ -63,18 +65,31 @@ abbrev pub results_of : Option PlacedEntry → List PlacedResult
 results_of None = []
 results_of (Some e) = e.results
 
+abbrev pub usage_of : Option PlacedEntry → Option Usage
+usage_of None = None
+usage_of (Some e) = e.usage
+
 -- what its entry says of a pod
 abbrev pub pod_observed : ℕ → Option PlacedEntry → PodSpec → PodObs
-pod_observed at entry pod = record { at = at; containers = containers_from (listings_of entry) (results_of entry) 0 pod.containers; usage = None }
+pod_observed at entry pod = record {
+  at = at;
+  containers = containers_from (listings_of entry) (results_of entry) 0 pod.containers;
+  usage = usage_of entry;
+}
 
 -- what the entries say of each of the pods, numbered from n on
 abbrev pub pods_from : ℕ → List PlacedEntry → ℕ → List PodSpec → List PodObs
 pods_from at es n [] = []
 pods_from at es n (p ∷ ps) = pod_observed at (entry_for es n) p ∷ pods_from at es (n + 1) ps
 
--- the whole tick
-abbrev pub observed : ℕ → List PlacedEntry → List PodSpec → TickObs
-observed at entries pods = record { at = at; pods = pods_from at entries 0 pods }
+-- the whole tick: its entries, placed, and the line's samples of the node's signals
+abbrev pub observed : ℕ → TickLine → List PlacedEntry → List PodSpec → TickObs
+observed at written placed pods = record {
+  at = at;
+  pods = pods_from at placed 0 pods;
+  signals = written.signals;
+  after_reclaim = written.after_reclaim;
+}
 
 -- an exited instance is listed without an exit code
 abbrev pub lacks_code : ListedInstance → Bool

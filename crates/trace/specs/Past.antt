@@ -1,8 +1,8 @@
 -- What the lines so far say.
 use Rattle.std.specs.Prelude.{ℕ, List, [], ◌∷◌, ◌++◌, length, Option, Some, option_map}
 use Rattle.manifest.specs.declared.pod.PodSpec.{PodSpec}
-use Rattle.trace.specs.declared.node.NodeConfig.{NodeConfig}
-use Rattle.trace.specs.declared.node.Version.{Version}
+use Rattle.node_config.specs.declared.node.NodeConfig.{NodeConfig}
+use Rattle.node_config.specs.declared.node.Version.{Version}
 use Rattle.observations.specs.declared.tick.TickObs.{TickObs}
 
 pub record Past : Type 0 where

@@ -7,9 +7,9 @@ use Rattle.manifest.specs.declared.pod.PodSpec.{PodSpec}
 use Rattle.manifest.specs.Containers.{names_of}
 use Rattle.trace.specs.declared.fault.FaultKind.{FaultKind}
 use Rattle.trace.specs.declared.fault.FaultKind.TheVariants.{StrangerPod, StrangerContainer}
-use Rattle.trace.specs.declared.listing.Listing.{Listing}
-use Rattle.trace.specs.declared.listing.Entry.{Entry}
-use Rattle.trace.specs.declared.probing.ProbeResult.{ProbeResult}
+use Rattle.tick_lines.specs.declared.listing.Listing.{Listing}
+use Rattle.tick_lines.specs.declared.entry.Entry.{Entry}
+use Rattle.tick_lines.specs.declared.probing.ProbeResult.{ProbeResult}
 use Rattle.manifest.specs.declared.outcome.ProbeKind.{ProbeKind}
 use Rattle.trace.specs.declared.placing.PlacedListing.{PlacedListing}
 use Rattle.trace.specs.declared.placing.PlacedResult.{PlacedResult}
@@ -42,7 +42,7 @@ placed_entry keys pods entry = do
   pod ← pod_numbered pods number
   listings ← each (placed_listing pod) entry.listings
   results ← each (placed_result pod) entry.results
-  Ok (record { pod = number; listings = listings; results = results })
+  Ok (record { pod = number; listings = listings; results = results; usage = entry.usage })
 
 -- all entries: first every pod has to be known, then every container
 unfoldable pub placed_of : List PodSpec → List Entry → Result (List PlacedEntry) FaultKind

@@ -8,9 +8,10 @@ use Rattle.json_fields.specs.Reading.{◌>>=◌, refused_if}
 use Rattle.trace.specs.declared.fault.FaultKind.{FaultKind}
 use Rattle.trace.specs.declared.fault.FaultKind.TheVariants.{TooMany, Moment, Doubled, Backwards, ExitCode}
 use Rattle.observations.specs.declared.tick.TickObs.{TickObs}
+use Rattle.tick_lines.specs.declared.line.TickLine.{TickLine}
 use Rattle.trace.specs.declared.placing.PlacedEntry.{PlacedEntry}
 use Rattle.trace.specs.Past.{Past, with_tick}
-use Rattle.trace.specs.Listings.{entries_of}
+use Rattle.trace.specs.Written.{tick_line_in}
 use Rattle.trace.specs.Placing.{placed_of, is_doubled}
 use Rattle.trace.specs.Observed.{observed, some_code_missing}
 use Rattle.following.specs.Backwards.{is_backwards}
@@ -30,19 +31,19 @@ moment_from ticks (Some at) = if nat_lt at (2 ^ 40) && is_later (slice_get ticks
 abbrev pub moment_of : List TickObs → Option Data → Result ℕ FaultKind
 moment_of ticks found = moment_from ticks (option_and_then as_u64 (option_and_then as_number found))
 
--- the tick that the entries show, after those before it
-unfoldable pub observed_in : Past → ℕ → List PlacedEntry → Result TickObs FaultKind
-observed_in past at entries = do
-  apart ← refused_if (is_doubled entries) Doubled
-  forwards ← refused_if (is_backwards past.ticks (observed at entries past.pods)) Backwards
-  coded ← refused_if (some_code_missing entries) ExitCode
-  Ok (observed at entries past.pods)
+-- the tick that the line shows with its entries placed, after the ticks before it
+unfoldable pub observed_in : Past → ℕ → TickLine → List PlacedEntry → Result TickObs FaultKind
+observed_in past at written placed = do
+  apart ← refused_if (is_doubled placed) Doubled
+  forwards ← refused_if (is_backwards past.ticks (observed at written placed past.pods)) Backwards
+  coded ← refused_if (some_code_missing placed) ExitCode
+  Ok (observed at written placed past.pods)
 
 unfoldable pub tick_at : Past → Data → Result Past FaultKind
 tick_at past d = do
   room ← refused_if (nat_le most_ticks (length past.ticks)) TooMany
   at ← moment_of past.ticks (field_at (codes "at") d)
-  entries ← entries_of d
-  placed ← placed_of past.pods entries
-  tick ← observed_in past at placed
+  written ← tick_line_in d
+  placed ← placed_of past.pods written.entries
+  tick ← observed_in past at written placed
   Ok (with_tick past tick)

@@ -10,14 +10,14 @@ use Rattle.json_fields.specs.Reading.{◌>>=◌, refused_if, some_or}
 use Rattle.trace.specs.declared.fault.FaultKind.{FaultKind}
 use Rattle.trace.specs.declared.fault.FaultKind.TheVariants.{TooLong, NotJson, UnknownKind, Order, TooMany, DuplicatePod}
 use Rattle.trace.specs.declared.fault.LineFault.{LineFault}
-use Rattle.trace.specs.declared.node.NodeConfig.{NodeConfig}
-use Rattle.trace.specs.declared.node.Version.{Version}
-use Rattle.trace.specs.declared.node.Version.TheVariants.{One, Two}
+use Rattle.node_config.specs.declared.node.NodeConfig.{NodeConfig}
+use Rattle.node_config.specs.declared.node.Version.{Version}
+use Rattle.node_config.specs.declared.node.Version.TheVariants.{One, Two}
 use Rattle.trace.specs.declared.past.Trace.{Trace}
 use Rattle.trace.specs.declared.past.LineKind.{LineKind}
 use Rattle.trace.specs.declared.past.LineKind.TheVariants as kinds
 use Rattle.trace.specs.Lines.{lines_of, is_blank, longest_line}
-use Rattle.trace.specs.Node.{node_of}
+use Rattle.trace.specs.Written.{node_in}
 use Rattle.trace.specs.Pod.{key_of_pod, has_key, most_pods, pod_from}
 use Rattle.trace.specs.Past.{Past, version_in, of_node, with_pod}
 use Rattle.trace.specs.Tick.{tick_at}
@@ -35,7 +35,7 @@ kind_from (Some s) =
 
 unfoldable pub with_node : Past → Data → Result Past FaultKind
 with_node past d = do
-  node ← node_of d
+  node ← node_in d
   Ok (of_node past node)
 
 -- a pod goes behind the earlier ones, if none of them has its key

@@ -4,10 +4,13 @@ ghost use Rattle.std.specs.Prelude.{◌≡◌};
 ghost use Rattle.trace.specs.declared.fault.FaultKind.TheVariants.{OutOfMemory};
 ghost use Rattle.json_fields.specs.Reading.{refused_if};
 ghost use Rattle.trace.specs.Gives.{GivesExactly};
+ghost use Rattle.trace.specs.Faults.{kind_of_node_fault, kind_of_tick_fault};
 
 use manifest::ManifestFault;
+use node_lines::NodeFault;
 use std::alloc::{AllocError, AllocFailed};
 use thiserror::Error;
+use tick_lines::TickLineFault;
 
 /// What is wrong with a line. The kinds stand by their numbers; the order of checks is that of
 /// `laws::first_check`.
@@ -25,6 +28,8 @@ pub enum FaultKind {
     Manifest(ManifestFault),
     #[error("the node's configuration is refused")]
     Config,
+    #[error("a soft threshold has no grace period")]
+    SoftWithoutGrace,
     #[error("an earlier pod has this key")]
     DuplicatePod,
     #[error("no pod has this key")]
@@ -61,6 +66,7 @@ impl FaultKind {
             FaultKind::Order => 34,
             FaultKind::Manifest(_) => 35,
             FaultKind::Config => 36,
+            FaultKind::SoftWithoutGrace => 37,
             FaultKind::DuplicatePod => 38,
             FaultKind::StrangerPod => 39,
             FaultKind::StrangerContainer => 40,
@@ -85,6 +91,7 @@ impl FaultKind {
             FaultKind::Order => "Order",
             FaultKind::Manifest(_) => "Manifest",
             FaultKind::Config => "Config",
+            FaultKind::SoftWithoutGrace => "SoftWithoutGrace",
             FaultKind::DuplicatePod => "DuplicatePod",
             FaultKind::StrangerPod => "StrangerPod",
             FaultKind::StrangerContainer => "StrangerContainer",
@@ -112,6 +119,29 @@ impl<T: Drop> From<AllocFailed<T>> for FaultKind {
 
     fn from(_e: AllocFailed<T>) -> FaultKind {
         FaultKind::OutOfMemory
+    }
+}
+
+impl From<NodeFault> for FaultKind {
+    ghost from_gives = { λ fault kind. kind ≡ kind_of_node_fault fault };
+
+    fn from(fault: NodeFault) -> FaultKind {
+        match fault {
+            NodeFault::Config => FaultKind::Config,
+            NodeFault::SoftWithoutGrace => FaultKind::SoftWithoutGrace,
+            NodeFault::OutOfMemory => FaultKind::OutOfMemory,
+        }
+    }
+}
+
+impl From<TickLineFault> for FaultKind {
+    ghost from_gives = { λ fault kind. kind ≡ kind_of_tick_fault fault };
+
+    fn from(fault: TickLineFault) -> FaultKind {
+        match fault {
+            TickLineFault::Usage => FaultKind::Usage,
+            TickLineFault::OutOfMemory => FaultKind::OutOfMemory,
+        }
     }
 }
 

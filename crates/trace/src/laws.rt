@@ -1,6 +1,6 @@
 //! What the definition of a trace implies, in the words of the format. The functions do nothing;
 //! their contracts are the laws.
-ghost use Rattle.trace.specs.Laws.{FirstFault, WholeTrace, OneFault, FirstCheck, AllChecks, KindsOfChecks, Strangers, ResultsShown, ListingsShown, BackwardsListing, NeverMemory};
+ghost use Rattle.trace.specs.Laws.{FirstFault, WholeTrace, OneFault, FirstCheck, AllChecks, KindsOfChecks, Strangers, ResultsShown, ListingsShown, UsageShown, SignalsShown, BackwardsListing, NeverMemory};
 
 /// A text is refused exactly with the fault of its first line that has one, or behind its last line
 /// where no line counts.
@@ -49,6 +49,16 @@ pub fn results_shown()
 /// What a tick shows of a container is what its line lists, wherever it stands.
 pub fn listings_shown()
     ensures { ListingsShown }
+{}
+
+/// What a tick shows of a pod's use is what the pod's entry tells, wherever it stands.
+pub fn usage_shown()
+    ensures { UsageShown }
+{}
+
+/// What a tick shows of the node's signals is what its line has of them.
+pub fn signals_shown()
+    ensures { SignalsShown }
 {}
 
 /// A tick is refused as Backwards exactly where the listing of some container may not come after

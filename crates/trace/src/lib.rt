@@ -4,16 +4,13 @@
 mod fault;
 pub mod laws;
 mod lines;
-mod listing;
-mod node;
 mod past;
 mod placing;
 mod pod;
-mod probing;
 mod reading;
 mod tick;
 
 pub use fault::{FaultKind, LineFault};
-pub use node::{NodeConfig, Version};
+pub use node_config::{NodeConfig, Version};
 pub use past::Trace;
 pub use reading::read_trace;

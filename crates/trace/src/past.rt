@@ -1,9 +1,9 @@
 //! What the lines so far say.
 
-use crate::node::NodeConfig;
 use following::Following;
 use manifest::PodSpec;
 use name_list::NameList;
+use node_config::NodeConfig;
 use observations::TickObs;
 use sequence::Sequence;
 use std::marker::Model;

@@ -9,12 +9,12 @@ ghost use Rattle.trace.specs.Placing.{number_in, container_number, placed_listin
 ghost use Rattle.std.specs.List.{list_any};
 
 use crate::fault::FaultKind;
-use crate::listing::{Entry, ListedInstance, Listing};
-use crate::probing::ProbeResult;
 use manifest::{Outcome, PodSpec, ProbeKind};
 use name_list::NameList;
+use observations::Usage;
 use sequence::Sequence;
 use std::alloc::Global;
+use tick_lines::{Entry, ListedInstance, Listing, ProbeResult};
 
 /// A listing of the container with the number.
 #[derive(Clone, Copy)]
@@ -37,6 +37,7 @@ pub(crate) struct PlacedEntry {
     pub(crate) pod: usize,
     pub(crate) listings: Sequence<PlacedListing>,
     pub(crate) results: Sequence<PlacedResult>,
+    pub(crate) usage: Option<Usage>,
 }
 
 fn pod_number(keys: &NameList, entry: &Entry) -> Result<usize, FaultKind>
@@ -150,6 +151,7 @@ fn placed_entry(
         pod: number,
         listings: Sequence::from_vec(listings),
         results: Sequence::from_vec(results),
+        usage: entry.usage,
     })
 }
 

@@ -5,6 +5,7 @@ ghost use Rattle.std.specs.Prelude.{◌≡◌, ◌⊎◌, [], option_map, None, 
 ghost use Rattle.serde_json.specs.View.{view};
 ghost use Rattle.trace.specs.Gives.{Gives, GivesAt, GivesExactly};
 ghost use Rattle.name_list.specs.Names.{place_of};
+ghost use Rattle.trace.specs.Written.{node_in};
 ghost use Rattle.trace.specs.Past.{version_in, with_pod};
 ghost use Rattle.trace.specs.Pod.{key_of_pod, keys_of};
 ghost use Rattle.trace.specs.Sound.{AreAcceptable, AreRising, HasShape};
@@ -12,7 +13,6 @@ ghost use Rattle.trace.specs.Trace.{json_of, kind_from, with_node, with_new_pod,
 
 use crate::fault::{FaultKind, LineFault, refused_if};
 use crate::lines::{first_line, is_blank};
-use crate::node::{Version, node_of};
 use crate::past::{LineKind, Reader, Trace};
 use crate::pod::{new_key, pod_in, room_for_pod};
 use crate::tick::take_tick;
@@ -20,6 +20,8 @@ use following::Following;
 use json_fields::{field, text_at};
 use manifest::PodSpec;
 use name_list::NameList;
+use node_config::{NodeConfig, Version};
+use node_lines::node_of;
 use sequence::Sequence;
 use serde_json::Value;
 use std::alloc::Global;
@@ -58,12 +60,19 @@ fn kind_from(kind: Option<&str>) -> Option<LineKind>
     }
 }
 
+/// The configuration that a node line says.
+fn node_in(alloc: Global, line: &Value) -> Result<NodeConfig, FaultKind>
+    ensures { Gives (λ n. n) result (node_in (view line.now)) }
+{
+    Ok(node_of(alloc, line)?)
+}
+
 /// Takes a node line.
 #[tactic(auto, unfolding(crate::specs::Trace::with_node))]
 fn take_node(alloc: Global, reader: Reader, line: &Value) -> Result<Reader, FaultKind>
     ensures { Gives (λ r. r) result (with_node reader (view line.now)) }
 {
-    let node = node_of(alloc, line)?;
+    let node = node_in(alloc, line)?;
     let Reader {
         pods,
         arrivals,

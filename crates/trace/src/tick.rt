@@ -7,14 +7,14 @@ ghost use Rattle.json_fields.specs.Reading.{refused_if};
 ghost use Rattle.trace.specs.Gives.{Gives, GivesExactly};
 ghost use Rattle.trace.specs.Past.{with_tick};
 ghost use Rattle.trace.specs.Placing.{placed_of};
-ghost use Rattle.trace.specs.Observed.{seen_in, outcome_in, results_in, entry_for, listings_of, results_of, seen_listed, containers_from, pod_observed, pods_from, observed, lacks_code, some_code_missing};
+ghost use Rattle.trace.specs.Observed.{seen_in, outcome_in, results_in, entry_for, listings_of, results_of, usage_of, seen_listed, containers_from, pod_observed, pods_from, observed, lacks_code, some_code_missing};
 ghost use Rattle.following.specs.Backwards.{is_backwards};
 ghost use Rattle.following.specs.Followed.{EndBefore, ComesNext, HasFollowed};
 ghost use Rattle.trace.specs.Pod.{container_counts};
 ghost use Rattle.trace.specs.Tick.{moment_of, most_ticks, observed_in, tick_at};
+ghost use Rattle.trace.specs.Written.{tick_line_in};
 
 use crate::fault::{FaultKind, refused_if};
-use crate::listing::{Entry, ListedInstance, entries_of};
 use crate::past::Reader;
 use crate::placing::{
     PlacedEntry, PlacedListing, PlacedResult, is_doubled, is_of_probe, placed_entries, pod_numbers,
@@ -22,11 +22,12 @@ use crate::placing::{
 use following::{FollowError, Following};
 use json_fields::field;
 use manifest::{ContainerSpec, Outcome, PodSpec, ProbeKind};
-use observations::{ContainerObs, PodObs, TickObs};
+use observations::{ContainerObs, PodObs, TickObs, Usage, UsageSample};
 use sequence::Sequence;
 use serde_json::Value;
 use state_diff::{CriState, Seen};
 use std::alloc::{AllocError, Global};
+use tick_lines::{ListedInstance, TickLine, tick_line_of};
 
 fn moment(ticks: &[TickObs], found: Option<&Value>) -> Result<u64, FaultKind>
     ensures { GivesExactly (λ n. n) result (moment_of ticks.now (option_map (λ v. view v.now) found.entry)) }
@@ -140,6 +141,12 @@ fn results_of(entry: Option<&PlacedEntry>) -> &[PlacedResult]
     }
 }
 
+fn usage_of(entry: Option<&PlacedEntry>) -> Option<Usage>
+    ensures { result ≡ usage_of (option_map (λ e. e.now) entry.entry) }
+{
+    entry?.usage
+}
+
 fn pod_observed(
     alloc: Global,
     at: u64,
@@ -151,10 +158,11 @@ fn pod_observed(
     let listings = listings_of(entry);
     let results = results_of(entry);
     let containers = containers_observed(alloc, listings, results, pod.containers.as_slice())?;
+    let usage = UsageSample::new(alloc, usage_of(entry))?;
     Ok(PodObs {
         at,
         containers: Sequence::from_vec(containers),
-        usage: None,
+        usage,
     })
 }
 
@@ -177,15 +185,18 @@ fn pods_observed(
 fn observed(
     alloc: Global,
     at: u64,
-    entries: &[PlacedEntry],
+    written: &TickLine,
+    placed: &[PlacedEntry],
     pods: &[PodSpec],
 ) -> Result<TickObs, AllocError>
-    ensures { IfOk result (λ t. t ≡ observed at entries.now pods.now) }
+    ensures { IfOk result (λ t. t ≡ observed at written.now placed.now pods.now) }
 {
-    let pods = pods_observed(alloc, at, entries, pods)?;
+    let pods = pods_observed(alloc, at, placed, pods)?;
     Ok(TickObs {
         at,
         pods: Sequence::from_vec(pods),
+        signals: written.signals,
+        after_reclaim: written.after_reclaim,
     })
 }
 
@@ -209,6 +220,13 @@ fn some_code_missing(entries: &[PlacedEntry]) -> bool
         .any(|e| entry_lacks_code(e.listings.as_slice()))
 }
 
+/// What a tick line says beside its moment.
+fn tick_line_in(alloc: Global, line: &Value) -> Result<TickLine, FaultKind>
+    ensures { Gives (λ t. t) result (tick_line_in (view line.now)) }
+{
+    Ok(tick_line_of(alloc, line)?)
+}
+
 fn room(reader: &Reader) -> Result<(), FaultKind>
     ensures { GivesExactly (λ t. t) result (refused_if (nat_le most_ticks (length reader.now.ticks)) FaultKind.TooMany) }
 {
@@ -227,10 +245,11 @@ fn moment_after(reader: &Reader, found: Option<&Value>) -> Result<u64, FaultKind
 fn placed_of(
     alloc: Global,
     reader: &Reader,
-    entries: &[Entry],
+    written: &TickLine,
 ) -> Result<Vec<PlacedEntry>, FaultKind>
-    ensures { Gives (λ v. v.items) result (placed_of reader.now.pods entries.now) }
+    ensures { Gives (λ v. v.items) result (placed_of reader.now.pods written.now.entries) }
 {
+    let entries = written.entries.as_slice();
     pod_numbers(alloc, &reader.keys, entries)?;
     placed_entries(alloc, &reader.keys, reader.pods.as_slice(), entries)
 }
@@ -255,16 +274,17 @@ fn observed_in(
     alloc: Global,
     reader: &Reader,
     at: u64,
-    entries: &[PlacedEntry],
+    written: &TickLine,
+    placed: &[PlacedEntry],
 ) -> Result<(TickObs, Following), FaultKind>
     requires { EndBefore reader.now.ticks at }
-    ensures gives { Gives (λ r. r.0) result (observed_in reader.now at entries.now) }
+    ensures gives { Gives (λ r. r.0) result (observed_in reader.now at written.now placed.now) }
     ensures followed { IfOk result (λ r. HasFollowed (reader.now.ticks ++ r.0 ∷ []) (container_counts reader.now.pods) r.1) }
 {
-    refused_if(is_doubled(entries), FaultKind::Doubled)?;
-    let tick = observed(alloc, at, entries, reader.pods.as_slice())?;
+    refused_if(is_doubled(placed), FaultKind::Doubled)?;
+    let tick = observed(alloc, at, written, placed, reader.pods.as_slice())?;
     let following = following_after(alloc, reader, &tick)?;
-    refused_if(some_code_missing(entries), FaultKind::ExitCode)?;
+    refused_if(some_code_missing(placed), FaultKind::ExitCode)?;
     Ok((tick, following))
 }
 
@@ -298,8 +318,8 @@ pub(crate) fn take_tick(alloc: Global, reader: Reader, line: &Value) -> Result<R
 {
     room(&reader)?;
     let at = moment_after(&reader, field(line, "at"))?;
-    let entries = entries_of(alloc, line)?;
-    let placed = placed_of(alloc, &reader, &entries)?;
-    let (tick, following) = observed_in(alloc, &reader, at, &placed)?;
+    let written = tick_line_in(alloc, line)?;
+    let placed = placed_of(alloc, &reader, &written)?;
+    let (tick, following) = observed_in(alloc, &reader, at, &written, &placed)?;
     with_tick(reader, tick, following)
 }

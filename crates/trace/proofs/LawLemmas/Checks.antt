@@ -10,27 +10,26 @@ use Rattle.json_fields.proofs.Steps.{bind_ok}
 use Rattle.manifest.specs.declared.pod.PodSpec.{PodSpec}
 use Rattle.trace.specs.declared.fault.FaultKind.{FaultKind}
 use Rattle.trace.specs.declared.fault.FaultKind.TheVariants.{TooLong, UnknownKind, Order, TooMany, DuplicatePod, Doubled, Backwards, ExitCode}
-use Rattle.trace.specs.declared.node.NodeConfig.{NodeConfig}
-use Rattle.trace.specs.declared.node.Version.{Version}
-use Rattle.trace.specs.declared.node.Version.TheVariants.{One, Two}
+use Rattle.node_config.specs.declared.node.NodeConfig.{NodeConfig}
+use Rattle.node_config.specs.declared.node.Version.{Version}
+use Rattle.node_config.specs.declared.node.Version.TheVariants.{One, Two}
 use Rattle.trace.specs.declared.past.LineKind.{LineKind}
 use Rattle.trace.specs.declared.past.LineKind.TheVariants as kinds
 use Rattle.observations.specs.declared.tick.TickObs.{TickObs}
-use Rattle.trace.specs.declared.listing.Entry.{Entry}
+use Rattle.tick_lines.specs.declared.line.TickLine.{TickLine}
 use Rattle.trace.specs.declared.placing.PlacedEntry.{PlacedEntry}
 use Rattle.trace.specs.Lines.{longest_line}
-use Rattle.trace.specs.Node.{node_of}
+use Rattle.trace.specs.Written.{node_in, tick_line_in}
 use Rattle.trace.specs.Pod.{key_of_pod, has_key, most_pods, pod_from}
 use Rattle.trace.proofs.Versions.{no_node, some_node}
 use Rattle.trace.proofs.Keys.{key_there, there_key, key_nowhere, nowhere_key}
-use Rattle.trace.specs.Listings.{entries_of}
 use Rattle.trace.specs.Placing.{placed_of, is_doubled}
 use Rattle.trace.specs.Observed.{observed, some_code_missing}
 use Rattle.following.specs.Backwards.{is_backwards}
 use Rattle.trace.specs.Past.{Past, version_in, of_node, with_pod, with_tick}
 use Rattle.trace.specs.Tick.{moment_of, most_ticks, observed_in, tick_at}
 use Rattle.trace.specs.Trace.{json_of, kind_from, with_node, is_late, pod_line_at, in_order, line_at}
-use Rattle.trace.specs.Laws.{IsJson, IsOfKind, TakesPods, MayStand, Stands, HasPod, HasMoment, HasEntries, HasPlaces, IsApart, IsForwards, Fails, too_long, not_json, unknown_kind, misplaced, wrong_node, many_pods, wrong_pod, duplicate_pod, many_ticks, wrong_moment, wrong_entry, stranger, doubled, backwards, no_code, FirstCheck, Says, says_node, says_pod, says_tick, AllChecks}
+use Rattle.trace.specs.Laws.{IsJson, IsOfKind, TakesPods, MayStand, Stands, HasPod, HasMoment, HasWritten, HasPlaces, IsApart, IsForwards, Fails, too_long, not_json, unknown_kind, misplaced, wrong_node, many_pods, wrong_pod, duplicate_pod, many_ticks, wrong_moment, wrong_field, stranger, doubled, backwards, no_code, FirstCheck, Says, says_node, says_pod, says_tick, AllChecks}
 
 pub bind_err : {A B E : Type 0} (r : Result A E) (f : A → Result B E) (fault : E) → (r >>= f) ≡ Err fault → (r ≡ Err fault) ⊎ ((x : A) × (r ≡ Ok x) × (f x ≡ Err fault))
 bind_err (Ok x) f fault e = inr (x, refl, e)
@@ -69,26 +68,26 @@ with_json past d = with_kind past d (kind_from (text_at (codes "kind") d))
 abbrev with_tick_seen : Past → TickObs → Result Past FaultKind
 with_tick_seen past tick = Ok (with_tick past tick)
 
-abbrev with_places : Past → ℕ → List PlacedEntry → Result Past FaultKind
-with_places past at placed = observed_in past at placed >>= with_tick_seen past
+abbrev with_places : Past → ℕ → TickLine → List PlacedEntry → Result Past FaultKind
+with_places past at written placed = observed_in past at written placed >>= with_tick_seen past
 
-abbrev with_entries : Past → ℕ → List Entry → Result Past FaultKind
-with_entries past at entries = placed_of past.pods entries >>= with_places past at
+abbrev with_written : Past → ℕ → TickLine → Result Past FaultKind
+with_written past at written = placed_of past.pods written.entries >>= with_places past at written
 
 abbrev with_moment : Past → Data → ℕ → Result Past FaultKind
-with_moment past d at = entries_of d >>= with_entries past at
+with_moment past d at = tick_line_in d >>= with_written past at
 
 abbrev with_room : Past → Data → ⊤ → Result Past FaultKind
 with_room past d u = moment_of past.ticks (field_at (codes "at") d) >>= with_moment past d
 
-abbrev with_code : Past → ℕ → List PlacedEntry → ⊤ → Result TickObs FaultKind
-with_code past at placed u = Ok (observed at placed past.pods)
+abbrev with_code : Past → ℕ → TickLine → List PlacedEntry → ⊤ → Result TickObs FaultKind
+with_code past at written placed u = Ok (observed at written placed past.pods)
 
-abbrev with_forwards : Past → ℕ → List PlacedEntry → ⊤ → Result TickObs FaultKind
-with_forwards past at placed u = refused_if (some_code_missing placed) ExitCode >>= with_code past at placed
+abbrev with_forwards : Past → ℕ → TickLine → List PlacedEntry → ⊤ → Result TickObs FaultKind
+with_forwards past at written placed u = refused_if (some_code_missing placed) ExitCode >>= with_code past at written placed
 
-abbrev with_apart : Past → ℕ → List PlacedEntry → ⊤ → Result TickObs FaultKind
-with_apart past at placed u = refused_if (is_backwards past.ticks (observed at placed past.pods)) Backwards >>= with_forwards past at placed
+abbrev with_apart : Past → ℕ → TickLine → List PlacedEntry → ⊤ → Result TickObs FaultKind
+with_apart past at written placed u = refused_if (is_backwards past.ticks (observed at written placed past.pods)) Backwards >>= with_forwards past at written placed
 
 abbrev pod_new : Past → PodSpec → ⊤ → Result Past FaultKind
 pod_new past pod u = Ok (with_pod past pod)
@@ -141,41 +140,41 @@ pub same_fault : {A E : Type 0} (a b : E) → ◌≡◌ {A = Result A E} (Err a)
 same_fault a b e = cc
 
 -- from a fault to the check that fails
-code_fails : (past : Past) (line : List ℕ) (d : Data) (at : ℕ) (placed : List PlacedEntry) (kind : FaultKind) → IsForwards past line d at placed → with_forwards past at placed tt ≡ Err kind → Fails past line kind
-code_fails past line d at placed kind is e = elim (tested (some_code_missing placed) ExitCode (with_code past at placed) kind e) [
-  | inl here ↦ subst (λ (k : FaultKind). Fails past line k) here.1 (no_code d at placed is here.0)
-  | inr later ↦ absurd (no_fault (observed at placed past.pods) kind later.1)
+code_fails : (past : Past) (line : List ℕ) (d : Data) (at : ℕ) (written : TickLine) (placed : List PlacedEntry) (kind : FaultKind) → IsForwards past line d at written placed → with_forwards past at written placed tt ≡ Err kind → Fails past line kind
+code_fails past line d at written placed kind is e = elim (tested (some_code_missing placed) ExitCode (with_code past at written placed) kind e) [
+  | inl here ↦ subst (λ (k : FaultKind). Fails past line k) here.1 (no_code d at written placed is here.0)
+  | inr later ↦ absurd (no_fault (observed at written placed past.pods) kind later.1)
 ]
 
-order_fails : (past : Past) (line : List ℕ) (d : Data) (at : ℕ) (placed : List PlacedEntry) (kind : FaultKind) → IsApart past line d at placed → with_apart past at placed tt ≡ Err kind → Fails past line kind
-order_fails past line d at placed kind is e = elim (tested (is_backwards past.ticks (observed at placed past.pods)) Backwards (with_forwards past at placed) kind e) [
-  | inl here ↦ subst (λ (k : FaultKind). Fails past line k) here.1 (backwards d at placed is here.0)
-  | inr later ↦ code_fails past line d at placed kind (record { is_apart = is; forwards = later.0 }) later.1
+order_fails : (past : Past) (line : List ℕ) (d : Data) (at : ℕ) (written : TickLine) (placed : List PlacedEntry) (kind : FaultKind) → IsApart past line d at written placed → with_apart past at written placed tt ≡ Err kind → Fails past line kind
+order_fails past line d at written placed kind is e = elim (tested (is_backwards past.ticks (observed at written placed past.pods)) Backwards (with_forwards past at written placed) kind e) [
+  | inl here ↦ subst (λ (k : FaultKind). Fails past line k) here.1 (backwards d at written placed is here.0)
+  | inr later ↦ code_fails past line d at written placed kind (record { is_apart = is; forwards = later.0 }) later.1
 ]
 
-observed_fails : (past : Past) (line : List ℕ) (d : Data) (at : ℕ) (placed : List PlacedEntry) (kind : FaultKind) → HasPlaces past line d at placed → observed_in past at placed ≡ Err kind → Fails past line kind
+observed_fails : (past : Past) (line : List ℕ) (d : Data) (at : ℕ) (written : TickLine) (placed : List PlacedEntry) (kind : FaultKind) → HasPlaces past line d at written placed → observed_in past at written placed ≡ Err kind → Fails past line kind
 unfolding observed_in
-observed_fails past line d at placed kind is e = elim (tested (is_doubled placed) Doubled (with_apart past at placed) kind e) [
-  | inl here ↦ subst (λ (k : FaultKind). Fails past line k) here.1 (doubled d at placed is here.0)
-  | inr later ↦ order_fails past line d at placed kind (record { has_places = is; apart = later.0 }) later.1
+observed_fails past line d at written placed kind is e = elim (tested (is_doubled placed) Doubled (with_apart past at written placed) kind e) [
+  | inl here ↦ subst (λ (k : FaultKind). Fails past line k) here.1 (doubled d at written placed is here.0)
+  | inr later ↦ order_fails past line d at written placed kind (record { has_places = is; apart = later.0 }) later.1
 ]
 
-places_fails : (past : Past) (line : List ℕ) (d : Data) (at : ℕ) (placed : List PlacedEntry) (kind : FaultKind) → HasPlaces past line d at placed → with_places past at placed ≡ Err kind → Fails past line kind
-places_fails past line d at placed kind is e = elim (bind_err (observed_in past at placed) (with_tick_seen past) kind e) [
-  | inl here ↦ observed_fails past line d at placed kind is here
+places_fails : (past : Past) (line : List ℕ) (d : Data) (at : ℕ) (written : TickLine) (placed : List PlacedEntry) (kind : FaultKind) → HasPlaces past line d at written placed → with_places past at written placed ≡ Err kind → Fails past line kind
+places_fails past line d at written placed kind is e = elim (bind_err (observed_in past at written placed) (with_tick_seen past) kind e) [
+  | inl here ↦ observed_fails past line d at written placed kind is here
   | inr later ↦ absurd (no_fault (with_tick past later.0) kind later.2)
 ]
 
-entries_fails : (past : Past) (line : List ℕ) (d : Data) (at : ℕ) (es : List Entry) (kind : FaultKind) → HasEntries past line d at es → with_entries past at es ≡ Err kind → Fails past line kind
-entries_fails past line d at es kind is e = elim (bind_err (placed_of past.pods es) (with_places past at) kind e) [
-  | inl here ↦ stranger d at es kind is here
-  | inr later ↦ places_fails past line d at later.0 kind (record { entries = es; has_entries = is; placed_are = later.1 }) later.2
+written_fails : (past : Past) (line : List ℕ) (d : Data) (at : ℕ) (written : TickLine) (kind : FaultKind) → HasWritten past line d at written → with_written past at written ≡ Err kind → Fails past line kind
+written_fails past line d at written kind is e = elim (bind_err (placed_of past.pods written.entries) (with_places past at written) kind e) [
+  | inl here ↦ stranger d at written kind is here
+  | inr later ↦ places_fails past line d at written later.0 kind (record { has_written = is; placed_are = later.1 }) later.2
 ]
 
 moment_fails : (past : Past) (line : List ℕ) (d : Data) (at : ℕ) (kind : FaultKind) → HasMoment past line d at → with_moment past d at ≡ Err kind → Fails past line kind
-moment_fails past line d at kind is e = elim (bind_err (entries_of d) (with_entries past at) kind e) [
-  | inl here ↦ wrong_entry d at kind is here
-  | inr later ↦ entries_fails past line d at later.0 kind (record { has_moment = is; entries_are = later.1 }) later.2
+moment_fails past line d at kind is e = elim (bind_err (tick_line_in d) (with_written past at) kind e) [
+  | inl here ↦ wrong_field d at kind is here
+  | inr later ↦ written_fails past line d at later.0 kind (record { has_moment = is; written_is = later.1 }) later.2
 ]
 
 room_fails : (past : Past) (line : List ℕ) (d : Data) (kind : FaultKind) → Stands past line kinds.Tick d → length past.ticks < most_ticks → with_room past d tt ≡ Err kind → Fails past line kind
@@ -220,7 +219,7 @@ node_fails : (past : Past) (line : List ℕ) (d : Data) (kind : FaultKind) → S
 unfolding with_node
 node_fails past line d kind is e =
     let said : NodeConfig → Result Past FaultKind = λ node. Ok (of_node past node) in
-    elim (bind_err (node_of d) said kind e) [
+    elim (bind_err (node_in d) said kind e) [
       | inl here ↦ wrong_node d kind is here
       | inr later ↦ absurd (no_fault (of_node past later.0) kind later.2)
     ]
@@ -297,11 +296,11 @@ tick_in_order : (node : Option NodeConfig) (past : Past) (d : Data) → is_some 
 tick_in_order None past d is = absurd (cc)
 tick_in_order (Some node) past d is = refl
 
-of_wrong_node : (past : Past) (line : List ℕ) (d : Data) (kind : FaultKind) → Stands past line kinds.Node d → node_of d ≡ Err kind → line_at past line ≡ Err kind
+of_wrong_node : (past : Past) (line : List ℕ) (d : Data) (kind : FaultKind) → Stands past line kinds.Node d → node_in d ≡ Err kind → line_at past line ≡ Err kind
 unfolding with_node
 of_wrong_node past line d kind is e =
     let said : NodeConfig → Result Past FaultKind = λ node. Ok (of_node past node) in
-    of_kind past line kinds.Node d is.of_kind ∙ node_in_order past.node past d is.here ∙ then_err (node_of d) said kind e
+    of_kind past line kinds.Node d is.of_kind ∙ node_in_order past.node past d is.here ∙ then_err (node_in d) said kind e
 
 of_pod : (past : Past) (line : List ℕ) (d : Data) → Stands past line kinds.Pod d → line_at past line ≡ pod_early past d tt
 of_pod past line d is = of_kind past line kinds.Pod d is.of_kind ∙ pod_in_order (version_in past) past d is.here
@@ -322,25 +321,25 @@ of_room past line d is room = of_tick past line d is ∙ passed (nat_le most_tic
 of_moment : (past : Past) (line : List ℕ) (d : Data) (at : ℕ) → HasMoment past line d at → line_at past line ≡ with_moment past d at
 of_moment past line d at is = of_room past line d is.stands is.room ∙ then_ok (moment_of past.ticks (field_at (codes "at") d)) (with_moment past d) at is.moment
 
-of_entries : (past : Past) (line : List ℕ) (d : Data) (at : ℕ) (es : List Entry) → HasEntries past line d at es → line_at past line ≡ with_entries past at es
-of_entries past line d at es is = of_moment past line d at is.has_moment ∙ then_ok (entries_of d) (with_entries past at) es is.entries_are
+of_written : (past : Past) (line : List ℕ) (d : Data) (at : ℕ) (written : TickLine) → HasWritten past line d at written → line_at past line ≡ with_written past at written
+of_written past line d at written is = of_moment past line d at is.has_moment ∙ then_ok (tick_line_in d) (with_written past at) written is.written_is
 
-of_places : (past : Past) (line : List ℕ) (d : Data) (at : ℕ) (placed : List PlacedEntry) → HasPlaces past line d at placed → line_at past line ≡ with_places past at placed
-of_places past line d at placed is = of_entries past line d at is.entries is.has_entries ∙ then_ok (placed_of past.pods is.entries) (with_places past at) placed is.placed_are
+of_places : (past : Past) (line : List ℕ) (d : Data) (at : ℕ) (written : TickLine) (placed : List PlacedEntry) → HasPlaces past line d at written placed → line_at past line ≡ with_places past at written placed
+of_places past line d at written placed is = of_written past line d at written is.has_written ∙ then_ok (placed_of past.pods written.entries) (with_places past at written) placed is.placed_are
 
-of_observed : (past : Past) (line : List ℕ) (d : Data) (at : ℕ) (placed : List PlacedEntry) (kind : FaultKind) → HasPlaces past line d at placed
-    → (refused_if (is_doubled placed) Doubled >>= with_apart past at placed) ≡ Err kind → line_at past line ≡ Err kind
+of_observed : (past : Past) (line : List ℕ) (d : Data) (at : ℕ) (written : TickLine) (placed : List PlacedEntry) (kind : FaultKind) → HasPlaces past line d at written placed
+    → (refused_if (is_doubled placed) Doubled >>= with_apart past at written placed) ≡ Err kind → line_at past line ≡ Err kind
 unfolding observed_in
-of_observed past line d at placed kind is e = of_places past line d at placed is ∙ then_err (observed_in past at placed) (with_tick_seen past) kind e
+of_observed past line d at written placed kind is e = of_places past line d at written placed is ∙ then_err (observed_in past at written placed) (with_tick_seen past) kind e
 
-of_apart : (past : Past) (line : List ℕ) (d : Data) (at : ℕ) (placed : List PlacedEntry) (kind : FaultKind) → IsApart past line d at placed
-    → with_apart past at placed tt ≡ Err kind → line_at past line ≡ Err kind
-of_apart past line d at placed kind is e = of_observed past line d at placed kind is.has_places (passed (is_doubled placed) Doubled (with_apart past at placed) is.apart ∙ e)
+of_apart : (past : Past) (line : List ℕ) (d : Data) (at : ℕ) (written : TickLine) (placed : List PlacedEntry) (kind : FaultKind) → IsApart past line d at written placed
+    → with_apart past at written placed tt ≡ Err kind → line_at past line ≡ Err kind
+of_apart past line d at written placed kind is e = of_observed past line d at written placed kind is.has_places (passed (is_doubled placed) Doubled (with_apart past at written placed) is.apart ∙ e)
 
-of_forwards : (past : Past) (line : List ℕ) (d : Data) (at : ℕ) (placed : List PlacedEntry) (kind : FaultKind) → IsForwards past line d at placed
-    → with_forwards past at placed tt ≡ Err kind → line_at past line ≡ Err kind
-of_forwards past line d at placed kind is e =
-    of_apart past line d at placed kind is.is_apart (passed (is_backwards past.ticks (observed at placed past.pods)) Backwards (with_forwards past at placed) is.forwards ∙ e)
+of_forwards : (past : Past) (line : List ℕ) (d : Data) (at : ℕ) (written : TickLine) (placed : List PlacedEntry) (kind : FaultKind) → IsForwards past line d at written placed
+    → with_forwards past at written placed tt ≡ Err kind → line_at past line ≡ Err kind
+of_forwards past line d at written placed kind is e =
+    of_apart past line d at written placed kind is.is_apart (passed (is_backwards past.ticks (observed at written placed past.pods)) Backwards (with_forwards past at written placed) is.forwards ∙ e)
 
 fails_line : (past : Past) (line : List ℕ) (kind : FaultKind) → Fails past line kind → line_at past line ≡ Err kind
 fails_line past line _ (too_long long) = of_long past line long
@@ -353,11 +352,11 @@ fails_line past line _ (wrong_pod d kind is room e) = of_pod_room past line d is
 fails_line past line _ (duplicate_pod d pod is known) = of_pod_said past line d pod is ∙ failed (has_key past.pods (key_of_pod pod)) DuplicatePod (pod_new past pod) (there_key past.pods (key_of_pod pod) known)
 fails_line past line _ (many_ticks d is many) = of_tick past line d is ∙ failed (nat_le most_ticks (length past.ticks)) TooMany (with_room past d) (le-leb most_ticks (length past.ticks) many)
 fails_line past line _ (wrong_moment d kind is room e) = of_room past line d is room ∙ then_err (moment_of past.ticks (field_at (codes "at") d)) (with_moment past d) kind e
-fails_line past line _ (wrong_entry d at kind is e) = of_moment past line d at is ∙ then_err (entries_of d) (with_entries past at) kind e
-fails_line past line _ (stranger d at es kind is e) = of_entries past line d at es is ∙ then_err (placed_of past.pods es) (with_places past at) kind e
-fails_line past line _ (doubled d at placed is twice) = of_observed past line d at placed Doubled is (failed (is_doubled placed) Doubled (with_apart past at placed) twice)
-fails_line past line _ (backwards d at placed is back) = of_apart past line d at placed Backwards is (failed (is_backwards past.ticks (observed at placed past.pods)) Backwards (with_forwards past at placed) back)
-fails_line past line _ (no_code d at placed is missing) = of_forwards past line d at placed ExitCode is (failed (some_code_missing placed) ExitCode (with_code past at placed) missing)
+fails_line past line _ (wrong_field d at kind is e) = of_moment past line d at is ∙ then_err (tick_line_in d) (with_written past at) kind e
+fails_line past line _ (stranger d at written kind is e) = of_written past line d at written is ∙ then_err (placed_of past.pods written.entries) (with_places past at written) kind e
+fails_line past line _ (doubled d at written placed is twice) = of_observed past line d at written placed Doubled is (failed (is_doubled placed) Doubled (with_apart past at written placed) twice)
+fails_line past line _ (backwards d at written placed is back) = of_apart past line d at written placed Backwards is (failed (is_backwards past.ticks (observed at written placed past.pods)) Backwards (with_forwards past at written placed) back)
+fails_line past line _ (no_code d at written placed is missing) = of_forwards past line d at written placed ExitCode is (failed (some_code_missing placed) ExitCode (with_code past at written placed) missing)
 
 pub first_check : FirstCheck
 first_check past line kind = (line_fails past line kind, fails_line past line kind)
@@ -376,22 +375,22 @@ unfolding tick_at observed_in
 tick_says past line d next is e =
     let room = cleared (nat_le most_ticks (length past.ticks)) TooMany (with_room past d) next e in
     let at = bind_ok (moment_of past.ticks (field_at (codes "at") d)) (with_moment past d) next room.1 in
-    let es = bind_ok (entries_of d) (with_entries past at.0) next at.2 in
-    let placed = bind_ok (placed_of past.pods es.0) (with_places past at.0) next es.2 in
-    let tick = bind_ok (observed_in past at.0 placed.0) (with_tick_seen past) next placed.2 in
-    let apart = cleared (is_doubled placed.0) Doubled (with_apart past at.0 placed.0) tick.0 tick.1 in
-    let forwards = cleared (is_backwards past.ticks (observed at.0 placed.0 past.pods)) Backwards (with_forwards past at.0 placed.0) tick.0 apart.1 in
-    let coded = cleared (some_code_missing placed.0) ExitCode (with_code past at.0 placed.0) tick.0 forwards.1 in
-    let is_tick : observed at.0 placed.0 past.pods ≡ tick.0 = same_value {E = FaultKind} (observed at.0 placed.0 past.pods) tick.0 coded.1 in
+    let written = bind_ok (tick_line_in d) (with_written past at.0) next at.2 in
+    let placed = bind_ok (placed_of past.pods written.0.entries) (with_places past at.0 written.0) next written.2 in
+    let tick = bind_ok (observed_in past at.0 written.0 placed.0) (with_tick_seen past) next placed.2 in
+    let apart = cleared (is_doubled placed.0) Doubled (with_apart past at.0 written.0 placed.0) tick.0 tick.1 in
+    let forwards = cleared (is_backwards past.ticks (observed at.0 written.0 placed.0 past.pods)) Backwards (with_forwards past at.0 written.0 placed.0) tick.0 apart.1 in
+    let coded = cleared (some_code_missing placed.0) ExitCode (with_code past at.0 written.0 placed.0) tick.0 forwards.1 in
+    let is_tick : observed at.0 written.0 placed.0 past.pods ≡ tick.0 = same_value {E = FaultKind} (observed at.0 written.0 placed.0 past.pods) tick.0 coded.1 in
     let is_next : with_tick past tick.0 ≡ next = same_value {E = FaultKind} (with_tick past tick.0) next tick.2 in
     let has_moment : HasMoment past line d at.0 = record { stands = is; room = leb-false most_ticks (length past.ticks) room.0; moment = at.1 } in
-    let has_entries : HasEntries past line d at.0 es.0 = record { has_moment = has_moment; entries_are = es.1 } in
-    let has_places : HasPlaces past line d at.0 placed.0 = record { entries = es.0; has_entries = has_entries; placed_are = placed.1 } in
-    let is_apart : IsApart past line d at.0 placed.0 = record { has_places = has_places; apart = apart.0 } in
-    let is_forwards : IsForwards past line d at.0 placed.0 = record { is_apart = is_apart; forwards = forwards.0 } in
-    let says : Says past line (with_tick past (observed at.0 placed.0 past.pods)) = says_tick d at.0 placed.0 is_forwards coded.0 in
+    let has_written : HasWritten past line d at.0 written.0 = record { has_moment = has_moment; written_is = written.1 } in
+    let has_places : HasPlaces past line d at.0 written.0 placed.0 = record { has_written = has_written; placed_are = placed.1 } in
+    let is_apart : IsApart past line d at.0 written.0 placed.0 = record { has_places = has_places; apart = apart.0 } in
+    let is_forwards : IsForwards past line d at.0 written.0 placed.0 = record { is_apart = is_apart; forwards = forwards.0 } in
+    let says : Says past line (with_tick past (observed at.0 written.0 placed.0 past.pods)) = says_tick d at.0 written.0 placed.0 is_forwards coded.0 in
     subst (λ (p : Past). Says past line p) {x = with_tick past tick.0} {y = next} is_next
-    (subst (λ (t : TickObs). Says past line (with_tick past t)) {x = observed at.0 placed.0 past.pods} {y = tick.0} is_tick says)
+    (subst (λ (t : TickObs). Says past line (with_tick past t)) {x = observed at.0 written.0 placed.0 past.pods} {y = tick.0} is_tick says)
 
 pod_says : (version : Version) (past : Past) (line : List ℕ) (d : Data) (next : Past) → version_in past ≡ Some version → IsOfKind line kinds.Pod d → pod_line_at version past d ≡ Ok next → Says past line next
 unfolding pod_line_at
@@ -410,7 +409,7 @@ unfolding with_node
 node_says past line d next is e =
     let said : NodeConfig → Past = of_node past in
     let last : NodeConfig → Result Past FaultKind = λ node. Ok (said node) in
-    let node = bind_ok (node_of d) last next e in
+    let node = bind_ok (node_in d) last next e in
     let is_next : said node.0 ≡ next = same_value {E = FaultKind} (said node.0) next node.2 in
     subst (λ (p : Past). Says past line p) {x = said node.0} is_next (says_node d node.0 is node.1)
 
@@ -436,29 +435,29 @@ line_says_it past line next e =
     kind_says past line json.0 (kind_from (text_at (codes "kind") json.0)) next is refl json.2
 
 -- from what a line says to what it leaves
-node_line : (past : Past) (line : List ℕ) (d : Data) (node : NodeConfig) → Stands past line kinds.Node d → node_of d ≡ Ok node
+node_line : (past : Past) (line : List ℕ) (d : Data) (node : NodeConfig) → Stands past line kinds.Node d → node_in d ≡ Ok node
     → line_at past line ≡ Ok (of_node past node)
 unfolding with_node
 node_line past line d node is e =
     let said : NodeConfig → Result Past FaultKind = λ node. Ok (of_node past node) in
-    of_kind past line kinds.Node d is.of_kind ∙ node_in_order past.node past d is.here ∙ then_ok (node_of d) said node e
+    of_kind past line kinds.Node d is.of_kind ∙ node_in_order past.node past d is.here ∙ then_ok (node_in d) said node e
 
-tick_line : (past : Past) (line : List ℕ) (d : Data) (at : ℕ) (placed : List PlacedEntry) → IsForwards past line d at placed → some_code_missing placed ≡ false
-    → line_at past line ≡ Ok (with_tick past (observed at placed past.pods))
+tick_line : (past : Past) (line : List ℕ) (d : Data) (at : ℕ) (written : TickLine) (placed : List PlacedEntry) → IsForwards past line d at written placed → some_code_missing placed ≡ false
+    → line_at past line ≡ Ok (with_tick past (observed at written placed past.pods))
 unfolding observed_in
-tick_line past line d at placed is coded =
-    let seen = observed at placed past.pods in
-    let given : observed_in past at placed ≡ Ok seen =
-    passed (is_doubled placed) Doubled (with_apart past at placed) is.is_apart.apart
-    ∙ passed (is_backwards past.ticks seen) Backwards (with_forwards past at placed) is.forwards
-    ∙ passed (some_code_missing placed) ExitCode (with_code past at placed) coded in
-    of_places past line d at placed is.is_apart.has_places ∙ then_ok (observed_in past at placed) (with_tick_seen past) seen given
+tick_line past line d at written placed is coded =
+    let seen = observed at written placed past.pods in
+    let given : observed_in past at written placed ≡ Ok seen =
+    passed (is_doubled placed) Doubled (with_apart past at written placed) is.is_apart.apart
+    ∙ passed (is_backwards past.ticks seen) Backwards (with_forwards past at written placed) is.forwards
+    ∙ passed (some_code_missing placed) ExitCode (with_code past at written placed) coded in
+    of_places past line d at written placed is.is_apart.has_places ∙ then_ok (observed_in past at written placed) (with_tick_seen past) seen given
 
 says_line : (past : Past) (line : List ℕ) (next : Past) → Says past line next → line_at past line ≡ Ok next
 says_line past line _ (says_node d node is e) = node_line past line d node is e
 says_line past line _ (says_pod d pod is new) =
     of_pod_said past line d pod is ∙ passed (has_key past.pods (key_of_pod pod)) DuplicatePod (pod_new past pod) (nowhere_key past.pods (key_of_pod pod) new)
-says_line past line _ (says_tick d at placed is coded) = tick_line past line d at placed is coded
+says_line past line _ (says_tick d at written placed is coded) = tick_line past line d at written placed is coded
 
 pub all_checks : AllChecks
 all_checks past line next = (line_says_it past line next, says_line past line next)

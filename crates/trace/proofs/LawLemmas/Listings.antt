@@ -4,7 +4,8 @@ use Rattle.std.specs.Prelude.{◌==◌, option_and_then}
 use Rattle.std.specs.List.{list_any}
 use Rattle.std.proofs.lemmas.Bool.{cases_Bool, or_parts, eqb-true, eq-eqb}
 use Rattle.state_diff.specs.declared.seen.Seen.{Seen}
-use Rattle.trace.specs.declared.listing.ListedInstance.{ListedInstance}
+use Rattle.tick_lines.specs.declared.listing.ListedInstance.{ListedInstance}
+use Rattle.tick_lines.specs.declared.line.TickLine.{TickLine}
 use Rattle.trace.specs.declared.placing.PlacedListing.{PlacedListing}
 use Rattle.manifest.specs.declared.pod.ContainerSpec.{ContainerSpec}
 use Rattle.manifest.specs.declared.pod.PodSpec.{PodSpec}
@@ -60,7 +61,7 @@ is_given : (ls : List PlacedListing) (n : ℕ) (seen : Seen) → has_twice are_o
 is_given ls n seen once (m, instance, here, is) = given ls n instance once m here ∙ ap Some is
 
 -- the entry of a pod
-entry_found : (es : List PlacedEntry) (n : ℕ) (entry : PlacedEntry) → entry_for es n ≡ Some entry → (k : ℕ) × (slice_get es k ≡ Some entry) × (entry.pod ≡ n)
+pub entry_found : (es : List PlacedEntry) (n : ℕ) (entry : PlacedEntry) → entry_for es n ≡ Some entry → (k : ℕ) × (slice_get es k ≡ Some entry) × (entry.pod ≡ n)
 entry_found [] n entry e = absurd (cc)
 entry_found (x ∷ xs) n entry e = elim (cases_Bool (x.pod == n)) [
   | inl here ↦
@@ -73,7 +74,7 @@ entry_found (x ∷ xs) n entry e = elim (cases_Bool (x.pod == n)) [
       (suc later.0, later.1, later.2)
 ]
 
-entry_given : (es : List PlacedEntry) (n : ℕ) (entry : PlacedEntry) → has_twice are_of_one_pod es ≡ false → (k : ℕ) → slice_get es k ≡ Some entry → entry.pod ≡ n → entry_for es n ≡ Some entry
+pub entry_given : (es : List PlacedEntry) (n : ℕ) (entry : PlacedEntry) → has_twice are_of_one_pod es ≡ false → (k : ℕ) → slice_get es k ≡ Some entry → entry.pod ≡ n → entry_for es n ≡ Some entry
 entry_given [] n entry once k here is = absurd (cc)
 entry_given (x ∷ xs) n entry once zero here is =
     let same : x ≡ entry = cc in
@@ -108,7 +109,7 @@ container_at ls rs n (x ∷ xs) (suc c) lt =
     let same : n + 1 + c ≡ n + suc c = omega arith in
     container_at ls rs (n + 1) xs c (omega arith) ∙ ap (seen_in ls) same
 
-pod_at : (at : ℕ) (es : List PlacedEntry) (n : ℕ) (pods : List PodSpec) (p : ℕ) (pod : PodSpec) → slice_get pods p ≡ Some pod
+pub pod_at : (at : ℕ) (es : List PlacedEntry) (n : ℕ) (pods : List PodSpec) (p : ℕ) (pod : PodSpec) → slice_get pods p ≡ Some pod
     → slice_get (pods_from at es n pods) p ≡ Some (pod_observed at (entry_for es (n + p)) pod)
 pod_at at es n [] p pod here = absurd (cc)
 pod_at at es n (x ∷ xs) zero pod here =
@@ -119,9 +120,9 @@ pod_at at es n (x ∷ xs) (suc p) pod here =
     let place : n + 1 + p ≡ n + suc p = omega arith in
     pod_at at es (n + 1) xs p pod here ∙ ap (λ (k : ℕ). Some (pod_observed at (entry_for es k) pod)) place
 
-seen_is : (at : ℕ) (es : List PlacedEntry) (pods : List PodSpec) (n c : ℕ) (pod : PodSpec) → slice_get pods n ≡ Some pod → c < length pod.containers
-    → seen_of (observed at es pods) n c ≡ seen_in (listings_of (entry_for es n)) c
-seen_is at es pods n c pod here lt =
+seen_is : (at : ℕ) (written : TickLine) (es : List PlacedEntry) (pods : List PodSpec) (n c : ℕ) (pod : PodSpec) → slice_get pods n ≡ Some pod → c < length pod.containers
+    → seen_of (observed at written es pods) n c ≡ seen_in (listings_of (entry_for es n)) c
+seen_is at written es pods n c pod here lt =
     let zeroth : 0 + n ≡ n = omega arith in
     let first : 0 + c ≡ c = omega arith in
     let entry = entry_for es n in
@@ -143,6 +144,6 @@ listed es n c seen apart (k, entry, here, is, given) =
     ap (λ (o : Option PlacedEntry). seen_in (listings_of o) c) found ∙ is_given entry.listings c seen (once_in es k entry parts.1 here) given
 
 pub listings_shown : ListingsShown
-listings_shown at es pods n c pod seen apart here lt =
-    let is = seen_is at es pods n c pod here lt in
+listings_shown at written es pods n c pod seen apart here lt =
+    let is = seen_is at written es pods n c pod here lt in
     (λ e. lists es n c seen (entry_for es n) refl (sym is ∙ e), λ given. is ∙ listed es n c seen apart given)

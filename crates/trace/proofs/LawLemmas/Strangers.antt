@@ -10,9 +10,9 @@ use Rattle.manifest.specs.declared.pod.PodSpec.{PodSpec}
 use Rattle.manifest.specs.Containers.{names_of}
 use Rattle.trace.specs.declared.fault.FaultKind.{FaultKind}
 use Rattle.trace.specs.declared.fault.FaultKind.TheVariants.{StrangerPod, StrangerContainer}
-use Rattle.trace.specs.declared.listing.Listing.{Listing}
-use Rattle.trace.specs.declared.listing.Entry.{Entry}
-use Rattle.trace.specs.declared.probing.ProbeResult.{ProbeResult}
+use Rattle.tick_lines.specs.declared.listing.Listing.{Listing}
+use Rattle.tick_lines.specs.declared.entry.Entry.{Entry}
+use Rattle.tick_lines.specs.declared.probing.ProbeResult.{ProbeResult}
 use Rattle.trace.specs.declared.placing.PlacedListing.{PlacedListing}
 use Rattle.trace.specs.declared.placing.PlacedResult.{PlacedResult}
 use Rattle.trace.specs.declared.placing.PlacedEntry.{PlacedEntry}
@@ -74,11 +74,11 @@ pod_is_there (pod ∷ pods) key n e =
     (get_or (pod ∷ pods) n pod, slice_get-get_or (pod ∷ pods) n pod (omega arith))
 
 -- the steps of an entry
-abbrev placed : ℕ → List PlacedListing → List PlacedResult → Result PlacedEntry FaultKind
-placed number listings results = Ok (record { pod = number; listings = listings; results = results })
+abbrev placed : Entry → ℕ → List PlacedListing → List PlacedResult → Result PlacedEntry FaultKind
+placed entry number listings results = Ok (record { pod = number; listings = listings; results = results; usage = entry.usage })
 
 abbrev with_listings : Entry → ℕ → PodSpec → List PlacedListing → Result PlacedEntry FaultKind
-with_listings entry number pod listings = each (placed_result pod) entry.results >>= placed number listings
+with_listings entry number pod listings = each (placed_result pod) entry.results >>= placed entry number listings
 
 abbrev with_pod : Entry → ℕ → PodSpec → Result PlacedEntry FaultKind
 with_pod entry number pod = each (placed_listing pod) entry.listings >>= with_listings entry number pod
@@ -112,12 +112,12 @@ known_fault entry number pod kind e = elim (bind_err (each (placed_listing pod) 
       let at = each_at (placed_listing pod) entry.listings kind faulty in
       let why = listing_fault pod at.1 kind at.3 in
       (why.1, inl (at.0, at.1, at.2, why.0))
-  | inr listings ↦ elim (bind_err (each (placed_result pod) entry.results) (placed number listings.0) kind listings.2) [
+  | inr listings ↦ elim (bind_err (each (placed_result pod) entry.results) (placed entry number listings.0) kind listings.2) [
     | inl faulty ↦
         let at = each_at (placed_result pod) entry.results kind faulty in
         let why = result_fault pod at.1 kind at.3 in
         (why.1, inr (at.0, at.1, at.2, why.0))
-    | inr done ↦ absurd (no_fault (record { pod = number; listings = listings.0; results = done.0 }) kind done.2)
+    | inr done ↦ absurd (no_fault (record { pod = number; listings = listings.0; results = done.0; usage = entry.usage }) kind done.2)
   ]
 ]
 
@@ -134,7 +134,7 @@ known_is entry number pod (inr (m, result, here, unknown)) (Ok listings) e =
     let one : placed_result pod result ≡ Err StrangerContainer =
     then_err (container_number pod result.container) last StrangerContainer (ap (λ (found : Option ℕ). some_or StrangerContainer found) unknown) in
     then_ok (each (placed_listing pod) entry.listings) (with_listings entry number pod) listings e
-    ∙ then_err (each (placed_result pod) entry.results) (placed number listings) StrangerContainer
+    ∙ then_err (each (placed_result pod) entry.results) (placed entry number listings) StrangerContainer
     (each_meets (placed_result pod) StrangerContainer entry.results m result here one (λ m z other at e. (result_fault pod z other e).1))
 known_is entry number pod (inr other) (Err kind) e =
     let at = each_at (placed_listing pod) entry.listings kind e in

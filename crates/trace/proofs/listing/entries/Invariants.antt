@@ -1,9 +1,0 @@
-use Rattle.std.proofs.Common.{◌≡◌, map, drop}
-use Rattle.serde_json.specs.View.{view}
-use Rattle.json_fields.specs.Reading.{each}
-use Rattle.json_fields.proofs.Each.{with_front}
-use Rattle.trace.specs.Listings.{entry_of}
-use Rattle.trace.proofs.listing.entries.Given as goal
-
-abbrev pub invariant-loop-value : goal.invariant-loop-value
-invariant-loop-value l = with_front l.all.items (each entry_of (map view (drop l.value-index l.values))) ≡ each entry_of (map view l.values)

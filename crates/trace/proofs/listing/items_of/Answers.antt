@@ -1,5 +1,0 @@
-use Rattle.trace.proofs.Found.{items_found}
-use Rattle.trace.proofs.listing.items_of.Goals as goal
-
-pub returns-in-Some-as_array : goal.returns-in-Some-as_array
-returns-in-Some-as_array c = rw (c.in-Some.is, c.as_slice.ensures.value) (items_found c.in-Some-as_array.list.now.items _ c.in-Some-as_array.ensures)

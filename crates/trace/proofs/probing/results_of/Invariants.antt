@@ -1,9 +1,0 @@
-use Rattle.std.proofs.Common.{◌≡◌, map, drop}
-use Rattle.serde_json.specs.View.{view}
-use Rattle.json_fields.specs.Reading.{each}
-use Rattle.json_fields.proofs.Each.{with_front}
-use Rattle.trace.specs.Results.{result_of}
-use Rattle.trace.proofs.probing.results_of.Given as goal
-
-abbrev pub invariant-loop-value : goal.invariant-loop-value
-invariant-loop-value l = with_front l.all.items (each result_of (map view (drop l.value-index l.values))) ≡ each result_of (map view l.values)
