@@ -1,3 +1,3 @@
-pub mod PodTicks
 pub mod Parts
+pub mod Replayed
 pub mod Unique

@@ -1,7 +1,9 @@
 pub mod Texts
 pub mod Fault
 pub mod PodHistory
+pub mod Pieces
 pub mod Lines
 pub mod Report
+pub mod Samples
 pub mod Run
 pub mod Laws

@@ -2,10 +2,11 @@
 #![tactic(auto)]
 
 mod fault;
-mod follow;
+mod pieces;
 pub mod laws;
 mod replay;
 mod report;
+mod samples;
 mod text;
 
 pub use fault::{RunFault, fault_line, status_of};

@@ -39,10 +39,9 @@ config_only (Err fault) = only_err IsConfig Config refl
 some_only : {A : Type 0} (found : Option A) → Only IsConfig (some_or Config found)
 some_only found = only_some IsConfig Config found refl
 
-each_only : {A : Type 0} (read : Signal → Result A NodeFault) → ((signal : Signal) → Only IsConfig (read signal)) → Only IsConfig (read_each read)
+each_only : {A : Type 0} (P : NodeFault → Type 0) (read : Signal → Result A NodeFault) → ((signal : Signal) → Only P (read signal)) → Only P (read_each read)
 unfolding read_each
-each_only read one =
-    let P = IsConfig in
+each_only P read one =
     only_bind P _ _ (one MemoryAvailable) (λ a.
     only_bind P _ _ (one NodefsAvailable) (λ b.
     only_bind P _ _ (one ImagefsAvailable) (λ c.
@@ -53,7 +52,7 @@ each_only read one =
 map_only : {A : Type 0} (read : Signal → Option Data → Result A NodeFault) (found : Option Data) → ((signal : Signal) (d : Option Data) → Only IsConfig (read signal d)) → Only IsConfig (map_of read found)
 unfolding map_of
 map_only read found one =
-    only_bind IsConfig _ _ (only_refused IsConfig (not (is_signal_map found)) Config refl) (λ alone. each_only (λ s. read s (in_map found s)) (λ s. one s (in_map found s)))
+    only_bind IsConfig _ _ (only_refused IsConfig (not (is_signal_map found)) Config refl) (λ alone. each_only IsConfig (λ s. read s (in_map found s)) (λ s. one s (in_map found s)))
 
 quantity_only : (found : Option Data) → Only IsConfig (quantity_at found)
 quantity_only None = only_ok IsConfig None
@@ -216,3 +215,30 @@ missing_grace_comes_last d e =
       | inr well ↦ let last = well.2 in absurd (cc)
     ] in
     (record { name = rw a.1 refl; settings = rw b.1 refl; maps = rw c.1 refl }, lacks d c.0 c.1 (soft_refused c.0 soft))
+
+-- of a whole line
+abbrev pub IsNodeFault : NodeFault → Type 0
+IsNodeFault fault = (fault ≡ Config) ⊎ (fault ≡ SoftWithoutGrace)
+
+among : {A : Type 0} (r : Result A NodeFault) → Only IsConfig r → Only IsNodeFault r
+among (Ok x) only = only_ok IsNodeFault x
+among (Err fault) only = only_err IsNodeFault fault (inl (only.has fault refl))
+
+soft_only : (limit : Option Limit) (reclaim : Limit) (grace : Option ℕ) → Only IsNodeFault (soft_threshold limit reclaim grace)
+soft_only None reclaim grace = only_ok IsNodeFault None
+soft_only (Some limit) reclaim None = only_err IsNodeFault SoftWithoutGrace (inr refl)
+soft_only (Some limit) reclaim (Some grace) = only_ok IsNodeFault _
+
+thresholds_only : (written : Written) → Only IsNodeFault (eviction_from written)
+thresholds_only written =
+    let P = IsNodeFault in
+    only_bind P _ _ (each_only P (λ s. soft_threshold (of written.soft s) (of written.reclaims s) (of written.graces s)) (λ s. soft_only (of written.soft s) (of written.reclaims s) (of written.graces s))) (λ soft. only_ok P _)
+
+pub node_only : (d : Data) → Only IsNodeFault (node_of d)
+unfolding node_of
+node_only d =
+    let P = IsNodeFault in
+    only_bind P _ _ (among _ (name_only (text_at (codes "name") d))) (λ name.
+    only_bind P _ _ (among _ (settings_only d)) (λ settings.
+    only_bind P _ _ (among _ (written_only d)) (λ written.
+    only_bind P _ _ (thresholds_only written) (λ eviction. only_ok P _))))

@@ -9,4 +9,4 @@ mod usage;
 pub use container::ContainerObs;
 pub use pod::PodObs;
 pub use tick::{TickObs, seen_of};
-pub use usage::Usage;
+pub use usage::{Usage, UsageSample};

@@ -1,5 +1,5 @@
 use crate::container::ContainerObs;
-use crate::usage::Usage;
+use crate::usage::UsageSample;
 use sequence::Sequence;
 
 /// What a tick shows of one pod.
@@ -10,5 +10,5 @@ pub struct PodObs {
     /// One observation for each container, by number.
     pub containers: Sequence<ContainerObs>,
     /// What the pod used, where the tick has a sample of it.
-    pub usage: Option<Box<Usage>>,
+    pub usage: UsageSample,
 }

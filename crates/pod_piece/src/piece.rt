@@ -134,6 +134,13 @@ impl PodPiece {
         })
     }
 
+    /// The pod's specification.
+    pub fn pod(&self) -> &PodSpec
+        ensures { result.now ≡ self.now.pod }
+    {
+        &self.pod
+    }
+
     /// Whether a tick was handed to it that has not come into its status yet.
     pub fn pending(&self) -> bool
         ensures { result ≡ self.now.is_pending }

@@ -1,14 +1,21 @@
-use Rattle.std.proofs.Common.{◌≡◌, ◌∙◌, ℕ, ◌<◌, List, ◌++◌, length, get_or, string_bytes, subst, ap}
+use Rattle.std.proofs.Common.{◌≡◌, ◌∙◌, List, ap, sym, subst, string_bytes}
 use Rattle.manifest.specs.declared.pod.PodSpec.{PodSpec}
-use Rattle.kubelet_replay.proofs.Parts.{report_next}
+use Rattle.observations.specs.declared.tick.TickObs.{TickObs}
+use Rattle.pod_piece.specs.Piece.{Piece}
+use Rattle.kubelet_replay.specs.Pieces.{pieces_from, AreReplayable}
+use Rattle.kubelet_replay.proofs.Replayed.{are_replayable}
 use Rattle.kubelet_replay.proofs.report.report_of.Goals as goal
 
-pub loop-number-preserved : goal.loop-number-preserved
-loop-number-preserved c =
-    let n = c.loop-number.number in
-    let pods = c.args.trace.now.pods in
-    let same = c.as_slice-pod-items.ensures in
-    let pod : c.pod-item.result ≡ get_or pods n c.pod-item.result = subst (λ (ps : List PodSpec). c.pod-item.result ≡ get_or ps n c.pod-item.result) same c.pod-item.is in
-    let within : n < length pods = subst (λ (ps : List PodSpec). n < length ps) same c.loop-number-test.true in
-    let text = c.in_ok-push_str.ensures.bytes ∙ ap (λ (bytes : List ℕ). string_bytes c.loop-number.report ++ bytes) c.as_str.ensures.value in
-    report_next c.args.trace.now.ticks pods n c.pod-item.result (string_bytes c.loop-number.report) (string_bytes c.in_ok-lines.lines) (string_bytes c.push_str.new.self) within pod c.loop-number.invariant c.in_ok-lines.ensures text
+pub replayed-requires : goal.replayed-requires
+replayed-requires c =
+    let trace = c.args.trace in
+    subst (λ (ts : List TickObs). AreReplayable c.into_vec.result.items ts) (sym c.into_vec-2.ensures)
+    (subst (λ (ps : List PodSpec). AreReplayable ps trace.ticks) (sym c.into_vec.ensures) (are_replayable trace.pods trace.arrivals trace.ticks c.requires.acceptable c.requires.shape))
+
+pub returns : goal.returns
+returns c =
+    let trace = c.args.trace in
+    let greatest = trace.node.max_restart_delay in
+    let made = c.in_ok-pieces.ensures ∙ ap (λ (ps : List PodSpec). pieces_from greatest c.into_vec-2.result.items 0 ps) c.into_vec.ensures
+    ∙ ap (λ (ts : List TickObs). pieces_from greatest ts 0 trace.pods) c.into_vec-2.ensures in
+    c.in_ok-report.ensures greatest trace.ticks trace.pods (c.deref.ensures.value ∙ made)
