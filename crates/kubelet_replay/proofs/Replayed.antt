@@ -142,9 +142,9 @@ may_take_from greatest ticks tick n (pod ∷ pods) (o ∷ os) up next =
     let here : IsNextTick pod (pod_history ticks (n + 0)) (pod_tick o) = next 0 pod o refl (up.each 0) in (
       (refl, subst (λ (k : ℕ). IsNextTick pod (pod_history ticks k) (pod_tick o)) (let e : n + 0 ≡ n = omega arith in e) here),
       may_take_from greatest ticks tick (n + 1) pods os (shift tick n o os up)
-      (λ k q p at shown.
-      let e : n + suc k ≡ n + 1 + k = omega arith in
-      subst (λ (m : ℕ). IsNextTick q (pod_history ticks m) (pod_tick p)) e (next (suc k) q p at (ap (shown_of tick) e ∙ shown))),
+          (λ k q p at shown.
+          let e : n + suc k ≡ n + 1 + k = omega arith in
+          subst (λ (m : ℕ). IsNextTick q (pod_history ticks m) (pod_tick p)) e (next (suc k) q p at (ap (shown_of tick) e ∙ shown))),
     )
 
 pub may_take_tick : (greatest : ℕ) (pods : List PodSpec) (all ticks : List TickObs) (tick : TickObs) (rest : List TickObs) → all ≡ ticks ++ tick ∷ rest → AreReplayable pods all

@@ -2,8 +2,8 @@
 #![tactic(auto)]
 
 mod fault;
-mod pieces;
 pub mod laws;
+mod pieces;
 mod replay;
 mod report;
 mod samples;

@@ -51,7 +51,10 @@ pub(crate) fn report_of(alloc: Global, trace: Trace) -> Result<String, AllocErro
     ensures { IfOk result (λ s. IsReport trace.ticks trace.pods (string_bytes s)) }
 {
     let Trace {
-        node, pods, ticks, ..
+        node,
+        pods,
+        ticks,
+        ..
     } = trace;
     let greatest = node.max_restart_delay;
     let pieces = replayed(alloc, pods.into_vec(), greatest, ticks.into_vec())?;

@@ -31,9 +31,7 @@ fn some_usage(pods: &[PodObs]) -> bool
 fn has_sample(tick: &TickObs) -> bool
     ensures { result ≡ has_sample tick.now }
 {
-    has_value(&tick.signals)
-        || has_value(&tick.after_reclaim)
-        || some_usage(tick.pods.as_slice())
+    has_value(&tick.signals) || has_value(&tick.after_reclaim) || some_usage(tick.pods.as_slice())
 }
 
 /// Whether some tick has one.

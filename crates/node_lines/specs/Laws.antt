@@ -57,7 +57,7 @@ abbrev pub DefaultsWhereNoneIsWritten : Type 0
 DefaultsWhereNoneIsWritten = (d : Data) (node : NodeConfig) (signal : Signal) →
     node_of d ≡ Ok node → field_at (codes "evictionHard") d ≡ None →
     threshold_of node.eviction Hard signal ≡ hard_threshold
-        (where_possible (of node.eviction.capacity signal) (default_limit signal)) (reclaim_written d signal)
+    (where_possible (of node.eviction.capacity signal) (default_limit signal)) (reclaim_written d signal)
 
 -- with it there are no others than its own
 abbrev pub HardIsAsWritten : Type 0

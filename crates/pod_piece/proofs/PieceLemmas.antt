@@ -327,6 +327,7 @@ tick_at h m is = there (slice_get h (length h - 1)) refl (sym (moment_here h (le
     moment_here [] i = refl
     moment_here (x ∷ xs) zero = refl
     moment_here (x ∷ xs) (suc i) = moment_here xs i
+
     there : (o : Option PodTick) → slice_get h (length h - 1) ≡ o → option_map (λ (x : PodTick). x.moment) o ≡ Some m → (entry : PodEntry) × (last_of h ≡ Some (recorded m entry))
     there None e at = absurd (let w : None ≡ Some m = at in cc)
     there (Some x) e at = let same : x.moment ≡ m = (let w : Some x.moment ≡ Some m = at in cc) in (x.entry, e ∙ ap (λ n. Some (recorded n x.entry)) same)

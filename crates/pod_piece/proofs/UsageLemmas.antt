@@ -54,7 +54,7 @@ pub no_usage : (pod : PodSpec) (evicted : Option ℕ) → IsUsageOf pod evicted 
 no_usage pod evicted = record {
   end = None;
   is_end = λ t s. let lt : t < 0 = s.within in absurd (omega arith);
-  newest = record { memory = λ t has. has; volumes = λ t has. has; logs = λ t has. has; writable = λ t has. has; inodes = λ t has. has; pids = λ t has. has; };
+  newest = record { memory = λ t has. has; volumes = λ t has. has; logs = λ t has. has; writable = λ t has. has; inodes = λ t has. has; pids = λ t has. has };
 }
 
 -- what a pod that has ended used stays

@@ -21,7 +21,12 @@ pub record Piece : Type 0 where
 -- one of these values, with its observations as ticks
 abbrev pub piece : ℕ → PodSpec → ℕ → List PodObs → Bool → Option Eviction → Piece
 piece number pod greatest history is_pending eviction = record {
-  number = number; pod = pod; greatest = greatest; handed = map pod_tick history; is_pending = is_pending; eviction = eviction;
+  number = number;
+  pod = pod;
+  greatest = greatest;
+  handed = map pod_tick history;
+  is_pending = is_pending;
+  eviction = eviction;
 }
 
 -- all ticks but the last
@@ -71,6 +76,10 @@ updated p = record { number = p.number; pod = p.pod; greatest = p.greatest; hand
 -- its last tick evicts it
 abbrev pub with_eviction : Piece → EvictOrder → Piece
 with_eviction p order = record {
-  number = p.number; pod = p.pod; greatest = p.greatest; handed = p.handed; is_pending = p.is_pending;
+  number = p.number;
+  pod = p.pod;
+  greatest = p.greatest;
+  handed = p.handed;
+  is_pending = p.is_pending;
   eviction = Some (record { place = length p.handed - 1; order = order });
 }

@@ -130,11 +130,7 @@ pub(crate) fn views_of(
 }
 
 /// Shows each container in its place; `is_evicted` says whether the pod was evicted.
-pub(crate) fn show(
-    containers: &[Container],
-    is_evicted: bool,
-    statuses: &mut Vec<ContainerStatus>,
-)
+pub(crate) fn show(containers: &[Container], is_evicted: bool, statuses: &mut Vec<ContainerStatus>)
     requires { length statuses.old.items ≡ length containers.now }
     ensures { (pod : PodSpec) (greatest : ℕ) (h : List PodTick)
         → AreContainersOf pod greatest h containers.now → AreShown pod (IsTrue is_evicted) h statuses.new.items }

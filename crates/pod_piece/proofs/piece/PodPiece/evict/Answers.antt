@@ -45,8 +45,15 @@ invariant_of-self c =
     let k = h ++ x ∷ [] in
     let place : length p.handed - 1 ≡ c.len-place.result - 1 = omega (arith, c.len-place.ensures, i.history.ok, length-map i.history.items pod_tick) in
     let status : PodStatus = record {
-      number = i.status.number; phase = c.lifecycle-lifecycle.result.phase; conditions = c.lifecycle-lifecycle.result.conditions; containers = c.show.new.statuses;
-      class = i.status.class; requests = i.status.requests; usage = i.status.usage; priority = i.status.priority; order = Some c.args.order;
+      number = i.status.number;
+      phase = c.lifecycle-lifecycle.result.phase;
+      conditions = c.lifecycle-lifecycle.result.conditions;
+      containers = c.show.new.statuses;
+      class = i.status.class;
+      requests = i.status.requests;
+      usage = i.status.usage;
+      priority = i.status.priority;
+      order = Some c.args.order;
     } in
     let kept = kept_evicted p x c.args.order i.differs.items i.state c.evict.new.self i.status status i.events.items free lives last.1 c.self.invariant
     (λ was before is. (c.evict.ensures.state i.pod i.greatest h last.0 was before is, c.evict.ensures.ends i.pod i.greatest h last.0 was before is))
