@@ -1,6 +1,6 @@
 -- What the definition of a tick line implies, in the words of the format.
 use Rattle.std.specs.Prelude.{◌≡◌, ◌↔◌, ℕ, false, List, [], ◌∷◌, Option, Some, None, option_and_then, Result, Ok, Err, codes}
-use Rattle.std.specs.List.{AllByRecursion as All, AllZip}
+use Rattle.std.specs.List.{AllByRecursion, AllZip}
 use Rattle.serde_json.specs.Data.{Data, null, object, Items, Members, put}
 use Rattle.serde_json.specs.Find.{as_array, get_member}
 use Rattle.json_fields.specs.Fields.{field_at, text_at, items_list}
@@ -93,7 +93,7 @@ pub record OnlySignals : Type 0 where
 
 -- both have the same in each of the fields
 abbrev pub AreAlike : List (List ℕ) → Data → Data → Type 0
-AreAlike names d e = All (λ name. field_at name d ≡ field_at name e) names
+AreAlike names d e = AllByRecursion (λ name. field_at name d ≡ field_at name e) names
 
 -- values that have the same in these fields say the same
 abbrev pub ReadsOnly : {A : Type 0} → List (List ℕ) → (Data → Result A TickLineFault) → Type 0
