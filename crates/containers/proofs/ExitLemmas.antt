@@ -13,8 +13,9 @@ use Rattle.state_diff.specs.Instances.{Tick, tick, seen_at, IsOf, IsOfAs, Listed
 use Rattle.state_diff.specs.Differ.{IsOfNewest, IsNewestRun, IsStateOf as IsDifferOf, Accepts as DifferAccepts}
 use Rattle.state_diff.proofs.Places.{added}
 use Rattle.state_diff.proofs.Growth.{grows_seen, grows_ends, IsExit-old}
-use Rattle.state_diff.proofs.Listings.{of_weaker, exited_code, start_unlisted}
-use Rattle.state_diff.proofs.Events.{now, first_now, live_listed}
+use Rattle.state_diff.proofs.Listings.{of_weaker, start_unlisted}
+use Rattle.state_diff.proofs.Events.{coded, now, first_now, live_listed}
+use Rattle.state_diff.proofs.Found.{ended_listed}
 use Rattle.state_diff.proofs.Unique.{IsNewest-unique}
 use Rattle.restarts.specs.Exits.{Exit}
 use Rattle.restarts.specs.Delays.{IsDelay}
@@ -104,11 +105,6 @@ exits_stay k d x [] (e ∷ exits) is accepts are = are
 exits_stay k d x (a ∷ attempts) [] is accepts are = are
 exits_stay k d x (a ∷ attempts) (e ∷ exits) is accepts are = (exit_stays k d x a e is accepts are.0, exits_stay k d x attempts exits is accepts are.1)
 
--- one that has ended was listed
-ended_listed : (k : List Tick) (a t : ℕ) → Ends k a t → (u : ℕ) × Listed k a u
-ended_listed k a t (inl q) = (t, of_weaker a Exited (seen_at k t) q)
-ended_listed k a t (inr w) = (w.2.0, w.2.2)
-
 -- it exits by the new tick, which does not list it
 abbrev pub IsGoneNow : List Tick → Tick → ℕ → Type 0
 IsGoneNow k x a = IsExit (k ++ x ∷ []) a (length k) × (Listed (k ++ x ∷ []) a (length k) → ⊥)
@@ -182,10 +178,6 @@ gone_more k d at seen exits start false is accepts first iff are =
 -- the new tick lists an attempt with a code
 abbrev pub DiesWith : List Tick → Tick → ℕ → ℤ → Type 0
 DiesWith k x a code = IsExit (k ++ x ∷ []) a (length k) × IsSomeAnd (seen_at (k ++ x ∷ []) (length k)) (λ seen. (seen.attempt ≡ a) × (seen.code ≡ Some code))
-
-coded : (a : ℕ) (o : Option Seen) → IsSomeAnd o (IsOfAs a Exited) → (code : ℤ) × IsSomeAnd o (λ seen. (seen.attempt ≡ a) × (seen.code ≡ Some code))
-coded a None q = absurd q
-coded a (Some s) q = let k = exited_code s.state s.code s.code_given q.1 in (k.0, (q.0, k.1))
 
 pub uncoded : (a : ℕ) (code : ℤ) (o : Option Seen) → IsSomeAnd o (λ seen. (seen.attempt ≡ a) × (seen.code ≡ Some code)) → IsSomeAnd o (IsOf a)
 uncoded a code None q = q

@@ -10,4 +10,5 @@ mod RestartLemmas
 mod ComesLemmas
 mod EventLemmas
 mod StepLemmas
+pub mod FoundLemmas
 pub mod LawLemmas

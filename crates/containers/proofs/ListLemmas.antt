@@ -7,10 +7,10 @@ use Rattle.containers.specs.Exits.{IsRisingList}
 pub contains_nothing : (b : ℕ) → Contains [] b → ⊥
 contains_nothing b (k, lt, e) = omega arith
 
-contains_here : (x : ℕ) (xs : List ℕ) → Contains (x ∷ xs) x
+pub contains_here : (x : ℕ) (xs : List ℕ) → Contains (x ∷ xs) x
 contains_here x xs = (0, omega arith, refl)
 
-contains_there : (x b : ℕ) (xs : List ℕ) → Contains xs b → Contains (x ∷ xs) b
+pub contains_there : (x b : ℕ) (xs : List ℕ) → Contains xs b → Contains (x ∷ xs) b
 contains_there x b xs (k, lt, e) = (suc k, omega arith, e)
 
 contains_split : (x b : ℕ) (xs : List ℕ) → Contains (x ∷ xs) b → (x ≡ b) ⊎ Contains xs b

@@ -17,6 +17,7 @@ use Rattle.state_diff.specs.Differ.{IsNewestOf, IsListedBy, Follows, IsStateOf a
 use Rattle.state_diff.proofs.Places.{added, split, seen_at-below}
 use Rattle.state_diff.proofs.Growth.{grows_seen, grows_ends, IsEffective-new}
 use Rattle.state_diff.proofs.Listings.{of_weaker, exited_of}
+use Rattle.state_diff.proofs.Found.{ended_listed}
 use Rattle.containers.specs.Ticks.{ContainerTick, listings, StartsAt}
 
 -- a tick as its listing
@@ -75,10 +76,6 @@ newest_now h x d a is q =
     newest_listed (listings (h ++ x ∷ [])) d a is (subst P e ((seen_now (IsOf a) h x).1 q))
 
 -- of an attempt that has ended none is accepted as running
-ended_listed : (k : List Tick) (a t : ℕ) → Ends k a t → (u : ℕ) × Listed k a u
-ended_listed k a t (inl q) = (t, of_weaker a Exited (seen_at k t) q)
-ended_listed k a t (inr w) = (w.2.0, w.2.2)
-
 ended_not_running : (k : List Tick) (d : Differ) (s : Seen) (a t : ℕ) → IsDifferOf k d → DifferAccepts d (Some s) → Ends k a t → s.attempt ≡ a → s.state ≡ Running → ⊥
 ended_not_running k d s a t is accepts ends same runs = there d.newest is.newest accepts
   where

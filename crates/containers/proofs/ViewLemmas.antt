@@ -22,7 +22,7 @@ use Rattle.containers.specs.Probed.{Serves, IsStarted, IsReady}
 use Rattle.containers.specs.Shown.{IsContainerState, IsRestarts, HasExitedWith, IsShown, IsViewOf}
 
 -- the state that a view shows
-state_is : (h : List Tick) (o : Option Seen) → IsNewestSeen h o → IsContainerState h (state_shown o)
+pub state_is : (h : List Tick) (o : Option Seen) → IsNewestSeen h o → IsContainerState h (state_shown o)
 state_is h None none = inl (none, refl)
 state_is h (Some s) is = there s.state is.state
   where
@@ -35,7 +35,7 @@ state_is h (Some s) is = there s.state is.state
     there Unknown (inr (none, inr w)) = let e : Unknown ≡ Created = w.1 in cc
 
 -- the restarts that it shows
-restarts_is : (h : List Tick) (o : Option Seen) → IsNewestSeen h o → IsRestarts h (restarts_of o)
+pub restarts_is : (h : List Tick) (o : Option Seen) → IsNewestSeen h o → IsRestarts h (restarts_of o)
 restarts_is h None none = inl (none, refl)
 restarts_is h (Some s) is = inr is.newest
 

@@ -1,5 +1,5 @@
 -- What holds of a container whatever its ticks were.
-use Rattle.std.specs.Prelude.{◌≡◌, ℕ, List}
+use Rattle.std.specs.Prelude.{◌≡◌, ℕ, Bool, List, IsTrue}
 use Rattle.manifest.specs.declared.policy.Policy.{Policy}
 use Rattle.manifest.specs.declared.pod.ContainerSpec.{ContainerSpec}
 use Rattle.state_diff.specs.Instances.{Tick, IsNewest, IsExit}
@@ -7,11 +7,31 @@ use Rattle.probes.specs.declared.probe_set.Cause.{Cause}
 use Rattle.probes.specs.Ticks.{Tick as ProbeTick}
 use Rattle.probes.specs.Container.{AreInRange}
 use Rattle.restarts.specs.Exits.{Exit}
+use Rattle.phase.specs.declared.view.ContainerView.{ContainerView}
+use Rattle.containers.specs.declared.status.ContainerStatus.{ContainerStatus}
 use Rattle.containers.specs.declared.what.What.TheVariants.{Kill, Restart}
 use Rattle.containers.specs.declared.events.ContainerEvents.{ContainerEvents}
 use Rattle.containers.specs.Ticks.{ContainerTick, listings, AreTicksOf}
-use Rattle.containers.specs.Exits.{AreExits}
+use Rattle.containers.specs.Exits.{AreExits, IsDelayed}
+use Rattle.containers.specs.Shown.{IsShown, IsViewOf}
 use Rattle.containers.specs.Events.{IsKilled, IsRestarted, AreEvents}
+
+-- a container has a list of exits, whatever its listings are
+abbrev pub SomeListOfExits : Type 0
+SomeListOfExits = (h : List Tick) → (exits : List Exit) × AreExits h exits
+
+-- with a delay after the last of them
+abbrev pub SomeDelay : Type 0
+SomeDelay = (greatest : ℕ) (h : List ContainerTick) → (delay : ℕ) × IsDelayed greatest h delay
+
+-- each of its instances has a list of results
+abbrev pub SomeListOfResults : Type 0
+SomeListOfResults = (h : List ContainerTick) (a : ℕ) → (ticks : List ProbeTick) × AreTicksOf h a ticks
+
+-- and it has a view, and a status in a pod that was evicted or was not
+pub record SomeStatus : Type 0 where
+  pub view : (spec : ContainerSpec) (h : List ContainerTick) → (view : ContainerView) × IsViewOf spec h view
+  pub shown : (spec : ContainerSpec) (is_evicted : Bool) (h : List ContainerTick) → (status : ContainerStatus) × IsShown spec (IsTrue is_evicted) h status
 
 -- a container has at most one list of exits
 abbrev pub OneListOfExits : Type 0

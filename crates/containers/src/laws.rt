@@ -1,6 +1,27 @@
 //! Laws of a container, over the definitions alone.
 
+ghost use Rattle.containers.specs.Laws.{SomeListOfExits, SomeDelay, SomeListOfResults, SomeStatus};
 ghost use Rattle.containers.specs.Laws.{OneListOfExits, OneListOfResults, RestartsTheNewest, KilledOnce, OneListOfEvents};
+
+/// A container has a list of exits, whatever its listings are.
+pub fn some_list_of_exits()
+    ensures { SomeListOfExits }
+{}
+
+/// There is a delay after the last of its exits.
+pub fn some_delay()
+    ensures { SomeDelay }
+{}
+
+/// Each instance has a list of results.
+pub fn some_list_of_results()
+    ensures { SomeListOfResults }
+{}
+
+/// A container has a view and a status, whatever its ticks are.
+pub fn some_status()
+    ensures { SomeStatus }
+{}
 
 /// A container has at most one list of exits.
 pub fn one_list_of_exits()

@@ -9,3 +9,4 @@ pub mod Last
 pub mod Ahead
 pub mod Items
 pub mod Picked
+pub mod Found

@@ -1,9 +1,8 @@
 -- Each case of the raw phase holds or does not, where each container's part in it does, so one of
 -- them is the first that holds.
-use Rattle.std.proofs.Common.{◌≡◌, ◌≢◌, inl, inr, ℤ, pos, Bool, true, false, List, Option, Some, None, refl, ap, subst, sym, ◌∙◌, arith}
-use Rattle.std.specs.Prelude.{IsTrue}
+use Rattle.std.proofs.Common.{◌≡◌, ◌≢◌, inl, inr, ℤ, pos, List, Option, Some, None, refl, ap, subst, sym, ◌∙◌, arith}
 use Rattle.std.proofs.lemmas.Bool.Decides.{Decides-int_eq}
-use Rattle.histories.proofs.Decide.{OrNot, of_test, negated, both, either, all_or_not, any_or_not}
+use Rattle.histories.proofs.Decide.{OrNot, of_test, negated, both, either, implied, true_or_not, all_or_not, any_or_not}
 use Rattle.manifest.specs.declared.policy.Policy.{Policy}
 use Rattle.manifest.specs.declared.policy.Policy.TheVariants.{Always, OnFailure, Never}
 use Rattle.manifest.specs.declared.pod.Role.{Role}
@@ -13,7 +12,7 @@ use Rattle.phase.specs.declared.phase.Phase.{Phase}
 use Rattle.phase.specs.declared.phase.Phase.TheVariants.{Pending, Running, Succeeded, Failed}
 use Rattle.phase.specs.declared.view.ContainerView.{ContainerView}
 use Rattle.phase.specs.Facts.{Facts, of_view, exit_code, HasCompleted, HasFailed, HasFinished}
-use Rattle.phase.specs.RawPhase.{IsRawPhase, IsFailedInit, IsAwaited, HaveFinished}
+use Rattle.phase.specs.RawPhase.{IsRawPhase, IsFailedInit, IsAwaited, HaveFinished, HasInitialized, AreInitialized}
 
 -- the codes
 zero_or_not : (code : ℤ) → OrNot (code ≡ pos 0)
@@ -61,29 +60,20 @@ never_or_not Never = inl refl
 never_or_not Always = inr (λ e. cc)
 never_or_not OnFailure = inr (λ e. cc)
 
-true_or_not : (b : Bool) → OrNot (IsTrue b)
-true_or_not true = inl refl
-true_or_not false = inr (λ e. let x : IsTrue false = e in cc)
-
-init_or_not : (role : Role) → OrNot (role ≡ Init)
+pub init_or_not : (role : Role) → OrNot (role ≡ Init)
 init_or_not Init = inl refl
 init_or_not Sidecar = inr (λ e. cc)
 init_or_not App = inr (λ e. cc)
 
-sidecar_or_not : (role : Role) → OrNot (role ≡ Sidecar)
+pub sidecar_or_not : (role : Role) → OrNot (role ≡ Sidecar)
 sidecar_or_not Sidecar = inl refl
 sidecar_or_not Init = inr (λ e. cc)
 sidecar_or_not App = inr (λ e. cc)
 
-app_or_not : (role : Role) → OrNot (role ≡ App)
+pub app_or_not : (role : Role) → OrNot (role ≡ App)
 app_or_not App = inl refl
 app_or_not Init = inr (λ e. cc)
 app_or_not Sidecar = inr (λ e. cc)
-
-implied : {P Q : Type 0} → OrNot P → OrNot Q → OrNot (P → Q)
-implied p (inl q) = inl (λ x. q)
-implied (inl p) (inr n) = inr (λ f. n (f p))
-implied (inr m) (inr n) = inl (λ p. absurd (m p))
 
 -- a container's part in each case holds or does not
 pub record IsDecided {C : Type 0} (facts : Facts C) (policy : Policy) (container : C) : Type 0 where
@@ -126,3 +116,16 @@ some_raw_phase facts policy each containers = elim (both (never_or_not policy) (
 
 pub some_of_views : (policy : Policy) (views : List ContainerView) → (p : Phase) × IsRawPhase of_view policy views p
 some_of_views policy views = some_raw_phase of_view policy (view_decided policy) views
+
+-- the pod is initialized, or not
+prepared_or_not : (view : ContainerView) → OrNot (HasInitialized of_view view)
+prepared_or_not view = elim (implied (init_or_not view.role) (completed_or_not view)) [
+  | inr not ↦ inr (λ w. not w.init)
+  | inl init ↦ elim (implied (sidecar_or_not view.role) (true_or_not view.was_started)) [
+    | inl sidecar ↦ inl (record { init = init; sidecar = sidecar })
+    | inr not ↦ inr (λ w. not w.sidecar)
+  ]
+]
+
+pub initialized_or_not : (views : List ContainerView) → OrNot (AreInitialized of_view views)
+initialized_or_not views = all_or_not (HasInitialized of_view) prepared_or_not views

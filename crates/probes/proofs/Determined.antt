@@ -14,7 +14,7 @@ use Rattle.histories.proofs.Lasting.{Lasts-all, ComesTrue-later}
 use Rattle.probes.proofs.Counted.{passed_lasts}
 
 -- one of the first results is a success, or none is
-passes_or_not : (f : ℕ) (xs : List Outcome) → PassesWithin f xs ⊎ (PassesWithin f xs → ⊥)
+pub passes_or_not : (f : ℕ) (xs : List Outcome) → PassesWithin f xs ⊎ (PassesWithin f xs → ⊥)
 passes_or_not zero xs = inr (λ (k, lt, is). absurd (omega arith))
 passes_or_not (suc f) [] = inr (λ (k, lt, is). absurd (cc))
 passes_or_not (suc f) (Success ∷ xs) = inl (0, omega arith, refl)

@@ -4,3 +4,4 @@ pub mod Counted
 pub mod Kills
 pub mod States
 pub mod Determined
+pub mod Decided

@@ -7,3 +7,4 @@ pub mod Acceptable
 pub mod Unique
 pub mod Order
 pub mod Runs
+pub mod Found

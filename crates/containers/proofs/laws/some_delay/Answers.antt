@@ -1,0 +1,5 @@
+use Rattle.containers.proofs.FoundLemmas as found
+use Rattle.containers.proofs.laws.some_delay.Goals as goal
+
+pub returns : goal.returns
+returns c = found.some_delay
