@@ -7,3 +7,4 @@ pub mod StateLemmas
 pub mod PodEventLemmas
 pub mod UniqueLemmas
 pub mod LawLemmas
+pub mod FoundLemmas

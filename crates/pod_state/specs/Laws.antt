@@ -9,9 +9,9 @@ use Rattle.pod_state.specs.declared.lifecycle.Lifecycle.{Lifecycle}
 use Rattle.containers.specs.declared.status.ContainerStatus.{ContainerStatus}
 use Rattle.pod_state.specs.declared.events.PodEvent.{PodEvent}
 use Rattle.pod_state.specs.Events.{AreEventsOf}
-use Rattle.pod_state.specs.Pods.{PodTick, HasEnded, AreViewsOf, IsRawPhaseAfter, IsPhase, IsInitialized, AreContainersReady}
+use Rattle.pod_state.specs.Pods.{PodTick, IsEnd, HasEnded, AreViewsOf, IsRawPhaseAfter, IsPhase, IsInitialized, AreContainersReady}
 use Rattle.pod_state.specs.Lifecycles.{IsLifecycleOf}
-use Rattle.pod_state.specs.Containers.{IsContainerStatus}
+use Rattle.pod_state.specs.Containers.{IsContainerStatus, AreStatusesOf}
 
 -- of the listings of which each container has a view there is one raw phase, and no other
 pub record OneRawPhase : Type 0 where
@@ -51,6 +51,16 @@ pub record TransitionsAreChanges : Type 0 where
   pub containers_ready : (pod : PodSpec) (evicted : Option ℕ) (h : List PodTick) (status : Lifecycle) (m : ℕ)
       → IsLifecycleOf pod evicted h status
       → status.conditions.containers_ready.since ≡ Some m → ChangesAt h (AreContainersReady pod evicted) m
+
+-- of every pod, whenever it is evicted and whatever its ticks are, there are a phase by its containers
+-- alone, an end or none, a phase, the phase with its conditions, and the statuses of its containers
+pub record SomeStatus : Type 0 where
+  pub raw_phase : (pod : PodSpec) (h : List PodTick) → (p : Phase) × IsRawPhaseAfter pod h p
+  pub end : (pod : PodSpec) (evicted : Option ℕ) (h : List PodTick) → (end : Option ℕ) × IsEnd pod evicted h end
+  pub phase : (pod : PodSpec) (evicted : Option ℕ) (h : List PodTick) → (p : Phase) × IsPhase pod evicted h p
+  pub of_pod : (pod : PodSpec) (evicted : Option ℕ) (h : List PodTick) → (s : Lifecycle) × IsLifecycleOf pod evicted h s
+  pub of_containers : (pod : PodSpec) (evicted : Option ℕ) (h : List PodTick)
+      → (statuses : List ContainerStatus) × AreStatusesOf pod evicted h statuses
 
 -- there is at most one phase with conditions of a pod, and one status of each of its containers
 pub record OneStatus : Type 0 where

@@ -1,6 +1,6 @@
 //! What the definitions of phases, conditions, container states and events imply. The functions do nothing;
 //! their contracts are the laws.
-ghost use Rattle.pod_state.specs.Laws.{OneRawPhase, OnePhase, EndedStaysEnded, TransitionsAreChanges, OneStatus, NoEventsAfterTheEnd, OneListOfEvents};
+ghost use Rattle.pod_state.specs.Laws.{OneRawPhase, OnePhase, EndedStaysEnded, TransitionsAreChanges, SomeStatus, OneStatus, NoEventsAfterTheEnd, OneListOfEvents};
 
 /// Of the listings of a pod there is one raw phase, and no other.
 pub fn one_raw_phase()
@@ -20,6 +20,11 @@ pub fn ended_stays_ended()
 /// A transition moment is that of a change, or of the first tick.
 pub fn transitions_are_changes()
     ensures { TransitionsAreChanges }
+{}
+
+/// There is a status of a pod, whatever its ticks are, and one of each of its containers.
+pub fn some_status()
+    ensures { SomeStatus }
 {}
 
 /// There is at most one status of a pod, and of each of its containers.
