@@ -39,7 +39,7 @@ start_later h (x ∷ later) a start s =
     subst (λ (k : List ContainerTick). StartsAt k a start) (append_assoc h (x ∷ []) later) (start_later (h ++ x ∷ []) later a start (start_kept h x a start s))
 
 -- what was said at the end of the ticks before was so at one of them
-said_before : (Q : ℕ → List ProbeTick → Type 0) (h : List ContainerTick) (x : ContainerTick) (a : ℕ) → SaysOf Q h a → ComesTrue (λ k. SaysOf Q k a) (h ++ x ∷ []) (length h) → ⊥
+pub said_before : (Q : ℕ → List ProbeTick → Type 0) (h : List ContainerTick) (x : ContainerTick) (a : ℕ) → SaysOf Q h a → ComesTrue (λ k. SaysOf Q k a) (h ++ x ∷ []) (length h) → ⊥
 said_before Q h x a s f =
     let P : List ContainerTick → Type 0 = λ k. SaysOf Q k a in
     let w = so_last P h (none_of_none a s.start h s.starts) s in
@@ -47,7 +47,7 @@ said_before Q h x a s f =
     f.none_before w.0 within ((grows_so P h x).old w.0 w.1)
 
 -- at the new tick it is so
-said_now : (Q : ℕ → List ProbeTick → Type 0) (h : List ContainerTick) (x : ContainerTick) (a : ℕ) → ComesTrue (λ k. SaysOf Q k a) (h ++ x ∷ []) (length h) → SaysOf Q (h ++ x ∷ []) a
+pub said_now : (Q : ℕ → List ProbeTick → Type 0) (h : List ContainerTick) (x : ContainerTick) (a : ℕ) → ComesTrue (λ k. SaysOf Q k a) (h ++ x ∷ []) (length h) → SaysOf Q (h ++ x ∷ []) a
 said_now Q h x a f =
     let P : List ContainerTick → Type 0 = λ k. SaysOf Q k a in
     elim ((grows_so P h x).split (length h) f.holds) [

@@ -116,7 +116,7 @@ some_delay greatest h =
     (delay.0, (exits.0, exits.1, delay.1))
 
 -- the results that are an instance's
-belongs_or_not : (a : ℕ) (h : List ContainerTick) → OrNot (BelongsTo a h)
+pub belongs_or_not : (a : ℕ) (h : List ContainerTick) → OrNot (BelongsTo a h)
 belongs_or_not a h = elim (both (listed_or_not (listings h) a (length h - 1)) (running_state_or_not (listings h) a)) [
   | inl w ↦ inl (record { listed = w.0; runs = w.1 })
   | inr not ↦ inr (λ w. not (w.listed, w.runs))

@@ -12,3 +12,4 @@ mod EventLemmas
 mod StepLemmas
 pub mod FoundLemmas
 pub mod LawLemmas
+pub mod EventFoundLemmas

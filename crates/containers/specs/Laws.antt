@@ -1,5 +1,5 @@
 -- What holds of a container whatever its ticks were.
-use Rattle.std.specs.Prelude.{◌≡◌, ℕ, Bool, List, IsTrue}
+use Rattle.std.specs.Prelude.{◌≡◌, ℕ, Bool, List, [], ◌∷◌, ◌++◌, length, IsTrue}
 use Rattle.manifest.specs.declared.policy.Policy.{Policy}
 use Rattle.manifest.specs.declared.pod.ContainerSpec.{ContainerSpec}
 use Rattle.state_diff.specs.Instances.{Tick, IsNewest, IsExit}
@@ -52,6 +52,12 @@ abbrev pub KilledOnce : Type 0
 KilledOnce =
     (spec : ContainerSpec) (h : List ContainerTick) (t u a : ℕ) (cause other : Cause) → AreInRange spec.probes
     → IsKilled spec h t (Kill a cause) → IsKilled spec h u (Kill a other) → (t ≡ u) × (cause ≡ other)
+
+-- a tick makes events of a container, where the numbers of its probes are in their ranges
+abbrev pub SomeListOfEvents : Type 0
+SomeListOfEvents =
+    (policy : Policy) (greatest : ℕ) (spec : ContainerSpec) (h : List ContainerTick) (x : ContainerTick) → AreInRange spec.probes
+    → (events : ContainerEvents) × AreEvents policy greatest spec (h ++ x ∷ []) (length h) events
 
 -- the events of a tick are determined
 abbrev pub OneListOfEvents : Type 0

@@ -1,6 +1,6 @@
 //! Laws of a container, over the definitions alone.
 
-ghost use Rattle.containers.specs.Laws.{SomeListOfExits, SomeDelay, SomeListOfResults, SomeStatus};
+ghost use Rattle.containers.specs.Laws.{SomeListOfExits, SomeDelay, SomeListOfResults, SomeStatus, SomeListOfEvents};
 ghost use Rattle.containers.specs.Laws.{OneListOfExits, OneListOfResults, RestartsTheNewest, KilledOnce, OneListOfEvents};
 
 /// A container has a list of exits, whatever its listings are.
@@ -41,6 +41,11 @@ pub fn restarts_the_newest()
 /// An instance is to be killed at one tick at most, and for one cause.
 pub fn killed_once()
     ensures { KilledOnce }
+{}
+
+/// A tick makes events of a container, where the numbers of its probes are in their ranges.
+pub fn some_list_of_events()
+    ensures { SomeListOfEvents }
 {}
 
 /// The events of a tick are determined.

@@ -35,17 +35,21 @@ failed_or_not view = there (exit_code view)
       | inr n ↦ inl (code, refl, n)
     ]
 
-wants_or_not : (policy : Policy) (code : ℤ) → OrNot (WantsRestart policy App code)
-wants_or_not Always code = inl tt
-wants_or_not OnFailure code = negated (zero_or_not code)
-wants_or_not Never code = inr (λ w. w)
+pub wants_or_not : (policy : Policy) (role : Role) (code : ℤ) → OrNot (WantsRestart policy role code)
+wants_or_not policy Sidecar code = inl tt
+wants_or_not Always App code = inl tt
+wants_or_not Always Init code = negated (zero_or_not code)
+wants_or_not OnFailure App code = negated (zero_or_not code)
+wants_or_not OnFailure Init code = negated (zero_or_not code)
+wants_or_not Never App code = inr (λ w. w)
+wants_or_not Never Init code = inr (λ w. w)
 
 finished_or_not : (policy : Policy) (view : ContainerView) → OrNot (HasFinished of_view policy view)
 finished_or_not policy view = there (exit_code view) refl
   where
     there : (o : Option ℤ) → exit_code view ≡ o → OrNot (HasFinished of_view policy view)
     there None e = inr (λ w. let x : exit_code view ≡ Some w.code = w.exited in let y : None ≡ Some w.code = sym e ∙ x in cc)
-    there (Some code) e = elim (wants_or_not policy code) [
+    there (Some code) e = elim (wants_or_not policy App code) [
       | inl wants ↦ inr (λ w.
           let x : exit_code view ≡ Some w.code = w.exited in
           let y : Some code ≡ Some w.code = sym e ∙ x in

@@ -1,6 +1,6 @@
 -- A history has a newest instance or lists none, and each instance has a state, and a code where it
 -- has ended.
-use Rattle.std.proofs.Common.{◌≡◌, ◌⊎◌, inl, inr, ℕ, zero, suc, ℤ, pos, false, ◌∙◌, ◌<◌, ◌≤◌, List, [], ◌∷◌, length, Option, Some, None, refl, subst, sym, arith}
+use Rattle.std.proofs.Common.{◌≡◌, ◌⊎◌, inl, inr, ℕ, zero, suc, ℤ, pos, false, ◌∙◌, ◌-◌, ◌<◌, ◌≤◌, List, [], ◌∷◌, length, Option, Some, None, refl, subst, sym, arith}
 use Rattle.std.specs.Prelude.{IsSomeAnd}
 use Rattle.std.proofs.lemmas.Bool.{cases_lt, cases_eq}
 use Rattle.std.proofs.lemmas.Option.{same_Some}
@@ -124,6 +124,29 @@ above_attempts h = elim (newest_or_none h) [
   | inr none ↦ (zero, (λ a t l. absurd (none a t l)))
 ]
 
+-- some attempt has what only those have that were listed, or none has it
+pub attempt_or_none : (h : List Tick) (R : ℕ → Type 0) → ((a : ℕ) → OrNot (R a)) → ((a : ℕ) → R a → (t : ℕ) × Listed h a t)
+    → OrNot ((a : ℕ) × R a)
+attempt_or_none h R each listed =
+    let n = above_attempts h in
+    elim (some_below R each n.0) [
+      | inl w ↦ inl (w.0, w.2)
+      | inr none ↦ inr (λ (a, r). let l = listed a r in none (a, n.1 a l.0 l.1, r))
+    ]
+
+-- an instance that ends in a tick that doesn't list it was listed one tick before
+pub gone_before : (h : List Tick) (a t : ℕ) → IsExit h a t → (Listed h a t → ⊥) → Listed h a (t - 1)
+gone_before h a t exit gone = elim (listed_or_not h a (t - 1)) [
+  | inl l ↦ l
+  | inr not ↦ elim exit.holds [
+    | inl q ↦ absurd (gone (of_weaker a Exited (seen_at h t) q))
+    | inr (lt, _, (u, before, l)) ↦ elim (cases_lt u (t - 1)) [
+      | inl less ↦ absurd (exit.none_before (t - 1) (omega arith) (inr (omega arith, not, (u, less, l))))
+      | inr ge ↦ let e : u ≡ t - 1 = omega arith in absurd (not (subst (λ (v : ℕ). Listed h a v) e l))
+    ]
+  ]
+]
+
 -- the state of an attempt, and its code where it has ended
 effective_live : (h : List Tick) (a : ℕ) (state : CriState) → IsEffective h a state → ((t : ℕ) → Ends h a t → ⊥) → state ≡ Exited → ⊥
 effective_live h a state (inl (t, k)) none e = let P : CriState → Type 0 = λ s. ListedAs h a s t in none t (inl (subst P e k.here))
@@ -189,9 +212,7 @@ begun_or_not h a = elim (start_or_none h a) [
 ]
 
 pub set_up_or_not : (h : List Tick) → OrNot (IsSetUp h)
-set_up_or_not h =
-    let n = above_attempts h in
-    elim (some_below (HasBegun h) (begun_or_not h) n.0) [
-      | inl w ↦ inl (w.0, w.2.0, w.2.1)
-      | inr none ↦ inr (λ (a, t, by). let l = begun_listed h a t by in none (a, n.1 a l.0 l.1, (t, by)))
-    ]
+set_up_or_not h = elim (attempt_or_none h (HasBegun h) (begun_or_not h) (λ a w. begun_listed h a w.0 w.1)) [
+  | inl w ↦ inl (w.0, w.1.0, w.1.1)
+  | inr none ↦ inr (λ (a, t, by). none (a, (t, by)))
+]

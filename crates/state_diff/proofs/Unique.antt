@@ -30,7 +30,7 @@ of_coded : (a : ℕ) (k : ℤ) (o : Option Seen) → IsSomeAnd o (λ seen. (seen
 of_coded a k None q = q
 of_coded a k (Some s) q = q.0
 
-IsCodeAt-unique : (h : List Tick) (a : ℕ) (k k' : ℤ) (t : ℕ) → IsCodeAt h a k t → IsCodeAt h a k' t → k ≡ k'
+pub IsCodeAt-unique : (h : List Tick) (a : ℕ) (k k' : ℤ) (t : ℕ) → IsCodeAt h a k t → IsCodeAt h a k' t → k ≡ k'
 IsCodeAt-unique h a k k' t (inl q) (inl r) = one_code a k k' (seen_at h t) q r
 IsCodeAt-unique h a k k' t (inl q) (inr r) = absurd (r.0 (of_coded a k (seen_at h t) q))
 IsCodeAt-unique h a k k' t (inr q) (inl r) = absurd (q.0 (of_coded a k' (seen_at h t) r))
