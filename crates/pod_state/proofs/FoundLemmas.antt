@@ -30,7 +30,7 @@ use Rattle.pod_state.proofs.EndLemmas.{IsEnd-unique, raw_unique, terminal_cases}
 use Rattle.pod_state.proofs.LawLemmas.{one_raw_phase}
 
 -- the specification of a container of the pod
-given_at : {A : Type 0} (xs : List A) (k : ℕ) → k < length xs → (x : A) × (slice_get xs k ≡ Some x)
+pub given_at : {A : Type 0} (xs : List A) (k : ℕ) → k < length xs → (x : A) × (slice_get xs k ≡ Some x)
 given_at [] k lt = absurd (omega arith)
 given_at (x ∷ xs) zero lt = (x, refl)
 given_at (x ∷ xs) (suc k) lt = given_at xs k (omega arith)

@@ -8,3 +8,4 @@ pub mod PodEventLemmas
 pub mod UniqueLemmas
 pub mod LawLemmas
 pub mod FoundLemmas
+pub mod EventFoundLemmas

@@ -1,7 +1,8 @@
 -- Laws of phases, conditions and container states, over the definitions alone.
-use Rattle.std.specs.Prelude.{◌≡◌, ◌⊎◌, ◌↔◌, ◌-◌, ◌≤◌, ℕ, suc, List, [], ◌++◌, length, Option, Some}
+use Rattle.std.specs.Prelude.{◌≡◌, ◌⊎◌, ◌↔◌, ◌-◌, ◌≤◌, ℕ, suc, List, [], ◌++◌, length, All, Option, Some}
 use Rattle.histories.specs.Histories.{IsSo, IsRising, moment_at}
 use Rattle.manifest.specs.declared.pod.PodSpec.{PodSpec}
+use Rattle.probes.specs.Container.{AreInRange}
 use Rattle.phase.specs.declared.phase.Phase.{Phase}
 use Rattle.phase.specs.declared.view.ContainerView.{ContainerView}
 use Rattle.phase.specs.RawPhase.{IsTerminal}
@@ -74,6 +75,13 @@ abbrev pub NoEventsAfterTheEnd : Type 0
 NoEventsAfterTheEnd =
     (pod : PodSpec) (greatest : ℕ) (evicted : Option ℕ) (before : List PodTick) (tick : PodTick) (events : List PodEvent)
     → HasEnded pod evicted before → AreEventsOf pod greatest evicted before tick events → events ≡ []
+
+-- a tick makes a list of events, where the numbers of the probes of each container are in their ranges
+abbrev pub SomeListOfEvents : Type 0
+SomeListOfEvents =
+    (pod : PodSpec) (greatest : ℕ) (evicted : Option ℕ) (before : List PodTick) (tick : PodTick)
+    → All (λ spec. AreInRange spec.probes) pod.containers
+    → (events : List PodEvent) × AreEventsOf pod greatest evicted before tick events
 
 -- the events of a tick are determined, with their order
 abbrev pub OneListOfEvents : Type 0

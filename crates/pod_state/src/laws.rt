@@ -1,6 +1,7 @@
 //! What the definitions of phases, conditions, container states and events imply. The functions do nothing;
 //! their contracts are the laws.
-ghost use Rattle.pod_state.specs.Laws.{OneRawPhase, OnePhase, EndedStaysEnded, TransitionsAreChanges, SomeStatus, OneStatus, NoEventsAfterTheEnd, OneListOfEvents};
+ghost use Rattle.pod_state.specs.Laws.{OneRawPhase, OnePhase, EndedStaysEnded, TransitionsAreChanges, SomeStatus, OneStatus};
+ghost use Rattle.pod_state.specs.Laws.{NoEventsAfterTheEnd, SomeListOfEvents, OneListOfEvents};
 
 /// Of the listings of a pod there is one raw phase, and no other.
 pub fn one_raw_phase()
@@ -35,6 +36,11 @@ pub fn one_status()
 /// A pod that has ended makes no events.
 pub fn no_events_after_the_end()
     ensures { NoEventsAfterTheEnd }
+{}
+
+/// There is a list of a pod's events at a tick, where the numbers of its containers' probes are in their ranges.
+pub fn some_list_of_events()
+    ensures { SomeListOfEvents }
 {}
 
 /// There is at most one list of a pod's events at a tick.
