@@ -16,7 +16,8 @@ use Rattle.manifest.specs.declared.pod.ContainerSpec.{ContainerSpec}
 use Rattle.state_diff.specs.declared.seen.CriState.TheVariants.{Running}
 use Rattle.state_diff.specs.Instances.{Tick, seen_at, IsOf, Listed, IsNewest, IsStart, IsExit, IsCodeAt}
 use Rattle.state_diff.proofs.Listings.{of_weaker}
-use Rattle.state_diff.proofs.Found.{listed_or_not, start_or_not, exit_or_not, exit_or_none, ended_listed, newest_or_none}
+use Rattle.state_diff.proofs.Found.{listed_or_not, start_or_not, exit_or_not, exit_or_none, ended_listed}
+use Rattle.state_diff.proofs.Found.{newest_or_none}
 use Rattle.state_diff.proofs.Found.{attempt_or_none, gone_before, code_at}
 use Rattle.state_diff.proofs.Unique.{IsNewest-unique, IsCodeAt-unique, IsExitCode-unique}
 use Rattle.phase.proofs.DecideLemmas.{wants_or_not}
@@ -31,11 +32,13 @@ use Rattle.restarts.specs.Exits.{Exit}
 use Rattle.restarts.specs.Delays.{IsDelay, IsDue}
 use Rattle.restarts.proofs.LawLemmas.{one_delay}
 use Rattle.containers.specs.declared.what.What.{What}
-use Rattle.containers.specs.declared.what.What.TheVariants.{Died, Started, StartupPassed, Kill, Ready, Unready, Backoff, Restart}
+use Rattle.containers.specs.declared.what.What.TheVariants.{Died, Started, StartupPassed, Kill, Ready, Unready}
+use Rattle.containers.specs.declared.what.What.TheVariants.{Backoff, Restart}
 use Rattle.containers.specs.Ticks.{ContainerTick, listings, BelongsTo, results_of, AreTicksOf, SaysOf}
 use Rattle.containers.specs.Probed.{HasPassed, IsKillOrdered, IsReady}
 use Rattle.containers.specs.Exits.{AreExits, IsToRestart, IsDelayed, FallsDue}
-use Rattle.containers.specs.Events.{IsGone, HasStarted, HasDied, Passes, IsKilled, WasReady, ChangesReadiness, IsPutOff, IsRestarted, Gives}
+use Rattle.containers.specs.Events.{IsGone, HasStarted, HasDied, Passes, IsKilled, WasReady, ChangesReadiness}
+use Rattle.containers.specs.Events.{IsPutOff, IsRestarted, Gives}
 use Rattle.containers.specs.Laws.{SomeListOfEvents}
 use Rattle.containers.proofs.TickLemmas.{seen_now, start_cases}
 use Rattle.containers.proofs.FollowLemmas.{belongs_listed, none_before_start, one_listed}
@@ -55,14 +58,20 @@ given_event P (inr none) one = (None, (λ v. ((λ e. absurd (cc)), (λ q. absurd
 gone_one : (h : List ContainerTick) (t : ℕ) (v w : What) → IsGone h t v → IsGone h t w → v ≡ w
 gone_one h t v w (a, e, exit, gone) (b, f, exit', gone') =
     let k = listings h in
-    let same : a ≡ b = one_listed (seen_at k (t - 1)) a b (gone_before k a t exit gone) (gone_before k b t exit' gone') in
+    let same : a ≡ b =
+    one_listed (seen_at k (t - 1)) a b (gone_before k a t exit gone) (gone_before k b t exit' gone') in
     e ∙ ap (λ c. Died c (pos 137)) same ∙ sym f
+
+abbrev IsGoneAt : List Tick → ℕ → ℕ → Type 0
+IsGoneAt k t a = IsExit k a t × (Listed k a t → ⊥)
+
+gone_or_not : (k : List Tick) (t a : ℕ) → OrNot (IsGoneAt k t a)
+gone_or_not k t a = both (exit_or_not k a t) (negated (listed_or_not k a t))
 
 gone_event : (h : List ContainerTick) (t : ℕ) → (event : Option What) × Gives (IsGone h t) event
 gone_event h t =
     let k = listings h in
-    let some = attempt_or_none k (λ a. IsExit k a t × (Listed k a t → ⊥)) (λ a. both (exit_or_not k a t) (negated (listed_or_not k a t)))
-    (λ a w. ended_listed k a t w.0.holds) in
+    let some = attempt_or_none k (IsGoneAt k t) (gone_or_not k t) (λ a w. ended_listed k a t w.0.holds) in
     given_event (IsGone h t) (elim some [
       | inl w ↦ inl (Died w.0 (pos 137), (w.0, refl, w.1.0, w.1.1))
       | inr none ↦ inr (λ (what, (a, e, exit, gone)). none (a, (exit, gone)))
@@ -75,12 +84,14 @@ started_listed k a t start = of_weaker a Running (seen_at k t) start.holds
 started_one : (h : List ContainerTick) (t : ℕ) (v w : What) → HasStarted h t v → HasStarted h t w → v ≡ w
 started_one h t v w (a, e, start) (b, f, start') =
     let k = listings h in
-    e ∙ ap (λ c. Started c) (one_listed (seen_at k t) a b (started_listed k a t start) (started_listed k b t start')) ∙ sym f
+    let same : a ≡ b = one_listed (seen_at k t) a b (started_listed k a t start) (started_listed k b t start') in
+    e ∙ ap (λ c. Started c) same ∙ sym f
 
 started_event : (h : List ContainerTick) (t : ℕ) → (event : Option What) × Gives (HasStarted h t) event
 started_event h t =
     let k = listings h in
-    let some = attempt_or_none k (λ a. IsStart k a t) (λ a. start_or_not k a t) (λ a start. (t, started_listed k a t start)) in
+    let some =
+    attempt_or_none k (λ a. IsStart k a t) (λ a. start_or_not k a t) (λ a start. (t, started_listed k a t start)) in
     given_event (HasStarted h t) (elim some [
       | inl w ↦ inl (Started w.0, (w.0, refl, w.1))
       | inr none ↦ inr (λ (what, (a, e, start)). none (a, start))
@@ -97,14 +108,17 @@ died_one h t v w (a, c, e, exit, l, is) (b, d, f, exit', l', is') =
 died_event : (h : List ContainerTick) (t : ℕ) → (event : Option What) × Gives (HasDied h t) event
 died_event h t =
     let k = listings h in
-    let some = attempt_or_none k (λ a. IsExit k a t × Listed k a t) (λ a. both (exit_or_not k a t) (listed_or_not k a t)) (λ a w. (t, w.1)) in
+    let died = λ (a : ℕ). both (exit_or_not k a t) (listed_or_not k a t) in
+    let some = attempt_or_none k (λ a. IsExit k a t × Listed k a t) died (λ a w. (t, w.1)) in
     given_event (HasDied h t) (elim some [
-      | inl w ↦ let code = code_at k w.0 t w.1.0.holds in inl (Died w.0 code.0, (w.0, code.0, refl, w.1.0, w.1.1, code.1))
+      | inl w ↦
+          let code = code_at k w.0 t w.1.0.holds in inl (Died w.0 code.0, (w.0, code.0, refl, w.1.0, w.1.1, code.1))
       | inr none ↦ inr (λ (what, (a, c, e, exit, l, is)). none (a, (exit, l)))
     ]) (died_one h t)
 
 -- what comes true of an instance by what its results say comes true of the listed one
-comes_listed : (Q : ℕ → List ProbeTick → Type 0) (h : List ContainerTick) (x : ContainerTick) (a : ℕ) → ((start : ℕ) → Q start [] → ⊥)
+comes_listed : (Q : ℕ → List ProbeTick → Type 0) (h : List ContainerTick) (x : ContainerTick) (a : ℕ)
+    → ((start : ℕ) → Q start [] → ⊥)
     → ComesTrue (λ k. SaysOf Q k a) (h ++ x ∷ []) (length h) → IsSomeAnd x.entry.seen (IsOf a)
 comes_listed Q h x a nothing comes = elim (belongs_or_not a (h ++ x ∷ [])) [
   | inl belongs ↦ belongs_listed h x a belongs
@@ -113,9 +127,12 @@ comes_listed Q h x a nothing comes = elim (belongs_or_not a (h ++ x ∷ [])) [
       let before : AreTicksOf h a s.ticks = so_picked_back (BelongsTo a) results_of h x s.ticks s.are_ticks not in
       absurd (elim (start_cases h x a s.start s.starts) [
         | inl old ↦
-            said_before Q h x a (record { start = s.start; starts = old; ticks = s.ticks; are_ticks = before; says = s.says }) comes
+            let says : SaysOf Q h a =
+            record { start = s.start; starts = old; ticks = s.ticks; are_ticks = before; says = s.says } in
+            said_before Q h x a says comes
         | inr w ↦
-            let empty : s.ticks ≡ [] = picked_one (IsSo (BelongsTo a) h) (map results_of h) s.ticks [] before (none_before_start h a w.2) in
+            let empty : s.ticks ≡ [] =
+            picked_one (IsSo (BelongsTo a) h) (map results_of h) s.ticks [] before (none_before_start h a w.2) in
             nothing s.start (subst (λ (ts : List ProbeTick). Q s.start ts) empty s.says)
       ])
 ]
@@ -124,16 +141,21 @@ comes_listed Q h x a nothing comes = elim (belongs_or_not a (h ++ x ∷ [])) [
 abbrev PassesAt : Option Probe → List ContainerTick → ℕ → ℕ → Type 0
 PassesAt startup h t a = IsSomeAnd startup (λ probe. ComesTrue (HasPassed probe a) h t)
 
-passes_listed : (startup : Option Probe) (h : List ContainerTick) (x : ContainerTick) (a : ℕ) → PassesAt startup (h ++ x ∷ []) (length h) a
+passes_listed : (startup : Option Probe) (h : List ContainerTick) (x : ContainerTick) (a : ℕ)
+    → PassesAt startup (h ++ x ∷ []) (length h) a
     → IsSomeAnd x.entry.seen (IsOf a)
 passes_listed None h x a passes = absurd passes
-passes_listed (Some probe) h x a passes = comes_listed (PassesBy probe) h x a (λ start. (passed_lasts probe start).none) passes
+passes_listed (Some probe) h x a passes =
+    comes_listed (PassesBy probe) h x a (λ start. (passed_lasts probe start).none) passes
 
 passes_or_not : (startup : Option Probe) (h : List ContainerTick) (t a : ℕ) → OrNot (PassesAt startup h t a)
-passes_or_not startup h t a =
-    given_or_not _ (λ probe. comes_or_not (HasPassed probe a) (λ k. says_or_not (PassesBy probe) (passed_or_not probe) k a) h t) startup
+passes_or_not startup h t a = given_or_not _ (λ probe. comes_or_not (HasPassed probe a) (passed probe) h t) startup
+  where
+    passed : (probe : Probe) (k : List ContainerTick) → OrNot (HasPassed probe a k)
+    passed probe k = says_or_not (PassesBy probe) (passed_or_not probe) k a
 
-passed_one : (spec : ContainerSpec) (h : List ContainerTick) (x : ContainerTick) (v w : What) → Passes spec (h ++ x ∷ []) (length h) v
+passed_one : (spec : ContainerSpec) (h : List ContainerTick) (x : ContainerTick) (v w : What)
+    → Passes spec (h ++ x ∷ []) (length h) v
     → Passes spec (h ++ x ∷ []) (length h) w → v ≡ w
 passed_one spec h x v w (a, e, passes) (b, f, passes') =
     let listed = passes_listed spec.probes.startup h x in
@@ -166,9 +188,12 @@ killed_or_not spec h t a = elim (by Startup) [
   where
     by : (cause : Cause) → OrNot (ComesTrue (IsKillOrdered spec cause a) h t)
     by cause =
-        comes_or_not (IsKillOrdered spec cause a) (λ k. says_or_not _ (λ start. kill_or_not spec.probes start cause) k a) h t
+        let Q = λ (start : ℕ). IsOrderedBy spec.probes start cause in
+        let ordered = says_or_not Q (λ start. kill_or_not spec.probes start cause) in
+        comes_or_not (IsKillOrdered spec cause a) (λ k. ordered k a) h t
 
-    neither : (ComesTrue (IsKillOrdered spec Startup a) h t → ⊥) → (ComesTrue (IsKillOrdered spec Liveness a) h t → ⊥) → (cause : Cause)
+    neither : (ComesTrue (IsKillOrdered spec Startup a) h t → ⊥) → (ComesTrue (IsKillOrdered spec Liveness a) h t → ⊥)
+        → (cause : Cause)
         → ComesTrue (IsKillOrdered spec cause a) h t → ⊥
     neither no_startup no_liveness Startup comes = no_startup comes
     neither no_startup no_liveness Liveness comes = no_liveness comes
@@ -176,15 +201,18 @@ killed_or_not spec h t a = elim (by Startup) [
 kill_listed : (spec : ContainerSpec) (h : List ContainerTick) (x : ContainerTick) (a : ℕ) → AreInRange spec.probes
     → IsKilledAt spec (h ++ x ∷ []) (length h) a → IsSomeAnd x.entry.seen (IsOf a)
 kill_listed spec h x a range (cause, comes) =
-    comes_listed (λ start. IsOrderedBy spec.probes start cause) h x a (λ start. (kill_lasts spec.probes start cause range).none) comes
+    let nothing = λ (start : ℕ). (kill_lasts spec.probes start cause range).none in
+    comes_listed (λ start. IsOrderedBy spec.probes start cause) h x a nothing comes
 
 killed_one : (spec : ContainerSpec) (h : List ContainerTick) (x : ContainerTick) → AreInRange spec.probes → (v w : What)
     → IsKilled spec (h ++ x ∷ []) (length h) v → IsKilled spec (h ++ x ∷ []) (length h) w → v ≡ w
 killed_one spec h x range v w (a, c, e, comes) (b, d, f, comes') =
     let now = h ++ x ∷ [] in
-    let same : a ≡ b = one_listed x.entry.seen a b (kill_listed spec h x a range (c, comes)) (kill_listed spec h x b range (d, comes')) in
+    let listed = kill_listed spec h x in
+    let same : a ≡ b = one_listed x.entry.seen a b (listed a range (c, comes)) (listed b range (d, comes')) in
     let mine = subst (λ (i : ℕ). ComesTrue (IsKillOrdered spec c i) now (length h)) same comes in
-    let cause : c ≡ d = (killed_once spec now (length h) (length h) b c d range (b, c, refl, mine) (b, d, refl, comes')).1 in
+    let cause : c ≡ d =
+    (killed_once spec now (length h) (length h) b c d range (b, c, refl, mine) (b, d, refl, comes')).1 in
     e ∙ ap (λ i. Kill i c) same ∙ ap (λ j. Kill b j) cause ∙ sym f
 
 kill_event : (spec : ContainerSpec) (h : List ContainerTick) (x : ContainerTick) → AreInRange spec.probes
@@ -206,14 +234,18 @@ was_ready_or_not spec h t =
       | inr none ↦ inr (λ (u, e, s). none (u, omega (arith, e), (e, s)))
     ]
 
-readiness_one : (spec : ContainerSpec) (h : List ContainerTick) (t : ℕ) (v w : What) → ChangesReadiness spec h t v → ChangesReadiness spec h t w → v ≡ w
+readiness_one : (spec : ContainerSpec) (h : List ContainerTick) (t : ℕ) (v w : What) → ChangesReadiness spec h t v
+    → ChangesReadiness spec h t w → v ≡ w
 readiness_one spec h t v w (inl p) (inl q) = p.0 ∙ sym q.0
 readiness_one spec h t v w (inl p) (inr q) = absurd (q.1 p.1)
 readiness_one spec h t v w (inr p) (inl q) = absurd (p.1 q.1)
 readiness_one spec h t v w (inr p) (inr q) = p.0 ∙ sym q.0
 
-readiness_event : (spec : ContainerSpec) (h : List ContainerTick) (t : ℕ) → (event : Option What) × Gives (ChangesReadiness spec h t) event
-readiness_event spec h t = given_event (ChangesReadiness spec h t) (by (ready_or_not spec h) (was_ready_or_not spec h t)) (readiness_one spec h t)
+readiness_event : (spec : ContainerSpec) (h : List ContainerTick) (t : ℕ)
+    → (event : Option What) × Gives (ChangesReadiness spec h t) event
+readiness_event spec h t =
+    let some = by (ready_or_not spec h) (was_ready_or_not spec h t) in
+    given_event (ChangesReadiness spec h t) some (readiness_one spec h t)
   where
     by : OrNot (IsReady spec h) → OrNot (WasReady spec h t) → OrNot ((what : What) × ChangesReadiness spec h t what)
     by (inl now) (inl was) = inr (λ (what, c). elim c [ inl p ↦ p.2 was | inr p ↦ p.1 now ])
@@ -222,7 +254,8 @@ readiness_event spec h t = given_event (ChangesReadiness spec h t) (by (ready_or
     by (inr not_now) (inr was_not) = inr (λ (what, c). elim c [ inl p ↦ not_now p.1 | inr p ↦ was_not p.2 ])
 
 -- the newest instance, if it is to be started again
-to_restart_or_not : (policy : Policy) (spec : ContainerSpec) (h : List ContainerTick) (a : ℕ) → IsNewest (listings h) a → OrNot (IsToRestart policy spec h a)
+to_restart_or_not : (policy : Policy) (spec : ContainerSpec) (h : List ContainerTick) (a : ℕ) → IsNewest (listings h) a
+    → OrNot (IsToRestart policy spec h a)
 to_restart_or_not policy spec h a newest = elim (exit_or_none (listings h) a) [
   | inr never ↦ inr (λ to. never (to.exited.0, to.exited.1))
   | inl (t, exit) ↦
@@ -230,11 +263,15 @@ to_restart_or_not policy spec h a newest = elim (exit_or_none (listings h) a) [
       let P : ℤ → Type 0 = λ c. WantsRestart policy spec.role c in
       elim (wants_or_not policy spec.role code.0) [
         | inl wants ↦ inl (record { newest = newest; code = code.0; exited = (t, exit, code.1); wanted = wants })
-        | inr not ↦ inr (λ to. not (subst P (IsExitCode-unique (listings h) a to.code code.0 to.exited (t, exit, code.1)) to.wanted))
+        | inr not ↦
+            inr (λ to.
+            let same = IsExitCode-unique (listings h) a to.code code.0 to.exited (t, exit, code.1) in
+            not (subst P same to.wanted))
       ]
 ]
 
-to_restart_or_none : (policy : Policy) (spec : ContainerSpec) (h : List ContainerTick) → OrNot ((a : ℕ) × IsToRestart policy spec h a)
+to_restart_or_none : (policy : Policy) (spec : ContainerSpec) (h : List ContainerTick)
+    → OrNot ((a : ℕ) × IsToRestart policy spec h a)
 to_restart_or_none policy spec h = elim (newest_or_none (listings h)) [
   | inr none ↦ inr (λ (a, to). none a to.newest.listed.0 to.newest.listed.1)
   | inl (a, newest) ↦ elim (to_restart_or_not policy spec h a newest) [
@@ -257,7 +294,8 @@ backoff_one policy greatest spec h t v w (a, c, e, exit, to, is, lt) (b, d, f, e
 
 backoff_event : (policy : Policy) (greatest : ℕ) (spec : ContainerSpec) (h : List ContainerTick) (t : ℕ)
     → (event : Option What) × Gives (IsPutOff policy greatest spec h t) event
-backoff_event policy greatest spec h t = given_event (IsPutOff policy greatest spec h t) some (backoff_one policy greatest spec h t)
+backoff_event policy greatest spec h t =
+    given_event (IsPutOff policy greatest spec h t) some (backoff_one policy greatest spec h t)
   where
     some : OrNot ((what : What) × IsPutOff policy greatest spec h t what)
     some =
@@ -275,15 +313,18 @@ backoff_event policy greatest spec h t = given_event (IsPutOff policy greatest s
         ]
 
 -- the tick at which it falls due
-due_of : (greatest : ℕ) (exits : List Exit) (o : Option ℕ) → last_moment exits ≡ o → OrNot ((due : ℕ) × IsDue greatest exits (Some due))
+due_of : (greatest : ℕ) (exits : List Exit) (o : Option ℕ) → last_moment exits ≡ o
+    → OrNot ((due : ℕ) × IsDue greatest exits (Some due))
 due_of greatest exits None e = inr (λ (due, (last, delay, at, is, s)). let x : None ≡ Some last = sym e ∙ at in cc)
 due_of greatest exits (Some last) e =
     let delay = (one_delay greatest exits).0 in
     inl (last + delay.0, (last, delay.0, e, delay.1, refl))
 
-first_due_or_not : (h : List ContainerTick) (due t : ℕ) → OrNot (IsFirst (λ u. IsSomeAnd (moment_at h u) (λ moment. due ≤ moment)) t)
+first_due_or_not : (h : List ContainerTick) (due t : ℕ)
+    → OrNot (IsFirst (λ u. IsSomeAnd (moment_at h u) (λ moment. due ≤ moment)) t)
 first_due_or_not h due t =
-    first_or_not _ (first_place _ (λ u. given_or_not _ (at_most_or_not due) (moment_at h u)) (length h) (moment_given-below _ h)) t
+    let reached = λ (u : ℕ). given_or_not (λ (moment : ℕ). due ≤ moment) (at_most_or_not due) (moment_at h u) in
+    first_or_not _ (first_place _ reached (length h) (moment_given-below _ h)) t
 
 falls_due_or_not : (greatest : ℕ) (h : List ContainerTick) (t : ℕ) → OrNot (FallsDue greatest h t)
 falls_due_or_not greatest h t = elim (due_of greatest exits.0 (last_moment exits.0) refl) [
@@ -291,15 +332,18 @@ falls_due_or_not greatest h t = elim (due_of greatest exits.0 (last_moment exits
   | inl (due, is) ↦ elim (first_due_or_not h due t) [
     | inl first ↦ inl (exits.0, due, exits.1, is, first)
     | inr not ↦ inr (λ (es, d, are, is', first).
-        not (subst (λ (c : ℕ). IsFirst (λ u. IsSomeAnd (moment_at h u) (λ moment. c ≤ moment)) t) (due_one greatest exits.0 d due (mine es d are is') is) first))
+        let same : d ≡ due = due_one greatest exits.0 d due (mine es d are is') is in
+        not (subst (λ (c : ℕ). IsFirst (λ u. IsSomeAnd (moment_at h u) (λ moment. c ≤ moment)) t) same first))
   ]
 ]
   where
     exits : (exits : List Exit) × AreExits (listings h) exits
     exits = some_list_of_exits (listings h)
 
-    mine : (es : List Exit) (d : ℕ) → AreExits (listings h) es → IsDue greatest es (Some d) → IsDue greatest exits.0 (Some d)
-    mine es d are is = subst (λ (xs : List Exit). IsDue greatest xs (Some d)) (exits_one (listings h) es exits.0 are exits.1) is
+    mine : (es : List Exit) (d : ℕ) → AreExits (listings h) es → IsDue greatest es (Some d)
+        → IsDue greatest exits.0 (Some d)
+    mine es d are is =
+        subst (λ (xs : List Exit). IsDue greatest xs (Some d)) (exits_one (listings h) es exits.0 are exits.1) is
 
 restart_one : (policy : Policy) (greatest : ℕ) (spec : ContainerSpec) (h : List ContainerTick) (t : ℕ) (v w : What)
     → IsRestarted policy greatest spec h t v → IsRestarted policy greatest spec h t w → v ≡ w
@@ -308,7 +352,8 @@ restart_one policy greatest spec h t v w (a, e, to, falls) (b, f, to', falls') =
 
 restart_event : (policy : Policy) (greatest : ℕ) (spec : ContainerSpec) (h : List ContainerTick) (t : ℕ)
     → (event : Option What) × Gives (IsRestarted policy greatest spec h t) event
-restart_event policy greatest spec h t = given_event (IsRestarted policy greatest spec h t) some (restart_one policy greatest spec h t)
+restart_event policy greatest spec h t =
+    given_event (IsRestarted policy greatest spec h t) some (restart_one policy greatest spec h t)
   where
     some : OrNot ((what : What) × IsRestarted policy greatest spec h t what)
     some = elim (both (to_restart_or_none policy spec h) (falls_due_or_not greatest h t)) [

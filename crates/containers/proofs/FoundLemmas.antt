@@ -1,18 +1,18 @@
 -- Of every history of a container there are its exits, the results of each instance, a view and a
 -- status.
-use Rattle.std.proofs.Common.{◌≡◌, inl, inr, ℕ, zero, suc, ◌-◌, ◌<◌, List, [], ◌∷◌, ◌++◌, length, map, Option, Some, None, refl, subst, arith}
-use Rattle.std.specs.Prelude.{◌↔◌, Contains, IsTrue, unwrap_or}
+use Rattle.std.proofs.Common.{◌≡◌, inl, inr, ℕ, zero, suc, ◌-◌, ◌<◌, List, [], ◌∷◌, ◌++◌, length, map, Option, Some}
+use Rattle.std.proofs.Common.{None, refl, subst, arith}
+use Rattle.std.specs.Prelude.{◌↔◌, Contains, IsTrue}
 use Rattle.std.proofs.lemmas.Bool.{cases_lt}
 use Rattle.histories.specs.Histories.{recorded, IsSo, IsFirstMoment}
 use Rattle.histories.proofs.Decide.{OrNot, negated, both, test_of, true_or_not}
 use Rattle.histories.proofs.Found.{so_or_not, once_or_never, picked_of}
-use Rattle.histories.proofs.Moments.{moment_within}
 use Rattle.manifest.specs.declared.pod.ContainerSpec.{ContainerSpec}
 use Rattle.state_diff.specs.declared.seen.CriState.TheVariants.{Running}
 use Rattle.state_diff.specs.Instances.{Tick, ListedAs, IsNewest}
-use Rattle.state_diff.proofs.Growth.{Ends-below}
-use Rattle.state_diff.proofs.Found.{listed_or_not, start_moment, exit_or_none, ended_listed, newest_or_none, above_attempts, running_state_or_not, newest_seen, set_up_or_not}
-use Rattle.state_diff.proofs.Runs.{run_from}
+use Rattle.state_diff.proofs.Found.{listed_or_not, start_moment, exit_moment, run_of, exit_or_none, ended_listed}
+use Rattle.state_diff.proofs.Found.{newest_or_none}
+use Rattle.state_diff.proofs.Found.{above_attempts, running_state_or_not, newest_seen, set_up_or_not}
 use Rattle.state_diff.proofs.Unique.{IsNewest-unique}
 use Rattle.phase.proofs.DecideLemmas.{init_or_not}
 use Rattle.phase.specs.declared.view.ContainerView.{ContainerView}
@@ -29,7 +29,8 @@ use Rattle.containers.specs.Exits.{IsExitOf, AreExitsOf, IsRisingList}
 use Rattle.containers.specs.Shown.{IsShown, IsViewOf}
 use Rattle.containers.specs.Laws.{SomeListOfExits, SomeDelay, SomeListOfResults, SomeStatus}
 use Rattle.containers.proofs.ExitLemmas.{HasExit}
-use Rattle.containers.proofs.ListLemmas.{contains_nothing, contains_here, contains_there, contains_old, contains_new, contains_cases, rising_end}
+use Rattle.containers.proofs.ListLemmas.{contains_nothing, contains_here, contains_there, contains_old, contains_new}
+use Rattle.containers.proofs.ListLemmas.{contains_cases, rising_end}
 use Rattle.containers.proofs.ProbedLemmas.{said}
 use Rattle.containers.proofs.ViewLemmas.{state_is, restarts_is, view_code}
 
@@ -47,7 +48,8 @@ those_added P n xs here (rising, are) = (
     ]),
     (λ w. elim (cases_lt a n) [
       | inl lt ↦ contains_old xs n a ((are a).1 (lt, w.1))
-      | inr ge ↦ let e : n ≡ a = omega (arith, w.0) in subst (λ (b : ℕ). Contains (xs ++ n ∷ []) b) e (contains_new xs n)
+      | inr ge ↦
+          let e : n ≡ a = omega (arith, w.0) in subst (λ (b : ℕ). Contains (xs ++ n ∷ []) b) e (contains_new xs n)
     ]),
   )),
 )
@@ -67,7 +69,10 @@ those_kept P n xs not (rising, are) = (
 those_below : (P : ℕ → Type 0) → ((a : ℕ) → OrNot (P a)) → (n : ℕ) → (xs : List ℕ) × AreThose P n xs
 those_below P each zero = (
   [],
-  ((λ i j a b lt e f. absurd (cc)), (λ a. ((λ c. absurd (contains_nothing a c)), (λ w. let lt : a < 0 = w.0 in absurd (omega arith))))),
+  (
+    (λ i j a b lt e f. absurd (cc)),
+    (λ a. ((λ c. absurd (contains_nothing a c)), (λ w. let lt : a < 0 = w.0 in absurd (omega arith)))),
+  ),
 )
 those_below P each (suc n) =
     let rest = those_below P each n in
@@ -79,13 +84,12 @@ those_below P each (suc n) =
 -- the exits
 exit_of : (k : List Tick) (a : ℕ) → HasExit k a → (exit : Exit) × IsExitOf k a exit
 exit_of k a (t, first) =
-    let m = moment_within k t (Ends-below k a t first.holds) in
-    let start = start_moment k a in (
-      recorded m.0 (m.0 - unwrap_or start.0 m.0),
-      record { moment = (t, first, m.1); run = run_from k a start.0 m.0 (m.0 - unwrap_or start.0 m.0) start.1 (t, first, m.1) refl },
-    )
+    let m = exit_moment k a t first in
+    let run = run_of k a t first in
+    (recorded m.0 run.0, record { moment = m.1; run = run.1 })
 
-exits_for : (k : List Tick) (attempts : List ℕ) → ((a : ℕ) → Contains attempts a → HasExit k a) → (exits : List Exit) × AreExitsOf k attempts exits
+exits_for : (k : List Tick) (attempts : List ℕ) → ((a : ℕ) → Contains attempts a → HasExit k a)
+    → (exits : List Exit) × AreExitsOf k attempts exits
 exits_for k [] each = ([], tt)
 exits_for k (a ∷ attempts) each =
     let exit = exit_of k a (each a (contains_here a attempts)) in
@@ -123,11 +127,13 @@ belongs_or_not a h = elim (both (listed_or_not (listings h) a (length h - 1)) (r
 ]
 
 pub some_list_of_results : SomeListOfResults
-some_list_of_results h a = picked_of (IsSo (BelongsTo a) h) (so_or_not (BelongsTo a) (belongs_or_not a) h) (map results_of h)
+some_list_of_results h a =
+    picked_of (IsSo (BelongsTo a) h) (so_or_not (BelongsTo a) (belongs_or_not a) h) (map results_of h)
 
 -- of an instance that has started its probes say so, or not
 says_from : (Q : ℕ → List ProbeTick → Type 0) → ((start : ℕ) (ticks : List ProbeTick) → OrNot (Q start ticks))
-    → (h : List ContainerTick) (a : ℕ) (o : Option ℕ) → IsFirstMoment (listings h) (ListedAs (listings h) a Running) o → OrNot (SaysOf Q h a)
+    → (h : List ContainerTick) (a : ℕ) (o : Option ℕ) → IsFirstMoment (listings h) (ListedAs (listings h) a Running) o
+    → OrNot (SaysOf Q h a)
 says_from Q each h a None never = inr (λ s. never s.starts.0 s.starts.1.holds)
 says_from Q each h a (Some start) starts =
     let ticks = some_list_of_results h a in
@@ -141,13 +147,15 @@ pub says_or_not : (Q : ℕ → List ProbeTick → Type 0) → ((start : ℕ) (ti
 says_or_not Q each h a = let start = start_moment (listings h) a in says_from Q each h a start.0 start.1
 
 -- the container serves by its newest instance, of which R holds, or not
-serves_or_not : (spec : ContainerSpec) (h : List ContainerTick) (a : ℕ) → IsNewest (listings h) a → OrNot (Serves spec h a)
+serves_or_not : (spec : ContainerSpec) (h : List ContainerTick) (a : ℕ) → IsNewest (listings h) a
+    → OrNot (Serves spec h a)
 serves_or_not spec h a newest = elim (both (negated (init_or_not spec.role)) (running_state_or_not (listings h) a)) [
   | inl w ↦ inl (record { role = w.0; newest = newest; runs = w.1 })
   | inr not ↦ inr (λ s. not (s.role, s.runs))
 ]
 
-served_or_not : (spec : ContainerSpec) (h : List ContainerTick) (R : ℕ → Type 0) → ((a : ℕ) → OrNot (R a)) → OrNot ((a : ℕ) × Serves spec h a × R a)
+served_or_not : (spec : ContainerSpec) (h : List ContainerTick) (R : ℕ → Type 0) → ((a : ℕ) → OrNot (R a))
+    → OrNot ((a : ℕ) × Serves spec h a × R a)
 served_or_not spec h R each = elim (newest_or_none (listings h)) [
   | inr none ↦ inr (λ (a, serves, r). none a serves.newest.listed.0 serves.newest.listed.1)
   | inl (a, newest) ↦ elim (both (serves_or_not spec h a newest) (each a)) [
@@ -184,7 +192,13 @@ status_of spec is_evicted h evicted_or_not =
     let seen = view.0.seen in
     let ready = test_of (both (negated evicted_or_not) (ready_or_not spec h)) in
     let started = test_of (both (negated evicted_or_not) (started_or_not spec h)) in (
-      record { state = state_shown seen; code = exit_code view.0; restarts = restarts_of seen; ready = ready.0; started = started.0 },
+      record {
+        state = state_shown seen;
+        code = exit_code view.0;
+        restarts = restarts_of seen;
+        ready = ready.0;
+        started = started.0;
+      },
       record {
         state = state_is (listings h) seen view.1.newest;
         code = view_code spec h view.0 view.1;

@@ -31,7 +31,8 @@ SomeListOfResults = (h : List ContainerTick) (a : ℕ) → (ticks : List ProbeTi
 -- and it has a view, and a status in a pod that was evicted or was not
 pub record SomeStatus : Type 0 where
   pub view : (spec : ContainerSpec) (h : List ContainerTick) → (view : ContainerView) × IsViewOf spec h view
-  pub shown : (spec : ContainerSpec) (is_evicted : Bool) (h : List ContainerTick) → (status : ContainerStatus) × IsShown spec (IsTrue is_evicted) h status
+  pub shown : (spec : ContainerSpec) (is_evicted : Bool) (h : List ContainerTick)
+      → (status : ContainerStatus) × IsShown spec (IsTrue is_evicted) h status
 
 -- a container has at most one list of exits
 abbrev pub OneListOfExits : Type 0
@@ -56,7 +57,8 @@ KilledOnce =
 -- a tick makes events of a container, where the numbers of its probes are in their ranges
 abbrev pub SomeListOfEvents : Type 0
 SomeListOfEvents =
-    (policy : Policy) (greatest : ℕ) (spec : ContainerSpec) (h : List ContainerTick) (x : ContainerTick) → AreInRange spec.probes
+    (policy : Policy) (greatest : ℕ) (spec : ContainerSpec) (h : List ContainerTick) (x : ContainerTick)
+    → AreInRange spec.probes
     → (events : ContainerEvents) × AreEvents policy greatest spec (h ++ x ∷ []) (length h) events
 
 -- the events of a tick are determined

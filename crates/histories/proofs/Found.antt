@@ -1,7 +1,9 @@
 -- What is found by going through the places of a history, each of which has it or has not.
-use Rattle.std.proofs.Common.{◌≡◌, ◌⊎◌, inl, inr, ℕ, zero, suc, ◌<◌, ◌≤◌, List, [], ◌∷◌, ◌++◌, length, get_or, Option, Some, None, refl, arith}
+use Rattle.std.proofs.Common.{◌≡◌, ◌⊎◌, inl, inr, ℕ, zero, suc, ◌<◌, ◌≤◌, List, [], ◌∷◌, ◌++◌, length, get_or, Option}
+use Rattle.std.proofs.Common.{Some, None, refl, arith}
 use Rattle.std.proofs.lemmas.Bool.{cases_lt, cases_eq}
-use Rattle.histories.specs.Histories.{Recorded, up_to, IsSo, IsFirst, IsFirstPlace, IsFirstMoment, ComesTrue, IsSteady, IsTransition}
+use Rattle.histories.specs.Histories.{Recorded, up_to, IsSo, IsFirst, IsFirstPlace, IsFirstMoment, ComesTrue}
+use Rattle.histories.specs.Histories.{IsSteady, IsTransition}
 use Rattle.histories.specs.Picked.{ArePicked}
 use Rattle.histories.proofs.Decide.{OrNot, negated, implied, less_or_not, at_most_or_not}
 use Rattle.histories.proofs.First.{none_next, IsFirst-unique}
@@ -81,11 +83,14 @@ once_or_never P each h = elim (some_below (IsSo P h) (so_or_not P each h) (lengt
   | inr none ↦ inr (λ w. none (w.0, w.1.within, w.1))
 ]
 
--- at a place it comes true, or doesn't
+-- the first place up to which it holds, and whether it comes true at a place
+pub first_so : {A : Type 0} (P : List (Recorded A) → Type 0) → ((h : List (Recorded A)) → OrNot (P h))
+    → (h : List (Recorded A)) → (o : Option ℕ) × IsFirstPlace (IsSo P h) o
+first_so P each h = first_place (IsSo P h) (so_or_not P each h) (length h) (λ t s. s.within)
+
 pub comes_or_not : {A : Type 0} (P : List (Recorded A) → Type 0) → ((h : List (Recorded A)) → OrNot (P h))
     → (h : List (Recorded A)) (t : ℕ) → OrNot (ComesTrue P h t)
-comes_or_not P each h t =
-    first_or_not (IsSo P h) (first_place (IsSo P h) (so_or_not P each h) (length h) (λ u s. s.within)) t
+comes_or_not P each h t = first_or_not (IsSo P h) (first_so P each h) t
 
 -- C stays from one place to another, of those from place u on
 abbrev Stays : (ℕ → Type 0) → ℕ → ℕ → ℕ → Type 0

@@ -1,5 +1,6 @@
 -- A tick makes events of a pod, or the pod had ended before it.
-use Rattle.std.proofs.Common.{◌≡◌, ◌∙◌, inl, inr, ℕ, ◌<◌, List, [], ◌∷◌, ◌++◌, length, get_or, Option, Some, None, refl, sym, ap, subst}
+use Rattle.std.proofs.Common.{◌≡◌, ◌∙◌, inl, inr, ℕ, ◌<◌, List, [], ◌∷◌, ◌++◌, length, Option, Some, None}
+use Rattle.std.proofs.Common.{refl, sym, ap, subst}
 use Rattle.std.specs.Prelude.{All, slice_get, unwrap_or}
 use Rattle.std.proofs.lemmas.Option.{get_or_from_slice_get}
 use Rattle.histories.specs.Histories.{recorded}
@@ -19,35 +20,43 @@ use Rattle.containers.specs.Events.{Gives, AreEvents}
 use Rattle.containers.proofs.EventFoundLemmas.{given_event, some_list_of_events as some_of_container}
 use Rattle.pod_state.specs.declared.events.PodEvent.{PodEvent}
 use Rattle.pod_state.specs.Pods.{PodEntry, PodTick, ticks_of, unseen, HasEnded, IsEnd, IsPhase}
-use Rattle.pod_state.specs.Events.{IsMadeOf, ChangesPhase, AreNews, AreEventsOf, events_from, events_at}
+use Rattle.pod_state.specs.Events.{IsMadeOf, ChangesPhase, AreNews, events_from, events_at}
 use Rattle.pod_state.specs.Laws.{SomeListOfEvents}
 use Rattle.pod_state.proofs.TickLemmas.{of_spec, ticks_more}
 use Rattle.pod_state.proofs.EndLemmas.{raw_unique, IsPhase-unique}
 use Rattle.pod_state.proofs.FoundLemmas.{given_at, some_raw_phase, some_end, some_phase}
 
 -- what the tick makes of a container
-made_of : (pod : PodSpec) (greatest : ℕ) (before : List PodTick) (tick : PodTick) (number : ℕ) (spec : ContainerSpec) → AreInRange spec.probes
-    → (made : ContainerEvents) × AreEvents pod.policy greatest spec (ticks_of (before ++ tick ∷ []) number) (length before) made
+made_of : (pod : PodSpec) (greatest : ℕ) (before : List PodTick) (tick : PodTick) (number : ℕ) (spec : ContainerSpec)
+    → AreInRange spec.probes
+    → (made : ContainerEvents)
+    × AreEvents pod.policy greatest spec (ticks_of (before ++ tick ∷ []) number) (length before) made
 made_of pod greatest before tick number spec range =
     let x : ContainerTick = recorded tick.moment (unwrap_or (slice_get tick.entry.containers number) unseen) in
     let w = some_of_container pod.policy greatest spec (ticks_of before number) x range in
     let long : length (ticks_of before number) ≡ length before =
     length-project (λ (entry : PodEntry). unwrap_or (slice_get entry.containers number) unseen) before in
-    let P : List ContainerTick → Type 0 = λ h. AreEvents pod.policy greatest spec h (length (ticks_of before number)) w.0 in
+    let P : List ContainerTick → Type 0 =
+    λ h. AreEvents pod.policy greatest spec h (length (ticks_of before number)) w.0 in
     let Q : ℕ → Type 0 = λ t. AreEvents pod.policy greatest spec (ticks_of (before ++ tick ∷ []) number) t w.0 in
     (w.0, subst Q long (subst P (sym (ticks_more before tick number)) w.1))
 
-in_range_at : (containers : List ContainerSpec) (number : ℕ) (spec : ContainerSpec) → All (λ spec. AreInRange spec.probes) containers
+in_range_at : (containers : List ContainerSpec) (number : ℕ) (spec : ContainerSpec)
+    → All (λ spec. AreInRange spec.probes) containers
     → number < length containers → slice_get containers number ≡ Some spec → AreInRange spec.probes
 in_range_at containers number spec range lt is =
-    subst (λ (s : ContainerSpec). AreInRange s.probes) (get_or_from_slice_get containers number spec spec is) (range number spec lt)
+    let same = get_or_from_slice_get containers number spec spec is in
+    subst (λ (s : ContainerSpec). AreInRange s.probes) same (range number spec lt)
 
-made_at : (pod : PodSpec) (greatest : ℕ) (before : List PodTick) (tick : PodTick) → All (λ spec. AreInRange spec.probes) pod.containers
-    → (number : ℕ) → number < length pod.containers → (made : ContainerEvents) × IsMadeOf pod greatest before tick number made
+made_at : (pod : PodSpec) (greatest : ℕ) (before : List PodTick) (tick : PodTick)
+    → All (λ spec. AreInRange spec.probes) pod.containers
+    → (number : ℕ) → number < length pod.containers
+    → (made : ContainerEvents) × IsMadeOf pod greatest before tick number made
 made_at pod greatest before tick range number lt =
     let spec = given_at pod.containers number lt in
     let w = made_of pod greatest before tick number spec.0 (in_range_at pod.containers number spec.0 range lt spec.1) in
-    let P : ContainerSpec → Type 0 = λ s. AreEvents pod.policy greatest s (ticks_of (before ++ tick ∷ []) number) (length before) w.0 in
+    let P : ContainerSpec → Type 0 =
+    λ s. AreEvents pod.policy greatest s (ticks_of (before ++ tick ∷ []) number) (length before) w.0 in
     (w.0, of_spec pod number P spec.0 spec.1 w.1)
 
 -- the change of the phase
@@ -73,7 +82,8 @@ change_one pod evicted before tick v w (p, e, raw, not) (q, f, raw', not') =
 
 change_event : (pod : PodSpec) (evicted : Option ℕ) (before : List PodTick) (tick : PodTick)
     → (event : Option What) × Gives (ChangesPhase pod evicted before tick) event
-change_event pod evicted before tick = given_event (ChangesPhase pod evicted before tick) some (change_one pod evicted before tick)
+change_event pod evicted before tick =
+    given_event (ChangesPhase pod evicted before tick) some (change_one pod evicted before tick)
   where
     some : OrNot ((what : What) × ChangesPhase pod evicted before tick what)
     some =
@@ -81,14 +91,17 @@ change_event pod evicted before tick = given_event (ChangesPhase pod evicted bef
         elim (was_phase_or_not pod evicted before raw.0) [
           | inr not ↦ inl (whats.Phase raw.0, (raw.0, refl, raw.1, not))
           | inl was ↦ inr (λ (what, (p, e, is, not)).
-              not (subst (λ (r : Phase). IsPhase pod evicted before r) (raw_unique pod (before ++ tick ∷ []) raw.0 p raw.1 is) was))
+              let same = raw_unique pod (before ++ tick ∷ []) raw.0 p raw.1 is in
+              not (subst (λ (r : Phase). IsPhase pod evicted before r) same was))
         ]
 
 -- the events of a tick of a pod that lives
 some_news : (pod : PodSpec) (greatest : ℕ) (evicted : Option ℕ) (before : List PodTick) (tick : PodTick)
-    → All (λ spec. AreInRange spec.probes) pod.containers → (events : List PodEvent) × AreNews pod greatest evicted before tick events
+    → All (λ spec. AreInRange spec.probes) pod.containers
+    → (events : List PodEvent) × AreNews pod greatest evicted before tick events
 some_news pod greatest evicted before tick range =
-    let made = list_of (IsMadeOf pod greatest before tick) (length pod.containers) (made_at pod greatest before tick range) in
+    let made =
+    list_of (IsMadeOf pod greatest before tick) (length pod.containers) (made_at pod greatest before tick range) in
     let raw = some_raw_phase pod (before ++ tick ∷ []) in
     let change = change_event pod evicted before tick in (
       events_from raw.0 0 made.0 ++ events_at None (change.0 ∷ []),
@@ -103,7 +116,8 @@ some_news pod greatest evicted before tick range =
       },
     )
 
-ended_or_not : (pod : PodSpec) (evicted : Option ℕ) (h : List PodTick) (o : Option ℕ) → IsEnd pod evicted h o → OrNot (HasEnded pod evicted h)
+ended_or_not : (pod : PodSpec) (evicted : Option ℕ) (h : List PodTick) (o : Option ℕ) → IsEnd pod evicted h o
+    → OrNot (HasEnded pod evicted h)
 ended_or_not pod evicted h (Some t) end = inl (t, end)
 ended_or_not pod evicted h None lives = inr (λ (t, end). lives t end.holds)
 

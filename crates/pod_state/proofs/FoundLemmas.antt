@@ -1,12 +1,13 @@
 -- Of every history of a pod there are the views of its containers, its end, its phase and conditions,
 -- and the statuses of its containers.
-use Rattle.std.proofs.Common.{◌≡◌, inl, inr, ℕ, zero, suc, ◌<◌, List, [], ◌∷◌, length, Option, Some, None, refl, subst, arith}
+use Rattle.std.proofs.Common.{◌≡◌, inl, inr, ℕ, zero, suc, ◌<◌, List, [], ◌∷◌, length, Option, Some, None, refl}
+use Rattle.std.proofs.Common.{subst, arith}
 use Rattle.std.specs.Prelude.{slice_get}
 use Rattle.std.proofs.lemmas.Bool.{cases_eq}
 use Rattle.std.proofs.lemmas.Option.{same_Some}
 use Rattle.histories.specs.Histories.{IsSo}
 use Rattle.histories.proofs.Decide.{OrNot, negated, either, all_three, implied, test_of, given_or_not}
-use Rattle.histories.proofs.Found.{all_below, first_place, so_or_not, transition_of, list_of}
+use Rattle.histories.proofs.Found.{all_below, first_so, so_or_not, transition_of, list_of}
 use Rattle.manifest.specs.declared.pod.PodSpec.{PodSpec}
 use Rattle.phase.specs.declared.phase.Phase.{Phase}
 use Rattle.phase.specs.declared.phase.Phase.TheVariants.{Pending, Failed}
@@ -14,13 +15,13 @@ use Rattle.phase.specs.declared.conditions.Condition.{Condition}
 use Rattle.phase.specs.declared.view.ContainerView.{ContainerView}
 use Rattle.phase.specs.RawPhase.{IsTerminal, AreInitialized}
 use Rattle.phase.proofs.DecideLemmas.{sidecar_or_not, app_or_not, initialized_or_not as views_initialized_or_not}
-use Rattle.containers.specs.Probed as probed
 use Rattle.containers.specs.Shown as shown
 use Rattle.containers.specs.declared.status.ContainerStatus.{ContainerStatus}
 use Rattle.containers.proofs.FoundLemmas.{view_of, status_of, ready_or_not}
 use Rattle.pod_state.specs.declared.lifecycle.Lifecycle.{Lifecycle}
 use Rattle.pod_state.specs.Pods.{PodTick, ticks_of, Serves, IsReady, facts, numbers, IsViewOf, AreViewsOf}
-use Rattle.pod_state.specs.Pods.{IsRawPhaseAfter, EndsPod, IsEnd, counted, EndsEvicted, IsPhaseBy, IsPhase, IsInitialized, AllReady, AreContainersReady}
+use Rattle.pod_state.specs.Pods.{IsRawPhaseAfter, EndsPod, IsEnd, counted, EndsEvicted, IsPhaseBy, IsPhase}
+use Rattle.pod_state.specs.Pods.{IsInitialized, AllReady, AreContainersReady}
 use Rattle.pod_state.specs.Lifecycles.{IsConditionAfter, IsLifecycleOf}
 use Rattle.pod_state.specs.Containers.{IsContainerStatus, AreStatusesOf}
 use Rattle.pod_state.specs.Laws.{SomeStatus}
@@ -36,7 +37,8 @@ given_at (x ∷ xs) zero lt = (x, refl)
 given_at (x ∷ xs) (suc k) lt = given_at xs k (omega arith)
 
 -- the views
-view_at : (pod : PodSpec) (h : List PodTick) (k : ℕ) → k < length pod.containers → (view : ContainerView) × IsViewOf pod h k view
+view_at : (pod : PodSpec) (h : List PodTick) (k : ℕ) → k < length pod.containers
+    → (view : ContainerView) × IsViewOf pod h k view
 view_at pod h k lt =
     let spec = given_at pod.containers k lt in
     let view = view_of spec.0 (ticks_of h k) in
@@ -51,7 +53,8 @@ pub some_raw_phase : (pod : PodSpec) (h : List PodTick) → (phase : Phase) × I
 some_raw_phase pod h = let views = some_views pod h in one_raw_phase.some pod h views.0 views.1
 
 -- the end
-raw_end_or_not : (pod : PodSpec) (h : List PodTick) → OrNot ((phase : Phase) × IsTerminal phase × IsRawPhaseAfter pod h phase)
+raw_end_or_not : (pod : PodSpec) (h : List PodTick)
+    → OrNot ((phase : Phase) × IsTerminal phase × IsRawPhaseAfter pod h phase)
 raw_end_or_not pod h =
     let raw = some_raw_phase pod h in
     elim (terminal_cases raw.0) [
@@ -64,8 +67,7 @@ ends_or_not pod evicted h =
     either (raw_end_or_not pod h) (given_or_not (λ t. length h ≡ suc t) (λ t. cases_eq (length h) (suc t)) evicted)
 
 pub some_end : (pod : PodSpec) (evicted : Option ℕ) (h : List PodTick) → (end : Option ℕ) × IsEnd pod evicted h end
-some_end pod evicted h =
-    first_place (IsSo (EndsPod pod evicted) h) (so_or_not (EndsPod pod evicted) (ends_or_not pod evicted) h) (length h) (λ t s. s.within)
+some_end pod evicted h = first_so (EndsPod pod evicted) (ends_or_not pod evicted) h
 
 -- the phase
 empty_or_not : (h : List PodTick) → OrNot (h ≡ [])
@@ -79,7 +81,8 @@ place_or_not (Some u) t = elim (cases_eq u t) [ inl e ↦ inl (rw e refl) | inr 
 pub evicted_or_not : (evicted end : Option ℕ) → OrNot (EndsEvicted evicted end)
 evicted_or_not evicted end = given_or_not (λ t. evicted ≡ Some t) (place_or_not evicted) end
 
-phase_by : (pod : PodSpec) (evicted : Option ℕ) (h : List PodTick) (end : Option ℕ) → (phase : Phase) × IsPhaseBy pod evicted h end phase
+phase_by : (pod : PodSpec) (evicted : Option ℕ) (h : List PodTick) (end : Option ℕ)
+    → (phase : Phase) × IsPhaseBy pod evicted h end phase
 phase_by pod evicted h end = elim (empty_or_not h) [
   | inl none ↦ (Pending, inl (none, refl))
   | inr some ↦ elim (evicted_or_not evicted end) [
@@ -110,7 +113,8 @@ initialized_or_not pod evicted h =
       | inr not ↦ inr (λ (o, is, all). not (subst P (IsEnd-unique pod evicted h o end.0 is end.1) all))
     ]
 
-lives_or_not : (pod : PodSpec) (evicted : Option ℕ) (h : List PodTick) (o : Option ℕ) → IsEnd pod evicted h o → OrNot (IsEnd pod evicted h None)
+lives_or_not : (pod : PodSpec) (evicted : Option ℕ) (h : List PodTick) (o : Option ℕ) → IsEnd pod evicted h o
+    → OrNot (IsEnd pod evicted h None)
 lives_or_not pod evicted h None lives = inl lives
 lives_or_not pod evicted h (Some t) first = inr (λ lives. lives t first.holds)
 
@@ -125,27 +129,31 @@ serving_within pod container (inr role) = within pod container _ role
 
 ready_at_or_not : (pod : PodSpec) (h : List PodTick) (container : ℕ) → OrNot (IsReady pod h container)
 ready_at_or_not pod h container =
-    given_or_not (λ spec. probed.IsReady spec (ticks_of h container)) (λ spec. ready_or_not spec (ticks_of h container)) (slice_get pod.containers container)
+    given_or_not _ (λ spec. ready_or_not spec (ticks_of h container)) (slice_get pod.containers container)
 
 all_ready_or_not : (pod : PodSpec) (h : List PodTick) → OrNot (AllReady pod h)
 all_ready_or_not pod h =
-    elim (all_below (λ c. Serves pod c → IsReady pod h c) (λ c. implied (serves_or_not pod c) (ready_at_or_not pod h c)) (length pod.containers)) [
+    let each = λ (c : ℕ). implied (serves_or_not pod c) (ready_at_or_not pod h c) in
+    elim (all_below (λ c. Serves pod c → IsReady pod h c) each (length pod.containers)) [
       | inl all ↦ inl (λ c serves. all c (serving_within pod c serves) serves)
       | inr not ↦ inr (λ all. not (λ c lt serves. all c serves))
     ]
 
-containers_ready_or_not : (pod : PodSpec) (evicted : Option ℕ) (h : List PodTick) → OrNot (AreContainersReady pod evicted h)
+containers_ready_or_not : (pod : PodSpec) (evicted : Option ℕ) (h : List PodTick)
+    → OrNot (AreContainersReady pod evicted h)
 containers_ready_or_not pod evicted h =
     let end = some_end pod evicted h in
     all_three (negated (empty_or_not h)) (lives_or_not pod evicted h end.0 end.1) (all_ready_or_not pod h)
 
-condition_of : (C : List PodTick → Type 0) → ((h : List PodTick) → OrNot (C h)) → (h : List PodTick) → (c : Condition) × IsConditionAfter C h c
+condition_of : (C : List PodTick → Type 0) → ((h : List PodTick) → OrNot (C h)) → (h : List PodTick)
+    → (c : Condition) × IsConditionAfter C h c
 condition_of C each h =
     let value = test_of (each h) in
     let since = transition_of h (IsSo C h) (so_or_not C each h) in
     (record { value = value.0; since = since.0 }, record { value = value.1; since = since.1 })
 
-some_lifecycle : (pod : PodSpec) (evicted : Option ℕ) (h : List PodTick) → (status : Lifecycle) × IsLifecycleOf pod evicted h status
+some_lifecycle : (pod : PodSpec) (evicted : Option ℕ) (h : List PodTick)
+    → (status : Lifecycle) × IsLifecycleOf pod evicted h status
 some_lifecycle pod evicted h =
     let phase = some_phase pod evicted h in
     let scheduled = condition_of (λ _. Unit {0}) (λ _. inl tt) h in
@@ -167,9 +175,11 @@ status_at pod evicted h k lt =
     let ended : Type 0 = EndsEvicted evicted end.0 in
     let ticks = ticks_of (counted h end.0) k in
     let status = status_of spec.0 ended ticks (evicted_or_not evicted end.0) in
-    (status.0, record { end = end.0; is_end = end.1; shown = of_spec pod k (λ spec. shown.IsShown spec ended ticks status.0) spec.0 spec.1 status.1 })
+    let is_shown = of_spec pod k (λ spec. shown.IsShown spec ended ticks status.0) spec.0 spec.1 status.1 in
+    (status.0, record { end = end.0; is_end = end.1; shown = is_shown })
 
-some_statuses : (pod : PodSpec) (evicted : Option ℕ) (h : List PodTick) → (statuses : List ContainerStatus) × AreStatusesOf pod evicted h statuses
+some_statuses : (pod : PodSpec) (evicted : Option ℕ) (h : List PodTick)
+    → (statuses : List ContainerStatus) × AreStatusesOf pod evicted h statuses
 some_statuses pod evicted h =
     let w = list_of (IsContainerStatus pod evicted h) (length pod.containers) (status_at pod evicted h) in
     (w.0, record { as_many = w.1; each = w.2 })

@@ -10,7 +10,8 @@ use Rattle.pod_state.specs.declared.lifecycle.Lifecycle.{Lifecycle}
 use Rattle.containers.specs.declared.status.ContainerStatus.{ContainerStatus}
 use Rattle.pod_state.specs.declared.events.PodEvent.{PodEvent}
 use Rattle.pod_state.specs.Events.{AreEventsOf}
-use Rattle.pod_state.specs.Pods.{PodTick, IsEnd, HasEnded, AreViewsOf, IsRawPhaseAfter, IsPhase, IsInitialized, AreContainersReady}
+use Rattle.pod_state.specs.Pods.{PodTick, IsEnd, HasEnded, AreViewsOf, IsRawPhaseAfter, IsPhase, IsInitialized}
+use Rattle.pod_state.specs.Pods.{AreContainersReady}
 use Rattle.pod_state.specs.Lifecycles.{IsLifecycleOf}
 use Rattle.pod_state.specs.Containers.{IsContainerStatus, AreStatusesOf}
 

@@ -1,17 +1,22 @@
 -- A history has a newest instance or lists none, and each instance has a state, and a code where it
 -- has ended.
-use Rattle.std.proofs.Common.{◌≡◌, ◌⊎◌, inl, inr, ℕ, zero, suc, ℤ, pos, false, ◌∙◌, ◌-◌, ◌<◌, ◌≤◌, List, [], ◌∷◌, length, Option, Some, None, refl, subst, sym, arith}
-use Rattle.std.specs.Prelude.{IsSomeAnd}
+use Rattle.std.proofs.Common.{◌≡◌, ◌⊎◌, inl, inr, ℕ, zero, suc, ℤ, pos, false, ◌∙◌, ◌-◌, ◌<◌, ◌≤◌, List, [], ◌∷◌}
+use Rattle.std.proofs.Common.{length, Option, Some, None, refl, subst, sym, arith}
+use Rattle.std.specs.Prelude.{IsSomeAnd, unwrap_or}
 use Rattle.std.proofs.lemmas.Bool.{cases_lt, cases_eq}
 use Rattle.std.proofs.lemmas.Option.{same_Some}
 use Rattle.histories.specs.Histories.{IsFirstPlace, IsFirstMoment}
+use Rattle.histories.proofs.Moments.{moment_within}
 use Rattle.histories.proofs.Decide.{OrNot, negated, both, either, all_three, less_or_not, given_or_not}
 use Rattle.histories.proofs.Found.{some_below, first_place, first_moment, first_or_none, first_or_not}
 use Rattle.state_diff.specs.declared.seen.Seen.{Seen}
 use Rattle.state_diff.specs.declared.seen.CriState.{CriState}
 use Rattle.state_diff.specs.declared.seen.CriState.TheVariants.{Created, Running, Exited, Unknown}
 use Rattle.state_diff.specs.States.{is_exited}
-use Rattle.state_diff.specs.Instances.{Tick, tick, seen_at, IsOf, IsOfAs, Listed, ListedAs, Ends, IsNewest, IsEffective, IsState, IsStart, IsExit, IsCodeAt, IsExitCode, IsSetUp}
+use Rattle.state_diff.specs.Instances.{Tick, tick, seen_at, IsOf, IsOfAs, Listed, ListedAs, Ends, IsNewest}
+use Rattle.state_diff.specs.Instances.{IsEffective, IsState, IsStart, IsExit, IsCodeAt, IsExitCode, IsSetUp}
+use Rattle.state_diff.specs.Instances.{IsRun}
+use Rattle.state_diff.specs.Laws.{SomeOfEach}
 use Rattle.state_diff.specs.Acceptable.{effective_state}
 use Rattle.state_diff.specs.Differ.{IsSeenOf, IsNewestSeen}
 use Rattle.state_diff.proofs.Places.{seen_at-below}
@@ -19,6 +24,7 @@ use Rattle.state_diff.proofs.Growth.{Ends-below}
 use Rattle.state_diff.proofs.Listings.{of_weaker}
 use Rattle.state_diff.proofs.Events.{coded}
 use Rattle.state_diff.proofs.Acceptable.{effective_state_is}
+use Rattle.state_diff.proofs.Runs.{run_from}
 use Rattle.state_diff.proofs.Unique.{IsState-unique}
 
 running_or_not : (state : CriState) → OrNot (state ≡ Running)
@@ -37,15 +43,17 @@ pub listed_or_not : (h : List Tick) (a t : ℕ) → OrNot (Listed h a t)
 listed_or_not h a t = given_or_not (IsOf a) (λ s. cases_eq s.attempt a) (seen_at h t)
 
 runs_or_not : (h : List Tick) (a t : ℕ) → OrNot (ListedAs h a Running t)
-runs_or_not h a t = given_or_not (IsOfAs a Running) (λ s. both (cases_eq s.attempt a) (running_or_not s.state)) (seen_at h t)
+runs_or_not h a t =
+    given_or_not (IsOfAs a Running) (λ s. both (cases_eq s.attempt a) (running_or_not s.state)) (seen_at h t)
 
 exits_or_not : (h : List Tick) (a t : ℕ) → OrNot (ListedAs h a Exited t)
-exits_or_not h a t = given_or_not (IsOfAs a Exited) (λ s. both (cases_eq s.attempt a) (exited_or_not s.state)) (seen_at h t)
+exits_or_not h a t =
+    given_or_not (IsOfAs a Exited) (λ s. both (cases_eq s.attempt a) (exited_or_not s.state)) (seen_at h t)
 
 ends_or_not : (h : List Tick) (a t : ℕ) → OrNot (Ends h a t)
 ends_or_not h a t =
-    either (exits_or_not h a t)
-    (all_three (less_or_not t (length h)) (negated (listed_or_not h a t)) (some_below (Listed h a) (listed_or_not h a) t))
+    let before = some_below (Listed h a) (listed_or_not h a) t in
+    either (exits_or_not h a t) (all_three (less_or_not t (length h)) (negated (listed_or_not h a t)) before)
 
 -- the start and the exit, as places and as moments
 start_place : (h : List Tick) (a : ℕ) → (o : Option ℕ) × IsFirstPlace (ListedAs h a Running) o
@@ -79,11 +87,13 @@ begun_listed h a t (inl start) = (t, of_weaker a Running (seen_at h t) start.hol
 begun_listed h a t (inr exit) = ended_listed h a t exit.holds
 
 -- the newest attempt, with one more tick ahead
-ahead_cases : (x : Tick) (h : List Tick) (a t : ℕ) → Listed (x ∷ h) a t → IsSomeAnd x.entry (IsOf a) ⊎ ((u : ℕ) × Listed h a u)
+ahead_cases : (x : Tick) (h : List Tick) (a t : ℕ) → Listed (x ∷ h) a t
+    → IsSomeAnd x.entry (IsOf a) ⊎ ((u : ℕ) × Listed h a u)
 ahead_cases x h a zero l = inl l
 ahead_cases x h a (suc t) l = inr (t, l)
 
-newest_kept : (x : Tick) (h : List Tick) (a : ℕ) → IsNewest h a → ((b : ℕ) → IsSomeAnd x.entry (IsOf b) → b ≤ a) → IsNewest (x ∷ h) a
+newest_kept : (x : Tick) (h : List Tick) (a : ℕ) → IsNewest h a → ((b : ℕ) → IsSomeAnd x.entry (IsOf b) → b ≤ a)
+    → IsNewest (x ∷ h) a
 newest_kept x h a n below = record {
   listed = (suc n.listed.0, n.listed.1);
   greatest = λ b t l. elim (ahead_cases x h b t l) [ inl q ↦ below b q | inr w ↦ n.greatest b w.0 w.1 ];
@@ -125,7 +135,8 @@ above_attempts h = elim (newest_or_none h) [
 ]
 
 -- some attempt has what only those have that were listed, or none has it
-pub attempt_or_none : (h : List Tick) (R : ℕ → Type 0) → ((a : ℕ) → OrNot (R a)) → ((a : ℕ) → R a → (t : ℕ) × Listed h a t)
+pub attempt_or_none : (h : List Tick) (R : ℕ → Type 0) → ((a : ℕ) → OrNot (R a))
+    → ((a : ℕ) → R a → (t : ℕ) × Listed h a t)
     → OrNot ((a : ℕ) × R a)
 attempt_or_none h R each listed =
     let n = above_attempts h in
@@ -148,8 +159,10 @@ gone_before h a t exit gone = elim (listed_or_not h a (t - 1)) [
 ]
 
 -- the state of an attempt, and its code where it has ended
-effective_live : (h : List Tick) (a : ℕ) (state : CriState) → IsEffective h a state → ((t : ℕ) → Ends h a t → ⊥) → state ≡ Exited → ⊥
-effective_live h a state (inl (t, k)) none e = let P : CriState → Type 0 = λ s. ListedAs h a s t in none t (inl (subst P e k.here))
+effective_live : (h : List Tick) (a : ℕ) (state : CriState) → IsEffective h a state → ((t : ℕ) → Ends h a t → ⊥)
+    → state ≡ Exited → ⊥
+effective_live h a state (inl (t, k)) none e =
+    let P : CriState → Type 0 = λ s. ListedAs h a s t in none t (inl (subst P e k.here))
 effective_live h a state (inr w) none e = let x : Created ≡ Exited = sym w.1 ∙ e in cc
 
 live_state : (h : List Tick) (a : ℕ) → ((t : ℕ) → Ends h a t → ⊥) → IsState h a (effective_state h a)
@@ -166,11 +179,25 @@ pub running_state_or_not : (h : List Tick) (a : ℕ) → OrNot (IsState h a Runn
 running_state_or_not h a =
     let s = state_of h a in
     let P : CriState → Type 0 = λ v. IsState h a v in
-    elim (running_or_not s.0) [ inl e ↦ inl (subst P e s.1) | inr not ↦ inr (λ r. not (IsState-unique h a s.0 Running s.1 r)) ]
+    elim (running_or_not s.0) [
+      | inl e ↦ inl (subst P e s.1)
+      | inr not ↦ inr (λ runs. not (IsState-unique h a s.0 Running s.1 runs))
+    ]
 
 pub code_at : (h : List Tick) (a t : ℕ) → Ends h a t → (code : ℤ) × IsCodeAt h a code t
 code_at h a t (inl q) = let k = coded a (seen_at h t) q in (k.0, inl k.1)
 code_at h a t (inr w) = (pos 137, inr (w.1, refl))
+
+-- the moment of an exit, and the run before it
+pub exit_moment : (h : List Tick) (a t : ℕ) → IsExit h a t → (m : ℕ) × IsFirstMoment h (Ends h a) (Some m)
+exit_moment h a t exit = let m = moment_within h t (Ends-below h a t exit.holds) in (m.0, (t, exit, m.1))
+
+pub run_of : (h : List Tick) (a t : ℕ) → IsExit h a t → (run : ℕ) × IsRun h a run
+run_of h a t exit =
+    let m = exit_moment h a t exit in
+    let start = start_moment h a in
+    let run = m.0 - unwrap_or start.0 m.0 in
+    (run, run_from h a start.0 m.0 run start.1 m.1 refl)
 
 -- the newest instance, if one is listed
 no_code : (state : CriState) → (state ≡ Exited → ⊥) → false ≡ is_exited state
@@ -179,7 +206,8 @@ no_code Created live = refl
 no_code Running live = refl
 no_code Unknown live = refl
 
-seen_by : (h : List Tick) (a : ℕ) → IsNewest h a → (o : Option ℕ) × IsFirstPlace (Ends h a) o → (s : Seen) × IsSeenOf h s
+seen_by : (h : List Tick) (a : ℕ) → IsNewest h a → (o : Option ℕ) × IsFirstPlace (Ends h a) o
+    → (s : Seen) × IsSeenOf h s
 seen_by h a n (Some t, first) =
     let k = code_at h a t first.holds in
     let P : ℤ → Type 0 = λ c. IsExitCode h a c in (
@@ -187,7 +215,8 @@ seen_by h a n (Some t, first) =
       record { newest = n; state = inl ((t, first), refl); code = λ c e. subst P (same_Some k.0 c e) (t, first, k.1) },
     )
 seen_by h a n (None, none) =
-    let live : effective_state h a ≡ Exited → ⊥ = effective_live h a (effective_state h a) (effective_state_is h a) none in (
+    let live : effective_state h a ≡ Exited → ⊥ =
+    effective_live h a (effective_state h a) (effective_state_is h a) none in (
       record { attempt = a; state = effective_state h a; code = None; code_given = no_code (effective_state h a) live },
       record { newest = n; state = live_state h a none; code = λ c e. absurd (cc) },
     )
@@ -216,3 +245,13 @@ set_up_or_not h = elim (attempt_or_none h (HasBegun h) (begun_or_not h) (λ a w.
   | inl w ↦ inl (w.0, w.1.0, w.1.1)
   | inr none ↦ inr (λ (a, t, by). none (a, (t, by)))
 ]
+
+pub some_of_each : SomeOfEach
+some_of_each = record {
+  newest = newest_or_none;
+  start = start_place;
+  exit = exit_place;
+  code = λ h a t exit. let k = code_at h a t exit.holds in (k.0, (t, exit, k.1));
+  run = run_of;
+  state = state_of;
+}

@@ -1,10 +1,22 @@
 -- Laws of the instances of a container, over the definitions alone.
-use Rattle.std.specs.Prelude.{◌≡◌, ◌↔◌, ◌≤◌, ℕ, ℤ, List, [], ◌∷◌, ◌++◌, Option, Some, IsTrue}
+use Rattle.std.specs.Prelude.{◌≡◌, ◌↔◌, ◌⊎◌, ◌≤◌, ℕ, ℤ, List, [], ◌∷◌, ◌++◌, Option, Some, IsTrue}
+use Rattle.histories.specs.Histories.{IsFirstPlace}
 use Rattle.state_diff.specs.declared.seen.Seen.{Seen}
 use Rattle.state_diff.specs.declared.seen.CriState.{CriState}
-use Rattle.state_diff.specs.declared.seen.CriState.TheVariants.{Exited}
-use Rattle.state_diff.specs.Instances.{Tick, tick, IsNewest, IsState, IsExit, IsExitCode, IsStart, IsAcceptable, IsAcceptableHistory}
+use Rattle.state_diff.specs.declared.seen.CriState.TheVariants.{Running, Exited}
+use Rattle.state_diff.specs.Instances.{Tick, tick, Listed, ListedAs, IsNewest, IsState, Ends, IsExit, IsExitCode, IsRun}
+use Rattle.state_diff.specs.Instances.{IsStart, IsAcceptable, IsAcceptableHistory}
 use Rattle.state_diff.specs.Acceptable.{is_acceptable}
+
+-- whatever the listings are, there is a newest attempt or none is listed, and an instance has a start
+-- or none, an exit or none, a state, and once it has exited an exit code and a run
+pub record SomeOfEach : Type 0 where
+  pub newest : (h : List Tick) → ((a : ℕ) × IsNewest h a) ⊎ ((a t : ℕ) → Listed h a t → ⊥)
+  pub start : (h : List Tick) (a : ℕ) → (start : Option ℕ) × IsFirstPlace (ListedAs h a Running) start
+  pub exit : (h : List Tick) (a : ℕ) → (exit : Option ℕ) × IsFirstPlace (Ends h a) exit
+  pub code : (h : List Tick) (a t : ℕ) → IsExit h a t → (code : ℤ) × IsExitCode h a code
+  pub run : (h : List Tick) (a t : ℕ) → IsExit h a t → (run : ℕ) × IsRun h a run
+  pub state : (h : List Tick) (a : ℕ) → (state : CriState) × IsState h a state
 
 -- there is at most one newest attempt, and an instance has at most one start, exit, exit code and
 -- state
