@@ -14,8 +14,8 @@ use Rattle.ranking.specs.declared.key.RankKey.{RankKey}
 use Rattle.ranking.specs.Amounts.{used, has_requests, requested}
 use Rattle.ranking.specs.Order.{IsBefore, IsVictim}
 use Rattle.ranking.specs.Keys.{key_of, rank_cmp}
-use Rattle.ranking.specs.Index.{AreHeldAfter}
-use Rattle.ranking.specs.Laws.{LesserKeyIsBefore, OrderIsTotal, OneVictim, OneIsHeldAfter}
+use Rattle.ranking.specs.Index.{AreHeldAfter, AreHeldWithout}
+use Rattle.ranking.specs.Laws.{LesserKeyIsBefore, OrderIsTotal, OneVictim, OneIsHeldAfter, OneIsHeldWithout}
 use Rattle.ranking.proofs.KeyOrder.{keys_exact}
 use Rattle.ranking.proofs.Tells.{tells_keys}
 
@@ -150,3 +150,21 @@ held_after_unique held status one other a b n = elim (cases_eq n status.number) 
 
 pub one_is_held_after : OneIsHeldAfter
 one_is_held_after = record { exists = some_held_after; unique = held_after_unique }
+
+some_held_without : (held : ℕ → Option PodStatus) (number : ℕ)
+    → (after : ℕ → Option PodStatus) × AreHeldWithout held number after
+some_held_without held number =
+    let made = at_number held number None in
+    (made.0, record { gone = made.1; others = made.2 })
+
+held_without_unique : (held : ℕ → Option PodStatus) (number : ℕ) (one other : ℕ → Option PodStatus)
+    → AreHeldWithout held number one → AreHeldWithout held number other → (n : ℕ) → one n ≡ other n
+held_without_unique held number one other a b n = elim (cases_eq n number) [
+  | inl same ↦
+      let P : ℕ → Type 0 = λ i. one i ≡ other i in
+      subst P (sym same) (a.gone ∙ sym b.gone)
+  | inr apart ↦ a.others n apart ∙ sym (b.others n apart)
+]
+
+pub one_is_held_without : OneIsHeldWithout
+one_is_held_without = record { exists = some_held_without; unique = held_without_unique }

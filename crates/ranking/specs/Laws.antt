@@ -5,7 +5,7 @@ use Rattle.signals.specs.declared.signal.Signal.{Signal}
 use Rattle.pod_piece.specs.declared.status.PodStatus.{PodStatus}
 use Rattle.ranking.specs.Order.{IsBefore, IsVictim}
 use Rattle.ranking.specs.Keys.{key_of, rank_cmp}
-use Rattle.ranking.specs.Index.{AreHeldAfter}
+use Rattle.ranking.specs.Index.{AreHeldAfter, AreHeldWithout}
 
 -- the lesser key is that of the pod that is ranked before the other
 abbrev pub LesserKeyIsBefore : Type 0
@@ -41,3 +41,10 @@ pub record OneIsHeldAfter : Type 0 where
       → (after : ℕ → Option PodStatus) × AreHeldAfter held status after
   pub unique : (held : ℕ → Option PodStatus) (status : PodStatus) (one other : ℕ → Option PodStatus)
       → AreHeldAfter held status one → AreHeldAfter held status other → (n : ℕ) → one n ≡ other n
+
+-- and so it is after a removal
+pub record OneIsHeldWithout : Type 0 where
+  pub exists : (held : ℕ → Option PodStatus) (number : ℕ)
+      → (after : ℕ → Option PodStatus) × AreHeldWithout held number after
+  pub unique : (held : ℕ → Option PodStatus) (number : ℕ) (one other : ℕ → Option PodStatus)
+      → AreHeldWithout held number one → AreHeldWithout held number other → (n : ℕ) → one n ≡ other n

@@ -1,7 +1,7 @@
 //! What is true of the order of eviction, of all pods. The functions do nothing; their contracts are
 //! the laws.
 
-ghost use Rattle.ranking.specs.Laws.{LesserKeyIsBefore, OrderIsTotal, OneVictim, SomeVictim, OneIsHeldAfter};
+ghost use Rattle.ranking.specs.Laws.{LesserKeyIsBefore, OrderIsTotal, OneVictim, SomeVictim, OneIsHeldAfter, OneIsHeldWithout};
 
 /// The lesser of two keys is that of the pod that is ranked before the other.
 pub fn lesser_key_is_before()
@@ -20,7 +20,8 @@ pub fn one_victim()
     ensures unique { OneVictim }
 {}
 
-/// What is held after an update is determined by what was held before.
+/// What is held after an update, or a removal, is determined by what was held before.
 pub fn one_is_held_after()
-    ensures { OneIsHeldAfter }
+    ensures update { OneIsHeldAfter }
+    ensures removal { OneIsHeldWithout }
 {}
