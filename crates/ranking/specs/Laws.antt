@@ -24,12 +24,13 @@ pub record OrderIsTotal : Type 0 where
       → IsBefore signal has_dedicated_imagefs p q → IsBefore signal has_dedicated_imagefs q r
       → IsBefore signal has_dedicated_imagefs p r
 
--- of finitely many pods, each held under its number, one is ranked before all others
+-- of finitely many pods, each held under its number, one is ranked before all others, if any is held
 abbrev pub SomeVictim : Type 0
 SomeVictim = (signal : Signal) (has_dedicated_imagefs : Bool) (held : ℕ → Option PodStatus) (count : ℕ)
     → ((n : ℕ) (p : PodStatus) → held n ≡ Some p → (n < count) × (p.number ≡ n))
     → (victim : Option ℕ) × IsVictim signal has_dedicated_imagefs (λ n p. held n ≡ Some p) victim
 
+-- and only that one
 abbrev pub OneVictim : Type 0
 OneVictim = (signal : Signal) (has_dedicated_imagefs : Bool) (held : ℕ → Option PodStatus) (one other : Option ℕ)
     → IsVictim signal has_dedicated_imagefs (λ n p. held n ≡ Some p) one

@@ -1,7 +1,8 @@
 //! What is true of the order of eviction, of all pods. The functions do nothing; their contracts are
 //! the laws.
 
-ghost use Rattle.ranking.specs.Laws.{LesserKeyIsBefore, OrderIsTotal, OneVictim, SomeVictim, OneIsHeldAfter, OneIsHeldWithout};
+ghost use Rattle.ranking.specs.Laws.{LesserKeyIsBefore, OrderIsTotal, OneVictim, SomeVictim};
+ghost use Rattle.ranking.specs.Laws.{OneIsHeldAfter, OneIsHeldWithout};
 
 /// The lesser of two keys is that of the pod that is ranked before the other.
 pub fn lesser_key_is_before()
