@@ -1,0 +1,5 @@
+pub mod Amounts
+pub mod Order
+pub mod Keys
+pub mod Index
+pub mod Laws

@@ -1,0 +1,50 @@
+-- Which of two pods is evicted first (Kubernetes, "Node-pressure Eviction", "Pod selection for kubelet
+-- eviction": "whether the Pod's resource usage exceeds requests", "Pod Priority", "the Pod's resource
+-- usage relative to requests"; the number as the last criterion is this profile's rule, and so is
+-- that the first one is left out where pods request nothing of what the signal measures).
+use Rattle.std.specs.Prelude.{◌≢◌, ◌⊎◌, ℕ, ◌+◌, ◌<◌, ◌<ℤ◌, Bool, Option, Some, None, IsTrue}
+use Rattle.signals.specs.declared.signal.Signal.{Signal}
+use Rattle.pod_piece.specs.declared.status.PodStatus.{PodStatus}
+use Rattle.ranking.specs.Amounts.{used, has_requests, requested}
+
+-- the first criterion decides, and the next one where it prefers neither
+abbrev pub First : (PodStatus → PodStatus → Type 0) → (PodStatus → PodStatus → Type 0) → PodStatus → PodStatus → Type 0
+First criterion next p q = criterion p q ⊎ ((criterion p q → ⊥) × (criterion q p → ⊥) × next p q)
+
+-- its usage is above its request
+abbrev pub Exceeds : Signal → Bool → PodStatus → Type 0
+Exceeds signal has_dedicated_imagefs p = requested signal p.requests < used signal has_dedicated_imagefs p.usage
+
+-- p's usage is above its request, and q's is not
+abbrev pub ExceedsAlone : Signal → Bool → PodStatus → PodStatus → Type 0
+ExceedsAlone signal has_dedicated_imagefs p q =
+    IsTrue (has_requests signal) × Exceeds signal has_dedicated_imagefs p
+    × (Exceeds signal has_dedicated_imagefs q → ⊥)
+
+abbrev pub HasLowerPriority : PodStatus → PodStatus → Type 0
+HasLowerPriority p q = p.priority <ℤ q.priority
+
+-- p's usage less its request is greater than q's; either may be below 0
+abbrev pub UsesMore : Signal → Bool → PodStatus → PodStatus → Type 0
+UsesMore signal has_dedicated_imagefs p q =
+    used signal has_dedicated_imagefs q.usage + requested signal p.requests
+    < used signal has_dedicated_imagefs p.usage + requested signal q.requests
+
+abbrev pub HasLowerNumber : PodStatus → PodStatus → Type 0
+HasLowerNumber p q = p.number < q.number
+
+-- p is ranked before q, so that it is evicted first
+abbrev pub IsBefore : Signal → Bool → PodStatus → PodStatus → Type 0
+IsBefore signal has_dedicated_imagefs =
+    First (ExceedsAlone signal has_dedicated_imagefs)
+    (First HasLowerPriority
+    (First (UsesMore signal has_dedicated_imagefs)
+    HasLowerNumber))
+
+-- The victim among the candidates, which are pods by their numbers, with their statuses: the one before
+-- every other; none, if there is no candidate.
+abbrev pub IsVictim : Signal → Bool → (ℕ → PodStatus → Type 0) → Option ℕ → Type 0
+IsVictim signal has_dedicated_imagefs IsCandidate None = (n : ℕ) (p : PodStatus) → IsCandidate n p → ⊥
+IsVictim signal has_dedicated_imagefs IsCandidate (Some n) =
+    (p : PodStatus) × IsCandidate n p
+    × ((m : ℕ) (q : PodStatus) → IsCandidate m q → m ≢ n → IsBefore signal has_dedicated_imagefs p q)

@@ -1,0 +1,40 @@
+//! A pod's place in the order of eviction, as a key.
+
+ghost use Rattle.std.specs.Prelude.{◌≡◌};
+ghost use Rattle.ranking.specs.Keys.{key_of};
+
+use crate::amounts::{has_requests, requested, used};
+use pod_piece::PodStatus;
+use signals::Signal;
+use std::cmp::Reverse;
+
+/// A pod's place in the order of eviction by one signal: the pod of the least key is evicted first.
+/// (Kubernetes, "Node-pressure Eviction", "Pod selection for kubelet eviction".)
+#[derive(Clone, Copy, PartialEq, Eq, PartialOrd, Ord)]
+pub struct RankKey {
+    /// Whether its usage is within its request, where pods request anything of this.
+    within_request: bool,
+    priority: i32,
+    /// By how much its usage is above its request, in thousandths.
+    excess: Reverse<u128>,
+    /// By how much its usage is below its request, in thousandths.
+    shortfall: u128,
+    /// The pod's number.
+    pub(crate) number: usize,
+}
+
+/// The key of the pod with this status, by the signal. Whether images and containers have a file
+/// system of their own decides what counts for the signals of file systems. It takes no memory.
+pub fn rank_key(status: &PodStatus, signal: Signal, has_dedicated_imagefs: bool) -> RankKey
+    ensures { result ≡ key_of signal has_dedicated_imagefs status.now }
+{
+    let used = used(&status.usage, signal, has_dedicated_imagefs);
+    let requested = requested(&status.requests, signal);
+    RankKey {
+        within_request: has_requests(signal) && used <= requested,
+        priority: status.priority,
+        excess: Reverse(used.saturating_sub(requested)),
+        shortfall: requested.saturating_sub(used),
+        number: status.number,
+    }
+}

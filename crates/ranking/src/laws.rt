@@ -1,0 +1,28 @@
+//! What is true of the order of eviction, of all pods. The functions do nothing; their contracts are
+//! the laws.
+
+ghost use Rattle.ranking.specs.Laws.{LesserKeyIsBefore, OrderIsTotal, OneVictim, SomeVictim};
+ghost use Rattle.ranking.specs.Laws.{OneIsHeldAfter, OneIsHeldWithout};
+
+/// The lesser of two keys is that of the pod that is ranked before the other.
+pub fn lesser_key_is_before()
+    ensures { LesserKeyIsBefore }
+{}
+
+/// Of two pods with different numbers exactly one is ranked before the other, and all pods stand in
+/// one order.
+pub fn order_is_total()
+    ensures { OrderIsTotal }
+{}
+
+/// Of finitely many pods one is ranked before all others, and only that one.
+pub fn one_victim()
+    ensures exists { SomeVictim }
+    ensures unique { OneVictim }
+{}
+
+/// What is held after an update, or a removal, is determined by what was held before.
+pub fn one_is_held_after()
+    ensures update { OneIsHeldAfter }
+    ensures removal { OneIsHeldWithout }
+{}
