@@ -1,0 +1,6 @@
+pub mod PlaceLemmas
+pub mod WatchLemmas
+pub mod ServedLemmas
+pub mod ConditionLemmas
+pub mod EventLemmas
+pub mod LawLemmas

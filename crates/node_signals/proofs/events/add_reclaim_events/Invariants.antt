@@ -1,0 +1,10 @@
+use Rattle.std.proofs.Common.{List, [], ◌∷◌, ◌++◌, take}
+use Rattle.observations.specs.declared.tick.TickObs.{TickObs}
+use Rattle.node_signals.specs.Keys.{serving_order}
+use Rattle.node_signals.specs.Events.{Reclaims, Adds}
+use Rattle.node_signals.specs.Node.{AreWatches}
+use Rattle.node_signals.proofs.events.add_reclaim_events.Given as goal
+
+abbrev pub invariant-loop-place : goal.invariant-loop-place
+invariant-loop-place l = (before : List TickObs) → AreWatches l.eviction (before ++ l.tick ∷ []) l.watches
+    → Adds (Reclaims l.eviction before l.tick) (take l.place serving_order) l.fn.events.items l.events.items

@@ -1,0 +1,61 @@
+-- The events of a node in a tick that comes after these ticks, by their places (Kubernetes,
+-- "Node-pressure Eviction"; the places are this profile's).
+use Rattle.std.specs.Prelude.{◌≡◌, ◌↔◌, List, [], ◌∷◌, ◌++◌, ℕ, Bool, Option, Some, None, IsTrue}
+use Rattle.node_config.specs.Eviction.{Eviction}
+use Rattle.observations.specs.declared.tick.TickObs.{TickObs}
+use Rattle.node_signals.specs.declared.key.ThresholdKey.{ThresholdKey}
+use Rattle.node_signals.specs.declared.condition.NodeCondition.{NodeCondition}
+use Rattle.node_signals.specs.declared.event.NodeEvent.{NodeEvent}
+use Rattle.node_signals.specs.declared.event.NodeEvent.TheVariants.{Threshold, Pressure, Reclaim}
+use Rattle.node_signals.specs.Keys.{serving_order}
+use Rattle.node_signals.specs.Thresholds.{IsActive, IsDue, IsReclaimed}
+use Rattle.node_signals.specs.Conditions.{conditions, IsTrueAfter}
+
+-- what a value has become, of which N says whether it is true now, and O whether it was
+abbrev pub Changes : (Bool → NodeEvent) → Type 0 → Type 0 → NodeEvent → Type 0
+Changes event_of N O event = (value : Bool) × (event ≡ event_of value) × (IsTrue value ↔ N) × ((IsTrue value ↔ O) → ⊥)
+
+-- the threshold is active after the tick and was not before, or the other way round
+abbrev pub ChangesThreshold : Eviction → List TickObs → TickObs → ThresholdKey → NodeEvent → Type 0
+ChangesThreshold eviction before tick key =
+    Changes (Threshold key) (IsActive eviction (before ++ tick ∷ []) key) (IsActive eviction before key)
+
+-- the same of a condition
+abbrev pub ChangesCondition : Eviction → ℕ → List TickObs → TickObs → NodeCondition → NodeEvent → Type 0
+ChangesCondition eviction period before tick condition =
+    Changes (Pressure condition)
+    (IsTrueAfter eviction period condition (before ++ tick ∷ [])) (IsTrueAfter eviction period condition before)
+
+-- the threshold is due, and the node has freed enough by itself
+abbrev pub Reclaims : Eviction → List TickObs → TickObs → ThresholdKey → NodeEvent → Type 0
+Reclaims eviction before tick key event =
+    (event ≡ Reclaim key) × IsDue eviction (before ++ tick ∷ []) key × IsReclaimed eviction tick key
+
+-- the event of which P holds, if there is one
+abbrev pub Gives : (NodeEvent → Type 0) → Option NodeEvent → Type 0
+Gives P event = (e : NodeEvent) → ((event ≡ Some e) ↔ P e)
+
+abbrev pub as_list : Option NodeEvent → List NodeEvent
+as_list None = []
+as_list (Some event) = event ∷ []
+
+-- the events of these items, in their order: of each the one of which P holds, if there is one
+abbrev pub AreGiven : {A : Type 0} → (A → NodeEvent → Type 0) → List A → List NodeEvent → Type 0
+AreGiven P [] events = events ≡ []
+AreGiven P (x ∷ xs) events =
+    (event : Option NodeEvent) × (rest : List NodeEvent) × Gives (P x) event × AreGiven P xs rest
+    × (events ≡ as_list event ++ rest)
+
+-- all events of the tick: thresholds in their serving order, conditions, then what was reclaimed
+pub record AreNodeEvents (eviction : Eviction) (period : ℕ) (before : List TickObs) (tick : TickObs) (events : List NodeEvent) : Type 0 where
+  pub thresholds : List NodeEvent
+  pub of_thresholds : AreGiven (ChangesThreshold eviction before tick) serving_order thresholds
+  pub pressures : List NodeEvent
+  pub of_conditions : AreGiven (ChangesCondition eviction period before tick) conditions pressures
+  pub reclaims : List NodeEvent
+  pub of_reclaims : AreGiven (Reclaims eviction before tick) serving_order reclaims
+  pub in_order : events ≡ thresholds ++ pressures ++ reclaims
+
+-- the events of these items are added to those there were
+abbrev pub Adds : {A : Type 0} → (A → NodeEvent → Type 0) → List A → List NodeEvent → List NodeEvent → Type 0
+Adds P items old new = (added : List NodeEvent) × AreGiven P items added × (new ≡ old ++ added)

@@ -1,0 +1,6 @@
+pub mod Keys
+pub mod Thresholds
+pub mod Conditions
+pub mod Events
+pub mod Node
+pub mod Laws

@@ -1,0 +1,52 @@
+-- Where a list of ticks leads.
+use Rattle.std.specs.Prelude.{◌≡◌, ℕ, List, length, slice_get, Option, Some, None}
+use Rattle.signals.specs.declared.threshold.Threshold.{Threshold}
+use Rattle.signals.specs.BySignal.{of}
+use Rattle.thresholds.specs.declared.watch.Watch.{Watch}
+use Rattle.thresholds.specs.Samples.{Sample}
+use Rattle.thresholds.specs.Watch.{IsStateOf as IsWatchState}
+use Rattle.pressure.specs.declared.pressure.Pressure.{Pressure}
+use Rattle.pressure.specs.Pressures.{Observation}
+use Rattle.pressure.specs.State.{IsStateOf as IsPressureState}
+use Rattle.node_config.specs.Eviction.{Eviction}
+use Rattle.observations.specs.declared.tick.TickObs.{TickObs}
+use Rattle.node_signals.specs.declared.key.ThresholdKey.{ThresholdKey}
+use Rattle.node_signals.specs.declared.condition.NodeCondition.{NodeCondition}
+use Rattle.node_signals.specs.declared.condition.NodeCondition.TheVariants.{MemoryPressure, DiskPressure, PidPressure}
+use Rattle.node_signals.specs.declared.node.NodeSignals.{NodeSignals}
+use Rattle.node_signals.specs.declared.pressures.Pressures.{Pressures}
+use Rattle.node_signals.specs.Keys.{serving_order, threshold_at}
+use Rattle.node_signals.specs.Thresholds.{samples}
+use Rattle.node_signals.specs.Conditions.{AreObservations}
+
+-- the watch of a threshold, where the node has it, is the state of these samples
+abbrev pub IsWatchOf : Option Threshold → Option ℕ → List Sample → Option Watch → Type 0
+IsWatchOf None capacity h None = Unit {0}
+IsWatchOf None capacity h (Some watch) = ⊥
+IsWatchOf (Some threshold) capacity h None = ⊥
+IsWatchOf (Some threshold) capacity h (Some watch) = IsWatchState threshold capacity h watch
+
+abbrev pub IsWatchAt : Eviction → List TickObs → ThresholdKey → Option Watch → Type 0
+IsWatchAt eviction ticks key watch =
+    IsWatchOf (threshold_at eviction key) (of eviction.capacity key.signal) (samples key.signal ticks) watch
+
+-- one for each place of the serving order
+pub record AreWatches (eviction : Eviction) (ticks : List TickObs) (watches : List (Option Watch)) : Type 0 where
+  pub as_many : length watches ≡ length serving_order
+  pub each : (place : ℕ) (key : ThresholdKey) (watch : Option Watch) → slice_get serving_order place ≡ Some key
+      → slice_get watches place ≡ Some watch → IsWatchAt eviction ticks key watch
+
+-- the pressure is the state of what the ticks say of the condition
+abbrev pub IsPressureOf : Eviction → ℕ → NodeCondition → List TickObs → Pressure → Type 0
+IsPressureOf eviction period condition ticks pressure =
+    (h : List Observation) × AreObservations eviction condition ticks h × IsPressureState period h pressure
+
+pub record ArePressures (eviction : Eviction) (period : ℕ) (ticks : List TickObs) (pressures : Pressures) : Type 0 where
+  pub memory : IsPressureOf eviction period MemoryPressure ticks pressures.memory
+  pub disk : IsPressureOf eviction period DiskPressure ticks pressures.disk
+  pub pid : IsPressureOf eviction period PidPressure ticks pressures.pid
+
+-- the node's value after these ticks, with these thresholds and this transition period in seconds
+pub record IsStateOf (eviction : Eviction) (period : ℕ) (ticks : List TickObs) (node : NodeSignals) : Type 0 where
+  pub watches : AreWatches eviction ticks node.watches
+  pub pressures : ArePressures eviction period ticks node.pressures

@@ -1,0 +1,150 @@
+//! The events of a node in a tick.
+
+ghost use Rattle.std.specs.Prelude.{◌≡◌, ◌↔◌, ◌<◌, ◌++◌, ◌∷◌, [], ℕ, List, slice_get, Some, OnOk};
+ghost use Rattle.node_config.specs.Eviction.{Eviction};
+ghost use Rattle.observations.specs.declared.tick.TickObs.{TickObs};
+ghost use Rattle.node_signals.specs.declared.key.ThresholdKey.{ThresholdKey};
+ghost use Rattle.node_signals.specs.Keys.{serving_order};
+ghost use Rattle.node_signals.specs.Conditions.{conditions};
+ghost use Rattle.node_signals.specs.Events.{ChangesThreshold, ChangesCondition, Reclaims, Gives, as_list, Adds};
+ghost use Rattle.node_signals.specs.Node.{AreWatches, ArePressures};
+
+use crate::condition::NodeCondition;
+use crate::event::NodeEvent;
+use crate::key::key_at;
+use crate::pressures::Pressures;
+use crate::watches::{is_active, is_due, is_reclaimed};
+use node_config::Eviction;
+use observations::TickObs;
+use std::alloc::AllocError;
+use thresholds::Watch;
+
+/// Adds an event, if there is one.
+fn add(events: &mut Vec<NodeEvent>, event: Option<NodeEvent>) -> Result<(), AllocError>
+    ensures { OnOk result (events.new.items ≡ events.old.items ++ as_list event) }
+{
+    if let Some(event) = event {
+        events.push(event)?;
+    }
+    Ok(())
+}
+
+/// Whether the threshold at this place became active or was cleared, by the watches before and after
+/// the tick.
+fn threshold_event(
+    old: &[Option<Watch>; 12],
+    new: &[Option<Watch>; 12],
+    place: usize,
+) -> Option<NodeEvent>
+    requires { place < 12 }
+    ensures { (eviction : Eviction) (before : List TickObs) (tick : TickObs) (key : ThresholdKey)
+        → slice_get serving_order place ≡ Some key
+        → AreWatches eviction before old.now
+        → AreWatches eviction (before ++ tick ∷ []) new.now
+        → Gives (ChangesThreshold eviction before tick key) result }
+{
+    let active = is_active(new, place);
+    if active == is_active(old, place) {
+        return None;
+    }
+    Some(NodeEvent::Threshold {
+        key: key_at(place),
+        active,
+    })
+}
+
+/// Adds an event for each threshold that became active or was cleared.
+pub(crate) fn add_threshold_events(
+    events: &mut Vec<NodeEvent>,
+    old: &[Option<Watch>; 12],
+    new: &[Option<Watch>; 12],
+) -> Result<(), AllocError>
+    ensures { (eviction : Eviction) (before : List TickObs) (tick : TickObs)
+        → AreWatches eviction before old.now
+        → AreWatches eviction (before ++ tick ∷ []) new.now
+        → OnOk result (Adds (ChangesThreshold eviction before tick) serving_order events.old.items events.new.items) }
+{
+    for place in 0..12 {
+        add(events, threshold_event(old, new, place))?;
+    }
+    Ok(())
+}
+
+/// Whether the condition became true or is no longer, by the pressures before and after the tick.
+fn condition_event(old: &Pressures, new: &Pressures, condition: NodeCondition) -> Option<NodeEvent>
+    ensures { (eviction : Eviction) (period : ℕ) (before : List TickObs) (tick : TickObs)
+        → ArePressures eviction period before old.now
+        → ArePressures eviction period (before ++ tick ∷ []) new.now
+        → Gives (ChangesCondition eviction period before tick condition) result }
+{
+    let value = new.of(condition).is_true();
+    if value == old.of(condition).is_true() {
+        return None;
+    }
+    Some(NodeEvent::Pressure { condition, value })
+}
+
+/// Adds an event for each condition that became true or is no longer.
+pub(crate) fn add_condition_events(
+    events: &mut Vec<NodeEvent>,
+    old: &Pressures,
+    new: &Pressures,
+) -> Result<(), AllocError>
+    ensures { (eviction : Eviction) (period : ℕ) (before : List TickObs) (tick : TickObs)
+        → ArePressures eviction period before old.now
+        → ArePressures eviction period (before ++ tick ∷ []) new.now
+        → OnOk result
+        (Adds (ChangesCondition eviction period before tick) conditions events.old.items events.new.items) }
+{
+    add(
+        events,
+        condition_event(old, new, NodeCondition::MemoryPressure),
+    )?;
+    add(
+        events,
+        condition_event(old, new, NodeCondition::DiskPressure),
+    )?;
+    add(
+        events,
+        condition_event(old, new, NodeCondition::PidPressure),
+    )?;
+    Ok(())
+}
+
+/// Whether the threshold at this place is due and the node has freed enough by itself.
+fn reclaim_event(
+    watches: &[Option<Watch>; 12],
+    eviction: &Eviction,
+    tick: &TickObs,
+    place: usize,
+) -> Option<NodeEvent>
+    requires { place < 12 }
+    ensures { (before : List TickObs) (key : ThresholdKey)
+        → slice_get serving_order place ≡ Some key
+        → AreWatches eviction.now (before ++ tick.now ∷ []) watches.now
+        → Gives (Reclaims eviction.now before tick.now key) result }
+{
+    let key = key_at(place);
+    if is_due(watches, place) && is_reclaimed(eviction, key, tick) {
+        Some(NodeEvent::Reclaim(key))
+    } else {
+        None
+    }
+}
+
+/// Adds an event for each threshold that is due and reclaimed.
+pub(crate) fn add_reclaim_events(
+    events: &mut Vec<NodeEvent>,
+    watches: &[Option<Watch>; 12],
+    eviction: &Eviction,
+    tick: &TickObs,
+) -> Result<(), AllocError>
+    ensures { (before : List TickObs)
+        → AreWatches eviction.now (before ++ tick.now ∷ []) watches.now
+        → OnOk result (Adds (Reclaims eviction.now before tick.now) serving_order events.old.items events.new.items) }
+{
+    for place in 0..12 {
+        add(events, reclaim_event(watches, eviction, tick, place))?;
+    }
+    Ok(())
+}

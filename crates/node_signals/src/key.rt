@@ -1,0 +1,74 @@
+//! The thresholds that a node may have.
+
+ghost use Rattle.std.specs.Prelude.{◌≡◌, ◌<◌, slice_get, Some};
+ghost use Rattle.node_signals.specs.Keys.{serving_order};
+
+use signals::{Signal, ThresholdKind};
+
+/// One of the thresholds that a node may have: on a signal there is one of each kind at most.
+#[derive(Clone, Copy, Debug, PartialEq, Eq)]
+pub struct ThresholdKey {
+    pub signal: Signal,
+    pub kind: ThresholdKind,
+}
+
+/// The order in which thresholds are served: signal after signal, and of one signal the hard
+/// threshold before the soft one. (This profile's rule.)
+const SERVING_ORDER: [ThresholdKey; 12] = [
+    ThresholdKey {
+        signal: Signal::MemoryAvailable,
+        kind: ThresholdKind::Hard,
+    },
+    ThresholdKey {
+        signal: Signal::MemoryAvailable,
+        kind: ThresholdKind::Soft,
+    },
+    ThresholdKey {
+        signal: Signal::NodefsAvailable,
+        kind: ThresholdKind::Hard,
+    },
+    ThresholdKey {
+        signal: Signal::NodefsAvailable,
+        kind: ThresholdKind::Soft,
+    },
+    ThresholdKey {
+        signal: Signal::ImagefsAvailable,
+        kind: ThresholdKind::Hard,
+    },
+    ThresholdKey {
+        signal: Signal::ImagefsAvailable,
+        kind: ThresholdKind::Soft,
+    },
+    ThresholdKey {
+        signal: Signal::NodefsInodesFree,
+        kind: ThresholdKind::Hard,
+    },
+    ThresholdKey {
+        signal: Signal::NodefsInodesFree,
+        kind: ThresholdKind::Soft,
+    },
+    ThresholdKey {
+        signal: Signal::ImagefsInodesFree,
+        kind: ThresholdKind::Hard,
+    },
+    ThresholdKey {
+        signal: Signal::ImagefsInodesFree,
+        kind: ThresholdKind::Soft,
+    },
+    ThresholdKey {
+        signal: Signal::PidAvailable,
+        kind: ThresholdKind::Hard,
+    },
+    ThresholdKey {
+        signal: Signal::PidAvailable,
+        kind: ThresholdKind::Soft,
+    },
+];
+
+/// The threshold at this place of the serving order.
+pub(crate) fn key_at(place: usize) -> ThresholdKey
+    requires { place < 12 }
+    ensures { slice_get serving_order place ≡ Some result }
+{
+    SERVING_ORDER[place]
+}

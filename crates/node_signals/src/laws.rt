@@ -1,0 +1,19 @@
+//! What is true of every node, for every list of ticks. The functions do nothing; their contracts
+//! are the laws.
+
+ghost use Rattle.node_signals.specs.Laws.{OneServed, ServedIsDue, OneListOfNodeEvents};
+
+/// At most one threshold is served in a tick.
+pub fn one_served()
+    ensures { OneServed }
+{}
+
+/// What is served is due, and the node has not freed enough for it by itself.
+pub fn served_is_due()
+    ensures { ServedIsDue }
+{}
+
+/// The events of a tick are determined, with their order.
+pub fn one_list_of_node_events()
+    ensures { OneListOfNodeEvents }
+{}

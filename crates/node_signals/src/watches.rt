@@ -1,0 +1,170 @@
+//! A node's thresholds over the samples of its signals.
+
+ghost use Rattle.std.specs.Prelude.{◌≡◌, ◌↔◌, ◌<◌, ◌≤◌, ℕ, slice_get, IsTrue, IfSome, IsSomeAnd, List, [], ◌∷◌, ◌++◌, Option, Some, None};
+ghost use Rattle.quantity.specs.Quantity.{greatest};
+ghost use Rattle.signals.specs.declared.threshold.Threshold.{Threshold};
+ghost use Rattle.thresholds.specs.Samples.{Sample, sample as sample_of};
+ghost use Rattle.node_config.specs.Eviction.{Eviction, HasCapacity};
+ghost use Rattle.observations.specs.declared.tick.TickObs.{TickObs};
+ghost use Rattle.node_signals.specs.declared.key.ThresholdKey.{ThresholdKey};
+ghost use Rattle.node_signals.specs.Keys.{serving_order};
+ghost use Rattle.node_signals.specs.Thresholds.{IsActive, IsDue, IsEnough, IsReclaimed, Asks, IsServed};
+ghost use Rattle.node_signals.specs.Node.{IsWatchOf, IsWatchAt, AreWatches};
+
+use crate::key::{ThresholdKey, key_at};
+use node_config::Eviction;
+use observations::TickObs;
+use quantity::Quantity;
+use signals::Threshold;
+use thresholds::Watch;
+
+/// The watch at this place.
+fn watch_at(watches: &[Option<Watch>; 12], place: usize) -> Option<Watch>
+    requires { place < 12 }
+    ensures { slice_get watches.now place ≡ Some result }
+{
+    watches[place]
+}
+
+/// A quantity in thousandths, where there is one.
+fn milli(value: Option<Quantity>) -> Option<u128>
+    ensures value { result ≡ value }
+    ensures within { IfSome result (λ v. v ≤ greatest) }
+{
+    match value {
+        Some(value) => Some(value.milli()),
+        None => None,
+    }
+}
+
+/// The watch of a threshold before any sample.
+fn first_watch(eviction: &Eviction, key: ThresholdKey) -> Option<Watch>
+    ensures { IsWatchAt eviction.now [] key result }
+{
+    match eviction.threshold(key.kind, key.signal) {
+        Some(threshold) => Some(Watch::new(threshold, milli(eviction.capacity(key.signal)))),
+        None => None,
+    }
+}
+
+/// The watches of a node before any tick.
+pub(crate) fn first_watches(eviction: &Eviction) -> [Option<Watch>; 12]
+    ensures { AreWatches eviction.now [] result }
+{
+    let mut watches = [None; 12];
+    for place in 0..12 {
+        watches[place] = first_watch(eviction, key_at(place));
+    }
+    watches
+}
+
+/// The watch after one more sample.
+fn sampled(watch: Option<Watch>, at: u64, value: Option<u128>) -> Option<Watch>
+    ensures { (threshold : Option Threshold) (capacity : Option ℕ) (h : List Sample)
+        → IsWatchOf threshold capacity h watch
+        → IsWatchOf threshold capacity (h ++ sample_of at value ∷ []) result }
+{
+    match watch {
+        Some(mut watch) => {
+            watch.sample(at, value);
+            Some(watch)
+        }
+        None => None,
+    }
+}
+
+/// Each watch takes its signal's sample of the tick.
+pub(crate) fn sample_all(watches: &mut [Option<Watch>; 12], tick: &TickObs)
+    ensures { (eviction : Eviction) (before : List TickObs)
+        → AreWatches eviction before watches.old
+        → AreWatches eviction (before ++ tick.now ∷ []) watches.new }
+{
+    for place in 0..12 {
+        let value = milli(tick.signals.of(key_at(place).signal));
+        watches[place] = sampled(watch_at(watches, place), tick.at, value);
+    }
+}
+
+/// Whether the threshold at this place is active.
+pub(crate) fn is_active(watches: &[Option<Watch>; 12], place: usize) -> bool
+    requires { place < 12 }
+    ensures { (eviction : Eviction) (ticks : List TickObs) (key : ThresholdKey)
+        → slice_get serving_order place ≡ Some key
+        → AreWatches eviction ticks watches.now
+        → (IsTrue result ↔ IsActive eviction ticks key) }
+{
+    match watch_at(watches, place) {
+        Some(watch) => watch.active(),
+        None => false,
+    }
+}
+
+/// Whether the threshold at this place is due.
+pub(crate) fn is_due(watches: &[Option<Watch>; 12], place: usize) -> bool
+    requires { place < 12 }
+    ensures { (eviction : Eviction) (ticks : List TickObs) (key : ThresholdKey)
+        → slice_get serving_order place ≡ Some key
+        → AreWatches eviction ticks watches.now
+        → (IsTrue result ↔ IsDue eviction ticks key) }
+{
+    match watch_at(watches, place) {
+        Some(watch) => watch.due(),
+        None => false,
+    }
+}
+
+/// Whether the value is not below the threshold's limit plus its reclaim.
+fn is_enough(threshold: Threshold, capacity: Option<u128>, value: Option<u128>) -> bool
+    requires capacity { HasCapacity capacity threshold }
+    requires within { IfSome capacity (λ c. c ≤ greatest) }
+    ensures { IsTrue result ↔ IsSomeAnd value (IsEnough capacity threshold) }
+{
+    match value {
+        Some(value) => {
+            threshold.limit.amount(capacity) + threshold.reclaim.amount(capacity) <= value
+        }
+        None => false,
+    }
+}
+
+/// Whether the node has freed enough by itself for this threshold.
+pub(crate) fn is_reclaimed(eviction: &Eviction, key: ThresholdKey, tick: &TickObs) -> bool
+    ensures { IsTrue result ↔ IsReclaimed eviction.now tick.now key }
+{
+    let Some(threshold) = eviction.threshold(key.kind, key.signal) else {
+        return false;
+    };
+    let capacity = milli(eviction.capacity(key.signal));
+    let freed = milli(tick.after_reclaim.of(key.signal));
+    key.signal.is_of_file_system() && is_enough(threshold, capacity, freed)
+}
+
+/// Whether the threshold at this place asks for an eviction: it is due, and the node has not freed
+/// enough by itself.
+fn asks(watches: &[Option<Watch>; 12], eviction: &Eviction, tick: &TickObs, place: usize) -> bool
+    requires { place < 12 }
+    ensures { (before : List TickObs) (key : ThresholdKey)
+        → slice_get serving_order place ≡ Some key
+        → AreWatches eviction.now (before ++ tick.now ∷ []) watches.now
+        → (IsTrue result ↔ Asks eviction.now before tick.now key) }
+{
+    is_due(watches, place) && !is_reclaimed(eviction, key_at(place), tick)
+}
+
+/// The threshold that is served.
+pub(crate) fn served(
+    watches: &[Option<Watch>; 12],
+    eviction: &Eviction,
+    tick: &TickObs,
+) -> Option<ThresholdKey>
+    ensures { (before : List TickObs)
+        → AreWatches eviction.now (before ++ tick.now ∷ []) watches.now
+        → IsServed eviction.now before tick.now result }
+{
+    for place in 0..12 {
+        if asks(watches, eviction, tick, place) {
+            return Some(key_at(place));
+        }
+    }
+    None
+}
