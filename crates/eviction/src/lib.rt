@@ -4,5 +4,6 @@
 #![tactic(auto)]
 
 mod eviction;
+pub mod laws;
 
 pub use eviction::{Eviction, order_for};
