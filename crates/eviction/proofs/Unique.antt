@@ -38,24 +38,24 @@ served_unique config before tick one other (place, first, is) (place', first', i
     is ∙ ap (λ k. option_and_then (slice_get serving_order) k)
     (IsFirstPlace-unique (AsksAt config.eviction before tick) place place' first first') ∙ sym is'
 
-evicts_unique : (config : NodeConfig) (pods : List PodSpec) (tick : TickObs) (key : ThresholdKey) (n : ℕ) (one other : Eviction)
-    → Evicts config pods tick key n one → Evicts config pods tick key n other → one ≡ other
-evicts_unique config pods tick key n one other v w =
-    let both : Some v.pod ≡ Some w.pod = sym v.at ∙ w.at in
+evicts_unique : (config : NodeConfig) (pods : List PodSpec) (at : ℕ) (key : ThresholdKey) (n : ℕ) (one other : Eviction)
+    → Evicts config pods at key n one → Evicts config pods at key n other → one ≡ other
+evicts_unique config pods at key n one other v w =
+    let both : Some v.pod ≡ Some w.pod = sym v.is_pod ∙ w.is_pod in
     let same : v.pod ≡ w.pod = cc in
     let pod : one.pod ≡ other.pod = v.number ∙ sym w.number in
-    let order : one.order ≡ other.order = v.order ∙ ap (λ p. order_of config p tick key) same ∙ sym w.order in
+    let order : one.order ≡ other.order = v.order ∙ ap (λ p. order_of config p at key) same ∙ sym w.order in
     made one.pod other.pod one.order other.order pod order
   where
     made : (a b : ℕ) (c d : EvictOrder) → a ≡ b → c ≡ d → ◌≡◌ {A = Eviction} (record { pod = a; order = c }) (record { pod = b; order = d })
     made a b c d e f = λ i. record { pod = e i; order = f i }
 
-of_victim_unique : (config : NodeConfig) (pods : List PodSpec) (tick : TickObs) (key : ThresholdKey) (victim : Option ℕ) (one other : Option Eviction)
-    → IsOfVictim config pods tick key victim one → IsOfVictim config pods tick key victim other → one ≡ other
-of_victim_unique config pods tick key None one other v w = v ∙ sym w
-of_victim_unique config pods tick key (Some n) None other v w = absurd v
-of_victim_unique config pods tick key (Some n) (Some a) None v w = absurd w
-of_victim_unique config pods tick key (Some n) (Some a) (Some b) v w = ap (λ e. Some e) (evicts_unique config pods tick key n a b v w)
+of_victim_unique : (config : NodeConfig) (pods : List PodSpec) (at : ℕ) (key : ThresholdKey) (victim : Option ℕ) (one other : Option Eviction)
+    → IsOfVictim config pods at key victim one → IsOfVictim config pods at key victim other → one ≡ other
+of_victim_unique config pods at key None one other v w = v ∙ sym w
+of_victim_unique config pods at key (Some n) None other v w = absurd v
+of_victim_unique config pods at key (Some n) (Some a) None v w = absurd w
+of_victim_unique config pods at key (Some n) (Some a) (Some b) v w = ap (λ e. Some e) (evicts_unique config pods at key n a b v w)
 
 eviction_unique : (config : NodeConfig) (pods : List PodSpec) (before : List TickObs) (tick : TickObs) (evictions : List (Option Eviction))
     (served : Option ThresholdKey) (one other : Option Eviction)
@@ -63,7 +63,7 @@ eviction_unique : (config : NodeConfig) (pods : List PodSpec) (before : List Tic
 eviction_unique config pods before tick evictions None one other v w = v ∙ sym w
 eviction_unique config pods before tick evictions (Some key) one other (a, is, e) (b, is', f) =
     let same : b ≡ a = victim_unique key.signal config.has_dedicated_imagefs (IsCandidate pods before tick evictions) b a is' is in
-    of_victim_unique config pods tick key a one other e (subst (λ v. IsOfVictim config pods tick key v other) same f)
+    of_victim_unique config pods tick.at key a one other e (subst (λ v. IsOfVictim config pods tick.at key v other) same f)
 
 pub round_unique : (config : NodeConfig) (pods : List PodSpec) (before : List TickObs) (tick : TickObs) (evictions : List (Option Eviction)) (one other : Option Eviction)
     → IsRound config pods before tick evictions one → IsRound config pods before tick evictions other → one ≡ other

@@ -64,23 +64,23 @@ abbrev pub grace_of : NodeConfig → PodSpec → ThresholdKind → ℕ
 grace_of config pod Hard = 0
 grace_of config pod Soft = min pod.grace_period_seconds config.eviction_max_pod_grace_period
 
--- the order to evict a pod in a tick, for a threshold
-abbrev pub order_of : NodeConfig → PodSpec → TickObs → ThresholdKey → EvictOrder
-order_of config pod tick key =
-    record { at = tick.at; signal = key.signal; kind = key.kind; grace = grace_of config pod key.kind }
+-- the order to evict a pod at a moment, for a threshold
+abbrev pub order_of : NodeConfig → PodSpec → ℕ → ThresholdKey → EvictOrder
+order_of config pod at key =
+    record { at = at; signal = key.signal; kind = key.kind; grace = grace_of config pod key.kind }
 
--- the pod of this number is evicted, for this threshold
-pub record Evicts (config : NodeConfig) (pods : List PodSpec) (tick : TickObs) (key : ThresholdKey) (n : ℕ) (eviction : Eviction) : Type 0 where
+-- the pod of this number is evicted at this moment, for this threshold
+pub record Evicts (config : NodeConfig) (pods : List PodSpec) (at : ℕ) (key : ThresholdKey) (n : ℕ) (eviction : Eviction) : Type 0 where
   pub pod : PodSpec
-  pub at : slice_get pods n ≡ Some pod
+  pub is_pod : slice_get pods n ≡ Some pod
   pub number : eviction.pod ≡ n
-  pub order : eviction.order ≡ order_of config pod tick key
+  pub order : eviction.order ≡ order_of config pod at key
 
 -- of the candidates the victim is evicted, if there is one
-abbrev pub IsOfVictim : NodeConfig → List PodSpec → TickObs → ThresholdKey → Option ℕ → Option Eviction → Type 0
-IsOfVictim config pods tick key None eviction = eviction ≡ None
-IsOfVictim config pods tick key (Some n) None = ⊥
-IsOfVictim config pods tick key (Some n) (Some eviction) = Evicts config pods tick key n eviction
+abbrev pub IsOfVictim : NodeConfig → List PodSpec → ℕ → ThresholdKey → Option ℕ → Option Eviction → Type 0
+IsOfVictim config pods at key None eviction = eviction ≡ None
+IsOfVictim config pods at key (Some n) None = ⊥
+IsOfVictim config pods at key (Some n) (Some eviction) = Evicts config pods at key n eviction
 
 -- one pod at most is evicted, for the threshold that is served
 abbrev pub IsEvictionFor : NodeConfig → List PodSpec → List TickObs → TickObs → List (Option Eviction) → Option ThresholdKey → Option Eviction → Type 0
@@ -88,7 +88,7 @@ IsEvictionFor config pods before tick evictions None eviction = eviction ≡ Non
 IsEvictionFor config pods before tick evictions (Some key) eviction =
     (victim : Option ℕ)
     × IsVictim key.signal config.has_dedicated_imagefs (IsCandidate pods before tick evictions) victim
-    × IsOfVictim config pods tick key victim eviction
+    × IsOfVictim config pods tick.at key victim eviction
 
 -- the eviction of a tick that comes after these ticks with these evictions
 pub record IsRound (config : NodeConfig) (pods : List PodSpec) (before : List TickObs) (tick : TickObs) (evictions : List (Option Eviction)) (eviction : Option Eviction) : Type 0 where

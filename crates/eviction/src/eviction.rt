@@ -1,13 +1,11 @@
 //! One eviction.
 
 ghost use Rattle.std.specs.Prelude.{◌≡◌};
-ghost use Rattle.observations.specs.declared.tick.TickObs.{TickObs};
 ghost use Rattle.eviction.specs.Replay.{order_of};
 
 use manifest::PodSpec;
 use node_config::NodeConfig;
 use node_signals::ThresholdKey;
-use observations::TickObs;
 use pod_piece::EvictOrder;
 use signals::ThresholdKind;
 
@@ -20,16 +18,11 @@ pub struct Eviction {
     pub order: EvictOrder,
 }
 
-/// The order to evict a pod in a tick, for a threshold: a hard one leaves the pod no time, a soft one
+/// The order to evict a pod at a moment, in seconds, for a threshold: a hard one leaves the pod no time, a soft one
 /// its own grace period, but no longer than the node allows. (Kubernetes, "Node-pressure Eviction",
 /// "Soft eviction thresholds" and "Hard eviction thresholds".)
-pub fn order_for(
-    config: &NodeConfig,
-    pod: &PodSpec,
-    tick: &TickObs,
-    key: ThresholdKey,
-) -> EvictOrder
-    ensures { result ≡ order_of config.now pod.now tick.now key }
+pub fn order_for(config: &NodeConfig, pod: &PodSpec, at: u64, key: ThresholdKey) -> EvictOrder
+    ensures { result ≡ order_of config.now pod.now at key }
 {
     let grace = match key.kind {
         ThresholdKind::Hard => 0,
@@ -39,7 +32,7 @@ pub fn order_for(
             .min(u64::from(config.eviction_max_pod_grace_period)),
     };
     EvictOrder {
-        at: tick.at,
+        at,
         signal: key.signal,
         kind: key.kind,
         grace,
