@@ -1,5 +1,7 @@
 -- A node with one more pod.
-use Rattle.std.proofs.Common.{◌≡◌, ◌⊎◌, inl, inr, ℕ, zero, suc, ◌<◌, ◌≤◌, List, [], ◌∷◌, ◌++◌, length, map, take, Option, Some, None, refl, sym, ap, subst, ◌∙◌, arith}
+use Rattle.std.proofs.Common.{◌≡◌, ◌⊎◌, inl, inr, ℕ, zero, suc, ◌<◌, ◌≤◌, List, [], ◌∷◌, ◌++◌, length, map, take, true, false, Option, Some, None, refl, sym, ap, subst, ◌∙◌, arith}
+use Rattle.std.specs.List.{cons_option}
+use Rattle.observations.specs.Observations.{own_ticks}
 use Rattle.std.specs.Prelude.{◌↔◌, slice_get, is_some, IsSome, option_map}
 use Rattle.manifest.specs.declared.pod.PodSpec.{PodSpec}
 use Rattle.histories.proofs.Places.{length-more}
@@ -31,7 +33,7 @@ get_last [] y = refl
 get_last (z ∷ xs) y = get_last xs y
 
 present_below : (xs : List PodObs) (n : ℕ) → IsSome (slice_get xs n) → n < length xs
-present_below [] n e = let f : is_some (slice_get [] n) ≡ true = e in absurd (cc)
+present_below [] n e = let f : false ≡ true = e in absurd (cc)
 present_below (x ∷ xs) zero e = omega arith
 present_below (x ∷ xs) (suc n) e = let lt : n < length xs = present_below xs n e in omega arith
 
@@ -46,6 +48,10 @@ unshown [] n none = refl
 unshown (x ∷ ticks) n none =
     ap (λ (o : Option PodObs). map pod_tick (cons_option o (own_ticks ticks n))) (absent x.pods n (none 0 x refl))
     ∙ unshown ticks n (λ t tick at. none (suc t) tick at)
+
+abbrev piece_of : ℕ → PodSpec → ℕ → List PodTick → Option EvictionOfPod → Piece
+piece_of number pod greatest handed eviction =
+    record { number = number; pod = pod; greatest = greatest; handed = handed; is_pending = false; eviction = eviction }
 
 -- the round of an earlier tick does not see the pod
 same_round : (config : NodeConfig) (pods : List PodSpec) (pod : PodSpec) (before : List TickObs) (tick : TickObs) (es : List (Option Eviction)) (eviction : Option Eviction)
@@ -107,10 +113,6 @@ arrives pods ticks s pod taken = record {
   last_is = taken.last_is;
 }
   where
-    abbrev piece_of : ℕ → PodSpec → ℕ → List PodTick → Option EvictionOfPod → Piece
-    piece_of number spec greatest handed eviction =
-        record { number = number; pod = spec; greatest = greatest; handed = handed; is_pending = false; eviction = eviction }
-
     never : own_eviction (length pods) ticks s.evictions ≡ None
     never = ap (option_map (λ (f : EvictedAt). record { place = length (pod_ticks (take f.tick ticks) (length pods)); order = f.order }))
         (evicted_none (length pods) s.evictions (λ t e is here.

@@ -1,5 +1,5 @@
 -- The candidates and the eviction of a tick, by a node's pieces and by its history.
-use Rattle.std.proofs.Common.{◌≡◌, ℕ, zero, suc, ◌<◌, ◌≤◌, List, [], ◌∷◌, ◌++◌, length, map, Option, Some, None, refl, sym, ap, subst, ◌∙◌, arith}
+use Rattle.std.proofs.Common.{◌≡◌, ℕ, zero, suc, ◌-◌, ◌<◌, ◌≤◌, List, [], ◌∷◌, ◌++◌, length, map, Option, Some, None, refl, sym, ap, subst, ◌∙◌, arith}
 use Rattle.std.specs.Prelude.{◌↔◌, slice_get, is_some, IsSome}
 use Rattle.histories.specs.Histories.{last_moment, moment_at}
 use Rattle.histories.proofs.Places.{length-more, moment_at-new}

@@ -1,6 +1,7 @@
 -- The pieces of a node after one more tick and its eviction.
 use Rattle.std.proofs.Common.{◌≡◌, inl, inr, ℕ, zero, suc, ◌+◌, ◌-◌, ◌<◌, ◌≤◌, List, [], ◌∷◌, ◌++◌, length, map, take, Bool, false, Option, Some, None, refl, sym, ap, subst, ◌∙◌, arith}
 use Rattle.std.specs.Prelude.{slice_get, option_map, IsSomeAnd}
+use Rattle.std.specs.List.{cons_option}
 use Rattle.std.proofs.lemmas.Bool.{cases_eq}
 use Rattle.std.proofs.lemmas.List.{length-take-le, take-append-le, length-append}
 use Rattle.histories.specs.Histories.{up_to, IsSo}
@@ -8,7 +9,7 @@ use Rattle.histories.proofs.Places.{length-more}
 use Rattle.manifest.specs.declared.pod.PodSpec.{PodSpec}
 use Rattle.observations.specs.declared.pod.PodObs.{PodObs}
 use Rattle.observations.specs.declared.tick.TickObs.{TickObs}
-use Rattle.observations.specs.Observations.{shown_of}
+use Rattle.observations.specs.Observations.{shown_of, own_ticks}
 use Rattle.node_config.specs.declared.node.NodeConfig.{NodeConfig}
 use Rattle.node_signals.proofs.PlaceLemmas.{within}
 use Rattle.phase.specs.declared.phase.Phase.{Phase}
