@@ -1,188 +1,31 @@
--- The pods of a trace, one tick and one pod more.
-use Rattle.std.proofs.Common.{◌≡◌, ◌∙◌, ℕ, suc, zero, ◌+◌, ◌-◌, ◌<◌, ◌≤◌, ◌^◌, List, [], ◌∷◌, ◌++◌, length, map, take, get_or, append_assoc, append-nil, Option, Some, None, refl, ap, sym, subst, arith}
-use Rattle.std.specs.Prelude.{slice_get, MatchOption, IfSome, option_and_then, unwrap_or, false}
-use Rattle.std.specs.Option.{option_to_list}
-use Rattle.std.proofs.lemmas.List.{map-append, length-map, take_all}
-use Rattle.std.proofs.lemmas.Option.{slice_get-get_or, slice_get_past}
-use Rattle.std.proofs.Math.Seq.{take-append_seam}
+-- The node of a trace, one tick and some pods more.
+use Rattle.std.proofs.Common.{◌≡◌, ◌⊎◌, inl, inr, ◌∙◌, ℕ, suc, zero, ◌+◌, ◌-◌, ◌<◌, ◌≤◌, ◌^◌, List, [], ◌∷◌, ◌++◌, length, map, take, drop, append_assoc, append-nil, Option, Some, None, refl, ap, sym, subst, arith}
+use Rattle.std.specs.Prelude.{slice_get, IfSome, IsSomeAnd, is_some, IsSome, option_and_then, unwrap_or, ◌↔◌}
+use Rattle.std.proofs.lemmas.Bool.{cases_lt}
+use Rattle.std.proofs.lemmas.List.{length-take-le, take-append-le, take_all}
 use Rattle.manifest.specs.declared.pod.PodSpec.{PodSpec}
+use Rattle.node_config.specs.declared.node.NodeConfig.{NodeConfig}
 use Rattle.observations.specs.declared.pod.PodObs.{PodObs}
 use Rattle.observations.specs.declared.tick.TickObs.{TickObs}
+use Rattle.observations.specs.declared.container.ContainerObs.{ContainerObs}
 use Rattle.observations.specs.Observations.{shown_of, listed_in, own_ticks, history}
-use Rattle.observations.proofs.OwnTicks.{own_more, own_rests, AreBefore, acceptable_at, history_ends_before}
+use Rattle.observations.proofs.OwnTicks.{AreBefore, acceptable_at, history_ends_before}
 use Rattle.histories.specs.Histories.{recorded, last_moment, moment_at, EndsBefore}
 use Rattle.histories.proofs.Places.{length-project, moment_at-project}
 use Rattle.state_diff.specs.declared.seen.Seen.{Seen}
 use Rattle.state_diff.specs.Instances.{Tick, IsAcceptable}
-use Rattle.observations.specs.declared.container.ContainerObs.{ContainerObs}
 use Rattle.containers.specs.Ticks.{listings}
 use Rattle.trace.specs.Sound.{AreAcceptable, HasShape}
+use Rattle.node_signals.proofs.PlaceLemmas.{within}
 use Rattle.pod_state.specs.Pods.{PodEntry, PodTick, pod_tick, ticks_of, unseen}
 use Rattle.pod_piece.specs.Listings.{IsNextTick}
 use Rattle.pod_piece.specs.Piece.{Piece}
-use Rattle.kubelet_replay.specs.PodHistory.{pod_history}
-use Rattle.kubelet_replay.specs.Pieces.{MayTake, MayTakeAll, with_shown, with_all, piece_after, pieces_from, AreReplayable}
-use Rattle.kubelet_replay.specs.Report.{IsReport}
-
-pub rest_more : {A : Type 0} (all front : List A) (x : A) (rest : List A) → all ≡ front ++ x ∷ rest → all ≡ (front ++ x ∷ []) ++ rest
-rest_more all front x rest is = is ∙ sym (append_assoc front (x ∷ []) rest)
-
--- a pod more
-pub pieces_more : (greatest : ℕ) (ticks : List TickObs) (n : ℕ) (pods : List PodSpec) (pod : PodSpec)
-    → pieces_from greatest ticks n (pods ++ pod ∷ []) ≡ pieces_from greatest ticks n pods ++ piece_after greatest ticks (n + length pods) pod ∷ []
-pieces_more greatest ticks n [] pod = ap (λ k. piece_after greatest ticks k pod ∷ []) {x = n} {y = n + 0} (omega arith)
-pieces_more greatest ticks n (p ∷ ps) pod =
-    ap (λ rest. piece_after greatest ticks n p ∷ rest) (pieces_more greatest ticks (n + 1) ps pod)
-    ∙ ap (λ k. piece_after greatest ticks n p ∷ pieces_from greatest ticks (n + 1) ps ++ piece_after greatest ticks k pod ∷ []) {x = n + 1 + length ps} {y = n + suc (length ps)} (omega arith)
-
-pub pieces_length : (greatest : ℕ) (ticks : List TickObs) (n : ℕ) (pods : List PodSpec) → length (pieces_from greatest ticks n pods) ≡ length pods
-pieces_length greatest ticks n [] = refl
-pieces_length greatest ticks n (p ∷ ps) = ap suc (pieces_length greatest ticks (n + 1) ps)
-
--- the piece at a place
-pub record IsPieceHere (greatest : ℕ) (ticks : List TickObs) (pods : List PodSpec) (n : ℕ) (piece : Piece) : Type 0 where
-  pub pod : PodSpec
-  pub within : n < length pods
-  pub found : pod ≡ get_or pods n pod
-  pub is : piece ≡ piece_after greatest ticks n pod
-
-pub whole_report : (greatest : ℕ) (ticks : List TickObs) (pods : List PodSpec) (pieces : List Piece) (n : ℕ) (bytes : List ℕ) → pieces ≡ pieces_from greatest ticks 0 pods → n ≡ length pieces
-    → IsReport ticks (take n pods) bytes → IsReport ticks pods bytes
-whole_report greatest ticks pods pieces n bytes are all is =
-    let long : length pods ≤ n = omega (arith, all, ap length are, pieces_length greatest ticks 0 pods) in
-    subst (λ (ps : List PodSpec). IsReport ticks ps bytes) (take_all n pods long) is
-
--- pods that nothing is shown of stay as they are
-may_nothing : (ps : List Piece) → MayTakeAll ps []
-may_nothing [] = tt
-may_nothing (p ∷ ps) = tt
-
-with_nothing : (ps : List Piece) → with_all ps [] ≡ ps
-with_nothing [] = refl
-with_nothing (p ∷ ps) = refl
-
--- where an iterator has ended it has nothing left
-pub none_left : (o : Option PodObs) (old new : ℕ) (Q : PodObs → Type 0) (rest : List PodObs) → MatchOption o ((old ≡ 0) × (new ≡ 0)) Q → length rest ≡ new → o ≡ None → rest ≡ []
-none_left None old new Q [] ends long is = refl
-none_left None old new Q (x ∷ xs) ends long is = absurd (omega (arith, long, ends.1))
-none_left (Some x) old new Q rest ends long is = absurd (let w : Some x ≡ None = is in cc)
-
-pub nothing_left : {A : Type 0} (rest : List A) → length rest ≡ 0 → rest ≡ []
-nothing_left [] long = refl
-nothing_left (x ∷ xs) long = absurd (omega (arith, long))
-
--- the next pod, and what the tick shows of it
-pub next_may : (p : Piece) (ps : List Piece) (os rest : List PodObs) (o : Option PodObs) → os ≡ option_to_list o ++ rest → (o ≡ None → rest ≡ []) → MayTakeAll (p ∷ ps) os
-    → MayTake p o × MayTakeAll ps rest
-next_may p ps os rest None is ends may = (tt, subst (λ (xs : List PodObs). MayTakeAll ps xs) (sym (ends refl)) (may_nothing ps))
-next_may p ps os rest (Some o) is ends may = subst (λ (xs : List PodObs). MayTakeAll (p ∷ ps) xs) is may
-
-pub next_with : (p : Piece) (ps : List Piece) (os rest : List PodObs) (o : Option PodObs) → os ≡ option_to_list o ++ rest → (o ≡ None → rest ≡ [])
-    → with_all (p ∷ ps) os ≡ with_shown p o ∷ with_all ps rest
-next_with p ps os rest None is ends =
-    ap (with_all (p ∷ ps)) (is ∙ ends refl) ∙ ap (λ qs. p ∷ qs) (sym (with_nothing ps)) ∙ ap (λ xs. p ∷ with_all ps xs) (sym (ends refl))
-next_with p ps os rest (Some o) is ends = ap (with_all (p ∷ ps)) is
-
--- all that is left is taken
-pub none_with : (os : List PodObs) → with_all [] os ≡ []
-none_with os = refl
-
--- the pods of a tick, numbered from n on
-record LinesUp (tick : TickObs) (n : ℕ) (os : List PodObs) : Type 0 where
-  pub each : (k : ℕ) → shown_of tick (n + k) ≡ slice_get os k
-
-shift : (tick : TickObs) (n : ℕ) (o : PodObs) (os : List PodObs) → LinesUp tick n (o ∷ os) → LinesUp tick (n + 1) os
-shift tick n o os up = record { each = λ k. ap (shown_of tick) {x = n + 1 + k} {y = n + suc k} (omega arith) ∙ up.each (suc k) }
-
-shift_none : (tick : TickObs) (n : ℕ) → LinesUp tick n [] → LinesUp tick (n + 1) []
-shift_none tick n up = record { each = λ k. ap (shown_of tick) {x = n + 1 + k} {y = n + suc k} (omega arith) ∙ up.each (suc k) }
-
-shown_first : (tick : TickObs) (n : ℕ) (o : PodObs) (os : List PodObs) → LinesUp tick n (o ∷ os) → shown_of tick n ≡ Some o
-shown_first tick n o os up = ap (shown_of tick) {x = n} {y = n + 0} (omega arith) ∙ up.each 0
-
-shown_none : (tick : TickObs) (n : ℕ) → LinesUp tick n [] → shown_of tick n ≡ None
-shown_none tick n up = ap (shown_of tick) {x = n} {y = n + 0} (omega arith) ∙ up.each 0
-
-more_shown : (greatest : ℕ) (ticks : List TickObs) (tick : TickObs) (n : ℕ) (pod : PodSpec) (o : PodObs) → shown_of tick n ≡ Some o
-    → with_shown (piece_after greatest ticks n pod) (Some o) ≡ piece_after greatest (ticks ++ tick ∷ []) n pod
-more_shown greatest ticks tick n pod o is =
-    ap (λ (h : List PodTick). record { number = n; pod = pod; greatest = greatest; handed = h; is_pending = false; eviction = None })
-    (sym (ap (map pod_tick) (own_more ticks tick n o is) ∙ map-append pod_tick (own_ticks ticks n) (o ∷ [])))
-
-rests : (greatest : ℕ) (ticks : List TickObs) (tick : TickObs) (n : ℕ) (pods : List PodSpec) → LinesUp tick n []
-    → pieces_from greatest ticks n pods ≡ pieces_from greatest (ticks ++ tick ∷ []) n pods
-rests greatest ticks tick n [] up = refl
-rests greatest ticks tick n (pod ∷ pods) up =
-    ap (λ (os : List PodObs). record { number = n; pod = pod; greatest = greatest; handed = map pod_tick os; is_pending = false; eviction = None } ∷ pieces_from greatest ticks (n + 1) pods)
-    (sym (own_rests ticks tick n (shown_none tick n up)))
-    ∙ ap (λ ps. piece_after greatest (ticks ++ tick ∷ []) n pod ∷ ps) (rests greatest ticks tick (n + 1) pods (shift_none tick n up))
-
-with_tick_from : (greatest : ℕ) (ticks : List TickObs) (tick : TickObs) (n : ℕ) (pods : List PodSpec) (os : List PodObs) → LinesUp tick n os
-    → with_all (pieces_from greatest ticks n pods) os ≡ pieces_from greatest (ticks ++ tick ∷ []) n pods
-with_tick_from greatest ticks tick n [] os up = refl
-with_tick_from greatest ticks tick n (pod ∷ pods) [] up = rests greatest ticks tick n (pod ∷ pods) up
-with_tick_from greatest ticks tick n (pod ∷ pods) (o ∷ os) up =
-    ap (λ p. p ∷ with_all (pieces_from greatest ticks (n + 1) pods) os) (more_shown greatest ticks tick n pod o (shown_first tick n o os up))
-    ∙ ap (λ ps. piece_after greatest (ticks ++ tick ∷ []) n pod ∷ ps) (with_tick_from greatest ticks tick (n + 1) pods os (shift tick n o os up))
-
-starts : (tick : TickObs) → LinesUp tick 0 tick.pods
-starts tick = record { each = λ k. ap (shown_of tick) {x = 0 + k} {y = k} (omega arith) }
-
-pub with_tick_all : (greatest : ℕ) (ticks : List TickObs) (tick : TickObs) (pods : List PodSpec)
-    → with_all (pieces_from greatest ticks 0 pods) tick.pods ≡ pieces_from greatest (ticks ++ tick ∷ []) 0 pods
-with_tick_all greatest ticks tick pods = with_tick_from greatest ticks tick 0 pods tick.pods (starts tick)
-
--- they may take it
-may_take_from : (greatest : ℕ) (ticks : List TickObs) (tick : TickObs) (n : ℕ) (pods : List PodSpec) (os : List PodObs) → LinesUp tick n os
-    → ((k : ℕ) (pod : PodSpec) (o : PodObs) → slice_get pods k ≡ Some pod → shown_of tick (n + k) ≡ Some o → IsNextTick pod (pod_history ticks (n + k)) (pod_tick o))
-    → MayTakeAll (pieces_from greatest ticks n pods) os
-may_take_from greatest ticks tick n [] os up next = tt
-may_take_from greatest ticks tick n (pod ∷ pods) [] up next = tt
-may_take_from greatest ticks tick n (pod ∷ pods) (o ∷ os) up next =
-    let here : IsNextTick pod (pod_history ticks (n + 0)) (pod_tick o) = next 0 pod o refl (up.each 0) in (
-      (refl, subst (λ (k : ℕ). IsNextTick pod (pod_history ticks k) (pod_tick o)) (let e : n + 0 ≡ n = omega arith in e) here),
-      may_take_from greatest ticks tick (n + 1) pods os (shift tick n o os up)
-          (λ k q p at shown.
-          let e : n + suc k ≡ n + 1 + k = omega arith in
-          subst (λ (m : ℕ). IsNextTick q (pod_history ticks m) (pod_tick p)) e (next (suc k) q p at (ap (shown_of tick) e ∙ shown))),
-    )
-
-pub may_take_tick : (greatest : ℕ) (pods : List PodSpec) (all ticks : List TickObs) (tick : TickObs) (rest : List TickObs) → all ≡ ticks ++ tick ∷ rest → AreReplayable pods all
-    → MayTakeAll (pieces_from greatest ticks 0 pods) tick.pods
-may_take_tick greatest pods all ticks tick rest whole replayable =
-    let t = length ticks in
-    let here : slice_get all t ≡ Some tick = ap (λ xs. slice_get xs t) whole ∙ slice_get_middle ticks tick rest in
-    let before : take t all ≡ ticks = ap (take t) whole ∙ take-append_seam ticks (tick ∷ rest) in
-    may_take_from greatest ticks tick 0 pods tick.pods (starts tick)
-    (λ k pod o at shown.
-    let e : 0 + k ≡ k = omega arith in
-    subst (λ (ts : List TickObs). IsNextTick pod (pod_history ts (0 + k)) (pod_tick o)) before
-    (subst (λ (m : ℕ). IsNextTick pod (pod_history (take t all) m) (pod_tick o)) (sym e) (replayable t k tick pod o here at (ap (shown_of tick) (sym e) ∙ shown))))
-  where
-    slice_get_middle : (xs : List TickObs) (x : TickObs) (ys : List TickObs) → slice_get (xs ++ x ∷ ys) (length xs) ≡ Some x
-    slice_get_middle [] x ys = refl
-    slice_get_middle (y ∷ xs) x ys = slice_get_middle xs x ys
-
--- the piece at a place
-pub piece_here : (greatest : ℕ) (ticks : List TickObs) (pods : List PodSpec) (pieces : List Piece) (n : ℕ) (piece : Piece) → pieces ≡ pieces_from greatest ticks 0 pods → n < length pieces
-    → piece ≡ get_or pieces n piece → IsPieceHere greatest ticks pods n piece
-piece_here greatest ticks pods pieces n piece are lt is =
-    let within : n < length pods = omega (arith, lt, ap length are, pieces_length greatest ticks 0 pods) in
-    let at = piece_at 0 pods n piece within in
-    record {
-      pod = at.0;
-      within = within;
-      found = at.1;
-      is = is ∙ ap (λ (ps : List Piece). get_or ps n piece) are ∙ at.2 ∙ ap (λ i. piece_after greatest ticks i at.0) {x = 0 + n} {y = n} (omega arith);
-    }
-  where
-    piece_at : (m : ℕ) (pods : List PodSpec) (k : ℕ) (d : Piece) → k < length pods
-        → (pod : PodSpec) × (pod ≡ get_or pods k pod) × (get_or (pieces_from greatest ticks m pods) k d ≡ piece_after greatest ticks (m + k) pod)
-    piece_at m [] k d lt = absurd (omega (arith, lt))
-    piece_at m (p ∷ ps) zero d lt = (p, refl, ap (λ i. piece_after greatest ticks i p) {x = m} {y = m + 0} (omega arith))
-    piece_at m (p ∷ ps) (suc k) d lt =
-        let rest = piece_at (m + 1) ps k d (omega (arith, lt)) in
-        (rest.0, rest.1, rest.2 ∙ ap (λ i. piece_after greatest ticks i rest.0) {x = m + 1 + k} {y = m + suc k} (omega arith))
+use Rattle.eviction.proofs.Unique.{at_place}
+use Rattle.eviction.specs.Replay.{pod_ticks}
+use Rattle.node_pods.specs.Pods.{AreNext}
+use Rattle.tick_round.specs.Node.{State, piece_after, HasTaken, Fits, IsAfter, MayTake, last_of}
+use Rattle.tick_round.proofs.Pieces.{pod_at}
+use Rattle.kubelet_replay.specs.Replayed.{AreReplayable}
 
 -- what a trace keeps lets every tick be handed on
 listed : (o : Option ContainerObs) → (unwrap_or o unseen).seen ≡ option_and_then (λ (shown : ContainerObs). shown.seen) o
@@ -211,25 +54,232 @@ kept (suc i) t [] tick e = absurd (cc)
 kept (suc i) zero (x ∷ xs) tick e = (omega arith, e)
 kept (suc i) (suc t) (x ∷ xs) tick e = let w = kept i t xs tick e in (omega (arith, w.0), w.1)
 
+-- no tick shows fewer pods than one before it
+grows : (pods : List PodSpec) (arrivals : List ℕ) (ticks : List TickObs) → HasShape pods arrivals ticks
+    → (t u : ℕ) (earlier later : TickObs) → t < u → slice_get ticks t ≡ Some earlier → slice_get ticks u ≡ Some later → length earlier.pods ≤ length later.pods
+grows pods arrivals ticks shape t u earlier later lt at there = elim (cases_lt (length later.pods) (length earlier.pods)) [
+  | inl fewer ↦
+      let n = length later.pods in
+      let present = ((shape.shown t earlier at).present n).0 fewer in
+      let still = before (slice_get arrivals n) present in
+      let shown : n < length later.pods = ((shape.shown u later there).present n).1 still in
+      absurd (omega arith)
+  | inr ge ↦ ge
+]
+  where
+    before : (o : Option ℕ) → IsSomeAnd o (λ arrival. arrival ≤ t) → IsSomeAnd o (λ arrival. arrival ≤ u)
+    before None p = p
+    before (Some arrival) p = let le : arrival ≤ t = p in omega arith
+
+-- and none shows more than there are
+no_more : (pods : List PodSpec) (arrivals : List ℕ) (ticks : List TickObs) → HasShape pods arrivals ticks → (t : ℕ) (tick : TickObs) → slice_get ticks t ≡ Some tick
+    → length tick.pods ≤ length pods
+no_more pods arrivals ticks shape t tick at = elim (cases_lt (length pods) (length tick.pods)) [
+  | inl more ↦
+      let present = ((shape.shown t tick at).present (length pods)).0 more in
+      let below : length pods < length arrivals = some_below arrivals (length pods) present in
+      let many : length arrivals ≡ length pods = shape.arrived.as_many in
+      absurd (omega arith)
+  | inr le ↦ le
+]
+  where
+    some_below : (xs : List ℕ) (n : ℕ) → IsSomeAnd (slice_get xs n) (λ arrival. arrival ≤ t) → n < length xs
+    some_below [] n p = absurd p
+    some_below (x ∷ xs) zero p = omega arith
+    some_below (x ∷ xs) (suc n) p = let lt : n < length xs = some_below xs n p in omega arith
+
 pub are_replayable : (pods : List PodSpec) (arrivals : List ℕ) (ticks : List TickObs) → AreAcceptable ticks → HasShape pods arrivals ticks → AreReplayable pods ticks
-are_replayable pods arrivals ticks acceptable shape t n tick pod observed here at shown =
-    let each = shape.shown t tick here in
-    let own = own_ticks (take t ticks) n in
-    let moment : observed.at ≡ tick.at = each.moment n observed shown in
-    let before : AreBefore (take t ticks) n observed.at = λ u earlier seen e is.
-    let w = kept t u ticks earlier e in
-    let then : seen.at ≡ earlier.at = (shape.shown u earlier w.1).moment n seen is in
-    let rising : earlier.at < tick.at = shape.rising u t earlier tick w.0 w.1 here in
-    omega (arith, moment, then, rising) in
+are_replayable pods arrivals ticks acceptable shape = record {
+  next = next;
+  moments = λ t n tick shown at is. (shape.shown t tick at).moment n shown is;
+  rising = shape.rising;
+  below = shape.below;
+  growing = grows pods arrivals ticks shape;
+  within = no_more pods arrivals ticks shape;
+}
+  where
+    next : (t n : ℕ) (tick : TickObs) (pod : PodSpec) (observed : PodObs) → slice_get ticks t ≡ Some tick → slice_get pods n ≡ Some pod → shown_of tick n ≡ Some observed
+        → IsNextTick pod (pod_ticks (take t ticks) n) (pod_tick observed)
+    next t n tick pod observed here at shown =
+        let each = shape.shown t tick here in
+        let own = own_ticks (take t ticks) n in
+        let moment : observed.at ≡ tick.at = each.moment n observed shown in
+        let before : AreBefore (take t ticks) n observed.at = λ u earlier seen e is.
+        let w = kept t u ticks earlier e in
+        let then : seen.at ≡ earlier.at = (shape.shown u earlier w.1).moment n seen is in
+        let rising : earlier.at < tick.at = shape.rising u t earlier tick w.0 w.1 here in
+        omega (arith, moment, then, rising) in
+        record {
+          shown = record {
+            as_many = each.containers n pod observed at shown;
+            acceptable = λ c lt.
+                subst (λ (h : List Tick). IsAcceptable h (unwrap_or (slice_get observed.containers c) unseen).seen) (sym (same_history own c))
+                (subst (λ (o : Option Seen). IsAcceptable (history (take t ticks) n c) o) (sym (listed (slice_get observed.containers c)))
+                (acceptable_at ticks t n c tick observed here shown (acceptable n c)));
+          };
+          later = ends_so (map pod_tick own) observed.at
+              (subst (λ (h : List Tick). EndsBefore h observed.at) (sym (same_history own 0)) (history_ends_before (take t ticks) n 0 observed.at before));
+          bounded = subst (λ (m : ℕ). m < 2 ^ 40) (sym moment) (shape.below t tick here);
+        }
+
+-- where a list is cut
+pub rest_more : {A : Type 0} (all front : List A) (x : A) (rest : List A) → all ≡ front ++ x ∷ rest → all ≡ (front ++ x ∷ []) ++ rest
+rest_more all front x rest is = is ∙ sym (append_assoc front (x ∷ []) rest)
+
+middle : {A : Type 0} (xs : List A) (x : A) (ys : List A) → slice_get (xs ++ x ∷ ys) (length xs) ≡ Some x
+middle [] x ys = refl
+middle (y ∷ xs) x ys = middle xs x ys
+
+front : {A : Type 0} (xs ys : List A) → take (length xs) (xs ++ ys) ≡ xs
+front xs ys = take-append-le (length xs) xs ys (omega arith) ∙ take_all (length xs) xs (omega arith)
+
+get_before : {A : Type 0} (xs ys : List A) (n : ℕ) (x : A) → slice_get xs n ≡ Some x → slice_get (xs ++ ys) n ≡ Some x
+get_before [] ys n x e = absurd (cc)
+get_before (z ∷ xs) ys zero x e = e
+get_before (z ∷ xs) ys (suc n) x e = get_before xs ys n x e
+
+get_behind : {A : Type 0} (xs : List A) (x : A) (ys : List A) (t : ℕ) (y : A) → slice_get ys t ≡ Some y → slice_get (xs ++ x ∷ ys) (length xs + suc t) ≡ Some y
+get_behind [] x ys t y e = e
+get_behind (z ∷ xs) x ys t y e = get_behind xs x ys t y e
+
+taken_at : (n k : ℕ) (pods : List PodSpec) (pod : PodSpec) → slice_get (take k pods) n ≡ Some pod → slice_get pods n ≡ Some pod
+taken_at n zero pods pod e = absurd (cc)
+taken_at n (suc k) [] pod e = absurd (cc)
+taken_at zero (suc k) (p ∷ pods) pod e = e
+taken_at (suc n) (suc k) (p ∷ pods) pod e = taken_at n k pods pod e
+
+last_place : (ticks : List TickObs) (m : ℕ) → last_of ticks ≡ Some m → (t : ℕ) × (tick : TickObs) × (slice_get ticks t ≡ Some tick) × (tick.at ≡ m) × (t < length ticks)
+last_place [] m e = absurd (cc)
+last_place (x ∷ []) m e = (0, x, refl, cc, omega arith)
+last_place (x ∷ y ∷ ticks) m e = let w = last_place (y ∷ ticks) m e in let lt : w.0 < length (y ∷ ticks) = w.4 in (suc w.0, w.1, w.2, w.3, omega arith)
+
+if_some : (o : Option ℕ) (P : ℕ → Type 0) → ((m : ℕ) → o ≡ Some m → P m) → IfSome o P
+if_some None P each = tt
+if_some (Some m) P each = each m refl
+
+-- a node that has taken the ticks so far, and as many pods as the tick shows, may take it
+pub fits_next : (pods : List PodSpec) (ticks before : List TickObs) (tick : TickObs) (rest : List TickObs) (s : State) → AreReplayable pods ticks → ticks ≡ before ++ tick ∷ rest
+    → HasTaken (take (length tick.pods) pods) before s → Fits s tick
+fits_next pods ticks before tick rest s may whole taken =
+    let t = length before in
+    let at : slice_get ticks t ≡ Some tick = ap (λ (xs : List TickObs). slice_get xs t) whole ∙ middle before tick rest in
+    let cut : take t ticks ≡ before = ap (take t) whole ∙ front before (tick ∷ rest) in
+    let count : length (take (length tick.pods) pods) ≡ length tick.pods = length-take-le (length tick.pods) pods (may.within t tick at) in
     record {
-      shown = record {
-        as_many = each.containers n pod observed at shown;
-        acceptable = λ c lt.
-            subst (λ (h : List Tick). IsAcceptable h (unwrap_or (slice_get observed.containers c) unseen).seen) (sym (same_history own c))
-            (subst (λ (o : Option Seen). IsAcceptable (history (take t ticks) n c) o) (sym (listed (slice_get observed.containers c)))
-            (acceptable_at ticks t n c tick observed here shown (acceptable n c)));
+      later = subst (λ (o : Option ℕ). IfSome o (λ last. last < tick.at)) (sym taken.last_is)
+          (if_some (last_of before) (λ m. m < tick.at) (λ m is.
+              let w = last_place before m is in
+              let there : slice_get ticks w.0 ≡ Some w.1 = ap (λ (xs : List TickObs). slice_get xs w.0) whole ∙ get_before before (tick ∷ rest) w.0 w.1 w.2 in
+              let rises : w.1.at < tick.at = may.rising w.0 t w.1 tick w.4 there at in
+              let same : w.1.at ≡ m = w.3 in omega arith));
+      bounded = may.below t tick at;
+      pods = record {
+        next = record {
+          as_many = let many : length s.pods.pieces ≡ length (take (length tick.pods) pods) = taken.pieces.as_many in omega arith;
+          each = λ n piece shown is there.
+              let here = pod_at s.config (take (length tick.pods) pods) before s.evictions s.pods.pieces n piece taken.pieces is in
+              let pod : slice_get pods n ≡ Some here.0 = taken_at n (length tick.pods) pods here.0 here.1 in
+              let next : IsNextTick here.0 (pod_ticks before n) (pod_tick shown) =
+                  subst (λ (h : List TickObs). IsNextTick here.0 (pod_ticks h n) (pod_tick shown)) cut (may.next t n tick here.0 shown at pod there) in
+              subst (λ (p : Piece). IsNextTick p.pod p.handed (pod_tick shown)) (sym here.2) next;
+        };
+        at_its_moment = λ n shown is. may.moments t n tick shown at is;
       };
-      later = ends_so (map pod_tick own) observed.at
-          (subst (λ (h : List Tick). EndsBefore h observed.at) (sym (same_history own 0)) (history_ends_before (take t ticks) n 0 observed.at before));
-      bounded = subst (λ (m : ℕ). m < 2 ^ 40) (sym moment) (shape.below t tick here);
     }
+
+-- a node that has taken the ticks so far, and the pods that the last of them shows
+pub record IsSoFar (config : NodeConfig) (pods : List PodSpec) (ticks before rest : List TickObs) (arrived : ℕ) (left : List PodSpec) (node : Option State) : Type 0 where
+  pub whole : ticks ≡ before ++ rest
+  pub left_is : left ≡ drop arrived pods
+  pub few : arrived ≤ length pods
+  pub shown : (t : ℕ) (tick : TickObs) → slice_get rest t ≡ Some tick → arrived ≤ length tick.pods
+  pub after : IsAfter config (take arrived pods) before node
+
+take_drop : (n k : ℕ) (pods : List PodSpec) → n ≤ k → take n pods ++ take (k - n) (drop n pods) ≡ take k pods
+take_drop zero k pods le = refl
+take_drop (suc n) zero pods le = absurd (omega arith)
+take_drop (suc n) (suc k) [] le = none (k - n)
+  where
+    none : (i : ℕ) → take i [] ≡ []
+    none zero = refl
+    none (suc i) = refl
+take_drop (suc n) (suc k) (p ∷ pods) le = ap (λ (ps : List PodSpec). p ∷ ps) (take_drop n k pods (omega arith))
+
+drop_drop : (n k : ℕ) (pods : List PodSpec) → n ≤ k → drop (k - n) (drop n pods) ≡ drop k pods
+drop_drop zero k pods le = refl
+drop_drop (suc n) zero pods le = absurd (omega arith)
+drop_drop (suc n) (suc k) [] le = none (k - n)
+  where
+    none : (i : ℕ) → drop i [] ≡ []
+    none zero = refl
+    none (suc i) = refl
+drop_drop (suc n) (suc k) (p ∷ pods) le = drop_drop n k pods (omega arith)
+
+-- no tick and no pod yet
+pub none_yet : (config : NodeConfig) (pods : List PodSpec) (ticks : List TickObs) (node : Option State) → IsAfter config [] [] node → IsSoFar config pods ticks [] ticks 0 pods node
+none_yet config pods ticks node after = record { whole = refl; left_is = refl; few = omega arith; shown = λ t tick at. omega arith; after = after }
+
+-- the pods that the next tick shows have arrived
+pub arrived_next : (config : NodeConfig) (pods : List PodSpec) (ticks before : List TickObs) (tick : TickObs) (rest : List TickObs) (arrived : ℕ) (left : List PodSpec) (old new : Option State)
+    → IsSoFar config pods ticks before (tick ∷ rest) arrived left old
+    → ((ps : List PodSpec) (ts : List TickObs) → IsAfter config ps ts old → IsAfter config (ps ++ take (length tick.pods - arrived) left) ts new)
+    → IsAfter config (take (length tick.pods) pods) before new
+arrived_next config pods ticks before tick rest arrived left old new s arrives =
+    let le : arrived ≤ length tick.pods = s.shown 0 tick refl in
+    let now = arrives (take arrived pods) before s.after in
+    subst (λ (ps : List PodSpec). IsAfter config ps before new)
+    (ap (λ (ps : List PodSpec). take arrived pods ++ take (length tick.pods - arrived) ps) s.left_is ∙ take_drop arrived (length tick.pods) pods le) now
+
+may_take : (config : NodeConfig) (pods : List PodSpec) (ticks before : List TickObs) (tick : TickObs) (rest : List TickObs) (node : Option State)
+    → AreReplayable pods ticks → ticks ≡ before ++ tick ∷ rest → IsAfter config (take (length tick.pods) pods) before node → MayTake node tick
+may_take config pods ticks before tick rest None may whole after = absurd after
+may_take config pods ticks before tick rest (Some s) may whole after = fits_next pods ticks before tick rest s may whole after.1
+
+-- so it may be taken
+pub may_take_next : (config : NodeConfig) (pods : List PodSpec) (ticks before : List TickObs) (tick : TickObs) (rest : List TickObs) (arrived : ℕ) (left : List PodSpec) (old new : Option State)
+    → AreReplayable pods ticks → IsSoFar config pods ticks before (tick ∷ rest) arrived left old
+    → ((ps : List PodSpec) (ts : List TickObs) → IsAfter config ps ts old → IsAfter config (ps ++ take (length tick.pods - arrived) left) ts new) → MayTake new tick
+may_take_next config pods ticks before tick rest arrived left old new may s arrives =
+    may_take config pods ticks before tick rest new may s.whole (arrived_next config pods ticks before tick rest arrived left old new s arrives)
+
+-- and once it was
+pub one_more : (config : NodeConfig) (pods : List PodSpec) (ticks before : List TickObs) (tick : TickObs) (rest : List TickObs) (arrived : ℕ) (left left' : List PodSpec) (old mid new : Option State)
+    → AreReplayable pods ticks → IsSoFar config pods ticks before (tick ∷ rest) arrived left old
+    → ((ps : List PodSpec) (ts : List TickObs) → IsAfter config ps ts old → IsAfter config (ps ++ take (length tick.pods - arrived) left) ts mid)
+    → left' ≡ drop (length tick.pods - arrived) left
+    → ((ps : List PodSpec) (ts : List TickObs) → IsAfter config ps ts mid → IsAfter config ps (ts ++ tick ∷ []) new)
+    → IsSoFar config pods ticks (before ++ tick ∷ []) rest (length tick.pods) left' new
+one_more config pods ticks before tick rest arrived left left' old mid new may s arrives left_is takes =
+    let le : arrived ≤ length tick.pods = s.shown 0 tick refl in
+    let at : slice_get ticks (length before) ≡ Some tick = ap (λ (xs : List TickObs). slice_get xs (length before)) s.whole ∙ middle before tick rest in
+    record {
+      whole = rest_more ticks before tick rest s.whole;
+      left_is = left_is ∙ ap (drop (length tick.pods - arrived)) s.left_is ∙ drop_drop arrived (length tick.pods) pods le;
+      few = may.within (length before) tick at;
+      shown = λ t later there.
+          let place : slice_get ticks (length before + suc t) ≡ Some later =
+              ap (λ (xs : List TickObs). slice_get xs (length before + suc t)) s.whole ∙ get_behind before tick rest t later there in
+          may.growing (length before) (length before + suc t) tick later (omega arith) at place;
+      after = takes (take (length tick.pods) pods) before (arrived_next config pods ticks before tick rest arrived left old mid s arrives);
+    }
+
+-- all ticks taken, and the other pods arrived
+pub all_taken : (config : NodeConfig) (pods : List PodSpec) (ticks before : List TickObs) (arrived count : ℕ) (left : List PodSpec) (old new : Option State)
+    → IsSoFar config pods ticks before [] arrived left old → count ≡ length pods
+    → ((ps : List PodSpec) (ts : List TickObs) → IsAfter config ps ts old → IsAfter config (ps ++ take (count - arrived) left) ts new)
+    → IsAfter config pods ticks new
+all_taken config pods ticks before arrived count left old new s many arrives =
+    let few : arrived ≤ length pods = s.few in
+    let now = arrives (take arrived pods) before s.after in
+    let all : take arrived pods ++ take (count - arrived) left ≡ pods =
+        ap (λ (ps : List PodSpec). take arrived pods ++ take (count - arrived) ps) s.left_is ∙ take_drop arrived count pods (omega arith) ∙ take_all count pods (omega arith) in
+    subst (λ (ts : List TickObs). IsAfter config pods ts new) (sym (s.whole ∙ append-nil before))
+    (subst (λ (ps : List PodSpec). IsAfter config ps before new) all now)
+
+-- some pods arrive one after the other
+pub took_more : (config : NodeConfig) (arrived : List PodSpec) (ticks : List TickObs) (taken : List PodSpec) (pod : PodSpec) (old new : Option State)
+    → IsAfter config (arrived ++ taken) ticks old
+    → ((ps : List PodSpec) (ts : List TickObs) → IsAfter config ps ts old → IsAfter config (ps ++ pod ∷ []) ts new)
+    → IsAfter config (arrived ++ (taken ++ pod ∷ [])) ticks new
+took_more config arrived ticks taken pod old new after arrives =
+    subst (λ (ps : List PodSpec). IsAfter config ps ticks new) (append_assoc arrived taken (pod ∷ [])) (arrives (arrived ++ taken) ticks after)

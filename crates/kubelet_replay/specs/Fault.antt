@@ -7,13 +7,12 @@ use Rattle.trace.specs.declared.fault.FaultKind.TheVariants.{Manifest}
 use Rattle.trace.specs.Faults.{number_of, word_of}
 use Rattle.kubelet_replay.specs.Texts.{joined}
 use Rattle.kubelet_replay.specs.declared.fault.RunFault.{RunFault}
-use Rattle.kubelet_replay.specs.declared.fault.RunFault.TheVariants.{Read, TooLong, Line, NotReplayed, OutOfMemory, Write}
+use Rattle.kubelet_replay.specs.declared.fault.RunFault.TheVariants.{Read, TooLong, Line, OutOfMemory, Write}
 
 abbrev pub status : RunFault → ℕ
 status Read = 1
 status TooLong = 1
 status (Line fault) = 2
-status NotReplayed = 2
 status OutOfMemory = 1
 status Write = 1
 
@@ -36,6 +35,5 @@ abbrev pub line_of : RunFault → List ℕ
 line_of Read = codes "read failed"
 line_of TooLong = codes "input too long"
 line_of (Line fault) = line_of_kind fault.line fault.kind
-line_of NotReplayed = codes "signals and usage are not replayed yet"
 line_of OutOfMemory = codes "out of memory"
 line_of Write = codes "write failed"

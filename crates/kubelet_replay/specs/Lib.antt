@@ -1,9 +1,7 @@
 pub mod Texts
 pub mod Fault
-pub mod PodHistory
-pub mod Pieces
+pub mod Replayed
 pub mod Lines
 pub mod Report
-pub mod Samples
 pub mod Run
 pub mod Laws

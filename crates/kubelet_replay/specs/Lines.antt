@@ -12,6 +12,7 @@ use Rattle.phase.specs.declared.phase.Phase.{Phase}
 use Rattle.phase.specs.declared.phase.Phase.TheVariants.{Pending, Running, Succeeded, Failed}
 use Rattle.qos.specs.declared.class.Qos.{Qos}
 use Rattle.qos.specs.declared.class.Qos.TheVariants.{Guaranteed, Burstable, BestEffort}
+use Rattle.pod_piece.specs.declared.order.EvictOrder.{EvictOrder}
 use Rattle.kubelet_replay.specs.Texts.{joined}
 
 abbrev pub phase_word : Phase → List ℕ
@@ -41,12 +42,19 @@ qos_word Guaranteed = codes "Guaranteed"
 qos_word Burstable = codes "Burstable"
 qos_word BestEffort = codes "BestEffort"
 
--- no pod is evicted yet, so there is no reason
-abbrev pub pod_words : ℕ → List ℕ → List ℕ → List ℕ → List ℕ → List ℕ
-pod_words n namespace name phase qos = joined (codes "pod " ∷ decimal n ∷ codes " " ∷ namespace ∷ codes "/" ∷ name ∷ codes " phase=" ∷ phase ∷ codes " reason=- qos=" ∷ qos ∷ codes "\n" ∷ [])
+-- the reason of an evicted pod, and a dash without one
+abbrev pub reason_word : Option EvictOrder → List ℕ
+reason_word None = codes "-"
+reason_word (Some order) = codes "Evicted"
 
-unfoldable pub pod_line : ℕ → PodSpec → Qos → Phase → List ℕ
-pod_line n pod qos phase = pod_words n pod.namespace pod.name (phase_word phase) (qos_word qos)
+abbrev pub pod_words : ℕ → List ℕ → List ℕ → List ℕ → List ℕ → List ℕ → List ℕ
+pod_words n namespace name phase reason qos =
+    joined (codes "pod " ∷ decimal n ∷ codes " " ∷ namespace ∷ codes "/" ∷ name ∷ codes " phase=" ∷ phase
+    ∷ codes " reason=" ∷ reason ∷ codes " qos=" ∷ qos ∷ codes "\n" ∷ [])
+
+unfoldable pub pod_line : ℕ → PodSpec → Qos → Phase → Option EvictOrder → List ℕ
+pod_line n pod qos phase order =
+    pod_words n pod.namespace pod.name (phase_word phase) (reason_word order) (qos_word qos)
 
 -- without ticks the moment is 0
 unfoldable pub condition_line : ℕ → List ℕ → Condition → List ℕ
@@ -69,6 +77,12 @@ conditions_text n c =
     ++ (condition_line n (codes "ContainersReady") c.containers_ready
     ++ condition_line n (codes "Ready") c.containers_ready))
 
+-- after an eviction alone
+abbrev pub disruption_text : ℕ → Option EvictOrder → List ℕ
+disruption_text n None = []
+disruption_text n (Some order) =
+    joined (codes "condition " ∷ decimal n ∷ codes " DisruptionTarget True " ∷ decimal order.at ∷ codes " TerminationByKubelet\n" ∷ [])
+
 -- a line for each container
 abbrev pub containers_text : ℕ → List ContainerSpec → List ContainerStatus → List ℕ
 containers_text n [] ss = []
@@ -76,5 +90,7 @@ containers_text n (c ∷ cs) [] = []
 containers_text n (c ∷ cs) (s ∷ ss) = container_line n c.name s ++ containers_text n cs ss
 
 -- the lines of the pod with the number
-abbrev pub pod_text : ℕ → PodSpec → Qos → Phase → Conditions → List ContainerStatus → List ℕ
-pod_text n pod qos phase conditions statuses = pod_line n pod qos phase ++ (conditions_text n conditions ++ containers_text n pod.containers statuses)
+abbrev pub pod_text : ℕ → PodSpec → Qos → Phase → Conditions → Option EvictOrder → List ContainerStatus → List ℕ
+pod_text n pod qos phase conditions order statuses =
+    pod_line n pod qos phase order
+    ++ (conditions_text n conditions ++ (disruption_text n order ++ containers_text n pod.containers statuses))

@@ -1,5 +1,5 @@
 -- What a replay writes, and when it refuses.
-use Rattle.std.specs.Prelude.{◌≡◌, ℕ, ◌<◌, ◌≤◌, List, length, take, true, false, Option, Some, None, Result, Ok, Err}
+use Rattle.std.specs.Prelude.{◌≡◌, ℕ, ◌<◌, ◌≤◌, List, length, take, Option, Some, None, Result, Ok, Err}
 use Rattle.std.specs.Io.KnownBytes.{Appends}
 use Rattle.trace.specs.declared.past.Trace.{Trace}
 use Rattle.trace.specs.declared.fault.FaultKind.{FaultKind}
@@ -7,9 +7,8 @@ use Rattle.trace.specs.declared.fault.FaultKind.TheVariants as kinds
 use Rattle.trace.specs.declared.fault.LineFault.{LineFault}
 use Rattle.trace.specs.Trace.{trace_of}
 use Rattle.kubelet_replay.specs.declared.fault.RunFault.{RunFault}
-use Rattle.kubelet_replay.specs.declared.fault.RunFault.TheVariants.{Read, TooLong, Line, NotReplayed, OutOfMemory, Write}
+use Rattle.kubelet_replay.specs.declared.fault.RunFault.TheVariants.{Read, TooLong, Line, OutOfMemory, Write}
 use Rattle.kubelet_replay.specs.Report.{IsReport}
-use Rattle.kubelet_replay.specs.Samples.{has_samples}
 
 -- 64 MiB
 abbrev pub longest_input : ℕ
@@ -21,7 +20,6 @@ failed_reads (Ok v) = 0
 failed_reads (Err Read) = 1
 failed_reads (Err TooLong) = 0
 failed_reads (Err (Line fault)) = 0
-failed_reads (Err NotReplayed) = 0
 failed_reads (Err OutOfMemory) = 0
 failed_reads (Err Write) = 0
 
@@ -31,7 +29,6 @@ failed_writes (Ok v) = 0
 failed_writes (Err Read) = 0
 failed_writes (Err TooLong) = 0
 failed_writes (Err (Line fault)) = 0
-failed_writes (Err NotReplayed) = 0
 failed_writes (Err OutOfMemory) = 0
 failed_writes (Err Write) = 1
 
@@ -50,18 +47,11 @@ abbrev pub IsTooLong : Option (List ℕ) → Type 0
 IsTooLong None = Unit {0}
 IsTooLong (Some bytes) = longest_input < length bytes
 
--- the text is a trace with a sample of a signal or of a pod's usage
-pub record HasSamples (text : List ℕ) : Type 0 where
-  pub trace : Trace
-  pub is_trace : trace_of text ≡ Ok trace
-  pub samples : has_samples trace.ticks ≡ true
-
--- these bytes are the pod lines of the report of the text's trace, which has no such sample
+-- these bytes are the pod lines of the report of the text's trace
 pub record IsReportOfText (text bytes : List ℕ) : Type 0 where
   pub trace : Trace
   pub is_trace : trace_of text ≡ Ok trace
-  pub no_samples : has_samples trace.ticks ≡ false
-  pub report : IsReport trace.ticks trace.pods bytes
+  pub report : IsReport trace.node trace.ticks trace.pods bytes
 
 abbrev pub run_fault : FaultKind → LineFault → RunFault
 run_fault kinds.OutOfMemory fault = OutOfMemory
@@ -76,7 +66,6 @@ abbrev pub Refuses : Option (List ℕ) → RunFault → Type 0
 Refuses left Read = Unit {0}
 Refuses left TooLong = IsTooLong left
 Refuses left (Line fault) = ⊥
-Refuses left NotReplayed = ⊥
 Refuses left OutOfMemory = Unit {0}
 Refuses left Write = ⊥
 
@@ -85,7 +74,6 @@ abbrev pub RefusesText : List ℕ → RunFault → Type 0
 RefusesText text Read = ⊥
 RefusesText text TooLong = ⊥
 RefusesText text (Line fault) = trace_of text ≡ Err fault
-RefusesText text NotReplayed = HasSamples text
 RefusesText text OutOfMemory = Unit {0}
 RefusesText text Write = ⊥
 
@@ -95,7 +83,6 @@ IsWritten old new text (Ok v) = Appends old new text
 IsWritten old new text (Err Read) = ⊥
 IsWritten old new text (Err TooLong) = ⊥
 IsWritten old new text (Err (Line fault)) = ⊥
-IsWritten old new text (Err NotReplayed) = ⊥
 IsWritten old new text (Err OutOfMemory) = ⊥
 IsWritten old new text (Err Write) = (n : ℕ) × (n < length text) × Appends old new (take n text)
 
@@ -113,12 +100,6 @@ pub record IsFaulty (left : Option (List ℕ)) (fault : LineFault) : Type 0 wher
   pub read : HasRead left text
   pub refused : trace_of text ≡ Err fault
 
--- the input is a trace with samples, for which there is no rule yet
-pub record IsUnruled (left : Option (List ℕ)) : Type 0 where
-  pub text : List ℕ
-  pub read : HasRead left text
-  pub samples : HasSamples text
-
 -- a part of the report is written, from its beginning
 pub record WritesPart (left old new : Option (List ℕ)) : Type 0 where
   pub text : List ℕ
@@ -134,6 +115,5 @@ abbrev pub IsRefusal : Option (List ℕ) → Option (List ℕ) → Option (List 
 IsRefusal left old new Read = new ≡ old
 IsRefusal left old new TooLong = IsTooLong left × (new ≡ old)
 IsRefusal left old new (Line fault) = IsFaulty left fault × (new ≡ old)
-IsRefusal left old new NotReplayed = IsUnruled left × (new ≡ old)
 IsRefusal left old new OutOfMemory = new ≡ old
 IsRefusal left old new Write = WritesPart left old new

@@ -19,10 +19,6 @@ pub enum RunFault {
     /// The input is no trace.
     #[error("{0}")]
     Line(LineFault),
-    /// The trace has samples of the node's signals or of a pod's usage, and there is no rule for
-    /// evictions yet.
-    #[error("signals and usage are not replayed yet")]
-    NotReplayed,
     /// A growth of memory was refused.
     #[error("out of memory")]
     OutOfMemory,
@@ -32,12 +28,12 @@ pub enum RunFault {
 }
 
 /// The status with which the program ends: 1 for input, output and memory, and 2 for a text that is
-/// no trace, or one that is not replayed yet.
+/// no trace.
 pub fn status_of(fault: &RunFault) -> u8
     ensures { result ≡ status fault.now }
 {
     match fault {
-        RunFault::Line(_) | RunFault::NotReplayed => 2,
+        RunFault::Line(_) => 2,
         RunFault::Read | RunFault::TooLong | RunFault::OutOfMemory | RunFault::Write => 1,
     }
 }
@@ -82,7 +78,6 @@ pub fn fault_line(alloc: Global, fault: &RunFault) -> Result<String, AllocError>
         RunFault::Read => String::from_str(alloc, "read failed"),
         RunFault::TooLong => String::from_str(alloc, "input too long"),
         RunFault::Line(fault) => line_of_kind(alloc, fault.line, fault.kind),
-        RunFault::NotReplayed => String::from_str(alloc, "signals and usage are not replayed yet"),
         RunFault::OutOfMemory => String::from_str(alloc, "out of memory"),
         RunFault::Write => String::from_str(alloc, "write failed"),
     }

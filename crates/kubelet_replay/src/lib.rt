@@ -3,10 +3,9 @@
 
 mod fault;
 pub mod laws;
-mod pieces;
 mod replay;
+mod replayed;
 mod report;
-mod samples;
 mod text;
 
 pub use fault::{RunFault, fault_line, status_of};

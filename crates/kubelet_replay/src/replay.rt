@@ -6,7 +6,6 @@ ghost use Rattle.kubelet_replay.specs.Run.{longest_input, failed_reads, failed_w
 
 use crate::fault::RunFault;
 use crate::report::report_of;
-use crate::samples::has_samples;
 use replay_stream::{ReadAllFault, Sink, Source, read_all, write_all};
 use std::alloc::Global;
 use trace::{FaultKind, LineFault, read_trace};
@@ -42,7 +41,6 @@ fn report_of_text(alloc: Global, text: &[u8]) -> Result<String, RunFault>
     ensures err { IfErr result (RefusesText text.now) }
 {
     match read_trace(alloc, text) {
-        Ok(trace) if has_samples(trace.ticks.as_slice()) => Err(RunFault::NotReplayed),
         Ok(trace) => match report_of(alloc, trace) {
             Ok(report) => Ok(report),
             Err(_) => Err(RunFault::OutOfMemory),
@@ -66,8 +64,7 @@ fn write_text<W: Sink>(output: &mut W, text: &str) -> Result<(), RunFault>
 ///
 /// The input is read to its end and the report is made whole before the first write. So nothing is
 /// written where the reader failed (`Read`), the input has more than 64 MiB (`TooLong`), the text
-/// is no trace (`Line`, with its first faulty line), it has samples of signals or of usage
-/// (`NotReplayed`: there is no rule for evictions yet), or a growth of memory was refused
+/// is no trace (`Line`, with its first faulty line), or a growth of memory was refused
 /// (`OutOfMemory`). Where the writer failed or took nothing (`Write`), a part of the report from
 /// its beginning is written.
 pub fn replay_alone<R: Source, W: Sink>(

@@ -2,10 +2,11 @@
 
 ghost use Rattle.std.specs.Prelude.{◌≡◌, ◌++◌, length, IfOk, OnOk, string_bytes};
 ghost use Rattle.kubelet_replay.specs.Texts.{joined};
-ghost use Rattle.kubelet_replay.specs.Lines.{phase_word, state_word, qos_word, truth, code_text, pod_words, pod_line, condition_line, container_words, flag_words, container_line, conditions_text, containers_text, pod_text};
+ghost use Rattle.kubelet_replay.specs.Lines.{phase_word, state_word, reason_word, qos_word, truth, code_text, pod_words, pod_line, condition_line, container_words, flag_words, container_line, conditions_text, disruption_text, containers_text, pod_text};
 
 use manifest::{ContainerSpec, PodSpec};
 use phase::{Condition, Conditions, ContainerState, Phase};
+use pod_piece::{EvictOrder, PodStatus};
 use pod_state::ContainerStatus;
 use qos::Qos;
 use std::alloc::{AllocError, Global};
@@ -56,17 +57,29 @@ fn code_text(alloc: Global, code: Option<i32>) -> Result<String, AllocError>
     }
 }
 
+/// The reason of an evicted pod.
+fn reason_word(order: Option<EvictOrder>) -> &'static str
+    ensures { result.now ≡ reason_word order }
+{
+    match order {
+        None => "-",
+        Some(_) => "Evicted",
+    }
+}
+
 fn pod_words(
     alloc: Global,
     number: usize,
     namespace: &str,
     name: &str,
     phase: &str,
+    reason: &str,
     qos: &str,
 ) -> Result<String, AllocError>
-    ensures { IfOk result (λ s. string_bytes s ≡ pod_words number namespace.now name.now phase.now qos.now) }
+    ensures { IfOk result (λ s. string_bytes s
+        ≡ pod_words number namespace.now name.now phase.now reason.now qos.now) }
 {
-    format!(in alloc; "pod {number} {namespace}/{name} phase={phase} reason=- qos={qos}\n")
+    format!(in alloc; "pod {number} {namespace}/{name} phase={phase} reason={reason} qos={qos}\n")
 }
 
 #[tactic(auto, unfolding(crate::specs::Lines::pod_line))]
@@ -76,8 +89,9 @@ fn pod_line(
     pod: &PodSpec,
     qos: Qos,
     phase: Phase,
+    order: Option<EvictOrder>,
 ) -> Result<String, AllocError>
-    ensures { IfOk result (λ s. string_bytes s ≡ pod_line number pod.now qos phase) }
+    ensures { IfOk result (λ s. string_bytes s ≡ pod_line number pod.now qos phase order) }
 {
     let namespace = pod.namespace.as_str();
     pod_words(
@@ -86,6 +100,7 @@ fn pod_line(
         namespace,
         pod.name.as_str(),
         phase_word(phase),
+        reason_word(order),
         qos_word(qos),
     )
 }
@@ -195,6 +210,29 @@ fn add_conditions(
     Ok(())
 }
 
+fn disruption_line(alloc: Global, number: usize, order: EvictOrder) -> Result<String, AllocError>
+    ensures { IfOk result (λ s. string_bytes s ≡ disruption_text number (Some order)) }
+{
+    let at = order.at;
+    format!(in alloc; "condition {number} DisruptionTarget True {at} TerminationByKubelet\n")
+}
+
+/// Adds the line of the condition that an evicted pod has beside the four.
+fn add_disruption(
+    alloc: Global,
+    text: &mut String,
+    number: usize,
+    order: Option<EvictOrder>,
+) -> Result<(), AllocError>
+    ensures { OnOk result (string_bytes text.new ≡ string_bytes text.old ++ disruption_text number order) }
+{
+    if let Some(order) = order {
+        let line = disruption_line(alloc, number, order)?;
+        add(text, line.as_str())?;
+    }
+    Ok(())
+}
+
 /// Adds a line for each container.
 fn add_containers(
     alloc: Global,
@@ -213,27 +251,27 @@ fn add_containers(
     Ok(())
 }
 
-/// The lines of the pod with the number.
+/// The lines of the pod with this status.
 pub(crate) fn pod_text(
     alloc: Global,
     number: usize,
     pod: &PodSpec,
-    qos: Qos,
-    phase: Phase,
-    conditions: Conditions,
-    statuses: &[ContainerStatus],
+    status: &PodStatus,
 ) -> Result<String, AllocError>
-    requires { length statuses.now ≡ length pod.now.containers }
-    ensures { IfOk result (λ s. string_bytes s ≡ pod_text number pod.now qos phase conditions statuses.now) }
+    requires { length status.now.containers.items ≡ length pod.now.containers }
+    ensures { IfOk result (λ s. string_bytes s
+        ≡ pod_text number pod.now status.now.class status.now.phase status.now.conditions status.now.order
+            status.now.containers.items) }
 {
-    let mut text = pod_line(alloc, number, pod, qos, phase)?;
-    add_conditions(alloc, &mut text, number, conditions)?;
+    let mut text = pod_line(alloc, number, pod, status.class, status.phase, status.order)?;
+    add_conditions(alloc, &mut text, number, status.conditions)?;
+    add_disruption(alloc, &mut text, number, status.order)?;
     add_containers(
         alloc,
         &mut text,
         number,
         pod.containers.as_slice(),
-        statuses,
+        &status.containers,
     )?;
     Ok(text)
 }
