@@ -7,6 +7,7 @@ use Rattle.pod_piece.specs.declared.status.PodStatus.{PodStatus}
 use Rattle.pod_piece.specs.Piece.{Piece}
 use Rattle.ranking.specs.Order.{IsVictim}
 use Rattle.node_pods.specs.Pods.{IsCandidate, AreNext, AreAfter, IsEvictable, AreEvicted}
+use Rattle.node_pods.specs.Steps.{AreFree}
 
 -- two statuses of a candidate are one in all by which pods are ranked, and in the phase
 pub record AreAlike (p q : PodStatus) : Type 0 where
@@ -29,7 +30,7 @@ OneVictim = (pieces : List Piece) (signal : Signal) (has_dedicated_imagefs : Boo
 -- the pod that was evicted is no candidate any more
 abbrev pub EvictedIsNoCandidate : Type 0
 EvictedIsNoCandidate = (old new : List Piece) (number : ℕ) (order : EvictOrder)
-    → IsEvictable old number order.at → AreEvicted old number order new
+    → AreFree old → IsEvictable old number order.at → AreEvicted old number order new
     → (status : PodStatus) → IsCandidate new number status → ⊥
 
 -- there are pieces after a tick, and only these
@@ -41,6 +42,7 @@ pub record OneIsAfter : Type 0 where
 
 -- and so there are after an eviction
 pub record OneIsEvicted : Type 0 where
-  pub exists : (old : List Piece) (number : ℕ) (order : EvictOrder) → (new : List Piece) × AreEvicted old number order new
+  pub exists : (old : List Piece) (number : ℕ) (order : EvictOrder)
+      → (new : List Piece) × AreEvicted old number order new
   pub unique : (old : List Piece) (number : ℕ) (order : EvictOrder) (one other : List Piece)
       → AreEvicted old number order one → AreEvicted old number order other → one ≡ other

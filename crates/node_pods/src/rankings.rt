@@ -2,14 +2,28 @@
 
 ghost use Rattle.std.specs.Prelude.{◌≡◌, ℕ, Bool, Option, Some, None, OnOk, OnErr};
 ghost use Rattle.pod_piece.specs.declared.status.PodStatus.{PodStatus};
-ghost use Rattle.ranking.specs.Index.{AreHeldAfter, AreHeldWithout};
+ghost use Rattle.signals.specs.declared.signal.Signal.{Signal};
+ghost use Rattle.ranking.specs.Index.{IsIndexOf, AreHeldAfter, AreHeldWithout};
 ghost use Rattle.ranking.specs.Order.{IsVictim};
-ghost use Rattle.node_pods.specs.Ranked.{AreRankings, AreRankingsBut};
+ghost use Rattle.node_pods.specs.Ranked.{IsIndexBy, IsIndexBut, AreRankings, AreRankingsBut};
 
 use pod_piece::PodStatus;
 use ranking::RankIndex;
 use signals::Signal;
 use std::alloc::{AllocError, Global};
+
+/// Gives a pod its present place in an index, or takes it out where it has ended. Whether or not a
+/// growth of memory is refused, the index has all other pods.
+fn rank(index: &mut RankIndex, status: &PodStatus) -> Result<(), AllocError>
+    ensures ok { OnOk result ((signal : Signal) (has_dedicated_imagefs : Bool) (held after : ℕ → Option PodStatus)
+        → IsIndexBy signal has_dedicated_imagefs (IsIndexOf held) index.old → AreHeldAfter held status.now after
+        → IsIndexBy signal has_dedicated_imagefs (IsIndexOf after) index.new) }
+    ensures others { (signal : Signal) (has_dedicated_imagefs : Bool) (held : ℕ → Option PodStatus)
+        → IsIndexBy signal has_dedicated_imagefs (IsIndexOf held) index.old
+        → IsIndexBy signal has_dedicated_imagefs (IsIndexBut held status.now.number) index.new }
+{
+    index.update(status)
+}
 
 /// The pods that have not ended, in the order of each signal.
 #[derive(Drop)]
@@ -55,16 +69,16 @@ impl Rankings {
         ensures ok { OnOk result ((has_dedicated_imagefs : Bool) (held after : ℕ → Option PodStatus)
             → AreRankings has_dedicated_imagefs held self.old → AreHeldAfter held status.now after
             → AreRankings has_dedicated_imagefs after self.new) }
-        ensures err { OnErr result ((has_dedicated_imagefs : Bool) (held : ℕ → Option PodStatus)
+        ensures others { (has_dedicated_imagefs : Bool) (held : ℕ → Option PodStatus)
             → AreRankings has_dedicated_imagefs held self.old
-            → AreRankingsBut has_dedicated_imagefs held status.now.number self.new) }
+            → AreRankingsBut has_dedicated_imagefs held status.now.number self.new }
     {
-        self.memory_available.update(status)?;
-        self.nodefs_available.update(status)?;
-        self.imagefs_available.update(status)?;
-        self.nodefs_inodes_free.update(status)?;
-        self.imagefs_inodes_free.update(status)?;
-        self.pid_available.update(status)?;
+        rank(&mut self.memory_available, status)?;
+        rank(&mut self.nodefs_available, status)?;
+        rank(&mut self.imagefs_available, status)?;
+        rank(&mut self.nodefs_inodes_free, status)?;
+        rank(&mut self.imagefs_inodes_free, status)?;
+        rank(&mut self.pid_available, status)?;
         Ok(())
     }
 
