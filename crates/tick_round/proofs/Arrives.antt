@@ -9,6 +9,7 @@ use Rattle.observations.specs.declared.pod.PodObs.{PodObs}
 use Rattle.observations.specs.declared.tick.TickObs.{TickObs}
 use Rattle.observations.specs.Observations.{shown_of}
 use Rattle.node_config.specs.declared.node.NodeConfig.{NodeConfig}
+use Rattle.node_signals.specs.declared.node.NodeSignals.{NodeSignals}
 use Rattle.node_signals.specs.declared.key.ThresholdKey.{ThresholdKey}
 use Rattle.node_signals.proofs.PlaceLemmas.{within, place_split}
 use Rattle.pod_state.specs.Pods.{PodTick, pod_tick}
@@ -116,11 +117,11 @@ arrives pods ticks s pod taken = record {
     never : own_eviction (length pods) ticks s.evictions ≡ None
     never = ap (option_map (λ (f : EvictedAt). record { place = length (pod_ticks (take f.tick ticks) (length pods)); order = f.order }))
         (evicted_none (length pods) s.evictions (λ t e is here.
-            let lt : t < length s.evictions = within s.evictions t (Some e) is in
-            let many : length s.evictions ≡ length ticks = taken.replay.as_many in
-            let tick = at_place ticks t (omega arith) in
-            let below : e.pod < length pods = evicted_below s.config pods (take t ticks) tick.0 (take t s.evictions) e (taken.replay.each t tick.0 (Some e) tick.1 is) in
-            omega arith))
+        let lt : t < length s.evictions = within s.evictions t (Some e) is in
+        let many : length s.evictions ≡ length ticks = taken.replay.as_many in
+        let tick = at_place ticks t (omega arith) in
+        let below : e.pod < length pods = evicted_below s.config pods (take t ticks) tick.0 (take t s.evictions) e (taken.replay.each t tick.0 (Some e) tick.1 is) in
+        omega arith))
 
     newest : (n : ℕ) (p : PodSpec) → n ≡ length pods → pod ≡ p
         → slice_get (s.pods.pieces ++ new_piece (length s.pods.pieces) pod s.pods.greatest ∷ []) n ≡ Some (piece_after s.config ticks s.evictions n p)
@@ -128,11 +129,19 @@ arrives pods ticks s pod taken = record {
         let many : length s.pods.pieces ≡ length pods = taken.pieces.as_many in
         let none : [] ≡ pod_ticks ticks (length pods) = sym (unshown ticks (length pods) taken.shown) in
         let done : slice_get (s.pods.pieces ++ new_piece (length s.pods.pieces) pod s.pods.greatest ∷ []) (length pods) ≡ Some (piece_after s.config ticks s.evictions (length pods) pod) =
-            subst (λ (k : ℕ). slice_get (s.pods.pieces ++ new_piece (length s.pods.pieces) pod s.pods.greatest ∷ []) k ≡ Some (new_piece (length s.pods.pieces) pod s.pods.greatest)) many (get_last s.pods.pieces (new_piece (length s.pods.pieces) pod s.pods.greatest))
-            ∙ ap (λ (k : ℕ). Some (piece_of k pod s.pods.greatest [] None)) many
-            ∙ ap (λ (k : ℕ). Some (piece_of (length pods) pod k [] None)) taken.greatest
-            ∙ ap (λ (h : List PodTick). Some (piece_of (length pods) pod s.config.max_restart_delay h None)) none
-            ∙ ap (λ (e : Option EvictionOfPod). Some (piece_of (length pods) pod s.config.max_restart_delay (pod_ticks ticks (length pods)) e)) (sym never) in
+        subst (λ (k : ℕ). slice_get (s.pods.pieces ++ new_piece (length s.pods.pieces) pod s.pods.greatest ∷ []) k ≡ Some (new_piece (length s.pods.pieces) pod s.pods.greatest)) many (get_last s.pods.pieces (new_piece (length s.pods.pieces) pod s.pods.greatest))
+        ∙ ap (λ (k : ℕ). Some (piece_of k pod s.pods.greatest [] None)) many
+        ∙ ap (λ (k : ℕ). Some (piece_of (length pods) pod k [] None)) taken.greatest
+        ∙ ap (λ (h : List PodTick). Some (piece_of (length pods) pod s.config.max_restart_delay h None)) none
+        ∙ ap (λ (e : Option EvictionOfPod). Some (piece_of (length pods) pod s.config.max_restart_delay (pod_ticks ticks (length pods)) e)) (sym never) in
         let P : ℕ → Type 0 = λ k. slice_get (s.pods.pieces ++ new_piece (length s.pods.pieces) pod s.pods.greatest ∷ []) k ≡ Some (piece_after s.config ticks s.evictions k pod) in
         let Q : PodSpec → Type 0 = λ q. slice_get (s.pods.pieces ++ new_piece (length s.pods.pieces) pod s.pods.greatest ∷ []) n ≡ Some (piece_after s.config ticks s.evictions n q) in
         subst Q same (subst P (sym here) done)
+
+-- the same of a node whose pods are set
+pub arrives_as : (pods : List PodSpec) (ticks : List TickObs) (now : State) (pod : PodSpec) (config : NodeConfig) (signals : NodeSignals) (old new : Pods)
+    (es : List (Option Eviction)) (last : Option ℕ) → now ≡ state config signals old es last → new ≡ with_pod old pod → HasTaken pods ticks now
+    → HasTaken (pods ++ pod ∷ []) ticks (state config signals new es last)
+arrives_as pods ticks now pod config signals old new es last is more taken =
+    subst (λ (p : Pods). HasTaken (pods ++ pod ∷ []) ticks (state config signals p es last)) (sym more)
+    (arrives pods ticks (state config signals old es last) pod (subst (λ (s : State). HasTaken pods ticks s) is taken))

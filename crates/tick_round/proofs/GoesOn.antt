@@ -1,7 +1,8 @@
 -- A node after one more tick.
-use Rattle.std.proofs.Common.{◌≡◌, ◌⊎◌, inl, inr, ℕ, suc, ◌<◌, ◌≤◌, List, [], ◌∷◌, ◌++◌, length, Option, Some, None, refl, sym, ap, subst, ◌∙◌, arith}
+use Rattle.std.proofs.Common.{◌≡◌, ◌⊎◌, inl, inr, ℕ, suc, ◌<◌, ◌≤◌, List, [], ◌∷◌, ◌++◌, length, append_assoc, Option, Some, None, refl, sym, ap, subst, ◌∙◌, arith}
 use Rattle.std.specs.Prelude.{slice_get}
 use Rattle.manifest.specs.declared.pod.PodSpec.{PodSpec}
+use Rattle.observations.specs.declared.pod.PodObs.{PodObs}
 use Rattle.observations.specs.declared.tick.TickObs.{TickObs}
 use Rattle.node_config.specs.declared.node.NodeConfig.{NodeConfig}
 use Rattle.node_signals.specs.declared.node.NodeSignals.{NodeSignals}
@@ -14,9 +15,9 @@ use Rattle.eviction.specs.declared.eviction.Eviction.{Eviction}
 use Rattle.eviction.specs.Replay.{IsReplay}
 use Rattle.eviction.proofs.More.{no_replay, replay_more}
 use Rattle.node_pods.specs.Pods.{Pods, pods_of, AreAfter}
-use Rattle.tick_round.specs.Node.{State, state, ArePieces, HasTaken, Fits, IsEvictionAt, MayBeEvicted, AreWithout, last_of}
+use Rattle.tick_round.specs.Node.{State, state, ArePieces, HasTaken, Fits, IsEvictionAt, MayBeEvicted, AreWithout, last_of, pods_in, IsAfter}
 use Rattle.tick_round.proofs.Pieces.{pieces_updated, pieces_evicted, pieces_spared}
-use Rattle.tick_round.proofs.Candidates.{round_of, are_at, may_be_evicted, AreAt}
+use Rattle.tick_round.proofs.Candidates.{round_of, are_at, may_be_evicted, specs_are}
 
 last_more : (ticks : List TickObs) (x : TickObs) → last_of (ticks ++ x ∷ []) ≡ Some x.at
 last_more [] x = refl
@@ -79,3 +80,42 @@ goes_on pods ticks s x signals served mid new eviction taken fits now is after b
       ];
       last_is = sym (last_more ticks x);
     }
+
+-- the same of a node that is taken apart
+pub may_carry_out : (s : State) (x : TickObs) (config : NodeConfig) (signals : NodeSignals) (pods : Pods) (es : List (Option Eviction)) (last : Option ℕ) (shown : List PodObs)
+    (mid : List Piece) (served : Option ThresholdKey) (eviction : Option Eviction)
+    → s ≡ state config signals pods es last → Fits s x → shown ≡ x.pods → AreAfter pods.pieces shown mid → IsEvictionAt config mid x.at served eviction
+    → MayBeEvicted mid eviction
+may_carry_out s x config signals pods es last shown mid served eviction is fits same after by =
+    may_evict (state config signals pods es last) x mid served eviction (subst (λ (t : State). Fits t x) is fits)
+    (subst (λ (os : List PodObs). AreAfter pods.pieces os mid) same after) by
+
+pub takes : (all : List PodSpec) (ticks : List TickObs) (s : State) (x : TickObs) (config : NodeConfig) (signals signals' : NodeSignals) (pods mid new : Pods)
+    (es es' : List (Option Eviction)) (last : Option ℕ) (shown : List PodObs) (served : Option ThresholdKey) (eviction : Option Eviction)
+    → s ≡ state config signals pods es last → HasTaken all ticks s → Fits s x → shown ≡ x.pods
+    → ((period : ℕ) (before : List TickObs) → IsStateOf config.eviction period before signals → IsStateOf config.eviction period (before ++ x ∷ []) signals')
+    → ((period : ℕ) (before : List TickObs) → IsStateOf config.eviction period (before ++ x ∷ []) signals' → IsServed config.eviction before x served)
+    → AreAfter pods.pieces shown mid.pieces → mid.greatest ≡ pods.greatest → mid.has_dedicated_imagefs ≡ pods.has_dedicated_imagefs
+    → IsEvictionAt config mid.pieces x.at served eviction → AreWithout mid.pieces eviction new.pieces
+    → new.greatest ≡ mid.greatest → new.has_dedicated_imagefs ≡ mid.has_dedicated_imagefs → es' ≡ es ++ eviction ∷ []
+    → HasTaken all (ticks ++ x ∷ []) (state config signals' new es' (Some x.at))
+takes all ticks s x config signals signals' pods mid new es es' last shown served eviction is taken fits same samples serves after greatest dedicated by gone greatest' dedicated' more =
+    let t : HasTaken all ticks (state config signals pods es last) = subst (λ (v : State). HasTaken all ticks v) is taken in
+    let f : Fits (state config signals pods es last) x = subst (λ (v : State). Fits v x) is fits in
+    let period = config.eviction_pressure_transition_period in
+    let now = samples period ticks t.signals in
+    let next = goes_on all ticks (state config signals pods es last) x signals' served mid.pieces new eviction t f now (serves period ticks now)
+    (subst (λ (os : List PodObs). AreAfter pods.pieces os mid.pieces) same after) by gone (greatest' ∙ greatest) (dedicated' ∙ dedicated) in
+    subst (λ (e : List (Option Eviction)). HasTaken all (ticks ++ x ∷ []) (state config signals' new e (Some x.at))) (sym more) next
+
+-- what it has taken, by its own pods
+pub kept_by : (all : List PodSpec) (ticks : List TickObs) (s : State) → HasTaken all ticks s → (ts : List TickObs) × HasTaken (pods_in s.pods.pieces) ts s
+kept_by all ticks s taken =
+    (ticks, subst (λ (ps : List PodSpec). HasTaken ps ticks s) (sym (specs_are s.config all ticks s.evictions s.pods.pieces taken.pieces)) taken)
+
+pub of_some : (config : NodeConfig) (pods : List PodSpec) (ticks : List TickObs) (before : Option State) (s : State) → before ≡ Some s → IsAfter config pods ticks before
+    → (s.config ≡ config) × HasTaken pods ticks s
+of_some config pods ticks before s is after = subst (λ (o : Option State). IsAfter config pods ticks o) is after
+
+pub rest_more : {A : Type 0} (all front : List A) (x : A) (rest : List A) → all ≡ front ++ x ∷ rest → all ≡ (front ++ x ∷ []) ++ rest
+rest_more all front x rest is = is ∙ sym (append_assoc front (x ∷ []) rest)

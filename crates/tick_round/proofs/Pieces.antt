@@ -110,7 +110,7 @@ candidate_not_evicted config pods ticks es x pieces n status len shown are candi
         let le : v.place ≤ length (pod_ticks ticks n) = below v refl in
         let grown : length (pod_ticks (ticks ++ x ∷ []) n) ≡ suc (length (pod_ticks ticks n)) = ap length (pod_ticks-more ticks x n o at) ∙ length-more (pod_ticks ticks n) (pod_tick o) in
         let now : IsPhase pod (Some v.place) (pod_ticks (ticks ++ x ∷ []) n) status.phase =
-            subst (λ (e : Option EvictionOfPod). IsPhase pod (option_map (λ (v : EvictionOfPod). v.place) e) (pod_ticks (ticks ++ x ∷ []) n) status.phase) is phase in
+        subst (λ (e : Option EvictionOfPod). IsPhase pod (option_map (λ (v : EvictionOfPod). v.place) e) (pod_ticks (ticks ++ x ∷ []) n) status.phase) is phase in
         absurd (candidate.lives (evicted_ends pod v.place (pod_ticks (ticks ++ x ∷ []) n) status.phase now (omega arith)))
 
 -- after the eviction
@@ -126,14 +126,14 @@ pieces_evicted config pods ticks es x e old new status len shown are candidate e
         let lt : e.pod < length pods = within pods e.pod pod at' in
         let o = at_place x.pods e.pod (omega arith) in
         let grown : length (pod_ticks (ticks ++ x ∷ []) e.pod) ≡ suc (length (pod_ticks ticks e.pod)) =
-            ap length (pod_ticks-more ticks x e.pod o.0 o.1) ∙ length-more (pod_ticks ticks e.pod) (pod_tick o.0) in
+        ap length (pod_ticks-more ticks x e.pod o.0 o.1) ∙ length-more (pod_ticks ticks e.pod) (pod_tick o.0) in
         let last : length (pod_ticks (ticks ++ x ∷ []) e.pod) - 1 ≡ length (pod_ticks ticks e.pod) = omega arith in
         let never = candidate_not_evicted config pods ticks es x old e.pod status len shown are candidate in
         let now = own_eviction-now e.pod ticks x es e len never refl in
         let done : slice_get new e.pod ≡ Some (piece_after config (ticks ++ x ∷ []) (es ++ Some e ∷ []) e.pod pod) =
-            evicted.here (piece_after config (ticks ++ x ∷ []) es e.pod pod) (are.each e.pod pod at')
-            ∙ ap (λ (k : ℕ). Some (made e.pod pod config.max_restart_delay (pod_ticks (ticks ++ x ∷ []) e.pod) (Some (record { place = k; order = e.order })))) last
-            ∙ ap (λ (v : Option EvictionOfPod). Some (made e.pod pod config.max_restart_delay (pod_ticks (ticks ++ x ∷ []) e.pod) v)) (sym now) in
+        evicted.here (piece_after config (ticks ++ x ∷ []) es e.pod pod) (are.each e.pod pod at')
+        ∙ ap (λ (k : ℕ). Some (made e.pod pod config.max_restart_delay (pod_ticks (ticks ++ x ∷ []) e.pod) (Some (record { place = k; order = e.order })))) last
+        ∙ ap (λ (v : Option EvictionOfPod). Some (made e.pod pod config.max_restart_delay (pod_ticks (ticks ++ x ∷ []) e.pod) v)) (sym now) in
         subst (λ (k : ℕ). slice_get new k ≡ Some (piece_after config (ticks ++ x ∷ []) (es ++ Some e ∷ []) k pod)) (sym here) done
     | inr apart ↦
         evicted.others n apart ∙ are.each n pod at

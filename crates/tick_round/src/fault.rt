@@ -1,5 +1,8 @@
 //! Why a tick was not taken.
 
+ghost use Rattle.std.specs.Prelude.{◌≡◌};
+ghost use Rattle.tick_round.specs.declared.fault.TickFault.TheVariants.{OutOfMemory};
+
 use std::alloc::AllocError;
 use thiserror::Error;
 
@@ -15,8 +18,6 @@ pub enum TickFault {
 }
 
 impl From<AllocError> for TickFault {
-    ghost use Rattle.tick_round.specs.declared.fault.TickFault.TheVariants.{OutOfMemory};
-
     ghost from_gives = { λ _ fault. fault ≡ OutOfMemory };
 
     fn from(_: AllocError) -> TickFault {

@@ -20,7 +20,7 @@ pub(crate) fn eviction_for(
 {
     let key = served?;
     let number = pods.first(key.signal)?;
-    let victim = &pods.pieces()[number];
+    let victim = pods.pieces().get(number)?;
     Some(Eviction {
         pod: number,
         order: order_for(config, victim.pod(), at, key),

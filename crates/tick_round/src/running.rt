@@ -50,7 +50,11 @@ impl Running {
             &config.eviction,
             config.eviction_pressure_transition_period,
         );
-        let pods = NodePods::new(alloc, config.max_restart_delay, config.has_dedicated_imagefs);
+        let pods = NodePods::new(
+            alloc,
+            config.max_restart_delay,
+            config.has_dedicated_imagefs,
+        );
         Running {
             alloc,
             config,
@@ -68,7 +72,8 @@ impl Running {
             → OnOk result (HasTaken (pods ++ pod ∷ []) ticks self.new) }
         ensures err { OnErr result (self.new ≡ self.old) }
     {
-        self.pods.arrive(pod)
+        self.pods.arrive(pod)?;
+        Ok(())
     }
 
     /// Whether the tick may come next. It takes no memory.
