@@ -126,3 +126,14 @@ own_eviction-now n ticks x es e len none is =
     unfound : (o : Option EvictedAt) → option_map (of_pod (ticks ++ x ∷ []) n) o ≡ None → o ≡ None
     unfound None e = refl
     unfound (Some f) e = absurd (cc)
+
+-- where none of the evictions is of the pod, it has none
+pub evicted_none : (n : ℕ) (es : List (Option Eviction)) → ((t : ℕ) (e : Eviction) → slice_get es t ≡ Some (Some e) → e.pod ≡ n → ⊥) → evicted_at n es ≡ None
+evicted_none n [] none = refl
+evicted_none n (None ∷ es) none = ap (option_map later) (evicted_none n es (λ t e is. none (suc t) e is))
+evicted_none n (Some d ∷ es) none = elim (alike d.pod n) [
+  | inl w ↦ absurd (none 0 d refl w.0)
+  | inr w ↦
+      ap (λ t. cond t (Some (found_now 0 d)) (option_map later (evicted_at n es))) w.1
+      ∙ ap (option_map later) (evicted_none n es (λ t e is. none (suc t) e is))
+]
