@@ -1,3 +1,4 @@
 pub mod Unique
 pub mod Own
 pub mod More
+pub mod Evicted

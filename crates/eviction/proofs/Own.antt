@@ -1,5 +1,5 @@
 -- A pod's eviction, by its place among the pod's own ticks, after one more tick and one more eviction.
-use Rattle.std.proofs.Common.{◌≡◌, ◌⊎◌, inl, inr, ℕ, suc, ◌<◌, List, [], ◌∷◌, ◌++◌, length, map, take, Bool, true, false, cond, Option, Some, None, refl, sym, ap, subst, ◌∙◌, arith}
+use Rattle.std.proofs.Common.{◌≡◌, ◌⊎◌, inl, inr, ℕ, zero, suc, ◌<◌, List, [], ◌∷◌, ◌++◌, length, map, take, Bool, true, false, cond, Option, Some, None, refl, sym, ap, subst, ◌∙◌, arith}
 use Rattle.std.specs.Prelude.{◌==◌, slice_get, option_map}
 use Rattle.std.proofs.lemmas.List.{take-append-le, take_all, map_push}
 use Rattle.std.proofs.lemmas.Bool.Decides.{eqb_tells}
@@ -137,3 +137,20 @@ evicted_none n (Some d ∷ es) none = elim (alike d.pod n) [
       ap (λ t. cond t (Some (found_now 0 d)) (option_map later (evicted_at n es))) w.1
       ∙ ap (option_map later) (evicted_none n es (λ t e is. none (suc t) e is))
 ]
+
+-- and where it has none, none of them is of the pod
+pub evicted_unless : (n : ℕ) (es : List (Option Eviction)) → evicted_at n es ≡ None → (t : ℕ) (e : Eviction) → slice_get es t ≡ Some (Some e) → e.pod ≡ n → ⊥
+evicted_unless n [] none t e is same = absurd (cc)
+evicted_unless n (None ∷ es) none zero e is same = absurd (cc)
+evicted_unless n (None ∷ es) none (suc t) e is same = evicted_unless n es (never (evicted_at n es) none) t e is same
+evicted_unless n (Some d ∷ es) none zero e is same =
+    let here : d ≡ e = cc in
+    let first = not_first d n (option_map later (evicted_at n es)) none in
+    let of_pod : d.pod ≡ n = ap (λ (v : Eviction). v.pod) here ∙ same in
+    elim (alike d.pod n) [
+      | inl w ↦ let both : true ≡ false = sym w.1 ∙ first.0 in absurd (cc)
+      | inr w ↦ w.0 of_pod
+    ]
+evicted_unless n (Some d ∷ es) none (suc t) e is same =
+    let first = not_first d n (option_map later (evicted_at n es)) none in
+    evicted_unless n es (never (evicted_at n es) first.1) t e is same
