@@ -2,3 +2,4 @@ pub mod Unique
 pub mod Own
 pub mod More
 pub mod Evicted
+pub mod Statuses

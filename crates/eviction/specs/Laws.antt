@@ -1,15 +1,26 @@
 -- The statements of the laws.
-use Rattle.std.specs.Prelude.{◌≡◌, ℕ, List, [], ◌∷◌, ◌++◌, take, slice_get, Option, Some, IsSome}
+use Rattle.std.specs.Prelude.{◌≡◌, ◌^◌, ◌<◌, ℕ, List, length, [], ◌∷◌, ◌++◌, take, slice_get, Option, Some, IsSome}
 use Rattle.manifest.specs.declared.pod.PodSpec.{PodSpec}
 use Rattle.observations.specs.declared.tick.TickObs.{TickObs}
 use Rattle.observations.specs.Observations.{shown_of}
 use Rattle.node_config.specs.declared.node.NodeConfig.{NodeConfig}
 use Rattle.node_signals.specs.declared.key.ThresholdKey.{ThresholdKey}
 use Rattle.node_signals.specs.Thresholds.{Asks, IsServed}
-use Rattle.pod_state.specs.Pods.{HasEnded}
+use Rattle.pod_state.specs.Pods.{PodTick, HasEnded}
+use Rattle.pod_piece.specs.declared.piece.Eviction.{Eviction as EvictionOfPod}
+use Rattle.pod_piece.specs.declared.status.PodStatus.{PodStatus}
 use Rattle.pod_piece.specs.Piece.{place_of}
+use Rattle.pod_piece.specs.Status.{IsStatusAfter}
 use Rattle.eviction.specs.declared.eviction.Eviction.{Eviction}
 use Rattle.eviction.specs.Replay.{pod_ticks, own_eviction, IsReplay}
+
+-- a pod of as many containers as a status can show has a status, whenever it is evicted and whatever
+-- its ticks are
+abbrev pub SomeStatus : Type 0
+SomeStatus =
+    (number : ℕ) (pod : PodSpec) (eviction : Option EvictionOfPod) (h : List PodTick)
+    → length pod.containers < 2 ^ 63
+    → (status : PodStatus) × IsStatusAfter number pod eviction h status
 
 -- the ticks have one list of evictions at most
 abbrev pub OneReplay : Type 0

@@ -1,7 +1,13 @@
 //! What is true of the evictions of every node. The functions do nothing; their contracts are the
 //! laws.
 
-ghost use Rattle.eviction.specs.Laws.{OneReplay, EvictedOnce, EvictedPodLived, ServedAlone};
+ghost use Rattle.eviction.specs.Laws.{SomeStatus, OneReplay, EvictedOnce, EvictedPodLived, ServedAlone};
+
+/// A pod has a status, whenever it is evicted and whatever its ticks are. (A status shows the
+/// containers in a vector, so that there are fewer than 2^63 of them.)
+pub fn some_status()
+    ensures { SomeStatus }
+{}
 
 /// A list of ticks has one list of evictions at most.
 pub fn one_replay()
