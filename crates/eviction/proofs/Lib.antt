@@ -3,3 +3,4 @@ pub mod Own
 pub mod More
 pub mod Evicted
 pub mod Statuses
+pub mod Exists

@@ -22,7 +22,13 @@ SomeStatus =
     → length pod.containers < 2 ^ 63
     → (status : PodStatus) × IsStatusAfter number pod eviction h status
 
--- the ticks have one list of evictions at most
+-- the ticks have a list of evictions, whatever they are
+abbrev pub SomeReplay : Type 0
+SomeReplay =
+    (config : NodeConfig) (pods : List PodSpec) (ticks : List TickObs)
+    → (evictions : List (Option Eviction)) × IsReplay config pods ticks evictions
+
+-- and one at most
 abbrev pub OneReplay : Type 0
 OneReplay =
     (config : NodeConfig) (pods : List PodSpec) (ticks : List TickObs) (one other : List (Option Eviction))

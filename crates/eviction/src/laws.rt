@@ -1,12 +1,17 @@
 //! What is true of the evictions of every node. The functions do nothing; their contracts are the
 //! laws.
 
-ghost use Rattle.eviction.specs.Laws.{SomeStatus, OneReplay, EvictedOnce, EvictedPodLived, ServedAlone};
+ghost use Rattle.eviction.specs.Laws.{SomeStatus, SomeReplay, OneReplay, EvictedOnce, EvictedPodLived, ServedAlone};
 
 /// A pod has a status, whenever it is evicted and whatever its ticks are. (A status shows the
 /// containers in a vector, so that there are fewer than 2^63 of them.)
 pub fn some_status()
     ensures { SomeStatus }
+{}
+
+/// Every list of ticks has a list of evictions.
+pub fn some_replay()
+    ensures { SomeReplay }
 {}
 
 /// A list of ticks has one list of evictions at most.
