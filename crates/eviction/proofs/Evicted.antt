@@ -1,5 +1,6 @@
 -- What is true of a tick that evicts a pod, and of that pod.
-use Rattle.std.proofs.Common.{◌≡◌, ◌⊎◌, inl, inr, ℕ, zero, suc, ◌+◌, ◌<◌, ◌≤◌, List, [], ◌∷◌, ◌++◌, length, map, take, drop, Option, Some, None, refl, sym, ap, subst, ◌∙◌, arith}
+use Rattle.std.proofs.Common.{◌≡◌, inl, inr, ℕ, zero, suc, ◌+◌, ◌<◌, ◌≤◌, List, [], ◌∷◌, ◌++◌, length, map, take}
+use Rattle.std.proofs.Common.{drop, Option, Some, None, refl, sym, ap, subst, ◌∙◌, arith}
 use Rattle.std.specs.Prelude.{slice_get, IsSome, IsSomeAnd, option_map}
 use Rattle.std.proofs.lemmas.Bool.{cases_order}
 use Rattle.std.proofs.lemmas.List.{length-append, length-take-le, map-append, take-append-drop}
@@ -12,7 +13,6 @@ use Rattle.observations.specs.declared.tick.TickObs.{TickObs}
 use Rattle.observations.specs.Observations.{shown_of, own_ticks}
 use Rattle.node_config.specs.declared.node.NodeConfig.{NodeConfig}
 use Rattle.node_signals.specs.declared.key.ThresholdKey.{ThresholdKey}
-use Rattle.node_signals.specs.Keys.{serving_order}
 use Rattle.node_signals.specs.Thresholds.{Asks, IsServed}
 use Rattle.node_signals.proofs.PlaceLemmas.{within}
 use Rattle.pod_state.specs.Pods.{PodTick, pod_tick, IsEnd, HasEnded}
@@ -23,12 +23,14 @@ use Rattle.pod_piece.specs.declared.status.PodStatus.{PodStatus}
 use Rattle.pod_piece.specs.Piece.{place_of}
 use Rattle.ranking.specs.Order.{IsVictim}
 use Rattle.eviction.specs.declared.eviction.Eviction.{Eviction}
-use Rattle.eviction.specs.Replay.{pod_ticks, EvictedAt, evicted_at, own_eviction, IsCandidate, order_of, IsOfVictim, IsEvictionFor, IsRound, IsReplay}
-use Rattle.eviction.specs.Laws.{EvictedOnce, Lived, EvictedPodLived, ServesOne, ServedAlone}
-use Rattle.eviction.proofs.Own.{pod_ticks-more, evicted_unless, own_eviction-longer}
+use Rattle.eviction.specs.Replay.{pod_ticks, EvictedAt, evicted_at, own_eviction, IsCandidate, order_of, IsOfVictim}
+use Rattle.eviction.specs.Replay.{IsEvictionFor, IsRound, IsReplay}
+use Rattle.eviction.specs.Laws.{EvictedOnce, EvictedPodLived, ServedAlone}
+use Rattle.eviction.proofs.Own.{pod_ticks-more, of_pod, evicted_unless, own_eviction-longer}
 
 -- the threshold for which a tick evicts a pod, and the pod's status
-record Reason (config : NodeConfig) (pods : List PodSpec) (before : List TickObs) (tick : TickObs) (evictions : List (Option Eviction)) (eviction : Eviction) : Type 0 where
+record Reason (config : NodeConfig) (pods : List PodSpec) (before : List TickObs) (tick : TickObs)
+    (evictions : List (Option Eviction)) (eviction : Eviction) : Type 0 where
   key : ThresholdKey
   is_served : IsServed config.eviction before tick (Some key)
   status : PodStatus
@@ -36,7 +38,8 @@ record Reason (config : NodeConfig) (pods : List PodSpec) (before : List TickObs
   pod : PodSpec
   order : eviction.order ≡ order_of config pod tick.at key
 
-reason_of : (config : NodeConfig) (pods : List PodSpec) (before : List TickObs) (tick : TickObs) (evictions : List (Option Eviction)) (eviction : Eviction)
+reason_of : (config : NodeConfig) (pods : List PodSpec) (before : List TickObs) (tick : TickObs)
+    (evictions : List (Option Eviction)) (eviction : Eviction)
     → IsRound config pods before tick evictions (Some eviction) → Reason config pods before tick evictions eviction
 reason_of config pods before tick evictions eviction round = by round.served round.is_served round.is_for
   where
@@ -54,12 +57,15 @@ reason_of config pods before tick evictions eviction round = by round.served rou
     }
 
     by : (served : Option ThresholdKey) → IsServed config.eviction before tick served
-        → IsEvictionFor config pods before tick evictions served (Some eviction) → Reason config pods before tick evictions eviction
+        → IsEvictionFor config pods before tick evictions served (Some eviction)
+        → Reason config pods before tick evictions eviction
     by None is e = absurd (let none : Some eviction ≡ None = e in cc)
     by (Some key) is (victim, is_victim, e) = of key is victim is_victim e
 
-reason_at : (config : NodeConfig) (pods : List PodSpec) (ticks : List TickObs) (evictions : List (Option Eviction)) (t : ℕ) (tick : TickObs) (eviction : Eviction)
-    → IsReplay config pods ticks evictions → slice_get ticks t ≡ Some tick → slice_get evictions t ≡ Some (Some eviction)
+reason_at : (config : NodeConfig) (pods : List PodSpec) (ticks : List TickObs) (evictions : List (Option Eviction))
+    (t : ℕ) (tick : TickObs) (eviction : Eviction)
+    → IsReplay config pods ticks evictions → slice_get ticks t ≡ Some tick
+    → slice_get evictions t ≡ Some (Some eviction)
     → Reason config pods (take t ticks) tick (take t evictions) eviction
 reason_at config pods ticks evictions t tick eviction replay at is =
     reason_of config pods (take t ticks) tick (take t evictions) eviction (replay.each t tick (Some eviction) at is)
@@ -85,12 +91,15 @@ served_alone config pods ticks evictions t tick eviction replay at is =
     }
 
 -- a candidate has not ended
-candidate_lives : (pods : List PodSpec) (before : List TickObs) (tick : TickObs) (evictions : List (Option Eviction)) (n : ℕ) (status : PodStatus)
+candidate_lives : (pods : List PodSpec) (before : List TickObs) (tick : TickObs)
+    (evictions : List (Option Eviction)) (n : ℕ) (status : PodStatus)
     → (c : IsCandidate pods before tick evictions n status)
-    → HasEnded c.pod (place_of (own_eviction n (before ++ tick ∷ []) evictions)) (pod_ticks (before ++ tick ∷ []) n) → ⊥
+    → HasEnded c.pod (place_of (own_eviction n (before ++ tick ∷ []) evictions)) (pod_ticks (before ++ tick ∷ []) n)
+    → ⊥
 candidate_lives pods before tick evictions n status c ended =
     let evicted = place_of (own_eviction n (before ++ tick ∷ []) evictions) in
-    c.lives ((ended_is c.pod evicted (pod_ticks (before ++ tick ∷ []) n) status.phase c.is_status.lifecycle.phase).1 ended)
+    let h = pod_ticks (before ++ tick ∷ []) n in
+    c.lives ((ended_is c.pod evicted h status.phase c.is_status.lifecycle.phase).1 ended)
 
 pub evicted_pod_lived : EvictedPodLived
 evicted_pod_lived config pods ticks evictions t tick eviction replay at is =
@@ -109,7 +118,8 @@ has_ended pod place h lt = by (some_end pod (Some place) h)
   where
     by : (o : Option ℕ) × IsEnd pod (Some place) h o → HasEnded pod (Some place) h
     by (Some t, end) = (t, end)
-    by (None, none) = absurd (none place (record { within = lt; so = inr (length-take-le (suc place) h (omega arith)) }))
+    by (None, none) =
+        absurd (none place (record { within = lt; so = inr (length-take-le (suc place) h (omega arith)) }))
 
 -- no more ticks are its own among the first ones than among all
 few_ticks : (ticks : List TickObs) (n k : ℕ) → length (pod_ticks (take k ticks) n) ≤ length (pod_ticks ticks n)
@@ -128,8 +138,10 @@ some_shown None some = absurd (let e : IsSome {T = PodObs} None = some in cc)
 some_shown (Some shown) some = (shown, refl)
 
 -- a candidate has no eviction yet
-never_before : (pods : List PodSpec) (before : List TickObs) (tick : TickObs) (evictions : List (Option Eviction)) (n : ℕ) (status : PodStatus)
-    → length evictions ≡ length before → IsCandidate pods before tick evictions n status → evicted_at n evictions ≡ None
+never_before : (pods : List PodSpec) (before : List TickObs) (tick : TickObs) (evictions : List (Option Eviction))
+    (n : ℕ) (status : PodStatus)
+    → length evictions ≡ length before → IsCandidate pods before tick evictions n status
+    → evicted_at n evictions ≡ None
 never_before pods before tick evictions n status many c = by (evicted_at n evictions) refl
   where
     by : (o : Option EvictedAt) → evicted_at n evictions ≡ o → o ≡ None
@@ -139,23 +151,27 @@ never_before pods before tick evictions n status many c = by (evicted_at n evict
         let shown = some_shown (shown_of tick n) c.present in
         let h = pod_ticks (before ++ tick ∷ []) n in
         let more : length h ≡ suc (length (pod_ticks before n)) =
-        ap length (pod_ticks-more before tick n shown.0 shown.1) ∙ length-more (pod_ticks before n) (pod_tick shown.0) in
+        ap length (pod_ticks-more before tick n shown.0 shown.1)
+        ∙ length-more (pod_ticks before n) (pod_tick shown.0) in
         let few : place ≤ length (pod_ticks before n) = few_ticks before n found.tick in
-        let is : own_eviction n (before ++ tick ∷ []) evictions ≡ Some (record { place = place; order = found.order }) =
+        let is : own_eviction n (before ++ tick ∷ []) evictions ≡ Some (of_pod before n found) =
         own_eviction-longer n before tick evictions many
-        ∙ ap (option_map (λ (f : EvictedAt). record { place = length (pod_ticks (take f.tick before) n); order = f.order })) e in
+        ∙ ap (option_map (of_pod before n)) e in
         let Ended : Option ℕ → Type 0 = λ o. HasEnded c.pod o h in
         absurd (candidate_lives pods before tick evictions n status c
         (subst Ended (sym (ap place_of is)) (has_ended c.pod place h (omega arith))))
 
-taken : {A : Type 0} (xs : List A) (t u : ℕ) (x : A) → t < u → slice_get xs t ≡ Some x → slice_get (take u xs) t ≡ Some x
+taken : {A : Type 0} (xs : List A) (t u : ℕ) (x : A) → t < u → slice_get xs t ≡ Some x
+    → slice_get (take u xs) t ≡ Some x
 taken xs t zero x lt e = absurd (omega arith)
 taken [] t (suc u) x lt e = e
 taken (y ∷ xs) zero (suc u) x lt e = e
 taken (y ∷ xs) (suc t) (suc u) x lt e = taken xs t u x (omega arith) e
 
-not_twice : (config : NodeConfig) (pods : List PodSpec) (ticks : List TickObs) (evictions : List (Option Eviction)) (t u : ℕ) (one other : Eviction)
-    → IsReplay config pods ticks evictions → slice_get evictions t ≡ Some (Some one) → slice_get evictions u ≡ Some (Some other)
+not_twice : (config : NodeConfig) (pods : List PodSpec) (ticks : List TickObs) (evictions : List (Option Eviction))
+    (t u : ℕ) (one other : Eviction)
+    → IsReplay config pods ticks evictions → slice_get evictions t ≡ Some (Some one)
+    → slice_get evictions u ≡ Some (Some other)
     → one.pod ≡ other.pod → t < u → ⊥
 not_twice config pods ticks evictions t u one other replay e f same lt =
     let below : u < length evictions = within evictions u (Some other) f in
@@ -164,7 +180,8 @@ not_twice config pods ticks evictions t u one other replay e f same lt =
     let reason = reason_at config pods ticks evictions u tick.0 other replay tick.1 f in
     let as_many : length (take u evictions) ≡ length (take u ticks) =
     length-take-le u evictions (omega arith) ∙ sym (length-take-le u ticks (omega arith)) in
-    let none = never_before pods (take u ticks) tick.0 (take u evictions) other.pod reason.status as_many reason.candidate in
+    let c = reason.candidate in
+    let none = never_before pods (take u ticks) tick.0 (take u evictions) other.pod reason.status as_many c in
     evicted_unless other.pod (take u evictions) none t one (taken evictions t u (Some one) lt e) same
 
 pub evicted_once : EvictedOnce

@@ -1,10 +1,10 @@
 -- Every list of ticks has its evictions.
-use Rattle.std.proofs.Common.{◌≡◌, ◌⊎◌, inl, inr, ℕ, ◌+◌, ◌-◌, ◌<◌, ◌≤◌, List, [], ◌∷◌, ◌++◌, length, Option, Some, None}
-use Rattle.std.proofs.Common.{refl, sym, ap, subst, ◌∙◌, arith, append_assoc, append-nil}
+use Rattle.std.proofs.Common.{◌≡◌, ◌⊎◌, inl, inr, ℕ, ◌+◌, ◌-◌, ◌<◌, ◌≤◌, List, [], ◌∷◌, ◌++◌, length, Option, Some}
+use Rattle.std.proofs.Common.{None}
+use Rattle.std.proofs.Common.{refl, sym, subst, ◌∙◌, arith, append_assoc, append-nil}
 use Rattle.std.specs.Prelude.{◌^◌, slice_get, is_some, IsSome, IsSomeAnd, option_and_then}
 use Rattle.histories.proofs.Decide.{OrNot, negated, both, true_or_not, less_or_not, at_most_or_not, given_or_not}
 use Rattle.histories.proofs.Found.{first_place}
-use Rattle.signals.specs.declared.signal.Signal.{Signal}
 use Rattle.signals.specs.declared.threshold.Threshold.{Threshold}
 use Rattle.signals.specs.BySignal.{of}
 use Rattle.signals.specs.Signals.{is_of_file_system}
@@ -14,7 +14,6 @@ use Rattle.thresholds.specs.Thresholds.{IsThresholdDue}
 use Rattle.thresholds.proofs.LawLemmas.{one_active_since}
 use Rattle.thresholds.proofs.Since.{due_by}
 use Rattle.manifest.specs.declared.pod.PodSpec.{PodSpec}
-use Rattle.observations.specs.declared.pod.PodObs.{PodObs}
 use Rattle.observations.specs.declared.tick.TickObs.{TickObs}
 use Rattle.observations.specs.Observations.{shown_of}
 use Rattle.node_config.specs.declared.node.NodeConfig.{NodeConfig}
@@ -24,7 +23,7 @@ use Rattle.node_signals.specs.Keys.{serving_order, threshold_at}
 use Rattle.node_signals.specs.Thresholds.{samples, IsDue, IsEnough, IsReclaimed, Asks, AsksAt, IsServed}
 use Rattle.node_signals.proofs.PlaceLemmas.{within, within_and, map_more}
 use Rattle.phase.specs.RawPhase.{IsTerminal}
-use Rattle.pod_state.specs.Pods.{PodTick, IsPhase}
+use Rattle.pod_state.specs.Pods.{PodTick}
 use Rattle.pod_state.proofs.EndLemmas.{IsPhase-unique, terminal_cases}
 use Rattle.pod_piece.specs.declared.piece.Eviction.{Eviction as EvictionOfPod}
 use Rattle.pod_piece.specs.declared.status.PodStatus.{PodStatus}
@@ -64,13 +63,15 @@ due_after eviction before tick key =
     given_or_not (λ threshold. IsThresholdDue threshold capacity (samples key.signal (before ++ tick ∷ []))) each
     (threshold_at eviction key)
 
-reclaimed_or_not : (eviction : EvictionConfig) (tick : TickObs) (key : ThresholdKey) → OrNot (IsReclaimed eviction tick key)
+reclaimed_or_not : (eviction : EvictionConfig) (tick : TickObs) (key : ThresholdKey)
+    → OrNot (IsReclaimed eviction tick key)
 reclaimed_or_not eviction tick key =
     let capacity = of eviction.capacity key.signal in
     let value = of tick.after_reclaim key.signal in
     let enough = λ (threshold : Threshold). given_or_not (IsEnough capacity threshold)
     (λ v. at_most_or_not (amount_of capacity threshold.limit + amount_of capacity threshold.reclaim) v) value in
-    let freed = given_or_not (λ threshold. IsSomeAnd value (IsEnough capacity threshold)) enough (threshold_at eviction key) in
+    let freed = given_or_not (λ threshold. IsSomeAnd value (IsEnough capacity threshold)) enough
+    (threshold_at eviction key) in
     elim (both (true_or_not (is_of_file_system key.signal)) freed) [
       | inl w ↦ inl (record { of_file_system = w.0; freed = w.1 })
       | inr not ↦ inr (λ r. not (r.of_file_system, r.freed))
@@ -88,7 +89,8 @@ asks_or_not eviction before tick key =
 some_served : (eviction : EvictionConfig) (before : List TickObs) (tick : TickObs)
     → (served : Option ThresholdKey) × IsServed eviction before tick served
 some_served eviction before tick =
-    let asks = λ (place : ℕ). given_or_not (Asks eviction before tick) (asks_or_not eviction before tick) (slice_get serving_order place) in
+    let each = asks_or_not eviction before tick in
+    let asks = λ (place : ℕ). given_or_not (Asks eviction before tick) each (slice_get serving_order place) in
     let below = λ (place : ℕ). within_and (Asks eviction before tick) serving_order place in
     let first = first_place (AsksAt eviction before tick) asks (length serving_order) below in
     (option_and_then (slice_get serving_order) first.0, (first.0, first.1, refl))
@@ -119,9 +121,14 @@ one_pod o pod other e f = let both : Some pod ≡ Some other = sym e ∙ f in cc
 no_pod : {A : Type 0} (o : Option A) (x : A) → o ≡ None → o ≡ Some x → ⊥
 no_pod o x e f = let both : None ≡ Some x = sym e ∙ f in cc
 
+-- some status has it, or none has
+abbrev Known : (PodStatus → Type 0) → Type 0
+Known Candidate = ((p : PodStatus) × Candidate p) ⊎ ((p : PodStatus) → Candidate p → ⊥)
+
 -- a pod may be evicted, or it may not
-candidate_or_not : (pods : List PodSpec) (before : List TickObs) (tick : TickObs) (evictions : List (Option Eviction)) (n : ℕ)
-    → ((p : PodStatus) × IsCandidate pods before tick evictions n p) ⊎ ((p : PodStatus) → IsCandidate pods before tick evictions n p → ⊥)
+candidate_or_not : (pods : List PodSpec) (before : List TickObs) (tick : TickObs)
+    (evictions : List (Option Eviction)) (n : ℕ)
+    → Known (IsCandidate pods before tick evictions n)
 candidate_or_not pods before tick evictions n = by (slice_get pods n) refl
   where
     eviction : Option EvictionOfPod
@@ -134,27 +141,33 @@ candidate_or_not pods before tick evictions n = by (slice_get pods n) refl
     Candidate p = IsCandidate pods before tick evictions n p
 
     with_status : (pod : PodSpec) → slice_get pods n ≡ Some pod → IsSome (shown_of tick n)
-        → (p : PodStatus) × IsStatusAfter n pod eviction h p → ((p : PodStatus) × Candidate p) ⊎ ((p : PodStatus) → Candidate p → ⊥)
+        → (p : PodStatus) × IsStatusAfter n pod eviction h p
+        → Known Candidate
     with_status pod at present (p, is) = elim (terminal_cases p.phase) [
       | inl ended ↦ inr (λ q c.
           let Of : PodSpec → Type 0 = λ k. IsStatusAfter n k eviction h q in
           let other = subst Of (one_pod (slice_get pods n) c.pod pod c.at at) c.is_status in
-          c.lives (subst IsTerminal (IsPhase-unique pod (place_of eviction) h p.phase q.phase is.lifecycle.phase other.lifecycle.phase) ended))
+          let evicted = place_of eviction in
+          let same = IsPhase-unique pod evicted h p.phase q.phase is.lifecycle.phase other.lifecycle.phase in
+          c.lives (subst IsTerminal same ended))
       | inr lives ↦ inl (p, record { pod = pod; at = at; present = present; is_status = is; lives = lives })
     ]
 
-    of_pod : (pod : PodSpec) → slice_get pods n ≡ Some pod → ((p : PodStatus) × Candidate p) ⊎ ((p : PodStatus) → Candidate p → ⊥)
+    of_pod : (pod : PodSpec) → slice_get pods n ≡ Some pod
+        → Known Candidate
     of_pod pod at = elim (true_or_not (is_some (shown_of tick n))) [
       | inr absent ↦ inr (λ p c. absent c.present)
       | inl present ↦ elim (less_or_not (length pod.containers) (2 ^ 63)) [
         | inl few ↦ with_status pod at present (some_status n pod eviction h few)
         | inr many ↦ inr (λ p c.
             let Few : PodSpec → Type 0 = λ k. length k.containers < 2 ^ 63 in
-            many (subst Few (one_pod (slice_get pods n) c.pod pod c.at at) (few_containers n c.pod eviction h p c.is_status)))
+            let few = few_containers n c.pod eviction h p c.is_status in
+            many (subst Few (one_pod (slice_get pods n) c.pod pod c.at at) few))
       ]
     ]
 
-    by : (o : Option PodSpec) → slice_get pods n ≡ o → ((p : PodStatus) × Candidate p) ⊎ ((p : PodStatus) → Candidate p → ⊥)
+    by : (o : Option PodSpec) → slice_get pods n ≡ o
+        → Known Candidate
     by None e = inr (λ p c. no_pod (slice_get pods n) c.pod e c.at)
     by (Some pod) e = of_pod pod e
 
@@ -168,11 +181,13 @@ candidates pods before tick evictions = record {
       let eviction = own_eviction n (before ++ tick ∷ []) evictions in
       let h = pod_ticks (before ++ tick ∷ []) n in
       let Of : PodSpec → Type 0 = λ k. IsStatusAfter n k eviction h q in
-      status_alike n c.pod eviction h p q c.is_status (subst Of (one_pod (slice_get pods n) d.pod c.pod d.at c.at) d.is_status);
+      let other = subst Of (one_pod (slice_get pods n) d.pod c.pod d.at c.at) d.is_status in
+      status_alike n c.pod eviction h p q c.is_status other;
 }
 
 -- a tick has its eviction, or none
-some_round : (config : NodeConfig) (pods : List PodSpec) (before : List TickObs) (tick : TickObs) (evictions : List (Option Eviction))
+some_round : (config : NodeConfig) (pods : List PodSpec) (before : List TickObs) (tick : TickObs)
+    (evictions : List (Option Eviction))
     → (e : Option Eviction) × IsRound config pods before tick evictions e
 some_round config pods before tick evictions = from (some_served config.eviction before tick)
   where
@@ -201,8 +216,10 @@ some_round config pods before tick evictions = from (some_served config.eviction
         let all = candidates pods before tick evictions in
         for_key key is (victim_among key.signal config.has_dedicated_imagefs Candidate (length pods) all)
 
-replay_from : (config : NodeConfig) (pods : List PodSpec) (later before : List TickObs) (evictions : List (Option Eviction))
-    → IsReplay config pods before evictions → (all : List (Option Eviction)) × IsReplay config pods (before ++ later) all
+replay_from : (config : NodeConfig) (pods : List PodSpec) (later before : List TickObs)
+    (evictions : List (Option Eviction))
+    → IsReplay config pods before evictions
+    → (all : List (Option Eviction)) × IsReplay config pods (before ++ later) all
 replay_from config pods [] before evictions replay =
     let P : List TickObs → Type 0 = λ h. IsReplay config pods h evictions in
     (evictions, subst P (sym (append-nil before)) replay)

@@ -1,5 +1,5 @@
 -- A pod has a status after every list of ticks.
-use Rattle.std.proofs.Common.{◌≡◌, ℕ, ◌<◌, ◌≤◌, List, [], ◌∷◌, ◌++◌, length, Option, Some, None, refl, sym, ap, subst}
+use Rattle.std.proofs.Common.{◌≡◌, ℕ, ◌<◌, List, [], ◌∷◌, ◌++◌, length, Option, Some, None, refl, sym, subst}
 use Rattle.std.proofs.Common.{◌∙◌, arith, append_assoc, append-nil}
 use Rattle.std.specs.Prelude.{◌^◌, IsSomeAnd, option_map}
 use Rattle.std.specs.Global.{Vec}
@@ -106,12 +106,12 @@ one_sample resource h (Some a) (Some b) (t, last, is) (u, last', is') =
 
 one_of_each : (h : List PodTick) (one other : Usage) → AreNewestSamples h one → AreNewestSamples h other → one ≡ other
 one_of_each h one other v w =
-    let memory : one.memory ≡ other.memory = one_sample (λ u. u.memory) h one.memory other.memory v.memory w.memory in
-    let volumes : one.volumes ≡ other.volumes = one_sample (λ u. u.volumes) h one.volumes other.volumes v.volumes w.volumes in
-    let logs : one.logs ≡ other.logs = one_sample (λ u. u.logs) h one.logs other.logs v.logs w.logs in
-    let writable : one.writable ≡ other.writable = one_sample (λ u. u.writable) h one.writable other.writable v.writable w.writable in
-    let inodes : one.inodes ≡ other.inodes = one_sample (λ u. u.inodes) h one.inodes other.inodes v.inodes w.inodes in
-    let pids : one.pids ≡ other.pids = one_sample (λ u. u.pids) h one.pids other.pids v.pids w.pids in
+    let memory = one_sample (λ u. u.memory) h one.memory other.memory v.memory w.memory in
+    let volumes = one_sample (λ u. u.volumes) h one.volumes other.volumes v.volumes w.volumes in
+    let logs = one_sample (λ u. u.logs) h one.logs other.logs v.logs w.logs in
+    let writable = one_sample (λ u. u.writable) h one.writable other.writable v.writable w.writable in
+    let inodes = one_sample (λ u. u.inodes) h one.inodes other.inodes v.inodes w.inodes in
+    let pids = one_sample (λ u. u.pids) h one.pids other.pids v.pids w.pids in
     λ i. record {
       memory = memory i;
       volumes = volumes i;

@@ -45,11 +45,13 @@ EvictedOnce =
 
 -- a tick that comes after these, with these evictions, shows the pod of this number, and the pod had
 -- not ended after the tick's update
-pub record Lived (pods : List PodSpec) (before : List TickObs) (tick : TickObs) (evictions : List (Option Eviction)) (n : ℕ) : Type 0 where
+pub record Lived (pods : List PodSpec) (before : List TickObs) (tick : TickObs)
+    (evictions : List (Option Eviction)) (n : ℕ) : Type 0 where
   pub pod : PodSpec
   pub is_pod : slice_get pods n ≡ Some pod
   pub present : IsSome (shown_of tick n)
-  pub lived : HasEnded pod (place_of (own_eviction n (before ++ tick ∷ []) evictions)) (pod_ticks (before ++ tick ∷ []) n)
+  pub lived : HasEnded pod (place_of (own_eviction n (before ++ tick ∷ []) evictions))
+      (pod_ticks (before ++ tick ∷ []) n)
       → ⊥
 
 -- the pod that a tick evicts had not ended before
@@ -63,7 +65,8 @@ EvictedPodLived =
 
 -- a tick that comes after these serves one threshold, which is due and not reclaimed, and it is for
 -- this one, at the tick's moment, that the pod is evicted
-pub record ServesOne (config : NodeConfig) (before : List TickObs) (tick : TickObs) (eviction : Eviction) : Type 0 where
+pub record ServesOne (config : NodeConfig) (before : List TickObs) (tick : TickObs)
+    (eviction : Eviction) : Type 0 where
   pub key : ThresholdKey
   pub is_served : IsServed config.eviction before tick (Some key)
   pub asks : Asks config.eviction before tick key
