@@ -1,6 +1,6 @@
 -- One more tick with its eviction.
-use Rattle.std.proofs.Common.{◌≡◌, inl, inr, ℕ, ◌<◌, List, [], ◌∷◌, ◌++◌, length, take, Option, Some, None, refl, sym, ap, subst, ◌∙◌, arith}
-use Rattle.std.specs.Prelude.{slice_get}
+use Rattle.std.proofs.Common.{◌≡◌, inl, inr, ℕ, ◌<◌, List, [], ◌∷◌, ◌++◌, length, take, Option, refl, sym, subst}
+use Rattle.std.proofs.Common.{◌∙◌, arith}
 use Rattle.std.proofs.lemmas.List.{take-append-le, take_all}
 use Rattle.histories.proofs.Places.{length-more}
 use Rattle.manifest.specs.declared.pod.PodSpec.{PodSpec}
@@ -16,10 +16,13 @@ whole xs x t e = take-append-le t xs (x ∷ []) (omega arith) ∙ take_all t xs 
 pub no_replay : (config : NodeConfig) (pods : List PodSpec) → IsReplay config pods [] []
 no_replay config pods = record { as_many = refl; each = λ t tick eviction at is. absurd (cc) }
 
-pub replay_more : (config : NodeConfig) (pods : List PodSpec) (ticks : List TickObs) (es : List (Option Eviction)) (x : TickObs) (e : Option Eviction)
-    → IsReplay config pods ticks es → IsRound config pods ticks x es e → IsReplay config pods (ticks ++ x ∷ []) (es ++ e ∷ [])
+pub replay_more : (config : NodeConfig) (pods : List PodSpec) (ticks : List TickObs) (es : List (Option Eviction))
+    (x : TickObs) (e : Option Eviction)
+    → IsReplay config pods ticks es → IsRound config pods ticks x es e
+    → IsReplay config pods (ticks ++ x ∷ []) (es ++ e ∷ [])
 replay_more config pods ticks es x e replay now = record {
-  as_many = let many : length es ≡ length ticks = replay.as_many in omega (arith, length-more es e, length-more ticks x);
+  as_many =
+      let many : length es ≡ length ticks = replay.as_many in omega (arith, length-more es e, length-more ticks x);
   each = λ t tick eviction at is. elim (place_split ticks x tick t at) [
     | inl old ↦
         let lt : t < length ticks = within ticks t tick old in
