@@ -1,3 +1,3 @@
 pub mod Parts
-pub mod Replayed
+pub mod NodeLemmas
 pub mod Unique

@@ -1,6 +1,6 @@
 pub mod Texts
 pub mod Fault
-pub mod Replayed
+pub mod Ticks
 pub mod Lines
 pub mod Report
 pub mod Run

@@ -47,14 +47,16 @@ abbrev pub reason_word : Option EvictOrder → List ℕ
 reason_word None = codes "-"
 reason_word (Some order) = codes "Evicted"
 
-abbrev pub pod_words : ℕ → List ℕ → List ℕ → List ℕ → List ℕ → List ℕ → List ℕ
-pod_words n namespace name phase reason qos =
-    joined (codes "pod " ∷ decimal n ∷ codes " " ∷ namespace ∷ codes "/" ∷ name ∷ codes " phase=" ∷ phase
-    ∷ codes " reason=" ∷ reason ∷ codes " qos=" ∷ qos ∷ codes "\n" ∷ [])
+abbrev pub pod_words : ℕ → List ℕ → List ℕ → List ℕ → List ℕ
+pod_words n namespace name phase =
+    joined (codes "pod " ∷ decimal n ∷ codes " " ∷ namespace ∷ codes "/" ∷ name ∷ codes " phase=" ∷ phase ∷ [])
+
+abbrev pub class_words : List ℕ → List ℕ → List ℕ → List ℕ
+class_words words reason qos = joined (words ∷ codes " reason=" ∷ reason ∷ codes " qos=" ∷ qos ∷ codes "\n" ∷ [])
 
 unfoldable pub pod_line : ℕ → PodSpec → Qos → Phase → Option EvictOrder → List ℕ
 pod_line n pod qos phase order =
-    pod_words n pod.namespace pod.name (phase_word phase) (reason_word order) (qos_word qos)
+    class_words (pod_words n pod.namespace pod.name (phase_word phase)) (reason_word order) (qos_word qos)
 
 -- without ticks the moment is 0
 unfoldable pub condition_line : ℕ → List ℕ → Condition → List ℕ

@@ -5,7 +5,7 @@ ghost use Rattle.manifest.specs.declared.pod.PodSpec.{PodSpec};
 ghost use Rattle.node_config.specs.declared.node.NodeConfig.{NodeConfig};
 ghost use Rattle.observations.specs.declared.tick.TickObs.{TickObs};
 ghost use Rattle.tick_round.specs.Node.{IsAfter};
-ghost use Rattle.kubelet_replay.specs.Replayed.{AreReplayable};
+ghost use Rattle.kubelet_replay.specs.Ticks.{AreReplayable};
 
 use manifest::PodSpec;
 use node_config::NodeConfig;
@@ -15,11 +15,7 @@ use std::vec::IntoIter;
 use tick_round::{Node, TickFault};
 
 /// The next pods arrive, so many of them.
-fn arrive(
-    node: &mut Node,
-    arriving: &mut IntoIter<PodSpec>,
-    count: usize,
-) -> Result<(), TickFault>
+fn arrive(node: &mut Node, arriving: &mut IntoIter<PodSpec>, count: usize) -> Result<(), TickFault>
     ensures node { (config : NodeConfig) (pods : List PodSpec) (ticks : List TickObs)
         → IsAfter config pods ticks node.old
         → OnOk result (IsAfter config (pods ++ take count arriving.old.rest.items) ticks node.new) }

@@ -5,7 +5,7 @@ ghost use Rattle.manifest.specs.declared.pod.PodSpec.{PodSpec};
 ghost use Rattle.node_config.specs.declared.node.NodeConfig.{NodeConfig};
 ghost use Rattle.observations.specs.declared.tick.TickObs.{TickObs};
 ghost use Rattle.eviction.specs.declared.eviction.Eviction.{Eviction};
-ghost use Rattle.tick_round.specs.Node.{piece_after, ArePieces};
+ghost use Rattle.tick_round.specs.Node.{piece_after, ArePieces, IsAfter};
 ghost use Rattle.trace.specs.Sound.{AreAcceptable, HasShape};
 ghost use Rattle.kubelet_replay.specs.Report.{ArePodLines, AreLines, IsReport};
 
@@ -13,6 +13,7 @@ use crate::replayed::replayed;
 use crate::text::pod_text;
 use pod_piece::PodPiece;
 use std::alloc::{AllocError, Global};
+use tick_round::Node;
 use trace::Trace;
 
 /// The lines of a pod.
@@ -39,6 +40,18 @@ fn all_lines(alloc: Global, pieces: &[PodPiece]) -> Result<String, AllocError>
     Ok(report)
 }
 
+/// The lines of a node's pods.
+fn node_lines(alloc: Global, node: &Node) -> Result<String, AllocError>
+    ensures { IfOk result (λ s. (config : NodeConfig) (pods : List PodSpec) (ticks : List TickObs)
+        → IsAfter config pods ticks node.now → IsReport config ticks pods (string_bytes s)) }
+{
+    let Some(pieces) = node.pieces() else {
+        return Ok(String::new(alloc));
+    };
+    let lines = all_lines(alloc, pieces)?;
+    Ok(lines)
+}
+
 /// The report of a trace.
 pub(crate) fn report_of(alloc: Global, trace: Trace) -> Result<String, AllocError>
     requires acceptable { AreAcceptable trace.ticks }
@@ -51,8 +64,9 @@ pub(crate) fn report_of(alloc: Global, trace: Trace) -> Result<String, AllocErro
         ticks,
         ..
     } = trace;
-    match replayed(alloc, node, pods.into_vec(), ticks.into_vec()) {
-        Ok(node) => all_lines(alloc, node.pieces().unwrap_or(&[])),
-        Err(_) => Err(AllocError),
-    }
+    let Ok(node) = replayed(alloc, node, pods.into_vec(), ticks.into_vec()) else {
+        return Err(AllocError);
+    };
+    let lines = node_lines(alloc, &node)?;
+    Ok(lines)
 }

@@ -2,7 +2,7 @@
 
 ghost use Rattle.std.specs.Prelude.{◌≡◌, ◌++◌, length, IfOk, OnOk, string_bytes};
 ghost use Rattle.kubelet_replay.specs.Texts.{joined};
-ghost use Rattle.kubelet_replay.specs.Lines.{phase_word, state_word, reason_word, qos_word, truth, code_text, pod_words, pod_line, condition_line, container_words, flag_words, container_line, conditions_text, disruption_text, containers_text, pod_text};
+ghost use Rattle.kubelet_replay.specs.Lines.{phase_word, state_word, reason_word, qos_word, truth, code_text, pod_words, class_words, pod_line, condition_line, container_words, flag_words, container_line, conditions_text, disruption_text, containers_text, pod_text};
 
 use manifest::{ContainerSpec, PodSpec};
 use phase::{Condition, Conditions, ContainerState, Phase};
@@ -73,13 +73,16 @@ fn pod_words(
     namespace: &str,
     name: &str,
     phase: &str,
-    reason: &str,
-    qos: &str,
 ) -> Result<String, AllocError>
-    ensures { IfOk result (λ s. string_bytes s
-        ≡ pod_words number namespace.now name.now phase.now reason.now qos.now) }
+    ensures { IfOk result (λ s. string_bytes s ≡ pod_words number namespace.now name.now phase.now) }
 {
-    format!(in alloc; "pod {number} {namespace}/{name} phase={phase} reason={reason} qos={qos}\n")
+    format!(in alloc; "pod {number} {namespace}/{name} phase={phase}")
+}
+
+fn class_words(alloc: Global, words: &str, reason: &str, qos: &str) -> Result<String, AllocError>
+    ensures { IfOk result (λ s. string_bytes s ≡ class_words words.now reason.now qos.now) }
+{
+    format!(in alloc; "{words} reason={reason} qos={qos}\n")
 }
 
 #[tactic(auto, unfolding(crate::specs::Lines::pod_line))]
@@ -94,15 +97,9 @@ fn pod_line(
     ensures { IfOk result (λ s. string_bytes s ≡ pod_line number pod.now qos phase order) }
 {
     let namespace = pod.namespace.as_str();
-    pod_words(
-        alloc,
-        number,
-        namespace,
-        pod.name.as_str(),
-        phase_word(phase),
-        reason_word(order),
-        qos_word(qos),
-    )
+    let name = pod.name.as_str();
+    let words = pod_words(alloc, number, namespace, name, phase_word(phase))?;
+    class_words(alloc, words.as_str(), reason_word(order), qos_word(qos))
 }
 
 #[tactic(auto, unfolding(crate::specs::Lines::condition_line))]
@@ -261,7 +258,7 @@ pub(crate) fn pod_text(
     requires { length status.now.containers.items ≡ length pod.now.containers }
     ensures { IfOk result (λ s. string_bytes s
         ≡ pod_text number pod.now status.now.class status.now.phase status.now.conditions status.now.order
-            status.now.containers.items) }
+        status.now.containers.items) }
 {
     let mut text = pod_line(alloc, number, pod, status.class, status.phase, status.order)?;
     add_conditions(alloc, &mut text, number, status.conditions)?;

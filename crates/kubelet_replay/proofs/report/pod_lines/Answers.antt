@@ -1,17 +1,16 @@
-use Rattle.std.proofs.Common.{◌≡◌, ◌∙◌, ℕ, List, ap, sym, subst}
+use Rattle.std.proofs.Common.{◌≡◌, ◌∙◌, List, Option, ap, sym, subst}
 use Rattle.containers.specs.declared.status.ContainerStatus.{ContainerStatus}
 use Rattle.manifest.specs.declared.pod.PodSpec.{PodSpec}
-use Rattle.observations.specs.declared.tick.TickObs.{TickObs}
+use Rattle.pod_piece.specs.declared.order.EvictOrder.{EvictOrder}
 use Rattle.pod_piece.specs.Piece.{Piece}
 use Rattle.pod_piece.specs.Status.{IsStatusOf}
 use Rattle.kubelet_replay.specs.Lines.{pod_text}
-use Rattle.kubelet_replay.specs.Pieces.{piece_after}
 use Rattle.kubelet_replay.proofs.report.pod_lines.Goals as goal
 
 pub returns : goal.returns
-returns c = λ greatest ticks pod is.
-    let status = c.status-status.result.now in
-    let shown = subst (λ (p : Piece). IsStatusOf p status) is c.status-status.ensures in
+returns c = λ config ticks evictions pod is.
+    let status = c.status.result.now in
+    let shown = subst (λ (p : Piece). IsStatusOf p status) is c.status.ensures in
     let same : c.pod.result.now ≡ pod = c.pod.ensures ∙ ap (λ (p : Piece). p.pod) is in
     record {
       lifecycle = record { phase = status.phase; conditions = status.conditions };
@@ -20,6 +19,7 @@ returns c = λ greatest ticks pod is.
       are_statuses = shown.containers;
       qos = status.class;
       is_qos = shown.class;
-      text = c.in_ok-text.ensures ∙ ap (λ (ss : List ContainerStatus). pod_text c.args.number c.pod.result.now status.class status.phase status.conditions ss) c.deref.ensures.value
-          ∙ ap (λ (q : PodSpec). pod_text c.args.number q status.class status.phase status.conditions status.containers.items) same;
+      text = c.in_ok-text.ensures
+          ∙ ap (λ (q : PodSpec). pod_text c.args.number q status.class status.phase status.conditions status.order status.containers.items) same
+          ∙ ap (λ (o : Option EvictOrder). pod_text c.args.number pod status.class status.phase status.conditions o status.containers.items) shown.order;
     }

@@ -1,9 +1,9 @@
-use Rattle.std.proofs.Common.{◌≡◌, ◌∙◌, List, ap, sym, subst, string_bytes}
+use Rattle.std.proofs.Common.{◌≡◌, ◌∙◌, List, ap, sym, subst}
 use Rattle.manifest.specs.declared.pod.PodSpec.{PodSpec}
 use Rattle.observations.specs.declared.tick.TickObs.{TickObs}
-use Rattle.pod_piece.specs.Piece.{Piece}
-use Rattle.kubelet_replay.specs.Pieces.{pieces_from, AreReplayable}
-use Rattle.kubelet_replay.proofs.Replayed.{are_replayable}
+use Rattle.tick_round.specs.Node.{IsAfter}
+use Rattle.kubelet_replay.specs.Ticks.{AreReplayable}
+use Rattle.kubelet_replay.proofs.NodeLemmas.{are_replayable}
 use Rattle.kubelet_replay.proofs.report.report_of.Goals as goal
 
 pub replayed-requires : goal.replayed-requires
@@ -15,7 +15,6 @@ replayed-requires c =
 pub returns : goal.returns
 returns c =
     let trace = c.args.trace in
-    let greatest = trace.node.max_restart_delay in
-    let made = c.in_ok-pieces.ensures ∙ ap (λ (ps : List PodSpec). pieces_from greatest c.into_vec-2.result.items 0 ps) c.into_vec.ensures
-    ∙ ap (λ (ts : List TickObs). pieces_from greatest ts 0 trace.pods) c.into_vec-2.ensures in
-    c.in_ok-report.ensures greatest trace.ticks trace.pods (c.deref.ensures.value ∙ made)
+    c.in_ok-lines.ensures trace.node trace.pods trace.ticks
+    (subst (λ (ts : List TickObs). IsAfter trace.node trace.pods ts c.in-Ok.node) c.into_vec-2.ensures
+    (subst (λ (ps : List PodSpec). IsAfter trace.node ps c.into_vec-2.result.items c.in-Ok.node) c.into_vec.ensures c.in-Ok.ensures))

@@ -1,6 +1,6 @@
 -- The node of a trace, one tick and some pods more.
-use Rattle.std.proofs.Common.{◌≡◌, ◌⊎◌, inl, inr, ◌∙◌, ℕ, suc, zero, ◌+◌, ◌-◌, ◌<◌, ◌≤◌, ◌^◌, List, [], ◌∷◌, ◌++◌, length, map, take, drop, append_assoc, append-nil, Option, Some, None, refl, ap, sym, subst, arith}
-use Rattle.std.specs.Prelude.{slice_get, IfSome, IsSomeAnd, is_some, IsSome, option_and_then, unwrap_or, ◌↔◌}
+use Rattle.std.proofs.Common.{◌≡◌, ◌⊎◌, inl, inr, ◌∙◌, ℕ, suc, zero, ◌+◌, ◌-◌, ◌<◌, ◌≤◌, ◌^◌, List, [], ◌∷◌, ◌++◌, length, map, take, drop, get_or, append_assoc, append-nil, Option, Some, None, refl, ap, sym, subst, arith}
+use Rattle.std.specs.Prelude.{slice_get, MatchOption, IfSome, IsSomeAnd, is_some, IsSome, option_and_then, unwrap_or, ◌↔◌}
 use Rattle.std.proofs.lemmas.Bool.{cases_lt}
 use Rattle.std.proofs.lemmas.List.{length-take-le, take-append-le, take_all}
 use Rattle.manifest.specs.declared.pod.PodSpec.{PodSpec}
@@ -21,11 +21,13 @@ use Rattle.pod_state.specs.Pods.{PodEntry, PodTick, pod_tick, ticks_of, unseen}
 use Rattle.pod_piece.specs.Listings.{IsNextTick}
 use Rattle.pod_piece.specs.Piece.{Piece}
 use Rattle.eviction.proofs.Unique.{at_place}
+use Rattle.eviction.specs.declared.eviction.Eviction.{Eviction}
 use Rattle.eviction.specs.Replay.{pod_ticks}
 use Rattle.node_pods.specs.Pods.{AreNext}
-use Rattle.tick_round.specs.Node.{State, piece_after, HasTaken, Fits, IsAfter, MayTake, last_of}
+use Rattle.tick_round.specs.Node.{State, ArePieces, piece_after, HasTaken, Fits, IsAfter, MayTake, last_of}
 use Rattle.tick_round.proofs.Pieces.{pod_at}
-use Rattle.kubelet_replay.specs.Replayed.{AreReplayable}
+use Rattle.kubelet_replay.specs.Ticks.{AreReplayable}
+use Rattle.kubelet_replay.specs.Report.{AreLines}
 
 -- what a trace keeps lets every tick be handed on
 listed : (o : Option ContainerObs) → (unwrap_or o unseen).seen ≡ option_and_then (λ (shown : ContainerObs). shown.seen) o
@@ -139,8 +141,9 @@ get_before (z ∷ xs) ys zero x e = e
 get_before (z ∷ xs) ys (suc n) x e = get_before xs ys n x e
 
 get_behind : {A : Type 0} (xs : List A) (x : A) (ys : List A) (t : ℕ) (y : A) → slice_get ys t ≡ Some y → slice_get (xs ++ x ∷ ys) (length xs + suc t) ≡ Some y
-get_behind [] x ys t y e = e
-get_behind (z ∷ xs) x ys t y e = get_behind xs x ys t y e
+get_behind [] x ys t y e = ap (λ (k : ℕ). slice_get (x ∷ ys) k) (let z : 0 + suc t ≡ suc t = omega arith in z) ∙ e
+get_behind (z ∷ xs) x ys t y e =
+    ap (λ (k : ℕ). slice_get (z ∷ (xs ++ x ∷ ys)) k) (let n : suc (length xs) + suc t ≡ suc (length xs + suc t) = omega arith in n) ∙ get_behind xs x ys t y e
 
 taken_at : (n k : ℕ) (pods : List PodSpec) (pod : PodSpec) → slice_get (take k pods) n ≡ Some pod → slice_get pods n ≡ Some pod
 taken_at n zero pods pod e = absurd (cc)
@@ -168,10 +171,10 @@ fits_next pods ticks before tick rest s may whole taken =
     record {
       later = subst (λ (o : Option ℕ). IfSome o (λ last. last < tick.at)) (sym taken.last_is)
           (if_some (last_of before) (λ m. m < tick.at) (λ m is.
-              let w = last_place before m is in
-              let there : slice_get ticks w.0 ≡ Some w.1 = ap (λ (xs : List TickObs). slice_get xs w.0) whole ∙ get_before before (tick ∷ rest) w.0 w.1 w.2 in
-              let rises : w.1.at < tick.at = may.rising w.0 t w.1 tick w.4 there at in
-              let same : w.1.at ≡ m = w.3 in omega arith));
+          let w = last_place before m is in
+          let there : slice_get ticks w.0 ≡ Some w.1 = ap (λ (xs : List TickObs). slice_get xs w.0) whole ∙ get_before before (tick ∷ rest) w.0 w.1 w.2 in
+          let rises : w.1.at < tick.at = may.rising w.0 t w.1 tick w.4 there at in
+          let same : w.1.at ≡ m = w.3 in omega arith));
       bounded = may.below t tick at;
       pods = record {
         next = record {
@@ -180,7 +183,7 @@ fits_next pods ticks before tick rest s may whole taken =
               let here = pod_at s.config (take (length tick.pods) pods) before s.evictions s.pods.pieces n piece taken.pieces is in
               let pod : slice_get pods n ≡ Some here.0 = taken_at n (length tick.pods) pods here.0 here.1 in
               let next : IsNextTick here.0 (pod_ticks before n) (pod_tick shown) =
-                  subst (λ (h : List TickObs). IsNextTick here.0 (pod_ticks h n) (pod_tick shown)) cut (may.next t n tick here.0 shown at pod there) in
+              subst (λ (h : List TickObs). IsNextTick here.0 (pod_ticks h n) (pod_tick shown)) cut (may.next t n tick here.0 shown at pod there) in
               subst (λ (p : Piece). IsNextTick p.pod p.handed (pod_tick shown)) (sym here.2) next;
         };
         at_its_moment = λ n shown is. may.moments t n tick shown at is;
@@ -196,28 +199,31 @@ pub record IsSoFar (config : NodeConfig) (pods : List PodSpec) (ticks before res
   pub after : IsAfter config (take arrived pods) before node
 
 take_drop : (n k : ℕ) (pods : List PodSpec) → n ≤ k → take n pods ++ take (k - n) (drop n pods) ≡ take k pods
-take_drop zero k pods le = refl
+take_drop zero k pods le = ap (λ (i : ℕ). take i pods) (let z : k - 0 ≡ k = omega arith in z)
 take_drop (suc n) zero pods le = absurd (omega arith)
-take_drop (suc n) (suc k) [] le = none (k - n)
+take_drop (suc n) (suc k) [] le = none (suc k - suc n)
   where
-    none : (i : ℕ) → take i [] ≡ []
+    none : (i : ℕ) → take {A = PodSpec} i [] ≡ []
     none zero = refl
     none (suc i) = refl
-take_drop (suc n) (suc k) (p ∷ pods) le = ap (λ (ps : List PodSpec). p ∷ ps) (take_drop n k pods (omega arith))
+take_drop (suc n) (suc k) (p ∷ pods) le =
+    ap (λ (i : ℕ). (p ∷ take n pods) ++ take i (drop n pods)) (let z : suc k - suc n ≡ k - n = omega arith in z)
+    ∙ ap (λ (ps : List PodSpec). p ∷ ps) (take_drop n k pods (omega arith))
 
 drop_drop : (n k : ℕ) (pods : List PodSpec) → n ≤ k → drop (k - n) (drop n pods) ≡ drop k pods
-drop_drop zero k pods le = refl
+drop_drop zero k pods le = ap (λ (i : ℕ). drop i pods) (let z : k - 0 ≡ k = omega arith in z)
 drop_drop (suc n) zero pods le = absurd (omega arith)
-drop_drop (suc n) (suc k) [] le = none (k - n)
+drop_drop (suc n) (suc k) [] le = none (suc k - suc n)
   where
-    none : (i : ℕ) → drop i [] ≡ []
+    none : (i : ℕ) → drop {A = PodSpec} i [] ≡ []
     none zero = refl
     none (suc i) = refl
-drop_drop (suc n) (suc k) (p ∷ pods) le = drop_drop n k pods (omega arith)
+drop_drop (suc n) (suc k) (p ∷ pods) le =
+    ap (λ (i : ℕ). drop i (drop n pods)) (let z : suc k - suc n ≡ k - n = omega arith in z) ∙ drop_drop n k pods (omega arith)
 
 -- no tick and no pod yet
-pub none_yet : (config : NodeConfig) (pods : List PodSpec) (ticks : List TickObs) (node : Option State) → IsAfter config [] [] node → IsSoFar config pods ticks [] ticks 0 pods node
-none_yet config pods ticks node after = record { whole = refl; left_is = refl; few = omega arith; shown = λ t tick at. omega arith; after = after }
+pub none_yet : (config : NodeConfig) (pods : List PodSpec) (ticks : List TickObs) (new : Option State) → IsAfter config [] [] new → IsSoFar config pods ticks [] ticks 0 pods new
+none_yet config pods ticks new after = record { whole = refl; left_is = refl; few = omega arith; shown = λ t tick at. omega arith; after = after }
 
 -- the pods that the next tick shows have arrived
 pub arrived_next : (config : NodeConfig) (pods : List PodSpec) (ticks before : List TickObs) (tick : TickObs) (rest : List TickObs) (arrived : ℕ) (left : List PodSpec) (old new : Option State)
@@ -258,7 +264,7 @@ one_more config pods ticks before tick rest arrived left left' old mid new may s
       few = may.within (length before) tick at;
       shown = λ t later there.
           let place : slice_get ticks (length before + suc t) ≡ Some later =
-              ap (λ (xs : List TickObs). slice_get xs (length before + suc t)) s.whole ∙ get_behind before tick rest t later there in
+          ap (λ (xs : List TickObs). slice_get xs (length before + suc t)) s.whole ∙ get_behind before tick rest t later there in
           may.growing (length before) (length before + suc t) tick later (omega arith) at place;
       after = takes (take (length tick.pods) pods) before (arrived_next config pods ticks before tick rest arrived left old mid s arrives);
     }
@@ -272,7 +278,7 @@ all_taken config pods ticks before arrived count left old new s many arrives =
     let few : arrived ≤ length pods = s.few in
     let now = arrives (take arrived pods) before s.after in
     let all : take arrived pods ++ take (count - arrived) left ≡ pods =
-        ap (λ (ps : List PodSpec). take arrived pods ++ take (count - arrived) ps) s.left_is ∙ take_drop arrived count pods (omega arith) ∙ take_all count pods (omega arith) in
+    ap (λ (ps : List PodSpec). take arrived pods ++ take (count - arrived) ps) s.left_is ∙ take_drop arrived count pods (omega arith) ∙ take_all count pods (omega arith) in
     subst (λ (ts : List TickObs). IsAfter config pods ts new) (sym (s.whole ∙ append-nil before))
     (subst (λ (ps : List PodSpec). IsAfter config ps before new) all now)
 
@@ -283,3 +289,126 @@ pub took_more : (config : NodeConfig) (arrived : List PodSpec) (ticks : List Tic
     → IsAfter config (arrived ++ (taken ++ pod ∷ [])) ticks new
 took_more config arrived ticks taken pod old new after arrives =
     subst (λ (ps : List PodSpec). IsAfter config ps ticks new) (append_assoc arrived taken (pod ∷ [])) (arrives (arrived ++ taken) ticks after)
+
+-- where an iterator has ended it has nothing left
+pub none_left : {A : Type 0} (o : Option A) (old new : ℕ) (Q : A → Type 0) (rest : List A) → MatchOption o ((old ≡ 0) × (new ≡ 0)) Q → length rest ≡ new → o ≡ None → rest ≡ []
+none_left None old new Q [] ends long is = refl
+none_left None old new Q (x ∷ xs) ends long is = absurd (omega (arith, long, ends.1))
+none_left (Some x) old new Q rest ends long is = absurd (let w : Some x ≡ None = is in cc)
+
+pub nothing_left : {A : Type 0} (rest : List A) → length rest ≡ 0 → rest ≡ []
+nothing_left [] long = refl
+nothing_left (x ∷ xs) long = absurd (omega (arith, long))
+
+-- the first so many of these pods have arrived
+pub record AreArriving (all : List PodSpec) (i : ℕ) (old new : Option State) (left : List PodSpec) : Type 0 where
+  pub arrived : (config : NodeConfig) (pods : List PodSpec) (ticks : List TickObs) → IsAfter config pods ticks old → IsAfter config (pods ++ take i all) ticks new
+  pub left_is : left ≡ drop i all
+
+pub none_arrived : (all : List PodSpec) (old : Option State) → AreArriving all 0 old old all
+none_arrived all old = record {
+  arrived = λ config pods ticks after. subst (λ (ps : List PodSpec). IsAfter config ps ticks old) (sym (append-nil pods)) after;
+  left_is = refl;
+}
+
+cut : (i : ℕ) (all : List PodSpec) (pod : PodSpec) (rest : List PodSpec) → pod ∷ rest ≡ drop i all → (take (suc i) all ≡ take i all ++ pod ∷ []) × (rest ≡ drop (suc i) all)
+cut zero [] pod rest e = absurd (cc)
+cut zero (p ∷ all) pod rest e = let head : p ≡ pod = cc in let tail : rest ≡ all = cc in (ap (λ (q : PodSpec). q ∷ []) head, tail)
+cut (suc i) [] pod rest e = absurd (cc)
+cut (suc i) (p ∷ all) pod rest e = let w = cut i all pod rest e in (ap (λ (ps : List PodSpec). p ∷ ps) w.0, w.1)
+
+pub arriving_more : (all : List PodSpec) (i : ℕ) (old mid new : Option State) (left : List PodSpec) (pod : PodSpec) (rest : List PodSpec) → AreArriving all i old mid left → left ≡ pod ∷ rest
+    → ((config : NodeConfig) (pods : List PodSpec) (ticks : List TickObs) → IsAfter config pods ticks mid → IsAfter config (pods ++ pod ∷ []) ticks new)
+    → AreArriving all (i + 1) old new rest
+arriving_more all i old mid new left pod rest are is arrives =
+    let w = cut i all pod rest (sym is ∙ are.left_is) in
+    let next : suc i ≡ i + 1 = omega arith in
+    subst (λ (k : ℕ). AreArriving all k old new rest) next (record {
+      arrived = λ config pods ticks after.
+          subst (λ (ps : List PodSpec). IsAfter config (pods ++ ps) ticks new) (sym w.0)
+          (took_more config pods ticks (take i all) pod mid new (are.arrived config pods ticks after) (λ ps ts before. arrives config ps ts before));
+      left_is = w.1;
+    })
+
+short : (i n : ℕ) (all : List PodSpec) → [] ≡ drop i all → i ≤ n → (take i all ≡ take n all) × ([] ≡ drop n all)
+short i n [] e le = (none i ∙ sym (none n), sym (nothing n))
+  where
+    none : (k : ℕ) → take {A = PodSpec} k [] ≡ []
+    none zero = refl
+    none (suc k) = refl
+
+    nothing : (k : ℕ) → drop {A = PodSpec} k [] ≡ []
+    nothing zero = refl
+    nothing (suc k) = refl
+short zero n (p ∷ all) e le = absurd (let f : [] ≡ p ∷ all = e in cc)
+short (suc i) zero (p ∷ all) e le = absurd (omega arith)
+short (suc i) (suc n) (p ∷ all) e le = let w = short i n all e (omega arith) in (ap (λ (ps : List PodSpec). p ∷ ps) w.0, w.1)
+
+-- where none are left all have
+pub all_arrived : (all : List PodSpec) (i count : ℕ) (old new : Option State) (left rest : List PodSpec) → AreArriving all i old new left → left ≡ [] → rest ≡ [] → i ≤ count → AreArriving all count old new rest
+all_arrived all i count old new left rest are none none' le =
+    let w = short i count all (sym none ∙ are.left_is) le in
+    record {
+      arrived = λ config pods ticks after. subst (λ (ps : List PodSpec). IsAfter config (pods ++ ps) ticks new) w.0 (are.arrived config pods ticks after);
+      left_is = none' ∙ w.1;
+    }
+
+pub as_many_arrived : (all : List PodSpec) (i count : ℕ) (old new : Option State) (left : List PodSpec) → AreArriving all i old new left → i ≤ count → count ≤ i → AreArriving all count old new left
+as_many_arrived all i count old new left are le ge = let same : i ≡ count = omega arith in subst (λ (k : ℕ). AreArriving all k old new left) same are
+
+-- the lines of each pod of a node
+pub piece_here : (config : NodeConfig) (pods : List PodSpec) (ticks : List TickObs) (evictions : List (Option Eviction)) (pieces : List Piece) (n : ℕ) (piece : Piece)
+    → ArePieces config pods ticks evictions pieces → n < length pieces → piece ≡ get_or pieces n piece
+    → (pod : PodSpec) × (n < length pods) × (pod ≡ get_or pods n pod) × (piece ≡ piece_after config ticks evictions n pod)
+piece_here config pods ticks evictions pieces n piece are lt is =
+    let many : length pieces ≡ length pods = are.as_many in
+    let pod = at_place pods n (omega arith) in
+    let here : Some piece ≡ Some (piece_after config ticks evictions n pod.0) = sym (found pieces n piece lt is) ∙ are.each n pod.0 pod.1 in
+    (pod.0, omega arith, sym (slice_get-get_or pods n pod.0 pod.0 pod.1), let same : piece ≡ piece_after config ticks evictions n pod.0 = cc in same)
+  where
+    found : (xs : List Piece) (k : ℕ) (x : Piece) → k < length xs → x ≡ get_or xs k x → slice_get xs k ≡ Some x
+    found [] k x lt e = absurd (omega arith)
+    found (y ∷ xs) zero x lt e = ap (λ (p : Piece). Some p) (sym e)
+    found (y ∷ xs) (suc k) x lt e = found xs k x (omega arith) e
+
+    slice_get-get_or : (xs : List PodSpec) (k : ℕ) (x d : PodSpec) → slice_get xs k ≡ Some x → get_or xs k d ≡ x
+    slice_get-get_or [] k x d e = absurd (cc)
+    slice_get-get_or (y ∷ xs) zero x d e = cc
+    slice_get-get_or (y ∷ xs) (suc k) x d e = slice_get-get_or xs k x d e
+
+pub whole_report : (config : NodeConfig) (ticks : List TickObs) (evictions : List (Option Eviction)) (pods : List PodSpec) (pieces : List Piece) (n : ℕ) (bytes : List ℕ)
+    → ArePieces config pods ticks evictions pieces → n ≡ length pieces → AreLines ticks evictions (take n pods) bytes → AreLines ticks evictions pods bytes
+whole_report config ticks evictions pods pieces n bytes are all is =
+    let many : length pieces ≡ length pods = are.as_many in
+    subst (λ (ps : List PodSpec). AreLines ticks evictions ps bytes) (take_all n pods (omega arith)) is
+
+-- a halted node is after no ticks
+pub halted : (config : NodeConfig) (pods : List PodSpec) (ticks : List TickObs) (one : Option State) → one ≡ None → IsAfter config pods ticks one → ⊥
+halted config pods ticks None is after = after
+halted config pods ticks (Some s) is after = absurd (cc)
+
+-- the same with what the code has of the tick
+pub so_far_next : (config : NodeConfig) (pods : List PodSpec) (ticks before rest next : List TickObs) (arrived : ℕ) (left : List PodSpec) (old : Option State)
+    → rest ≡ next → IsSoFar config pods ticks before rest arrived left old → IsSoFar config pods ticks before next arrived left old
+so_far_next config pods ticks before rest next arrived left old is s = subst (λ (ts : List TickObs). IsSoFar config pods ticks before ts arrived left old) is s
+
+abbrev pub Arrive : NodeConfig → Option State → Option State → List PodSpec → Type 0
+Arrive config old new arriving = (ps : List PodSpec) (ts : List TickObs) → IsAfter config ps ts old → IsAfter config (ps ++ arriving) ts new
+
+pub may_take_shown : (config : NodeConfig) (pods : List PodSpec) (ticks before : List TickObs) (tick : TickObs) (rest : List TickObs) (shown : List PodObs) (arrived : ℕ) (left : List PodSpec) (old new : Option State)
+    → AreReplayable pods ticks → IsSoFar config pods ticks before (tick ∷ rest) arrived left old → shown ≡ tick.pods
+    → Arrive config old new (take (length shown - arrived) left) → MayTake new tick
+may_take_shown config pods ticks before tick rest shown arrived left old new may s is arrives =
+    may_take_next config pods ticks before tick rest arrived left old new may s
+    (subst (λ (os : List PodObs). Arrive config old new (take (length os - arrived) left)) is arrives)
+
+pub one_more_shown : (config : NodeConfig) (pods : List PodSpec) (ticks before : List TickObs) (tick : TickObs) (rest : List TickObs) (shown : List PodObs) (arrived : ℕ) (left left' : List PodSpec) (old mid new : Option State)
+    → AreReplayable pods ticks → IsSoFar config pods ticks before (tick ∷ rest) arrived left old → shown ≡ tick.pods
+    → Arrive config old mid (take (length shown - arrived) left) → left' ≡ drop (length shown - arrived) left
+    → ((ps : List PodSpec) (ts : List TickObs) → IsAfter config ps ts mid → IsAfter config ps (ts ++ tick ∷ []) new)
+    → IsSoFar config pods ticks (before ++ tick ∷ []) rest (length shown) left' new
+one_more_shown config pods ticks before tick rest shown arrived left left' old mid new may s is arrives left_is takes =
+    subst (λ (os : List PodObs). IsSoFar config pods ticks (before ++ tick ∷ []) rest (length os) left' new) (sym is)
+    (one_more config pods ticks before tick rest arrived left left' old mid new may s
+    (subst (λ (os : List PodObs). Arrive config old mid (take (length os - arrived) left)) is arrives)
+    (subst (λ (os : List PodObs). left' ≡ drop (length os - arrived) left) is left_is) takes)
