@@ -27,7 +27,7 @@ use Rattle.probes.specs.Ticks.{Tick as ProbeTick, HasPassed as PassesBy}
 use Rattle.probes.specs.Container.{AreInRange, IsKillOrdered as IsOrderedBy}
 use Rattle.probes.proofs.Counted.{passed_lasts}
 use Rattle.probes.proofs.Kills.{kill_lasts}
-use Rattle.probes.proofs.Decided.{passed_or_not, kill_or_not}
+use Rattle.probes.proofs.Decided.{has_passed_or_not, kill_or_not}
 use Rattle.restarts.specs.Exits.{Exit}
 use Rattle.restarts.specs.Delays.{IsDelay, IsDue}
 use Rattle.restarts.proofs.LawLemmas.{one_delay}
@@ -152,7 +152,7 @@ passes_or_not : (startup : Option Probe) (h : List ContainerTick) (t a : ℕ) �
 passes_or_not startup h t a = given_or_not _ (λ probe. comes_or_not (HasPassed probe a) (passed probe) h t) startup
   where
     passed : (probe : Probe) (k : List ContainerTick) → OrNot (HasPassed probe a k)
-    passed probe k = says_or_not (PassesBy probe) (passed_or_not probe) k a
+    passed probe k = says_or_not (PassesBy probe) (has_passed_or_not probe) k a
 
 passed_one : (spec : ContainerSpec) (h : List ContainerTick) (x : ContainerTick) (v w : What)
     → Passes spec (h ++ x ∷ []) (length h) v

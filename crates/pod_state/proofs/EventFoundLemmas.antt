@@ -5,7 +5,7 @@ use Rattle.std.specs.Prelude.{All, slice_get, unwrap_or}
 use Rattle.std.proofs.lemmas.Option.{get_or_from_slice_get}
 use Rattle.histories.specs.Histories.{recorded}
 use Rattle.histories.proofs.Decide.{OrNot}
-use Rattle.histories.proofs.Found.{list_of}
+use Rattle.histories.proofs.Found.{given_at, list_of}
 use Rattle.histories.proofs.Places.{length-project}
 use Rattle.manifest.specs.declared.pod.ContainerSpec.{ContainerSpec}
 use Rattle.manifest.specs.declared.pod.PodSpec.{PodSpec}
@@ -24,7 +24,7 @@ use Rattle.pod_state.specs.Events.{IsMadeOf, ChangesPhase, AreNews, events_from,
 use Rattle.pod_state.specs.Laws.{SomeListOfEvents}
 use Rattle.pod_state.proofs.TickLemmas.{of_spec, ticks_more}
 use Rattle.pod_state.proofs.EndLemmas.{raw_unique, IsPhase-unique}
-use Rattle.pod_state.proofs.FoundLemmas.{given_at, some_raw_phase, some_end, some_phase}
+use Rattle.pod_state.proofs.FoundLemmas.{some_raw_phase, some_end, some_phase}
 
 -- what the tick makes of a container
 made_of : (pod : PodSpec) (greatest : ℕ) (before : List PodTick) (tick : PodTick) (number : ℕ) (spec : ContainerSpec)

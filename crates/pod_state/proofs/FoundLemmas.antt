@@ -1,13 +1,13 @@
 -- Of every history of a pod there are the views of its containers, its end, its phase and conditions,
 -- and the statuses of its containers.
-use Rattle.std.proofs.Common.{◌≡◌, inl, inr, ℕ, zero, suc, ◌<◌, List, [], ◌∷◌, length, Option, Some, None, refl}
-use Rattle.std.proofs.Common.{subst, arith}
+use Rattle.std.proofs.Common.{◌≡◌, inl, inr, ℕ, suc, ◌<◌, List, [], ◌∷◌, length, Option, Some, None, refl}
+use Rattle.std.proofs.Common.{subst}
 use Rattle.std.specs.Prelude.{slice_get}
 use Rattle.std.proofs.lemmas.Bool.{cases_eq}
 use Rattle.std.proofs.lemmas.Option.{same_Some}
 use Rattle.histories.specs.Histories.{IsSo}
 use Rattle.histories.proofs.Decide.{OrNot, negated, either, all_three, implied, test_of, given_or_not}
-use Rattle.histories.proofs.Found.{all_below, first_so, so_or_not, transition_of, list_of}
+use Rattle.histories.proofs.Found.{all_below, first_so, so_or_not, transition_of, given_at, list_of}
 use Rattle.manifest.specs.declared.pod.PodSpec.{PodSpec}
 use Rattle.phase.specs.declared.phase.Phase.{Phase}
 use Rattle.phase.specs.declared.phase.Phase.TheVariants.{Pending, Failed}
@@ -29,12 +29,6 @@ use Rattle.pod_state.proofs.TickLemmas.{of_spec, within}
 use Rattle.pod_state.proofs.ViewLemmas.{initialized_after}
 use Rattle.pod_state.proofs.EndLemmas.{IsEnd-unique, raw_unique, terminal_cases}
 use Rattle.pod_state.proofs.LawLemmas.{one_raw_phase}
-
--- the specification of a container of the pod
-pub given_at : {A : Type 0} (xs : List A) (k : ℕ) → k < length xs → (x : A) × (slice_get xs k ≡ Some x)
-given_at [] k lt = absurd (omega arith)
-given_at (x ∷ xs) zero lt = (x, refl)
-given_at (x ∷ xs) (suc k) lt = given_at xs k (omega arith)
 
 -- the views
 view_at : (pod : PodSpec) (h : List PodTick) (k : ℕ) → k < length pod.containers

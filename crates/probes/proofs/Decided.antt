@@ -92,12 +92,12 @@ fails_within_or_not f results = elim (both (at_most_or_not f (length results)) a
     all = all_below _ (λ k. result_or_not Failure failure_or_not (slice_get results k)) f
 
 -- the startup probe has passed, or not
-pub passed_or_not : (probe : Probe) (start : ℕ) (ticks : List Tick) → OrNot (HasPassed probe start ticks)
-passed_or_not probe start ticks = passes_or_not probe.failure_threshold (startup_results probe start ticks)
+pub has_passed_or_not : (probe : Probe) (start : ℕ) (ticks : List Tick) → OrNot (HasPassed probe start ticks)
+has_passed_or_not probe start ticks = passes_or_not probe.failure_threshold (startup_results probe start ticks)
 
 pub started_or_not : (startup : Option Probe) (start : ℕ) (ticks : List Tick) → OrNot (IsStarted startup start ticks)
 started_or_not None start ticks = inl tt
-started_or_not (Some probe) start ticks = passed_or_not probe start ticks
+started_or_not (Some probe) start ticks = has_passed_or_not probe start ticks
 
 startup_failed_or_not : (startup : Option Probe) (start : ℕ) (ticks : List Tick)
     → OrNot (HasStartupFailed startup start ticks)
