@@ -6,6 +6,7 @@ use Rattle.manifest.specs.declared.fault.ManifestFault.TheVariants.{Missing}
 use Rattle.manifest.specs.declared.fault.Field.TheVariants as fields
 use Rattle.manifest.specs.declared.pod.PodSpec.{PodSpec}
 use Rattle.manifest.specs.Manifest.{pod_at}
+use Rattle.json_fields.specs.Reading.{◌>>=◌, some_or}
 use Rattle.name_list.specs.Names.{place_of}
 use Rattle.trace.specs.declared.fault.FaultKind.{FaultKind}
 use Rattle.trace.specs.declared.fault.FaultKind.TheVariants.{Manifest}
@@ -32,7 +33,10 @@ abbrev pub of_manifest : {A : Type 0} → Result A ManifestFault → Result A Fa
 of_manifest (Ok x) = Ok x
 of_manifest (Err fault) = Err (Manifest fault)
 
--- the pod that the line's manifest describes
+-- the line's manifest
+abbrev pub manifest_of : Option Data → Result Data FaultKind
+manifest_of found = some_or (Manifest (Missing fields.Pod)) found
+
+-- the pod that it describes
 abbrev pub pod_from : Option Data → Result PodSpec FaultKind
-pod_from None = Err (Manifest (Missing fields.Pod))
-pod_from (Some d) = of_manifest (pod_at d)
+pod_from found = manifest_of found >>= λ d. of_manifest (pod_at d)

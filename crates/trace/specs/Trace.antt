@@ -16,6 +16,8 @@ use Rattle.node_config.specs.declared.node.Version.TheVariants.{One, Two}
 use Rattle.trace.specs.declared.past.Trace.{Trace}
 use Rattle.trace.specs.declared.past.LineKind.{LineKind}
 use Rattle.trace.specs.declared.past.LineKind.TheVariants as kinds
+use Rattle.trace.specs.declared.past.Turn.{Turn}
+use Rattle.trace.specs.declared.past.Turn.TheVariants as turns
 use Rattle.trace.specs.Lines.{lines_of, is_blank, longest_line}
 use Rattle.trace.specs.Written.{node_in}
 use Rattle.trace.specs.Pod.{key_of_pod, has_key, most_pods, pod_from}
@@ -32,6 +34,10 @@ kind_from (Some s) =
     if bytes_eq s (codes "node") then Some kinds.Node
     else (if bytes_eq s (codes "pod") then Some kinds.Pod
     else (if bytes_eq s (codes "tick") then Some kinds.Tick else None))
+
+-- the kind that a line says it is of
+abbrev pub kind_of_line : Data → Result LineKind FaultKind
+kind_of_line d = some_or UnknownKind (kind_from (text_at (codes "kind") d))
 
 unfoldable pub with_node : Past → Data → Result Past FaultKind
 with_node past d = do
@@ -55,13 +61,21 @@ pod_line_at version past d = do
   with_new_pod past pod
 
 -- a node line stands first, and nowhere else
+abbrev pub turn_of : Option Version → LineKind → Result Turn FaultKind
+turn_of None kinds.Node = Ok turns.Node
+turn_of None kinds.Pod = Err Order
+turn_of None kinds.Tick = Err Order
+turn_of (Some version) kinds.Node = Err Order
+turn_of (Some version) kinds.Pod = Ok (turns.Pod version)
+turn_of (Some version) kinds.Tick = Ok turns.Tick
+
+abbrev pub in_turn : Past → Turn → Data → Result Past FaultKind
+in_turn past turns.Node d = with_node past d
+in_turn past (turns.Pod version) d = pod_line_at version past d
+in_turn past turns.Tick d = tick_at past d
+
 abbrev pub in_order : Option Version → Past → LineKind → Data → Result Past FaultKind
-in_order None past kinds.Node d = with_node past d
-in_order None past kinds.Pod d = Err Order
-in_order None past kinds.Tick d = Err Order
-in_order (Some version) past kinds.Node d = Err Order
-in_order (Some version) past kinds.Pod d = pod_line_at version past d
-in_order (Some version) past kinds.Tick d = tick_at past d
+in_order version past line_kind d = turn_of version line_kind >>= λ turn. in_turn past turn d
 
 abbrev pub line_length : List ℕ → Result ⊤ FaultKind
 line_length line = refused_if (nat_lt longest_line (length line)) TooLong
@@ -71,7 +85,7 @@ unfoldable pub line_at : Past → List ℕ → Result Past FaultKind
 line_at past line = do
   short ← line_length line
   d ← json_of line
-  line_kind ← some_or UnknownKind (kind_from (text_at (codes "kind") d))
+  line_kind ← kind_of_line d
   in_order (version_in past) past line_kind d
 
 abbrev pub at_line : {A : Type 0} → ℕ → Result A FaultKind → Result A LineFault

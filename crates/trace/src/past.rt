@@ -3,7 +3,7 @@
 use following::Following;
 use manifest::PodSpec;
 use name_list::NameList;
-use node_config::NodeConfig;
+use node_config::{NodeConfig, Version};
 use observations::TickObs;
 use sequence::Sequence;
 use std::marker::Model;
@@ -13,6 +13,15 @@ use std::marker::Model;
 pub(crate) enum LineKind {
     Node,
     Pod,
+    Tick,
+}
+
+/// As what a line is taken that may stand where it does.
+#[derive(Clone, Copy)]
+pub(crate) enum Turn {
+    Node,
+    /// A pod line, in a text of this version.
+    Pod(Version),
     Tick,
 }
 

@@ -5,7 +5,7 @@ ghost use Rattle.serde_json.specs.View.{view};
 ghost use Rattle.json_fields.specs.Reading.{refused_if};
 ghost use Rattle.name_list.specs.Names.{place_of};
 ghost use Rattle.trace.specs.Gives.{Gives, GivesExactly};
-ghost use Rattle.trace.specs.Pod.{key_of_pod, keys_of, most_pods, has_key, pod_from};
+ghost use Rattle.trace.specs.Pod.{key_of_pod, keys_of, most_pods, has_key, manifest_of, pod_from};
 
 use crate::fault::{FaultKind, refused_if};
 use crate::past::Reader;
@@ -14,18 +14,22 @@ use name_list::NameList;
 use serde_json::Value;
 use std::alloc::{AllocError, Global};
 
+/// The manifest of a pod line.
+fn manifest_of(found: Option<&Value>) -> Result<&Value, FaultKind>
+    ensures { GivesExactly (λ v. view v.now) result (manifest_of (option_map (λ v. view v.now) found.entry)) }
+{
+    match found {
+        None => Err(FaultKind::Manifest(ManifestFault::Missing(Field::Pod))),
+        Some(value) => Ok(value),
+    }
+}
+
 /// The pod that a pod line's manifest describes.
 pub(crate) fn pod_in(alloc: Global, found: Option<&Value>) -> Result<PodSpec, FaultKind>
     ensures { Gives (λ p. p) result (pod_from (option_map (λ v. view v.now) found.entry)) }
 {
-    let Some(value) = found else {
-        return Err(FaultKind::Manifest(ManifestFault::Missing(Field::Pod)));
-    };
-    match PodSpec::from_value(alloc, value) {
-        Ok(pod) => Ok(pod),
-        Err(ManifestFault::OutOfMemory) => Err(FaultKind::OutOfMemory),
-        Err(fault) => Err(FaultKind::Manifest(fault)),
-    }
+    let manifest = manifest_of(found)?;
+    Ok(PodSpec::from_value(alloc, manifest)?)
 }
 
 /// A pod's key.

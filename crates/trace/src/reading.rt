@@ -1,19 +1,19 @@
 //! Reading a whole trace.
 
-ghost use Rattle.serde_json.specs.Errors.{IsMemory};
-ghost use Rattle.std.specs.Prelude.{◌≡◌, ◌⊎◌, [], option_map, None, Ok, IfOk, string_bytes};
+ghost use Rattle.std.specs.Prelude.{◌≡◌, [], option_map, None, Ok, IfOk, string_bytes};
 ghost use Rattle.serde_json.specs.View.{view};
-ghost use Rattle.trace.specs.Gives.{Gives, GivesAt, GivesExactly};
+ghost use Rattle.trace.specs.Gives.{Gives, GivesAt, GivesExactly, GivesExactlyAt};
 ghost use Rattle.name_list.specs.Names.{place_of};
 ghost use Rattle.trace.specs.Written.{node_in};
 ghost use Rattle.trace.specs.Past.{version_in, with_pod};
 ghost use Rattle.trace.specs.Pod.{key_of_pod, keys_of};
 ghost use Rattle.trace.specs.Sound.{AreAcceptable, AreRising, HasShape};
-ghost use Rattle.trace.specs.Trace.{json_of, kind_from, with_node, with_new_pod, is_late, pod_line_at, line_length, line_at, trace_of, finished, in_order};
+ghost use Rattle.trace.specs.Trace.{json_of, kind_from, kind_of_line, with_node, with_new_pod, is_late, pod_line_at};
+ghost use Rattle.trace.specs.Trace.{line_length, line_at, trace_of, finished, turn_of, in_order};
 
 use crate::fault::{FaultKind, LineFault, refused_if};
 use crate::lines::{first_line, is_blank};
-use crate::past::{LineKind, Reader, Trace};
+use crate::past::{LineKind, Reader, Trace, Turn};
 use crate::pod::{new_key, pod_in, room_for_pod};
 use crate::tick::take_tick;
 use following::Following;
@@ -29,24 +29,10 @@ use std::alloc::Global;
 /// The most bytes of a line, 1 MiB.
 const LONGEST_LINE: usize = 1_048_576;
 
-/// What an error in a line's JSON means.
-fn json_fault(error: &serde_json::Error) -> FaultKind
-    ensures { (IsMemory error.now × (result ≡ FaultKind.OutOfMemory)) ⊎ ((IsMemory error.now → ⊥) × (result ≡ FaultKind.NotJson)) }
-{
-    if error.is_memory() {
-        FaultKind::OutOfMemory
-    } else {
-        FaultKind::NotJson
-    }
-}
-
 fn json(alloc: Global, line: &[u8]) -> Result<Value, FaultKind>
     ensures { Gives view result (json_of line.now) }
 {
-    match Value::from_slice(alloc, line) {
-        Ok(value) => Ok(value),
-        Err(e) => Err(json_fault(&e)),
-    }
+    Ok(Value::from_slice(alloc, line)?)
 }
 
 fn kind_from(kind: Option<&str>) -> Option<LineKind>
@@ -57,6 +43,16 @@ fn kind_from(kind: Option<&str>) -> Option<LineKind>
         Some("pod") => Some(LineKind::Pod),
         Some("tick") => Some(LineKind::Tick),
         _ => None,
+    }
+}
+
+/// The kind that a line says it is of.
+fn kind_of_line(line: &Value) -> Result<LineKind, FaultKind>
+    ensures { GivesExactly (λ k. k) result (kind_of_line (view line.now)) }
+{
+    match kind_from(text_at(line, "kind")) {
+        None => Err(FaultKind::UnknownKind),
+        Some(line_kind) => Ok(line_kind),
     }
 }
 
@@ -163,6 +159,18 @@ fn version_in(reader: &Reader) -> Option<Version>
     }
 }
 
+/// Whether a line of the kind may stand after a node line of the version, or as the first line.
+fn turn_of(version: Option<Version>, line_kind: LineKind) -> Result<Turn, FaultKind>
+    ensures { GivesExactly (λ t. t) result (turn_of version line_kind) }
+{
+    match (version, line_kind) {
+        (None, LineKind::Node) => Ok(Turn::Node),
+        (Some(version), LineKind::Pod) => Ok(Turn::Pod(version)),
+        (Some(_), LineKind::Tick) => Ok(Turn::Tick),
+        _ => Err(FaultKind::Order),
+    }
+}
+
 fn take_in_order(
     alloc: Global,
     reader: Reader,
@@ -171,11 +179,10 @@ fn take_in_order(
 ) -> Result<Reader, FaultKind>
     ensures { Gives (λ r. r) result (in_order (version_in reader) reader line_kind (view line.now)) }
 {
-    match (version_in(&reader), line_kind) {
-        (None, LineKind::Node) => take_node(alloc, reader, line),
-        (Some(version), LineKind::Pod) => take_pod(alloc, version, reader, line),
-        (Some(_), LineKind::Tick) => take_tick(alloc, reader, line),
-        _ => Err(FaultKind::Order),
+    match turn_of(version_in(&reader), line_kind)? {
+        Turn::Node => take_node(alloc, reader, line),
+        Turn::Pod(version) => take_pod(alloc, version, reader, line),
+        Turn::Tick => take_tick(alloc, reader, line),
     }
 }
 
@@ -191,14 +198,12 @@ fn take_line(alloc: Global, reader: Reader, line: &[u8]) -> Result<Reader, Fault
 {
     line_length(line)?;
     let value = json(alloc, line)?;
-    let Some(line_kind) = kind_from(text_at(&value, "kind")) else {
-        return Err(FaultKind::UnknownKind);
-    };
+    let line_kind = kind_of_line(&value)?;
     take_in_order(alloc, reader, line_kind, &value)
 }
 
 fn finished(line: u64, reader: Reader) -> Result<Trace, LineFault>
-    ensures { GivesAt (λ t. t) result (finished line reader reader.node) }
+    ensures { GivesExactlyAt (λ t. t) result (finished line reader reader.node) }
 {
     let Reader {
         node,

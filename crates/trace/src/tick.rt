@@ -19,7 +19,7 @@ use crate::past::Reader;
 use crate::placing::{
     PlacedEntry, PlacedListing, PlacedResult, is_doubled, is_of_probe, placed_entries, pod_numbers,
 };
-use following::{FollowError, Following};
+use following::Following;
 use json_fields::field;
 use manifest::{ContainerSpec, Outcome, PodSpec, ProbeKind};
 use observations::{ContainerObs, PodObs, TickObs, Usage, UsageSample};
@@ -261,11 +261,7 @@ fn following_after(alloc: Global, reader: &Reader, tick: &TickObs) -> Result<Fol
     ensures gives { Gives (λ _. tt) result (refused_if (is_backwards reader.now.ticks tick.now) FaultKind.Backwards) }
     ensures followed { IfOk result (λ f. HasFollowed (reader.now.ticks ++ tick.now ∷ []) (container_counts reader.now.pods) f) }
 {
-    match reader.following.with_tick(alloc, tick) {
-        Ok(following) => Ok(following),
-        Err(FollowError::Backwards) => Err(FaultKind::Backwards),
-        Err(FollowError::OutOfMemory) => Err(FaultKind::OutOfMemory),
-    }
+    Ok(reader.following.with_tick(alloc, tick)?)
 }
 
 /// The tick, checked against the earlier ticks, and what follows the containers after it.
