@@ -1,11 +1,11 @@
 -- Which fault a node line answers.
 use Rattle.std.proofs.Common.{◌≡◌, ◌⊎◌, inl, inr, ℕ, false, List, Option, Some, None, Result, Ok, Err, refl, ap, ◌∙◌}
-use Rattle.std.specs.Prelude.{not, option_and_then, codes}
+use Rattle.std.specs.Prelude.{option_and_then, codes}
 use Rattle.serde_json.specs.Data.{Data}
 use Rattle.serde_json.specs.Find.{as_bool, as_str}
 use Rattle.json_fields.specs.Fields.{field_at, text_at}
 use Rattle.json_fields.specs.Reading.{◌>>=◌, some_or}
-use Rattle.json_fields.proofs.Only.{Only, only_ok, only_err, only_bind, only_if, only_refused, only_some}
+use Rattle.json_fields.proofs.Only.{Only, only_ok, only_err, only_bind, only_if, only_some}
 use Rattle.manifest.specs.Names.{is_name}
 use Rattle.manifest.specs.RestartDelay.{most_max_delay, max_delay_of}
 use Rattle.quantity.specs.Duration.{duration_of}
@@ -15,7 +15,6 @@ use Rattle.quantity.specs.declared.limit.Limit.TheVariants.{Quantity}
 use Rattle.quantity_fields.specs.Fields.{quantity_in, limit_in}
 use Rattle.signals.specs.declared.by_signal.BySignal.{BySignal}
 use Rattle.signals.specs.declared.signal.Signal.{Signal}
-use Rattle.signals.specs.declared.signal.Signal.TheVariants.{MemoryAvailable, NodefsAvailable, ImagefsAvailable, NodefsInodesFree, ImagefsInodesFree, PidAvailable}
 use Rattle.signals.specs.BySignal.{of}
 use Rattle.node_config.specs.declared.node.Version.TheVariants.{One, Two}
 use Rattle.node_lines.specs.declared.eviction.Written.{Written}
@@ -23,7 +22,9 @@ use Rattle.node_lines.specs.declared.fault.NodeFault.{NodeFault}
 use Rattle.node_lines.specs.declared.fault.NodeFault.TheVariants.{Config, SoftWithoutGrace}
 use Rattle.node_lines.specs.Laws.{held, LacksGrace, MissingGraceComesLast}
 use Rattle.node_lines.specs.Limits.{has_capacity, is_off, with_capacity, limit_at, reclaim_at, default_limits, hard_limits}
-use Rattle.node_lines.specs.Maps.{is_signal_map, in_map, read_each, map_of, or_config, duration_from, duration_at, quantity_at}
+use Rattle.node_lines.specs.Maps.{map_of, or_config, duration_from, duration_at, quantity_at}
+use Rattle.signal_maps.specs.declared.scope.Scope.TheVariants.{Node}
+use Rattle.signal_maps.proofs.Refused.{each_only, map_only, bind_err, each_err}
 use Rattle.node_lines.specs.Node.{whole_number, version_named, version_of, name_from, restart_delay_of, flag_of, few_seconds, seconds_of, or_default, settings_in, node_of}
 use Rattle.node_lines.specs.Thresholds.{soft_threshold, written_over, written_in, soft_thresholds, eviction_from}
 use Rattle.node_lines.proofs.LawLemmas.{IsWritten, limit_read, in_read, soft_limit_of, grace_of}
@@ -39,20 +40,9 @@ config_only (Err fault) = only_err IsConfig Config refl
 some_only : {A : Type 0} (found : Option A) → Only IsConfig (some_or Config found)
 some_only found = only_some IsConfig Config found refl
 
-each_only : {A : Type 0} (P : NodeFault → Type 0) (read : Signal → Result A NodeFault) → ((signal : Signal) → Only P (read signal)) → Only P (read_each read)
-unfolding read_each
-each_only P read one =
-    only_bind P _ _ (one MemoryAvailable) (λ a.
-    only_bind P _ _ (one NodefsAvailable) (λ b.
-    only_bind P _ _ (one ImagefsAvailable) (λ c.
-    only_bind P _ _ (one NodefsInodesFree) (λ d.
-    only_bind P _ _ (one ImagefsInodesFree) (λ f.
-    only_bind P _ _ (one PidAvailable) (λ g. only_ok P _))))))
-
-map_only : {A : Type 0} (read : Signal → Option Data → Result A NodeFault) (found : Option Data) → ((signal : Signal) (d : Option Data) → Only IsConfig (read signal d)) → Only IsConfig (map_of read found)
-unfolding map_of
-map_only read found one =
-    only_bind IsConfig _ _ (only_refused IsConfig (not (is_signal_map found)) Config refl) (λ alone. each_only IsConfig (λ s. read s (in_map found s)) (λ s. one s (in_map found s)))
+map_config : {A : Type 0} (read : Signal → Option Data → Result A NodeFault) (found : Option Data)
+    → ((signal : Signal) (d : Option Data) → Only IsConfig (read signal d)) → Only IsConfig (map_of read found)
+map_config read found one = map_only IsConfig Node Config read found refl one
 
 quantity_only : (found : Option Data) → Only IsConfig (quantity_at found)
 quantity_only None = only_ok IsConfig None
@@ -80,20 +70,20 @@ reclaim_only capacity (Some d) = only_bind IsConfig _ _ (config_only (limit_in d
 
 hard_only : (capacity : BySignal (Option ℕ)) (found : Option Data) → Only IsConfig (hard_limits capacity found)
 hard_only capacity None = only_ok IsConfig (default_limits capacity)
-hard_only capacity (Some d) = map_only (λ s. limit_at (of capacity s)) (Some d) (λ s. limit_only (of capacity s))
+hard_only capacity (Some d) = map_config (λ s. limit_at (of capacity s)) (Some d) (λ s. limit_only (of capacity s))
 
 over_only : (capacity : BySignal (Option ℕ)) (d : Data) → Only IsConfig (written_over capacity d)
 unfolding written_over
 over_only capacity d =
     let P = IsConfig in
     only_bind P _ _ (hard_only capacity (field_at (codes "evictionHard") d)) (λ hard.
-    only_bind P _ _ (map_only (λ s. limit_at (of capacity s)) (field_at (codes "evictionSoft") d) (λ s. limit_only (of capacity s))) (λ soft.
-    only_bind P _ _ (map_only (λ s. duration_at) (field_at (codes "evictionSoftGracePeriod") d) (λ s. duration_only)) (λ graces.
-    only_bind P _ _ (map_only (λ s. reclaim_at (of capacity s)) (field_at (codes "evictionMinimumReclaim") d) (λ s. reclaim_only (of capacity s))) (λ reclaims. only_ok P _))))
+    only_bind P _ _ (map_config (λ s. limit_at (of capacity s)) (field_at (codes "evictionSoft") d) (λ s. limit_only (of capacity s))) (λ soft.
+    only_bind P _ _ (map_config (λ s. duration_at) (field_at (codes "evictionSoftGracePeriod") d) (λ s. duration_only)) (λ graces.
+    only_bind P _ _ (map_config (λ s. reclaim_at (of capacity s)) (field_at (codes "evictionMinimumReclaim") d) (λ s. reclaim_only (of capacity s))) (λ reclaims. only_ok P _))))
 
 written_only : (d : Data) → Only IsConfig (written_in d)
 unfolding written_in
-written_only d = only_bind IsConfig _ _ (map_only (λ s. quantity_at) (field_at (codes "capacity") d) (λ s. quantity_only)) (λ capacity. over_only capacity d)
+written_only d = only_bind IsConfig _ _ (map_config (λ s. quantity_at) (field_at (codes "capacity") d) (λ s. quantity_only)) (λ capacity. over_only capacity d)
 
 named_only : (found : Option ℕ) → Only IsConfig (version_named found)
 named_only None = only_err IsConfig Config refl
@@ -136,35 +126,6 @@ passed (Err other) f only e =
     let same : other ≡ SoftWithoutGrace = cc in
     let config : other ≡ Config = only.has other refl in
     absurd (cc)
-
-bind_err : {A B E : Type 0} (r : Result A E) (f : A → Result B E) (fault : E) → (r >>= f) ≡ Err fault → (r ≡ Err fault) ⊎ ((x : A) × (r ≡ Ok x) × (f x ≡ Err fault))
-bind_err (Ok x) f fault e = inr (x, refl, e)
-bind_err {A = A} {E = E} (Err other) f fault e =
-    let same : other ≡ fault = cc in
-    let refused : E → Result A E = λ x. Err x in
-    inl (ap refused same)
-
-each_err : {A : Type 0} (read : Signal → Result A NodeFault) (fault : NodeFault) → read_each read ≡ Err fault → (signal : Signal) × (read signal ≡ Err fault)
-unfolding read_each
-each_err read fault e = elim (bind_err (read MemoryAvailable) _ fault e) [
-  | inl a ↦ (MemoryAvailable, a)
-  | inr a ↦ elim (bind_err (read NodefsAvailable) _ fault a.2) [
-    | inl b ↦ (NodefsAvailable, b)
-    | inr b ↦ elim (bind_err (read ImagefsAvailable) _ fault b.2) [
-      | inl c ↦ (ImagefsAvailable, c)
-      | inr c ↦ elim (bind_err (read NodefsInodesFree) _ fault c.2) [
-        | inl d ↦ (NodefsInodesFree, d)
-        | inr d ↦ elim (bind_err (read ImagefsInodesFree) _ fault d.2) [
-          | inl f ↦ (ImagefsInodesFree, f)
-          | inr f ↦ elim (bind_err (read PidAvailable) _ fault f.2) [
-            | inl g ↦ (PidAvailable, g)
-            | inr g ↦ let last = g.2 in absurd (cc)
-          ]
-        ]
-      ]
-    ]
-  ]
-]
 
 soft_lacks : (limit : Option Limit) (reclaim : Limit) (grace : Option ℕ) (fault : NodeFault) → soft_threshold limit reclaim grace ≡ Err fault → (l : Limit) × (limit ≡ Some l) × (grace ≡ None)
 soft_lacks None reclaim grace fault e = absurd (cc)

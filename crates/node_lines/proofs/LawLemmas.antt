@@ -1,10 +1,10 @@
 -- What is known of the thresholds of an accepted node line.
 use Rattle.std.proofs.Common.{◌≡◌, inl, inr, ℕ, Bool, true, false, List, Option, Some, None, Result, Ok, Err, refl, sym, subst, ◌∙◌, ap}
-use Rattle.std.specs.Prelude.{not, option_and_then, unwrap_or, if◌then◌else◌, codes}
+use Rattle.std.specs.Prelude.{option_and_then, unwrap_or, if◌then◌else◌, codes}
 use Rattle.serde_json.specs.Data.{Data}
 use Rattle.serde_json.specs.Find.{as_str}
 use Rattle.json_fields.specs.Fields.{field_at, text_at}
-use Rattle.json_fields.specs.Reading.{◌>>=◌, refused_if}
+use Rattle.json_fields.specs.Reading.{◌>>=◌}
 use Rattle.json_fields.proofs.Steps.{bind_ok}
 use Rattle.quantity.specs.Duration.{duration_of}
 use Rattle.quantity.specs.declared.fault.QuantityFault.{QuantityFault}
@@ -24,47 +24,19 @@ use Rattle.node_lines.specs.declared.fault.NodeFault.{NodeFault}
 use Rattle.node_lines.specs.declared.fault.NodeFault.TheVariants.{Config}
 use Rattle.node_lines.specs.Laws.{held, reclaim_written, SwitchesOff, DefaultsWhereNoneIsWritten, HardIsAsWritten, SoftIsAsWritten, OffSetsNoHard, OffSetsNoSoft}
 use Rattle.node_lines.specs.Limits.{has_capacity, is_off, with_capacity, limit_at, reclaim_at, default_limit, where_possible, default_limits, hard_limits}
-use Rattle.node_lines.specs.Maps.{is_signal_map, in_map, read_each, map_of, or_config, duration_from, duration_at, quantity_at}
+use Rattle.node_lines.specs.Maps.{map_of, or_config, duration_from, duration_at, quantity_at}
+use Rattle.signal_maps.specs.declared.scope.Scope.TheVariants.{Node}
+use Rattle.signal_maps.specs.Maps.{in_map}
+use Rattle.signal_maps.proofs.EachSignal.{each_read, map_read as read_from_map}
 use Rattle.node_lines.specs.Node.{name_from, settings_in, node_of}
 use Rattle.node_lines.specs.Thresholds.{hard_threshold, soft_threshold, written_over, written_in, hard_thresholds, soft_thresholds, eviction_from}
 
 ok_same : {A E : Type 0} (x y : A) → ◌≡◌ {A = Result A E} (Ok x) (Ok y) → x ≡ y
 ok_same x y e = cc
 
--- what was read for each signal was read for this one
-pub each_read : {A : Type 0} (read : Signal → Result A NodeFault) (all : BySignal A) → read_each read ≡ Ok all → (signal : Signal) → read signal ≡ Ok (of all signal)
-unfolding read_each
-each_read read all e signal =
-    let a = bind_ok (read MemoryAvailable) _ all e in
-    let b = bind_ok (read NodefsAvailable) _ all a.2 in
-    let c = bind_ok (read ImagefsAvailable) _ all b.2 in
-    let d = bind_ok (read NodefsInodesFree) _ all c.2 in
-    let f = bind_ok (read ImagefsInodesFree) _ all d.2 in
-    let g = bind_ok (read PidAvailable) _ all f.2 in
-    let same = ok_same {E = NodeFault} _ all g.2 in
-    let P : BySignal _ → Type 0 = λ values. read signal ≡ Ok (of values signal) in
-    subst P same (elim signal as (λ s. read s ≡ Ok (of (record {
-      memory_available = a.0;
-      nodefs_available = b.0;
-      imagefs_available = c.0;
-      nodefs_inodes_free = d.0;
-      imagefs_inodes_free = f.0;
-      pid_available = g.0;
-    }) s)) [
-      | MemoryAvailable ↦ a.1
-      | NodefsAvailable ↦ b.1
-      | ImagefsAvailable ↦ c.1
-      | NodefsInodesFree ↦ d.1
-      | ImagefsInodesFree ↦ f.1
-      | PidAvailable ↦ g.1
-    ])
-
-pub map_read : {A : Type 0} (read : Signal → Option Data → Result A NodeFault) (found : Option Data) (all : BySignal A) → map_of read found ≡ Ok all
-    → (signal : Signal) → read signal (in_map found signal) ≡ Ok (of all signal)
-unfolding map_of
-map_read read found all e signal =
-    let a = bind_ok (refused_if (not (is_signal_map found)) Config) _ all e in
-    each_read (λ s. read s (in_map found s)) all a.2 signal
+pub map_read : {A : Type 0} (read : Signal → Option Data → Result A NodeFault) (found : Option Data) (all : BySignal A)
+    → map_of read found ≡ Ok all → (signal : Signal) → read signal (in_map found signal) ≡ Ok (of all signal)
+map_read read found all e signal = read_from_map Node Config read found all e signal
 
 -- what stands in a limit that was read
 limit_kept : (capacity : Option ℕ) (limit kept : Limit) (off has : Bool)

@@ -1,3 +1,4 @@
+pub mod Capacities
 pub mod FaultLemmas
 pub mod LawLemmas
 pub mod Written

@@ -17,7 +17,7 @@ use Rattle.node_config.specs.declared.node.NodeConfig.{NodeConfig}
 use Rattle.node_config.specs.Eviction.{threshold_of}
 use Rattle.node_lines.specs.declared.fault.NodeFault.TheVariants.{SoftWithoutGrace}
 use Rattle.node_lines.specs.Limits.{default_limit, where_possible}
-use Rattle.node_lines.specs.Maps.{in_map}
+use Rattle.signal_maps.specs.Maps.{in_map}
 use Rattle.node_lines.specs.Node.{name_from, settings_in, node_of}
 use Rattle.node_lines.specs.Thresholds.{hard_threshold, written_in}
 

@@ -14,7 +14,8 @@ use Rattle.node_lines.specs.declared.eviction.Written.{Written}
 use Rattle.node_lines.specs.declared.fault.NodeFault.{NodeFault}
 use Rattle.node_lines.specs.declared.fault.NodeFault.TheVariants.{SoftWithoutGrace}
 use Rattle.node_lines.specs.Limits.{limit_at, reclaim_at, hard_limits, HaveTheirCapacity, ReclaimsHaveTheirCapacity}
-use Rattle.node_lines.specs.Maps.{read_each, map_of, quantity_at, duration_at}
+use Rattle.node_lines.specs.Maps.{map_of, quantity_at, duration_at}
+use Rattle.signal_maps.specs.Maps.{read_each}
 
 -- a hard threshold has no grace
 abbrev pub hard_threshold : Option Limit → Limit → Option Threshold

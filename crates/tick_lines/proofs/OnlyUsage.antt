@@ -1,28 +1,26 @@
 -- The one fault of a tick line by itself.
 use Rattle.std.proofs.Common.{◌≡◌, ℕ, Bool, List, [], Option, Some, None, Result, Ok, Err, refl}
 use Rattle.std.specs.Prelude.{◌^◌, is_some, if◌then◌else◌, option_and_then, nat_lt, codes}
-use Rattle.serde_json.specs.Data.{Data, Items, Members}
+use Rattle.serde_json.specs.Data.{Data, Items}
 use Rattle.serde_json.specs.Find.{as_str, as_number, as_u64, as_array, as_object}
 use Rattle.json_fields.specs.Fields.{field_at, text_at, items_list}
-use Rattle.json_fields.proofs.Only.{Only, only_ok, only_err, only_bind, only_if, only_refused, only_some, only_each}
+use Rattle.json_fields.proofs.Only.{Only, only_ok, only_err, only_bind, only_if, only_some, only_each}
 use Rattle.manifest.specs.declared.outcome.Outcome.TheVariants as outcomes
 use Rattle.manifest.specs.declared.outcome.ProbeKind.TheVariants as probes
 use Rattle.quantity_fields.specs.Fields.{quantity_in}
 use Rattle.quantity_fields.specs.declared.fault.FieldFault.{FieldFault}
-use Rattle.signals.specs.BySignal.{every}
-use Rattle.signals.specs.declared.signal.Signal.{Signal}
-use Rattle.signals.specs.declared.signal.Signal.TheVariants as signals
 use Rattle.state_diff.specs.declared.seen.CriState.TheVariants as states
 use Rattle.tick_lines.specs.declared.fault.TickLineFault.{TickLineFault}
 use Rattle.tick_lines.specs.declared.fault.TickLineFault.TheVariants.{Usage}
-use Rattle.tick_lines.specs.declared.samples.Scope.{Scope}
-use Rattle.tick_lines.specs.declared.samples.Scope.TheVariants.{Node, FileSystems}
+use Rattle.signal_maps.specs.declared.scope.Scope.{Scope}
+use Rattle.signal_maps.specs.declared.scope.Scope.TheVariants.{Node, FileSystems}
 use Rattle.tick_lines.specs.Fields.{items_from, items_of, only_object, held, quantity_at}
 use Rattle.tick_lines.specs.Listings.{attempt_from, attempt_of, state_named, state_numbered, state_from, state_of, instance_of, listing_of}
 use Rattle.tick_lines.specs.Results.{probe_named, outcome_named, result_of}
 use Rattle.tick_lines.specs.Usages.{usage_in, usage_of}
 use Rattle.tick_lines.specs.Entries.{entry_of, entries_of}
-use Rattle.tick_lines.specs.Samples.{names_other, only_signals_from, sample_of, samples_in, samples_of}
+use Rattle.signal_maps.proofs.Refused.{map_only}
+use Rattle.tick_lines.specs.Samples.{samples_of}
 use Rattle.tick_lines.specs.Line.{tick_line_of}
 use Rattle.tick_lines.specs.Laws.{OneKind}
 
@@ -131,27 +129,8 @@ entry_only d =
 pub entries_only : (found : Option Data) → Only IsUsageFault (entries_of found)
 entries_only found = only_bind IsUsageFault _ _ (items_only found) (only_each IsUsageFault entry_of entry_only)
 
-only_signals_only : (scope : Scope) (found : Option Members) → Only IsUsageFault (only_signals_from scope found)
-only_signals_only scope None = refused
-only_signals_only scope (Some members) = only_refused IsUsageFault (names_other scope members) Usage refl
-
-sample_only : (signal : Signal) (d : Data) → Only IsUsageFault (sample_of signal d)
-sample_only signal d = quantity_only _
-
-samples_in_only : (scope : Scope) (d : Data) → Only IsUsageFault (samples_in scope d)
-unfolding samples_in
-samples_in_only scope d =
-    only_bind IsUsageFault _ _ (only_signals_only scope (as_object d)) (λ known.
-    only_bind IsUsageFault _ _ (sample_only signals.MemoryAvailable d) (λ memory_available.
-    only_bind IsUsageFault _ _ (sample_only signals.NodefsAvailable d) (λ nodefs_available.
-    only_bind IsUsageFault _ _ (sample_only signals.ImagefsAvailable d) (λ imagefs_available.
-    only_bind IsUsageFault _ _ (sample_only signals.NodefsInodesFree d) (λ nodefs_inodes_free.
-    only_bind IsUsageFault _ _ (sample_only signals.ImagefsInodesFree d) (λ imagefs_inodes_free.
-    only_bind IsUsageFault _ _ (sample_only signals.PidAvailable d) (λ pid_available. only_ok IsUsageFault _)))))))
-
 pub samples_only : (scope : Scope) (found : Option Data) → Only IsUsageFault (samples_of scope found)
-samples_only scope None = only_ok IsUsageFault (every None)
-samples_only scope (Some d) = samples_in_only scope d
+samples_only scope found = map_only IsUsageFault scope Usage (λ signal. quantity_at) found refl (λ signal. quantity_only)
 
 line_only : (d : Data) → Only IsUsageFault (tick_line_of d)
 unfolding tick_line_of

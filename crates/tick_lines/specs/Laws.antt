@@ -15,7 +15,7 @@ use Rattle.tick_lines.specs.declared.fault.TickLineFault.TheVariants as faults
 use Rattle.tick_lines.specs.declared.line.TickLine.{TickLine}
 use Rattle.tick_lines.specs.declared.listing.Listing.{Listing}
 use Rattle.tick_lines.specs.declared.probing.ProbeResult.{ProbeResult}
-use Rattle.tick_lines.specs.declared.samples.Scope.{Scope}
+use Rattle.signal_maps.specs.declared.scope.Scope.{Scope}
 use Rattle.tick_lines.specs.Listings.{listing_of}
 use Rattle.tick_lines.specs.Results.{result_of}
 use Rattle.tick_lines.specs.Usages.{usage_in}
