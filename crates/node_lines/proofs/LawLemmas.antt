@@ -55,7 +55,7 @@ limit_read capacity None kept e = absurd (cc)
 limit_read capacity (Some d) kept e = limit_from capacity (limit_in d) kept e
 
 -- a limit that switches off is kept nowhere
-off_is : (limit : Limit) → SwitchesOff limit → is_off limit ≡ true
+pub off_is : (limit : Limit) → SwitchesOff limit → is_off limit ≡ true
 off_is limit is = elim is [
   | inl e ↦ rw e refl
   | inr e ↦ rw e refl
@@ -149,13 +149,13 @@ pub record IsMadeOf (limit : Option Limit) (reclaim : Limit) (grace : Option ℕ
   pub reclaim_is : reclaim ≡ threshold.reclaim
   pub grace_is : grace ≡ Some threshold.grace
 
-hard_made : (limit : Option Limit) (reclaim : Limit) (threshold : Threshold) → hard_threshold limit reclaim ≡ Some threshold → IsMadeOf limit reclaim (Some 0) threshold
+pub hard_made : (limit : Option Limit) (reclaim : Limit) (threshold : Threshold) → hard_threshold limit reclaim ≡ Some threshold → IsMadeOf limit reclaim (Some 0) threshold
 hard_made None reclaim threshold e = absurd (cc)
 hard_made (Some limit) reclaim threshold e =
     let same : record { limit = limit; reclaim = reclaim; grace = 0 } ≡ threshold = cc in
     subst (IsMadeOf (Some limit) reclaim (Some 0)) same (record { limit_is = refl; reclaim_is = refl; grace_is = refl })
 
-soft_made : (limit : Option Limit) (reclaim : Limit) (grace : Option ℕ) (threshold : Threshold) → soft_threshold limit reclaim grace ≡ Ok (Some threshold) → IsMadeOf limit reclaim grace threshold
+pub soft_made : (limit : Option Limit) (reclaim : Limit) (grace : Option ℕ) (threshold : Threshold) → soft_threshold limit reclaim grace ≡ Ok (Some threshold) → IsMadeOf limit reclaim grace threshold
 soft_made None reclaim grace threshold e = absurd (cc)
 soft_made (Some limit) reclaim None threshold e = absurd (cc)
 soft_made (Some limit) reclaim (Some grace) threshold e =
@@ -175,16 +175,16 @@ of_each f ImagefsInodesFree = refl
 of_each f PidAvailable = refl
 
 -- by the signal
-hard_of : (written : Written) (eviction : Eviction) (signal : Signal) → IsSet written eviction → hard_threshold (of written.hard signal) (of written.reclaims signal) ≡ of eviction.hard signal
+pub hard_of : (written : Written) (eviction : Eviction) (signal : Signal) → IsSet written eviction → hard_threshold (of written.hard signal) (of written.reclaims signal) ≡ of eviction.hard signal
 hard_of written eviction signal set =
     let f : Signal → Option Threshold = λ s. hard_threshold (of written.hard s) (of written.reclaims s) in
     sym (of_each f signal) ∙ ap (λ (all : BySignal (Option Threshold)). of all signal) set.hard
 
-soft_of : (written : Written) (eviction : Eviction) (signal : Signal) → IsSet written eviction
+pub soft_of : (written : Written) (eviction : Eviction) (signal : Signal) → IsSet written eviction
     → soft_threshold (of written.soft signal) (of written.reclaims signal) (of written.graces signal) ≡ Ok (of eviction.soft signal)
 soft_of written eviction signal set = each_read (λ s. soft_threshold (of written.soft s) (of written.reclaims s) (of written.graces s)) eviction.soft set.soft signal
 
-reclaim_of : (d : Data) (written : Written) (signal : Signal) → IsWritten d written → reclaim_written d signal ≡ of written.reclaims signal
+pub reclaim_of : (d : Data) (written : Written) (signal : Signal) → IsWritten d written → reclaim_written d signal ≡ of written.reclaims signal
 reclaim_of d written signal is =
     let found = field_at (codes "evictionMinimumReclaim") d in
     reclaim_read (of written.capacity signal) (in_map found signal) (of written.reclaims signal) (map_read (λ s. reclaim_at (of written.capacity s)) found written.reclaims is.reclaims signal)
@@ -207,14 +207,14 @@ hard_default : (capacity : BySignal (Option ℕ)) (found : Option Data) (all : B
 hard_default capacity None all is e = ok_same {E = NodeFault} _ all e
 hard_default capacity (Some d) all is e = absurd (cc)
 
-hard_limit_of : (d map : Data) (written : Written) (signal : Signal) → IsWritten d written → field_at (codes "evictionHard") d ≡ Some map
+pub hard_limit_of : (d map : Data) (written : Written) (signal : Signal) → IsWritten d written → field_at (codes "evictionHard") d ≡ Some map
     → limit_at (of written.capacity signal) (in_map (field_at (codes "evictionHard") d) signal) ≡ Ok (of written.hard signal)
 hard_limit_of d map written signal is found =
     map_read (λ s. limit_at (of written.capacity s)) (field_at (codes "evictionHard") d) written.hard
     (hard_found written.capacity (field_at (codes "evictionHard") d) map written.hard found is.hard) signal
 
 -- a map that writes a limit stands
-stands : (found : Option Data) (signal : Signal) (limit : Limit) → option_and_then (λ v. held (limit_in v)) (in_map found signal) ≡ Some limit → (map : Data) × (found ≡ Some map)
+pub stands : (found : Option Data) (signal : Signal) (limit : Limit) → option_and_then (λ v. held (limit_in v)) (in_map found signal) ≡ Some limit → (map : Data) × (found ≡ Some map)
 stands None signal limit e = absurd (cc)
 stands (Some d) signal limit e = (d, refl)
 
