@@ -17,7 +17,8 @@ use Rattle.node_lines.specs.Limits.{HaveTheirCapacity, ReclaimsHaveTheirCapacity
 use Rattle.node_lines.specs.Maps.{or_config, map_of}
 use Rattle.node_lines.proofs.LawLemmas.{map_read}
 
-has_it : (capacity : Option ℕ) (limit kept : Limit) → with_capacity capacity limit ≡ Ok kept → HasItsCapacity capacity kept
+has_it : (capacity : Option ℕ) (limit kept : Limit) → with_capacity capacity limit ≡ Ok kept
+    → HasItsCapacity capacity kept
 has_it capacity (Quantity n) kept e =
     let same : Quantity n ≡ kept = cc in
     subst (HasItsCapacity capacity) same tt
@@ -35,12 +36,14 @@ kept_has capacity (Ok limit) kept has e =
 kept_has capacity (Err fault) kept has e = absurd (cc)
 
 on_has : (capacity : Option ℕ) (limit kept : Limit) (off : Bool)
-    → (if off then Ok None else (with_capacity capacity limit >>= λ l. Ok (Some l))) ≡ Ok (Some kept) → HasItsCapacity capacity kept
+    → (if off then Ok None else (with_capacity capacity limit >>= λ l. Ok (Some l))) ≡ Ok (Some kept)
+    → HasItsCapacity capacity kept
 on_has capacity limit kept true e = absurd (cc)
 on_has capacity limit kept false e = kept_has capacity (with_capacity capacity limit) kept (has_it capacity limit) e
 
 limit_from : (capacity : Option ℕ) (read : Result Limit FieldFault) (kept : Limit)
-    → (or_config read >>= λ limit. if is_off limit then Ok None else (with_capacity capacity limit >>= λ l. Ok (Some l))) ≡ Ok (Some kept)
+    → (or_config read >>= λ limit. if is_off limit then Ok None else
+    (with_capacity capacity limit >>= λ l. Ok (Some l))) ≡ Ok (Some kept)
     → HasItsCapacity capacity kept
 limit_from capacity (Ok limit) kept e = on_has capacity limit kept (is_off limit) e
 limit_from capacity (Err fault) kept e = absurd (cc)
@@ -62,7 +65,8 @@ reclaim_has capacity None kept e =
     subst (HasItsCapacity capacity) same tt
 reclaim_has capacity (Some d) kept e = reclaim_from capacity (limit_in d) kept e
 
-pub limits_have : (capacity : BySignal (Option ℕ)) (found : Option Data) (r : Result (BySignal (Option Limit)) NodeFault)
+pub limits_have : (capacity : BySignal (Option ℕ)) (found : Option Data)
+    (r : Result (BySignal (Option Limit)) NodeFault)
     → r ≡ map_of (λ signal. limit_at (of capacity signal)) found → IfOk r (HaveTheirCapacity capacity)
 limits_have capacity found (Ok all) e = λ signal limit set.
     let read = map_read (λ s. limit_at (of capacity s)) found all (sym e) signal in

@@ -47,7 +47,8 @@ on_is (Percent n) on = elim (cases_Bool (n == 0 || n == 10000)) [
 
 -- a limit that is on is kept
 taken : (limit : Limit) (kept : Option Limit) (has : Bool)
-    → ◌≡◌ {A = Result (Option Limit) NodeFault} ((if has then Ok limit else Err Config) >>= λ l. Ok (Some l)) (Ok kept) → kept ≡ Some limit
+    → ◌≡◌ {A = Result (Option Limit) NodeFault} ((if has then Ok limit else Err Config) >>= λ l. Ok (Some l))
+    (Ok kept) → kept ≡ Some limit
 taken limit kept true e = cc
 taken limit kept false e = absurd (cc)
 
@@ -58,7 +59,8 @@ set_from capacity (Err fault) limit kept e is on = absurd (cc)
 set_from capacity (Ok other) limit kept e is on =
     let same : other ≡ limit = cc in
     let other_on : is_off other ≡ false = ap is_off same ∙ on in
-    taken other kept (has_capacity capacity other) (subst (λ (b : Bool). limit_if capacity other b ≡ Ok kept) other_on e)
+    taken other kept (has_capacity capacity other)
+    (subst (λ (b : Bool). limit_if capacity other b ≡ Ok kept) other_on e)
     ∙ ap (λ (l : Limit). Some l) same
 
 limit_set : (capacity : Option ℕ) (found : Option Data) (limit : Limit) (kept : Option Limit)
@@ -69,7 +71,8 @@ limit_set capacity (Some d) limit kept e is on = set_from capacity (limit_in d) 
 
 -- and one that is kept is on
 kept_on : (capacity : Option ℕ) (limit kept : Limit) (off has : Bool) → is_off limit ≡ off
-    → ◌≡◌ {A = Result (Option Limit) NodeFault} (if off then Ok None else ((if has then Ok limit else Err Config) >>= λ l. Ok (Some l))) (Ok (Some kept))
+    → ◌≡◌ {A = Result (Option Limit) NodeFault}
+    (if off then Ok None else ((if has then Ok limit else Err Config) >>= λ l. Ok (Some l))) (Ok (Some kept))
     → is_off kept ≡ false
 kept_on capacity limit kept true has is e = absurd (cc)
 kept_on capacity limit kept false true is e =
@@ -188,6 +191,7 @@ soft_from d node signal threshold e is =
 
 pub every_threshold : EveryThresholdHasItsLimit
 every_threshold = record {
-  hard = λ d node signal threshold e is. hard_from d node signal threshold (field_at (codes "evictionHard") d) refl e is;
+  hard = λ d node signal threshold e is. hard_from d node signal threshold (field_at (codes "evictionHard") d) refl e
+      is;
   soft = soft_from;
 }

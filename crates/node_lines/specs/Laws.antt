@@ -1,7 +1,8 @@
 -- What a node line says of its thresholds (Kubernetes, "Node-pressure Eviction", "Hard eviction
 -- thresholds", "Soft eviction thresholds" and "Minimum eviction reclaim"): the statements of the
 -- laws.
-use Rattle.std.specs.Prelude.{◌≡◌, ◌⊎◌, ℕ, List, Option, Some, None, option_and_then, unwrap_or, Result, Ok, Err, IsOk, codes}
+use Rattle.std.specs.Prelude.{◌≡◌, ◌⊎◌, ℕ, List, Option, Some, None, option_and_then, unwrap_or, Result, Ok, Err}
+use Rattle.std.specs.Prelude.{IsOk, codes}
 use Rattle.serde_json.specs.Data.{Data}
 use Rattle.serde_json.specs.Find.{as_str}
 use Rattle.json_fields.specs.Fields.{field_at, text_at}

@@ -2,8 +2,7 @@
 
 ghost use Rattle.std.specs.Prelude.{◌≡◌, option_map, IfOk};
 ghost use Rattle.serde_json.specs.View.{view};
-ghost use Rattle.node_lines.specs.Limits.{limit_at, reclaim_at, HaveTheirCapacity, ReclaimsHaveTheirCapacity};
-ghost use Rattle.signals.specs.BySignal.{of};
+ghost use Rattle.node_lines.specs.Limits.{limits_in, reclaims_in, HaveTheirCapacity, ReclaimsHaveTheirCapacity};
 ghost use Rattle.node_lines.specs.Maps.{map_of, quantity_at, duration_at};
 
 use crate::fault::NodeFault;
@@ -129,7 +128,7 @@ pub(crate) fn limits(
     capacity: &BySignal<Option<Quantity>>,
     found: Option<&Value>,
 ) -> Result<BySignal<Option<Limit>>, NodeFault>
-    ensures gives { result ≡ map_of (λ signal. limit_at (of capacity.now signal)) (option_map (λ v. view v.now) found.entry) }
+    ensures gives { result ≡ limits_in capacity.now (option_map (λ v. view v.now) found.entry) }
     ensures capacity { IfOk result (HaveTheirCapacity capacity.now) }
 {
     let reader = LimitMap {
@@ -143,7 +142,7 @@ pub(crate) fn reclaims(
     capacity: &BySignal<Option<Quantity>>,
     found: Option<&Value>,
 ) -> Result<BySignal<Limit>, NodeFault>
-    ensures gives { result ≡ map_of (λ signal. reclaim_at (of capacity.now signal)) (option_map (λ v. view v.now) found.entry) }
+    ensures gives { result ≡ reclaims_in capacity.now (option_map (λ v. view v.now) found.entry) }
     ensures capacity { IfOk result (ReclaimsHaveTheirCapacity capacity.now) }
 {
     let reader = ReclaimMap {

@@ -10,7 +10,8 @@ use Rattle.signal_maps.specs.Maps.{has_stranger}
 strangers_at : (o : Ordering) (scope : Scope) (k l : List ℕ) (d : Data) (ms : Members) → slice_cmp nat_cmp k l ≡ o
     → (get_member k ms ≡ None → has_stranger scope (put k null ms) ≡ has_stranger scope ms)
     → match_ordering o (get_member k ms) (Some d) (get_member k ms) ≡ None
-    → has_stranger scope (match_ordering o (member k null (member l d ms)) (member l null ms) (member l d (put k null ms)))
+    → has_stranger scope (match_ordering o (member k null (member l d ms)) (member l null ms)
+    (member l d (put k null ms)))
     ≡ has_stranger scope (member l d ms)
 strangers_at Less scope k l d ms is later none = refl
 strangers_at Equal scope k l d ms is later none = absurd (cc)

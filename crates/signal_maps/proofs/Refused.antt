@@ -11,7 +11,8 @@ use Rattle.signal_maps.specs.declared.scope.Scope.{Scope}
 use Rattle.signal_maps.specs.Maps.{is_signal_map, in_map, read_each, read_map}
 
 -- a property of the fault of each signal is one of the fault of all
-pub each_only : {A E : Type 0} (P : E → Type 0) (read : Signal → Result A E) → ((signal : Signal) → Only P (read signal))
+pub each_only : {A E : Type 0} (P : E → Type 0) (read : Signal → Result A E)
+    → ((signal : Signal) → Only P (read signal))
     → Only P (read_each read)
 unfolding read_each
 each_only P read one =

@@ -45,7 +45,8 @@ stranger_found scope name value (member l d rest) other e =
     found_at _ scope name l d value rest refl other (stranger_found scope name value rest other)
     e
 
-object_refused : {A E : Type 0} (scope : Scope) (fault : E) (read : Signal → Option Data → Result A E) (found value : Data)
+object_refused : {A E : Type 0} (scope : Scope) (fault : E) (read : Signal → Option Data → Result A E)
+    (found value : Data)
     (name : List ℕ) → may_name scope name ≡ false → field_at name found ≡ Some value
     → read_map scope fault read (Some found) ≡ Err fault
 unfolding read_map

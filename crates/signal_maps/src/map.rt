@@ -2,7 +2,7 @@
 
 ghost use Rattle.std.specs.Prelude.{◌≡◌, option_map};
 ghost use Rattle.serde_json.specs.View.{view, members_view};
-ghost use Rattle.signal_maps.specs.Maps.{is_stranger, has_stranger, is_signal_map, in_map, read_each, read_map};
+ghost use Rattle.signal_maps.specs.Maps.{is_stranger, has_stranger, is_signal_map, in_map, read_in, read_map};
 
 use crate::scope::{Scope, may_name};
 use json_fields::field;
@@ -67,11 +67,8 @@ pub trait ReadSignal {
 }
 
 #[tactic(auto, unfolding(crate::specs::Maps::read_each))]
-fn read_each<R: ReadSignal>(
-    reader: &R,
-    found: Option<&Value>,
-) -> Result<BySignal<R::Read>, R::Fault>
-    ensures { result ≡ read_each (λ signal. R.read_of reader.now signal (in_map (option_map (λ v. view v.now) found.entry) signal)) }
+fn read_in<R: ReadSignal>(reader: &R, found: Option<&Value>) -> Result<BySignal<R::Read>, R::Fault>
+    ensures { result ≡ read_in (R.read_of reader.now) (option_map (λ v. view v.now) found.entry) }
 {
     let memory_available = reader.read(
         Signal::MemoryAvailable,
@@ -120,5 +117,5 @@ pub fn read_map<R: ReadSignal>(
     if !is_signal_map(scope, found) {
         return Err(fault);
     }
-    read_each(reader, found)
+    read_in(reader, found)
 }

@@ -1,5 +1,6 @@
 -- A null in an object changes nothing.
-use Rattle.std.proofs.Common.{◌≡◌, ◌∙◌, ℕ, false, List, [], ◌∷◌, Result, None, bytes_eq, true≢false, refl, ap, sym, inl, inr}
+use Rattle.std.proofs.Common.{◌≡◌, ◌∙◌, ℕ, false, List, [], ◌∷◌, Result, None, bytes_eq, true≢false, refl, ap, sym}
+use Rattle.std.proofs.Common.{inl, inr}
 use Rattle.std.specs.Prelude.{codes}
 use Rattle.std.proofs.lemmas.Bool.{cases_Bool}
 use Rattle.std.proofs.lemmas.Slice.Eq.{bytes_eq-Decides}
@@ -7,7 +8,8 @@ use Rattle.serde_json.specs.Data.{Data, null, object, Members, put}
 use Rattle.serde_json.specs.Find.{get_member}
 use Rattle.serde_json.proofs.Views.{get_member-put, get_member-put_other}
 use Rattle.json_fields.specs.Fields.{present, field_at}
-use Rattle.signals.specs.declared.signal.Signal.TheVariants.{MemoryAvailable, NodefsAvailable, ImagefsAvailable, NodefsInodesFree, ImagefsInodesFree, PidAvailable}
+use Rattle.signals.specs.declared.signal.Signal.TheVariants.{MemoryAvailable, NodefsAvailable, ImagefsAvailable}
+use Rattle.signals.specs.declared.signal.Signal.TheVariants.{NodefsInodesFree, ImagefsInodesFree, PidAvailable}
 use Rattle.signals.specs.Signals.{name_of}
 use Rattle.signal_maps.specs.declared.scope.Scope.{Scope}
 use Rattle.tick_lines.specs.declared.fault.TickLineFault.{TickLineFault}
@@ -19,13 +21,15 @@ use Rattle.signal_maps.specs.Maps.{read_each, read_map}
 use Rattle.signal_maps.proofs.Nulls.{strangers_ignore}
 use Rattle.tick_lines.specs.Samples.{samples_in}
 use Rattle.tick_lines.specs.Line.{tick_line_of}
-use Rattle.tick_lines.specs.Laws.{AreAlike, ReadsOnly, line_fields, entry_fields, listing_fields, result_fields, IgnoresNull, NullIsAbsent}
+use Rattle.tick_lines.specs.Laws.{AreAlike, ReadsOnly, line_fields, entry_fields, listing_fields, result_fields}
+use Rattle.tick_lines.specs.Laws.{IgnoresNull, NullIsAbsent}
 use Rattle.tick_lines.proofs.Alike.{only_their_fields}
 
 differ : (q k : List ℕ) → bytes_eq q k ≡ false → q ≡ k → ⊥
 differ q k other same = true≢false (sym ((bytes_eq-Decides q k).1 same) ∙ other)
 
-alike : (q k : List ℕ) (ms : Members) → get_member k ms ≡ None → field_at q (object (put k null ms)) ≡ field_at q (object ms)
+alike : (q k : List ℕ) (ms : Members) → get_member k ms ≡ None
+    → field_at q (object (put k null ms)) ≡ field_at q (object ms)
 alike q k ms none = elim (cases_Bool (bytes_eq q k)) [
   | inl here ↦
       let same : q ≡ k = (bytes_eq-Decides q k).0 here in
@@ -59,11 +63,13 @@ samples_ignore scope ms k none =
       alike (name_of PidAvailable) k ms none,
     ) refl
 
-all_alike : (names : List (List ℕ)) (k : List ℕ) (ms : Members) → get_member k ms ≡ None → AreAlike names (object (put k null ms)) (object ms)
+all_alike : (names : List (List ℕ)) (k : List ℕ) (ms : Members) → get_member k ms ≡ None
+    → AreAlike names (object (put k null ms)) (object ms)
 all_alike [] k ms none = tt
 all_alike (q ∷ names) k ms none = (alike q k ms none, all_alike names k ms none)
 
-ignores : {A : Type 0} (names : List (List ℕ)) (read : Data → Result A TickLineFault) → ReadsOnly names read → IgnoresNull read
+ignores : {A : Type 0} (names : List (List ℕ)) (read : Data → Result A TickLineFault) → ReadsOnly names read
+    → IgnoresNull read
 ignores names read only ms k none = only (object (put k null ms)) (object ms) (all_alike names k ms none)
 
 pub null_is_absent : NullIsAbsent

@@ -33,29 +33,38 @@ same_some x y e = cc
 no_some : {A : Type 0} (x : A) → None ≡ Some x → ⊥
 no_some x e = absurd (cc)
 
-held_is : (d : Data) (r : Result ℕ FieldFault) (sample : Option ℕ) → quantity_in d ≡ r → (held r >>= λ thousandths. Ok (Some thousandths)) ≡ Ok sample → (n : ℕ) → (sample ≡ Some n ↔ IsQuantity (Some d) n)
+held_is : (d : Data) (r : Result ℕ FieldFault) (sample : Option ℕ) → quantity_in d ≡ r
+    → (held r >>= λ thousandths. Ok (Some thousandths)) ≡ Ok sample → (n : ℕ)
+    → (sample ≡ Some n ↔ IsQuantity (Some d) n)
 held_is d (Ok q) sample is e n =
     let same : Some q ≡ sample = same_ok (Some q) sample e in (
       λ (said : sample ≡ Some n). (d, refl, is ∙ ap Ok (same_some q n (same ∙ said))),
-      λ (found : IsQuantity (Some d) n). sym same ∙ ap Some (same_ok {E = FieldFault} q n (sym is ∙ ap quantity_in (same_some d found.0 found.1) ∙ found.2)),
+      λ (found : IsQuantity (Some d) n). sym same
+          ∙ ap Some (same_ok {E = FieldFault} q n (sym is ∙ ap quantity_in (same_some d found.0 found.1) ∙ found.2)),
     )
 held_is d (Err fault) sample is e n = absurd (cc)
 
-quantity_is : (found : Option Data) (sample : Option ℕ) → quantity_at found ≡ Ok sample → (n : ℕ) → (sample ≡ Some n ↔ IsQuantity found n)
+quantity_is : (found : Option Data) (sample : Option ℕ) → quantity_at found ≡ Ok sample → (n : ℕ)
+    → (sample ≡ Some n ↔ IsQuantity found n)
 quantity_is None sample e n =
-    let none : None ≡ sample = same_ok None sample e in
-    (λ (said : sample ≡ Some n). absurd (no_some n (none ∙ said)), λ (found : IsQuantity None n). absurd (no_some found.0 found.1))
+    let none : None ≡ sample = same_ok None sample e in (
+      λ (said : sample ≡ Some n). absurd (no_some n (none ∙ said)),
+      λ (found : IsQuantity None n). absurd
+          (no_some found.0 found.1),
+    )
 quantity_is (Some d) sample e n = held_is d (quantity_in d) sample refl e n
 
 samples_are : (scope : Scope) (found : Option Data) (samples : BySignal (Option ℕ)) (signal : Signal)
     → samples_of scope found ≡ Ok samples → IsSample found (name_of signal) (of samples signal)
 samples_are scope found samples signal e =
-    quantity_is (in_map found signal) (of samples signal) (map_read scope faults.Usage (λ s. quantity_at) found samples e signal)
+    quantity_is (in_map found signal) (of samples signal)
+    (map_read scope faults.Usage (λ s. quantity_at) found samples e signal)
 
 pub samples_said : SamplesSaid
 samples_said = record {
   signals = λ d line signal e. samples_are Node _ line.signals signal (line_parts d line e).signals;
-  after_reclaim = λ d line signal e. samples_are FileSystems _ line.after_reclaim signal (line_parts d line e).after_reclaim;
+  after_reclaim = λ d line signal e. samples_are FileSystems _ line.after_reclaim signal
+      (line_parts d line e).after_reclaim;
 }
 
 usage_is : (d : Data) (usage : Usage) → usage_in d ≡ Ok usage → IsUsage d usage

@@ -12,7 +12,10 @@ use Rattle.tick_lines.specs.declared.fault.TickLineFault.TheVariants as tick_fau
 use Rattle.serde_json.specs.Errors.{IsMemory}
 use Rattle.serde_json.specs.declared.error.Error.{Error}
 use Rattle.trace.specs.declared.fault.FaultKind.{FaultKind}
-use Rattle.trace.specs.declared.fault.FaultKind.TheVariants.{TooLong, NotJson, UnknownKind, Order, Manifest, Config, SoftWithoutGrace, DuplicatePod, StrangerPod, StrangerContainer, Doubled, Moment, Backwards, ExitCode, TooMany, Usage, OutOfMemory}
+use Rattle.trace.specs.declared.fault.FaultKind.TheVariants.{TooLong, NotJson, UnknownKind, Order, Manifest, Config}
+use Rattle.trace.specs.declared.fault.FaultKind.TheVariants.{SoftWithoutGrace, DuplicatePod, StrangerPod}
+use Rattle.trace.specs.declared.fault.FaultKind.TheVariants.{StrangerContainer, Doubled, Moment, Backwards, ExitCode}
+use Rattle.trace.specs.declared.fault.FaultKind.TheVariants.{TooMany, Usage, OutOfMemory}
 
 abbrev pub number_of : FaultKind → ℕ
 number_of TooLong = 31

@@ -1,5 +1,6 @@
 -- What a text says as a trace, or its first faulty line with that line's first fault.
-use Rattle.std.specs.Prelude.{ℕ, ◌+◌, ⊤, Bool, false, List, [], ◌∷◌, length, nat_lt, nat_le, Option, Some, None, if◌then◌else◌, Result, Ok, Err, bytes_eq, codes}
+use Rattle.std.specs.Prelude.{ℕ, ◌+◌, ⊤, Bool, false, List, [], ◌∷◌, length, nat_lt, nat_le, Option, Some, None}
+use Rattle.std.specs.Prelude.{if◌then◌else◌, Result, Ok, Err, bytes_eq, codes}
 use Rattle.std.specs.Str.{is_utf8}
 use Rattle.serde_json.specs.Data.{Data}
 use Rattle.serde_json.specs.Read.{read}
@@ -8,7 +9,8 @@ use Rattle.manifest.specs.declared.pod.PodSpec.{PodSpec}
 use Rattle.observations.specs.declared.tick.TickObs.{TickObs}
 use Rattle.json_fields.specs.Reading.{◌>>=◌, refused_if, some_or}
 use Rattle.trace.specs.declared.fault.FaultKind.{FaultKind}
-use Rattle.trace.specs.declared.fault.FaultKind.TheVariants.{TooLong, NotJson, UnknownKind, Order, TooMany, DuplicatePod}
+use Rattle.trace.specs.declared.fault.FaultKind.TheVariants.{TooLong, NotJson, UnknownKind, Order, TooMany}
+use Rattle.trace.specs.declared.fault.FaultKind.TheVariants.{DuplicatePod}
 use Rattle.trace.specs.declared.fault.LineFault.{LineFault}
 use Rattle.node_config.specs.declared.node.NodeConfig.{NodeConfig}
 use Rattle.node_config.specs.declared.node.Version.{Version}
@@ -20,7 +22,7 @@ use Rattle.trace.specs.declared.past.Turn.{Turn}
 use Rattle.trace.specs.declared.past.Turn.TheVariants as turns
 use Rattle.trace.specs.Lines.{lines_of, is_blank, longest_line}
 use Rattle.trace.specs.Written.{node_in}
-use Rattle.trace.specs.Pod.{key_of_pod, has_key, most_pods, pod_from}
+use Rattle.trace.specs.Pod.{new_key, room_for_pod, pod_from}
 use Rattle.trace.specs.Past.{Past, version_in, of_node, with_pod}
 use Rattle.trace.specs.Tick.{tick_at}
 
@@ -46,7 +48,7 @@ with_node past d = do
 
 -- a pod goes behind the earlier ones, if none of them has its key
 abbrev pub with_new_pod : Past → PodSpec → Result Past FaultKind
-with_new_pod past pod = refused_if (has_key past.pods (key_of_pod pod)) DuplicatePod >>= λ new. Ok (with_pod past pod)
+with_new_pod past pod = new_key past.pods pod >>= λ new. Ok (with_pod past pod)
 
 -- in version 1 a pod line stands before all tick lines; in version 2 it may follow one
 abbrev pub is_late : Version → List TickObs → Bool
@@ -56,7 +58,7 @@ is_late Two ticks = false
 unfoldable pub pod_line_at : Version → Past → Data → Result Past FaultKind
 pod_line_at version past d = do
   in_time ← refused_if (is_late version past.ticks) Order
-  room ← refused_if (nat_le most_pods (length past.pods)) TooMany
+  room ← room_for_pod past.pods
   pod ← pod_from (field_at (codes "pod") d)
   with_new_pod past pod
 
@@ -95,7 +97,8 @@ at_line n (Err kind) = Err (record { line = n; kind = kind })
 -- a text without a line that counts lacks a node line at its end
 abbrev pub finished : ℕ → Past → Option NodeConfig → Result Trace LineFault
 finished n past None = Err (record { line = n; kind = Order })
-finished n past (Some node) = Ok (record { node = node; pods = past.pods; arrivals = past.arrivals; ticks = past.ticks })
+finished n past (Some node) = Ok
+    (record { node = node; pods = past.pods; arrivals = past.arrivals; ticks = past.ticks })
 
 -- the lines from the nth on, after those that say what is past
 abbrev pub read_on : ℕ → Past → List (List ℕ) → Result Trace LineFault

@@ -1,11 +1,10 @@
 //! Pod lines.
 
-ghost use Rattle.std.specs.Prelude.{◌≡◌, option_map, is_some, length, nat_le, None, IfOk, string_bytes};
+ghost use Rattle.std.specs.Prelude.{◌≡◌, option_map, is_some, None, IfOk, string_bytes};
 ghost use Rattle.serde_json.specs.View.{view};
-ghost use Rattle.json_fields.specs.Reading.{refused_if};
 ghost use Rattle.name_list.specs.Names.{place_of};
 ghost use Rattle.trace.specs.Gives.{Gives, GivesExactly};
-ghost use Rattle.trace.specs.Pod.{key_of_pod, keys_of, most_pods, has_key, manifest_of, pod_from};
+ghost use Rattle.trace.specs.Pod.{key_of_pod, keys_of, new_key, room_for_pod, manifest_of, pod_from};
 
 use crate::fault::{FaultKind, refused_if};
 use crate::past::Reader;
@@ -43,7 +42,7 @@ fn key_text(alloc: Global, pod: &PodSpec) -> Result<String, AllocError>
 
 /// There is room for one pod more.
 pub(crate) fn room_for_pod(reader: &Reader) -> Result<(), FaultKind>
-    ensures { GivesExactly (λ t. t) result (refused_if (nat_le most_pods (length reader.now.pods)) FaultKind.TooMany) }
+    ensures { GivesExactly (λ t. t) result (room_for_pod reader.now.pods) }
 {
     refused_if(reader.pods.as_slice().len() >= 256, FaultKind::TooMany)
 }
@@ -56,7 +55,7 @@ fn is_known(keys: &NameList, key: &str) -> bool
 
 /// The key of a pod, if no earlier pod has it.
 pub(crate) fn new_key(alloc: Global, reader: &Reader, pod: &PodSpec) -> Result<String, FaultKind>
-    ensures gives { Gives (λ _. tt) result (refused_if (has_key reader.now.pods (key_of_pod pod.now)) FaultKind.DuplicatePod) }
+    ensures gives { Gives (λ _. tt) result (new_key reader.now.pods pod.now) }
     ensures key { IfOk result (λ s. string_bytes s ≡ key_of_pod pod.now) }
     ensures new { IfOk result (λ s. place_of (keys_of reader.now.pods) (string_bytes s) ≡ None) }
 {
