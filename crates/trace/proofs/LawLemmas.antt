@@ -4,6 +4,7 @@ pub mod GoingBack
 pub mod Kinds
 pub mod Listings
 pub mod Results
+pub mod Saying
 pub mod Strangers
 pub mod Usages
 use Rattle.std.proofs.Common.{◌≡◌, ◌∙◌, ◌⊎◌, ℕ, zero, suc, ◌+◌, ◌≤◌, ◌<◌, true, false, List, [], ◌∷◌, ◌++◌, length}

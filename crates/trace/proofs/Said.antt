@@ -9,7 +9,7 @@ use Rattle.trace.specs.Past.{Past}
 use Rattle.trace.specs.Trace.{nothing, trace_of}
 use Rattle.trace.specs.Laws.{AreSaid, Says}
 use Rattle.trace.proofs.LawLemmas.{whole_trace}
-use Rattle.trace.proofs.LawLemmas.Checks.{all_checks}
+use Rattle.trace.proofs.LawLemmas.Saying.{all_checks}
 
 -- it holds where nothing is said, and after each line
 pub record IsKept (P : Past → Type 0) : Type 0 where

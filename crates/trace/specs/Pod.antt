@@ -1,5 +1,5 @@
 -- What a pod line says.
-use Rattle.std.specs.Prelude.{ℕ, ⊤, nat_le, Bool, List, ◌∷◌, ◌++◌, length, map, Option, Some, None, is_some, Result}
+use Rattle.std.specs.Prelude.{ℕ, ⊤, nat_le, Bool, List, ◌∷◌, ◌++◌, length, map, Option, is_some, Result}
 use Rattle.std.specs.Prelude.{Ok, Err}
 use Rattle.serde_json.specs.Data.{Data}
 use Rattle.manifest.specs.declared.fault.ManifestFault.{ManifestFault}

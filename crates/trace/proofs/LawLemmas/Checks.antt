@@ -1,5 +1,4 @@
--- A line's fault is that of its first check that fails; a line without one says its node, its pod
--- or its tick.
+-- A line's fault is that of its first check that fails.
 use Rattle.std.proofs.Common.{◌≡◌, ◌≢◌, ◌∙◌, ◌⊎◌, ℕ, ◌≤◌, ◌<◌, Bool, true, false, List, [], ◌∷◌, length, Option, Some}
 use Rattle.std.proofs.Common.{None, Result, Ok, Err, refl, ap, sym, subst, inl, inr, arith, is_some}
 use Rattle.std.specs.Prelude.{⊤, nat_lt, nat_le, option_map, IsSomeAnd, codes}
@@ -7,7 +6,6 @@ use Rattle.std.proofs.lemmas.Bool.{ltb-true, ltb-false, lt-ltb, le-ltb, leb-true
 use Rattle.serde_json.specs.Data.{Data}
 use Rattle.json_fields.specs.Fields.{field_at, text_at}
 use Rattle.json_fields.specs.Reading.{◌>>=◌, refused_if, some_or}
-use Rattle.json_fields.proofs.Steps.{bind_ok}
 use Rattle.manifest.specs.declared.pod.PodSpec.{PodSpec}
 use Rattle.trace.specs.declared.fault.FaultKind.{FaultKind}
 use Rattle.trace.specs.declared.fault.FaultKind.TheVariants.{TooLong, UnknownKind, Order, TooMany, DuplicatePod}
@@ -24,7 +22,7 @@ use Rattle.trace.specs.Lines.{longest_line}
 use Rattle.trace.specs.Written.{node_in, tick_line_in}
 use Rattle.trace.specs.Pod.{key_of_pod, has_key, most_pods, pod_from}
 use Rattle.trace.proofs.Versions.{no_node, some_node}
-use Rattle.trace.proofs.Keys.{key_there, there_key, key_nowhere, nowhere_key}
+use Rattle.trace.proofs.Keys.{key_there, there_key}
 use Rattle.trace.specs.Placing.{placed_of, is_doubled}
 use Rattle.trace.specs.Observed.{observed, some_code_missing}
 use Rattle.following.specs.Backwards.{is_backwards}
@@ -34,7 +32,7 @@ use Rattle.trace.specs.Trace.{json_of, kind_from, with_node, is_late, pod_line_a
 use Rattle.trace.specs.Laws.{IsJson, IsOfKind, TakesPods, MayStand, Stands, HasPod, HasMoment, HasWritten, HasPlaces}
 use Rattle.trace.specs.Laws.{IsApart, IsForwards, Fails, too_long, not_json, unknown_kind, misplaced, wrong_node}
 use Rattle.trace.specs.Laws.{many_pods, wrong_pod, duplicate_pod, many_ticks, wrong_moment, wrong_field, stranger}
-use Rattle.trace.specs.Laws.{doubled, backwards, no_code, FirstCheck, Says, says_node, says_pod, says_tick, AllChecks}
+use Rattle.trace.specs.Laws.{doubled, backwards, no_code, FirstCheck}
 
 pub bind_err : {A B E : Type 0} (r : Result A E) (f : A → Result B E) (fault : E) → (r >>= f) ≡ Err fault
     → (r ≡ Err fault) ⊎ ((x : A) × (r ≡ Ok x) × (f x ≡ Err fault))
@@ -48,7 +46,7 @@ pub then_err : {A B E : Type 0} (r : Result A E) (f : A → Result B E) (fault :
     → (r >>= f) ≡ Err fault
 then_err r f fault e = rw e refl
 
-passed : {B E : Type 0} (b : Bool) (fault : E) (f : ⊤ → Result B E) → b ≡ false → (refused_if b fault >>= f) ≡ f tt
+pub passed : {B E : Type 0} (b : Bool) (fault : E) (f : ⊤ → Result B E) → b ≡ false → (refused_if b fault >>= f) ≡ f tt
 passed b fault f e = rw e refl
 
 failed : {B E : Type 0} (b : Bool) (fault : E) (f : ⊤ → Result B E) → b ≡ true → (refused_if b fault >>= f) ≡ Err fault
@@ -64,52 +62,52 @@ tested false fault f given e = inr (refl, e)
 abbrev in_place : Past → Data → LineKind → Result Past FaultKind
 in_place past d line_kind = in_order (version_in past) past line_kind d
 
-abbrev PodStands : Past → Option Version → Type 0
+abbrev pub PodStands : Past → Option Version → Type 0
 PodStands past found = IsSomeAnd found (TakesPods past.ticks)
 
-abbrev with_kind : Past → Data → Option LineKind → Result Past FaultKind
+abbrev pub with_kind : Past → Data → Option LineKind → Result Past FaultKind
 with_kind past d kind = some_or UnknownKind kind >>= in_place past d
 
-abbrev with_json : Past → Data → Result Past FaultKind
+abbrev pub with_json : Past → Data → Result Past FaultKind
 with_json past d = with_kind past d (kind_from (text_at (codes "kind") d))
 
-abbrev with_tick_seen : Past → TickObs → Result Past FaultKind
+abbrev pub with_tick_seen : Past → TickObs → Result Past FaultKind
 with_tick_seen past tick = Ok (with_tick past tick)
 
-abbrev with_places : Past → ℕ → TickLine → List PlacedEntry → Result Past FaultKind
+abbrev pub with_places : Past → ℕ → TickLine → List PlacedEntry → Result Past FaultKind
 with_places past at written placed = observed_in past at written placed >>= with_tick_seen past
 
-abbrev with_written : Past → ℕ → TickLine → Result Past FaultKind
+abbrev pub with_written : Past → ℕ → TickLine → Result Past FaultKind
 with_written past at written = placed_of past.pods written.entries >>= with_places past at written
 
-abbrev with_moment : Past → Data → ℕ → Result Past FaultKind
+abbrev pub with_moment : Past → Data → ℕ → Result Past FaultKind
 with_moment past d at = tick_line_in d >>= with_written past at
 
-abbrev with_room : Past → Data → ⊤ → Result Past FaultKind
+abbrev pub with_room : Past → Data → ⊤ → Result Past FaultKind
 with_room past d u = moment_of past.ticks (field_at (codes "at") d) >>= with_moment past d
 
-abbrev with_code : Past → ℕ → TickLine → List PlacedEntry → ⊤ → Result TickObs FaultKind
+abbrev pub with_code : Past → ℕ → TickLine → List PlacedEntry → ⊤ → Result TickObs FaultKind
 with_code past at written placed u = Ok (observed at written placed past.pods)
 
-abbrev with_forwards : Past → ℕ → TickLine → List PlacedEntry → ⊤ → Result TickObs FaultKind
+abbrev pub with_forwards : Past → ℕ → TickLine → List PlacedEntry → ⊤ → Result TickObs FaultKind
 with_forwards past at written placed u =
     refused_if (some_code_missing placed) ExitCode >>= with_code past at written placed
 
-abbrev with_apart : Past → ℕ → TickLine → List PlacedEntry → ⊤ → Result TickObs FaultKind
+abbrev pub with_apart : Past → ℕ → TickLine → List PlacedEntry → ⊤ → Result TickObs FaultKind
 with_apart past at written placed u =
     refused_if (is_backwards past.ticks (observed at written placed past.pods)) Backwards >>= with_forwards past at
     written placed
 
-abbrev pod_new : Past → PodSpec → ⊤ → Result Past FaultKind
+abbrev pub pod_new : Past → PodSpec → ⊤ → Result Past FaultKind
 pod_new past pod u = Ok (with_pod past pod)
 
-abbrev pod_said : Past → PodSpec → Result Past FaultKind
+abbrev pub pod_said : Past → PodSpec → Result Past FaultKind
 pod_said past pod = refused_if (has_key past.pods (key_of_pod pod)) DuplicatePod >>= pod_new past pod
 
-abbrev pod_read : Past → Data → ⊤ → Result Past FaultKind
+abbrev pub pod_read : Past → Data → ⊤ → Result Past FaultKind
 pod_read past d u = pod_from (field_at (codes "pod") d) >>= pod_said past
 
-abbrev pod_early : Past → Data → ⊤ → Result Past FaultKind
+abbrev pub pod_early : Past → Data → ⊤ → Result Past FaultKind
 pod_early past d u = refused_if (nat_le most_pods (length past.pods)) TooMany >>= pod_read past d
 
 none_in : {A : Type 0} (xs : List A) → nat_lt 0 (length xs) ≡ false → xs ≡ []
@@ -128,7 +126,7 @@ in_none : {A : Type 0} (xs : List A) → xs ≡ [] → nat_lt 0 (length xs) ≡ 
 in_none xs none = rw none refl
 
 -- whether the version takes a pod line behind these ticks
-takes_pods : (version : Version) (ticks : List TickObs) → is_late version ticks ≡ false → TakesPods ticks version
+pub takes_pods : (version : Version) (ticks : List TickObs) → is_late version ticks ≡ false → TakesPods ticks version
 takes_pods One ticks e = none_in ticks e
 takes_pods Two ticks e = tt
 
@@ -333,7 +331,7 @@ of_long past line long = failed (nat_lt longest_line (length line)) TooLong (λ 
 of_json : (past : Past) (line : List ℕ) (d : Data) → IsJson line d → line_at past line ≡ with_json past d
 of_json past line d is = of_short past line is.short ∙ then_ok (json_of line) (with_json past) d is.json
 
-of_kind : (past : Past) (line : List ℕ) (line_kind : LineKind) (d : Data) → IsOfKind line line_kind d
+pub of_kind : (past : Past) (line : List ℕ) (line_kind : LineKind) (d : Data) → IsOfKind line line_kind d
     → line_at past line ≡ in_order (version_in past) past line_kind d
 of_kind past line line_kind d is =
     of_json past line d is.json ∙ ap (λ (found : Option LineKind). with_kind past d found) is.kind
@@ -350,7 +348,7 @@ misplaced_kind (Some version) past kinds.Pod d some never =
     failed (is_late version past.ticks) Order (pod_early past d) late
 misplaced_kind (Some version) past kinds.Tick d some never = absurd (never (some_node past.node version some))
 
-node_in_order : (node : Option NodeConfig) (past : Past) (d : Data) → node ≡ None
+pub node_in_order : (node : Option NodeConfig) (past : Past) (d : Data) → node ≡ None
     → in_order (option_map (λ (n : NodeConfig). n.version) node) past kinds.Node d ≡ with_node past d
 node_in_order None past d is = refl
 node_in_order (Some node) past d is = absurd (cc)
@@ -385,7 +383,7 @@ of_pod_room past line d is room =
     of_pod past line d is ∙ passed (nat_le most_pods (length past.pods)) TooMany (pod_read past d)
     (lt-leb most_pods (length past.pods) room)
 
-of_pod_said : (past : Past) (line : List ℕ) (d : Data) (pod : PodSpec) → HasPod past line d pod
+pub of_pod_said : (past : Past) (line : List ℕ) (d : Data) (pod : PodSpec) → HasPod past line d pod
     → line_at past line ≡ pod_said past pod
 of_pod_said past line d pod is = of_pod_room past line d is.stands is.room
     ∙ then_ok (pod_from (field_at (codes "pod") d)) (pod_said past) pod is.pod_is
@@ -411,7 +409,7 @@ of_written : (past : Past) (line : List ℕ) (d : Data) (at : ℕ) (written : Ti
 of_written past line d at written is = of_moment past line d at is.has_moment
     ∙ then_ok (tick_line_in d) (with_written past at) written is.written_is
 
-of_places : (past : Past) (line : List ℕ) (d : Data) (at : ℕ) (written : TickLine) (placed : List PlacedEntry)
+pub of_places : (past : Past) (line : List ℕ) (d : Data) (at : ℕ) (written : TickLine) (placed : List PlacedEntry)
     → HasPlaces past line d at written placed → line_at past line ≡ with_places past at written placed
 of_places past line d at written placed is = of_written past line d at written is.has_written
     ∙ then_ok (placed_of past.pods written.entries) (with_places past at written) placed is.placed_are
@@ -478,129 +476,3 @@ fails_line past line _ (no_code d at written placed is missing) =
 
 pub first_check : FirstCheck
 first_check past line kind = (line_fails past line kind, fails_line past line kind)
-
--- a test that refuses nothing, and what follows it
-cleared : {B E : Type 0} (b : Bool) (fault : E) (f : ⊤ → Result B E) (y : B) → (refused_if b fault >>= f) ≡ Ok y
-    → (b ≡ false) × (f tt ≡ Ok y)
-cleared true fault f y e = absurd (cc)
-cleared false fault f y e = (refl, e)
-
-same_value : {A E : Type 0} (a b : A) → ◌≡◌ {A = Result A E} (Ok a) (Ok b) → a ≡ b
-same_value a b e = cc
-
--- from what a line leaves to what it says
-tick_says : (past : Past) (line : List ℕ) (d : Data) (next : Past) → Stands past line kinds.Tick d
-    → tick_at past d ≡ Ok next → Says past line next
-unfolding tick_at observed_in
-tick_says past line d next is e =
-    let room = cleared (nat_le most_ticks (length past.ticks)) TooMany (with_room past d) next e in
-    let at = bind_ok (moment_of past.ticks (field_at (codes "at") d)) (with_moment past d) next room.1 in
-    let written = bind_ok (tick_line_in d) (with_written past at.0) next at.2 in
-    let placed = bind_ok (placed_of past.pods written.0.entries) (with_places past at.0 written.0) next written.2 in
-    let tick = bind_ok (observed_in past at.0 written.0 placed.0) (with_tick_seen past) next placed.2 in
-    let apart = cleared (is_doubled placed.0) Doubled (with_apart past at.0 written.0 placed.0) tick.0 tick.1 in
-    let forwards = cleared (is_backwards past.ticks (observed at.0 written.0 placed.0 past.pods)) Backwards
-    (with_forwards past at.0 written.0 placed.0) tick.0 apart.1 in
-    let coded = cleared (some_code_missing placed.0) ExitCode (with_code past at.0 written.0 placed.0) tick.0
-    forwards.1 in
-    let is_tick : observed at.0 written.0 placed.0 past.pods ≡ tick.0 =
-    same_value {E = FaultKind} (observed at.0 written.0 placed.0 past.pods) tick.0 coded.1 in
-    let is_next : with_tick past tick.0 ≡ next = same_value {E = FaultKind} (with_tick past tick.0) next tick.2 in
-    let has_moment : HasMoment past line d at.0 =
-    record { stands = is; room = leb-false most_ticks (length past.ticks) room.0; moment = at.1 } in
-    let has_written : HasWritten past line d at.0 written.0 =
-    record { has_moment = has_moment; written_is = written.1 } in
-    let has_places : HasPlaces past line d at.0 written.0 placed.0 =
-    record { has_written = has_written; placed_are = placed.1 } in
-    let is_apart : IsApart past line d at.0 written.0 placed.0 = record { has_places = has_places; apart = apart.0 } in
-    let is_forwards : IsForwards past line d at.0 written.0 placed.0 =
-    record { is_apart = is_apart; forwards = forwards.0 } in
-    let says : Says past line (with_tick past (observed at.0 written.0 placed.0 past.pods)) =
-    says_tick d at.0 written.0 placed.0 is_forwards coded.0 in
-    subst (λ (p : Past). Says past line p) {x = with_tick past tick.0} {y = next} is_next
-    (subst (λ (t : TickObs). Says past line (with_tick past t)) {x = observed at.0 written.0 placed.0 past.pods} {y =
-    tick.0} is_tick says)
-
-pod_says : (version : Version) (past : Past) (line : List ℕ) (d : Data) (next : Past) → version_in past ≡ Some version
-    → IsOfKind line kinds.Pod d → pod_line_at version past d ≡ Ok next → Says past line next
-unfolding pod_line_at
-pod_says version past line d next some is e =
-    let before = cleared (is_late version past.ticks) Order (pod_early past d) next e in
-    let room = cleared (nat_le most_pods (length past.pods)) TooMany (pod_read past d) next before.1 in
-    let pod = bind_ok (pod_from (field_at (codes "pod") d)) (pod_said past) next room.1 in
-    let new = cleared (has_key past.pods (key_of_pod pod.0)) DuplicatePod (pod_new past pod.0) next pod.2 in
-    let is_next : with_pod past pod.0 ≡ next = same_value {E = FaultKind} (with_pod past pod.0) next new.1 in
-    let stands : Stands past line kinds.Pod d =
-    record { of_kind = is; here = subst (PodStands past) (sym some) (takes_pods version past.ticks before.0) } in
-    let has_pod : HasPod past line d pod.0 =
-    record { stands = stands; room = leb-false most_pods (length past.pods) room.0; pod_is = pod.1 } in
-    subst (λ (p : Past). Says past line p) {x = with_pod past pod.0} is_next
-    (says_pod d pod.0 has_pod (key_nowhere past.pods (key_of_pod pod.0) new.0))
-
-node_says : (past : Past) (line : List ℕ) (d : Data) (next : Past) → Stands past line kinds.Node d
-    → with_node past d ≡ Ok next → Says past line next
-unfolding with_node
-node_says past line d next is e =
-    let said : NodeConfig → Past = of_node past in
-    let last : NodeConfig → Result Past FaultKind = λ node. Ok (said node) in
-    let node = bind_ok (node_in d) last next e in
-    let is_next : said node.0 ≡ next = same_value {E = FaultKind} (said node.0) next node.2 in
-    subst (λ (p : Past). Says past line p) {x = said node.0} is_next (says_node d node.0 is node.1)
-
-place_says : (found : Option Version) (past : Past) (line : List ℕ) (line_kind : LineKind) (d : Data) (next : Past)
-    → version_in past ≡ found → IsOfKind line line_kind d → in_order found past line_kind d ≡ Ok next
-    → Says past line next
-place_says None past line kinds.Node d next none is e =
-    node_says past line d next (record { of_kind = is; here = no_node past.node none }) e
-place_says None past line kinds.Pod d next none is e = absurd (no_fault next Order (sym e))
-place_says None past line kinds.Tick d next none is e = absurd (no_fault next Order (sym e))
-place_says (Some version) past line kinds.Node d next some is e = absurd (no_fault next Order (sym e))
-place_says (Some version) past line kinds.Pod d next some is e = pod_says version past line d next some is e
-place_says (Some version) past line kinds.Tick d next some is e =
-    tick_says past line d next (record { of_kind = is; here = some_node past.node version some }) e
-
-kind_says : (past : Past) (line : List ℕ) (d : Data) (found : Option LineKind) (next : Past) → IsJson line d
-    → kind_from (text_at (codes "kind") d) ≡ found → with_kind past d found ≡ Ok next → Says past line next
-kind_says past line d None next is found e = absurd (no_fault next UnknownKind (sym e))
-kind_says past line d (Some line_kind) next is found e =
-    place_says (version_in past) past line line_kind d next refl (record { json = is; kind = found }) e
-
-line_says_it : (past : Past) (line : List ℕ) (next : Past) → line_at past line ≡ Ok next → Says past line next
-unfolding line_at
-line_says_it past line next e =
-    let short = cleared (nat_lt longest_line (length line)) TooLong (λ u. json_of line >>= with_json past) next e in
-    let json = bind_ok (json_of line) (with_json past) next short.1 in
-    let is : IsJson line json.0 = record { short = ltb-false longest_line (length line) short.0; json = json.1 } in
-    kind_says past line json.0 (kind_from (text_at (codes "kind") json.0)) next is refl json.2
-
--- from what a line says to what it leaves
-node_line : (past : Past) (line : List ℕ) (d : Data) (node : NodeConfig) → Stands past line kinds.Node d
-    → node_in d ≡ Ok node
-    → line_at past line ≡ Ok (of_node past node)
-unfolding with_node
-node_line past line d node is e =
-    let said : NodeConfig → Result Past FaultKind = λ node. Ok (of_node past node) in
-    of_kind past line kinds.Node d is.of_kind ∙ node_in_order past.node past d is.here ∙ then_ok (node_in d) said node e
-
-tick_line : (past : Past) (line : List ℕ) (d : Data) (at : ℕ) (written : TickLine) (placed : List PlacedEntry)
-    → IsForwards past line d at written placed → some_code_missing placed ≡ false
-    → line_at past line ≡ Ok (with_tick past (observed at written placed past.pods))
-unfolding observed_in
-tick_line past line d at written placed is coded =
-    let seen = observed at written placed past.pods in
-    let given : observed_in past at written placed ≡ Ok seen =
-    passed (is_doubled placed) Doubled (with_apart past at written placed) is.is_apart.apart
-    ∙ passed (is_backwards past.ticks seen) Backwards (with_forwards past at written placed) is.forwards
-    ∙ passed (some_code_missing placed) ExitCode (with_code past at written placed) coded in
-    of_places past line d at written placed is.is_apart.has_places
-    ∙ then_ok (observed_in past at written placed) (with_tick_seen past) seen given
-
-says_line : (past : Past) (line : List ℕ) (next : Past) → Says past line next → line_at past line ≡ Ok next
-says_line past line _ (says_node d node is e) = node_line past line d node is e
-says_line past line _ (says_pod d pod is new) =
-    of_pod_said past line d pod is ∙ passed (has_key past.pods (key_of_pod pod)) DuplicatePod (pod_new past pod)
-    (nowhere_key past.pods (key_of_pod pod) new)
-says_line past line _ (says_tick d at written placed is coded) = tick_line past line d at written placed is coded
-
-pub all_checks : AllChecks
-all_checks past line next = (line_says_it past line next, says_line past line next)

@@ -1,10 +1,10 @@
 -- The kinds of fault that the checks of a line answer.
-use Rattle.std.proofs.Common.{◌≡◌, ◌⊎◌, ℕ, Bool, List, [], length, slice_get, Option, Some, None, Result, Ok, Err}
+use Rattle.std.proofs.Common.{◌≡◌, ◌⊎◌, ℕ, List, length, slice_get, Option, Some, None, Result, Ok, Err}
 use Rattle.std.proofs.Common.{refl, ap, sym, subst, inl, inr}
-use Rattle.std.specs.Prelude.{◌==◌, ◌&&◌, ◌-◌, ◌^◌, if◌then◌else◌, option_and_then, nat_lt, codes}
-use Rattle.serde_json.specs.Data.{Data, Items}
-use Rattle.serde_json.specs.Find.{as_str, as_number, as_u64, as_array}
-use Rattle.json_fields.specs.Fields.{field_at, text_at}
+use Rattle.std.specs.Prelude.{◌&&◌, ◌-◌, ◌^◌, option_and_then, nat_lt, codes}
+use Rattle.serde_json.specs.Data.{Data}
+use Rattle.serde_json.specs.Find.{as_number, as_u64}
+use Rattle.json_fields.specs.Fields.{field_at}
 use Rattle.json_fields.specs.Reading.{some_or}
 use Rattle.manifest.specs.declared.pod.PodSpec.{PodSpec}
 use Rattle.trace.specs.declared.fault.FaultKind.{FaultKind}
@@ -35,7 +35,7 @@ use Rattle.trace.specs.Laws.{wrong_pod, duplicate_pod, many_ticks, wrong_moment,
 use Rattle.trace.specs.Laws.{backwards, no_code, KindsOfChecks, IsNotMemory, NeverMemory}
 use Rattle.trace.proofs.LawLemmas.{first_fault}
 use Rattle.trace.proofs.LawLemmas.Checks.{line_fails}
-use Rattle.json_fields.proofs.Only.{Only, only_ok, only_err, only_bind, only_if, only_refused, only_some, only_each}
+use Rattle.json_fields.proofs.Only.{Only, only_ok, only_err, only_bind, only_if, only_some, only_each}
 use Rattle.node_lines.specs.declared.fault.NodeFault.{NodeFault}
 use Rattle.node_lines.specs.Node.{node_of}
 use Rattle.node_lines.proofs.FaultLemmas.{IsNodeFault, node_only}

@@ -8,7 +8,6 @@ use Rattle.tick_lines.specs.declared.fault.TickLineFault.{TickLineFault}
 use Rattle.tick_lines.specs.declared.line.TickLine.{TickLine}
 use Rattle.tick_lines.specs.Line.{tick_line_of}
 use Rattle.tick_lines.proofs.Quantities.{samples_said}
-use Rattle.trace.specs.declared.fault.FaultKind.{FaultKind}
 use Rattle.trace.specs.declared.placing.PlacedEntry.{PlacedEntry}
 use Rattle.trace.specs.Observed.{usage_of, entry_for, pod_observed, observed}
 use Rattle.trace.specs.Placing.{has_twice, are_of_one_pod}
