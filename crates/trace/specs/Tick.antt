@@ -57,11 +57,16 @@ observed_in past at written placed = do
   coded ← refused_if (some_code_missing placed) ExitCode
   Ok (observed at written placed past.pods)
 
-unfoldable pub tick_at : Past → Data → Result Past FaultKind
-tick_at past d = do
+-- the tick that a tick line says after those that say what is past
+unfoldable pub tick_in : Past → Data → Result TickObs FaultKind
+tick_in past d = do
   room ← room_for_tick past.ticks
   at ← moment_in past.ticks d
   written ← tick_line_in d
   placed ← placed_of past.pods written.entries
-  tick ← observed_in past at written placed
+  observed_in past at written placed
+
+unfoldable pub tick_at : Past → Data → Result Past FaultKind
+tick_at past d = do
+  tick ← tick_in past d
   Ok (with_tick past tick)

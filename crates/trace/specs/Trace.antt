@@ -54,11 +54,16 @@ abbrev pub is_late : Version → List TickObs → Bool
 is_late One ticks = nat_lt 0 (length ticks)
 is_late Two ticks = false
 
-unfoldable pub pod_line_at : Version → Past → Data → Result Past FaultKind
-pod_line_at version past d = do
+-- the pod that a pod line says after those that say what is past, whatever its key
+unfoldable pub pod_in : Version → Past → Data → Result PodSpec FaultKind
+pod_in version past d = do
   in_time ← refused_if (is_late version past.ticks) Order
   room ← room_for_pod past.pods
-  pod ← pod_from (field_at (codes "pod") d)
+  pod_from (field_at (codes "pod") d)
+
+unfoldable pub pod_line_at : Version → Past → Data → Result Past FaultKind
+pod_line_at version past d = do
+  pod ← pod_in version past d
   with_new_pod past pod
 
 -- a node line stands first, and nowhere else
@@ -81,13 +86,19 @@ in_order version past line_kind d = turn_of version line_kind >>= λ turn. in_tu
 abbrev pub line_length : List ℕ → Result ⊤ FaultKind
 line_length line = refused_if (nat_lt longest_line (length line)) TooLong
 
--- a line after those that say what is past
-unfoldable pub line_at : Past → List ℕ → Result Past FaultKind
-line_at past line = do
+-- the kind of a line, and its JSON value
+unfoldable pub kind_and_value : List ℕ → Result (LineKind × Data) FaultKind
+kind_and_value line = do
   short ← line_length line
   d ← json_of line
   line_kind ← kind_of_line d
-  in_order (version_in past) past line_kind d
+  Ok (line_kind, d)
+
+-- a line after those that say what is past
+unfoldable pub line_at : Past → List ℕ → Result Past FaultKind
+line_at past line = do
+  said ← kind_and_value line
+  in_order (version_in past) past said.0 said.1
 
 abbrev pub at_line : {A : Type 0} → ℕ → Result A FaultKind → Result A LineFault
 at_line n (Ok x) = Ok x

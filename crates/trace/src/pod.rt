@@ -24,7 +24,7 @@ fn manifest_of(found: Option<&Value>) -> Result<&Value, FaultKind>
 }
 
 /// The pod that a pod line's manifest describes.
-pub(crate) fn pod_in(alloc: Global, found: Option<&Value>) -> Result<PodSpec, FaultKind>
+pub(crate) fn pod_from(alloc: Global, found: Option<&Value>) -> Result<PodSpec, FaultKind>
     ensures { Gives (λ p. p) result (pod_from (option_map (λ v. view v.now) found.entry)) }
 {
     let manifest = manifest_of(found)?;

@@ -8,13 +8,13 @@ ghost use Rattle.trace.specs.Written.{node_in};
 ghost use Rattle.trace.specs.Past.{version_in, with_pod};
 ghost use Rattle.trace.specs.Pod.{key_of_pod, keys_of};
 ghost use Rattle.trace.specs.Sound.{AreAcceptable, AreRising, HasShape};
-ghost use Rattle.trace.specs.Trace.{json_of, kind_from, kind_of_line, with_node, with_new_pod, is_late, pod_line_at};
-ghost use Rattle.trace.specs.Trace.{line_length, line_at, trace_of, finished, turn_of, in_order};
+ghost use Rattle.trace.specs.Trace.{json_of, kind_from, kind_of_line, with_node, with_new_pod, is_late, pod_in};
+ghost use Rattle.trace.specs.Trace.{pod_line_at, line_length, kind_and_value, line_at, trace_of, finished, turn_of, in_order};
 
 use crate::fault::{FaultKind, LineFault, refused_if};
 use crate::lines::{first_line, is_blank};
 use crate::past::{LineKind, Reader, Trace, Turn};
-use crate::pod::{new_key, pod_in, room_for_pod};
+use crate::pod::{new_key, pod_from, room_for_pod};
 use crate::tick::take_tick;
 use following::Following;
 use json_fields::{field, text_at};
@@ -133,6 +133,21 @@ fn is_late(version: Version, reader: &Reader) -> bool
     }
 }
 
+/// The pod that a pod line says, whatever its key.
+#[tactic(auto, unfolding(crate::specs::Trace::pod_in))]
+fn pod_in(
+    alloc: Global,
+    version: Version,
+    reader: &Reader,
+    line: &Value,
+) -> Result<PodSpec, FaultKind>
+    ensures { Gives (λ p. p) result (pod_in version reader.now (view line.now)) }
+{
+    refused_if(is_late(version, reader), FaultKind::Order)?;
+    room_for_pod(reader)?;
+    pod_from(alloc, field(line, "pod"))
+}
+
 /// Takes a pod line.
 #[tactic(auto, unfolding(crate::specs::Trace::pod_line_at))]
 fn take_pod(
@@ -143,9 +158,7 @@ fn take_pod(
 ) -> Result<Reader, FaultKind>
     ensures { Gives (λ r. r) result (pod_line_at version reader (view line.now)) }
 {
-    refused_if(is_late(version, &reader), FaultKind::Order)?;
-    room_for_pod(&reader)?;
-    let pod = pod_in(alloc, field(line, "pod"))?;
+    let pod = pod_in(alloc, version, &reader, line)?;
     with_new_pod(alloc, reader, pod)
 }
 
@@ -192,13 +205,22 @@ fn line_length(line: &[u8]) -> Result<(), FaultKind>
     refused_if(line.len() > LONGEST_LINE, FaultKind::TooLong)
 }
 
-#[tactic(auto, unfolding(crate::specs::Trace::line_at))]
-fn take_line(alloc: Global, reader: Reader, line: &[u8]) -> Result<Reader, FaultKind>
-    ensures { Gives (λ r. r) result (line_at reader line.now) }
+/// The kind of a line, and its JSON value.
+#[tactic(auto, unfolding(crate::specs::Trace::kind_and_value))]
+fn kind_and_value(alloc: Global, line: &[u8]) -> Result<(LineKind, Value), FaultKind>
+    ensures { Gives (λ p. (p.0, view p.1)) result (kind_and_value line.now) }
 {
     line_length(line)?;
     let value = json(alloc, line)?;
     let line_kind = kind_of_line(&value)?;
+    Ok((line_kind, value))
+}
+
+#[tactic(auto, unfolding(crate::specs::Trace::line_at))]
+fn take_line(alloc: Global, reader: Reader, line: &[u8]) -> Result<Reader, FaultKind>
+    ensures { Gives (λ r. r) result (line_at reader line.now) }
+{
+    let (line_kind, value) = kind_and_value(alloc, line)?;
     take_in_order(alloc, reader, line_kind, &value)
 }
 

@@ -13,7 +13,7 @@ ghost use Rattle.trace.specs.Observed.{some_code_missing};
 ghost use Rattle.following.specs.Backwards.{is_backwards};
 ghost use Rattle.following.specs.Followed.{EndBefore, ComesNext};
 ghost use Rattle.trace.specs.Pod.{container_counts};
-ghost use Rattle.trace.specs.Tick.{moment_of, moment_in, room_for_tick, HasFollowedTo, observed_in, tick_at};
+ghost use Rattle.trace.specs.Tick.{moment_of, moment_in, room_for_tick, HasFollowedTo, observed_in, tick_in, tick_at};
 ghost use Rattle.trace.specs.Written.{tick_line_in};
 
 use crate::fault::{FaultKind, refused_if};
@@ -309,15 +309,24 @@ fn with_tick(reader: Reader, tick: TickObs, following: Following) -> Result<Read
     })
 }
 
+/// The tick that a tick line says, and what follows the containers after it.
+#[tactic(auto, unfolding(crate::specs::Tick::tick_in))]
+fn tick_in(alloc: Global, reader: &Reader, line: &Value) -> Result<(TickObs, Following), FaultKind>
+    ensures gives { Gives (λ r. r.0) result (tick_in reader.now (view line.now)) }
+    ensures followed { IfOk result (λ r. HasFollowedTo reader.now r.0 r.1) }
+{
+    room(reader)?;
+    let at = moment_in(reader, line)?;
+    let written = tick_line_in(alloc, line)?;
+    let placed = placed_of(alloc, reader, &written)?;
+    observed_in(alloc, reader, at, &written, &placed)
+}
+
 /// Takes a tick line.
 #[tactic(auto, unfolding(crate::specs::Tick::tick_at))]
 pub(crate) fn take_tick(alloc: Global, reader: Reader, line: &Value) -> Result<Reader, FaultKind>
     ensures { Gives (λ r. r) result (tick_at reader (view line.now)) }
 {
-    room(&reader)?;
-    let at = moment_in(&reader, line)?;
-    let written = tick_line_in(alloc, line)?;
-    let placed = placed_of(alloc, &reader, &written)?;
-    let (tick, following) = observed_in(alloc, &reader, at, &written, &placed)?;
+    let (tick, following) = tick_in(alloc, &reader, line)?;
     with_tick(reader, tick, following)
 }

@@ -5,7 +5,7 @@ use Rattle.std.specs.Prelude.{⊤, nat_lt, nat_le, option_map, IsSomeAnd, codes}
 use Rattle.std.proofs.lemmas.Bool.{ltb-true, ltb-false, lt-ltb, le-ltb, leb-true, leb-false, le-leb, lt-leb}
 use Rattle.serde_json.specs.Data.{Data}
 use Rattle.json_fields.specs.Fields.{field_at, text_at}
-use Rattle.json_fields.specs.Reading.{◌>>=◌, refused_if, some_or}
+use Rattle.json_fields.specs.Reading.{◌>>=◌, refused_if}
 use Rattle.manifest.specs.declared.pod.PodSpec.{PodSpec}
 use Rattle.trace.specs.declared.fault.FaultKind.{FaultKind}
 use Rattle.trace.specs.declared.fault.FaultKind.TheVariants.{TooLong, UnknownKind, Order, TooMany, DuplicatePod}
@@ -21,6 +21,9 @@ use Rattle.trace.specs.declared.placing.PlacedEntry.{PlacedEntry}
 use Rattle.trace.specs.Lines.{longest_line}
 use Rattle.trace.specs.Written.{node_in, tick_line_in}
 use Rattle.trace.specs.Pod.{key_of_pod, has_key, most_pods, pod_from}
+use Rattle.trace.proofs.Whole.{with_kind, with_json, with_tick_seen, with_places, with_written, with_moment}
+use Rattle.trace.proofs.Whole.{with_room, with_code, with_forwards, with_apart, pod_new, pod_said, pod_read}
+use Rattle.trace.proofs.Whole.{pod_early, tick_whole, pod_whole, line_whole}
 use Rattle.trace.proofs.Versions.{no_node, some_node}
 use Rattle.trace.proofs.Keys.{key_there, there_key}
 use Rattle.trace.specs.Placing.{placed_of, is_doubled}
@@ -58,57 +61,8 @@ tested : {B E : Type 0} (b : Bool) (fault : E) (f : ⊤ → Result B E) (given :
 tested true fault f given e = let is : fault ≡ given = cc in inl (refl, is)
 tested false fault f given e = inr (refl, e)
 
--- the steps of a line, each with those after it
-abbrev in_place : Past → Data → LineKind → Result Past FaultKind
-in_place past d line_kind = in_order (version_in past) past line_kind d
-
 abbrev pub PodStands : Past → Option Version → Type 0
 PodStands past found = IsSomeAnd found (TakesPods past.ticks)
-
-abbrev pub with_kind : Past → Data → Option LineKind → Result Past FaultKind
-with_kind past d kind = some_or UnknownKind kind >>= in_place past d
-
-abbrev pub with_json : Past → Data → Result Past FaultKind
-with_json past d = with_kind past d (kind_from (text_at (codes "kind") d))
-
-abbrev pub with_tick_seen : Past → TickObs → Result Past FaultKind
-with_tick_seen past tick = Ok (with_tick past tick)
-
-abbrev pub with_places : Past → ℕ → TickLine → List PlacedEntry → Result Past FaultKind
-with_places past at written placed = observed_in past at written placed >>= with_tick_seen past
-
-abbrev pub with_written : Past → ℕ → TickLine → Result Past FaultKind
-with_written past at written = placed_of past.pods written.entries >>= with_places past at written
-
-abbrev pub with_moment : Past → Data → ℕ → Result Past FaultKind
-with_moment past d at = tick_line_in d >>= with_written past at
-
-abbrev pub with_room : Past → Data → ⊤ → Result Past FaultKind
-with_room past d u = moment_of past.ticks (field_at (codes "at") d) >>= with_moment past d
-
-abbrev pub with_code : Past → ℕ → TickLine → List PlacedEntry → ⊤ → Result TickObs FaultKind
-with_code past at written placed u = Ok (observed at written placed past.pods)
-
-abbrev pub with_forwards : Past → ℕ → TickLine → List PlacedEntry → ⊤ → Result TickObs FaultKind
-with_forwards past at written placed u =
-    refused_if (some_code_missing placed) ExitCode >>= with_code past at written placed
-
-abbrev pub with_apart : Past → ℕ → TickLine → List PlacedEntry → ⊤ → Result TickObs FaultKind
-with_apart past at written placed u =
-    refused_if (is_backwards past.ticks (observed at written placed past.pods)) Backwards >>= with_forwards past at
-    written placed
-
-abbrev pub pod_new : Past → PodSpec → ⊤ → Result Past FaultKind
-pod_new past pod u = Ok (with_pod past pod)
-
-abbrev pub pod_said : Past → PodSpec → Result Past FaultKind
-pod_said past pod = refused_if (has_key past.pods (key_of_pod pod)) DuplicatePod >>= pod_new past pod
-
-abbrev pub pod_read : Past → Data → ⊤ → Result Past FaultKind
-pod_read past d u = pod_from (field_at (codes "pod") d) >>= pod_said past
-
-abbrev pub pod_early : Past → Data → ⊤ → Result Past FaultKind
-pod_early past d u = refused_if (nat_le most_pods (length past.pods)) TooMany >>= pod_read past d
 
 none_in : {A : Type 0} (xs : List A) → nat_lt 0 (length xs) ≡ false → xs ≡ []
 none_in [] e = refl
@@ -214,9 +168,9 @@ room_fails past line d kind is room e =
 
 tick_fails : (past : Past) (line : List ℕ) (d : Data) (kind : FaultKind) → Stands past line kinds.Tick d
     → tick_at past d ≡ Err kind → Fails past line kind
-unfolding tick_at
 tick_fails past line d kind is e =
-    elim (tested (nat_le most_ticks (length past.ticks)) TooMany (with_room past d) kind e) [
+    elim (tested (nat_le most_ticks (length past.ticks)) TooMany (with_room past d) kind
+    (sym (tick_whole past d) ∙ e)) [
       | inl here ↦ subst (λ (k : FaultKind). Fails past line k) here.1
           (many_ticks d is (leb-true most_ticks (length past.ticks) here.0))
       | inr later ↦ room_fails past line d kind is (leb-false most_ticks (length past.ticks) later.0) later.1
@@ -250,9 +204,8 @@ early_fails past line d kind is e =
 pod_fails : (version : Version) (past : Past) (line : List ℕ) (d : Data) (kind : FaultKind)
     → version_in past ≡ Some version → IsOfKind line kinds.Pod d → pod_line_at version past d ≡ Err kind
     → Fails past line kind
-unfolding pod_line_at
 pod_fails version past line d kind some is e =
-    elim (tested (is_late version past.ticks) Order (pod_early past d) kind e) [
+    elim (tested (is_late version past.ticks) Order (pod_early past d) kind (sym (pod_whole version past d) ∙ e)) [
       | inl here ↦ subst (λ (k : FaultKind). Fails past line k) here.1
           (misplaced kinds.Pod d is (λ may. too_late version past.ticks here.0 (subst (PodStands past) some may)))
       | inr later ↦ early_fails past line d kind
@@ -308,9 +261,9 @@ json_fails past line kind short e = elim (bind_err (json_of line) (with_json pas
 ]
 
 pub line_fails : (past : Past) (line : List ℕ) (kind : FaultKind) → line_at past line ≡ Err kind → Fails past line kind
-unfolding line_at
 line_fails past line kind e =
-    elim (tested (nat_lt longest_line (length line)) TooLong (λ u. json_of line >>= with_json past) kind e) [
+    elim (tested (nat_lt longest_line (length line)) TooLong (λ u. json_of line >>= with_json past) kind
+    (sym (line_whole past line) ∙ e)) [
       | inl here ↦ subst (λ (k : FaultKind). Fails past line k) here.1
           (too_long (ltb-true longest_line (length line) here.0))
       | inr later ↦ json_fails past line kind (ltb-false longest_line (length line) later.0) later.1
@@ -319,13 +272,13 @@ line_fails past line kind e =
 -- from a check that fails to the fault
 of_short : (past : Past) (line : List ℕ) → length line ≤ longest_line
     → line_at past line ≡ (json_of line >>= with_json past)
-unfolding line_at
-of_short past line short = passed (nat_lt longest_line (length line)) TooLong (λ u. json_of line >>= with_json past)
+of_short past line short = line_whole past line
+    ∙ passed (nat_lt longest_line (length line)) TooLong (λ u. json_of line >>= with_json past)
     (le-ltb longest_line (length line) short)
 
 of_long : (past : Past) (line : List ℕ) → longest_line < length line → line_at past line ≡ Err TooLong
-unfolding line_at
-of_long past line long = failed (nat_lt longest_line (length line)) TooLong (λ u. json_of line >>= with_json past)
+of_long past line long = line_whole past line
+    ∙ failed (nat_lt longest_line (length line)) TooLong (λ u. json_of line >>= with_json past)
     (lt-ltb longest_line (length line) long)
 
 of_json : (past : Past) (line : List ℕ) (d : Data) → IsJson line d → line_at past line ≡ with_json past d
@@ -338,14 +291,13 @@ of_kind past line line_kind d is =
 
 misplaced_kind : (found : Option Version) (past : Past) (line_kind : LineKind) (d : Data) → version_in past ≡ found
     → (MayStand past line_kind → ⊥) → in_order found past line_kind d ≡ Err Order
-unfolding pod_line_at
 misplaced_kind None past kinds.Node d none never = absurd (never (no_node past.node none))
 misplaced_kind None past kinds.Pod d none never = refl
 misplaced_kind None past kinds.Tick d none never = refl
 misplaced_kind (Some version) past kinds.Node d some never = refl
 misplaced_kind (Some version) past kinds.Pod d some never =
     let late = comes_late version past.ticks (λ may. never (subst (PodStands past) (sym some) may)) in
-    failed (is_late version past.ticks) Order (pod_early past d) late
+    pod_whole version past d ∙ failed (is_late version past.ticks) Order (pod_early past d) late
 misplaced_kind (Some version) past kinds.Tick d some never = absurd (never (some_node past.node version some))
 
 pub node_in_order : (node : Option NodeConfig) (past : Past) (d : Data) → node ≡ None
@@ -355,10 +307,10 @@ node_in_order (Some node) past d is = absurd (cc)
 
 pod_in_order : (found : Option Version) (past : Past) (d : Data) → PodStands past found
     → in_order found past kinds.Pod d ≡ pod_early past d tt
-unfolding pod_line_at
 pod_in_order None past d may = absurd may
 pod_in_order (Some version) past d may =
-    passed (is_late version past.ticks) Order (pod_early past d) (in_time version past.ticks may)
+    pod_whole version past d
+    ∙ passed (is_late version past.ticks) Order (pod_early past d) (in_time version past.ticks may)
 
 tick_in_order : (node : Option NodeConfig) (past : Past) (d : Data) → is_some node ≡ true
     → in_order (option_map (λ (n : NodeConfig). n.version) node) past kinds.Tick d ≡ tick_at past d
@@ -390,8 +342,8 @@ of_pod_said past line d pod is = of_pod_room past line d is.stands is.room
 
 of_tick : (past : Past) (line : List ℕ) (d : Data) → Stands past line kinds.Tick d
     → line_at past line ≡ (refused_if (nat_le most_ticks (length past.ticks)) TooMany >>= with_room past d)
-unfolding tick_at
 of_tick past line d is = of_kind past line kinds.Tick d is.of_kind ∙ tick_in_order past.node past d is.here
+    ∙ tick_whole past d
 
 of_room : (past : Past) (line : List ℕ) (d : Data) → Stands past line kinds.Tick d → length past.ticks < most_ticks
     → line_at past line ≡ with_room past d tt

@@ -7,6 +7,9 @@ use Rattle.serde_json.specs.Data.{Data}
 use Rattle.json_fields.specs.Fields.{field_at, text_at}
 use Rattle.json_fields.specs.Reading.{◌>>=◌, refused_if}
 use Rattle.json_fields.proofs.Steps.{bind_ok}
+use Rattle.trace.proofs.Whole.{with_kind, with_json, with_tick_seen, with_places, with_written, with_moment}
+use Rattle.trace.proofs.Whole.{with_room, with_code, with_forwards, with_apart, pod_new, pod_said, pod_read}
+use Rattle.trace.proofs.Whole.{pod_early, tick_whole, pod_whole, line_whole}
 use Rattle.trace.specs.declared.fault.FaultKind.{FaultKind}
 use Rattle.trace.specs.declared.fault.FaultKind.TheVariants.{TooLong, UnknownKind, Order, TooMany, DuplicatePod}
 use Rattle.trace.specs.declared.fault.FaultKind.TheVariants.{Doubled, Backwards, ExitCode}
@@ -32,10 +35,7 @@ use Rattle.trace.specs.Laws.{IsJson, IsOfKind, Stands, HasPod, HasMoment, HasWri
 use Rattle.trace.specs.Laws.{IsApart, IsForwards}
 use Rattle.trace.specs.Laws.{Says, says_node, says_pod, says_tick, AllChecks}
 use Rattle.trace.proofs.LawLemmas.Checks.{PodStands, no_fault, node_in_order, of_kind, of_places, of_pod_said, passed}
-use Rattle.trace.proofs.LawLemmas.Checks.{pod_early}
-use Rattle.trace.proofs.LawLemmas.Checks.{pod_new, pod_read, pod_said, takes_pods, then_ok, with_apart, with_code}
-use Rattle.trace.proofs.LawLemmas.Checks.{with_forwards, with_json, with_kind, with_moment, with_places, with_room}
-use Rattle.trace.proofs.LawLemmas.Checks.{with_tick_seen, with_written}
+use Rattle.trace.proofs.LawLemmas.Checks.{takes_pods, then_ok}
 
 -- a test that refuses nothing, and what follows it
 cleared : {B E : Type 0} (b : Bool) (fault : E) (f : ⊤ → Result B E) (y : B) → (refused_if b fault >>= f) ≡ Ok y
@@ -49,9 +49,10 @@ same_value a b e = cc
 -- from what a line leaves to what it says
 tick_says : (past : Past) (line : List ℕ) (d : Data) (next : Past) → Stands past line kinds.Tick d
     → tick_at past d ≡ Ok next → Says past line next
-unfolding tick_at observed_in
+unfolding observed_in
 tick_says past line d next is e =
-    let room = cleared (nat_le most_ticks (length past.ticks)) TooMany (with_room past d) next e in
+    let room = cleared (nat_le most_ticks (length past.ticks)) TooMany (with_room past d) next
+    (sym (tick_whole past d) ∙ e) in
     let at = bind_ok (moment_of past.ticks (field_at (codes "at") d)) (with_moment past d) next room.1 in
     let written = bind_ok (tick_line_in d) (with_written past at.0) next at.2 in
     let placed = bind_ok (placed_of past.pods written.0.entries) (with_places past at.0 written.0) next written.2 in
@@ -81,9 +82,9 @@ tick_says past line d next is e =
 
 pod_says : (version : Version) (past : Past) (line : List ℕ) (d : Data) (next : Past) → version_in past ≡ Some version
     → IsOfKind line kinds.Pod d → pod_line_at version past d ≡ Ok next → Says past line next
-unfolding pod_line_at
 pod_says version past line d next some is e =
-    let before = cleared (is_late version past.ticks) Order (pod_early past d) next e in
+    let before = cleared (is_late version past.ticks) Order (pod_early past d) next
+    (sym (pod_whole version past d) ∙ e) in
     let room = cleared (nat_le most_pods (length past.pods)) TooMany (pod_read past d) next before.1 in
     let pod = bind_ok (pod_from (field_at (codes "pod") d)) (pod_said past) next room.1 in
     let new = cleared (has_key past.pods (key_of_pod pod.0)) DuplicatePod (pod_new past pod.0) next pod.2 in
@@ -124,9 +125,9 @@ kind_says past line d (Some line_kind) next is found e =
     place_says (version_in past) past line line_kind d next refl (record { json = is; kind = found }) e
 
 line_says_it : (past : Past) (line : List ℕ) (next : Past) → line_at past line ≡ Ok next → Says past line next
-unfolding line_at
 line_says_it past line next e =
-    let short = cleared (nat_lt longest_line (length line)) TooLong (λ u. json_of line >>= with_json past) next e in
+    let short = cleared (nat_lt longest_line (length line)) TooLong (λ u. json_of line >>= with_json past) next
+    (sym (line_whole past line) ∙ e) in
     let json = bind_ok (json_of line) (with_json past) next short.1 in
     let is : IsJson line json.0 = record { short = ltb-false longest_line (length line) short.0; json = json.1 } in
     kind_says past line json.0 (kind_from (text_at (codes "kind") json.0)) next is refl json.2
