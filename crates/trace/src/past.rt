@@ -36,6 +36,14 @@ pub(crate) struct Reader {
     pub(crate) following: Following,
 }
 
+/// The pods, by number, with the ticks before each, and their keys.
+#[derive(Drop)]
+pub(crate) struct Roster {
+    pub(crate) pods: Sequence<PodSpec>,
+    pub(crate) arrivals: Sequence<usize>,
+    pub(crate) keys: NameList,
+}
+
 impl Model for Reader {
     ghost use Rattle.std.specs.Prelude.{◌≡◌};
     ghost use Rattle.following.specs.Followed.{HasFollowed};

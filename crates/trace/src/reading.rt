@@ -5,15 +5,16 @@ ghost use Rattle.serde_json.specs.View.{view};
 ghost use Rattle.trace.specs.Gives.{Gives, GivesAt, GivesExactly, GivesExactlyAt};
 ghost use Rattle.name_list.specs.Names.{place_of};
 ghost use Rattle.trace.specs.Written.{node_in};
-ghost use Rattle.trace.specs.Past.{version_in, with_pod};
+ghost use Rattle.trace.specs.Past.{IsEnlisted, version_in, with_pod};
 ghost use Rattle.trace.specs.Pod.{key_of_pod, keys_of};
 ghost use Rattle.trace.specs.Sound.{AreAcceptable, AreRising, HasShape};
 ghost use Rattle.trace.specs.Trace.{json_of, kind_from, kind_of_line, with_node, with_new_pod, is_late, pod_in};
-ghost use Rattle.trace.specs.Trace.{pod_line_at, line_length, kind_and_value, line_at, trace_of, finished, turn_of, in_order};
+ghost use Rattle.trace.specs.Trace.{pod_line_at, line_length, kind_and_value, line_at, trace_of, finished, turn_of};
+ghost use Rattle.trace.specs.Trace.{in_order};
 
 use crate::fault::{FaultKind, LineFault, refused_if};
 use crate::lines::{first_line, is_blank};
-use crate::past::{LineKind, Reader, Trace, Turn};
+use crate::past::{LineKind, Reader, Roster, Trace, Turn};
 use crate::pod::{new_key, pod_from, room_for_pod};
 use crate::tick::take_tick;
 use following::Following;
@@ -24,7 +25,7 @@ use node_config::{NodeConfig, Version};
 use node_lines::node_of;
 use sequence::Sequence;
 use serde_json::Value;
-use std::alloc::Global;
+use std::alloc::{AllocError, Global};
 
 /// The most bytes of a line, 1 MiB.
 const LONGEST_LINE: usize = 1_048_576;
@@ -87,6 +88,26 @@ fn take_node(alloc: Global, reader: Reader, line: &Value) -> Result<Reader, Faul
     })
 }
 
+/// Adds a pod with its key, and the number of ticks before it.
+fn enlisted(roster: Roster, pod: PodSpec, key: String, ticks: usize) -> Result<Roster, AllocError>
+    requires { place_of roster.keys (string_bytes key) ≡ None }
+    ensures { IfOk result (IsEnlisted roster pod (string_bytes key) ticks) }
+{
+    let Roster {
+        mut pods,
+        mut arrivals,
+        mut keys,
+    } = roster;
+    keys.push(key)?;
+    pods.push(pod)?;
+    arrivals.push(ticks)?;
+    Ok(Roster {
+        pods,
+        arrivals,
+        keys,
+    })
+}
+
 /// Adds a pod of a new key.
 fn with_pod(alloc: Global, reader: Reader, pod: PodSpec, key: String) -> Result<Reader, FaultKind>
     requires key { string_bytes key ≡ key_of_pod pod }
@@ -95,22 +116,25 @@ fn with_pod(alloc: Global, reader: Reader, pod: PodSpec, key: String) -> Result<
 {
     let Reader {
         node,
-        mut pods,
-        mut arrivals,
-        ticks,
-        mut keys,
-        following,
-    } = reader;
-    keys.push(key)?;
-    let following = following.with_pod(alloc, pod.containers.as_slice().len())?;
-    pods.push(pod)?;
-    arrivals.push(ticks.as_slice().len())?;
-    Ok(Reader {
-        node,
         pods,
         arrivals,
         ticks,
         keys,
+        following,
+    } = reader;
+    let following = following.with_pod(alloc, pod.containers.as_slice().len())?;
+    let before = Roster {
+        pods,
+        arrivals,
+        keys,
+    };
+    let roster = enlisted(before, pod, key, ticks.as_slice().len())?;
+    Ok(Reader {
+        node,
+        pods: roster.pods,
+        arrivals: roster.arrivals,
+        ticks,
+        keys: roster.keys,
         following,
     })
 }
