@@ -12,7 +12,7 @@ ghost use Rattle.trace.specs.Trace.{json_of, kind_from, kind_of_line, with_node,
 ghost use Rattle.trace.specs.Trace.{pod_line_at, line_length, kind_and_value, line_at, trace_of, finished, turn_of};
 ghost use Rattle.trace.specs.Trace.{in_order};
 
-use crate::fault::{FaultKind, LineFault, refused_if};
+use crate::fault::{FaultKind, LineFault, at_line, refused_if};
 use crate::lines::{first_line, is_blank};
 use crate::past::{LineKind, Reader, Roster, Trace, Turn};
 use crate::pod::{new_key, pod_from, room_for_pod};
@@ -288,10 +288,7 @@ fn read_lines(alloc: Global, text: &[u8]) -> Result<Trace, LineFault>
     let mut line = 1u64;
     while let Some((found, after)) = first_line(rest) {
         if !is_blank(found) {
-            reader = match take_line(alloc, reader, found) {
-                Ok(next) => next,
-                Err(kind) => return Err(LineFault { line, kind }),
-            };
+            reader = at_line(line, take_line(alloc, reader, found))?;
         }
         rest = after;
         line += 1;
