@@ -1,5 +1,6 @@
 -- What the pods of a node keep, from call to call.
-use Rattle.std.proofs.Common.{◌≡◌, ◌∙◌, inl, inr, ℕ, Bool, List, [], ◌∷◌, ◌++◌, length, Option, Some, None, refl, sym, subst, arith}
+use Rattle.std.proofs.Common.{◌≡◌, ◌∙◌, inl, inr, ℕ, Bool, List, [], ◌∷◌, ◌++◌, length, Option, Some, None}
+use Rattle.std.proofs.Common.{refl, sym, subst, arith}
 use Rattle.std.specs.Prelude.{◌≢◌, slice_get, Result, Ok, Err, OnErr}
 use Rattle.std.proofs.lemmas.Bool.{cases_eq, cases_order}
 use Rattle.std.proofs.lemmas.Option.{slice_get_within, slice_get_past}
@@ -18,12 +19,14 @@ use Rattle.node_pods.specs.declared.rankings.Rankings.{Rankings}
 use Rattle.node_pods.specs.Pods.{pods_of, IsPlaced, ArePlaced, AreNext, AreAfter, IsEvictable, AreEvicted}
 use Rattle.node_pods.specs.Steps.{AreFree}
 use Rattle.node_pods.specs.Ranked.{AreHeldBelow, AreRankings, AreRankingsBut, IsKept}
-use Rattle.node_pods.proofs.Candidates.{same_piece, held_after, held_without, all_below, none_past, evicted_is_no_candidate}
+use Rattle.node_pods.proofs.Candidates.{same_piece, held_after, held_without, all_below, none_past}
+use Rattle.node_pods.proofs.Candidates.{evicted_is_no_candidate}
 use Rattle.node_pods.proofs.Indexes.{but}
 use Rattle.node_pods.proofs.Steps.{item_at}
 
 -- where each pod has its number
-pub free_all : (pieces : List Piece) (greatest : ℕ) (dedicated : Bool) → ArePlaced (pods_of pieces greatest dedicated) → AreFree pieces
+pub free_all : (pieces : List Piece) (greatest : ℕ) (dedicated : Bool)
+    → ArePlaced (pods_of pieces greatest dedicated) → AreFree pieces
 free_all pieces greatest dedicated placed n piece at = (placed n piece at).free
 
 -- one pod more
