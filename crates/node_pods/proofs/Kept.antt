@@ -1,0 +1,187 @@
+-- What the pods of a node keep, from call to call.
+use Rattle.std.proofs.Common.{◌≡◌, ◌∙◌, inl, inr, ℕ, Bool, List, [], ◌∷◌, ◌++◌, length, Option, Some, None}
+use Rattle.std.proofs.Common.{refl, ap, sym, subst, arith}
+use Rattle.std.specs.Prelude.{◌≢◌, slice_get, Result, Ok, Err, OnErr}
+use Rattle.std.proofs.lemmas.Bool.{cases_eq, cases_order}
+use Rattle.std.proofs.lemmas.Option.{slice_get_within, slice_get_past}
+use Rattle.probes.proofs.Runs.{slice_get-old, slice_get-new}
+use Rattle.histories.specs.Histories.{last_moment}
+use Rattle.histories.proofs.Moments.{last_moment-more}
+use Rattle.histories.proofs.Places.{length-more}
+use Rattle.manifest.specs.declared.pod.PodSpec.{PodSpec}
+use Rattle.observations.specs.declared.pod.PodObs.{PodObs}
+use Rattle.pod_state.specs.Pods.{pod_tick}
+use Rattle.pod_piece.specs.declared.order.EvictOrder.{EvictOrder}
+use Rattle.pod_piece.specs.declared.status.PodStatus.{PodStatus}
+use Rattle.pod_piece.specs.Piece.{Piece, new_piece, with_tick, updated, with_eviction}
+use Rattle.pod_piece.specs.Status.{IsStatusOf}
+use Rattle.ranking.specs.Index.{AreHeldAfter, AreHeldWithout}
+use Rattle.ranking.proofs.LawLemmas.{one_is_held_after, one_is_held_without}
+use Rattle.node_pods.specs.declared.rankings.Rankings.{Rankings}
+use Rattle.node_pods.specs.Pods.{pods_of, IsPlaced, ArePlaced, AreNext, AreAfter, IsEvictable, AreEvicted}
+use Rattle.node_pods.specs.Laws.{CandidateIsEvictable}
+use Rattle.node_pods.specs.Steps.{AreFree}
+use Rattle.node_pods.specs.Ranked.{AreHeldBelow, AreRankings, AreRankingsBut, IsKept}
+use Rattle.node_pods.proofs.Candidates.{same_piece, held_after, held_without, all_below, none_past}
+use Rattle.node_pods.proofs.Candidates.{evicted_is_no_candidate}
+use Rattle.node_pods.proofs.Indexes.{but}
+use Rattle.node_pods.proofs.Steps.{item_at}
+
+-- where each pod has its number
+pub free_all : (pieces : List Piece) (greatest : ℕ) (dedicated : Bool)
+    → ArePlaced (pods_of pieces greatest dedicated) → AreFree pieces
+free_all pieces greatest dedicated placed n piece at = (placed n piece at).free
+
+-- one pod more
+pub others_arrived : (pieces : List Piece) (x : Piece) (n : ℕ) → n ≢ length pieces
+    → slice_get (pieces ++ x ∷ []) n ≡ slice_get pieces n
+others_arrived pieces x n apart = elim (cases_order n (length pieces)) [
+  | inl same ↦ absurd (apart same)
+  | inr (inl lt) ↦ slice_get-old pieces (x ∷ []) n lt
+  | inr (inr gt) ↦
+      slice_get_past (pieces ++ x ∷ []) n (omega (arith, length-more pieces x, gt))
+      ∙ sym (slice_get_past pieces n (omega (arith, gt)))
+]
+
+placed_arrived : (pieces : List Piece) (greatest : ℕ) (dedicated : Bool) (pod : PodSpec)
+    → ArePlaced (pods_of pieces greatest dedicated)
+    → ArePlaced (pods_of (pieces ++ new_piece (length pieces) pod greatest ∷ []) greatest dedicated)
+placed_arrived pieces greatest dedicated pod placed n piece at = elim (cases_eq n (length pieces)) [
+  | inl same ↦
+      let x = new_piece (length pieces) pod greatest in
+      let new = subst (λ (k : ℕ). slice_get (pieces ++ x ∷ []) k ≡ Some x) (sym same) (slice_get-new pieces x) in
+      subst (λ (p : Piece). IsPlaced greatest n p) (same_piece (pieces ++ x ∷ []) n x piece new at)
+      (record { number_is = sym same; greatest_is = refl; free = refl })
+  | inr apart ↦
+      placed n piece (sym (others_arrived pieces (new_piece (length pieces) pod greatest) n apart) ∙ at)
+]
+
+pub kept_arrived : (pieces : List Piece) (greatest : ℕ) (dedicated : Bool) (old new : Rankings) (pod : PodSpec)
+    (status : PodStatus) → IsKept (pods_of pieces greatest dedicated) old
+    → IsStatusOf (new_piece (length pieces) pod greatest) status
+    → ((d : Bool) (held after : ℕ → Option PodStatus) → AreRankings d held old → AreHeldAfter held status after
+    → AreRankings d after new)
+    → IsKept (pods_of (pieces ++ new_piece (length pieces) pod greatest ∷ []) greatest dedicated) new
+kept_arrived pieces greatest dedicated old new pod status kept is rank =
+    let x = new_piece (length pieces) pod greatest in
+    let ranked = kept.ranked in
+    let after = one_is_held_after.exists ranked.held status in
+    record {
+      placed = placed_arrived pieces greatest dedicated pod kept.placed;
+      ranked = record {
+        held = after.0;
+        are_held = held_after pieces (pieces ++ x ∷ []) (length pieces) x status ranked.held after.0
+            (others_arrived pieces x) (slice_get-new pieces x) is is.number_is ranked.are_held after.1;
+        are_rankings = rank dedicated ranked.held after.0 ranked.are_rankings after.1;
+      };
+    }
+
+-- none more, since memory was refused
+pub kept_refused : (pieces : List Piece) (greatest : ℕ) (dedicated : Bool) (old new : Rankings) (status : PodStatus)
+    → IsKept (pods_of pieces greatest dedicated) old → status.number ≡ length pieces
+    → ((d : Bool) (held : ℕ → Option PodStatus) → held status.number ≡ None → AreRankings d held old
+    → AreRankings d held new) → IsKept (pods_of pieces greatest dedicated) new
+kept_refused pieces greatest dedicated old new status kept number undo =
+    let ranked = kept.ranked in
+    let none = subst (λ (k : ℕ). ranked.held k ≡ None) (sym number) (none_past pieces ranked.held ranked.are_held) in
+    record {
+      placed = kept.placed;
+      ranked = record {
+        held = ranked.held;
+        are_held = ranked.are_held;
+        are_rankings = undo dedicated ranked.held none ranked.are_rankings;
+      };
+    }
+
+-- after a tick
+pub placed_after : (old : List Piece) (greatest : ℕ) (dedicated : Bool) (shown : List PodObs) (new : List Piece)
+    → ArePlaced (pods_of old greatest dedicated) → AreNext old shown → AreAfter old shown new
+    → ArePlaced (pods_of new greatest dedicated)
+placed_after old greatest dedicated shown new placed next are n piece at =
+    let lt = slice_get_within new n piece at in
+    let p = item_at old n (omega (arith, lt, are.as_many)) in
+    let o = item_at shown n (omega (arith, lt, are.as_many, next.as_many)) in
+    let was = placed n p.0 p.1 in
+    subst (λ (q : Piece). IsPlaced greatest n q)
+    (same_piece new n (updated (with_tick p.0 (pod_tick o.0))) piece (are.each n p.0 o.0 p.1 o.1) at)
+    (record { number_is = was.number_is; greatest_is = was.greatest_is; free = refl })
+
+pub kept_after : (old : List Piece) (greatest : ℕ) (dedicated : Bool) (shown : List PodObs) (new : List Piece)
+    (before after : Rankings) → IsKept (pods_of old greatest dedicated) before → AreNext old shown
+    → AreAfter old shown new
+    → ((d : Bool) (was : ℕ → Option PodStatus) → AreRankings d was before
+    → (held : ℕ → Option PodStatus) × AreRankings d held after × AreHeldBelow new (length new) was held)
+    → IsKept (pods_of new greatest dedicated) after
+kept_after old greatest dedicated shown new before after kept next are rank =
+    let ranked = kept.ranked in
+    let now = rank dedicated ranked.held ranked.are_rankings in
+    record {
+      placed = placed_after old greatest dedicated shown new kept.placed next are;
+      ranked = record {
+        held = now.0;
+        are_held = all_below old new ranked.held now.0 are.as_many ranked.are_held now.2;
+        are_rankings = now.1;
+      };
+    }
+
+-- after an eviction
+placed_evicted : (old : List Piece) (greatest : ℕ) (dedicated : Bool) (number : ℕ) (order : EvictOrder)
+    (new : List Piece) → ArePlaced (pods_of old greatest dedicated) → AreEvicted old number order new
+    → ArePlaced (pods_of new greatest dedicated)
+placed_evicted old greatest dedicated number order new placed are n piece at = elim (cases_eq n number) [
+  | inl same ↦
+      let lt = slice_get_within new n piece at in
+      let p = item_at old n (omega (arith, lt, are.as_many)) in
+      let was = placed n p.0 p.1 in
+      let there = subst (λ (k : ℕ). slice_get old k ≡ Some p.0) same p.1 in
+      let here = subst (λ (k : ℕ). slice_get new k ≡ Some (with_eviction p.0 order)) (sym same) (are.here p.0 there) in
+      subst (λ (q : Piece). IsPlaced greatest n q) (same_piece new n (with_eviction p.0 order) piece here at)
+      (record { number_is = was.number_is; greatest_is = was.greatest_is; free = was.free })
+  | inr apart ↦ placed n piece (sym (are.others n apart) ∙ at)
+]
+
+pub kept_evicted : (old : List Piece) (greatest : ℕ) (dedicated : Bool) (number : ℕ) (order : EvictOrder)
+    (new : List Piece) (before after : Rankings) → IsKept (pods_of old greatest dedicated) before
+    → IsEvictable old number order.at → AreEvicted old number order new
+    → ((d : Bool) (held less : ℕ → Option PodStatus) → AreRankingsBut d held number before
+    → AreHeldWithout held number less → AreRankings d less after)
+    → IsKept (pods_of new greatest dedicated) after
+kept_evicted old greatest dedicated number order new before after kept may are remove =
+    let ranked = kept.ranked in
+    let less = one_is_held_without.exists ranked.held number in
+    let free = free_all old greatest dedicated kept.placed in
+    record {
+      placed = placed_evicted old greatest dedicated number order new kept.placed are;
+      ranked = record {
+        held = less.0;
+        are_held = held_without old new number ranked.held less.0 are.others
+            (evicted_is_no_candidate old new number order free may are) ranked.are_held less.1;
+        are_rankings = remove dedicated ranked.held less.0
+            (but dedicated ranked.held number before ranked.are_rankings) less.1;
+      };
+    }
+
+-- what holds at any error
+pub on_any_err : {T E P : Type 0} (r : Result T E) → P → OnErr r P
+on_any_err (Ok t) p = tt
+on_any_err (Err e) p = p
+
+-- what is ranked, by the same pieces
+pub ranked_by : (new pieces : List Piece) (dedicated : Bool) (was : ℕ → Option PodStatus) (r : Rankings) → pieces ≡ new
+    → ((held : ℕ → Option PodStatus) × AreRankings dedicated held r × AreHeldBelow pieces (length pieces) was held)
+    → (held : ℕ → Option PodStatus) × AreRankings dedicated held r × AreHeldBelow new (length new) was held
+ranked_by new pieces dedicated was r same (held, are, below) =
+    (held, are, subst (λ (ps : List Piece). AreHeldBelow ps (length ps) was held) same below)
+
+pub candidate_is_evictable : CandidateIsEvictable
+candidate_is_evictable pods tick new n status fits are c =
+    let lt = slice_get_within new n c.piece c.at in
+    let p = item_at pods.pieces n (omega (arith, lt, are.as_many)) in
+    let o = item_at tick.pods n (omega (arith, lt, are.as_many, fits.next.as_many)) in
+    let here = are.each n p.0 o.0 p.1 o.1 in
+    let P : Piece → Type 0 = λ q. last_moment q.handed ≡ Some tick.at in
+    let last = last_moment-more (p.0).handed (pod_tick o.0) ∙ ap Some (fits.at_its_moment n o.0 o.1) in
+    record {
+      candidate = (status, c);
+      last = λ piece at. subst P (same_piece new n (updated (with_tick p.0 (pod_tick o.0))) piece here at) last;
+    }

@@ -1,0 +1,5 @@
+pub mod Statuses
+pub mod Candidates
+pub mod Indexes
+pub mod Steps
+pub mod Kept

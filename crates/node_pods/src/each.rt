@@ -1,0 +1,126 @@
+//! All pods of a node at one tick.
+
+ghost use Rattle.std.specs.Prelude.{◌≡◌, ◌↔◌, ℕ, ◌<◌, Bool, false, length, slice_get, Option, Some};
+ghost use Rattle.std.specs.Prelude.{IsTrue, IfSome, IfOk, OnOk};
+ghost use Rattle.pod_piece.specs.declared.status.PodStatus.{PodStatus};
+ghost use Rattle.pod_piece.specs.Piece.{Piece};
+ghost use Rattle.node_pods.specs.Pods.{AreNext, AreAfter, IsEvictable, AreEvicted};
+ghost use Rattle.node_pods.specs.Steps.{AreFree, IsNextAt, AreNextBelow, MayTake, with_shown};
+ghost use Rattle.node_pods.specs.Ranked.{AreRankings, AreHeldBelow};
+
+use crate::rankings::Rankings;
+use observations::PodObs;
+use pod_piece::{EvictOrder, PodPiece};
+use std::alloc::{AllocError, Global};
+
+/// Moments are below this.
+const END_OF_TIME: u64 = 1 << 40;
+
+/// What is shown of the pod with the number.
+fn shown_at(shown: &[PodObs], number: usize) -> &PodObs
+    requires { number < length shown.now }
+    ensures { slice_get shown.now number ≡ Some result.now }
+{
+    &shown[number]
+}
+
+/// The piece of the pod with the number.
+fn piece_at(pieces: &[PodPiece], number: usize) -> &PodPiece
+    requires { number < length pieces.now }
+    ensures { slice_get pieces.now number ≡ Some result.now }
+{
+    &pieces[number]
+}
+
+/// Whether the last moment, if there is one, is before this one.
+fn is_before(last: Option<u64>, at: u64) -> bool
+    ensures { IsTrue result ↔ IfSome last (λ moment. moment < at) }
+{
+    match last {
+        Some(moment) => moment < at,
+        None => true,
+    }
+}
+
+/// Whether what is shown of the pod is of this moment, and may be handed to it.
+fn is_next(piece: &PodPiece, observed: &PodObs, at: u64) -> bool
+    requires { piece.now.is_pending ≡ false }
+    ensures { IsTrue result ↔ IsNextAt at piece.now observed.now }
+{
+    observed.at == at
+        && at < END_OF_TIME
+        && is_before(piece.last_at(), at)
+        && piece.accepts(observed)
+}
+
+/// Whether each pod is shown at this moment, and may be handed what is shown of it.
+pub(crate) fn are_next(pieces: &[PodPiece], shown: &[PodObs], at: u64) -> bool
+    requires many { length shown.now ≡ length pieces.now }
+    requires free { AreFree pieces.now }
+    ensures { IsTrue result ↔ AreNextBelow at pieces.now shown.now (length pieces.now) }
+{
+    for number in 0..pieces.len() {
+        if !is_next(piece_at(pieces, number), shown_at(shown, number), at) {
+            return false;
+        }
+    }
+    true
+}
+
+/// The piece after a tick that shows this of its pod, if it shows the pod.
+fn after_tick(piece: PodPiece, observed: Option<PodObs>) -> Result<PodPiece, AllocError>
+    requires { MayTake piece observed }
+    ensures { IfOk result (λ p. p ≡ with_shown piece observed) }
+{
+    let mut piece = piece;
+    let Some(observed) = observed else {
+        return Ok(piece);
+    };
+    piece.hand(observed)?;
+    match piece.update() {
+        Ok(updated) => Ok(updated),
+        Err(_) => Err(AllocError),
+    }
+}
+
+/// The pieces after a tick that shows this of their pods, by number.
+pub(crate) fn after_all(
+    alloc: Global,
+    pieces: Vec<PodPiece>,
+    shown: Vec<PodObs>,
+) -> Result<Vec<PodPiece>, AllocError>
+    requires free { AreFree pieces.items }
+    requires next { AreNext pieces.items shown.items }
+    ensures { IfOk result (λ v. AreAfter pieces.items shown.items v.items) }
+{
+    let mut all = Vec::with_capacity(alloc, pieces.len())?;
+    let mut observations = shown.into_iter();
+    for piece in pieces {
+        let observed = observations.next();
+        all.push(after_tick(piece, observed)?)?;
+    }
+    Ok(all)
+}
+
+/// Gives each pod its present place in each index.
+pub(crate) fn rank_all(rankings: &mut Rankings, pieces: &[PodPiece]) -> Result<(), AllocError>
+    requires { (n : ℕ) (piece : Piece) → slice_get pieces.now n ≡ Some piece → piece.number ≡ n }
+    ensures { OnOk result ((has_dedicated_imagefs : Bool) (before : ℕ → Option PodStatus)
+        → AreRankings has_dedicated_imagefs before rankings.old
+        → (held : ℕ → Option PodStatus) × AreRankings has_dedicated_imagefs held rankings.new
+        × AreHeldBelow pieces.now (length pieces.now) before held) }
+{
+    for number in 0..pieces.len() {
+        rankings.update(piece_at(pieces, number).status())?;
+    }
+    Ok(())
+}
+
+/// Evicts the pod with the number.
+pub(crate) fn evict_at(pieces: &mut Vec<PodPiece>, number: usize, order: EvictOrder)
+    requires free { AreFree pieces.old.items }
+    requires evictable { IsEvictable pieces.old.items number order.at }
+    ensures { AreEvicted pieces.old.items number order pieces.new.items }
+{
+    pieces[number].evict(order);
+}

@@ -1,0 +1,130 @@
+//! The pods of a node.
+
+ghost use Rattle.std.specs.Prelude.{◌≡◌, ◌↔◌, [], IsTrue, IfOk, OnOk, OnErr};
+ghost use Rattle.ranking.specs.Order.{IsVictim};
+ghost use Rattle.node_pods.specs.Pods.{pods_of, with_pod, ArePlaced, IsCandidate, AreNext, Fits, AreAfter};
+ghost use Rattle.node_pods.specs.Pods.{IsEvictable, AreEvicted};
+
+use crate::each::{after_all, are_next, evict_at, rank_all};
+use crate::rankings::Rankings;
+use manifest::{MaxRestartDelay, PodSpec};
+use observations::{PodObs, TickObs};
+use pod_piece::{EvictOrder, PodPiece};
+use signals::Signal;
+use std::alloc::{AllocError, Global};
+use std::marker::Model;
+
+/// The pods that are present on a node, by their numbers, and for each signal an index of those that
+/// have not ended. (Kubernetes, "Pod Lifecycle" and "Node-pressure Eviction".)
+#[derive(Drop)]
+pub struct NodePods {
+    alloc: Global,
+    greatest: MaxRestartDelay,
+    has_dedicated_imagefs: bool,
+    pieces: Vec<PodPiece>,
+    rankings: Rankings,
+}
+
+impl Model for NodePods {
+    ghost use Rattle.node_pods.specs.Pods.{Pods, pods_of};
+    ghost use Rattle.node_pods.specs.Ranked.{IsKept};
+
+    ghost Value = { Pods };
+
+    ghost view = { λ p. pods_of p.pieces.items p.greatest p.has_dedicated_imagefs };
+
+    ghost invariant = { λ p. IsKept (pods_of p.pieces.items p.greatest p.has_dedicated_imagefs) p.rankings };
+}
+
+impl NodePods {
+    /// No pods, on a node with this greatest restart delay. Whether images and containers have a file
+    /// system of their own decides how pods are ranked. It takes no memory.
+    pub fn new(alloc: Global, greatest: MaxRestartDelay, has_dedicated_imagefs: bool) -> NodePods
+        ensures { result ≡ pods_of [] greatest has_dedicated_imagefs }
+    {
+        NodePods {
+            alloc,
+            greatest,
+            has_dedicated_imagefs,
+            pieces: Vec::new(alloc),
+            rankings: Rankings::new(alloc, has_dedicated_imagefs),
+        }
+    }
+
+    /// The pods by their numbers. All that was handed to them has come into their statuses.
+    pub fn pieces(&self) -> &[PodPiece]
+        ensures same { result.now ≡ self.now.pieces }
+        ensures placed { ArePlaced self.now }
+    {
+        &self.pieces
+    }
+
+    /// A pod arrives, with the next number. An `Err` says that memory was refused, and changes
+    /// nothing.
+    pub fn arrive(&mut self, pod: PodSpec) -> Result<(), AllocError>
+        ensures ok { OnOk result (self.new ≡ with_pod self.old pod) }
+        ensures err { OnErr result (self.new ≡ self.old) }
+    {
+        self.pieces.try_reserve(1)?;
+        let piece = PodPiece::new(self.alloc, self.pieces.len(), pod, self.greatest)?;
+        self.rankings.add(piece.status())?;
+        self.pieces.push_reserved(piece);
+        Ok(())
+    }
+
+    /// Whether the tick shows each pod, at its own moment, and each may be handed what it shows: the
+    /// moment is later than the pod's last one and below 2^40, and each container's listing may come
+    /// after its earlier ones. It takes no memory.
+    pub fn fits(&self, tick: &TickObs) -> bool
+        ensures { IsTrue result ↔ Fits self.now tick.now }
+    {
+        let shown = tick.pods.as_slice();
+        shown.len() == self.pieces.len() && are_next(&self.pieces, shown, tick.at)
+    }
+
+    /// The pods after a tick that shows this of them, by number. An `Err` says that memory was
+    /// refused.
+    pub fn after(self, shown: Vec<PodObs>) -> Result<NodePods, AllocError>
+        requires { AreNext self.pieces shown.items }
+        ensures after { IfOk result (λ pods. AreAfter self.pieces shown.items pods.pieces) }
+        ensures greatest { IfOk result (λ pods. pods.greatest ≡ self.greatest) }
+        ensures dedicated { IfOk result (λ pods. pods.has_dedicated_imagefs ≡ self.has_dedicated_imagefs) }
+    {
+        let NodePods {
+            alloc,
+            greatest,
+            has_dedicated_imagefs,
+            pieces,
+            mut rankings,
+        } = self;
+        let pieces = after_all(alloc, pieces, shown)?;
+        rank_all(&mut rankings, &pieces)?;
+        Ok(NodePods {
+            alloc,
+            greatest,
+            has_dedicated_imagefs,
+            pieces,
+            rankings,
+        })
+    }
+
+    /// The number of the pod that is evicted first under the signal; none, where all pods have ended.
+    /// It takes no memory. (Kubernetes, "Node-pressure Eviction", "Pod selection for kubelet
+    /// eviction".)
+    pub fn first(&self, signal: Signal) -> Option<usize>
+        ensures { IsVictim signal self.now.has_dedicated_imagefs (IsCandidate self.now.pieces) result }
+    {
+        self.rankings.first(signal)
+    }
+
+    /// Evicts the pod with the number by the tick that came last. It takes no memory.
+    pub fn evict(&mut self, number: usize, order: EvictOrder)
+        requires { IsEvictable self.old.pieces number order.at }
+        ensures evicted { AreEvicted self.old.pieces number order self.new.pieces }
+        ensures greatest { self.new.greatest ≡ self.old.greatest }
+        ensures dedicated { self.new.has_dedicated_imagefs ≡ self.old.has_dedicated_imagefs }
+    {
+        evict_at(&mut self.pieces, number, order);
+        self.rankings.remove(number);
+    }
+}
