@@ -1,0 +1,234 @@
+-- Every list of ticks has its evictions.
+use Rattle.std.proofs.Common.{◌≡◌, ◌⊎◌, inl, inr, ℕ, ◌+◌, ◌-◌, ◌<◌, ◌≤◌, List, [], ◌∷◌, ◌++◌, length, Option, Some}
+use Rattle.std.proofs.Common.{None}
+use Rattle.std.proofs.Common.{refl, sym, subst, ◌∙◌, arith, append_assoc, append-nil}
+use Rattle.std.specs.Prelude.{◌^◌, slice_get, is_some, IsSome, IsSomeAnd, option_and_then}
+use Rattle.histories.proofs.Decide.{OrNot, negated, both, true_or_not, less_or_not, at_most_or_not, given_or_not}
+use Rattle.histories.proofs.Found.{first_place}
+use Rattle.signals.specs.declared.threshold.Threshold.{Threshold}
+use Rattle.signals.specs.BySignal.{of}
+use Rattle.signals.specs.Signals.{is_of_file_system}
+use Rattle.quantity.specs.Limit.{amount_of}
+use Rattle.thresholds.specs.Samples.{Sample, sample}
+use Rattle.thresholds.specs.Thresholds.{IsThresholdDue}
+use Rattle.thresholds.proofs.LawLemmas.{one_active_since}
+use Rattle.thresholds.proofs.Since.{due_by}
+use Rattle.manifest.specs.declared.pod.PodSpec.{PodSpec}
+use Rattle.observations.specs.declared.tick.TickObs.{TickObs}
+use Rattle.observations.specs.Observations.{shown_of}
+use Rattle.node_config.specs.declared.node.NodeConfig.{NodeConfig}
+use Rattle.node_config.specs.Eviction.{Eviction as EvictionConfig}
+use Rattle.node_signals.specs.declared.key.ThresholdKey.{ThresholdKey}
+use Rattle.node_signals.specs.Keys.{serving_order, threshold_at}
+use Rattle.node_signals.specs.Thresholds.{samples, IsDue, IsEnough, IsReclaimed, Asks, AsksAt, IsServed}
+use Rattle.node_signals.proofs.PlaceLemmas.{within, within_and, map_more}
+use Rattle.phase.specs.RawPhase.{IsTerminal}
+use Rattle.pod_state.specs.Pods.{PodTick}
+use Rattle.pod_state.proofs.EndLemmas.{IsPhase-unique, terminal_cases}
+use Rattle.pod_piece.specs.declared.piece.Eviction.{Eviction as EvictionOfPod}
+use Rattle.pod_piece.specs.declared.status.PodStatus.{PodStatus}
+use Rattle.pod_piece.specs.Piece.{place_of}
+use Rattle.pod_piece.specs.Status.{IsStatusAfter}
+use Rattle.ranking.specs.Order.{IsVictim}
+use Rattle.ranking.proofs.LawLemmas.{RankAlike}
+use Rattle.ranking.proofs.Victims.{AreCandidates, victim_among}
+use Rattle.eviction.specs.declared.eviction.Eviction.{Eviction}
+use Rattle.eviction.specs.Replay.{pod_ticks, own_eviction, IsCandidate, order_of, IsRound, IsReplay}
+use Rattle.eviction.specs.Laws.{SomeReplay}
+use Rattle.eviction.proofs.More.{no_replay, replay_more}
+use Rattle.eviction.proofs.Statuses.{some_status, one_usage}
+
+-- a threshold is due, or it isn't
+due_or_not : (threshold : Threshold) (capacity : Option ℕ) (h : List Sample) (x : Sample)
+    → OrNot (IsThresholdDue threshold capacity (h ++ x ∷ []))
+due_or_not threshold capacity h x =
+    let limit = amount_of capacity threshold.limit in
+    let reclaim = amount_of capacity threshold.reclaim in
+    let since = one_active_since.exists limit reclaim (h ++ x ∷ []) in
+    let same = due_by limit reclaim threshold.grace h x since.0 since.1 in
+    let passed_or_not = λ (moment : ℕ). at_most_or_not threshold.grace (x.moment - moment) in
+    elim (given_or_not (λ moment. threshold.grace ≤ x.moment - moment) passed_or_not since.0) [
+      | inl passed ↦ inl (same.0 passed)
+      | inr not ↦ inr (λ due. not (same.1 due))
+    ]
+
+due_after : (eviction : EvictionConfig) (before : List TickObs) (tick : TickObs) (key : ThresholdKey)
+    → OrNot (IsDue eviction (before ++ tick ∷ []) key)
+due_after eviction before tick key =
+    let capacity = of eviction.capacity key.signal in
+    let sample_of : TickObs → Sample = λ t. sample t.at (of t.signals key.signal) in
+    let Due : Threshold → List Sample → Type 0 = λ threshold h. OrNot (IsThresholdDue threshold capacity h) in
+    let each = λ (threshold : Threshold). subst (Due threshold) (sym (map_more sample_of before tick))
+    (due_or_not threshold capacity (samples key.signal before) (sample_of tick)) in
+    given_or_not (λ threshold. IsThresholdDue threshold capacity (samples key.signal (before ++ tick ∷ []))) each
+    (threshold_at eviction key)
+
+reclaimed_or_not : (eviction : EvictionConfig) (tick : TickObs) (key : ThresholdKey)
+    → OrNot (IsReclaimed eviction tick key)
+reclaimed_or_not eviction tick key =
+    let capacity = of eviction.capacity key.signal in
+    let value = of tick.after_reclaim key.signal in
+    let enough = λ (threshold : Threshold). given_or_not (IsEnough capacity threshold)
+    (λ v. at_most_or_not (amount_of capacity threshold.limit + amount_of capacity threshold.reclaim) v) value in
+    let freed = given_or_not (λ threshold. IsSomeAnd value (IsEnough capacity threshold)) enough
+    (threshold_at eviction key) in
+    elim (both (true_or_not (is_of_file_system key.signal)) freed) [
+      | inl w ↦ inl (record { of_file_system = w.0; freed = w.1 })
+      | inr not ↦ inr (λ r. not (r.of_file_system, r.freed))
+    ]
+
+asks_or_not : (eviction : EvictionConfig) (before : List TickObs) (tick : TickObs) (key : ThresholdKey)
+    → OrNot (Asks eviction before tick key)
+asks_or_not eviction before tick key =
+    elim (both (due_after eviction before tick key) (negated (reclaimed_or_not eviction tick key))) [
+      | inl w ↦ inl (record { due = w.0; not_reclaimed = w.1 })
+      | inr not ↦ inr (λ asks. not (asks.due, asks.not_reclaimed))
+    ]
+
+-- so one threshold is served, or none
+some_served : (eviction : EvictionConfig) (before : List TickObs) (tick : TickObs)
+    → (served : Option ThresholdKey) × IsServed eviction before tick served
+some_served eviction before tick =
+    let each = asks_or_not eviction before tick in
+    let asks = λ (place : ℕ). given_or_not (Asks eviction before tick) each (slice_get serving_order place) in
+    let below = λ (place : ℕ). within_and (Asks eviction before tick) serving_order place in
+    let first = first_place (AsksAt eviction before tick) asks (length serving_order) below in
+    (option_and_then (slice_get serving_order) first.0, (first.0, first.1, refl))
+
+-- the number of a pod's containers, where it has a status
+few_containers : (number : ℕ) (pod : PodSpec) (eviction : Option EvictionOfPod) (h : List PodTick) (status : PodStatus)
+    → IsStatusAfter number pod eviction h status → length pod.containers < 2 ^ 63
+few_containers number pod eviction h status is =
+    let many : length status.containers.items ≡ length pod.containers = is.containers.as_many in
+    let held : status.containers.len ≡ length status.containers.items = status.containers.ok.0 in
+    let room : status.containers.len ≤ status.containers.cap = status.containers.ok.1 in
+    let small : status.containers.cap < 2 ^ 63 = status.containers.small in
+    omega arith
+
+-- two statuses of a pod rank it alike, and show one phase
+status_alike : (number : ℕ) (pod : PodSpec) (eviction : Option EvictionOfPod) (h : List PodTick) (p q : PodStatus)
+    → IsStatusAfter number pod eviction h p → IsStatusAfter number pod eviction h q → RankAlike p q
+status_alike number pod eviction h p q v w = record {
+  usage = one_usage pod (place_of eviction) h p.usage q.usage v.usage w.usage;
+  requests = v.requests ∙ sym w.requests;
+  priority = v.priority ∙ sym w.priority;
+  number = v.number_is ∙ sym w.number_is;
+}
+
+one_pod : (o : Option PodSpec) (pod other : PodSpec) → o ≡ Some pod → o ≡ Some other → pod ≡ other
+one_pod o pod other e f = let both : Some pod ≡ Some other = sym e ∙ f in cc
+
+no_pod : {A : Type 0} (o : Option A) (x : A) → o ≡ None → o ≡ Some x → ⊥
+no_pod o x e f = let both : None ≡ Some x = sym e ∙ f in cc
+
+-- some status has it, or none has
+abbrev Known : (PodStatus → Type 0) → Type 0
+Known Candidate = ((p : PodStatus) × Candidate p) ⊎ ((p : PodStatus) → Candidate p → ⊥)
+
+-- a pod may be evicted, or it may not
+candidate_or_not : (pods : List PodSpec) (before : List TickObs) (tick : TickObs)
+    (evictions : List (Option Eviction)) (n : ℕ)
+    → Known (IsCandidate pods before tick evictions n)
+candidate_or_not pods before tick evictions n = by (slice_get pods n) refl
+  where
+    eviction : Option EvictionOfPod
+    eviction = own_eviction n (before ++ tick ∷ []) evictions
+
+    h : List PodTick
+    h = pod_ticks (before ++ tick ∷ []) n
+
+    Candidate : PodStatus → Type 0
+    Candidate p = IsCandidate pods before tick evictions n p
+
+    with_status : (pod : PodSpec) → slice_get pods n ≡ Some pod → IsSome (shown_of tick n)
+        → (p : PodStatus) × IsStatusAfter n pod eviction h p
+        → Known Candidate
+    with_status pod at present (p, is) = elim (terminal_cases p.phase) [
+      | inl ended ↦ inr (λ q c.
+          let Of : PodSpec → Type 0 = λ k. IsStatusAfter n k eviction h q in
+          let other = subst Of (one_pod (slice_get pods n) c.pod pod c.at at) c.is_status in
+          let evicted = place_of eviction in
+          let same = IsPhase-unique pod evicted h p.phase q.phase is.lifecycle.phase other.lifecycle.phase in
+          c.lives (subst IsTerminal same ended))
+      | inr lives ↦ inl (p, record { pod = pod; at = at; present = present; is_status = is; lives = lives })
+    ]
+
+    of_pod : (pod : PodSpec) → slice_get pods n ≡ Some pod
+        → Known Candidate
+    of_pod pod at = elim (true_or_not (is_some (shown_of tick n))) [
+      | inr absent ↦ inr (λ p c. absent c.present)
+      | inl present ↦ elim (less_or_not (length pod.containers) (2 ^ 63)) [
+        | inl few ↦ with_status pod at present (some_status n pod eviction h few)
+        | inr many ↦ inr (λ p c.
+            let Few : PodSpec → Type 0 = λ k. length k.containers < 2 ^ 63 in
+            let few = few_containers n c.pod eviction h p c.is_status in
+            many (subst Few (one_pod (slice_get pods n) c.pod pod c.at at) few))
+      ]
+    ]
+
+    by : (o : Option PodSpec) → slice_get pods n ≡ o
+        → Known Candidate
+    by None e = inr (λ p c. no_pod (slice_get pods n) c.pod e c.at)
+    by (Some pod) e = of_pod pod e
+
+candidates : (pods : List PodSpec) (before : List TickObs) (tick : TickObs) (evictions : List (Option Eviction))
+    → AreCandidates (IsCandidate pods before tick evictions) (length pods)
+candidates pods before tick evictions = record {
+  known = candidate_or_not pods before tick evictions;
+  below = λ n p c. within pods n c.pod c.at;
+  numbered = λ n p c. c.is_status.number_is;
+  alike = λ n p q c d.
+      let eviction = own_eviction n (before ++ tick ∷ []) evictions in
+      let h = pod_ticks (before ++ tick ∷ []) n in
+      let Of : PodSpec → Type 0 = λ k. IsStatusAfter n k eviction h q in
+      let other = subst Of (one_pod (slice_get pods n) d.pod c.pod d.at c.at) d.is_status in
+      status_alike n c.pod eviction h p q c.is_status other;
+}
+
+-- a tick has its eviction, or none
+some_round : (config : NodeConfig) (pods : List PodSpec) (before : List TickObs) (tick : TickObs)
+    (evictions : List (Option Eviction))
+    → (e : Option Eviction) × IsRound config pods before tick evictions e
+some_round config pods before tick evictions = from (some_served config.eviction before tick)
+  where
+    Candidate : ℕ → PodStatus → Type 0
+    Candidate = IsCandidate pods before tick evictions
+
+    for_key : (key : ThresholdKey) → IsServed config.eviction before tick (Some key)
+        → (victim : Option ℕ) × IsVictim key.signal config.has_dedicated_imagefs Candidate victim
+        → (e : Option Eviction) × IsRound config pods before tick evictions e
+    for_key key is (None, none) = (None, record { served = Some key; is_served = is; is_for = (None, none, refl) })
+    for_key key is (Some n, victim) =
+        let pod = victim.1.pod in
+        let e : Eviction = record { pod = n; order = order_of config pod tick.at key } in (
+          Some e,
+          record {
+            served = Some key;
+            is_served = is;
+            is_for = (Some n, victim, record { pod = pod; is_pod = victim.1.at; number = refl; order = refl });
+          },
+        )
+
+    from : (served : Option ThresholdKey) × IsServed config.eviction before tick served
+        → (e : Option Eviction) × IsRound config pods before tick evictions e
+    from (None, is) = (None, record { served = None; is_served = is; is_for = refl })
+    from (Some key, is) =
+        let all = candidates pods before tick evictions in
+        for_key key is (victim_among key.signal config.has_dedicated_imagefs Candidate (length pods) all)
+
+replay_from : (config : NodeConfig) (pods : List PodSpec) (later before : List TickObs)
+    (evictions : List (Option Eviction))
+    → IsReplay config pods before evictions
+    → (all : List (Option Eviction)) × IsReplay config pods (before ++ later) all
+replay_from config pods [] before evictions replay =
+    let P : List TickObs → Type 0 = λ h. IsReplay config pods h evictions in
+    (evictions, subst P (sym (append-nil before)) replay)
+replay_from config pods (tick ∷ later) before evictions replay =
+    let round = some_round config pods before tick evictions in
+    let P : List TickObs → Type 0 = λ h. (all : List (Option Eviction)) × IsReplay config pods h all in
+    let next = replay_more config pods before evictions tick round.0 replay round.1 in
+    subst P (append_assoc before (tick ∷ []) later)
+    (replay_from config pods later (before ++ tick ∷ []) (evictions ++ round.0 ∷ []) next)
+
+pub some_replay : SomeReplay
+some_replay config pods ticks = replay_from config pods ticks [] [] (no_replay config pods)

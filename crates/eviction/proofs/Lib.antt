@@ -1,0 +1,6 @@
+pub mod Unique
+pub mod Own
+pub mod More
+pub mod Evicted
+pub mod Statuses
+pub mod Exists

@@ -1,0 +1,40 @@
+//! One eviction.
+
+ghost use Rattle.std.specs.Prelude.{◌≡◌};
+ghost use Rattle.eviction.specs.Replay.{order_of};
+
+use manifest::PodSpec;
+use node_config::NodeConfig;
+use node_signals::ThresholdKey;
+use pod_piece::EvictOrder;
+use signals::ThresholdKind;
+
+/// The eviction of a tick.
+#[derive(Clone, Copy, Debug, PartialEq, Eq)]
+pub struct Eviction {
+    /// The number of the pod that is evicted.
+    pub pod: usize,
+    /// The order.
+    pub order: EvictOrder,
+}
+
+/// The order to evict a pod at a moment, in seconds, for a threshold: a hard one leaves the pod no time, a soft one
+/// its own grace period, but no longer than the node allows. (Kubernetes, "Node-pressure Eviction",
+/// "Soft eviction thresholds" and "Hard eviction thresholds".)
+pub fn order_for(config: &NodeConfig, pod: &PodSpec, at: u64, key: ThresholdKey) -> EvictOrder
+    ensures { result ≡ order_of config.now pod.now at key }
+{
+    let grace = match key.kind {
+        ThresholdKind::Hard => 0,
+        ThresholdKind::Soft => pod
+            .grace_period_seconds
+            .get()
+            .min(u64::from(config.eviction_max_pod_grace_period)),
+    };
+    EvictOrder {
+        at,
+        signal: key.signal,
+        kind: key.kind,
+        grace,
+    }
+}

@@ -1,0 +1,36 @@
+//! What is true of the evictions of every node. The functions do nothing; their contracts are the
+//! laws.
+
+ghost use Rattle.eviction.specs.Laws.{SomeStatus, SomeReplay, OneReplay, EvictedOnce, EvictedPodLived, ServedAlone};
+
+/// A pod has a status, whenever it is evicted and whatever its ticks are. (A status shows the
+/// containers in a vector, so that there are fewer than 2^63 of them.)
+pub fn some_status()
+    ensures { SomeStatus }
+{}
+
+/// Every list of ticks has a list of evictions.
+pub fn some_replay()
+    ensures { SomeReplay }
+{}
+
+/// A list of ticks has one list of evictions at most.
+pub fn one_replay()
+    ensures { OneReplay }
+{}
+
+/// No pod is evicted by two ticks.
+pub fn evicted_once()
+    ensures { EvictedOnce }
+{}
+
+/// The pod that a tick evicts is present, and had not ended before.
+pub fn evicted_pod_lived()
+    ensures { EvictedPodLived }
+{}
+
+/// A tick that evicts a pod serves one threshold. That one is due and not reclaimed, and the order is
+/// of its signal and kind, at the tick's moment.
+pub fn served_alone()
+    ensures { ServedAlone }
+{}

@@ -1,0 +1,147 @@
+-- A node with one more pod.
+use Rattle.std.proofs.Common.{◌≡◌, ◌⊎◌, inl, inr, ℕ, zero, suc, ◌<◌, ◌≤◌, List, [], ◌∷◌, ◌++◌, length, map, take, true, false, Option, Some, None, refl, sym, ap, subst, ◌∙◌, arith}
+use Rattle.std.specs.List.{cons_option}
+use Rattle.observations.specs.Observations.{own_ticks}
+use Rattle.std.specs.Prelude.{◌↔◌, slice_get, is_some, IsSome, option_map}
+use Rattle.manifest.specs.declared.pod.PodSpec.{PodSpec}
+use Rattle.histories.proofs.Places.{length-more}
+use Rattle.observations.specs.declared.pod.PodObs.{PodObs}
+use Rattle.observations.specs.declared.tick.TickObs.{TickObs}
+use Rattle.observations.specs.Observations.{shown_of}
+use Rattle.node_config.specs.declared.node.NodeConfig.{NodeConfig}
+use Rattle.node_signals.specs.declared.node.NodeSignals.{NodeSignals}
+use Rattle.node_signals.specs.declared.key.ThresholdKey.{ThresholdKey}
+use Rattle.node_signals.proofs.PlaceLemmas.{within, place_split}
+use Rattle.pod_state.specs.Pods.{PodTick, pod_tick}
+use Rattle.pod_piece.specs.declared.piece.Eviction.{Eviction as EvictionOfPod}
+use Rattle.pod_piece.specs.declared.status.PodStatus.{PodStatus}
+use Rattle.pod_piece.specs.Piece.{Piece, new_piece}
+use Rattle.ranking.proofs.LawLemmas.{same_victim}
+use Rattle.eviction.specs.declared.eviction.Eviction.{Eviction}
+use Rattle.eviction.specs.Replay.{EvictedAt, later, pod_ticks, evicted_at, own_eviction, IsCandidate, Evicts, IsOfVictim, IsEvictionFor, IsRound, IsReplay}
+use Rattle.eviction.proofs.Own.{evicted_none}
+use Rattle.eviction.proofs.Unique.{at_place}
+use Rattle.node_pods.specs.Pods.{Pods, with_pod}
+use Rattle.tick_round.specs.Node.{State, state, piece_after, ArePieces, HasTaken}
+
+get_left : {A : Type 0} (xs : List A) (y : A) (n : ℕ) (x : A) → slice_get xs n ≡ Some x → slice_get (xs ++ y ∷ []) n ≡ Some x
+get_left [] y n x e = absurd (cc)
+get_left (z ∷ xs) y zero x e = e
+get_left (z ∷ xs) y (suc n) x e = get_left xs y n x e
+
+get_last : {A : Type 0} (xs : List A) (y : A) → slice_get (xs ++ y ∷ []) (length xs) ≡ Some y
+get_last [] y = refl
+get_last (z ∷ xs) y = get_last xs y
+
+present_below : (xs : List PodObs) (n : ℕ) → IsSome (slice_get xs n) → n < length xs
+present_below [] n e = let f : false ≡ true = e in absurd (cc)
+present_below (x ∷ xs) zero e = omega arith
+present_below (x ∷ xs) (suc n) e = let lt : n < length xs = present_below xs n e in omega arith
+
+absent : (xs : List PodObs) (n : ℕ) → length xs ≤ n → slice_get xs n ≡ None
+absent [] n le = refl
+absent (x ∷ xs) zero le = absurd (omega arith)
+absent (x ∷ xs) (suc n) le = absent xs n (omega arith)
+
+-- a pod that no tick shows has no ticks
+unshown : (ticks : List TickObs) (n : ℕ) → ((t : ℕ) (tick : TickObs) → slice_get ticks t ≡ Some tick → length tick.pods ≤ n) → pod_ticks ticks n ≡ []
+unshown [] n none = refl
+unshown (x ∷ ticks) n none =
+    ap (λ (o : Option PodObs). map pod_tick (cons_option o (own_ticks ticks n))) (absent x.pods n (none 0 x refl))
+    ∙ unshown ticks n (λ t tick at. none (suc t) tick at)
+
+abbrev piece_of : ℕ → PodSpec → ℕ → List PodTick → Option EvictionOfPod → Piece
+piece_of number pod greatest handed eviction =
+    record { number = number; pod = pod; greatest = greatest; handed = handed; is_pending = false; eviction = eviction }
+
+-- the round of an earlier tick does not see the pod
+same_round : (config : NodeConfig) (pods : List PodSpec) (pod : PodSpec) (before : List TickObs) (tick : TickObs) (es : List (Option Eviction)) (eviction : Option Eviction)
+    → length tick.pods ≤ length pods → IsRound config pods before tick es eviction → IsRound config (pods ++ pod ∷ []) before tick es eviction
+same_round config pods pod before tick es eviction fewer r = record { served = r.served; is_served = r.is_served; is_for = for r.served r.is_for }
+  where
+    same : (n : ℕ) (p : PodStatus) → (IsCandidate pods before tick es n p ↔ IsCandidate (pods ++ pod ∷ []) before tick es n p)
+    same n p = (
+      (λ c. record { pod = c.pod; at = get_left pods pod n c.pod c.at; present = c.present; is_status = c.is_status; lives = c.lives }),
+      (λ c.
+          let lt : n < length tick.pods = present_below tick.pods n c.present in
+          elim (place_split pods pod c.pod n c.at) [
+            | inl old ↦ record { pod = c.pod; at = old; present = c.present; is_status = c.is_status; lives = c.lives }
+            | inr w ↦ let here : n ≡ length pods = w.0 in absurd (omega arith)
+          ]),
+    )
+
+    of : (key : ThresholdKey) (victim : Option ℕ) (e : Option Eviction) → IsOfVictim config pods tick.at key victim e → IsOfVictim config (pods ++ pod ∷ []) tick.at key victim e
+    of key None e v = v
+    of key (Some n) None v = v
+    of key (Some n) (Some e) v = record { pod = v.pod; is_pod = get_left pods pod n v.pod v.is_pod; number = v.number; order = v.order }
+
+    for : (served : Option ThresholdKey) → IsEvictionFor config pods before tick es served eviction → IsEvictionFor config (pods ++ pod ∷ []) before tick es served eviction
+    for None by = by
+    for (Some key) (victim, is, v) =
+        (victim, same_victim key.signal config.has_dedicated_imagefs (IsCandidate pods before tick es) (IsCandidate (pods ++ pod ∷ []) before tick es) same victim is, of key victim eviction v)
+
+-- who is evicted is one of the pods
+evicted_below : (config : NodeConfig) (pods : List PodSpec) (before : List TickObs) (tick : TickObs) (es : List (Option Eviction)) (e : Eviction)
+    → IsRound config pods before tick es (Some e) → e.pod < length pods
+evicted_below config pods before tick es e r = by r.served r.is_for
+  where
+    by : (served : Option ThresholdKey) → IsEvictionFor config pods before tick es served (Some e) → e.pod < length pods
+    by None is = absurd (cc)
+    by (Some key) (None, is, v) = absurd (cc)
+    by (Some key) (Some n, is, v) =
+        let lt : n < length pods = within pods n v.pod v.is_pod in
+        let here : e.pod ≡ n = v.number in omega arith
+
+pub arrives : (pods : List PodSpec) (ticks : List TickObs) (s : State) (pod : PodSpec) → HasTaken pods ticks s
+    → HasTaken (pods ++ pod ∷ []) ticks (state s.config s.signals (with_pod s.pods pod) s.evictions s.last)
+arrives pods ticks s pod taken = record {
+  replay = record {
+    as_many = taken.replay.as_many;
+    each = λ t tick eviction at is.
+        same_round s.config pods pod (take t ticks) tick (take t s.evictions) eviction (taken.shown t tick at) (taken.replay.each t tick eviction at is);
+  };
+  pieces = record {
+    as_many = let many : length s.pods.pieces ≡ length pods = taken.pieces.as_many in omega (arith, length-more pods pod, length-more s.pods.pieces (new_piece (length s.pods.pieces) pod s.pods.greatest));
+    each = λ n p at. elim (place_split pods pod p n at) [
+      | inl old ↦ get_left s.pods.pieces (new_piece (length s.pods.pieces) pod s.pods.greatest) n (piece_after s.config ticks s.evictions n p) (taken.pieces.each n p old)
+      | inr w ↦ newest n p w.0 w.1
+    ];
+  };
+  signals = taken.signals;
+  greatest = taken.greatest;
+  dedicated = taken.dedicated;
+  shown = λ t tick at. let le : length tick.pods ≤ length pods = taken.shown t tick at in omega (arith, length-more pods pod);
+  last_is = taken.last_is;
+}
+  where
+    never : own_eviction (length pods) ticks s.evictions ≡ None
+    never = ap (option_map (λ (f : EvictedAt). record { place = length (pod_ticks (take f.tick ticks) (length pods)); order = f.order }))
+        (evicted_none (length pods) s.evictions (λ t e is here.
+        let lt : t < length s.evictions = within s.evictions t (Some e) is in
+        let many : length s.evictions ≡ length ticks = taken.replay.as_many in
+        let tick = at_place ticks t (omega arith) in
+        let below : e.pod < length pods = evicted_below s.config pods (take t ticks) tick.0 (take t s.evictions) e (taken.replay.each t tick.0 (Some e) tick.1 is) in
+        omega arith))
+
+    newest : (n : ℕ) (p : PodSpec) → n ≡ length pods → pod ≡ p
+        → slice_get (s.pods.pieces ++ new_piece (length s.pods.pieces) pod s.pods.greatest ∷ []) n ≡ Some (piece_after s.config ticks s.evictions n p)
+    newest n p here same =
+        let many : length s.pods.pieces ≡ length pods = taken.pieces.as_many in
+        let none : [] ≡ pod_ticks ticks (length pods) = sym (unshown ticks (length pods) taken.shown) in
+        let done : slice_get (s.pods.pieces ++ new_piece (length s.pods.pieces) pod s.pods.greatest ∷ []) (length pods) ≡ Some (piece_after s.config ticks s.evictions (length pods) pod) =
+        subst (λ (k : ℕ). slice_get (s.pods.pieces ++ new_piece (length s.pods.pieces) pod s.pods.greatest ∷ []) k ≡ Some (new_piece (length s.pods.pieces) pod s.pods.greatest)) many (get_last s.pods.pieces (new_piece (length s.pods.pieces) pod s.pods.greatest))
+        ∙ ap (λ (k : ℕ). Some (piece_of k pod s.pods.greatest [] None)) many
+        ∙ ap (λ (k : ℕ). Some (piece_of (length pods) pod k [] None)) taken.greatest
+        ∙ ap (λ (h : List PodTick). Some (piece_of (length pods) pod s.config.max_restart_delay h None)) none
+        ∙ ap (λ (e : Option EvictionOfPod). Some (piece_of (length pods) pod s.config.max_restart_delay (pod_ticks ticks (length pods)) e)) (sym never) in
+        let P : ℕ → Type 0 = λ k. slice_get (s.pods.pieces ++ new_piece (length s.pods.pieces) pod s.pods.greatest ∷ []) k ≡ Some (piece_after s.config ticks s.evictions k pod) in
+        let Q : PodSpec → Type 0 = λ q. slice_get (s.pods.pieces ++ new_piece (length s.pods.pieces) pod s.pods.greatest ∷ []) n ≡ Some (piece_after s.config ticks s.evictions n q) in
+        subst Q same (subst P (sym here) done)
+
+-- the same of a node whose pods are set
+pub arrives_as : (pods : List PodSpec) (ticks : List TickObs) (now : State) (pod : PodSpec) (config : NodeConfig) (signals : NodeSignals) (old new : Pods)
+    (es : List (Option Eviction)) (last : Option ℕ) → now ≡ state config signals old es last → new ≡ with_pod old pod → HasTaken pods ticks now
+    → HasTaken (pods ++ pod ∷ []) ticks (state config signals new es last)
+arrives_as pods ticks now pod config signals old new es last is more taken =
+    subst (λ (p : Pods). HasTaken (pods ++ pod ∷ []) ticks (state config signals p es last)) (sym more)
+    (arrives pods ticks (state config signals old es last) pod (subst (λ (s : State). HasTaken pods ticks s) is taken))

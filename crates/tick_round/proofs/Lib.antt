@@ -1,0 +1,4 @@
+pub mod Pieces
+pub mod Candidates
+pub mod GoesOn
+pub mod Arrives

@@ -1,0 +1,153 @@
+-- The pieces of a node after one more tick and its eviction.
+use Rattle.std.proofs.Common.{◌≡◌, inl, inr, ℕ, zero, suc, ◌+◌, ◌-◌, ◌<◌, ◌≤◌, List, [], ◌∷◌, ◌++◌, length, map, take, Bool, false, Option, Some, None, refl, sym, ap, subst, ◌∙◌, arith}
+use Rattle.std.specs.Prelude.{slice_get, option_map, IsSomeAnd}
+use Rattle.std.specs.List.{cons_option}
+use Rattle.std.proofs.lemmas.Bool.{cases_eq}
+use Rattle.std.proofs.lemmas.List.{length-take-le, take-append-le, length-append}
+use Rattle.histories.specs.Histories.{up_to, IsSo}
+use Rattle.histories.proofs.Places.{length-more}
+use Rattle.manifest.specs.declared.pod.PodSpec.{PodSpec}
+use Rattle.observations.specs.declared.pod.PodObs.{PodObs}
+use Rattle.observations.specs.declared.tick.TickObs.{TickObs}
+use Rattle.observations.specs.Observations.{shown_of, own_ticks}
+use Rattle.node_config.specs.declared.node.NodeConfig.{NodeConfig}
+use Rattle.node_signals.proofs.PlaceLemmas.{within}
+use Rattle.phase.specs.declared.phase.Phase.{Phase}
+use Rattle.phase.specs.RawPhase.{IsTerminal}
+use Rattle.pod_state.specs.Pods.{PodTick, pod_tick, EndsPod, IsPhase}
+use Rattle.pod_state.proofs.EndLemmas.{terminal_cases, lives}
+use Rattle.pod_piece.specs.declared.order.EvictOrder.{EvictOrder}
+use Rattle.pod_piece.specs.declared.piece.Eviction.{Eviction as EvictionOfPod}
+use Rattle.pod_piece.specs.declared.status.PodStatus.{PodStatus}
+use Rattle.pod_piece.specs.Piece.{Piece, with_tick, updated, with_eviction}
+use Rattle.pod_piece.specs.Status.{IsStatusOf}
+use Rattle.eviction.specs.declared.eviction.Eviction.{Eviction}
+use Rattle.eviction.specs.Replay.{EvictedAt, pod_ticks, evicted_at, own_eviction}
+use Rattle.eviction.proofs.Unique.{at_place}
+use Rattle.eviction.proofs.Own.{pod_ticks-more, own_eviction-longer, own_eviction-other, own_eviction-now, IsOf}
+use Rattle.node_pods.specs.Pods.{IsCandidate, AreAfter, AreEvicted}
+use Rattle.tick_round.specs.Node.{piece_after, ArePieces}
+
+-- a piece by its fields
+abbrev made : ℕ → PodSpec → ℕ → List PodTick → Option EvictionOfPod → Piece
+made number pod greatest handed eviction =
+    record { number = number; pod = pod; greatest = greatest; handed = handed; is_pending = false; eviction = eviction }
+
+-- the pod at a place, of a piece at that place
+pub pod_at : (config : NodeConfig) (pods : List PodSpec) (ticks : List TickObs) (es : List (Option Eviction)) (pieces : List Piece) (n : ℕ) (piece : Piece)
+    → ArePieces config pods ticks es pieces → slice_get pieces n ≡ Some piece
+    → (pod : PodSpec) × (slice_get pods n ≡ Some pod) × (piece ≡ piece_after config ticks es n pod)
+pod_at config pods ticks es pieces n piece are at =
+    let lt : n < length pieces = within pieces n piece at in
+    let many : length pieces ≡ length pods = are.as_many in
+    let here = at_place pods n (omega arith) in
+    let both : Some piece ≡ Some (piece_after config ticks es n here.0) = sym at ∙ are.each n here.0 here.1 in
+    (here.0, here.1, let same : piece ≡ piece_after config ticks es n here.0 = cc in same)
+
+-- after the update
+pub pieces_updated : (config : NodeConfig) (pods : List PodSpec) (ticks : List TickObs) (es : List (Option Eviction)) (x : TickObs) (old new : List Piece)
+    → length es ≡ length ticks → length x.pods ≡ length pods
+    → ArePieces config pods ticks es old → AreAfter old x.pods new → ArePieces config pods (ticks ++ x ∷ []) es new
+pieces_updated config pods ticks es x old new len shown are after = record {
+  as_many = after.as_many ∙ are.as_many;
+  each = λ n pod at.
+      let lt : n < length pods = within pods n pod at in
+      let o = at_place x.pods n (omega arith) in
+      let handed : pod_ticks ticks n ++ pod_tick o.0 ∷ [] ≡ pod_ticks (ticks ++ x ∷ []) n = sym (pod_ticks-more ticks x n o.0 o.1) in
+      let eviction : own_eviction n ticks es ≡ own_eviction n (ticks ++ x ∷ []) es = sym (own_eviction-longer n ticks x es len) in
+      after.each n (piece_after config ticks es n pod) o.0 (are.each n pod at) o.1
+      ∙ ap (λ h. Some (made n pod config.max_restart_delay h (own_eviction n ticks es))) handed
+      ∙ ap (λ e. Some (made n pod config.max_restart_delay (pod_ticks (ticks ++ x ∷ []) n) e)) eviction;
+}
+
+-- a pod whose eviction was at one of its ticks has ended
+evicted_ends : (pod : PodSpec) (place : ℕ) (h : List PodTick) (p : Phase) → IsPhase pod (Some place) h p → place < length h → IsTerminal p
+evicted_ends pod place h p is lt = elim (terminal_cases p) [
+  | inl ended ↦ ended
+  | inr still ↦
+      let none = lives pod (Some place) h p is still in
+      let cut : length (up_to h place) ≡ suc place = length-take-le (suc place) h (omega arith) in
+      let so : IsSo (EndsPod pod (Some place)) h place = record { within = lt; so = inr cut } in
+      absurd (none place so)
+]
+
+fewer : (ticks : List TickObs) (k n : ℕ) → length (pod_ticks (take k ticks) n) ≤ length (pod_ticks ticks n)
+fewer ticks zero n = omega arith
+fewer [] (suc k) n = omega arith
+fewer (x ∷ ticks) (suc k) n = by (shown_of x n) (fewer ticks k n)
+  where
+    by : (o : Option PodObs) → length (pod_ticks (take k ticks) n) ≤ length (pod_ticks ticks n)
+        → length (map pod_tick (cons_option o (own_ticks (take k ticks) n))) ≤ length (map pod_tick (cons_option o (own_ticks ticks n)))
+    by None le = le
+    by (Some shown) le = omega arith
+
+-- a candidate was not evicted before
+pub candidate_not_evicted : (config : NodeConfig) (pods : List PodSpec) (ticks : List TickObs) (es : List (Option Eviction)) (x : TickObs) (pieces : List Piece) (n : ℕ) (status : PodStatus)
+    → length es ≡ length ticks → length x.pods ≡ length pods → ArePieces config pods (ticks ++ x ∷ []) es pieces → IsCandidate pieces n status
+    → own_eviction n (ticks ++ x ∷ []) es ≡ None
+candidate_not_evicted config pods ticks es x pieces n status len shown are candidate =
+    let here = pod_at config pods (ticks ++ x ∷ []) es pieces n candidate.piece are candidate.at in
+    let is : IsStatusOf (piece_after config (ticks ++ x ∷ []) es n here.0) status = subst (λ (p : Piece). IsStatusOf p status) here.2 candidate.is_status in
+    let lt : n < length pods = within pods n here.0 here.1 in
+    let o = at_place x.pods n (omega arith) in
+    none here.0 o.0 o.1 (own_eviction n ticks es) (λ e found. before e found) (own_eviction-longer n ticks x es len) is.lifecycle.phase
+  where
+    before : (e : EvictionOfPod) → own_eviction n ticks es ≡ Some e → e.place ≤ length (pod_ticks ticks n)
+    before e found = by (evicted_at n es) found
+      where
+        by : (o : Option EvictedAt) → option_map (λ (f : EvictedAt). record { place = length (pod_ticks (take f.tick ticks) n); order = f.order }) o ≡ Some e → e.place ≤ length (pod_ticks ticks n)
+        by None f = absurd (cc)
+        by (Some f) is =
+            let same : record { place = length (pod_ticks (take f.tick ticks) n); order = f.order } ≡ e = cc in
+            let place : length (pod_ticks (take f.tick ticks) n) ≡ e.place = ap (λ (v : EvictionOfPod). v.place) same in
+            let le : length (pod_ticks (take f.tick ticks) n) ≤ length (pod_ticks ticks n) = fewer ticks f.tick n in omega arith
+
+    none : (pod : PodSpec) (o : PodObs) → shown_of x n ≡ Some o → (e : Option EvictionOfPod) → ((v : EvictionOfPod) → e ≡ Some v → v.place ≤ length (pod_ticks ticks n))
+        → own_eviction n (ticks ++ x ∷ []) es ≡ e → IsPhase pod (option_map (λ (v : EvictionOfPod). v.place) (own_eviction n (ticks ++ x ∷ []) es)) (pod_ticks (ticks ++ x ∷ []) n) status.phase
+        → own_eviction n (ticks ++ x ∷ []) es ≡ None
+    none pod o at None below is phase = is
+    none pod o at (Some v) below is phase =
+        let le : v.place ≤ length (pod_ticks ticks n) = below v refl in
+        let grown : length (pod_ticks (ticks ++ x ∷ []) n) ≡ suc (length (pod_ticks ticks n)) = ap length (pod_ticks-more ticks x n o at) ∙ length-more (pod_ticks ticks n) (pod_tick o) in
+        let now : IsPhase pod (Some v.place) (pod_ticks (ticks ++ x ∷ []) n) status.phase =
+        subst (λ (e : Option EvictionOfPod). IsPhase pod (option_map (λ (v : EvictionOfPod). v.place) e) (pod_ticks (ticks ++ x ∷ []) n) status.phase) is phase in
+        absurd (candidate.lives (evicted_ends pod v.place (pod_ticks (ticks ++ x ∷ []) n) status.phase now (omega arith)))
+
+-- after the eviction
+pub pieces_evicted : (config : NodeConfig) (pods : List PodSpec) (ticks : List TickObs) (es : List (Option Eviction)) (x : TickObs) (e : Eviction) (old new : List Piece) (status : PodStatus)
+    → length es ≡ length ticks → length x.pods ≡ length pods
+    → ArePieces config pods (ticks ++ x ∷ []) es old → IsCandidate old e.pod status → AreEvicted old e.pod e.order new
+    → ArePieces config pods (ticks ++ x ∷ []) (es ++ Some e ∷ []) new
+pieces_evicted config pods ticks es x e old new status len shown are candidate evicted = record {
+  as_many = evicted.as_many ∙ are.as_many;
+  each = λ n pod at. elim (cases_eq n e.pod) [
+    | inl here ↦
+        let at' : slice_get pods e.pod ≡ Some pod = subst (λ (k : ℕ). slice_get pods k ≡ Some pod) here at in
+        let lt : e.pod < length pods = within pods e.pod pod at' in
+        let o = at_place x.pods e.pod (omega arith) in
+        let grown : length (pod_ticks (ticks ++ x ∷ []) e.pod) ≡ suc (length (pod_ticks ticks e.pod)) =
+        ap length (pod_ticks-more ticks x e.pod o.0 o.1) ∙ length-more (pod_ticks ticks e.pod) (pod_tick o.0) in
+        let last : length (pod_ticks (ticks ++ x ∷ []) e.pod) - 1 ≡ length (pod_ticks ticks e.pod) = omega arith in
+        let never = candidate_not_evicted config pods ticks es x old e.pod status len shown are candidate in
+        let now = own_eviction-now e.pod ticks x es e len never refl in
+        let done : slice_get new e.pod ≡ Some (piece_after config (ticks ++ x ∷ []) (es ++ Some e ∷ []) e.pod pod) =
+        evicted.here (piece_after config (ticks ++ x ∷ []) es e.pod pod) (are.each e.pod pod at')
+        ∙ ap (λ (k : ℕ). Some (made e.pod pod config.max_restart_delay (pod_ticks (ticks ++ x ∷ []) e.pod) (Some (record { place = k; order = e.order })))) last
+        ∙ ap (λ (v : Option EvictionOfPod). Some (made e.pod pod config.max_restart_delay (pod_ticks (ticks ++ x ∷ []) e.pod) v)) (sym now) in
+        subst (λ (k : ℕ). slice_get new k ≡ Some (piece_after config (ticks ++ x ∷ []) (es ++ Some e ∷ []) k pod)) (sym here) done
+    | inr apart ↦
+        evicted.others n apart ∙ are.each n pod at
+        ∙ ap (λ (v : Option EvictionOfPod). Some (made n pod config.max_restart_delay (pod_ticks (ticks ++ x ∷ []) n) v))
+        (sym (own_eviction-other n (ticks ++ x ∷ []) es (Some e) (λ is. apart (sym is))))
+  ];
+}
+
+-- without one
+pub pieces_spared : (config : NodeConfig) (pods : List PodSpec) (ticks : List TickObs) (es : List (Option Eviction)) (old : List Piece)
+    → ArePieces config pods ticks es old → ArePieces config pods ticks (es ++ None ∷ []) old
+pieces_spared config pods ticks es old are = record {
+  as_many = are.as_many;
+  each = λ n pod at.
+      are.each n pod at
+      ∙ ap (λ (v : Option EvictionOfPod). Some (made n pod config.max_restart_delay (pod_ticks ticks n) v)) (sym (own_eviction-other n ticks es None (λ is. is)));
+}

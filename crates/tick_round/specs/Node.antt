@@ -1,0 +1,94 @@
+-- Where the pods and the ticks of a node lead.
+use Rattle.std.specs.Prelude.{◌≡◌, ℕ, ◌<◌, ◌≤◌, ◌^◌, false, List, [], ◌∷◌, length, map, slice_get, Option, Some, None, option_map, IfSome, IsSomeAnd}
+use Rattle.manifest.specs.declared.pod.PodSpec.{PodSpec}
+use Rattle.observations.specs.declared.tick.TickObs.{TickObs}
+use Rattle.node_config.specs.declared.node.NodeConfig.{NodeConfig}
+use Rattle.node_signals.specs.declared.node.NodeSignals.{NodeSignals}
+use Rattle.node_signals.specs.declared.key.ThresholdKey.{ThresholdKey}
+use Rattle.node_signals.specs.Node.{IsStateOf}
+use Rattle.pod_piece.specs.Piece.{Piece}
+use Rattle.ranking.specs.Order.{IsVictim}
+use Rattle.eviction.specs.declared.eviction.Eviction.{Eviction}
+use Rattle.eviction.specs.Replay.{pod_ticks, own_eviction, IsOfVictim, IsReplay}
+use Rattle.node_pods.specs.Pods.{Pods, IsCandidate, Fits as PodsFit, IsEvictable, AreEvicted}
+
+-- what a node keeps that is not halted
+pub record State : Type 0 where
+  pub config : NodeConfig
+  pub signals : NodeSignals
+  pub pods : Pods
+  -- the eviction of each tick, or none
+  pub evictions : List (Option Eviction)
+  -- the moment of the last tick, in seconds
+  pub last : Option ℕ
+
+abbrev pub state : NodeConfig → NodeSignals → Pods → List (Option Eviction) → Option ℕ → State
+state config signals pods evictions last =
+    record { config = config; signals = signals; pods = pods; evictions = evictions; last = last }
+
+-- a pod after these ticks and evictions: its own ticks have come into its status, and its eviction
+abbrev pub piece_after : NodeConfig → List TickObs → List (Option Eviction) → ℕ → PodSpec → Piece
+piece_after config ticks evictions n pod = record {
+  number = n;
+  pod = pod;
+  greatest = config.max_restart_delay;
+  handed = pod_ticks ticks n;
+  is_pending = false;
+  eviction = own_eviction n ticks evictions;
+}
+
+-- the pieces are the states of these pods' own ticks and evictions
+pub record ArePieces (config : NodeConfig) (pods : List PodSpec) (ticks : List TickObs) (evictions : List (Option Eviction)) (pieces : List Piece) : Type 0 where
+  pub as_many : length pieces ≡ length pods
+  pub each : (n : ℕ) (pod : PodSpec) → slice_get pods n ≡ Some pod → slice_get pieces n ≡ Some (piece_after config ticks evictions n pod)
+
+-- the moment of the last of these ticks
+abbrev pub last_of : List TickObs → Option ℕ
+last_of [] = None
+last_of (tick ∷ []) = Some tick.at
+last_of (tick ∷ next ∷ ticks) = last_of (next ∷ ticks)
+
+-- these pods have arrived, and these ticks were taken
+pub record HasTaken (pods : List PodSpec) (ticks : List TickObs) (s : State) : Type 0 where
+  pub replay : IsReplay s.config pods ticks s.evictions
+  pub pieces : ArePieces s.config pods ticks s.evictions s.pods.pieces
+  pub signals : IsStateOf s.config.eviction s.config.eviction_pressure_transition_period ticks s.signals
+  pub greatest : s.pods.greatest ≡ s.config.max_restart_delay
+  pub dedicated : s.pods.has_dedicated_imagefs ≡ s.config.has_dedicated_imagefs
+  pub shown : (t : ℕ) (tick : TickObs) → slice_get ticks t ≡ Some tick → length tick.pods ≤ length pods
+  pub last_is : s.last ≡ last_of ticks
+
+-- the tick may come next: it is later than the last, and shows each pod so that it may be handed to it
+pub record Fits (s : State) (tick : TickObs) : Type 0 where
+  pub later : IfSome s.last (λ last. last < tick.at)
+  pub bounded : tick.at < 2 ^ 40
+  pub pods : PodsFit s.pods tick
+
+-- the specifications of these pieces
+abbrev pub pods_in : List Piece → List PodSpec
+pods_in pieces = map (λ (piece : Piece). piece.pod) pieces
+
+-- the eviction at a moment for the threshold that is served, of these pods
+abbrev pub IsEvictionAt : NodeConfig → List Piece → ℕ → Option ThresholdKey → Option Eviction → Type 0
+IsEvictionAt config pieces at None eviction = eviction ≡ None
+IsEvictionAt config pieces at (Some key) eviction =
+    (victim : Option ℕ) × IsVictim key.signal config.has_dedicated_imagefs (IsCandidate pieces) victim
+    × IsOfVictim config (pods_in pieces) at key victim eviction
+
+-- the eviction may be carried out
+abbrev pub MayBeEvicted : List Piece → Option Eviction → Type 0
+MayBeEvicted pieces None = Unit {0}
+MayBeEvicted pieces (Some eviction) = IsEvictable pieces eviction.pod eviction.order.at
+
+-- the pods once it was
+abbrev pub AreWithout : List Piece → Option Eviction → List Piece → Type 0
+AreWithout old None new = new ≡ old
+AreWithout old (Some eviction) new = AreEvicted old eviction.pod eviction.order new
+
+-- the node is not halted: of this configuration, these pods have arrived, and these ticks were taken
+abbrev pub IsAfter : NodeConfig → List PodSpec → List TickObs → Option State → Type 0
+IsAfter config pods ticks node = IsSomeAnd node (λ s. (s.config ≡ config) × HasTaken pods ticks s)
+
+-- where it is not halted, the tick may come next
+abbrev pub MayTake : Option State → TickObs → Type 0
+MayTake node tick = IfSome node (λ s. Fits s tick)
