@@ -1,5 +1,6 @@
 -- The differs that follow the containers of the pods, one tick after the other.
-use Rattle.std.specs.Prelude.{◌≡◌, ◌⊎◌, ℕ, ◌-◌, ◌<◌, ◌≤◌, true, false, List, [], ◌∷◌, ◌++◌, length, map, slice_get, slice_index_or, Option, Some, IfSome}
+use Rattle.std.specs.Prelude.{◌≡◌, ◌⊎◌, ℕ, ◌-◌, ◌<◌, ◌≤◌, true, false, List, [], ◌∷◌, ◌++◌, length, map, slice_get}
+use Rattle.std.specs.Prelude.{slice_index_or, Option, Some, IfSome}
 use Rattle.std.specs.List.{All}
 use Rattle.histories.specs.Histories.{recorded, EndsBefore}
 use Rattle.state_diff.specs.declared.seen.Seen.{Seen}
@@ -10,6 +11,7 @@ use Rattle.state_diff.specs.Instances.{Tick}
 use Rattle.observations.specs.declared.pod.PodObs.{PodObs}
 use Rattle.observations.specs.declared.tick.TickObs.{TickObs}
 use Rattle.observations.specs.Observations.{shown_of, seen_of, own_ticks, history}
+use Rattle.following.specs.Backwards.{is_backwards}
 use Rattle.following.specs.declared.error.FollowError.{FollowError}
 use Rattle.following.specs.declared.error.FollowError.TheVariants.{Backwards, OutOfMemory}
 use Rattle.following.specs.declared.following.Following.{Following}
@@ -40,6 +42,27 @@ pub record ComesNext (ticks : List TickObs) (counts : List ℕ) (tick : TickObs)
   pub containers : map (λ (shown : PodObs). length shown.containers) tick.pods ≡ counts
   pub moment : (pod : ℕ) (shown : PodObs) → shown_of tick pod ≡ Some shown → shown.at ≡ tick.at
   pub later : EndBefore ticks tick.at
+
+-- it follows a pod more, of so many containers, through the same ticks
+abbrev pub HasNewPod : Following → ℕ → Following → Type 0
+HasNewPod old containers next = (ticks : List TickObs) (counts : List ℕ) → HasFollowed ticks counts old
+    → HasFollowed ticks (counts ++ containers ∷ []) next
+
+-- the tick may stand behind some ticks that it has followed
+abbrev pub MayFollow : Following → TickObs → Type 0
+MayFollow following tick =
+    (ticks : List TickObs) × (counts : List ℕ) × HasFollowed ticks counts following × ComesNext ticks counts tick
+
+-- the tick doesn't go back behind those that it has followed, and is followed now as well
+abbrev pub HasNewTick : Following → TickObs → Following → Type 0
+HasNewTick old tick next = (ticks : List TickObs) (counts : List ℕ) → HasFollowed ticks counts old
+    → ComesNext ticks counts tick
+    → (is_backwards ticks tick ≡ false) × HasFollowed (ticks ++ tick ∷ []) counts next
+
+-- the tick goes back behind all ticks that it may have followed
+abbrev pub GoesBack : Following → TickObs → Type 0
+GoesBack following tick = (ticks : List TickObs) (counts : List ℕ) → HasFollowed ticks counts following
+    → is_backwards ticks tick ≡ true
 
 -- so many differs, with no listing behind them
 pub record AreNew (count : ℕ) (differs : List Differ) : Type 0 where

@@ -1,10 +1,10 @@
 //! The differs that follow the containers, one tick after the other.
 
 ghost use Rattle.std.specs.List.{All};
-ghost use Rattle.std.specs.Prelude.{◌≡◌, ◌++◌, ◌∷◌, [], ℕ, false, true, List, length, IfOk, IfErr};
-ghost use Rattle.following.specs.Backwards.{is_backwards};
-ghost use Rattle.following.specs.Followed.{HasFollowed, ComesNext, AreNew, AreBefore, Takes, Refuses, HaveTaken, PodsHaveTaken, SomeRefuses, SomePodRefuses, IsRefusal};
-ghost use Rattle.observations.specs.declared.tick.TickObs.{TickObs};
+ghost use Rattle.std.specs.Prelude.{◌≡◌, [], length, IfOk, IfErr};
+ghost use Rattle.following.specs.Followed.{HasFollowed, HasNewPod, MayFollow, HasNewTick, GoesBack, AreNew, AreBefore};
+ghost use Rattle.following.specs.Followed.{Takes, Refuses, HaveTaken, PodsHaveTaken, SomeRefuses, SomePodRefuses};
+ghost use Rattle.following.specs.Followed.{IsRefusal};
 ghost use Rattle.state_diff.specs.Differ.{IsBefore};
 
 use crate::error::FollowError;
@@ -32,7 +32,7 @@ impl Following {
     /// Takes in a pod with so many containers, behind the others. No tick so far has an observation
     /// of it.
     pub fn with_pod(self, alloc: Global, containers: usize) -> Result<Following, AllocError>
-        ensures { IfOk result (λ next. (ticks : List TickObs) (counts : List ℕ) → HasFollowed ticks counts self → HasFollowed ticks (counts ++ containers ∷ []) next) }
+        ensures { IfOk result (HasNewPod self containers) }
     {
         let new = new_differs(alloc, containers)?;
         let mut differs = self.differs;
@@ -44,11 +44,9 @@ impl Following {
     /// container may not come after all its earlier ones, and `OutOfMemory` where a growth of memory
     /// is refused.
     pub fn with_tick(&self, alloc: Global, tick: &TickObs) -> Result<Following, FollowError>
-        requires { (ticks : List TickObs) × (counts : List ℕ) × HasFollowed ticks counts self.now × ComesNext ticks counts tick.now }
-        ensures taken { IfOk result (λ next. (ticks : List TickObs) (counts : List ℕ) → HasFollowed ticks counts self.now → ComesNext ticks counts tick.now
-            → (is_backwards ticks tick.now ≡ false) × HasFollowed (ticks ++ tick.now ∷ []) counts next) }
-        ensures refused { IfErr result (λ e. e ≡ FollowError.Backwards
-            → (ticks : List TickObs) (counts : List ℕ) → HasFollowed ticks counts self.now → is_backwards ticks tick.now ≡ true) }
+        requires { MayFollow self.now tick.now }
+        ensures taken { IfOk result (HasNewTick self.now tick.now) }
+        ensures refused { IfErr result (λ e. e ≡ FollowError.Backwards → GoesBack self.now tick.now) }
     {
         let next = pods_after(alloc, self.differs.as_slice(), tick)?;
         Ok(Following {

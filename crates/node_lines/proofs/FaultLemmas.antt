@@ -1,11 +1,11 @@
 -- Which fault a node line answers.
 use Rattle.std.proofs.Common.{◌≡◌, ◌⊎◌, inl, inr, ℕ, false, List, Option, Some, None, Result, Ok, Err, refl, ap, ◌∙◌}
-use Rattle.std.specs.Prelude.{not, option_and_then, codes}
+use Rattle.std.specs.Prelude.{option_and_then, codes}
 use Rattle.serde_json.specs.Data.{Data}
 use Rattle.serde_json.specs.Find.{as_bool, as_str}
 use Rattle.json_fields.specs.Fields.{field_at, text_at}
 use Rattle.json_fields.specs.Reading.{◌>>=◌, some_or}
-use Rattle.json_fields.proofs.Only.{Only, only_ok, only_err, only_bind, only_if, only_refused, only_some}
+use Rattle.json_fields.proofs.Only.{Only, only_ok, only_err, only_bind, only_if, only_some}
 use Rattle.manifest.specs.Names.{is_name}
 use Rattle.manifest.specs.RestartDelay.{most_max_delay, max_delay_of}
 use Rattle.quantity.specs.Duration.{duration_of}
@@ -15,16 +15,19 @@ use Rattle.quantity.specs.declared.limit.Limit.TheVariants.{Quantity}
 use Rattle.quantity_fields.specs.Fields.{quantity_in, limit_in}
 use Rattle.signals.specs.declared.by_signal.BySignal.{BySignal}
 use Rattle.signals.specs.declared.signal.Signal.{Signal}
-use Rattle.signals.specs.declared.signal.Signal.TheVariants.{MemoryAvailable, NodefsAvailable, ImagefsAvailable, NodefsInodesFree, ImagefsInodesFree, PidAvailable}
 use Rattle.signals.specs.BySignal.{of}
 use Rattle.node_config.specs.declared.node.Version.TheVariants.{One, Two}
 use Rattle.node_lines.specs.declared.eviction.Written.{Written}
 use Rattle.node_lines.specs.declared.fault.NodeFault.{NodeFault}
 use Rattle.node_lines.specs.declared.fault.NodeFault.TheVariants.{Config, SoftWithoutGrace}
 use Rattle.node_lines.specs.Laws.{held, LacksGrace, MissingGraceComesLast}
-use Rattle.node_lines.specs.Limits.{has_capacity, is_off, with_capacity, limit_at, reclaim_at, default_limits, hard_limits}
-use Rattle.node_lines.specs.Maps.{is_signal_map, in_map, read_each, map_of, or_config, duration_from, duration_at, quantity_at}
-use Rattle.node_lines.specs.Node.{whole_number, version_named, version_of, name_from, restart_delay_of, flag_of, few_seconds, seconds_of, or_default, settings_in, node_of}
+use Rattle.node_lines.specs.Limits.{has_capacity, is_off, with_capacity, limit_at, reclaim_at, default_limits}
+use Rattle.node_lines.specs.Limits.{hard_limits}
+use Rattle.node_lines.specs.Maps.{map_of, or_config, duration_from, duration_at, quantity_at}
+use Rattle.signal_maps.specs.declared.scope.Scope.TheVariants.{Node}
+use Rattle.signal_maps.proofs.Refused.{each_only, map_only, bind_err, each_err}
+use Rattle.node_lines.specs.Node.{whole_number, version_named, version_of, name_from, restart_delay_of, flag_of}
+use Rattle.node_lines.specs.Node.{few_seconds, seconds_of, or_default, settings_in, node_of}
 use Rattle.node_lines.specs.Thresholds.{soft_threshold, written_over, written_in, soft_thresholds, eviction_from}
 use Rattle.node_lines.proofs.LawLemmas.{IsWritten, limit_read, in_read, soft_limit_of, grace_of}
 
@@ -39,20 +42,9 @@ config_only (Err fault) = only_err IsConfig Config refl
 some_only : {A : Type 0} (found : Option A) → Only IsConfig (some_or Config found)
 some_only found = only_some IsConfig Config found refl
 
-each_only : {A : Type 0} (P : NodeFault → Type 0) (read : Signal → Result A NodeFault) → ((signal : Signal) → Only P (read signal)) → Only P (read_each read)
-unfolding read_each
-each_only P read one =
-    only_bind P _ _ (one MemoryAvailable) (λ a.
-    only_bind P _ _ (one NodefsAvailable) (λ b.
-    only_bind P _ _ (one ImagefsAvailable) (λ c.
-    only_bind P _ _ (one NodefsInodesFree) (λ d.
-    only_bind P _ _ (one ImagefsInodesFree) (λ f.
-    only_bind P _ _ (one PidAvailable) (λ g. only_ok P _))))))
-
-map_only : {A : Type 0} (read : Signal → Option Data → Result A NodeFault) (found : Option Data) → ((signal : Signal) (d : Option Data) → Only IsConfig (read signal d)) → Only IsConfig (map_of read found)
-unfolding map_of
-map_only read found one =
-    only_bind IsConfig _ _ (only_refused IsConfig (not (is_signal_map found)) Config refl) (λ alone. each_only IsConfig (λ s. read s (in_map found s)) (λ s. one s (in_map found s)))
+map_config : {A : Type 0} (read : Signal → Option Data → Result A NodeFault) (found : Option Data)
+    → ((signal : Signal) (d : Option Data) → Only IsConfig (read signal d)) → Only IsConfig (map_of read found)
+map_config read found one = map_only IsConfig Node Config read found refl one
 
 quantity_only : (found : Option Data) → Only IsConfig (quantity_at found)
 quantity_only None = only_ok IsConfig None
@@ -60,44 +52,55 @@ quantity_only (Some d) = only_bind IsConfig _ _ (config_only (quantity_in d)) (�
 
 duration_from_only : (text : Option (List ℕ)) → Only IsConfig (duration_from text)
 duration_from_only None = only_err IsConfig Config refl
-duration_from_only (Some text) = only_bind IsConfig _ _ (config_only (duration_of text)) (λ n. only_ok IsConfig (Some n))
+duration_from_only (Some text) =
+    only_bind IsConfig _ _ (config_only (duration_of text)) (λ n. only_ok IsConfig (Some n))
 
 duration_only : (found : Option Data) → Only IsConfig (duration_at found)
 duration_only None = only_ok IsConfig None
 duration_only (Some d) = duration_from_only (as_str d)
 
 capacity_only : (capacity : Option ℕ) (limit : Limit) → Only IsConfig (with_capacity capacity limit)
-capacity_only capacity limit = only_if IsConfig (has_capacity capacity limit) (Ok limit) (Err Config) (only_ok IsConfig limit) (only_err IsConfig Config refl)
+capacity_only capacity limit =
+    only_if IsConfig (has_capacity capacity limit) (Ok limit) (Err Config) (only_ok IsConfig limit)
+    (only_err IsConfig Config refl)
 
 limit_only : (capacity : Option ℕ) (found : Option Data) → Only IsConfig (limit_at capacity found)
 limit_only capacity None = only_ok IsConfig None
 limit_only capacity (Some d) = only_bind IsConfig _ _ (config_only (limit_in d)) (λ limit.
-    only_if IsConfig (is_off limit) (Ok None) _ (only_ok IsConfig None) (only_bind IsConfig _ _ (capacity_only capacity limit) (λ l. only_ok IsConfig (Some l))))
+    only_if IsConfig (is_off limit) (Ok None) _ (only_ok IsConfig None)
+    (only_bind IsConfig _ _ (capacity_only capacity limit) (λ l. only_ok IsConfig (Some l))))
 
 reclaim_only : (capacity : Option ℕ) (found : Option Data) → Only IsConfig (reclaim_at capacity found)
 reclaim_only capacity None = only_ok IsConfig (Quantity 0)
-reclaim_only capacity (Some d) = only_bind IsConfig _ _ (config_only (limit_in d)) (λ limit. capacity_only capacity limit)
+reclaim_only capacity (Some d) =
+    only_bind IsConfig _ _ (config_only (limit_in d)) (λ limit. capacity_only capacity limit)
 
 hard_only : (capacity : BySignal (Option ℕ)) (found : Option Data) → Only IsConfig (hard_limits capacity found)
 hard_only capacity None = only_ok IsConfig (default_limits capacity)
-hard_only capacity (Some d) = map_only (λ s. limit_at (of capacity s)) (Some d) (λ s. limit_only (of capacity s))
+hard_only capacity (Some d) = map_config (λ s. limit_at (of capacity s)) (Some d) (λ s. limit_only (of capacity s))
 
 over_only : (capacity : BySignal (Option ℕ)) (d : Data) → Only IsConfig (written_over capacity d)
 unfolding written_over
 over_only capacity d =
     let P = IsConfig in
     only_bind P _ _ (hard_only capacity (field_at (codes "evictionHard") d)) (λ hard.
-    only_bind P _ _ (map_only (λ s. limit_at (of capacity s)) (field_at (codes "evictionSoft") d) (λ s. limit_only (of capacity s))) (λ soft.
-    only_bind P _ _ (map_only (λ s. duration_at) (field_at (codes "evictionSoftGracePeriod") d) (λ s. duration_only)) (λ graces.
-    only_bind P _ _ (map_only (λ s. reclaim_at (of capacity s)) (field_at (codes "evictionMinimumReclaim") d) (λ s. reclaim_only (of capacity s))) (λ reclaims. only_ok P _))))
+    only_bind P _ _ (map_config (λ s. limit_at (of capacity s)) (field_at (codes "evictionSoft") d)
+    (λ s. limit_only (of capacity s))) (λ soft.
+    only_bind P _ _ (map_config (λ s. duration_at) (field_at (codes "evictionSoftGracePeriod") d)
+    (λ s. duration_only)) (λ graces.
+    only_bind P _ _ (map_config (λ s. reclaim_at (of capacity s)) (field_at (codes "evictionMinimumReclaim") d)
+    (λ s. reclaim_only (of capacity s))) (λ reclaims. only_ok P _))))
 
 written_only : (d : Data) → Only IsConfig (written_in d)
 unfolding written_in
-written_only d = only_bind IsConfig _ _ (map_only (λ s. quantity_at) (field_at (codes "capacity") d) (λ s. quantity_only)) (λ capacity. over_only capacity d)
+written_only d = only_bind IsConfig _ _
+    (map_config (λ s. quantity_at) (field_at (codes "capacity") d) (λ s. quantity_only))
+    (λ capacity. over_only capacity d)
 
 named_only : (found : Option ℕ) → Only IsConfig (version_named found)
 named_only None = only_err IsConfig Config refl
-named_only (Some n) = only_if IsConfig _ (Ok One) _ (only_ok IsConfig One) (only_if IsConfig _ (Ok Two) (Err Config) (only_ok IsConfig Two) (only_err IsConfig Config refl))
+named_only (Some n) = only_if IsConfig _ (Ok One) _ (only_ok IsConfig One)
+    (only_if IsConfig _ (Ok Two) (Err Config) (only_ok IsConfig Two) (only_err IsConfig Config refl))
 
 version_only : (found : Option Data) → Only IsConfig (version_of found)
 version_only None = only_ok IsConfig One
@@ -105,7 +108,8 @@ version_only (Some d) = named_only (whole_number d)
 
 name_only : (found : Option (List ℕ)) → Only IsConfig (name_from found)
 name_only None = only_err IsConfig Config refl
-name_only (Some s) = only_if IsConfig (is_name s) (Ok s) (Err Config) (only_ok IsConfig s) (only_err IsConfig Config refl)
+name_only (Some s) = only_if IsConfig (is_name s) (Ok s) (Err Config) (only_ok IsConfig s)
+    (only_err IsConfig Config refl)
 
 delay_only : (found : Option Data) → Only IsConfig (restart_delay_of found)
 delay_only None = only_ok IsConfig most_max_delay
@@ -127,63 +131,41 @@ settings_only d =
     only_bind P _ _ (delay_only (field_at (codes "maxRestartDelay") d)) (λ b.
     only_bind P _ _ (flag_only (field_at (codes "dedicatedImagefs") d)) (λ c.
     only_bind P _ _ (seconds_only (field_at (codes "evictionMaxPodGracePeriod") d)) (λ f.
-    only_bind P _ _ (only_bind P _ _ (duration_only (field_at (codes "evictionPressureTransitionPeriod") d)) (λ w. only_ok P (or_default w))) (λ g. only_ok P _)))))
+    only_bind P _ _ (only_bind P _ _ (duration_only (field_at (codes "evictionPressureTransitionPeriod") d))
+    (λ w. only_ok P (or_default w))) (λ g. only_ok P _)))))
 
 -- so a missing grace was answered after them
-passed : {A B : Type 0} (r : Result A NodeFault) (f : A → Result B NodeFault) → Only IsConfig r → (r >>= f) ≡ Err SoftWithoutGrace → (x : A) × (r ≡ Ok x) × (f x ≡ Err SoftWithoutGrace)
+passed : {A B : Type 0} (r : Result A NodeFault) (f : A → Result B NodeFault) → Only IsConfig r
+    → (r >>= f) ≡ Err SoftWithoutGrace → (x : A) × (r ≡ Ok x) × (f x ≡ Err SoftWithoutGrace)
 passed (Ok x) f only e = (x, refl, e)
 passed (Err other) f only e =
     let same : other ≡ SoftWithoutGrace = cc in
     let config : other ≡ Config = only.has other refl in
     absurd (cc)
 
-bind_err : {A B E : Type 0} (r : Result A E) (f : A → Result B E) (fault : E) → (r >>= f) ≡ Err fault → (r ≡ Err fault) ⊎ ((x : A) × (r ≡ Ok x) × (f x ≡ Err fault))
-bind_err (Ok x) f fault e = inr (x, refl, e)
-bind_err {A = A} {E = E} (Err other) f fault e =
-    let same : other ≡ fault = cc in
-    let refused : E → Result A E = λ x. Err x in
-    inl (ap refused same)
-
-each_err : {A : Type 0} (read : Signal → Result A NodeFault) (fault : NodeFault) → read_each read ≡ Err fault → (signal : Signal) × (read signal ≡ Err fault)
-unfolding read_each
-each_err read fault e = elim (bind_err (read MemoryAvailable) _ fault e) [
-  | inl a ↦ (MemoryAvailable, a)
-  | inr a ↦ elim (bind_err (read NodefsAvailable) _ fault a.2) [
-    | inl b ↦ (NodefsAvailable, b)
-    | inr b ↦ elim (bind_err (read ImagefsAvailable) _ fault b.2) [
-      | inl c ↦ (ImagefsAvailable, c)
-      | inr c ↦ elim (bind_err (read NodefsInodesFree) _ fault c.2) [
-        | inl d ↦ (NodefsInodesFree, d)
-        | inr d ↦ elim (bind_err (read ImagefsInodesFree) _ fault d.2) [
-          | inl f ↦ (ImagefsInodesFree, f)
-          | inr f ↦ elim (bind_err (read PidAvailable) _ fault f.2) [
-            | inl g ↦ (PidAvailable, g)
-            | inr g ↦ let last = g.2 in absurd (cc)
-          ]
-        ]
-      ]
-    ]
-  ]
-]
-
-soft_lacks : (limit : Option Limit) (reclaim : Limit) (grace : Option ℕ) (fault : NodeFault) → soft_threshold limit reclaim grace ≡ Err fault → (l : Limit) × (limit ≡ Some l) × (grace ≡ None)
+soft_lacks : (limit : Option Limit) (reclaim : Limit) (grace : Option ℕ) (fault : NodeFault)
+    → soft_threshold limit reclaim grace ≡ Err fault → (l : Limit) × (limit ≡ Some l) × (grace ≡ None)
 soft_lacks None reclaim grace fault e = absurd (cc)
 soft_lacks (Some l) reclaim None fault e = (l, refl, refl)
 soft_lacks (Some l) reclaim (Some g) fault e = absurd (cc)
 
-no_grace_from : (read : Result ℕ QuantityFault) → (or_config read >>= λ seconds. Ok (Some seconds)) ≡ Ok None → held read ≡ None
+no_grace_from : (read : Result ℕ QuantityFault) → (or_config read >>= λ seconds. Ok (Some seconds)) ≡ Ok None
+    → held read ≡ None
 no_grace_from (Ok seconds) e = absurd (cc)
 no_grace_from (Err fault) e = refl
 
-no_grace_text : (text : Option (List ℕ)) → duration_from text ≡ Ok None → option_and_then (λ t. held (duration_of t)) text ≡ None
+no_grace_text : (text : Option (List ℕ)) → duration_from text ≡ Ok None
+    → option_and_then (λ t. held (duration_of t)) text ≡ None
 no_grace_text None e = refl
 no_grace_text (Some text) e = no_grace_from (duration_of text) e
 
-no_grace_read : (found : Option Data) → duration_at found ≡ Ok None → option_and_then (λ v. option_and_then (λ t. held (duration_of t)) (as_str v)) found ≡ None
+no_grace_read : (found : Option Data) → duration_at found ≡ Ok None
+    → option_and_then (λ v. option_and_then (λ t. held (duration_of t)) (as_str v)) found ≡ None
 no_grace_read None e = refl
 no_grace_read (Some d) e = no_grace_text (as_str d) e
 
-lacking : (d : Data) (written : Written) (signal : Signal) (limit : Limit) → IsWritten d written → of written.soft signal ≡ Some limit → of written.graces signal ≡ None → LacksGrace d
+lacking : (d : Data) (written : Written) (signal : Signal) (limit : Limit) → IsWritten d written
+    → of written.soft signal ≡ Some limit → of written.graces signal ≡ None → LacksGrace d
 lacking d written signal limit read set none = record {
   signal = signal;
   limit = limit;
@@ -191,14 +173,18 @@ lacking d written signal limit read set none = record {
   no_grace = no_grace_read _ (grace_of d written signal read ∙ ap (λ (g : Option ℕ). Ok g) none);
 }
 
-lacks : (d : Data) (written : Written) → written_in d ≡ Ok written → soft_thresholds written ≡ Err SoftWithoutGrace → LacksGrace d
+lacks : (d : Data) (written : Written) → written_in d ≡ Ok written → soft_thresholds written ≡ Err SoftWithoutGrace
+    → LacksGrace d
 lacks d written is softs =
-    let one = each_err (λ s. soft_threshold (of written.soft s) (of written.reclaims s) (of written.graces s)) SoftWithoutGrace softs in
-    let missing = soft_lacks (of written.soft one.0) (of written.reclaims one.0) (of written.graces one.0) SoftWithoutGrace one.1 in
+    let one = each_err (λ s. soft_threshold (of written.soft s) (of written.reclaims s) (of written.graces s))
+    SoftWithoutGrace softs in
+    let missing = soft_lacks (of written.soft one.0) (of written.reclaims one.0) (of written.graces one.0)
+    SoftWithoutGrace one.1 in
     lacking d written one.0 missing.0 (in_read d written is) missing.1 missing.2
 
 -- the thresholds are refused for a soft one alone
-soft_refused : (written : Written) → eviction_from written ≡ Err SoftWithoutGrace → soft_thresholds written ≡ Err SoftWithoutGrace
+soft_refused : (written : Written) → eviction_from written ≡ Err SoftWithoutGrace
+    → soft_thresholds written ≡ Err SoftWithoutGrace
 soft_refused written e = elim (bind_err (soft_thresholds written) _ SoftWithoutGrace e) [
   | inl refused ↦ refused
   | inr well ↦ let last = well.2 in absurd (cc)
@@ -224,7 +210,8 @@ among : {A : Type 0} (r : Result A NodeFault) → Only IsConfig r → Only IsNod
 among (Ok x) only = only_ok IsNodeFault x
 among (Err fault) only = only_err IsNodeFault fault (inl (only.has fault refl))
 
-soft_only : (limit : Option Limit) (reclaim : Limit) (grace : Option ℕ) → Only IsNodeFault (soft_threshold limit reclaim grace)
+soft_only : (limit : Option Limit) (reclaim : Limit) (grace : Option ℕ)
+    → Only IsNodeFault (soft_threshold limit reclaim grace)
 soft_only None reclaim grace = only_ok IsNodeFault None
 soft_only (Some limit) reclaim None = only_err IsNodeFault SoftWithoutGrace (inr refl)
 soft_only (Some limit) reclaim (Some grace) = only_ok IsNodeFault _
@@ -232,7 +219,9 @@ soft_only (Some limit) reclaim (Some grace) = only_ok IsNodeFault _
 thresholds_only : (written : Written) → Only IsNodeFault (eviction_from written)
 thresholds_only written =
     let P = IsNodeFault in
-    only_bind P _ _ (each_only P (λ s. soft_threshold (of written.soft s) (of written.reclaims s) (of written.graces s)) (λ s. soft_only (of written.soft s) (of written.reclaims s) (of written.graces s))) (λ soft. only_ok P _)
+    only_bind P _ _ (each_only P (λ s. soft_threshold (of written.soft s) (of written.reclaims s)
+    (of written.graces s)) (λ s. soft_only (of written.soft s) (of written.reclaims s) (of written.graces s)))
+    (λ soft. only_ok P _)
 
 pub node_only : (d : Data) → Only IsNodeFault (node_of d)
 unfolding node_of

@@ -12,21 +12,28 @@ use Rattle.node_lines.specs.Maps.{map_of, duration_at}
 use Rattle.node_lines.specs.Thresholds.{written_over}
 
 -- the maps before the reclaims
-pub record AreRead (capacity : BySignal (Option ℕ)) (d : Data) (hard soft : BySignal (Option Limit)) (graces : BySignal (Option ℕ)) : Type 0 where
+pub record AreRead (capacity : BySignal (Option ℕ)) (d : Data) (hard soft : BySignal (Option Limit))
+    (graces : BySignal (Option ℕ)) : Type 0 where
   pub hard_is : Ok hard ≡ hard_limits capacity (field_at (codes "evictionHard") d)
   pub soft_is : Ok soft ≡ map_of (λ signal. limit_at (of capacity signal)) (field_at (codes "evictionSoft") d)
   pub graces_are : Ok graces ≡ map_of (λ signal. duration_at) (field_at (codes "evictionSoftGracePeriod") d)
 
 abbrev pub reclaims_of : BySignal (Option ℕ) → Data → Result (BySignal Limit) NodeFault
-reclaims_of capacity d = map_of (λ signal. reclaim_at (of capacity signal)) (field_at (codes "evictionMinimumReclaim") d)
+reclaims_of capacity d = map_of (λ signal. reclaim_at (of capacity signal))
+    (field_at (codes "evictionMinimumReclaim") d)
 
-pub written_well : (capacity : BySignal (Option ℕ)) (d : Data) (hard soft : BySignal (Option Limit)) (graces : BySignal (Option ℕ)) (reclaims : BySignal Limit)
+pub written_well : (capacity : BySignal (Option ℕ)) (d : Data) (hard soft : BySignal (Option Limit))
+    (graces : BySignal (Option ℕ)) (reclaims : BySignal Limit)
     → AreRead capacity d hard soft graces → Ok reclaims ≡ reclaims_of capacity d
-    → Ok (record { capacity = capacity; hard = hard; soft = soft; graces = graces; reclaims = reclaims }) ≡ written_over capacity d
+    → Ok (record { capacity = capacity; hard = hard; soft = soft; graces = graces; reclaims = reclaims })
+    ≡ written_over capacity d
 unfolding written_over
-written_well capacity d hard soft graces reclaims read last = rw (← read.hard_is) (rw (← read.soft_is) (rw (← read.graces_are) (rw (← last) refl)))
+written_well capacity d hard soft graces reclaims read last =
+    rw (← read.hard_is) (rw (← read.soft_is) (rw (← read.graces_are) (rw (← last) refl)))
 
-pub reclaims_refused : (capacity : BySignal (Option ℕ)) (d : Data) (hard soft : BySignal (Option Limit)) (graces : BySignal (Option ℕ)) (fault : NodeFault)
+pub reclaims_refused : (capacity : BySignal (Option ℕ)) (d : Data) (hard soft : BySignal (Option Limit))
+    (graces : BySignal (Option ℕ)) (fault : NodeFault)
     → AreRead capacity d hard soft graces → Err fault ≡ reclaims_of capacity d → Err fault ≡ written_over capacity d
 unfolding written_over
-reclaims_refused capacity d hard soft graces fault read last = rw (← read.hard_is) (rw (← read.soft_is) (rw (← read.graces_are) (rw (← last) refl)))
+reclaims_refused capacity d hard soft graces fault read last =
+    rw (← read.hard_is) (rw (← read.soft_is) (rw (← read.graces_are) (rw (← last) refl)))

@@ -1,7 +1,8 @@
 -- What a node line says of its thresholds (Kubernetes, "Node-pressure Eviction", "Hard eviction
 -- thresholds", "Soft eviction thresholds" and "Minimum eviction reclaim"): the statements of the
 -- laws.
-use Rattle.std.specs.Prelude.{◌≡◌, ◌⊎◌, ℕ, List, Option, Some, None, option_and_then, unwrap_or, Result, Ok, Err, IsOk, codes}
+use Rattle.std.specs.Prelude.{◌≡◌, ◌⊎◌, ℕ, List, Option, Some, None, option_and_then, unwrap_or, Result, Ok, Err}
+use Rattle.std.specs.Prelude.{IsOk, codes}
 use Rattle.serde_json.specs.Data.{Data}
 use Rattle.serde_json.specs.Find.{as_str}
 use Rattle.json_fields.specs.Fields.{field_at, text_at}
@@ -17,7 +18,7 @@ use Rattle.node_config.specs.declared.node.NodeConfig.{NodeConfig}
 use Rattle.node_config.specs.Eviction.{threshold_of}
 use Rattle.node_lines.specs.declared.fault.NodeFault.TheVariants.{SoftWithoutGrace}
 use Rattle.node_lines.specs.Limits.{default_limit, where_possible}
-use Rattle.node_lines.specs.Maps.{in_map}
+use Rattle.signal_maps.specs.Maps.{in_map}
 use Rattle.node_lines.specs.Node.{name_from, settings_in, node_of}
 use Rattle.node_lines.specs.Thresholds.{hard_threshold, written_in}
 
@@ -82,6 +83,44 @@ abbrev pub OffSetsNoSoft : Type 0
 OffSetsNoSoft = (d : Data) (node : NodeConfig) (signal : Signal) (limit : Limit) → node_of d ≡ Ok node →
     limit_written (codes "evictionSoft") d signal ≡ Some limit → SwitchesOff limit →
     threshold_of node.eviction Soft signal ≡ None
+
+-- a limit that the map of this name writes for the signal, and that switches nothing off
+pub record SetsThreshold (name : List ℕ) (d : Data) (signal : Signal) (limit : Limit) : Type 0 where
+  pub is_written : limit_written name d signal ≡ Some limit
+  pub on : SwitchesOff limit → ⊥
+
+-- the threshold of this limit and this grace, with the signal's reclaim
+abbrev pub threshold_with : Data → Signal → Limit → ℕ → Threshold
+threshold_with d signal limit grace = record { limit = limit; reclaim = reclaim_written d signal; grace = grace }
+
+-- a node that a line says has for every limit that is written, and not switched off, the threshold
+-- with that limit; a soft one has its written grace, which is there
+pub record EveryLimitSetsItsThreshold : Type 0 where
+  pub hard : (d : Data) (node : NodeConfig) (signal : Signal) (limit : Limit) → node_of d ≡ Ok node
+      → SetsThreshold (codes "evictionHard") d signal limit
+      → threshold_of node.eviction Hard signal ≡ Some (threshold_with d signal limit 0)
+  pub soft : (d : Data) (node : NodeConfig) (signal : Signal) (limit : Limit) → node_of d ≡ Ok node
+      → SetsThreshold (codes "evictionSoft") d signal limit
+      → (grace : ℕ) × (grace_written d signal ≡ Some grace)
+      × (threshold_of node.eviction Soft signal ≡ Some (threshold_with d signal limit grace))
+
+-- no `evictionHard` stands, and this is the signal's default, which has its capacity
+pub record IsDefault (d : Data) (node : NodeConfig) (signal : Signal) (limit : Limit) : Type 0 where
+  pub none_written : field_at (codes "evictionHard") d ≡ None
+  pub limit_is : where_possible (of node.eviction.capacity signal) (default_limit signal) ≡ Some limit
+
+-- and each of its thresholds is that of a limit that is written, and not switched off, or of a
+-- default
+pub record EveryThresholdHasItsLimit : Type 0 where
+  pub hard : (d : Data) (node : NodeConfig) (signal : Signal) (threshold : Threshold) → node_of d ≡ Ok node
+      → threshold_of node.eviction Hard signal ≡ Some threshold
+      → (SetsThreshold (codes "evictionHard") d signal threshold.limit ⊎ IsDefault d node signal threshold.limit)
+      × (threshold ≡ threshold_with d signal threshold.limit 0)
+  pub soft : (d : Data) (node : NodeConfig) (signal : Signal) (threshold : Threshold) → node_of d ≡ Ok node
+      → threshold_of node.eviction Soft signal ≡ Some threshold
+      → SetsThreshold (codes "evictionSoft") d signal threshold.limit
+      × (grace_written d signal ≡ Some threshold.grace)
+      × (threshold ≡ threshold_with d signal threshold.limit threshold.grace)
 
 -- every field is accepted
 pub record IsAccepted (d : Data) : Type 0 where

@@ -1,6 +1,7 @@
 -- Limits and reclaims in the maps (Kubernetes, "Node-pressure Eviction", "Eviction thresholds" and
 -- "Minimum eviction reclaim").
-use Rattle.std.specs.Prelude.{◌≡◌, ℕ, ◌*◌, ◌^◌, ◌==◌, ◌||◌, Bool, true, false, Option, Some, None, is_some, if◌then◌else◌, Result, Ok, Err}
+use Rattle.std.specs.Prelude.{◌≡◌, ℕ, ◌*◌, ◌^◌, ◌==◌, ◌||◌, Bool, true, false, Option, Some, None, is_some}
+use Rattle.std.specs.Prelude.{if◌then◌else◌, Result, Ok, Err}
 use Rattle.serde_json.specs.Data.{Data}
 use Rattle.json_fields.specs.Reading.{◌>>=◌}
 use Rattle.quantity.specs.Limit.{HasItsCapacity}
@@ -10,7 +11,8 @@ use Rattle.quantity_fields.specs.Fields.{limit_in}
 use Rattle.signals.specs.declared.by_signal.BySignal.{BySignal}
 use Rattle.signals.specs.declared.signal.Signal.{Signal}
 use Rattle.signals.specs.BySignal.{of, for_each}
-use Rattle.signals.specs.declared.signal.Signal.TheVariants.{MemoryAvailable, NodefsAvailable, ImagefsAvailable, NodefsInodesFree, ImagefsInodesFree, PidAvailable}
+use Rattle.signals.specs.declared.signal.Signal.TheVariants.{MemoryAvailable, NodefsAvailable, ImagefsAvailable}
+use Rattle.signals.specs.declared.signal.Signal.TheVariants.{NodefsInodesFree, ImagefsInodesFree, PidAvailable}
 use Rattle.node_lines.specs.declared.fault.NodeFault.{NodeFault}
 use Rattle.node_lines.specs.declared.fault.NodeFault.TheVariants.{Config}
 use Rattle.node_lines.specs.Maps.{or_config, map_of}
@@ -39,13 +41,22 @@ abbrev pub reclaim_at : Option ℕ → Option Data → Result Limit NodeFault
 reclaim_at capacity None = Ok (Quantity 0)
 reclaim_at capacity (Some d) = or_config (limit_in d) >>= λ limit. with_capacity capacity limit
 
+-- the limits of a map, over the capacity of each signal
+abbrev pub limits_in : BySignal (Option ℕ) → Option Data → Result (BySignal (Option Limit)) NodeFault
+limits_in capacity found = map_of (λ signal. limit_at (of capacity signal)) found
+
+-- its reclaims
+abbrev pub reclaims_in : BySignal (Option ℕ) → Option Data → Result (BySignal Limit) NodeFault
+reclaims_in capacity found = map_of (λ signal. reclaim_at (of capacity signal)) found
+
 -- each percentage among these limits has its signal's capacity
 abbrev pub HaveTheirCapacity : BySignal (Option ℕ) → BySignal (Option Limit) → Type 0
 HaveTheirCapacity capacity limits = (signal : Signal) (limit : Limit) →
     of limits signal ≡ Some limit → HasItsCapacity (of capacity signal) limit
 
 abbrev pub ReclaimsHaveTheirCapacity : BySignal (Option ℕ) → BySignal Limit → Type 0
-ReclaimsHaveTheirCapacity capacity reclaims = (signal : Signal) → HasItsCapacity (of capacity signal) (of reclaims signal)
+ReclaimsHaveTheirCapacity capacity reclaims = (signal : Signal)
+    → HasItsCapacity (of capacity signal) (of reclaims signal)
 
 -- the limits of a node that sets none (Kubernetes, "Hard eviction thresholds"; this profile's)
 abbrev pub default_limit : Signal → Option Limit
@@ -67,4 +78,4 @@ default_limits capacity = for_each (λ signal. where_possible (of capacity signa
 -- the limits of the hard thresholds: the written ones alone, or the defaults where none is written
 abbrev pub hard_limits : BySignal (Option ℕ) → Option Data → Result (BySignal (Option Limit)) NodeFault
 hard_limits capacity None = Ok (default_limits capacity)
-hard_limits capacity (Some d) = map_of (λ signal. limit_at (of capacity signal)) (Some d)
+hard_limits capacity (Some d) = limits_in capacity (Some d)

@@ -1,5 +1,6 @@
 -- What a node line says.
-use Rattle.std.specs.Prelude.{ℕ, ◌==◌, ◌^◌, Bool, false, nat_lt, List, Option, Some, None, option_and_then, if◌then◌else◌, Result, Ok, Err, codes}
+use Rattle.std.specs.Prelude.{ℕ, ◌==◌, ◌^◌, Bool, false, nat_lt, List, Option, Some, None, option_and_then}
+use Rattle.std.specs.Prelude.{if◌then◌else◌, Result, Ok, Err, codes}
 use Rattle.serde_json.specs.Data.{Data}
 use Rattle.serde_json.specs.Find.{as_bool, as_number, as_u64}
 use Rattle.json_fields.specs.Fields.{field_at, text_at}

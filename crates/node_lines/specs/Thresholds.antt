@@ -13,8 +13,9 @@ use Rattle.node_config.specs.Eviction.{Eviction}
 use Rattle.node_lines.specs.declared.eviction.Written.{Written}
 use Rattle.node_lines.specs.declared.fault.NodeFault.{NodeFault}
 use Rattle.node_lines.specs.declared.fault.NodeFault.TheVariants.{SoftWithoutGrace}
-use Rattle.node_lines.specs.Limits.{limit_at, reclaim_at, hard_limits, HaveTheirCapacity, ReclaimsHaveTheirCapacity}
-use Rattle.node_lines.specs.Maps.{read_each, map_of, quantity_at, duration_at}
+use Rattle.node_lines.specs.Limits.{limits_in, reclaims_in, hard_limits, HaveTheirCapacity, ReclaimsHaveTheirCapacity}
+use Rattle.node_lines.specs.Maps.{map_of, quantity_at, duration_at}
+use Rattle.signal_maps.specs.Maps.{read_each}
 
 -- a hard threshold has no grace
 abbrev pub hard_threshold : Option Limit → Limit → Option Threshold
@@ -33,9 +34,9 @@ soft_threshold (Some limit) reclaim (Some grace) =
 unfoldable pub written_over : BySignal (Option ℕ) → Data → Result Written NodeFault
 written_over capacity d = do
   hard ← hard_limits capacity (field_at (codes "evictionHard") d)
-  soft ← map_of (λ signal. limit_at (of capacity signal)) (field_at (codes "evictionSoft") d)
+  soft ← limits_in capacity (field_at (codes "evictionSoft") d)
   graces ← map_of (λ signal. duration_at) (field_at (codes "evictionSoftGracePeriod") d)
-  reclaims ← map_of (λ signal. reclaim_at (of capacity signal)) (field_at (codes "evictionMinimumReclaim") d)
+  reclaims ← reclaims_in capacity (field_at (codes "evictionMinimumReclaim") d)
   Ok (record { capacity = capacity; hard = hard; soft = soft; graces = graces; reclaims = reclaims })
 
 unfoldable pub written_in : Data → Result Written NodeFault
@@ -43,13 +44,19 @@ written_in d = do
   capacity ← map_of (λ signal. quantity_at) (field_at (codes "capacity") d)
   written_over capacity d
 
+-- the signal's threshold of each kind
+abbrev pub hard_threshold_of : Written → Signal → Option Threshold
+hard_threshold_of written signal = hard_threshold (of written.hard signal) (of written.reclaims signal)
+
+abbrev pub soft_threshold_of : Written → Signal → Result (Option Threshold) NodeFault
+soft_threshold_of written signal =
+    soft_threshold (of written.soft signal) (of written.reclaims signal) (of written.graces signal)
+
 abbrev pub hard_thresholds : Written → BySignal (Option Threshold)
-hard_thresholds written = for_each (λ signal.
-    hard_threshold (of written.hard signal) (of written.reclaims signal))
+hard_thresholds written = for_each (hard_threshold_of written)
 
 abbrev pub soft_thresholds : Written → Result (BySignal (Option Threshold)) NodeFault
-soft_thresholds written = read_each (λ signal.
-    soft_threshold (of written.soft signal) (of written.reclaims signal) (of written.graces signal))
+soft_thresholds written = read_each (soft_threshold_of written)
 
 -- the thresholds, over the capacity
 abbrev pub eviction_from : Written → Result Eviction NodeFault
@@ -67,7 +74,10 @@ pub record IsBuiltOf (limit : Option Limit) (reclaim : Limit) (threshold : Thres
   pub has_limit : limit ≡ Some threshold.limit
   pub has_reclaim : reclaim ≡ threshold.reclaim
 
--- each of these has the limit and the reclaim of its signal
+-- it has those of its signal
+abbrev pub IsBuiltFor : BySignal (Option Limit) → BySignal Limit → Signal → Threshold → Type 0
+IsBuiltFor limits reclaims signal threshold = IsBuiltOf (of limits signal) (of reclaims signal) threshold
+
 abbrev pub AreBuiltOf : BySignal (Option Limit) → BySignal Limit → BySignal (Option Threshold) → Type 0
 AreBuiltOf limits reclaims thresholds = (signal : Signal) (threshold : Threshold) →
-    of thresholds signal ≡ Some threshold → IsBuiltOf (of limits signal) (of reclaims signal) threshold
+    of thresholds signal ≡ Some threshold → IsBuiltFor limits reclaims signal threshold

@@ -1,7 +1,6 @@
 //! Why a node line was refused.
 
 ghost use Rattle.std.specs.Prelude.{◌≡◌};
-ghost use Rattle.json_fields.specs.Reading.{refused_if};
 ghost use Rattle.node_lines.specs.declared.fault.NodeFault.TheVariants.{Config, OutOfMemory};
 
 use quantity::QuantityFault;
@@ -53,10 +52,4 @@ impl<T: Drop> From<AllocFailed<T>> for NodeFault {
     fn from(_e: AllocFailed<T>) -> NodeFault {
         NodeFault::OutOfMemory
     }
-}
-
-pub(crate) fn config_if(test: bool) -> Result<(), NodeFault>
-    ensures { result ≡ refused_if test Config }
-{
-    if test { Err(NodeFault::Config) } else { Ok(()) }
 }

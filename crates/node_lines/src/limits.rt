@@ -1,8 +1,7 @@
 //! Limits and reclaims, as a map writes them of one signal.
 
-ghost use Rattle.std.specs.Prelude.{◌≡◌, option_map, IfOk, IfSome};
+ghost use Rattle.std.specs.Prelude.{◌≡◌, option_map};
 ghost use Rattle.serde_json.specs.View.{view};
-ghost use Rattle.quantity.specs.Limit.{HasItsCapacity};
 ghost use Rattle.node_lines.specs.Limits.{is_off, with_capacity, limit_at, reclaim_at};
 
 use crate::fault::NodeFault;
@@ -21,8 +20,7 @@ fn is_off(limit: Limit) -> bool
 }
 
 fn with_capacity(capacity: Option<Quantity>, limit: Limit) -> Result<Limit, NodeFault>
-    ensures gives { result ≡ with_capacity capacity limit }
-    ensures capacity { IfOk result (HasItsCapacity capacity) }
+    ensures { result ≡ with_capacity capacity limit }
 {
     match limit {
         Limit::Percent(_) if capacity.is_none() => Err(NodeFault::Config),
@@ -35,8 +33,7 @@ pub(crate) fn limit_at(
     capacity: Option<Quantity>,
     found: Option<&Value>,
 ) -> Result<Option<Limit>, NodeFault>
-    ensures gives { result ≡ limit_at capacity (option_map (λ v. view v.now) found.entry) }
-    ensures capacity { IfOk result (λ limit. IfSome limit (HasItsCapacity capacity)) }
+    ensures { result ≡ limit_at capacity (option_map (λ v. view v.now) found.entry) }
 {
     let Some(value) = found else {
         return Ok(None);
@@ -53,8 +50,7 @@ pub(crate) fn reclaim_at(
     capacity: Option<Quantity>,
     found: Option<&Value>,
 ) -> Result<Limit, NodeFault>
-    ensures gives { result ≡ reclaim_at capacity (option_map (λ v. view v.now) found.entry) }
-    ensures capacity { IfOk result (HasItsCapacity capacity) }
+    ensures { result ≡ reclaim_at capacity (option_map (λ v. view v.now) found.entry) }
 {
     match found {
         None => Ok(Limit::Quantity(Quantity::from_units(0))),

@@ -2,8 +2,9 @@
 
 ghost use Rattle.std.specs.Prelude.{◌≡◌, option_map};
 ghost use Rattle.serde_json.specs.View.{view};
-ghost use Rattle.node_lines.specs.Gives.{Gives};
-ghost use Rattle.node_lines.specs.Node.{version_of, name_from, restart_delay_of, flag_of, seconds_of, transition_period_of, settings_in, node_of};
+ghost use Rattle.node_lines.specs.Gives.{Gives, GivesExactly};
+ghost use Rattle.node_lines.specs.Node.{version_of, name_from, restart_delay_of, flag_of, seconds_of};
+ghost use Rattle.node_lines.specs.Node.{transition_period_of, settings_in, node_of};
 
 use crate::eviction::{eviction_from, written_in};
 use crate::fault::NodeFault;
@@ -40,13 +41,20 @@ fn version(found: Option<&Value>) -> Result<Version, NodeFault>
     }
 }
 
+fn name_from(found: Option<&str>) -> Result<&str, NodeFault>
+    ensures { GivesExactly (λ s. s.now) result (name_from (option_map (λ s. s.now) found.entry)) }
+{
+    match found {
+        Some(name) if is_name(name.as_bytes()) => Ok(name),
+        _ => Err(NodeFault::Config),
+    }
+}
+
 fn node_name(alloc: Global, found: Option<&str>) -> Result<Text, NodeFault>
     ensures { Gives (λ t. t) result (name_from (option_map (λ s. s.now) found.entry)) }
 {
-    match found {
-        Some(name) if is_name(name.as_bytes()) => Ok(Text::new(String::from_str(alloc, name)?)),
-        _ => Err(NodeFault::Config),
-    }
+    let name = name_from(found)?;
+    Ok(Text::new(String::from_str(alloc, name)?))
 }
 
 fn restart_delay(found: Option<&Value>) -> Result<MaxRestartDelay, NodeFault>

@@ -1,8 +1,8 @@
 //! The thresholds that a node line sets.
 
 ghost use Rattle.std.specs.Prelude.{◌≡◌, IfOk, IfSome};
-ghost use Rattle.signals.specs.BySignal.{of};
-ghost use Rattle.node_lines.specs.Thresholds.{hard_threshold, soft_threshold, hard_thresholds, soft_thresholds, IsBuiltOf, AreBuiltOf};
+ghost use Rattle.node_lines.specs.Thresholds.{hard_threshold_of, soft_threshold_of, IsBuiltFor};
+ghost use Rattle.node_lines.specs.Thresholds.{hard_thresholds, soft_thresholds, AreBuiltOf};
 
 use crate::eviction::Written;
 use crate::fault::NodeFault;
@@ -10,8 +10,8 @@ use signals::{BySignal, Signal, Threshold};
 
 /// A hard threshold evicts at once: it has no grace.
 fn hard_threshold(written: &Written, signal: Signal) -> Option<Threshold>
-    ensures value { result ≡ hard_threshold (of written.now.hard signal) (of written.now.reclaims signal) }
-    ensures built { IfSome result (IsBuiltOf (of written.now.hard signal) (of written.now.reclaims signal)) }
+    ensures value { result ≡ hard_threshold_of written.now signal }
+    ensures built { IfSome result (IsBuiltFor written.now.hard written.now.reclaims signal) }
 {
     let limit = written.hard.of(signal)?;
     Some(Threshold {
@@ -23,8 +23,8 @@ fn hard_threshold(written: &Written, signal: Signal) -> Option<Threshold>
 
 /// A soft threshold with its grace, in seconds, which it needs.
 fn soft_threshold(written: &Written, signal: Signal) -> Result<Option<Threshold>, NodeFault>
-    ensures gives { result ≡ soft_threshold (of written.now.soft signal) (of written.now.reclaims signal) (of written.now.graces signal) }
-    ensures built { IfOk result (λ found. IfSome found (IsBuiltOf (of written.now.soft signal) (of written.now.reclaims signal))) }
+    ensures gives { result ≡ soft_threshold_of written.now signal }
+    ensures built { IfOk result (λ found. IfSome found (IsBuiltFor written.now.soft written.now.reclaims signal)) }
 {
     let Some(limit) = written.soft.of(signal) else {
         return Ok(None);
@@ -53,7 +53,7 @@ pub(crate) fn hard_thresholds(written: &Written) -> BySignal<Option<Threshold>>
     }
 }
 
-#[tactic(auto, unfolding(crate::specs::Maps::read_each))]
+#[tactic(auto, unfolding(signal_maps::specs::Maps::read_each))]
 pub(crate) fn soft_thresholds(written: &Written) -> Result<BySignal<Option<Threshold>>, NodeFault>
     ensures gives { result ≡ soft_thresholds written.now }
     ensures built { IfOk result (AreBuiltOf written.now.soft written.now.reclaims) }

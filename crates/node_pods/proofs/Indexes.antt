@@ -21,7 +21,8 @@ left signal dedicated held number ranks is = record {
 pub tried : {T E : Type 0} (r : Result T E) (signal : Signal) (dedicated : Bool) (held : ℕ → Option PodStatus)
     (status : PodStatus) (old new : Ranks) → new.signal ≡ old.signal
     → new.has_dedicated_imagefs ≡ old.has_dedicated_imagefs
-    → OnOk r ((held after : ℕ → Option PodStatus) → IsIndexOf held old → AreHeldAfter held status after → IsIndexOf after new)
+    → OnOk r ((held after : ℕ → Option PodStatus) → IsIndexOf held old → AreHeldAfter held status after
+    → IsIndexOf after new)
     → OnErr r (new ≡ old) → IsIndexBy signal dedicated (IsIndexOf held) old
     → IsIndexBy signal dedicated (IsIndexBut held status.number) new
 tried (Ok t) signal dedicated held status old new same_signal same_dedicated updated err is =

@@ -1,9 +1,12 @@
 -- What the pods of a node keep, from call to call.
-use Rattle.std.proofs.Common.{◌≡◌, ◌∙◌, inl, inr, ℕ, Bool, List, [], ◌∷◌, ◌++◌, length, Option, Some, None, refl, sym, subst, arith}
+use Rattle.std.proofs.Common.{◌≡◌, ◌∙◌, inl, inr, ℕ, Bool, List, [], ◌∷◌, ◌++◌, length, Option, Some, None}
+use Rattle.std.proofs.Common.{refl, ap, sym, subst, arith}
 use Rattle.std.specs.Prelude.{◌≢◌, slice_get, Result, Ok, Err, OnErr}
 use Rattle.std.proofs.lemmas.Bool.{cases_eq, cases_order}
 use Rattle.std.proofs.lemmas.Option.{slice_get_within, slice_get_past}
 use Rattle.probes.proofs.Runs.{slice_get-old, slice_get-new}
+use Rattle.histories.specs.Histories.{last_moment}
+use Rattle.histories.proofs.Moments.{last_moment-more}
 use Rattle.histories.proofs.Places.{length-more}
 use Rattle.manifest.specs.declared.pod.PodSpec.{PodSpec}
 use Rattle.observations.specs.declared.pod.PodObs.{PodObs}
@@ -16,14 +19,17 @@ use Rattle.ranking.specs.Index.{AreHeldAfter, AreHeldWithout}
 use Rattle.ranking.proofs.LawLemmas.{one_is_held_after, one_is_held_without}
 use Rattle.node_pods.specs.declared.rankings.Rankings.{Rankings}
 use Rattle.node_pods.specs.Pods.{pods_of, IsPlaced, ArePlaced, AreNext, AreAfter, IsEvictable, AreEvicted}
+use Rattle.node_pods.specs.Laws.{CandidateIsEvictable}
 use Rattle.node_pods.specs.Steps.{AreFree}
 use Rattle.node_pods.specs.Ranked.{AreHeldBelow, AreRankings, AreRankingsBut, IsKept}
-use Rattle.node_pods.proofs.Candidates.{same_piece, held_after, held_without, all_below, none_past, evicted_is_no_candidate}
+use Rattle.node_pods.proofs.Candidates.{same_piece, held_after, held_without, all_below, none_past}
+use Rattle.node_pods.proofs.Candidates.{evicted_is_no_candidate}
 use Rattle.node_pods.proofs.Indexes.{but}
 use Rattle.node_pods.proofs.Steps.{item_at}
 
 -- where each pod has its number
-pub free_all : (pieces : List Piece) (greatest : ℕ) (dedicated : Bool) → ArePlaced (pods_of pieces greatest dedicated) → AreFree pieces
+pub free_all : (pieces : List Piece) (greatest : ℕ) (dedicated : Bool)
+    → ArePlaced (pods_of pieces greatest dedicated) → AreFree pieces
 free_all pieces greatest dedicated placed n piece at = (placed n piece at).free
 
 -- one pod more
@@ -166,3 +172,16 @@ pub ranked_by : (new pieces : List Piece) (dedicated : Bool) (was : ℕ → Opti
     → (held : ℕ → Option PodStatus) × AreRankings dedicated held r × AreHeldBelow new (length new) was held
 ranked_by new pieces dedicated was r same (held, are, below) =
     (held, are, subst (λ (ps : List Piece). AreHeldBelow ps (length ps) was held) same below)
+
+pub candidate_is_evictable : CandidateIsEvictable
+candidate_is_evictable pods tick new n status fits are c =
+    let lt = slice_get_within new n c.piece c.at in
+    let p = item_at pods.pieces n (omega (arith, lt, are.as_many)) in
+    let o = item_at tick.pods n (omega (arith, lt, are.as_many, fits.next.as_many)) in
+    let here = are.each n p.0 o.0 p.1 o.1 in
+    let P : Piece → Type 0 = λ q. last_moment q.handed ≡ Some tick.at in
+    let last = last_moment-more (p.0).handed (pod_tick o.0) ∙ ap Some (fits.at_its_moment n o.0 o.1) in
+    record {
+      candidate = (status, c);
+      last = λ piece at. subst P (same_piece new n (updated (with_tick p.0 (pod_tick o.0))) piece here at) last;
+    }

@@ -1,5 +1,6 @@
 -- The statuses of a piece, and of one that was evicted.
-use Rattle.std.proofs.Common.{◌≡◌, ◌∙◌, inr, ℕ, suc, ◌-◌, ◌<◌, Bool, true, false, List, [], length, Option, Some, None, refl, sym, subst, arith}
+use Rattle.std.proofs.Common.{◌≡◌, ◌∙◌, inr, ℕ, suc, ◌-◌, ◌<◌, Bool, true, false, List, [], length, Option}
+use Rattle.std.proofs.Common.{Some, None, refl, sym, subst, arith}
 use Rattle.std.specs.Prelude.{IsSomeAnd}
 use Rattle.std.proofs.lemmas.List.{take_all}
 use Rattle.histories.specs.Histories.{entry_at, last_moment, up_to, IsSo}
@@ -59,7 +60,8 @@ usage_unique pod evicted h u v a b =
 pub alike : (piece : Piece) (p q : PodStatus) → IsStatusOf piece p → IsStatusOf piece q → AreAlike p q
 alike piece p q a b = record {
   number = a.number_is ∙ sym b.number_is;
-  phase = IsPhase-unique piece.pod (evicted_at piece) (ticks piece) p.phase q.phase a.lifecycle.phase b.lifecycle.phase;
+  phase = IsPhase-unique piece.pod (evicted_at piece) (ticks piece) p.phase q.phase
+      a.lifecycle.phase b.lifecycle.phase;
   requests = a.requests ∙ sym b.requests;
   usage = usage_unique piece.pod (evicted_at piece) (ticks piece) p.usage q.usage a.usage b.usage;
   priority = a.priority ∙ sym b.priority;
@@ -88,7 +90,8 @@ taken_free false h e = refl
 taken_free true h e = absurd (let w : true ≡ false = e in cc)
 
 -- the last of some ticks is one at which the pod is evicted
-ends_last : (pod : PodSpec) (h : List PodTick) → 0 < length h → IsSo (EndsPod pod (Some (length h - 1))) h (length h - 1)
+ends_last : (pod : PodSpec) (h : List PodTick) → 0 < length h
+    → IsSo (EndsPod pod (Some (length h - 1))) h (length h - 1)
 ends_last pod h some =
     let n = length h - 1 in
     let whole : up_to h n ≡ h = take_all (suc n) h (omega (arith, some)) in

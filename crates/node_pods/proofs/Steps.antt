@@ -1,5 +1,6 @@
 -- The pods of a node, one after the other: which tick may come, and what it makes of them.
-use Rattle.std.proofs.Common.{◌≡◌, ◌∙◌, inl, inr, ℕ, zero, suc, ◌+◌, ◌<◌, Bool, List, [], ◌∷◌, ◌++◌, length, Option, Some, None, refl, ap, sym, subst, arith}
+use Rattle.std.proofs.Common.{◌≡◌, ◌∙◌, inl, inr, ℕ, zero, suc, ◌+◌, ◌<◌, Bool, List, [], ◌∷◌, ◌++◌, length}
+use Rattle.std.proofs.Common.{Option, Some, None, refl, ap, sym, subst, arith}
 use Rattle.std.specs.Prelude.{◌≢◌, ◌↔◌, IsTrue, MatchOption, slice_get, slice_set}
 use Rattle.std.specs.Option.{option_to_list}
 use Rattle.std.proofs.lemmas.Bool.{cases_eq}
@@ -78,7 +79,8 @@ set_length [] n x = refl
 set_length (y ∷ xs) zero x = refl
 set_length (y ∷ xs) (suc n) x = ap suc (set_length xs n x)
 
-set_here : {A : Type 0} (xs : List A) (n : ℕ) (x y : A) → slice_get xs n ≡ Some y → slice_get (slice_set xs n x) n ≡ Some x
+set_here : {A : Type 0} (xs : List A) (n : ℕ) (x y : A) → slice_get xs n ≡ Some y
+    → slice_get (slice_set xs n x) n ≡ Some x
 set_here [] n x y at = absurd (cc)
 set_here (z ∷ xs) zero x y at = refl
 set_here (z ∷ xs) (suc n) x y at = set_here xs n x y at
@@ -91,7 +93,8 @@ set_others (z ∷ xs) (suc n) zero x apart = refl
 set_others (z ∷ xs) (suc n) (suc m) x apart = set_others xs n m x (λ e. apart (ap suc e))
 
 pub set_evicted : (old : List Piece) (n : ℕ) (order : EvictOrder) (piece evicted : Piece)
-    → slice_get old n ≡ Some piece → evicted ≡ with_eviction piece order → AreEvicted old n order (slice_set old n evicted)
+    → slice_get old n ≡ Some piece → evicted ≡ with_eviction piece order
+    → AreEvicted old n order (slice_set old n evicted)
 set_evicted old n order piece evicted at is = record {
   as_many = set_length old n evicted;
   here = λ p there. set_here old n evicted piece at ∙ ap Some is
@@ -137,7 +140,8 @@ evicted_behind order p old n new are = record { as_many = ap suc are.as_many; he
 evict_place-is : (old : List Piece) (n : ℕ) (order : EvictOrder) → AreEvicted old n order (evict_place order n old)
 evict_place-is [] n order = record { as_many = refl; here = λ p e. absurd (cc); others = λ m apart. refl }
 evict_place-is (p ∷ ps) zero order = evicted_here order p ps
-evict_place-is (p ∷ ps) (suc n) order = evicted_behind order p ps n (evict_place order n ps) (evict_place-is ps n order)
+evict_place-is (p ∷ ps) (suc n) order =
+    evicted_behind order p ps n (evict_place order n ps) (evict_place-is ps n order)
 
 pub some_evicted : (old : List Piece) (n : ℕ) (order : EvictOrder) → (new : List Piece) × AreEvicted old n order new
 some_evicted old n order = (evict_place order n old, evict_place-is old n order)

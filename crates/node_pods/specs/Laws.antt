@@ -2,11 +2,12 @@
 use Rattle.std.specs.Prelude.{◌≡◌, ℕ, List, Bool, Option}
 use Rattle.signals.specs.declared.signal.Signal.{Signal}
 use Rattle.observations.specs.declared.pod.PodObs.{PodObs}
+use Rattle.observations.specs.declared.tick.TickObs.{TickObs}
 use Rattle.pod_piece.specs.declared.order.EvictOrder.{EvictOrder}
 use Rattle.pod_piece.specs.declared.status.PodStatus.{PodStatus}
 use Rattle.pod_piece.specs.Piece.{Piece}
 use Rattle.ranking.specs.Order.{IsVictim}
-use Rattle.node_pods.specs.Pods.{IsCandidate, AreNext, AreAfter, IsEvictable, AreEvicted}
+use Rattle.node_pods.specs.Pods.{Pods, IsCandidate, AreNext, Fits, AreAfter, IsEvictable, AreEvicted}
 use Rattle.node_pods.specs.Steps.{AreFree}
 
 -- two statuses of a candidate are one in all by which pods are ranked, and in the phase
@@ -26,6 +27,11 @@ abbrev pub OneVictim : Type 0
 OneVictim = (pieces : List Piece) (signal : Signal) (has_dedicated_imagefs : Bool) (one other : Option ℕ)
     → IsVictim signal has_dedicated_imagefs (IsCandidate pieces) one
     → IsVictim signal has_dedicated_imagefs (IsCandidate pieces) other → one ≡ other
+
+-- a candidate after a tick may be evicted by that tick
+abbrev pub CandidateIsEvictable : Type 0
+CandidateIsEvictable = (pods : Pods) (tick : TickObs) (new : List Piece) (n : ℕ) (status : PodStatus)
+    → Fits pods tick → AreAfter pods.pieces tick.pods new → IsCandidate new n status → IsEvictable new n tick.at
 
 -- the pod that was evicted is no candidate any more
 abbrev pub EvictedIsNoCandidate : Type 0

@@ -28,7 +28,8 @@ pods_of pieces greatest has_dedicated_imagefs =
 -- one pod more is present, behind the others
 abbrev pub with_pod : Pods → PodSpec → Pods
 with_pod pods pod =
-    pods_of (pods.pieces ++ new_piece (length pods.pieces) pod pods.greatest ∷ []) pods.greatest pods.has_dedicated_imagefs
+    pods_of (pods.pieces ++ new_piece (length pods.pieces) pod pods.greatest ∷ []) pods.greatest
+    pods.has_dedicated_imagefs
 
 -- a pod of a node: its number is its place, and all that was handed to it has come into its status
 pub record IsPlaced (greatest : ℕ) (n : ℕ) (piece : Piece) : Type 0 where

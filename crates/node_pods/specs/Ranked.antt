@@ -24,7 +24,8 @@ pub record AreHeldBelow (pieces : List Piece) (i : ℕ) (before held : ℕ → O
   pub rest : (n : ℕ) → i ≤ n → held n ≡ before n
 
 -- an index of pods by this signal, of which P holds
-pub record IsIndexBy (signal : Signal) (has_dedicated_imagefs : Bool) (P : Ranks → Type 0) (ranks : Ranks) : Type 0 where
+pub record IsIndexBy (signal : Signal) (has_dedicated_imagefs : Bool) (P : Ranks → Type 0)
+    (ranks : Ranks) : Type 0 where
   pub signal_is : ranks.signal ≡ signal
   pub dedicated_is : ranks.has_dedicated_imagefs ≡ has_dedicated_imagefs
   pub so : P ranks

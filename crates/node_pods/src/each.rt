@@ -1,6 +1,7 @@
 //! All pods of a node at one tick.
 
-ghost use Rattle.std.specs.Prelude.{◌≡◌, ◌↔◌, ℕ, ◌<◌, Bool, false, length, slice_get, Option, Some, IsTrue, IfSome, IfOk, OnOk};
+ghost use Rattle.std.specs.Prelude.{◌≡◌, ◌↔◌, ℕ, ◌<◌, Bool, false, length, slice_get, Option, Some};
+ghost use Rattle.std.specs.Prelude.{IsTrue, IfSome, IfOk, OnOk};
 ghost use Rattle.pod_piece.specs.declared.status.PodStatus.{PodStatus};
 ghost use Rattle.pod_piece.specs.Piece.{Piece};
 ghost use Rattle.node_pods.specs.Pods.{AreNext, AreAfter, IsEvictable, AreEvicted};

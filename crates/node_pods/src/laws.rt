@@ -1,11 +1,17 @@
 //! What is true of the pods of every node. The functions do nothing; their contracts are the laws.
 
-ghost use Rattle.node_pods.specs.Laws.{CandidatesAreAlike, OneVictim, EvictedIsNoCandidate, OneIsAfter, OneIsEvicted};
+ghost use Rattle.node_pods.specs.Laws.{CandidatesAreAlike, OneVictim, CandidateIsEvictable, EvictedIsNoCandidate};
+ghost use Rattle.node_pods.specs.Laws.{OneIsAfter, OneIsEvicted};
 
 /// All statuses of a candidate are one in what ranks it, and so there is one victim at most.
 pub fn candidates_are_alike()
     ensures alike { CandidatesAreAlike }
     ensures victim { OneVictim }
+{}
+
+/// A candidate after a tick may be evicted by that tick.
+pub fn candidate_is_evictable()
+    ensures { CandidateIsEvictable }
 {}
 
 /// The pod that was evicted is no candidate any more.

@@ -2,7 +2,8 @@
 
 ghost use Rattle.std.specs.Prelude.{◌≡◌, ◌↔◌, [], IsTrue, IfOk, OnOk, OnErr};
 ghost use Rattle.ranking.specs.Order.{IsVictim};
-ghost use Rattle.node_pods.specs.Pods.{pods_of, with_pod, ArePlaced, IsCandidate, AreNext, Fits, AreAfter, IsEvictable, AreEvicted};
+ghost use Rattle.node_pods.specs.Pods.{pods_of, with_pod, ArePlaced, IsCandidate, AreNext, Fits, AreAfter};
+ghost use Rattle.node_pods.specs.Pods.{IsEvictable, AreEvicted};
 
 use crate::each::{after_all, are_next, evict_at, rank_all};
 use crate::rankings::Rankings;

@@ -23,4 +23,10 @@ unfolding result_of
 result_alike d e (container, (probe, (outcome, none))) = rw (container, probe, outcome) refl
 
 pub only_their_fields : OnlyTheirFields
-only_their_fields = record { line = line_alike; entry = entry_alike; listing = listing_alike; probe_result = result_alike }
+only_their_fields = record {
+  line = line_alike;
+  entry = entry_alike;
+  listing = listing_alike;
+  probe_result =
+      result_alike;
+}

@@ -1,31 +1,35 @@
 -- A null in an object changes nothing.
-use Rattle.std.proofs.Common.{◌≡◌, ◌∙◌, ℕ, false, List, [], ◌∷◌, Result, Some, None, Ordering, Less, Equal, Greater, nat_cmp, bytes_eq, true≢false, refl, ap, sym, inl, inr}
+use Rattle.std.proofs.Common.{◌≡◌, ◌∙◌, ℕ, false, List, [], ◌∷◌, Result, None, bytes_eq, true≢false, refl, ap, sym}
+use Rattle.std.proofs.Common.{inl, inr}
 use Rattle.std.specs.Prelude.{codes}
-use Rattle.std.specs.Cmp.Lexicographic.{slice_cmp}
-use Rattle.std.specs.Ordering.{match_ordering}
 use Rattle.std.proofs.lemmas.Bool.{cases_Bool}
 use Rattle.std.proofs.lemmas.Slice.Eq.{bytes_eq-Decides}
-use Rattle.serde_json.specs.Data.{Data, null, object, Members, no_members, member, put}
+use Rattle.serde_json.specs.Data.{Data, null, object, Members, put}
 use Rattle.serde_json.specs.Find.{get_member}
 use Rattle.serde_json.proofs.Views.{get_member-put, get_member-put_other}
 use Rattle.json_fields.specs.Fields.{present, field_at}
-use Rattle.signals.specs.declared.signal.Signal.TheVariants.{MemoryAvailable, NodefsAvailable, ImagefsAvailable, NodefsInodesFree, ImagefsInodesFree, PidAvailable}
+use Rattle.signals.specs.declared.signal.Signal.TheVariants.{MemoryAvailable, NodefsAvailable, ImagefsAvailable}
+use Rattle.signals.specs.declared.signal.Signal.TheVariants.{NodefsInodesFree, ImagefsInodesFree, PidAvailable}
 use Rattle.signals.specs.Signals.{name_of}
-use Rattle.tick_lines.specs.declared.samples.Scope.{Scope}
+use Rattle.signal_maps.specs.declared.scope.Scope.{Scope}
 use Rattle.tick_lines.specs.declared.fault.TickLineFault.{TickLineFault}
 use Rattle.tick_lines.specs.Listings.{listing_of}
 use Rattle.tick_lines.specs.Results.{result_of}
 use Rattle.tick_lines.specs.Usages.{usage_in}
 use Rattle.tick_lines.specs.Entries.{entry_of}
-use Rattle.tick_lines.specs.Samples.{names_other, samples_in}
+use Rattle.signal_maps.specs.Maps.{read_each, read_map}
+use Rattle.signal_maps.proofs.Nulls.{strangers_ignore}
+use Rattle.tick_lines.specs.Samples.{samples_in}
 use Rattle.tick_lines.specs.Line.{tick_line_of}
-use Rattle.tick_lines.specs.Laws.{AreAlike, ReadsOnly, line_fields, entry_fields, listing_fields, result_fields, IgnoresNull, NullIsAbsent}
+use Rattle.tick_lines.specs.Laws.{AreAlike, ReadsOnly, line_fields, entry_fields, listing_fields, result_fields}
+use Rattle.tick_lines.specs.Laws.{IgnoresNull, NullIsAbsent}
 use Rattle.tick_lines.proofs.Alike.{only_their_fields}
 
 differ : (q k : List ℕ) → bytes_eq q k ≡ false → q ≡ k → ⊥
 differ q k other same = true≢false (sym ((bytes_eq-Decides q k).1 same) ∙ other)
 
-alike : (q k : List ℕ) (ms : Members) → get_member k ms ≡ None → field_at q (object (put k null ms)) ≡ field_at q (object ms)
+alike : (q k : List ℕ) (ms : Members) → get_member k ms ≡ None
+    → field_at q (object (put k null ms)) ≡ field_at q (object ms)
 alike q k ms none = elim (cases_Bool (bytes_eq q k)) [
   | inl here ↦
       let same : q ≡ k = (bytes_eq-Decides q k).0 here in
@@ -46,23 +50,11 @@ usage_ignores ms k none =
       alike (codes "pids") k ms none,
     ) refl
 
-others_at : (o : Ordering) (scope : Scope) (k l : List ℕ) (d : Data) (ms : Members) → slice_cmp nat_cmp k l ≡ o
-    → (get_member k ms ≡ None → names_other scope (put k null ms) ≡ names_other scope ms)
-    → match_ordering o (get_member k ms) (Some d) (get_member k ms) ≡ None
-    → names_other scope (match_ordering o (member k null (member l d ms)) (member l null ms) (member l d (put k null ms))) ≡ names_other scope (member l d ms)
-others_at Less scope k l d ms is later none = refl
-others_at Equal scope k l d ms is later none = absurd (cc)
-others_at Greater scope k l d ms is later none = rw (later none) refl
-
-others_ignore : (scope : Scope) (k : List ℕ) (ms : Members) → get_member k ms ≡ None → names_other scope (put k null ms) ≡ names_other scope ms
-others_ignore scope k no_members none = refl
-others_ignore scope k (member l d ms) none = others_at _ scope k l d ms refl (others_ignore scope k ms) none
-
 samples_ignore : (scope : Scope) → IgnoresNull (samples_in scope)
-unfolding samples_in
+unfolding read_map read_each
 samples_ignore scope ms k none =
     rw (
-      others_ignore scope k ms none,
+      strangers_ignore scope k ms none,
       alike (name_of MemoryAvailable) k ms none,
       alike (name_of NodefsAvailable) k ms none,
       alike (name_of ImagefsAvailable) k ms none,
@@ -71,11 +63,13 @@ samples_ignore scope ms k none =
       alike (name_of PidAvailable) k ms none,
     ) refl
 
-all_alike : (names : List (List ℕ)) (k : List ℕ) (ms : Members) → get_member k ms ≡ None → AreAlike names (object (put k null ms)) (object ms)
+all_alike : (names : List (List ℕ)) (k : List ℕ) (ms : Members) → get_member k ms ≡ None
+    → AreAlike names (object (put k null ms)) (object ms)
 all_alike [] k ms none = tt
 all_alike (q ∷ names) k ms none = (alike q k ms none, all_alike names k ms none)
 
-ignores : {A : Type 0} (names : List (List ℕ)) (read : Data → Result A TickLineFault) → ReadsOnly names read → IgnoresNull read
+ignores : {A : Type 0} (names : List (List ℕ)) (read : Data → Result A TickLineFault) → ReadsOnly names read
+    → IgnoresNull read
 ignores names read only ms k none = only (object (put k null ms)) (object ms) (all_alike names k ms none)
 
 pub null_is_absent : NullIsAbsent

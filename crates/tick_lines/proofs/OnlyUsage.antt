@@ -1,28 +1,27 @@
 -- The one fault of a tick line by itself.
 use Rattle.std.proofs.Common.{◌≡◌, ℕ, Bool, List, [], Option, Some, None, Result, Ok, Err, refl}
 use Rattle.std.specs.Prelude.{◌^◌, is_some, if◌then◌else◌, option_and_then, nat_lt, codes}
-use Rattle.serde_json.specs.Data.{Data, Items, Members}
+use Rattle.serde_json.specs.Data.{Data, Items}
 use Rattle.serde_json.specs.Find.{as_str, as_number, as_u64, as_array, as_object}
 use Rattle.json_fields.specs.Fields.{field_at, text_at, items_list}
-use Rattle.json_fields.proofs.Only.{Only, only_ok, only_err, only_bind, only_if, only_refused, only_some, only_each}
+use Rattle.json_fields.proofs.Only.{Only, only_ok, only_err, only_bind, only_if, only_some, only_each}
 use Rattle.manifest.specs.declared.outcome.Outcome.TheVariants as outcomes
 use Rattle.manifest.specs.declared.outcome.ProbeKind.TheVariants as probes
 use Rattle.quantity_fields.specs.Fields.{quantity_in}
 use Rattle.quantity_fields.specs.declared.fault.FieldFault.{FieldFault}
-use Rattle.signals.specs.BySignal.{every}
-use Rattle.signals.specs.declared.signal.Signal.{Signal}
-use Rattle.signals.specs.declared.signal.Signal.TheVariants as signals
 use Rattle.state_diff.specs.declared.seen.CriState.TheVariants as states
 use Rattle.tick_lines.specs.declared.fault.TickLineFault.{TickLineFault}
 use Rattle.tick_lines.specs.declared.fault.TickLineFault.TheVariants.{Usage}
-use Rattle.tick_lines.specs.declared.samples.Scope.{Scope}
-use Rattle.tick_lines.specs.declared.samples.Scope.TheVariants.{Node, FileSystems}
+use Rattle.signal_maps.specs.declared.scope.Scope.{Scope}
+use Rattle.signal_maps.specs.declared.scope.Scope.TheVariants.{Node, FileSystems}
 use Rattle.tick_lines.specs.Fields.{items_from, items_of, only_object, held, quantity_at}
-use Rattle.tick_lines.specs.Listings.{attempt_from, attempt_of, state_named, state_numbered, state_from, state_of, instance_of, listing_of}
+use Rattle.tick_lines.specs.Listings.{attempt_from, attempt_of, state_named, state_numbered, state_from, state_of}
+use Rattle.tick_lines.specs.Listings.{instance_of, listing_of}
 use Rattle.tick_lines.specs.Results.{probe_named, outcome_named, result_of}
 use Rattle.tick_lines.specs.Usages.{usage_in, usage_of}
 use Rattle.tick_lines.specs.Entries.{entry_of, entries_of}
-use Rattle.tick_lines.specs.Samples.{names_other, only_signals_from, sample_of, samples_in, samples_of}
+use Rattle.signal_maps.proofs.Refused.{map_only}
+use Rattle.tick_lines.specs.Samples.{samples_of}
 use Rattle.tick_lines.specs.Line.{tick_line_of}
 use Rattle.tick_lines.specs.Laws.{OneKind}
 
@@ -34,22 +33,26 @@ refused = only_err IsUsageFault Usage refl
 
 attempt_from_only : (found : Option ℕ) → Only IsUsageFault (attempt_from found)
 attempt_from_only None = refused
-attempt_from_only (Some n) = only_if IsUsageFault (nat_lt n (2 ^ 31)) (Ok n) (Err Usage) (only_ok IsUsageFault n) refused
+attempt_from_only (Some n) = only_if IsUsageFault (nat_lt n (2 ^ 31)) (Ok n) (Err Usage) (only_ok IsUsageFault n)
+    refused
 
 attempt_only : (found : Option Data) → Only IsUsageFault (attempt_of found)
 attempt_only None = only_ok IsUsageFault 0
 attempt_only (Some d) = attempt_from_only (option_and_then as_u64 (as_number d))
 
 -- a test that answers a value, and the tests after it
-value_if : {A : Type 0} (b : Bool) (value : A) (rest : Result A TickLineFault) → Only IsUsageFault rest → Only IsUsageFault (if b then Ok value else rest)
+value_if : {A : Type 0} (b : Bool) (value : A) (rest : Result A TickLineFault) → Only IsUsageFault rest
+    → Only IsUsageFault (if b then Ok value else rest)
 value_if b value rest only = only_if IsUsageFault b (Ok value) rest (only_ok IsUsageFault value) only
 
 named_only : (s : List ℕ) → Only IsUsageFault (state_named s)
-named_only s = value_if _ states.Created _ (value_if _ states.Running _ (value_if _ states.Exited _ (value_if _ states.Unknown _ refused)))
+named_only s = value_if _ states.Created _
+    (value_if _ states.Running _ (value_if _ states.Exited _ (value_if _ states.Unknown _ refused)))
 
 numbered_only : (found : Option ℕ) → Only IsUsageFault (state_numbered found)
 numbered_only None = refused
-numbered_only (Some n) = value_if _ states.Created _ (value_if _ states.Running _ (value_if _ states.Exited _ (value_if _ states.Unknown _ refused)))
+numbered_only (Some n) = value_if _ states.Created _
+    (value_if _ states.Running _ (value_if _ states.Exited _ (value_if _ states.Unknown _ refused)))
 
 state_from_only : (d : Data) (found : Option (List ℕ)) → Only IsUsageFault (state_from d found)
 state_from_only d None = numbered_only (option_and_then as_u64 (as_number d))
@@ -77,7 +80,8 @@ probe_only (Some s) = value_if _ probes.Startup _ (value_if _ probes.Liveness _ 
 
 outcome_only : (found : Option (List ℕ)) → Only IsUsageFault (outcome_named found)
 outcome_only None = refused
-outcome_only (Some s) = value_if _ outcomes.Success _ (value_if _ outcomes.Failure _ (value_if _ outcomes.Unknown _ refused))
+outcome_only (Some s) = value_if _ outcomes.Success _
+    (value_if _ outcomes.Failure _ (value_if _ outcomes.Unknown _ refused))
 
 result_only : (d : Data) → Only IsUsageFault (result_of d)
 unfolding result_of
@@ -124,41 +128,26 @@ pub entry_only : (d : Data) → Only IsUsageFault (entry_of d)
 unfolding entry_of
 entry_only d =
     only_bind IsUsageFault _ _ (only_some IsUsageFault Usage (text_at (codes "pod") d) refl) (λ key.
-    only_bind IsUsageFault _ _ (only_bind IsUsageFault _ _ (items_only (field_at (codes "containers") d)) (only_each IsUsageFault listing_of listing_only)) (λ listings.
-    only_bind IsUsageFault _ _ (only_bind IsUsageFault _ _ (items_only (field_at (codes "probes") d)) (only_each IsUsageFault result_of result_only)) (λ results.
+    only_bind IsUsageFault _ _ (only_bind IsUsageFault _ _ (items_only (field_at (codes "containers") d))
+    (only_each IsUsageFault listing_of listing_only)) (λ listings.
+    only_bind IsUsageFault _ _ (only_bind IsUsageFault _ _ (items_only (field_at (codes "probes") d))
+    (only_each IsUsageFault result_of result_only)) (λ results.
     only_bind IsUsageFault _ _ (usage_only (field_at (codes "usage") d)) (λ usage. only_ok IsUsageFault _))))
 
 pub entries_only : (found : Option Data) → Only IsUsageFault (entries_of found)
 entries_only found = only_bind IsUsageFault _ _ (items_only found) (only_each IsUsageFault entry_of entry_only)
 
-only_signals_only : (scope : Scope) (found : Option Members) → Only IsUsageFault (only_signals_from scope found)
-only_signals_only scope None = refused
-only_signals_only scope (Some members) = only_refused IsUsageFault (names_other scope members) Usage refl
-
-sample_only : (signal : Signal) (d : Data) → Only IsUsageFault (sample_of signal d)
-sample_only signal d = quantity_only _
-
-samples_in_only : (scope : Scope) (d : Data) → Only IsUsageFault (samples_in scope d)
-unfolding samples_in
-samples_in_only scope d =
-    only_bind IsUsageFault _ _ (only_signals_only scope (as_object d)) (λ known.
-    only_bind IsUsageFault _ _ (sample_only signals.MemoryAvailable d) (λ memory_available.
-    only_bind IsUsageFault _ _ (sample_only signals.NodefsAvailable d) (λ nodefs_available.
-    only_bind IsUsageFault _ _ (sample_only signals.ImagefsAvailable d) (λ imagefs_available.
-    only_bind IsUsageFault _ _ (sample_only signals.NodefsInodesFree d) (λ nodefs_inodes_free.
-    only_bind IsUsageFault _ _ (sample_only signals.ImagefsInodesFree d) (λ imagefs_inodes_free.
-    only_bind IsUsageFault _ _ (sample_only signals.PidAvailable d) (λ pid_available. only_ok IsUsageFault _)))))))
-
 pub samples_only : (scope : Scope) (found : Option Data) → Only IsUsageFault (samples_of scope found)
-samples_only scope None = only_ok IsUsageFault (every None)
-samples_only scope (Some d) = samples_in_only scope d
+samples_only scope found = map_only IsUsageFault scope Usage (λ signal. quantity_at) found refl
+    (λ signal. quantity_only)
 
 line_only : (d : Data) → Only IsUsageFault (tick_line_of d)
 unfolding tick_line_of
 line_only d =
     only_bind IsUsageFault _ _ (entries_only (field_at (codes "pods") d)) (λ entries.
     only_bind IsUsageFault _ _ (samples_only Node (field_at (codes "signals") d)) (λ signals.
-    only_bind IsUsageFault _ _ (samples_only FileSystems (field_at (codes "afterReclaim") d)) (λ after_reclaim. only_ok IsUsageFault _)))
+    only_bind IsUsageFault _ _ (samples_only FileSystems (field_at (codes "afterReclaim") d))
+    (λ after_reclaim. only_ok IsUsageFault _)))
 
 pub one_kind : OneKind
 one_kind d fault e = (line_only d).has fault e

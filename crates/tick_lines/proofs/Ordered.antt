@@ -14,7 +14,8 @@ use Rattle.tick_lines.specs.Entries.{entry_of}
 use Rattle.tick_lines.specs.Laws.{SaysInOrder, InOrder}
 use Rattle.tick_lines.proofs.Parts.{same_ok, line_parts, entry_parts}
 
-each_ok : {A B E : Type 0} (f : A → Result B E) (xs : List A) (ys : List B) → each f xs ≡ Ok ys → AllZip (λ x y. f x ≡ Ok y) xs ys
+each_ok : {A B E : Type 0} (f : A → Result B E) (xs : List A) (ys : List B) → each f xs ≡ Ok ys
+    → AllZip (λ x y. f x ≡ Ok y) xs ys
 each_ok f [] [] e = tt
 each_ok f [] (y ∷ ys) e = absurd (cc)
 each_ok f (x ∷ xs) ys e =
@@ -23,11 +24,13 @@ each_ok f (x ∷ xs) ys e =
     let same = same_ok _ ys rest.2 in
     subst (λ (all : List _). AllZip (λ x y. f x ≡ Ok y) (x ∷ xs) all) same (first.1, each_ok f xs rest.0 rest.1)
 
-items_in_order : {A : Type 0} (read : Data → Result A TickLineFault) (d : Data) (found : Option Items) (all : List A) → as_array d ≡ found → (items_from found >>= each read) ≡ Ok all → SaysInOrder read (Some d) all
+items_in_order : {A : Type 0} (read : Data → Result A TickLineFault) (d : Data) (found : Option Items) (all : List A)
+    → as_array d ≡ found → (items_from found >>= each read) ≡ Ok all → SaysInOrder read (Some d) all
 items_in_order read d None all is e = absurd (cc)
 items_in_order read d (Some items) all is e = (items, is, each_ok read (items_list items) all e)
 
-says_in_order : {A : Type 0} (read : Data → Result A TickLineFault) (found : Option Data) (all : List A) → (items_of found >>= each read) ≡ Ok all → SaysInOrder read found all
+says_in_order : {A : Type 0} (read : Data → Result A TickLineFault) (found : Option Data) (all : List A)
+    → (items_of found >>= each read) ≡ Ok all → SaysInOrder read found all
 says_in_order read None all e = sym (same_ok [] all e)
 says_in_order read (Some d) all e = items_in_order read d (as_array d) all refl e
 

@@ -1,26 +1,21 @@
 -- What is known of the parts of what was read.
-use Rattle.std.proofs.Common.{◌≡◌, ◌∙◌, ℕ, Option, Result, Ok, ap}
+use Rattle.std.proofs.Common.{◌≡◌, ◌∙◌, Result, Ok, ap}
 use Rattle.std.specs.Prelude.{codes}
 use Rattle.serde_json.specs.Data.{Data}
 use Rattle.json_fields.specs.Fields.{field_at, text_at}
 use Rattle.json_fields.specs.Reading.{some_or}
 use Rattle.json_fields.proofs.Steps.{bind_ok}
 use Rattle.observations.specs.declared.usage.Usage.{Usage}
-use Rattle.signals.specs.BySignal.{of}
-use Rattle.signals.specs.declared.by_signal.BySignal.{BySignal}
-use Rattle.signals.specs.declared.signal.Signal.{Signal}
-use Rattle.signals.specs.declared.signal.Signal.TheVariants.{MemoryAvailable, NodefsAvailable, ImagefsAvailable, NodefsInodesFree, ImagefsInodesFree, PidAvailable}
 use Rattle.tick_lines.specs.declared.entry.Entry.{Entry}
 use Rattle.tick_lines.specs.declared.fault.TickLineFault.TheVariants as faults
 use Rattle.tick_lines.specs.declared.line.TickLine.{TickLine}
-use Rattle.tick_lines.specs.declared.samples.Scope.{Scope}
-use Rattle.tick_lines.specs.declared.samples.Scope.TheVariants.{Node, FileSystems}
+use Rattle.signal_maps.specs.declared.scope.Scope.TheVariants.{Node, FileSystems}
 use Rattle.tick_lines.specs.Fields.{only_object, quantity_at}
 use Rattle.tick_lines.specs.Listings.{listings_of}
 use Rattle.tick_lines.specs.Results.{results_of}
 use Rattle.tick_lines.specs.Usages.{usage_in, usage_of}
 use Rattle.tick_lines.specs.Entries.{entry_of, entries_of}
-use Rattle.tick_lines.specs.Samples.{only_signals, sample_of, samples_in, samples_of}
+use Rattle.tick_lines.specs.Samples.{samples_of}
 use Rattle.tick_lines.specs.Line.{tick_line_of}
 
 pub same_ok : {A E : Type 0} (x y : A) → ◌≡◌ {A = Result A E} (Ok x) (Ok y) → x ≡ y
@@ -90,23 +85,3 @@ usage_parts d usage e =
       inodes = inodes.1 ∙ ap (λ (u : Usage). Ok u.inodes) same;
       pids = pids.1 ∙ ap (λ (u : Usage). Ok u.pids) same;
     }
-
-pub samples_parts : (scope : Scope) (d : Data) (samples : BySignal (Option ℕ)) (signal : Signal) → samples_in scope d ≡ Ok samples → sample_of signal d ≡ Ok (of samples signal)
-unfolding samples_in
-samples_parts scope d samples signal e =
-    let known = bind_ok (only_signals scope d) _ samples e in
-    let memory = bind_ok (sample_of MemoryAvailable d) _ samples known.2 in
-    let nodefs = bind_ok (sample_of NodefsAvailable d) _ samples memory.2 in
-    let imagefs = bind_ok (sample_of ImagefsAvailable d) _ samples nodefs.2 in
-    let nodefs_inodes = bind_ok (sample_of NodefsInodesFree d) _ samples imagefs.2 in
-    let imagefs_inodes = bind_ok (sample_of ImagefsInodesFree d) _ samples nodefs_inodes.2 in
-    let pid = bind_ok (sample_of PidAvailable d) _ samples imagefs_inodes.2 in
-    let same = same_ok _ samples pid.2 in
-    elim signal as (λ (k : Signal). sample_of k d ≡ Ok (of samples k)) [
-      | MemoryAvailable ↦ memory.1 ∙ ap (λ (s : BySignal (Option ℕ)). Ok s.memory_available) same
-      | NodefsAvailable ↦ nodefs.1 ∙ ap (λ (s : BySignal (Option ℕ)). Ok s.nodefs_available) same
-      | ImagefsAvailable ↦ imagefs.1 ∙ ap (λ (s : BySignal (Option ℕ)). Ok s.imagefs_available) same
-      | NodefsInodesFree ↦ nodefs_inodes.1 ∙ ap (λ (s : BySignal (Option ℕ)). Ok s.nodefs_inodes_free) same
-      | ImagefsInodesFree ↦ imagefs_inodes.1 ∙ ap (λ (s : BySignal (Option ℕ)). Ok s.imagefs_inodes_free) same
-      | PidAvailable ↦ pid.1 ∙ ap (λ (s : BySignal (Option ℕ)). Ok s.pid_available) same
-    ]

@@ -1,5 +1,5 @@
 -- A sample is the quantity under its name.
-use Rattle.std.proofs.Common.{◌≡◌, ◌∙◌, ℕ, List, Option, Some, None, Result, Ok, Err, refl, ap, sym}
+use Rattle.std.proofs.Common.{◌≡◌, ◌∙◌, ℕ, Option, Some, None, Result, Ok, Err, refl, ap, sym}
 use Rattle.std.specs.Prelude.{◌↔◌, codes}
 use Rattle.serde_json.specs.Data.{Data}
 use Rattle.json_fields.specs.Fields.{field_at}
@@ -8,18 +8,20 @@ use Rattle.json_fields.proofs.Steps.{bind_ok}
 use Rattle.observations.specs.declared.usage.Usage.{Usage}
 use Rattle.quantity_fields.specs.Fields.{quantity_in}
 use Rattle.quantity_fields.specs.declared.fault.FieldFault.{FieldFault}
-use Rattle.signals.specs.BySignal.{of, every}
+use Rattle.signals.specs.BySignal.{of}
 use Rattle.signals.specs.Signals.{name_of}
 use Rattle.signals.specs.declared.by_signal.BySignal.{BySignal}
 use Rattle.signals.specs.declared.signal.Signal.{Signal}
-use Rattle.signals.specs.declared.signal.Signal.TheVariants.{MemoryAvailable, NodefsAvailable, ImagefsAvailable, NodefsInodesFree, ImagefsInodesFree, PidAvailable}
-use Rattle.tick_lines.specs.declared.samples.Scope.{Scope}
-use Rattle.tick_lines.specs.declared.samples.Scope.TheVariants.{Node, FileSystems}
+use Rattle.signal_maps.specs.declared.scope.Scope.{Scope}
+use Rattle.signal_maps.specs.declared.scope.Scope.TheVariants.{Node, FileSystems}
+use Rattle.signal_maps.specs.Maps.{in_map}
+use Rattle.signal_maps.proofs.EachSignal.{map_read}
+use Rattle.tick_lines.specs.declared.fault.TickLineFault.TheVariants as faults
 use Rattle.tick_lines.specs.Fields.{held, quantity_at}
 use Rattle.tick_lines.specs.Usages.{usage_in, usage_of}
 use Rattle.tick_lines.specs.Samples.{samples_of}
-use Rattle.tick_lines.specs.Laws.{HasQuantity, IsSample, IsUsage, SaysUsage, SamplesSaid, UsageSaid}
-use Rattle.tick_lines.proofs.Parts.{same_ok, line_parts, entry_parts, usage_parts, samples_parts}
+use Rattle.tick_lines.specs.Laws.{IsSample, IsUsage, SaysUsage, SamplesSaid, UsageSaid}
+use Rattle.tick_lines.proofs.Parts.{same_ok, line_parts, entry_parts, usage_parts}
 
 -- the value that was found is this quantity
 abbrev IsQuantity : Option Data → ℕ → Type 0
@@ -31,41 +33,38 @@ same_some x y e = cc
 no_some : {A : Type 0} (x : A) → None ≡ Some x → ⊥
 no_some x e = absurd (cc)
 
-held_is : (d : Data) (r : Result ℕ FieldFault) (sample : Option ℕ) → quantity_in d ≡ r → (held r >>= λ thousandths. Ok (Some thousandths)) ≡ Ok sample → (n : ℕ) → (sample ≡ Some n ↔ IsQuantity (Some d) n)
+held_is : (d : Data) (r : Result ℕ FieldFault) (sample : Option ℕ) → quantity_in d ≡ r
+    → (held r >>= λ thousandths. Ok (Some thousandths)) ≡ Ok sample → (n : ℕ)
+    → (sample ≡ Some n ↔ IsQuantity (Some d) n)
 held_is d (Ok q) sample is e n =
     let same : Some q ≡ sample = same_ok (Some q) sample e in (
       λ (said : sample ≡ Some n). (d, refl, is ∙ ap Ok (same_some q n (same ∙ said))),
-      λ (found : IsQuantity (Some d) n). sym same ∙ ap Some (same_ok {E = FieldFault} q n (sym is ∙ ap quantity_in (same_some d found.0 found.1) ∙ found.2)),
+      λ (found : IsQuantity (Some d) n). sym same
+          ∙ ap Some (same_ok {E = FieldFault} q n (sym is ∙ ap quantity_in (same_some d found.0 found.1) ∙ found.2)),
     )
 held_is d (Err fault) sample is e n = absurd (cc)
 
-quantity_is : (found : Option Data) (sample : Option ℕ) → quantity_at found ≡ Ok sample → (n : ℕ) → (sample ≡ Some n ↔ IsQuantity found n)
+quantity_is : (found : Option Data) (sample : Option ℕ) → quantity_at found ≡ Ok sample → (n : ℕ)
+    → (sample ≡ Some n ↔ IsQuantity found n)
 quantity_is None sample e n =
-    let none : None ≡ sample = same_ok None sample e in
-    (λ (said : sample ≡ Some n). absurd (no_some n (none ∙ said)), λ (found : IsQuantity None n). absurd (no_some found.0 found.1))
+    let none : None ≡ sample = same_ok None sample e in (
+      λ (said : sample ≡ Some n). absurd (no_some n (none ∙ said)),
+      λ (found : IsQuantity None n). absurd
+          (no_some found.0 found.1),
+    )
 quantity_is (Some d) sample e n = held_is d (quantity_in d) sample refl e n
 
--- no object, no quantities
-none_found : (name : List ℕ) (sample : Option ℕ) → sample ≡ None → IsSample None name sample
-none_found name sample none n =
-    (λ (said : sample ≡ Some n). absurd (no_some n (sym none ∙ said)), λ (found : HasQuantity None name n). absurd (no_some found.0 found.1))
-
-every_none : (samples : BySignal (Option ℕ)) (signal : Signal) → every None ≡ samples → of samples signal ≡ None
-every_none samples MemoryAvailable e = sym (ap (λ (s : BySignal (Option ℕ)). s.memory_available) e)
-every_none samples NodefsAvailable e = sym (ap (λ (s : BySignal (Option ℕ)). s.nodefs_available) e)
-every_none samples ImagefsAvailable e = sym (ap (λ (s : BySignal (Option ℕ)). s.imagefs_available) e)
-every_none samples NodefsInodesFree e = sym (ap (λ (s : BySignal (Option ℕ)). s.nodefs_inodes_free) e)
-every_none samples ImagefsInodesFree e = sym (ap (λ (s : BySignal (Option ℕ)). s.imagefs_inodes_free) e)
-every_none samples PidAvailable e = sym (ap (λ (s : BySignal (Option ℕ)). s.pid_available) e)
-
-samples_are : (scope : Scope) (found : Option Data) (samples : BySignal (Option ℕ)) (signal : Signal) → samples_of scope found ≡ Ok samples → IsSample found (name_of signal) (of samples signal)
-samples_are scope None samples signal e = none_found (name_of signal) (of samples signal) (every_none samples signal (same_ok (every None) samples e))
-samples_are scope (Some d) samples signal e = quantity_is (field_at (name_of signal) d) (of samples signal) (samples_parts scope d samples signal e)
+samples_are : (scope : Scope) (found : Option Data) (samples : BySignal (Option ℕ)) (signal : Signal)
+    → samples_of scope found ≡ Ok samples → IsSample found (name_of signal) (of samples signal)
+samples_are scope found samples signal e =
+    quantity_is (in_map found signal) (of samples signal)
+    (map_read scope faults.Usage (λ s. quantity_at) found samples e signal)
 
 pub samples_said : SamplesSaid
 samples_said = record {
   signals = λ d line signal e. samples_are Node _ line.signals signal (line_parts d line e).signals;
-  after_reclaim = λ d line signal e. samples_are FileSystems _ line.after_reclaim signal (line_parts d line e).after_reclaim;
+  after_reclaim = λ d line signal e. samples_are FileSystems _ line.after_reclaim signal
+      (line_parts d line e).after_reclaim;
 }
 
 usage_is : (d : Data) (usage : Usage) → usage_in d ≡ Ok usage → IsUsage d usage

@@ -1,5 +1,6 @@
 -- What the definition of a tick line implies, in the words of the format.
-use Rattle.std.specs.Prelude.{◌≡◌, ◌↔◌, ℕ, false, List, [], ◌∷◌, Option, Some, None, option_and_then, Result, Ok, Err, codes}
+use Rattle.std.specs.Prelude.{◌≡◌, ◌↔◌, ℕ, false, List, [], ◌∷◌, Option, Some, None, option_and_then, Result, Ok, Err}
+use Rattle.std.specs.Prelude.{codes}
 use Rattle.std.specs.List.{AllByRecursion, AllZip}
 use Rattle.serde_json.specs.Data.{Data, null, object, Items, Members, put}
 use Rattle.serde_json.specs.Find.{as_array, get_member}
@@ -15,7 +16,7 @@ use Rattle.tick_lines.specs.declared.fault.TickLineFault.TheVariants as faults
 use Rattle.tick_lines.specs.declared.line.TickLine.{TickLine}
 use Rattle.tick_lines.specs.declared.listing.Listing.{Listing}
 use Rattle.tick_lines.specs.declared.probing.ProbeResult.{ProbeResult}
-use Rattle.tick_lines.specs.declared.samples.Scope.{Scope}
+use Rattle.signal_maps.specs.declared.scope.Scope.{Scope}
 use Rattle.tick_lines.specs.Listings.{listing_of}
 use Rattle.tick_lines.specs.Results.{result_of}
 use Rattle.tick_lines.specs.Usages.{usage_in}
@@ -40,8 +41,10 @@ pub record InOrder : Type 0 where
 -- the pod, the containers and their results go by the texts in these fields
 pub record TextsSaid : Type 0 where
   pub entry : (d : Data) (entry : Entry) → entry_of d ≡ Ok entry → text_at (codes "pod") d ≡ Some entry.key
-  pub listing : (d : Data) (listing : Listing) → listing_of d ≡ Ok listing → text_at (codes "name") d ≡ Some listing.name
-  pub probe_result : (d : Data) (r : ProbeResult) → result_of d ≡ Ok r → text_at (codes "container") d ≡ Some r.container
+  pub listing : (d : Data) (listing : Listing) → listing_of d ≡ Ok listing
+      → text_at (codes "name") d ≡ Some listing.name
+  pub probe_result : (d : Data) (r : ProbeResult) → result_of d ≡ Ok r
+      → text_at (codes "container") d ≡ Some r.container
 
 -- what was found is an object with this quantity under the name, in thousandths
 abbrev pub HasQuantity : Option Data → List ℕ → ℕ → Type 0

@@ -1,5 +1,6 @@
 -- The listings of containers in an entry, as they are written.
-use Rattle.std.specs.Prelude.{ℕ, ℤ, pos, negsuc, int_le, ◌^◌, ◌&&◌, ◌==◌, List, nat_lt, Option, Some, None, option_and_then, if◌then◌else◌, Result, Ok, Err, bytes_eq, codes}
+use Rattle.std.specs.Prelude.{ℕ, ℤ, pos, negsuc, int_le, ◌^◌, ◌&&◌, ◌==◌, List, nat_lt, Option, Some, None}
+use Rattle.std.specs.Prelude.{option_and_then, if◌then◌else◌, Result, Ok, Err, bytes_eq, codes}
 use Rattle.serde_json.specs.Data.{Data}
 use Rattle.serde_json.specs.Find.{as_str, as_number, as_i64, as_u64}
 use Rattle.json_fields.specs.Fields.{field_at, text_at}

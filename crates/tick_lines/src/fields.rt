@@ -14,14 +14,21 @@ use quantity_fields::quantity_in;
 use serde_json::Value;
 use std::alloc::Global;
 
+fn written_text(found: Option<&str>) -> Result<&str, TickLineFault>
+    ensures { GivesExactly (λ s. s.now) result (some_or Usage (option_map (λ s. s.now) found.entry)) }
+{
+    match found {
+        None => Err(TickLineFault::Usage),
+        Some(text) => Ok(text),
+    }
+}
+
 /// The text of a field that has to be there.
 pub(crate) fn text_of(alloc: Global, found: Option<&str>) -> Result<Text, TickLineFault>
     ensures { Gives (λ t. t) result (some_or Usage (option_map (λ s. s.now) found.entry)) }
 {
-    match found {
-        None => Err(TickLineFault::Usage),
-        Some(text) => Ok(Text::new(String::from_str(alloc, text)?)),
-    }
+    let text = written_text(found)?;
+    Ok(Text::new(String::from_str(alloc, text)?))
 }
 
 /// The items of an array that may be left out.

@@ -1,6 +1,7 @@
 //! What the definition of a tick line implies, in the words of the format. The functions do nothing;
 //! their contracts are the laws.
-ghost use Rattle.tick_lines.specs.Laws.{InOrder, TextsSaid, SamplesSaid, UsageSaid, OnlySignals, OnlyTheirFields, NullIsAbsent, OneKind};
+ghost use Rattle.tick_lines.specs.Laws.{InOrder, TextsSaid, SamplesSaid, UsageSaid, OnlySignals, OnlyTheirFields};
+ghost use Rattle.tick_lines.specs.Laws.{NullIsAbsent, OneKind};
 
 /// Each element of an array says the entry, the listing or the result at its place, and no others
 /// are said.

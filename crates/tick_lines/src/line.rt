@@ -7,11 +7,12 @@ ghost use Rattle.tick_lines.specs.Line.{tick_line_of};
 
 use crate::entry::{Entry, entries_of};
 use crate::fault::TickLineFault;
-use crate::samples::{Scope, samples_of};
+use crate::samples::samples_of;
 use json_fields::field;
 use quantity::Quantity;
 use sequence::Sequence;
 use serde_json::Value;
+use signal_maps::Scope;
 use signals::BySignal;
 use std::alloc::Global;
 

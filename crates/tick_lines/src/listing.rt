@@ -4,7 +4,8 @@ ghost use Rattle.std.specs.Prelude.{◌≡◌, map, option_map};
 ghost use Rattle.serde_json.specs.View.{view};
 ghost use Rattle.json_fields.specs.Reading.{each};
 ghost use Rattle.tick_lines.specs.Gives.{Gives, GivesExactly};
-ghost use Rattle.tick_lines.specs.Listings.{attempt_of, state_named, state_numbered, state_of, code_of, instance_of, listing_of, listings_of};
+ghost use Rattle.tick_lines.specs.Listings.{attempt_of, state_named, state_numbered, state_of, code_of, instance_of};
+ghost use Rattle.tick_lines.specs.Listings.{listing_of, listings_of};
 
 use crate::fault::TickLineFault;
 use crate::fields::{items_of, text_of};

@@ -1,5 +1,6 @@
 -- Whether one of the pods has a key.
-use Rattle.std.proofs.Common.{◌≡◌, ◌∙◌, ℕ, zero, suc, ◌+◌, true, false, List, [], ◌∷◌, ◌++◌, Option, Some, None, is_some, refl, ap, sym, inl, inr, option_map}
+use Rattle.std.proofs.Common.{◌≡◌, ◌∙◌, ℕ, zero, suc, ◌+◌, true, false, List, [], ◌∷◌, ◌++◌, Option, Some, None}
+use Rattle.std.proofs.Common.{is_some, refl, ap, sym, inl, inr, option_map}
 use Rattle.std.specs.Prelude.{bytes_eq}
 use Rattle.std.proofs.lemmas.Bool.{cases_Bool}
 use Rattle.std.proofs.lemmas.List.{map_push}
@@ -27,7 +28,8 @@ pub there_key : (pods : List PodSpec) (key : List ℕ) → HasKey pods key → h
 there_key [] key (n, pod, here, is) = absurd (cc)
 there_key (p ∷ ps) key (zero, pod, here, is) =
     let same : p ≡ pod = cc in
-    let first : bytes_eq key (key_of_pod p) ≡ true = (bytes_eq-Decides key (key_of_pod p)).1 (sym is ∙ ap key_of_pod (sym same)) in
+    let first : bytes_eq key (key_of_pod p) ≡ true =
+    (bytes_eq-Decides key (key_of_pod p)).1 (sym is ∙ ap key_of_pod (sym same)) in
     rw first refl
 there_key (p ∷ ps) key (suc n, pod, here, is) = elim (cases_Bool (bytes_eq key (key_of_pod p))) [
   | inl first ↦ rw first refl
@@ -44,7 +46,8 @@ nowhere_key pods key never = elim (cases_Bool (has_key pods key)) [
 ]
 
 -- the keys after one pod more
-pub keys_more : (keys new : List (List ℕ)) (key : List ℕ) (pods after : List PodSpec) (pod : PodSpec) → keys ≡ keys_of pods → new ≡ keys ++ key ∷ [] → key ≡ key_of_pod pod
+pub keys_more : (keys new : List (List ℕ)) (key : List ℕ) (pods after : List PodSpec) (pod : PodSpec)
+    → keys ≡ keys_of pods → new ≡ keys ++ key ∷ [] → key ≡ key_of_pod pod
     → after ≡ pods ++ pod ∷ [] → new ≡ keys_of after
 keys_more keys new key pods after pod is is_new is_key is_after =
     is_new ∙ ap (λ (ks : List (List ℕ)). ks ++ key ∷ []) is ∙ ap (λ (k : List ℕ). keys_of pods ++ k ∷ []) is_key

@@ -4,9 +4,12 @@ pub mod GoingBack
 pub mod Kinds
 pub mod Listings
 pub mod Results
+pub mod Saying
 pub mod Strangers
 pub mod Usages
-use Rattle.std.proofs.Common.{◌≡◌, ◌∙◌, ◌⊎◌, ℕ, zero, suc, ◌+◌, ◌≤◌, ◌<◌, true, false, List, [], ◌∷◌, ◌++◌, length, drop, get_or, slice_get, Option, Some, None, Result, Ok, Err, refl, ap, sym, subst, inl, inr, arith, is_some, drop-cons}
+use Rattle.std.proofs.Common.{◌≡◌, ◌∙◌, ◌⊎◌, ℕ, zero, suc, ◌+◌, ◌≤◌, ◌<◌, true, false, List, [], ◌∷◌, ◌++◌, length}
+use Rattle.std.proofs.Common.{drop, get_or, slice_get, Option, Some, None, Result, Ok, Err, refl, ap, sym, subst, inl}
+use Rattle.std.proofs.Common.{inr, arith, is_some, drop-cons}
 use Rattle.std.specs.Prelude.{⊤, ◌-◌, nat_lt, nat_le, codes}
 use Rattle.std.proofs.Math.Seq.{drop-length}
 use Rattle.std.proofs.lemmas.Bool.{cases_Bool}
@@ -15,6 +18,7 @@ use Rattle.serde_json.specs.Data.{Data}
 use Rattle.json_fields.specs.Fields.{field_at, text_at}
 use Rattle.json_fields.specs.Reading.{◌>>=◌, refused_if, some_or}
 use Rattle.json_fields.proofs.Steps.{bind_ok}
+use Rattle.trace.proofs.Whole.{tick_whole, pod_whole, line_whole}
 use Rattle.trace.proofs.Versions.{some_node}
 use Rattle.manifest.specs.declared.pod.PodSpec.{PodSpec}
 use Rattle.trace.specs.declared.fault.FaultKind.{FaultKind}
@@ -35,10 +39,13 @@ use Rattle.trace.specs.Placing.{placed_of}
 use Rattle.node_config.specs.declared.node.Version.{Version}
 use Rattle.trace.specs.Past.{Past, version_in, of_node, with_pod, with_tick}
 use Rattle.trace.specs.Tick.{moment_of, most_ticks, observed_in, tick_at}
-use Rattle.trace.specs.Trace.{json_of, kind_from, with_node, is_late, pod_line_at, in_order, line_at, at_line, finished, read_on, nothing, trace_of}
-use Rattle.trace.specs.Laws.{Leaves, AreSaid, IsFaultAt, NoneCounts, IsFirstFault, IsWhole, FirstFault, WholeTrace, OneFault}
+use Rattle.trace.specs.Trace.{json_of, kind_from, with_node, is_late, pod_line_at, in_order, line_at, at_line}
+use Rattle.trace.specs.Trace.{finished, read_on, nothing, trace_of}
+use Rattle.trace.specs.Laws.{Leaves, AreSaid, IsFaultAt, NoneCounts, IsFirstFault, IsWhole, FirstFault, WholeTrace}
+use Rattle.trace.specs.Laws.{OneFault}
 
-drop_here : (lines : List (List ℕ)) (n : ℕ) (line : List ℕ) → slice_get lines n ≡ Some line → drop n lines ≡ line ∷ drop (suc n) lines
+drop_here : (lines : List (List ℕ)) (n : ℕ) (line : List ℕ) → slice_get lines n ≡ Some line
+    → drop n lines ≡ line ∷ drop (suc n) lines
 drop_here lines n line e =
     let cut = drop-cons lines n line (slice_get_within lines n line e) in
     let here = get_or_from_slice_get lines n line line e in
@@ -54,39 +61,50 @@ goes_on n before line past rest (inl blank) =
     let skipped : read_on n before (line ∷ rest) ≡ read_on (n + 1) before rest = rw blank.0 refl in
     skipped ∙ ap (λ (p : Past). read_on (n + 1) p rest) (sym blank.1)
 goes_on n before line past rest (inr counts) =
-    line_of n before line rest counts.0 ∙ ap (λ (r : Result Past FaultKind). at_line n r >>= λ next. read_on (n + 1) next rest) counts.1
+    line_of n before line rest counts.0
+    ∙ ap (λ (r : Result Past FaultKind). at_line n r >>= λ next. read_on (n + 1) next rest) counts.1
 
-ends_at : (n : ℕ) (before : Past) (line : List ℕ) (kind : FaultKind) (rest : List (List ℕ)) → is_blank line ≡ false → line_at before line ≡ Err kind
+ends_at : (n : ℕ) (before : Past) (line : List ℕ) (kind : FaultKind) (rest : List (List ℕ)) → is_blank line ≡ false
+    → line_at before line ≡ Err kind
     → read_on n before (line ∷ rest) ≡ Err (record { line = n; kind = kind })
 ends_at n before line kind rest counts fails =
-    line_of n before line rest counts ∙ ap (λ (r : Result Past FaultKind). at_line n r >>= λ next. read_on (n + 1) next rest) fails
+    line_of n before line rest counts
+    ∙ ap (λ (r : Result Past FaultKind). at_line n r >>= λ next. read_on (n + 1) next rest) fails
 
 -- once the first n lines are read, the others are read after what those say
-reaches : (lines : List (List ℕ)) (n : ℕ) (past : Past) → AreSaid lines n past → read_on 1 nothing lines ≡ read_on (n + 1) past (drop n lines)
+reaches : (lines : List (List ℕ)) (n : ℕ) (past : Past) → AreSaid lines n past
+    → read_on 1 nothing lines ≡ read_on (n + 1) past (drop n lines)
 reaches lines zero past said = ap (λ (p : Past). read_on 1 p lines) (sym said)
 reaches lines (suc n) past (before, line, said, here, leaves) =
     let ones : n + 1 ≡ suc n = omega arith in
     let so_far = reaches lines n before said in
     let cut = drop_here lines n line here in
     let next = goes_on (n + 1) before line past (drop (suc n) lines) leaves in
-    so_far ∙ ap (λ (ls : List (List ℕ)). read_on (n + 1) before ls) cut ∙ next ∙ ap (λ (k : ℕ). read_on (k + 1) past (drop (suc n) lines)) ones
+    so_far ∙ ap (λ (ls : List (List ℕ)). read_on (n + 1) before ls) cut ∙ next
+    ∙ ap (λ (k : ℕ). read_on (k + 1) past (drop (suc n) lines)) ones
 
-refused : (lines : List (List ℕ)) (n : ℕ) (kind : FaultKind) → IsFaultAt lines n kind → read_on 1 nothing lines ≡ Err (record { line = n + 1; kind = kind })
+refused : (lines : List (List ℕ)) (n : ℕ) (kind : FaultKind) → IsFaultAt lines n kind
+    → read_on 1 nothing lines ≡ Err (record { line = n + 1; kind = kind })
 refused lines n kind is =
-    reaches lines n is.past is.said ∙ ap (λ (ls : List (List ℕ)). read_on (n + 1) is.past ls) (drop_here lines n is.line is.here)
+    reaches lines n is.past is.said ∙ ap (λ (ls : List (List ℕ)). read_on (n + 1) is.past ls)
+    (drop_here lines n is.line is.here)
     ∙ ends_at (n + 1) is.past is.line kind (drop (suc n) lines) is.counts is.fails
 
-ended : (lines : List (List ℕ)) (past : Past) → AreSaid lines (length lines) past → read_on 1 nothing lines ≡ finished (length lines + 1) past past.node
+ended : (lines : List (List ℕ)) (past : Past) → AreSaid lines (length lines) past
+    → read_on 1 nothing lines ≡ finished (length lines + 1) past past.node
 ended lines past said =
-    reaches lines (length lines) past said ∙ ap (λ (ls : List (List ℕ)). read_on (length lines + 1) past ls) (drop-length lines)
+    reaches lines (length lines) past said ∙ ap (λ (ls : List (List ℕ)). read_on (length lines + 1) past ls)
+    (drop-length lines)
 
 abbrev Reached : List (List ℕ) → ℕ → Type 0
 Reached lines n = ((past : Past) × AreSaid lines n past) ⊎ ((m : ℕ) × (kind : FaultKind) × IsFaultAt lines m kind)
 
-line_says : (lines : List (List ℕ)) (n : ℕ) (past : Past) (line : List ℕ) (said : AreSaid lines n past) (here : slice_get lines n ≡ Some line)
+line_says : (lines : List (List ℕ)) (n : ℕ) (past : Past) (line : List ℕ) (said : AreSaid lines n past)
+    (here : slice_get lines n ≡ Some line)
     (counts : is_blank line ≡ false) (r : Result Past FaultKind) → line_at past line ≡ r → Reached lines (suc n)
 line_says lines n past line said here counts (Ok next) e = inl (next, (past, line, said, here, inr (counts, e)))
-line_says lines n past line said here counts (Err kind) e = inr (n, kind, record { past = past; line = line; said = said; here = here; counts = counts; fails = e })
+line_says lines n past line said here counts (Err kind) e =
+    inr (n, kind, record { past = past; line = line; said = said; here = here; counts = counts; fails = e })
 
 -- the first n lines say something, or there is a first fault
 said_or_fault : (lines : List (List ℕ)) (n : ℕ) → n ≤ length lines → Reached lines n
@@ -113,14 +131,16 @@ with_node_some past d next e =
     let is_next : with node.0 ≡ next = cc in
     subst (λ (p : Past). is_some p.node ≡ true) is_next refl
 
-pod_line_keeps : (version : Version) (past : Past) (d : Data) (next : Past) → pod_line_at version past d ≡ Ok next → past.node ≡ next.node
-unfolding pod_line_at
+pod_line_keeps : (version : Version) (past : Past) (d : Data) (next : Past) → pod_line_at version past d ≡ Ok next
+    → past.node ≡ next.node
 pod_line_keeps version past d next e =
     let last : PodSpec → ⊤ → Result Past FaultKind = λ pod u. Ok (with_pod past pod) in
-    let keyed : PodSpec → Result Past FaultKind = λ pod. refused_if (has_key past.pods (key_of_pod pod)) DuplicatePod >>= last pod in
+    let keyed : PodSpec → Result Past FaultKind = λ pod. refused_if (has_key past.pods (key_of_pod pod)) DuplicatePod
+    >>= last pod in
     let read : ⊤ → Result Past FaultKind = λ u. pod_from (field_at (codes "pod") d) >>= keyed in
     let first : ⊤ → Result Past FaultKind = λ u. refused_if (nat_le most_pods (length past.pods)) TooMany >>= read in
-    let before = bind_ok (refused_if (is_late version past.ticks) Order) first next e in
+    let before = bind_ok (refused_if (is_late version past.ticks) Order) first next (sym (pod_whole version past d)
+    ∙ e) in
     let room = bind_ok (refused_if (nat_le most_pods (length past.pods)) TooMany) read next before.2 in
     let pod = bind_ok (pod_from (field_at (codes "pod") d)) keyed next room.2 in
     let new = bind_ok (refused_if (has_key past.pods (key_of_pod pod.0)) DuplicatePod) (last pod.0) next pod.2 in
@@ -129,14 +149,14 @@ pod_line_keeps version past d next e =
     ap (λ (p : Past). p.node) {x = with_pod past pod.0} is_next
 
 tick_line_keeps : (past : Past) (d : Data) (next : Past) → tick_at past d ≡ Ok next → past.node ≡ next.node
-unfolding tick_at
 tick_line_keeps past d next e =
     let last : TickObs → Result Past FaultKind = λ t. Ok (with_tick past t) in
     let seen : ℕ → TickLine → List PlacedEntry → Result Past FaultKind = λ at w ps. observed_in past at w ps >>= last in
     let place : ℕ → TickLine → Result Past FaultKind = λ at w. placed_of past.pods w.entries >>= seen at w in
     let list : ℕ → Result Past FaultKind = λ at. tick_line_in d >>= place at in
     let moment : ⊤ → Result Past FaultKind = λ u. moment_of past.ticks (field_at (codes "at") d) >>= list in
-    let room = bind_ok (refused_if (nat_le most_ticks (length past.ticks)) TooMany) moment next e in
+    let room = bind_ok (refused_if (nat_le most_ticks (length past.ticks)) TooMany) moment next
+    (sym (tick_whole past d) ∙ e) in
     let at = bind_ok (moment_of past.ticks (field_at (codes "at") d)) list next room.2 in
     let written = bind_ok (tick_line_in d) (place at.0) next at.2 in
     let placed = bind_ok (placed_of past.pods written.0.entries) (seen at.0 written.0) next written.2 in
@@ -145,23 +165,29 @@ tick_line_keeps past d next e =
     let is_next : with_tick past tick.0 ≡ next = cc in
     ap (λ (p : Past). p.node) {x = with_tick past tick.0} is_next
 
-in_order_some : (found : Option Version) (past : Past) (line_kind : LineKind) (d : Data) (next : Past) → version_in past ≡ found → in_order found past line_kind d ≡ Ok next → is_some next.node ≡ true
+in_order_some : (found : Option Version) (past : Past) (line_kind : LineKind) (d : Data) (next : Past)
+    → version_in past ≡ found → in_order found past line_kind d ≡ Ok next → is_some next.node ≡ true
 in_order_some None past kinds.Node d next is e = with_node_some past d next e
 in_order_some None past kinds.Pod d next is e = absurd (cc)
 in_order_some None past kinds.Tick d next is e = absurd (cc)
 in_order_some (Some version) past kinds.Node d next is e = absurd (cc)
-in_order_some (Some version) past kinds.Pod d next is e = subst (λ (o : Option NodeConfig). is_some o ≡ true) (pod_line_keeps version past d next e) (some_node past.node version is)
-in_order_some (Some version) past kinds.Tick d next is e = subst (λ (o : Option NodeConfig). is_some o ≡ true) (tick_line_keeps past d next e) (some_node past.node version is)
+in_order_some (Some version) past kinds.Pod d next is e =
+    subst (λ (o : Option NodeConfig). is_some o ≡ true) (pod_line_keeps version past d next e)
+    (some_node past.node version is)
+in_order_some (Some version) past kinds.Tick d next is e =
+    subst (λ (o : Option NodeConfig). is_some o ≡ true) (tick_line_keeps past d next e) (some_node past.node version is)
 
 line_some : (past : Past) (line : List ℕ) (next : Past) → line_at past line ≡ Ok next → is_some next.node ≡ true
-unfolding line_at
 line_some past line next e =
     let take : Data → LineKind → Result Past FaultKind = λ d line_kind. in_order (version_in past) past line_kind d in
-    let kind : Data → Result Past FaultKind = λ d. some_or UnknownKind (kind_from (text_at (codes "kind") d)) >>= take d in
+    let kind : Data → Result Past FaultKind = λ d. some_or UnknownKind (kind_from (text_at (codes "kind") d))
+    >>= take d in
     let parse : ⊤ → Result Past FaultKind = λ u. json_of line >>= kind in
-    let short = bind_ok (refused_if (nat_lt longest_line (length line)) TooLong) parse next e in
+    let short = bind_ok (refused_if (nat_lt longest_line (length line)) TooLong) parse next
+    (sym (line_whole past line) ∙ e) in
     let json = bind_ok (json_of line) kind next short.2 in
-    let line_kind = bind_ok (some_or UnknownKind (kind_from (text_at (codes "kind") json.0))) (take json.0) next json.2 in
+    let line_kind = bind_ok (some_or UnknownKind (kind_from (text_at (codes "kind") json.0))) (take json.0) next
+    json.2 in
     in_order_some (version_in past) past line_kind.0 json.0 next refl line_kind.2
 
 earlier : (n m : ℕ) → m < suc n → (m < n) ⊎ (m ≡ n)
@@ -200,7 +226,8 @@ blanks_said lines blank (suc n) le =
     (nothing, line, blanks_said lines blank n (omega arith), here, inl (blank n line here, refl))
 
 -- the end of a text whose lines have no fault
-end_fault : (lines : List (List ℕ)) (fault : LineFault) (past : Past) (node : Option NodeConfig) → AreSaid lines (length lines) past → past.node ≡ node
+end_fault : (lines : List (List ℕ)) (fault : LineFault) (past : Past) (node : Option NodeConfig)
+    → AreSaid lines (length lines) past → past.node ≡ node
     → finished (length lines + 1) past node ≡ Err fault → IsFirstFault lines fault
 end_fault lines fault past None said none e =
     let is : record { line = length lines + 1; kind = Order } ≡ fault = cc in
@@ -211,7 +238,8 @@ end_fault lines fault past None said none e =
     )
 end_fault lines fault past (Some node) said some e = absurd (cc)
 
-end_whole : (lines : List (List ℕ)) (trace : Trace) (past : Past) (node : Option NodeConfig) → AreSaid lines (length lines) past → past.node ≡ node
+end_whole : (lines : List (List ℕ)) (trace : Trace) (past : Past) (node : Option NodeConfig)
+    → AreSaid lines (length lines) past → past.node ≡ node
     → finished (length lines + 1) past node ≡ Ok trace → IsWhole lines trace
 end_whole lines trace past None said none e = absurd (cc)
 end_whole lines trace past (Some node) said some e =
@@ -229,10 +257,16 @@ fault_of : (lines : List (List ℕ)) (fault : LineFault) → read_on 1 nothing l
 fault_of lines fault e = elim (said_or_fault lines (length lines) (omega arith)) [
   | inl said ↦ end_fault lines fault said.0 said.0.node said.1 refl (sym (ended lines said.0 said.1) ∙ e)
   | inr first ↦
-      let given : Err (record { line = first.0 + 1; kind = first.1 }) ≡ Err fault = sym (refused lines first.0 first.1 first.2) ∙ e in
+      let given : Err (record { line = first.0 + 1; kind = first.1 }) ≡ Err fault =
+      sym (refused lines first.0 first.1 first.2) ∙ e in
       let is : record { line = first.0 + 1; kind = first.1 } ≡ fault = cc in
       let kind : first.1 ≡ fault.kind = ap (λ (f : LineFault). f.kind) is in
-      inl (first.0, subst (λ (k : FaultKind). IsFaultAt lines first.0 k) kind first.2, ap (λ (f : LineFault). f.line) (sym is))
+      inl (
+        first.0,
+        subst (λ (k : FaultKind). IsFaultAt lines first.0 k) kind first.2,
+        ap (λ (f : LineFault). f.line)
+            (sym is),
+      )
 ]
 
 fault_is : (lines : List (List ℕ)) (fault : LineFault) → IsFirstFault lines fault → read_on 1 nothing lines ≡ Err fault
@@ -248,7 +282,8 @@ whole_of : (lines : List (List ℕ)) (trace : Trace) → read_on 1 nothing lines
 whole_of lines trace e = elim (said_or_fault lines (length lines) (omega arith)) [
   | inl said ↦ end_whole lines trace said.0 said.0.node said.1 refl (sym (ended lines said.0 said.1) ∙ e)
   | inr first ↦
-      let given : ◌≡◌ {A = Result Trace LineFault} (Err (record { line = first.0 + 1; kind = first.1 })) (Ok trace) = sym (refused lines first.0 first.1 first.2) ∙ e in
+      let given : ◌≡◌ {A = Result Trace LineFault} (Err (record { line = first.0 + 1; kind = first.1 })) (Ok trace) =
+      sym (refused lines first.0 first.1 first.2) ∙ e in
       absurd (cc)
 ]
 
@@ -258,28 +293,38 @@ whole_is lines trace is =
     let past = is.past in
     ended lines past is.said
     ∙ ap (λ (o : Option NodeConfig). finished n past o) is.node
-    ∙ ap (λ (ps : List PodSpec). Ok (record { node = trace.node; pods = ps; arrivals = past.arrivals; ticks = past.ticks })) is.pods
-    ∙ ap (λ (arrivals : List ℕ). Ok (record { node = trace.node; pods = trace.pods; arrivals = arrivals; ticks = past.ticks })) is.arrivals
-    ∙ ap (λ (ts : List TickObs). Ok (record { node = trace.node; pods = trace.pods; arrivals = trace.arrivals; ticks = ts })) is.ticks
+    ∙ ap (λ (ps : List PodSpec). Ok
+    (record { node = trace.node; pods = ps; arrivals = past.arrivals; ticks = past.ticks })) is.pods
+    ∙ ap (λ (arrivals : List ℕ). Ok
+    (record { node = trace.node; pods = trace.pods; arrivals = arrivals; ticks = past.ticks })) is.arrivals
+    ∙ ap (λ (ts : List TickObs). Ok
+    (record { node = trace.node; pods = trace.pods; arrivals = trace.arrivals; ticks = ts })) is.ticks
 
 -- lines say one thing at most
-one_left : (before past past' : Past) (line : List ℕ) → Leaves before line past → Leaves before line past' → past ≡ past'
+one_left : (before past past' : Past) (line : List ℕ) → Leaves before line past → Leaves before line past'
+    → past ≡ past'
 one_left before past past' line (inl (blank, is)) (inl (blank', is')) = is ∙ sym is'
 one_left before past past' line (inl (blank, is)) (inr (counts, is')) = absurd (cc)
 one_left before past past' line (inr (counts, is)) (inl (blank, is')) = absurd (cc)
 one_left before past past' line (inr (counts, is)) (inr (counts', is')) = cc
 
-one_said : (lines : List (List ℕ)) (n : ℕ) (past past' : Past) → AreSaid lines n past → AreSaid lines n past' → past ≡ past'
+one_said : (lines : List (List ℕ)) (n : ℕ) (past past' : Past) → AreSaid lines n past → AreSaid lines n past'
+    → past ≡ past'
 one_said lines zero past past' is is' = is ∙ sym is'
 one_said lines (suc n) past past' (before, line, said, here, leaves) (before', line', said', here', leaves') =
     let same : before' ≡ before = one_said lines n before' before said' said in
     let same_line : line' ≡ line = cc in
-    one_left before past past' line leaves (subst (λ (l : List ℕ). Leaves before l past') same_line (subst (λ (p : Past). Leaves p line' past') same leaves'))
+    one_left before past past' line leaves
+    (subst (λ (l : List ℕ). Leaves before l past') same_line
+    (subst (λ (p : Past). Leaves p line' past') same leaves'))
 
-one_first : (lines : List (List ℕ)) (n m : ℕ) (kind kind' : FaultKind) → IsFaultAt lines n kind → IsFaultAt lines m kind' → (n ≡ m) × (kind ≡ kind')
+one_first : (lines : List (List ℕ)) (n m : ℕ) (kind kind' : FaultKind) → IsFaultAt lines n kind
+    → IsFaultAt lines m kind' → (n ≡ m) × (kind ≡ kind')
 one_first lines n m kind kind' is is' =
-    let given : ◌≡◌ {A = Result Trace LineFault} (Err (record { line = n + 1; kind = kind })) (Err (record { line = m + 1; kind = kind' })) = sym (refused lines n kind is) ∙ refused lines m kind' is' in
-    let same : ◌≡◌ {A = LineFault} (record { line = n + 1; kind = kind }) (record { line = m + 1; kind = kind' }) = cc in
+    let given : ◌≡◌ {A = Result Trace LineFault} (Err (record { line = n + 1; kind = kind }))
+    (Err (record { line = m + 1; kind = kind' })) = sym (refused lines n kind is) ∙ refused lines m kind' is' in
+    let same : ◌≡◌ {A = LineFault} (record { line = n + 1; kind = kind }) (record { line = m + 1; kind = kind' }) =
+    cc in
     let number : n + 1 ≡ m + 1 = ap (λ (f : LineFault). f.line) same in
     (omega arith, ap (λ (f : LineFault). f.kind) same)
 

@@ -7,4 +7,5 @@ pub mod Shape
 pub mod Shown
 pub mod Sound
 pub mod Versions
+pub mod Whole
 pub mod LawLemmas

@@ -1,5 +1,6 @@
 -- The moments of ticks.
-use Rattle.std.proofs.Common.{◌≡◌, ℕ, zero, suc, ◌-◌, ◌<◌, ◌&&◌, cond, Bool, true, false, List, [], ◌∷◌, ◌++◌, length, map, Option, Some, None, Ok, Err, refl, sym, subst, arith}
+use Rattle.std.proofs.Common.{◌≡◌, ℕ, zero, suc, ◌-◌, ◌<◌, ◌&&◌, cond, Bool, true, false, List, [], ◌∷◌, ◌++◌, length}
+use Rattle.std.proofs.Common.{map, Option, Some, None, Ok, Err, refl, sym, subst, arith}
 use Rattle.std.specs.Prelude.{slice_get, option_map, option_and_then, nat_lt, ◌^◌, IfSome}
 use Rattle.std.proofs.lemmas.Bool.{ltb-true}
 use Rattle.std.proofs.lemmas.List.{length-map, map_push}
@@ -17,7 +18,8 @@ use Rattle.trace.specs.Tick.{is_later, moment_from, moment_of}
 abbrev stamped : List TickObs → List (Recorded TickObs)
 stamped ticks = map (λ (tick : TickObs). recorded tick.at tick) ticks
 
-moment_at-stamped : (ticks : List TickObs) (t : ℕ) → moment_at (stamped ticks) t ≡ option_map (λ (tick : TickObs). tick.at) (slice_get ticks t)
+moment_at-stamped : (ticks : List TickObs) (t : ℕ)
+    → moment_at (stamped ticks) t ≡ option_map (λ (tick : TickObs). tick.at) (slice_get ticks t)
 moment_at-stamped [] t = refl
 moment_at-stamped (x ∷ xs) zero = refl
 moment_at-stamped (x ∷ xs) (suc t) = moment_at-stamped xs t
@@ -29,16 +31,19 @@ tick_of_moment [] t m e = absurd (cc)
 tick_of_moment (x ∷ xs) zero m e = (x, refl, cc)
 tick_of_moment (x ∷ xs) (suc t) m e = tick_of_moment xs t m e
 
-last_moment-stamped : (ticks : List TickObs) → last_moment (stamped ticks) ≡ option_map (λ (tick : TickObs). tick.at) (slice_get ticks (length ticks - 1))
+last_moment-stamped : (ticks : List TickObs) → last_moment (stamped ticks) ≡ option_map (λ (tick : TickObs). tick.at)
+    (slice_get ticks (length ticks - 1))
 last_moment-stamped ticks =
     let f : TickObs → Recorded TickObs = λ t. recorded t.at t in
     rw (length-map ticks f) (moment_at-stamped ticks (length ticks - 1))
 
 stamped-ends_before : (ticks : List TickObs) (moment : ℕ) → EndBefore ticks moment → EndsBefore (stamped ticks) moment
 stamped-ends_before ticks moment before =
-    subst (λ (o : Option ℕ). IfSome o (λ last. last < moment)) (sym (last_moment-stamped ticks)) (of_tick (slice_get ticks (length ticks - 1)) before)
+    subst (λ (o : Option ℕ). IfSome o (λ last. last < moment)) (sym (last_moment-stamped ticks))
+    (of_tick (slice_get ticks (length ticks - 1)) before)
   where
-    of_tick : (o : Option TickObs) → IfSome o (λ last. last.at < moment) → IfSome (option_map (λ (tick : TickObs). tick.at) o) (λ last. last < moment)
+    of_tick : (o : Option TickObs) → IfSome o (λ last. last.at < moment)
+        → IfSome (option_map (λ (tick : TickObs). tick.at) o) (λ last. last < moment)
     of_tick None before = tt
     of_tick (Some tick) before = before
 
@@ -57,13 +62,18 @@ rising-stamped ticks rising t u earlier later lt e f =
     rising t u earlier.at later.at lt (rw (moment_at-stamped ticks t, e) refl) (rw (moment_at-stamped ticks u, f) refl)
 
 -- one tick more, later than the last one
-pub rising-more : (ticks : List TickObs) (tick : TickObs) → AreRising ticks → EndBefore ticks tick.at → AreRising (ticks ++ tick ∷ [])
+pub rising-more : (ticks : List TickObs) (tick : TickObs) → AreRising ticks → EndBefore ticks tick.at
+    → AreRising (ticks ++ tick ∷ [])
 rising-more ticks tick rising before =
-    let more = IsRising-more (stamped ticks) (recorded tick.at tick) (stamped-rising ticks rising) (stamped-ends_before ticks tick.at before) in
-    rising-stamped (ticks ++ tick ∷ []) (subst (λ (h : List (Recorded TickObs)). IsRising h) (sym (map_push (λ (t : TickObs). recorded t.at t) ticks tick)) more)
+    let more = IsRising-more (stamped ticks) (recorded tick.at tick) (stamped-rising ticks rising)
+    (stamped-ends_before ticks tick.at before) in
+    rising-stamped (ticks ++ tick ∷ [])
+    (subst (λ (h : List (Recorded TickObs)). IsRising h)
+    (sym (map_push (λ (t : TickObs). recorded t.at t) ticks tick)) more)
 
 -- a tick's moment is later than the last one's
-pub moment_later : (ticks : List TickObs) (found : Option Data) (at : ℕ) → moment_of ticks found ≡ Ok at → EndBefore ticks at
+pub moment_later : (ticks : List TickObs) (found : Option Data) (at : ℕ) → moment_of ticks found ≡ Ok at
+    → EndBefore ticks at
 moment_later ticks found at e = of_number (option_and_then as_u64 (option_and_then as_number found)) e
   where
     later : (o : Option TickObs) (n : ℕ) → is_later o n ≡ true → IfSome o (λ last. last.at < n)
@@ -74,8 +84,10 @@ moment_later ticks found at e = of_number (option_and_then as_u64 (option_and_th
     of_number None e = absurd (cc)
     of_number (Some n) e = here (nat_lt n (2 ^ 40)) (is_later (slice_get ticks (length ticks - 1)) n) refl e
       where
-        here : (low late : Bool) → late ≡ is_later (slice_get ticks (length ticks - 1)) n → cond (low && late) (Ok n) (Err Moment) ≡ Ok at → EndBefore ticks at
-        here true true is e = let same : n ≡ at = cc in subst (EndBefore ticks) same (later (slice_get ticks (length ticks - 1)) n (sym is))
+        here : (low late : Bool) → late ≡ is_later (slice_get ticks (length ticks - 1)) n
+            → cond (low && late) (Ok n) (Err Moment) ≡ Ok at → EndBefore ticks at
+        here true true is e = let same : n ≡ at = cc in
+            subst (EndBefore ticks) same (later (slice_get ticks (length ticks - 1)) n (sym is))
         here true false is e = absurd (cc)
         here false late is e = absurd (cc)
 
@@ -87,7 +99,9 @@ moment_low ticks found at e = of_number (option_and_then as_u64 (option_and_then
     of_number None e = absurd (cc)
     of_number (Some n) e = here (nat_lt n (2 ^ 40)) (is_later (slice_get ticks (length ticks - 1)) n) refl e
       where
-        here : (low late : Bool) → low ≡ nat_lt n (2 ^ 40) → cond (low && late) (Ok n) (Err Moment) ≡ Ok at → at < 2 ^ 40
-        here true true is e = let same : n ≡ at = cc in subst (λ (m : ℕ). m < 2 ^ 40) same (ltb-true n (2 ^ 40) (sym is))
+        here : (low late : Bool) → low ≡ nat_lt n (2 ^ 40) → cond (low && late) (Ok n) (Err Moment) ≡ Ok at
+            → at < 2 ^ 40
+        here true true is e = let same : n ≡ at = cc in
+            subst (λ (m : ℕ). m < 2 ^ 40) same (ltb-true n (2 ^ 40) (sym is))
         here true false is e = absurd (cc)
         here false late is e = absurd (cc)

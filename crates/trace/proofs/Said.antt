@@ -9,7 +9,7 @@ use Rattle.trace.specs.Past.{Past}
 use Rattle.trace.specs.Trace.{nothing, trace_of}
 use Rattle.trace.specs.Laws.{AreSaid, Says}
 use Rattle.trace.proofs.LawLemmas.{whole_trace}
-use Rattle.trace.proofs.LawLemmas.Checks.{all_checks}
+use Rattle.trace.proofs.LawLemmas.Saying.{all_checks}
 
 -- it holds where nothing is said, and after each line
 pub record IsKept (P : Past → Type 0) : Type 0 where
@@ -20,19 +20,30 @@ pub record IsKept (P : Past → Type 0) : Type 0 where
 abbrev pub past_of : Trace → Past
 past_of trace = record { node = Some trace.node; pods = trace.pods; arrivals = trace.arrivals; ticks = trace.ticks }
 
-all_said : (P : Past → Type 0) → IsKept P → (lines : List (List ℕ)) (n : ℕ) (past : Past) → AreSaid lines n past → P past
+all_said : (P : Past → Type 0) → IsKept P → (lines : List (List ℕ)) (n : ℕ) (past : Past) → AreSaid lines n past
+    → P past
 all_said P kept lines zero past said = subst P (sym said) kept.first
 all_said P kept lines (suc n) past (before, line, said, here, inl blank) =
     subst P (sym blank.1) (all_said P kept lines n before said)
 all_said P kept lines (suc n) past (before, line, said, here, inr counts) =
     kept.line before line past (all_said P kept lines n before said) ((all_checks before line past).0 counts.1)
 
-pub of_trace : (P : Past → Type 0) → IsKept P → (text : List ℕ) (trace : Trace) → trace_of text ≡ Ok trace → P (past_of trace)
+pub of_trace : (P : Past → Type 0) → IsKept P → (text : List ℕ) (trace : Trace) → trace_of text ≡ Ok trace
+    → P (past_of trace)
 of_trace P kept text trace e =
     let whole = (whole_trace text trace).0 e in
     let past = whole.past in
     let holds : P past = all_said P kept (lines_of text) (length (lines_of text)) past whole.said in
-    let node = subst (λ (o : Option NodeConfig). P (record { node = o; pods = past.pods; arrivals = past.arrivals; ticks = past.ticks })) whole.node holds in
-    let pods = subst (λ (ps : List PodSpec). P (record { node = Some trace.node; pods = ps; arrivals = past.arrivals; ticks = past.ticks })) whole.pods node in
-    let arrivals = subst (λ (arrivals : List ℕ). P (record { node = Some trace.node; pods = trace.pods; arrivals = arrivals; ticks = past.ticks })) whole.arrivals pods in
-    subst (λ (ts : List TickObs). P (record { node = Some trace.node; pods = trace.pods; arrivals = trace.arrivals; ticks = ts })) whole.ticks arrivals
+    let node =
+    subst (λ (o : Option NodeConfig).
+    P (record { node = o; pods = past.pods; arrivals = past.arrivals; ticks = past.ticks })) whole.node holds in
+    let pods =
+    subst (λ (ps : List PodSpec). P
+    (record { node = Some trace.node; pods = ps; arrivals = past.arrivals; ticks = past.ticks })) whole.pods node in
+    let arrivals =
+    subst (λ (arrivals : List ℕ). P
+    (record { node = Some trace.node; pods = trace.pods; arrivals = arrivals; ticks = past.ticks }))
+    whole.arrivals pods in
+    subst (λ (ts : List TickObs). P
+    (record { node = Some trace.node; pods = trace.pods; arrivals = trace.arrivals; ticks = ts })) whole.ticks
+    arrivals

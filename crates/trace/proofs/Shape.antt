@@ -1,5 +1,6 @@
 -- The shape of a trace.
-use Rattle.std.proofs.Common.{◌≡◌, ◌∙◌, ◌⊎◌, ℕ, zero, suc, ◌+◌, ◌≤◌, ◌<◌, List, [], ◌∷◌, ◌++◌, length, Some, Result, Ok, Err, refl, ap, sym, subst, inl, inr, arith}
+use Rattle.std.proofs.Common.{◌≡◌, ◌∙◌, ◌⊎◌, ℕ, zero, suc, ◌+◌, ◌≤◌, ◌<◌, List, [], ◌∷◌, ◌++◌, length, Some, Result}
+use Rattle.std.proofs.Common.{Ok, Err, refl, ap, sym, subst, inl, inr, arith}
 use Rattle.std.specs.Prelude.{slice_get, ◌^◌, codes, IfOk}
 use Rattle.std.proofs.lemmas.List.{length-append}
 use Rattle.std.proofs.lemmas.Option.{slice_get_within}
@@ -23,7 +24,8 @@ use Rattle.trace.proofs.Said.{IsKept, of_trace}
 use Rattle.trace.proofs.Shown.{as_many, moment_shown, count_shown}
 
 -- an item of a list with one item more is one of the list, or the last
-pushed_at : {A : Type 0} (xs : List A) (x y : A) (n : ℕ) → slice_get (xs ++ x ∷ []) n ≡ Some y → (slice_get xs n ≡ Some y) ⊎ ((n ≡ length xs) × (x ≡ y))
+pushed_at : {A : Type 0} (xs : List A) (x y : A) (n : ℕ) → slice_get (xs ++ x ∷ []) n ≡ Some y
+    → (slice_get xs n ≡ Some y) ⊎ ((n ≡ length xs) × (x ≡ y))
 pushed_at [] x y zero e = inr (refl, cc)
 pushed_at [] x y (suc n) e = absurd (cc)
 pushed_at (z ∷ xs) x y zero e = inl e
@@ -41,7 +43,8 @@ present_within [] t n is = absurd is
 present_within (a ∷ rest) t zero is = omega arith
 present_within (a ∷ rest) t (suc n) is = let lt = present_within rest t n is in omega arith
 
-present_all : (arrivals : List ℕ) (t n : ℕ) → ((m arrival : ℕ) → slice_get arrivals m ≡ Some arrival → arrival ≤ t) → n < length arrivals → IsPresent arrivals t n
+present_all : (arrivals : List ℕ) (t n : ℕ) → ((m arrival : ℕ) → slice_get arrivals m ≡ Some arrival → arrival ≤ t)
+    → n < length arrivals → IsPresent arrivals t n
 present_all [] t n all lt = absurd (omega arith)
 present_all (a ∷ rest) t zero all lt = all 0 a refl
 present_all (a ∷ rest) t (suc n) all lt = present_all rest t n (λ m arrival e. all (suc m) arrival e) (omega arith)
@@ -51,14 +54,16 @@ present_more [] arrival t n is = absurd is
 present_more (a ∷ rest) arrival t zero is = is
 present_more (a ∷ rest) arrival t (suc n) is = present_more rest arrival t n is
 
-present_before : (arrivals : List ℕ) (arrival t n : ℕ) → t < arrival → IsPresent (arrivals ++ arrival ∷ []) t n → IsPresent arrivals t n
+present_before : (arrivals : List ℕ) (arrival t n : ℕ) → t < arrival → IsPresent (arrivals ++ arrival ∷ []) t n
+    → IsPresent arrivals t n
 present_before [] arrival t zero lt is = let le : arrival ≤ t = is in absurd (omega arith)
 present_before [] arrival t (suc n) lt is = absurd is
 present_before (a ∷ rest) arrival t zero lt is = is
 present_before (a ∷ rest) arrival t (suc n) lt is = present_before rest arrival t n lt is
 
 -- what a tick shows of the pods
-shows_each : (at : ℕ) (written : TickLine) (es : List PlacedEntry) (pods : List PodSpec) (arrivals : List ℕ) (t : ℕ) → AreArrivals (length pods) t arrivals → ShowsEach pods arrivals t (observed at written es pods)
+shows_each : (at : ℕ) (written : TickLine) (es : List PlacedEntry) (pods : List PodSpec) (arrivals : List ℕ) (t : ℕ)
+    → AreArrivals (length pods) t arrivals → ShowsEach pods arrivals t (observed at written es pods)
 shows_each at written es pods arrivals t all = record {
   present = λ n. (
     λ lt. present_all arrivals t n all.in_range (omega (arith, as_many at es 0 pods, all.as_many)),
@@ -69,7 +74,8 @@ shows_each at written es pods arrivals t all = record {
 }
 
 -- a tick shows what it did after one pod more, which arrives later
-shows_more : (pods : List PodSpec) (arrivals : List ℕ) (t : ℕ) (tick : TickObs) (pod : PodSpec) (arrival : ℕ) → t < arrival → length arrivals ≡ length pods
+shows_more : (pods : List PodSpec) (arrivals : List ℕ) (t : ℕ) (tick : TickObs) (pod : PodSpec) (arrival : ℕ)
+    → t < arrival → length arrivals ≡ length pods
     → ShowsEach pods arrivals t tick → ShowsEach (pods ++ pod ∷ []) (arrivals ++ arrival ∷ []) t tick
 shows_more pods arrivals t tick pod arrival lt as_many all = record {
   present = λ n. (
@@ -86,7 +92,8 @@ shows_more pods arrivals t tick pod arrival lt as_many all = record {
 }
 
 -- the arrivals with one more, after all ticks
-arrivals_more : (pods ticks : ℕ) (arrivals : List ℕ) → AreArrivals pods ticks arrivals → AreArrivals (pods + 1) ticks (arrivals ++ ticks ∷ [])
+arrivals_more : (pods ticks : ℕ) (arrivals : List ℕ) → AreArrivals pods ticks arrivals
+    → AreArrivals (pods + 1) ticks (arrivals ++ ticks ∷ [])
 arrivals_more pods ticks arrivals all = record {
   as_many = omega (arith, length-append arrivals (ticks ∷ []), all.as_many);
   in_range = λ n arrival here. elim (pushed_at arrivals ticks arrival n here) [
@@ -106,7 +113,8 @@ arrivals_more pods ticks arrivals all = record {
 }
 
 -- the pods' keys stay apart
-apart_more : (pods : List PodSpec) (pod : PodSpec) → HaveOwnKeys pods → (HasKey pods (key_of_pod pod) → ⊥) → HaveOwnKeys (pods ++ pod ∷ [])
+apart_more : (pods : List PodSpec) (pod : PodSpec) → HaveOwnKeys pods → (HasKey pods (key_of_pod pod) → ⊥)
+    → HaveOwnKeys (pods ++ pod ∷ [])
 apart_more pods pod own new n m p q here there same = elim (pushed_at pods pod p n here) [
   | inl a ↦ elim (pushed_at pods pod q m there) [
     | inl b ↦ own n m p q a b same
@@ -129,7 +137,8 @@ line_keeps past line _ all (says_pod d pod is new) = record {
       shows_more past.pods past.arrivals t tick pod (length past.ticks) lt all.arrived.as_many (all.shown t tick here);
   arrived =
       let more : length past.pods + 1 ≡ length (past.pods ++ pod ∷ []) = sym (length-append past.pods (pod ∷ [])) in
-      subst (λ (n : ℕ). AreArrivals n (length past.ticks) (past.arrivals ++ length past.ticks ∷ [])) more (arrivals_more (length past.pods) (length past.ticks) past.arrivals all.arrived);
+      subst (λ (n : ℕ). AreArrivals n (length past.ticks) (past.arrivals ++ length past.ticks ∷ [])) more
+      (arrivals_more (length past.pods) (length past.ticks) past.arrivals all.arrived);
   below = all.below;
   rising = all.rising;
   few_ticks = all.few_ticks;
@@ -144,16 +153,19 @@ line_keeps past line _ all (says_tick d at written placed is coded) =
         | inl before ↦ all.shown t tick before
         | inr last ↦
             let here = shows_each at written placed past.pods past.arrivals (length past.ticks) all.arrived in
-            subst (λ (u : ℕ). ShowsEach past.pods past.arrivals u tick) (sym last.0) (subst (ShowsEach past.pods past.arrivals (length past.ticks)) last.1 here)
+            subst (λ (u : ℕ). ShowsEach past.pods past.arrivals u tick) (sym last.0)
+            (subst (ShowsEach past.pods past.arrivals (length past.ticks)) last.1 here)
       ];
       arrived = record {
         as_many = all.arrived.as_many;
-        in_range = λ n arrival e. let le = all.arrived.in_range n arrival e in omega (arith, length-append past.ticks (now ∷ []));
+        in_range = λ n arrival e. let le = all.arrived.in_range n arrival e in
+            omega (arith, length-append past.ticks (now ∷ []));
         in_order = all.arrived.in_order;
       };
       below = λ t tick here. elim (pushed_at past.ticks now tick t here) [
         | inl before ↦ all.below t tick before
-        | inr last ↦ subst (λ (o : TickObs). o.at < 2 ^ 40) last.1 (moment_low past.ticks (field_at (codes "at") d) at has.moment)
+        | inr last ↦ subst (λ (o : TickObs). o.at < 2 ^ 40) last.1
+            (moment_low past.ticks (field_at (codes "at") d) at has.moment)
       ];
       rising = rising-more past.ticks now all.rising (moment_later past.ticks (field_at (codes "at") d) at has.moment);
       few_ticks = one_more past.ticks now most_ticks has.room;
@@ -165,7 +177,12 @@ kept : IsKept IsShaped
 kept = record {
   first = record {
     shown = λ t tick here. absurd (cc);
-    arrived = record { as_many = refl; in_range = λ n arrival e. absurd (cc); in_order = λ n m earlier later le e f. absurd (cc) };
+    arrived = record {
+      as_many = refl;
+      in_range = λ n arrival e. absurd (cc);
+      in_order =
+          λ n m earlier later le e f. absurd (cc);
+    };
     below = λ t tick here. absurd (cc);
     rising = λ t u x y lt e f. absurd (cc);
     few_ticks = omega arith;
@@ -176,6 +193,7 @@ kept = record {
 }
 
 -- what a call answers that gives this trace
-pub given_shape : (text : List ℕ) (answer : Result Trace LineFault) → GivesAt (λ t. t) answer (trace_of text) → IfOk answer (λ t. HasShape t.pods t.arrivals t.ticks)
+pub given_shape : (text : List ℕ) (answer : Result Trace LineFault) → GivesAt (λ t. t) answer (trace_of text)
+    → IfOk answer (λ t. HasShape t.pods t.arrivals t.ticks)
 given_shape text (Ok trace) given = of_trace IsShaped kept text trace given
 given_shape text (Err fault) given = tt

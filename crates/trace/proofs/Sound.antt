@@ -1,5 +1,6 @@
 -- The ticks of a trace are acceptable, and their moments rise.
-use Rattle.std.proofs.Common.{◌≡◌, ℕ, ◌+◌, false, true, List, [], ◌∷◌, ◌++◌, Option, Some, None, Result, Ok, Err, refl, sym, subst, arith}
+use Rattle.std.proofs.Common.{◌≡◌, ℕ, ◌+◌, false, true, List, [], ◌∷◌, ◌++◌, Option, Some, None, Result, Ok, Err}
+use Rattle.std.proofs.Common.{refl, sym, subst, arith}
 use Rattle.std.specs.Prelude.{codes, IfOk}
 use Rattle.histories.specs.Histories.{recorded}
 use Rattle.json_fields.specs.Fields.{field_at}
@@ -30,7 +31,8 @@ record IsSound (past : Past) : Type 0 where
   pub rising : AreRising past.ticks
 
 -- ticks that are acceptable, and one more that doesn't go back behind them
-tick_acceptable : (ticks : List TickObs) (tick : TickObs) → AreAcceptable ticks → is_backwards ticks tick ≡ false → AreAcceptable (ticks ++ tick ∷ [])
+tick_acceptable : (ticks : List TickObs) (tick : TickObs) → AreAcceptable ticks → is_backwards ticks tick ≡ false
+    → AreAcceptable (ticks ++ tick ∷ [])
 tick_acceptable ticks tick all e pod container = after (shown_of tick pod) refl
   where
     h : List Tick
@@ -39,14 +41,18 @@ tick_acceptable ticks tick all e pod container = after (shown_of tick pod) refl
     here : is_acceptable h (seen_of tick pod container) ≡ true
     here =
         let zeroth : 0 + pod ≡ pod = omega arith in
-        subst (λ (k : ℕ). is_acceptable (history ticks k container) (seen_of tick pod container) ≡ true) zeroth (pods_forwards ticks 0 tick.pods e pod container)
+        subst (λ (k : ℕ). is_acceptable (history ticks k container) (seen_of tick pod container) ≡ true) zeroth
+        (pods_forwards ticks 0 tick.pods e pod container)
 
-    after : (o : Option PodObs) → shown_of tick pod ≡ o → IsAcceptableHistory (history (ticks ++ tick ∷ []) pod container)
+    after : (o : Option PodObs) → shown_of tick pod ≡ o
+        → IsAcceptableHistory (history (ticks ++ tick ∷ []) pod container)
     after None none = subst IsAcceptableHistory (sym (history_rests ticks tick pod container none)) (all pod container)
     after (Some shown) is =
         let listed = listed_in shown container in
-        let accepted : is_acceptable h listed ≡ true = subst (λ (o : Option Seen). is_acceptable h o ≡ true) (seen_shown tick pod container shown is) here in
-        let next = acceptable_more h (recorded shown.at listed) (all pod container) ((is_acceptable_is h listed).0 accepted) in
+        let accepted : is_acceptable h listed ≡ true =
+        subst (λ (o : Option Seen). is_acceptable h o ≡ true) (seen_shown tick pod container shown is) here in
+        let next = acceptable_more h (recorded shown.at listed) (all pod container)
+        ((is_acceptable_is h listed).0 accepted) in
         subst IsAcceptableHistory (sym (history_shown ticks tick pod container shown is)) next
 
 line_sound : (past : Past) (line : List ℕ) (next : Past) → IsSound past → Says past line next → IsSound next
@@ -54,8 +60,13 @@ line_sound past line _ all (says_node d node is e) = record { acceptable = all.a
 line_sound past line _ all (says_pod d pod is new) = record { acceptable = all.acceptable; rising = all.rising }
 line_sound past line _ all (says_tick d at written placed is coded) =
     let tick = observed at written placed past.pods in
-    let later = moment_later past.ticks (field_at (codes "at") d) at is.is_apart.has_places.has_written.has_moment.moment in
-    record { acceptable = tick_acceptable past.ticks tick all.acceptable is.forwards; rising = rising-more past.ticks tick all.rising later }
+    let later = moment_later past.ticks (field_at (codes "at") d) at
+    is.is_apart.has_places.has_written.has_moment.moment in
+    record {
+      acceptable = tick_acceptable past.ticks tick all.acceptable is.forwards;
+      rising =
+          rising-more past.ticks tick all.rising later;
+    }
 
 kept : IsKept IsSound
 kept = record {
@@ -64,10 +75,12 @@ kept = record {
 }
 
 -- what a call answers that gives this trace
-pub given_acceptable : (text : List ℕ) (answer : Result Trace LineFault) → GivesAt (λ t. t) answer (trace_of text) → IfOk answer (λ t. AreAcceptable t.ticks)
+pub given_acceptable : (text : List ℕ) (answer : Result Trace LineFault) → GivesAt (λ t. t) answer (trace_of text)
+    → IfOk answer (λ t. AreAcceptable t.ticks)
 given_acceptable text (Ok trace) given = (of_trace IsSound kept text trace given).acceptable
 given_acceptable text (Err fault) given = tt
 
-pub given_rising : (text : List ℕ) (answer : Result Trace LineFault) → GivesAt (λ t. t) answer (trace_of text) → IfOk answer (λ t. AreRising t.ticks)
+pub given_rising : (text : List ℕ) (answer : Result Trace LineFault) → GivesAt (λ t. t) answer (trace_of text)
+    → IfOk answer (λ t. AreRising t.ticks)
 given_rising text (Ok trace) given = (of_trace IsSound kept text trace given).rising
 given_rising text (Err fault) given = tt

@@ -10,6 +10,7 @@ no_node None none = refl
 no_node (Some node) none = absurd (cc)
 
 -- with one there is
-pub some_node : (node : Option NodeConfig) (version : Version) → option_map (λ (n : NodeConfig). n.version) node ≡ Some version → is_some node ≡ true
+pub some_node : (node : Option NodeConfig) (version : Version) → option_map (λ (n : NodeConfig). n.version) node
+    ≡ Some version → is_some node ≡ true
 some_node None version is = absurd (cc)
 some_node (Some node) version is = refl

@@ -1,10 +1,14 @@
 -- What the trace of a text is, in the words of its format. The lines of a text have the places 0,
 -- 1, .. and, in an answer, the numbers 1, 2, ...
-use Rattle.std.specs.Prelude.{◌≡◌, ◌≢◌, ◌⊎◌, ◌↔◌, ◌+◌, ◌≤◌, ◌<◌, ℕ, zero, suc, true, false, List, [], length, slice_get, Option, Some, None, is_some, option_and_then, IsSomeAnd, Ok, Err, codes}
+use Rattle.std.specs.Prelude.{◌≡◌, ◌≢◌, ◌⊎◌, ◌↔◌, ◌+◌, ◌≤◌, ◌<◌, ℕ, zero, suc, true, false, List, [], length}
+use Rattle.std.specs.Prelude.{slice_get, Option, Some, None, is_some, option_and_then, IsSomeAnd, Ok, Err, codes}
 use Rattle.serde_json.specs.Data.{Data}
 use Rattle.json_fields.specs.Fields.{field_at, text_at}
 use Rattle.trace.specs.declared.fault.FaultKind.{FaultKind}
-use Rattle.trace.specs.declared.fault.FaultKind.TheVariants.{TooLong, NotJson, UnknownKind, Order, Manifest, Config, SoftWithoutGrace, DuplicatePod, StrangerPod, StrangerContainer, Doubled, Moment, Backwards, ExitCode, TooMany, Usage, OutOfMemory}
+use Rattle.trace.specs.declared.fault.FaultKind.TheVariants.{TooLong, NotJson, UnknownKind, Order, Manifest, Config}
+use Rattle.trace.specs.declared.fault.FaultKind.TheVariants.{SoftWithoutGrace, DuplicatePod, StrangerPod}
+use Rattle.trace.specs.declared.fault.FaultKind.TheVariants.{StrangerContainer, Doubled, Moment, Backwards, ExitCode}
+use Rattle.trace.specs.declared.fault.FaultKind.TheVariants.{TooMany, Usage, OutOfMemory}
 use Rattle.trace.specs.declared.fault.LineFault.{LineFault}
 use Rattle.trace.specs.declared.past.Trace.{Trace}
 use Rattle.trace.specs.declared.past.LineKind.{LineKind}
@@ -50,12 +54,14 @@ use Rattle.trace.specs.Trace.{json_of, kind_from, line_at, nothing, trace_of}
 -- after what is said before it, the line leaves this said: a blank line adds nothing, any other
 -- line counts and has no fault
 abbrev pub Leaves : Past → List ℕ → Past → Type 0
-Leaves before line past = ((is_blank line ≡ true) × (past ≡ before)) ⊎ ((is_blank line ≡ false) × (line_at before line ≡ Ok past))
+Leaves before line past = ((is_blank line ≡ true) × (past ≡ before))
+    ⊎ ((is_blank line ≡ false) × (line_at before line ≡ Ok past))
 
 -- the first n lines say this, and none of them that counts has a fault
 abbrev pub AreSaid : List (List ℕ) → ℕ → Past → Type 0
 AreSaid lines zero past = past ≡ nothing
-AreSaid lines (suc n) past = (before : Past) × (line : List ℕ) × AreSaid lines n before × (slice_get lines n ≡ Some line) × Leaves before line past
+AreSaid lines (suc n) past = (before : Past) × (line : List ℕ) × AreSaid lines n before
+    × (slice_get lines n ≡ Some line) × Leaves before line past
 
 -- the line at place n counts and has a fault, its first of this kind, and no line before it has one
 pub record IsFaultAt (lines : List (List ℕ)) (n : ℕ) (kind : FaultKind) : Type 0 where
@@ -97,8 +103,10 @@ WholeTrace = (text : List ℕ) (trace : Trace) → (trace_of text ≡ Ok trace �
 
 -- the first lines say one thing at most, and at most one line has the first fault
 pub record OneFault : Type 0 where
-  pub said : (lines : List (List ℕ)) (n : ℕ) (past past' : Past) → AreSaid lines n past → AreSaid lines n past' → past ≡ past'
-  pub fault : (lines : List (List ℕ)) (n m : ℕ) (kind kind' : FaultKind) → IsFaultAt lines n kind → IsFaultAt lines m kind' → (n ≡ m) × (kind ≡ kind')
+  pub said : (lines : List (List ℕ)) (n : ℕ) (past past' : Past) → AreSaid lines n past → AreSaid lines n past'
+      → past ≡ past'
+  pub fault : (lines : List (List ℕ)) (n m : ℕ) (kind kind' : FaultKind) → IsFaultAt lines n kind
+      → IsFaultAt lines m kind' → (n ≡ m) × (kind ≡ kind')
 
 -- the line is at most 1 MiB long, and it is this JSON value
 pub record IsJson (line : List ℕ) (d : Data) : Type 0 where
@@ -148,17 +156,20 @@ pub record HasWritten (past : Past) (line : List ℕ) (d : Data) (at : ℕ) (wri
   pub written_is : tick_line_in d ≡ Ok written
 
 -- whose entries are of pods and containers that are known
-pub record HasPlaces (past : Past) (line : List ℕ) (d : Data) (at : ℕ) (written : TickLine) (placed : List PlacedEntry) : Type 0 where
+pub record HasPlaces (past : Past) (line : List ℕ) (d : Data) (at : ℕ) (written : TickLine)
+    (placed : List PlacedEntry) : Type 0 where
   pub has_written : HasWritten past line d at written
   pub placed_are : placed_of past.pods written.entries ≡ Ok placed
 
 -- no two of them are of one pod, and none has a container or a probe twice
-pub record IsApart (past : Past) (line : List ℕ) (d : Data) (at : ℕ) (written : TickLine) (placed : List PlacedEntry) : Type 0 where
+pub record IsApart (past : Past) (line : List ℕ) (d : Data) (at : ℕ) (written : TickLine)
+    (placed : List PlacedEntry) : Type 0 where
   pub has_places : HasPlaces past line d at written placed
   pub apart : is_doubled placed ≡ false
 
 -- and none of them goes back behind an earlier one
-pub record IsForwards (past : Past) (line : List ℕ) (d : Data) (at : ℕ) (written : TickLine) (placed : List PlacedEntry) : Type 0 where
+pub record IsForwards (past : Past) (line : List ℕ) (d : Data) (at : ℕ) (written : TickLine)
+    (placed : List PlacedEntry) : Type 0 where
   pub is_apart : IsApart past line d at written placed
   pub forwards : is_backwards past.ticks (observed at written placed past.pods) ≡ false
 
@@ -168,18 +179,29 @@ pub data Fails (past : Past) (line : List ℕ) : FaultKind → Type 0 where
   too_long : longest_line < length line → Fails past line TooLong
   not_json : (kind : FaultKind) → length line ≤ longest_line → json_of line ≡ Err kind → Fails past line kind
   unknown_kind : (d : Data) → IsJson line d → kind_from (text_at (codes "kind") d) ≡ None → Fails past line UnknownKind
-  misplaced : (line_kind : LineKind) (d : Data) → IsOfKind line line_kind d → (MayStand past line_kind → ⊥) → Fails past line Order
-  wrong_node : (d : Data) (kind : FaultKind) → Stands past line kinds.Node d → node_in d ≡ Err kind → Fails past line kind
+  misplaced : (line_kind : LineKind) (d : Data) → IsOfKind line line_kind d → (MayStand past line_kind → ⊥)
+      → Fails past line Order
+  wrong_node : (d : Data) (kind : FaultKind) → Stands past line kinds.Node d → node_in d ≡ Err kind
+      → Fails past line kind
   many_pods : (d : Data) → Stands past line kinds.Pod d → most_pods ≤ length past.pods → Fails past line TooMany
-  wrong_pod : (d : Data) (kind : FaultKind) → Stands past line kinds.Pod d → length past.pods < most_pods → pod_from (field_at (codes "pod") d) ≡ Err kind → Fails past line kind
-  duplicate_pod : (d : Data) (pod : PodSpec) → HasPod past line d pod → HasKey past.pods (key_of_pod pod) → Fails past line DuplicatePod
+  wrong_pod : (d : Data) (kind : FaultKind) → Stands past line kinds.Pod d → length past.pods < most_pods
+      → pod_from (field_at (codes "pod") d) ≡ Err kind → Fails past line kind
+  duplicate_pod : (d : Data) (pod : PodSpec) → HasPod past line d pod → HasKey past.pods (key_of_pod pod)
+      → Fails past line DuplicatePod
   many_ticks : (d : Data) → Stands past line kinds.Tick d → most_ticks ≤ length past.ticks → Fails past line TooMany
-  wrong_moment : (d : Data) (kind : FaultKind) → Stands past line kinds.Tick d → length past.ticks < most_ticks → moment_of past.ticks (field_at (codes "at") d) ≡ Err kind → Fails past line kind
-  wrong_field : (d : Data) (at : ℕ) (kind : FaultKind) → HasMoment past line d at → tick_line_in d ≡ Err kind → Fails past line kind
-  stranger : (d : Data) (at : ℕ) (written : TickLine) (kind : FaultKind) → HasWritten past line d at written → placed_of past.pods written.entries ≡ Err kind → Fails past line kind
-  doubled : (d : Data) (at : ℕ) (written : TickLine) (placed : List PlacedEntry) → HasPlaces past line d at written placed → is_doubled placed ≡ true → Fails past line Doubled
-  backwards : (d : Data) (at : ℕ) (written : TickLine) (placed : List PlacedEntry) → IsApart past line d at written placed → is_backwards past.ticks (observed at written placed past.pods) ≡ true → Fails past line Backwards
-  no_code : (d : Data) (at : ℕ) (written : TickLine) (placed : List PlacedEntry) → IsForwards past line d at written placed → some_code_missing placed ≡ true → Fails past line ExitCode
+  wrong_moment : (d : Data) (kind : FaultKind) → Stands past line kinds.Tick d → length past.ticks < most_ticks
+      → moment_of past.ticks (field_at (codes "at") d) ≡ Err kind → Fails past line kind
+  wrong_field : (d : Data) (at : ℕ) (kind : FaultKind) → HasMoment past line d at → tick_line_in d ≡ Err kind
+      → Fails past line kind
+  stranger : (d : Data) (at : ℕ) (written : TickLine) (kind : FaultKind) → HasWritten past line d at written
+      → placed_of past.pods written.entries ≡ Err kind → Fails past line kind
+  doubled : (d : Data) (at : ℕ) (written : TickLine) (placed : List PlacedEntry)
+      → HasPlaces past line d at written placed → is_doubled placed ≡ true → Fails past line Doubled
+  backwards : (d : Data) (at : ℕ) (written : TickLine) (placed : List PlacedEntry)
+      → IsApart past line d at written placed → is_backwards past.ticks (observed at written placed past.pods) ≡ true
+      → Fails past line Backwards
+  no_code : (d : Data) (at : ℕ) (written : TickLine) (placed : List PlacedEntry)
+      → IsForwards past line d at written placed → some_code_missing placed ≡ true → Fails past line ExitCode
 
 -- a line's fault is that of the first check that it fails
 abbrev pub FirstCheck : Type 0
@@ -187,9 +209,13 @@ FirstCheck = (past : Past) (line : List ℕ) (kind : FaultKind) → (line_at pas
 
 -- what is said after a line that passes all its checks
 pub data Says (past : Past) (line : List ℕ) : Past → Type 0 where
-  says_node : (d : Data) (node : NodeConfig) → Stands past line kinds.Node d → node_in d ≡ Ok node → Says past line (of_node past node)
-  says_pod : (d : Data) (pod : PodSpec) → HasPod past line d pod → (HasKey past.pods (key_of_pod pod) → ⊥) → Says past line (with_pod past pod)
-  says_tick : (d : Data) (at : ℕ) (written : TickLine) (placed : List PlacedEntry) → IsForwards past line d at written placed → some_code_missing placed ≡ false → Says past line (with_tick past (observed at written placed past.pods))
+  says_node : (d : Data) (node : NodeConfig) → Stands past line kinds.Node d → node_in d ≡ Ok node
+      → Says past line (of_node past node)
+  says_pod : (d : Data) (pod : PodSpec) → HasPod past line d pod → (HasKey past.pods (key_of_pod pod) → ⊥)
+      → Says past line (with_pod past pod)
+  says_tick : (d : Data) (at : ℕ) (written : TickLine) (placed : List PlacedEntry)
+      → IsForwards past line d at written placed → some_code_missing placed ≡ false
+      → Says past line (with_tick past (observed at written placed past.pods))
 
 -- a line without a fault says its node, its pod or its tick, behind what is said before it
 abbrev pub AllChecks : Type 0
@@ -199,10 +225,13 @@ AllChecks = (past : Past) (line : List ℕ) (next : Past) → (line_at past line
 pub record KindsOfChecks : Type 0 where
   pub json : (line : List ℕ) (kind : FaultKind) → json_of line ≡ Err kind → kind ≡ NotJson
   pub node : (d : Data) (kind : FaultKind) → node_in d ≡ Err kind → (kind ≡ Config) ⊎ (kind ≡ SoftWithoutGrace)
-  pub pod : (found : Option Data) (kind : FaultKind) → pod_from found ≡ Err kind → (fault : ManifestFault) × (kind ≡ Manifest fault)
-  pub moment : (ticks : List TickObs) (found : Option Data) (kind : FaultKind) → moment_of ticks found ≡ Err kind → kind ≡ Moment
+  pub pod : (found : Option Data) (kind : FaultKind) → pod_from found ≡ Err kind → (fault : ManifestFault)
+      × (kind ≡ Manifest fault)
+  pub moment : (ticks : List TickObs) (found : Option Data) (kind : FaultKind) → moment_of ticks found ≡ Err kind
+      → kind ≡ Moment
   pub tick : (d : Data) (kind : FaultKind) → tick_line_in d ≡ Err kind → kind ≡ Usage
-  pub places : (pods : List PodSpec) (es : List Entry) (kind : FaultKind) → placed_of pods es ≡ Err kind → (kind ≡ StrangerPod) ⊎ (kind ≡ StrangerContainer)
+  pub places : (pods : List PodSpec) (es : List Entry) (kind : FaultKind) → placed_of pods es ≡ Err kind
+      → (kind ≡ StrangerPod) ⊎ (kind ≡ StrangerContainer)
 
 -- an entry names a pod that isn't known
 pub record NamesStranger (pods : List PodSpec) (es : List Entry) : Type 0 where
@@ -235,35 +264,43 @@ pub record NamesStrangerContainer (pods : List PodSpec) (es : List Entry) : Type
 -- every pod of the line has to be known before any of its containers is looked for
 pub record Strangers : Type 0 where
   pub pod : (pods : List PodSpec) (es : List Entry) → (placed_of pods es ≡ Err StrangerPod ↔ NamesStranger pods es)
-  pub container : (pods : List PodSpec) (es : List Entry) → (placed_of pods es ≡ Err StrangerContainer ↔ ((NamesStranger pods es → ⊥) × NamesStrangerContainer pods es))
+  pub container : (pods : List PodSpec) (es : List Entry)
+      → (placed_of pods es ≡ Err StrangerContainer ↔ ((NamesStranger pods es → ⊥) × NamesStrangerContainer pods es))
 
 -- one of the results is of this probe of the container with the number, and has this outcome
 abbrev pub IsGiven : List PlacedResult → ℕ → ProbeKind → Outcome → Type 0
-IsGiven rs n probe outcome = (m : ℕ) × (slice_get rs m ≡ Some (record { container = n; probe = probe; outcome = outcome }))
+IsGiven rs n probe outcome = (m : ℕ)
+    × (slice_get rs m ≡ Some (record { container = n; probe = probe; outcome = outcome }))
 
 -- where no probe has two results, what is shown of a probe is exactly the result that is given,
 -- wherever it stands
 abbrev pub ResultsShown : Type 0
-ResultsShown = (rs : List PlacedResult) (n : ℕ) (probe : ProbeKind) (outcome : Outcome) → has_twice are_of_one_probe rs ≡ false
+ResultsShown = (rs : List PlacedResult) (n : ℕ) (probe : ProbeKind) (outcome : Outcome)
+    → has_twice are_of_one_probe rs ≡ false
     → (outcome_in rs n probe ≡ Some outcome ↔ IsGiven rs n probe outcome)
 
 -- one of the listings is of the container with the number, and says this
 abbrev pub IsListed : List PlacedListing → ℕ → Seen → Type 0
-IsListed ls n seen = (m : ℕ) × (instance : ListedInstance) × (slice_get ls m ≡ Some (record { container = n; instance = instance })) × (seen_listed instance ≡ seen)
+IsListed ls n seen = (m : ℕ) × (instance : ListedInstance)
+    × (slice_get ls m ≡ Some (record { container = n; instance = instance })) × (seen_listed instance ≡ seen)
 
 -- one of the entries is of the pod with the number, and lists this of its container
 abbrev pub Lists : List PlacedEntry → ℕ → ℕ → Seen → Type 0
-Lists es pod container seen = (k : ℕ) × (entry : PlacedEntry) × (slice_get es k ≡ Some entry) × (entry.pod ≡ pod) × IsListed entry.listings container seen
+Lists es pod container seen = (k : ℕ) × (entry : PlacedEntry) × (slice_get es k ≡ Some entry) × (entry.pod ≡ pod)
+    × IsListed entry.listings container seen
 
 -- where no pod and no container is listed twice, what a tick shows of a container is exactly what
 -- its line lists, wherever it stands
 abbrev pub ListingsShown : Type 0
-ListingsShown = (at : ℕ) (written : TickLine) (es : List PlacedEntry) (pods : List PodSpec) (n c : ℕ) (pod : PodSpec) (seen : Seen) → is_doubled es ≡ false
-    → slice_get pods n ≡ Some pod → c < length pod.containers → (seen_of (observed at written es pods) n c ≡ Some seen ↔ Lists es n c seen)
+ListingsShown = (at : ℕ) (written : TickLine) (es : List PlacedEntry) (pods : List PodSpec) (n c : ℕ) (pod : PodSpec)
+    (seen : Seen) → is_doubled es ≡ false
+    → slice_get pods n ≡ Some pod → c < length pod.containers
+    → (seen_of (observed at written es pods) n c ≡ Some seen ↔ Lists es n c seen)
 
 -- one of the entries is of the pod with the number, and tells this use
 abbrev pub Tells : List PlacedEntry → ℕ → PodUsage → Type 0
-Tells es pod usage = (k : ℕ) × (entry : PlacedEntry) × (slice_get es k ≡ Some entry) × (entry.pod ≡ pod) × (entry.usage ≡ Some usage)
+Tells es pod usage = (k : ℕ) × (entry : PlacedEntry) × (slice_get es k ≡ Some entry) × (entry.pod ≡ pod)
+    × (entry.usage ≡ Some usage)
 
 -- what the tick shows of the use of the pod with the number
 abbrev pub usage_shown_of : TickObs → ℕ → Option PodUsage
@@ -272,15 +309,19 @@ usage_shown_of tick n = option_and_then (λ (p : PodObs). p.usage) (slice_get ti
 -- where no pod is listed twice, what a tick shows of a pod's use is exactly what the pod's entry
 -- tells, wherever it stands
 abbrev pub UsageShown : Type 0
-UsageShown = (at : ℕ) (written : TickLine) (es : List PlacedEntry) (pods : List PodSpec) (n : ℕ) (pod : PodSpec) (usage : PodUsage) → has_twice are_of_one_pod es ≡ false
+UsageShown = (at : ℕ) (written : TickLine) (es : List PlacedEntry) (pods : List PodSpec) (n : ℕ) (pod : PodSpec)
+    (usage : PodUsage) → has_twice are_of_one_pod es ≡ false
     → slice_get pods n ≡ Some pod → (usage_shown_of (observed at written es pods) n ≡ Some usage ↔ Tells es n usage)
 
 -- what a tick shows of a signal is exactly the quantity that its line has under the signal's name
 pub record SignalsShown : Type 0 where
-  pub signals : (d : Data) (at : ℕ) (written : TickLine) (placed : List PlacedEntry) (pods : List PodSpec) (signal : Signal) → tick_line_in d ≡ Ok written
+  pub signals : (d : Data) (at : ℕ) (written : TickLine) (placed : List PlacedEntry) (pods : List PodSpec)
+      (signal : Signal) → tick_line_in d ≡ Ok written
       → IsSample (field_at (codes "signals") d) (name_of signal) (of (observed at written placed pods).signals signal)
-  pub after_reclaim : (d : Data) (at : ℕ) (written : TickLine) (placed : List PlacedEntry) (pods : List PodSpec) (signal : Signal) → tick_line_in d ≡ Ok written
-      → IsSample (field_at (codes "afterReclaim") d) (name_of signal) (of (observed at written placed pods).after_reclaim signal)
+  pub after_reclaim : (d : Data) (at : ℕ) (written : TickLine) (placed : List PlacedEntry) (pods : List PodSpec)
+      (signal : Signal) → tick_line_in d ≡ Ok written
+      → IsSample (field_at (codes "afterReclaim") d) (name_of signal)
+      (of (observed at written placed pods).after_reclaim signal)
 
 -- of some container of some pod, both by number, the tick has a listing that may not come after all
 -- those of the earlier ticks

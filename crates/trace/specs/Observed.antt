@@ -1,5 +1,6 @@
 -- What the entries of a tick line show of every pod and container.
-use Rattle.std.specs.Prelude.{ℕ, ◌+◌, ◌==◌, ◌&&◌, Bool, List, [], ◌∷◌, Option, Some, None, is_none, unwrap_or, if◌then◌else◌, pos, refl}
+use Rattle.std.specs.Prelude.{ℕ, ◌+◌, ◌==◌, ◌&&◌, Bool, List, [], ◌∷◌, Option, Some, None, is_none, unwrap_or}
+use Rattle.std.specs.Prelude.{if◌then◌else◌, pos, refl}
 use Rattle.std.specs.List.{list_any}
 use Rattle.manifest.specs.declared.pod.ContainerSpec.{ContainerSpec}
 use Rattle.manifest.specs.declared.pod.PodSpec.{PodSpec}
@@ -24,7 +25,13 @@ use Rattle.trace.specs.Placing.{is_of_probe}
 abbrev pub seen_as : CriState → ListedInstance → Seen
 seen_as Created r = record { attempt = r.attempt; state = Created; code = None; code_given = refl }
 seen_as Running r = record { attempt = r.attempt; state = Running; code = None; code_given = refl }
-seen_as Exited r = record { attempt = r.attempt; state = Exited; code = Some (unwrap_or r.code (pos 0)); code_given = refl }
+seen_as Exited r = record {
+  attempt = r.attempt;
+  state = Exited;
+  code = Some (unwrap_or r.code (pos 0));
+  code_given =
+      refl;
+}
 seen_as Unknown r = record { attempt = r.attempt; state = Unknown; code = None; code_given = refl }
 
 -- the instance that a listing says; while a missing exit code isn't refused yet, 0 stands in its
@@ -49,7 +56,8 @@ results_in rs n = outcome_in rs n Startup ∷ outcome_in rs n Liveness ∷ outco
 -- what the listings and results say of each of the containers, numbered from n on
 abbrev pub containers_from : List PlacedListing → List PlacedResult → ℕ → List ContainerSpec → List ContainerObs
 containers_from ls rs n [] = []
-containers_from ls rs n (c ∷ cs) = record { seen = seen_in ls n; results = results_in rs n } ∷ containers_from ls rs (n + 1) cs
+containers_from ls rs n (c ∷ cs) =
+    record { seen = seen_in ls n; results = results_in rs n } ∷ containers_from ls rs (n + 1) cs
 
 -- the entry of the pod with the number
 abbrev pub entry_for : List PlacedEntry → ℕ → Option PlacedEntry

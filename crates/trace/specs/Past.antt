@@ -1,9 +1,10 @@
 -- What the lines so far say.
-use Rattle.std.specs.Prelude.{ℕ, List, [], ◌∷◌, ◌++◌, length, Option, Some, option_map}
+use Rattle.std.specs.Prelude.{◌≡◌, ℕ, List, [], ◌∷◌, ◌++◌, length, Option, Some, option_map}
 use Rattle.manifest.specs.declared.pod.PodSpec.{PodSpec}
 use Rattle.node_config.specs.declared.node.NodeConfig.{NodeConfig}
 use Rattle.node_config.specs.declared.node.Version.{Version}
 use Rattle.observations.specs.declared.tick.TickObs.{TickObs}
+use Rattle.trace.specs.declared.past.Roster.{Roster}
 
 pub record Past : Type 0 where
   pub node : Option NodeConfig
@@ -27,6 +28,12 @@ with_pod past pod = record {
   arrivals = past.arrivals ++ length past.ticks ∷ [];
   ticks = past.ticks;
 }
+
+-- a pod is there behind the others, with its key and the number of ticks before it
+pub record IsEnlisted (old : Roster) (pod : PodSpec) (key : List ℕ) (ticks : ℕ) (next : Roster) : Type 0 where
+  pub pods : next.pods ≡ old.pods ++ pod ∷ []
+  pub arrivals : next.arrivals ≡ old.arrivals ++ ticks ∷ []
+  pub keys : next.keys ≡ old.keys ++ key ∷ []
 
 abbrev pub with_tick : Past → TickObs → Past
 with_tick past tick = record {

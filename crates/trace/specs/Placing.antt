@@ -30,11 +30,13 @@ container_number pod name = some_or StrangerContainer (place_of (names_of pod.co
 
 -- the listing of the pod's container that it names
 abbrev pub placed_listing : PodSpec → Listing → Result PlacedListing FaultKind
-placed_listing pod listing = container_number pod listing.name >>= λ number. Ok (record { container = number; instance = listing.instance })
+placed_listing pod listing = container_number pod listing.name
+    >>= λ number. Ok (record { container = number; instance = listing.instance })
 
 -- the result of the pod's container that it names
 abbrev pub placed_result : PodSpec → ProbeResult → Result PlacedResult FaultKind
-placed_result pod r = container_number pod r.container >>= λ number. Ok (record { container = number; probe = r.probe; outcome = r.outcome })
+placed_result pod r = container_number pod r.container
+    >>= λ number. Ok (record { container = number; probe = r.probe; outcome = r.outcome })
 
 unfoldable pub placed_entry : List (List ℕ) → List PodSpec → Entry → Result PlacedEntry FaultKind
 placed_entry keys pods entry = do

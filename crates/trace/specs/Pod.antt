@@ -1,14 +1,16 @@
 -- What a pod line says.
-use Rattle.std.specs.Prelude.{ℕ, Bool, List, ◌∷◌, ◌++◌, length, map, Option, Some, None, is_some, Result, Ok, Err}
+use Rattle.std.specs.Prelude.{ℕ, ⊤, nat_le, Bool, List, ◌∷◌, ◌++◌, length, map, Option, is_some, Result}
+use Rattle.std.specs.Prelude.{Ok, Err}
 use Rattle.serde_json.specs.Data.{Data}
 use Rattle.manifest.specs.declared.fault.ManifestFault.{ManifestFault}
 use Rattle.manifest.specs.declared.fault.ManifestFault.TheVariants.{Missing}
 use Rattle.manifest.specs.declared.fault.Field.TheVariants as fields
 use Rattle.manifest.specs.declared.pod.PodSpec.{PodSpec}
 use Rattle.manifest.specs.Manifest.{pod_at}
+use Rattle.json_fields.specs.Reading.{◌>>=◌, refused_if, some_or}
 use Rattle.name_list.specs.Names.{place_of}
 use Rattle.trace.specs.declared.fault.FaultKind.{FaultKind}
-use Rattle.trace.specs.declared.fault.FaultKind.TheVariants.{Manifest}
+use Rattle.trace.specs.declared.fault.FaultKind.TheVariants.{Manifest, DuplicatePod, TooMany}
 
 -- a pod's key, NAMESPACE/NAME
 abbrev pub key_of_pod : PodSpec → List ℕ
@@ -24,15 +26,26 @@ container_counts pods = map (λ (p : PodSpec). length p.containers) pods
 abbrev pub most_pods : ℕ
 most_pods = 256
 
+-- there is room for one pod more
+abbrev pub room_for_pod : List PodSpec → Result ⊤ FaultKind
+room_for_pod pods = refused_if (nat_le most_pods (length pods)) TooMany
+
 -- one of the pods has this key
 abbrev pub has_key : List PodSpec → List ℕ → Bool
 has_key pods key = is_some (place_of (keys_of pods) key)
+
+-- none of the pods has this pod's key
+abbrev pub new_key : List PodSpec → PodSpec → Result ⊤ FaultKind
+new_key pods pod = refused_if (has_key pods (key_of_pod pod)) DuplicatePod
 
 abbrev pub of_manifest : {A : Type 0} → Result A ManifestFault → Result A FaultKind
 of_manifest (Ok x) = Ok x
 of_manifest (Err fault) = Err (Manifest fault)
 
--- the pod that the line's manifest describes
+-- the line's manifest
+abbrev pub manifest_of : Option Data → Result Data FaultKind
+manifest_of found = some_or (Manifest (Missing fields.Pod)) found
+
+-- the pod that it describes
 abbrev pub pod_from : Option Data → Result PodSpec FaultKind
-pod_from None = Err (Manifest (Missing fields.Pod))
-pod_from (Some d) = of_manifest (pod_at d)
+pod_from found = manifest_of found >>= λ d. of_manifest (pod_at d)

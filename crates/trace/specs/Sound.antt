@@ -14,7 +14,8 @@ AreAcceptable ticks = (pod container : ℕ) → IsAcceptableHistory (history tic
 
 -- each tick's moment is later than those before it
 abbrev pub AreRising : List TickObs → Type 0
-AreRising ticks = (t u : ℕ) (earlier later : TickObs) → t < u → slice_get ticks t ≡ Some earlier → slice_get ticks u ≡ Some later → earlier.at < later.at
+AreRising ticks = (t u : ℕ) (earlier later : TickObs) → t < u → slice_get ticks t ≡ Some earlier
+    → slice_get ticks u ≡ Some later → earlier.at < later.at
 
 -- the pod with the number is present at tick t: its line stands before it
 abbrev pub IsPresent : List ℕ → ℕ → ℕ → Type 0
@@ -25,12 +26,14 @@ IsPresent arrivals t n = IsSomeAnd (slice_get arrivals n) (λ arrival. arrival �
 pub record ShowsEach (pods : List PodSpec) (arrivals : List ℕ) (t : ℕ) (tick : TickObs) : Type 0 where
   pub present : (n : ℕ) → (n < length tick.pods ↔ IsPresent arrivals t n)
   pub moment : (n : ℕ) (shown : PodObs) → slice_get tick.pods n ≡ Some shown → shown.at ≡ tick.at
-  pub containers : (n : ℕ) (pod : PodSpec) (shown : PodObs) → slice_get pods n ≡ Some pod → slice_get tick.pods n ≡ Some shown
+  pub containers : (n : ℕ) (pod : PodSpec) (shown : PodObs) → slice_get pods n ≡ Some pod
+      → slice_get tick.pods n ≡ Some shown
       → length shown.containers ≡ length pod.containers
 
 -- no two pods have one key
 abbrev pub HaveOwnKeys : List PodSpec → Type 0
-HaveOwnKeys pods = (n m : ℕ) (p q : PodSpec) → slice_get pods n ≡ Some p → slice_get pods m ≡ Some q → key_of_pod p ≡ key_of_pod q → n ≡ m
+HaveOwnKeys pods = (n m : ℕ) (p q : PodSpec) → slice_get pods n ≡ Some p → slice_get pods m ≡ Some q
+    → key_of_pod p ≡ key_of_pod q → n ≡ m
 
 -- each pod arrives once, after ticks that there are, and not before an earlier one
 pub record AreArrivals (pods ticks : ℕ) (arrivals : List ℕ) : Type 0 where

@@ -1,6 +1,7 @@
 -- What a tick line says after the lines before it: each check is made over the whole line before
 -- the next.
-use Rattle.std.specs.Prelude.{ℕ, ◌-◌, ◌^◌, ◌&&◌, Bool, true, List, length, nat_lt, nat_le, slice_get, Option, Some, None, option_and_then, if◌then◌else◌, Result, Ok, Err, codes}
+use Rattle.std.specs.Prelude.{ℕ, ⊤, ◌++◌, ◌∷◌, [], ◌-◌, ◌^◌, ◌&&◌, Bool, true, List, length, nat_lt, nat_le}
+use Rattle.std.specs.Prelude.{slice_get, Option, Some, None, option_and_then, if◌then◌else◌, Result, Ok, Err, codes}
 use Rattle.serde_json.specs.Data.{Data}
 use Rattle.serde_json.specs.Find.{as_number, as_u64}
 use Rattle.json_fields.specs.Fields.{field_at}
@@ -15,6 +16,9 @@ use Rattle.trace.specs.Written.{tick_line_in}
 use Rattle.trace.specs.Placing.{placed_of, is_doubled}
 use Rattle.trace.specs.Observed.{observed, some_code_missing}
 use Rattle.following.specs.Backwards.{is_backwards}
+use Rattle.following.specs.Followed.{HasFollowed}
+use Rattle.following.specs.declared.following.Following.{Following}
+use Rattle.trace.specs.Pod.{container_counts}
 
 abbrev pub most_ticks : ℕ
 most_ticks = 20000
@@ -25,11 +29,25 @@ is_later (Some tick) at = nat_lt tick.at at
 
 abbrev pub moment_from : List TickObs → Option ℕ → Result ℕ FaultKind
 moment_from ticks None = Err Moment
-moment_from ticks (Some at) = if nat_lt at (2 ^ 40) && is_later (slice_get ticks (length ticks - 1)) at then Ok at else Err Moment
+moment_from ticks (Some at) = if nat_lt at (2 ^ 40) && is_later (slice_get ticks (length ticks - 1)) at then Ok at
+    else Err Moment
 
 -- a moment below 2^40, later than the last tick's
 abbrev pub moment_of : List TickObs → Option Data → Result ℕ FaultKind
 moment_of ticks found = moment_from ticks (option_and_then as_u64 (option_and_then as_number found))
+
+-- the moment of a tick line
+abbrev pub moment_in : List TickObs → Data → Result ℕ FaultKind
+moment_in ticks d = moment_of ticks (field_at (codes "at") d)
+
+-- there is room for one tick more
+abbrev pub room_for_tick : List TickObs → Result ⊤ FaultKind
+room_for_tick ticks = refused_if (nat_le most_ticks (length ticks)) TooMany
+
+-- the containers of all pods are followed through the ticks so far, and through this one
+abbrev pub HasFollowedTo : Past → TickObs → Following → Type 0
+HasFollowedTo past tick following =
+    HasFollowed (past.ticks ++ tick ∷ []) (container_counts past.pods) following
 
 -- the tick that the line shows with its entries placed, after the ticks before it
 unfoldable pub observed_in : Past → ℕ → TickLine → List PlacedEntry → Result TickObs FaultKind
@@ -39,11 +57,16 @@ observed_in past at written placed = do
   coded ← refused_if (some_code_missing placed) ExitCode
   Ok (observed at written placed past.pods)
 
-unfoldable pub tick_at : Past → Data → Result Past FaultKind
-tick_at past d = do
-  room ← refused_if (nat_le most_ticks (length past.ticks)) TooMany
-  at ← moment_of past.ticks (field_at (codes "at") d)
+-- the tick that a tick line says after those that say what is past
+unfoldable pub tick_in : Past → Data → Result TickObs FaultKind
+tick_in past d = do
+  room ← room_for_tick past.ticks
+  at ← moment_in past.ticks d
   written ← tick_line_in d
   placed ← placed_of past.pods written.entries
-  tick ← observed_in past at written placed
+  observed_in past at written placed
+
+unfoldable pub tick_at : Past → Data → Result Past FaultKind
+tick_at past d = do
+  tick ← tick_in past d
   Ok (with_tick past tick)

@@ -1,5 +1,6 @@
 -- What a text says as a trace, or its first faulty line with that line's first fault.
-use Rattle.std.specs.Prelude.{ℕ, ◌+◌, ⊤, Bool, false, List, [], ◌∷◌, length, nat_lt, nat_le, Option, Some, None, if◌then◌else◌, Result, Ok, Err, bytes_eq, codes}
+use Rattle.std.specs.Prelude.{ℕ, ◌+◌, ⊤, Bool, false, List, [], ◌∷◌, length, nat_lt, Option, Some, None}
+use Rattle.std.specs.Prelude.{if◌then◌else◌, Result, Ok, Err, bytes_eq, codes}
 use Rattle.std.specs.Str.{is_utf8}
 use Rattle.serde_json.specs.Data.{Data}
 use Rattle.serde_json.specs.Read.{read}
@@ -8,7 +9,7 @@ use Rattle.manifest.specs.declared.pod.PodSpec.{PodSpec}
 use Rattle.observations.specs.declared.tick.TickObs.{TickObs}
 use Rattle.json_fields.specs.Reading.{◌>>=◌, refused_if, some_or}
 use Rattle.trace.specs.declared.fault.FaultKind.{FaultKind}
-use Rattle.trace.specs.declared.fault.FaultKind.TheVariants.{TooLong, NotJson, UnknownKind, Order, TooMany, DuplicatePod}
+use Rattle.trace.specs.declared.fault.FaultKind.TheVariants.{TooLong, NotJson, UnknownKind, Order}
 use Rattle.trace.specs.declared.fault.LineFault.{LineFault}
 use Rattle.node_config.specs.declared.node.NodeConfig.{NodeConfig}
 use Rattle.node_config.specs.declared.node.Version.{Version}
@@ -16,9 +17,11 @@ use Rattle.node_config.specs.declared.node.Version.TheVariants.{One, Two}
 use Rattle.trace.specs.declared.past.Trace.{Trace}
 use Rattle.trace.specs.declared.past.LineKind.{LineKind}
 use Rattle.trace.specs.declared.past.LineKind.TheVariants as kinds
+use Rattle.trace.specs.declared.past.Turn.{Turn}
+use Rattle.trace.specs.declared.past.Turn.TheVariants as turns
 use Rattle.trace.specs.Lines.{lines_of, is_blank, longest_line}
 use Rattle.trace.specs.Written.{node_in}
-use Rattle.trace.specs.Pod.{key_of_pod, has_key, most_pods, pod_from}
+use Rattle.trace.specs.Pod.{new_key, room_for_pod, pod_from}
 use Rattle.trace.specs.Past.{Past, version_in, of_node, with_pod}
 use Rattle.trace.specs.Tick.{tick_at}
 
@@ -33,6 +36,10 @@ kind_from (Some s) =
     else (if bytes_eq s (codes "pod") then Some kinds.Pod
     else (if bytes_eq s (codes "tick") then Some kinds.Tick else None))
 
+-- the kind that a line says it is of
+abbrev pub kind_of_line : Data → Result LineKind FaultKind
+kind_of_line d = some_or UnknownKind (kind_from (text_at (codes "kind") d))
+
 unfoldable pub with_node : Past → Data → Result Past FaultKind
 with_node past d = do
   node ← node_in d
@@ -40,39 +47,58 @@ with_node past d = do
 
 -- a pod goes behind the earlier ones, if none of them has its key
 abbrev pub with_new_pod : Past → PodSpec → Result Past FaultKind
-with_new_pod past pod = refused_if (has_key past.pods (key_of_pod pod)) DuplicatePod >>= λ new. Ok (with_pod past pod)
+with_new_pod past pod = new_key past.pods pod >>= λ new. Ok (with_pod past pod)
 
 -- in version 1 a pod line stands before all tick lines; in version 2 it may follow one
 abbrev pub is_late : Version → List TickObs → Bool
 is_late One ticks = nat_lt 0 (length ticks)
 is_late Two ticks = false
 
+-- the pod that a pod line says after those that say what is past, whatever its key
+unfoldable pub pod_in : Version → Past → Data → Result PodSpec FaultKind
+pod_in version past d = do
+  in_time ← refused_if (is_late version past.ticks) Order
+  room ← room_for_pod past.pods
+  pod_from (field_at (codes "pod") d)
+
 unfoldable pub pod_line_at : Version → Past → Data → Result Past FaultKind
 pod_line_at version past d = do
-  in_time ← refused_if (is_late version past.ticks) Order
-  room ← refused_if (nat_le most_pods (length past.pods)) TooMany
-  pod ← pod_from (field_at (codes "pod") d)
+  pod ← pod_in version past d
   with_new_pod past pod
 
 -- a node line stands first, and nowhere else
+abbrev pub turn_of : Option Version → LineKind → Result Turn FaultKind
+turn_of None kinds.Node = Ok turns.Node
+turn_of None kinds.Pod = Err Order
+turn_of None kinds.Tick = Err Order
+turn_of (Some version) kinds.Node = Err Order
+turn_of (Some version) kinds.Pod = Ok (turns.Pod version)
+turn_of (Some version) kinds.Tick = Ok turns.Tick
+
+abbrev pub in_turn : Past → Turn → Data → Result Past FaultKind
+in_turn past turns.Node d = with_node past d
+in_turn past (turns.Pod version) d = pod_line_at version past d
+in_turn past turns.Tick d = tick_at past d
+
 abbrev pub in_order : Option Version → Past → LineKind → Data → Result Past FaultKind
-in_order None past kinds.Node d = with_node past d
-in_order None past kinds.Pod d = Err Order
-in_order None past kinds.Tick d = Err Order
-in_order (Some version) past kinds.Node d = Err Order
-in_order (Some version) past kinds.Pod d = pod_line_at version past d
-in_order (Some version) past kinds.Tick d = tick_at past d
+in_order version past line_kind d = turn_of version line_kind >>= λ turn. in_turn past turn d
 
 abbrev pub line_length : List ℕ → Result ⊤ FaultKind
 line_length line = refused_if (nat_lt longest_line (length line)) TooLong
 
+-- the kind of a line, and its JSON value
+unfoldable pub kind_and_value : List ℕ → Result (LineKind × Data) FaultKind
+kind_and_value line = do
+  short ← line_length line
+  d ← json_of line
+  line_kind ← kind_of_line d
+  Ok (line_kind, d)
+
 -- a line after those that say what is past
 unfoldable pub line_at : Past → List ℕ → Result Past FaultKind
 line_at past line = do
-  short ← line_length line
-  d ← json_of line
-  line_kind ← some_or UnknownKind (kind_from (text_at (codes "kind") d))
-  in_order (version_in past) past line_kind d
+  said ← kind_and_value line
+  in_order (version_in past) past said.0 said.1
 
 abbrev pub at_line : {A : Type 0} → ℕ → Result A FaultKind → Result A LineFault
 at_line n (Ok x) = Ok x
@@ -81,7 +107,8 @@ at_line n (Err kind) = Err (record { line = n; kind = kind })
 -- a text without a line that counts lacks a node line at its end
 abbrev pub finished : ℕ → Past → Option NodeConfig → Result Trace LineFault
 finished n past None = Err (record { line = n; kind = Order })
-finished n past (Some node) = Ok (record { node = node; pods = past.pods; arrivals = past.arrivals; ticks = past.ticks })
+finished n past (Some node) = Ok
+    (record { node = node; pods = past.pods; arrivals = past.arrivals; ticks = past.ticks })
 
 -- the lines from the nth on, after those that say what is past
 abbrev pub read_on : ℕ → Past → List (List ℕ) → Result Trace LineFault

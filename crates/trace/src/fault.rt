@@ -4,8 +4,11 @@ ghost use Rattle.std.specs.Prelude.{◌≡◌};
 ghost use Rattle.trace.specs.declared.fault.FaultKind.TheVariants.{OutOfMemory};
 ghost use Rattle.json_fields.specs.Reading.{refused_if};
 ghost use Rattle.trace.specs.Gives.{GivesExactly};
+ghost use Rattle.trace.specs.Trace.{at_line};
+ghost use Rattle.trace.specs.Faults.{IsKindOfError, kind_of_follow_error, kind_of_manifest_fault};
 ghost use Rattle.trace.specs.Faults.{kind_of_node_fault, kind_of_tick_fault};
 
+use following::FollowError;
 use manifest::ManifestFault;
 use node_lines::NodeFault;
 use std::alloc::{AllocError, AllocFailed};
@@ -122,6 +125,40 @@ impl<T: Drop> From<AllocFailed<T>> for FaultKind {
     }
 }
 
+impl From<serde_json::Error> for FaultKind {
+    ghost from_gives = { λ error kind. IsKindOfError error kind };
+
+    fn from(error: serde_json::Error) -> FaultKind {
+        if error.is_memory() {
+            FaultKind::OutOfMemory
+        } else {
+            FaultKind::NotJson
+        }
+    }
+}
+
+impl From<ManifestFault> for FaultKind {
+    ghost from_gives = { λ fault kind. kind ≡ kind_of_manifest_fault fault };
+
+    fn from(fault: ManifestFault) -> FaultKind {
+        match fault {
+            ManifestFault::OutOfMemory => FaultKind::OutOfMemory,
+            fault => FaultKind::Manifest(fault),
+        }
+    }
+}
+
+impl From<FollowError> for FaultKind {
+    ghost from_gives = { λ error kind. kind ≡ kind_of_follow_error error };
+
+    fn from(error: FollowError) -> FaultKind {
+        match error {
+            FollowError::Backwards => FaultKind::Backwards,
+            FollowError::OutOfMemory => FaultKind::OutOfMemory,
+        }
+    }
+}
+
 impl From<NodeFault> for FaultKind {
     ghost from_gives = { λ fault kind. kind ≡ kind_of_node_fault fault };
 
@@ -157,4 +194,14 @@ pub(crate) fn refused_if(test: bool, kind: FaultKind) -> Result<(), FaultKind>
 pub struct LineFault {
     pub line: u64,
     pub kind: FaultKind,
+}
+
+/// What was answered for a line, with the line beside its fault.
+pub(crate) fn at_line<T>(line: u64, answer: Result<T, FaultKind>) -> Result<T, LineFault>
+    ensures { result ≡ at_line line answer }
+{
+    match answer {
+        Ok(value) => Ok(value),
+        Err(kind) => Err(LineFault { line, kind }),
+    }
 }

@@ -1,6 +1,8 @@
 //! What the definition of a trace implies, in the words of the format. The functions do nothing;
 //! their contracts are the laws.
-ghost use Rattle.trace.specs.Laws.{FirstFault, WholeTrace, OneFault, FirstCheck, AllChecks, KindsOfChecks, Strangers, ResultsShown, ListingsShown, UsageShown, SignalsShown, BackwardsListing, NeverMemory};
+ghost use Rattle.trace.specs.Laws.{FirstFault, WholeTrace, OneFault, FirstCheck, AllChecks, KindsOfChecks, Strangers};
+ghost use Rattle.trace.specs.Laws.{ResultsShown, ListingsShown, UsageShown, SignalsShown, BackwardsListing};
+ghost use Rattle.trace.specs.Laws.{NeverMemory};
 
 /// A text is refused exactly with the fault of its first line that has one, or behind its last line
 /// where no line counts.

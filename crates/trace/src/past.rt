@@ -3,7 +3,7 @@
 use following::Following;
 use manifest::PodSpec;
 use name_list::NameList;
-use node_config::NodeConfig;
+use node_config::{NodeConfig, Version};
 use observations::TickObs;
 use sequence::Sequence;
 use std::marker::Model;
@@ -16,6 +16,15 @@ pub(crate) enum LineKind {
     Tick,
 }
 
+/// As what a line is taken that may stand where it does.
+#[derive(Clone, Copy)]
+pub(crate) enum Turn {
+    Node,
+    /// A pod line, in a text of this version.
+    Pod(Version),
+    Tick,
+}
+
 /// What the lines so far say, with the pods' keys by number, and what follows their containers.
 #[derive(Drop)]
 pub(crate) struct Reader {
@@ -25,6 +34,14 @@ pub(crate) struct Reader {
     pub(crate) ticks: Sequence<TickObs>,
     pub(crate) keys: NameList,
     pub(crate) following: Following,
+}
+
+/// The pods, by number, with the ticks before each, and their keys.
+#[derive(Drop)]
+pub(crate) struct Roster {
+    pub(crate) pods: Sequence<PodSpec>,
+    pub(crate) arrivals: Sequence<usize>,
+    pub(crate) keys: NameList,
 }
 
 impl Model for Reader {

@@ -5,7 +5,9 @@ ghost use Rattle.name_list.specs.Names.{place_of};
 ghost use Rattle.json_fields.specs.Reading.{each, some_or};
 ghost use Rattle.trace.specs.Gives.{Gives, GivesExactly};
 ghost use Rattle.trace.specs.Pod.{keys_of};
-ghost use Rattle.trace.specs.Placing.{number_in, container_number, placed_listing, placed_result, pod_numbered, placed_entry, has_twice, are_of_one_pod, are_of_one_container, is_of_probe, are_of_one_probe, repeats, is_doubled};
+ghost use Rattle.trace.specs.Placing.{number_in, container_number, placed_listing, placed_result, pod_numbered};
+ghost use Rattle.trace.specs.Placing.{placed_entry, has_twice, are_of_one_pod, are_of_one_container, is_of_probe};
+ghost use Rattle.trace.specs.Placing.{are_of_one_probe, repeats, is_doubled};
 ghost use Rattle.std.specs.List.{list_any};
 
 use crate::fault::FaultKind;

@@ -1,11 +1,10 @@
 //! Pod lines.
 
-ghost use Rattle.std.specs.Prelude.{◌≡◌, option_map, is_some, length, nat_le, None, IfOk, string_bytes};
+ghost use Rattle.std.specs.Prelude.{◌≡◌, option_map, is_some, None, IfOk, string_bytes};
 ghost use Rattle.serde_json.specs.View.{view};
-ghost use Rattle.json_fields.specs.Reading.{refused_if};
 ghost use Rattle.name_list.specs.Names.{place_of};
 ghost use Rattle.trace.specs.Gives.{Gives, GivesExactly};
-ghost use Rattle.trace.specs.Pod.{key_of_pod, keys_of, most_pods, has_key, pod_from};
+ghost use Rattle.trace.specs.Pod.{key_of_pod, keys_of, new_key, room_for_pod, manifest_of, pod_from};
 
 use crate::fault::{FaultKind, refused_if};
 use crate::past::Reader;
@@ -14,18 +13,22 @@ use name_list::NameList;
 use serde_json::Value;
 use std::alloc::{AllocError, Global};
 
+/// The manifest of a pod line.
+fn manifest_of(found: Option<&Value>) -> Result<&Value, FaultKind>
+    ensures { GivesExactly (λ v. view v.now) result (manifest_of (option_map (λ v. view v.now) found.entry)) }
+{
+    match found {
+        None => Err(FaultKind::Manifest(ManifestFault::Missing(Field::Pod))),
+        Some(value) => Ok(value),
+    }
+}
+
 /// The pod that a pod line's manifest describes.
-pub(crate) fn pod_in(alloc: Global, found: Option<&Value>) -> Result<PodSpec, FaultKind>
+pub(crate) fn pod_from(alloc: Global, found: Option<&Value>) -> Result<PodSpec, FaultKind>
     ensures { Gives (λ p. p) result (pod_from (option_map (λ v. view v.now) found.entry)) }
 {
-    let Some(value) = found else {
-        return Err(FaultKind::Manifest(ManifestFault::Missing(Field::Pod)));
-    };
-    match PodSpec::from_value(alloc, value) {
-        Ok(pod) => Ok(pod),
-        Err(ManifestFault::OutOfMemory) => Err(FaultKind::OutOfMemory),
-        Err(fault) => Err(FaultKind::Manifest(fault)),
-    }
+    let manifest = manifest_of(found)?;
+    Ok(PodSpec::from_value(alloc, manifest)?)
 }
 
 /// A pod's key.
@@ -39,7 +42,7 @@ fn key_text(alloc: Global, pod: &PodSpec) -> Result<String, AllocError>
 
 /// There is room for one pod more.
 pub(crate) fn room_for_pod(reader: &Reader) -> Result<(), FaultKind>
-    ensures { GivesExactly (λ t. t) result (refused_if (nat_le most_pods (length reader.now.pods)) FaultKind.TooMany) }
+    ensures { GivesExactly (λ t. t) result (room_for_pod reader.now.pods) }
 {
     refused_if(reader.pods.as_slice().len() >= 256, FaultKind::TooMany)
 }
@@ -52,7 +55,7 @@ fn is_known(keys: &NameList, key: &str) -> bool
 
 /// The key of a pod, if no earlier pod has it.
 pub(crate) fn new_key(alloc: Global, reader: &Reader, pod: &PodSpec) -> Result<String, FaultKind>
-    ensures gives { Gives (λ _. tt) result (refused_if (has_key reader.now.pods (key_of_pod pod.now)) FaultKind.DuplicatePod) }
+    ensures gives { Gives (λ _. tt) result (new_key reader.now.pods pod.now) }
     ensures key { IfOk result (λ s. string_bytes s ≡ key_of_pod pod.now) }
     ensures new { IfOk result (λ s. place_of (keys_of reader.now.pods) (string_bytes s) ≡ None) }
 {

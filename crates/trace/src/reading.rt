@@ -1,20 +1,21 @@
 //! Reading a whole trace.
 
-ghost use Rattle.serde_json.specs.Errors.{IsMemory};
-ghost use Rattle.std.specs.Prelude.{◌≡◌, ◌⊎◌, [], option_map, None, Ok, IfOk, string_bytes};
+ghost use Rattle.std.specs.Prelude.{◌≡◌, [], option_map, None, Ok, IfOk, string_bytes};
 ghost use Rattle.serde_json.specs.View.{view};
-ghost use Rattle.trace.specs.Gives.{Gives, GivesAt, GivesExactly};
+ghost use Rattle.trace.specs.Gives.{Gives, GivesAt, GivesExactly, GivesExactlyAt};
 ghost use Rattle.name_list.specs.Names.{place_of};
 ghost use Rattle.trace.specs.Written.{node_in};
-ghost use Rattle.trace.specs.Past.{version_in, with_pod};
+ghost use Rattle.trace.specs.Past.{IsEnlisted, version_in, with_pod};
 ghost use Rattle.trace.specs.Pod.{key_of_pod, keys_of};
 ghost use Rattle.trace.specs.Sound.{AreAcceptable, AreRising, HasShape};
-ghost use Rattle.trace.specs.Trace.{json_of, kind_from, with_node, with_new_pod, is_late, pod_line_at, line_length, line_at, trace_of, finished, in_order};
+ghost use Rattle.trace.specs.Trace.{json_of, kind_from, kind_of_line, with_node, with_new_pod, is_late, pod_in};
+ghost use Rattle.trace.specs.Trace.{pod_line_at, line_length, kind_and_value, line_at, trace_of, finished, turn_of};
+ghost use Rattle.trace.specs.Trace.{in_order};
 
-use crate::fault::{FaultKind, LineFault, refused_if};
+use crate::fault::{FaultKind, LineFault, at_line, refused_if};
 use crate::lines::{first_line, is_blank};
-use crate::past::{LineKind, Reader, Trace};
-use crate::pod::{new_key, pod_in, room_for_pod};
+use crate::past::{LineKind, Reader, Roster, Trace, Turn};
+use crate::pod::{new_key, pod_from, room_for_pod};
 use crate::tick::take_tick;
 use following::Following;
 use json_fields::{field, text_at};
@@ -24,29 +25,15 @@ use node_config::{NodeConfig, Version};
 use node_lines::node_of;
 use sequence::Sequence;
 use serde_json::Value;
-use std::alloc::Global;
+use std::alloc::{AllocError, Global};
 
 /// The most bytes of a line, 1 MiB.
 const LONGEST_LINE: usize = 1_048_576;
 
-/// What an error in a line's JSON means.
-fn json_fault(error: &serde_json::Error) -> FaultKind
-    ensures { (IsMemory error.now × (result ≡ FaultKind.OutOfMemory)) ⊎ ((IsMemory error.now → ⊥) × (result ≡ FaultKind.NotJson)) }
-{
-    if error.is_memory() {
-        FaultKind::OutOfMemory
-    } else {
-        FaultKind::NotJson
-    }
-}
-
 fn json(alloc: Global, line: &[u8]) -> Result<Value, FaultKind>
     ensures { Gives view result (json_of line.now) }
 {
-    match Value::from_slice(alloc, line) {
-        Ok(value) => Ok(value),
-        Err(e) => Err(json_fault(&e)),
-    }
+    Ok(Value::from_slice(alloc, line)?)
 }
 
 fn kind_from(kind: Option<&str>) -> Option<LineKind>
@@ -57,6 +44,16 @@ fn kind_from(kind: Option<&str>) -> Option<LineKind>
         Some("pod") => Some(LineKind::Pod),
         Some("tick") => Some(LineKind::Tick),
         _ => None,
+    }
+}
+
+/// The kind that a line says it is of.
+fn kind_of_line(line: &Value) -> Result<LineKind, FaultKind>
+    ensures { GivesExactly (λ k. k) result (kind_of_line (view line.now)) }
+{
+    match kind_from(text_at(line, "kind")) {
+        None => Err(FaultKind::UnknownKind),
+        Some(line_kind) => Ok(line_kind),
     }
 }
 
@@ -91,6 +88,26 @@ fn take_node(alloc: Global, reader: Reader, line: &Value) -> Result<Reader, Faul
     })
 }
 
+/// Adds a pod with its key, and the number of ticks before it.
+fn enlisted(roster: Roster, pod: PodSpec, key: String, ticks: usize) -> Result<Roster, AllocError>
+    requires { place_of roster.keys (string_bytes key) ≡ None }
+    ensures { IfOk result (IsEnlisted roster pod (string_bytes key) ticks) }
+{
+    let Roster {
+        mut pods,
+        mut arrivals,
+        mut keys,
+    } = roster;
+    keys.push(key)?;
+    pods.push(pod)?;
+    arrivals.push(ticks)?;
+    Ok(Roster {
+        pods,
+        arrivals,
+        keys,
+    })
+}
+
 /// Adds a pod of a new key.
 fn with_pod(alloc: Global, reader: Reader, pod: PodSpec, key: String) -> Result<Reader, FaultKind>
     requires key { string_bytes key ≡ key_of_pod pod }
@@ -99,22 +116,25 @@ fn with_pod(alloc: Global, reader: Reader, pod: PodSpec, key: String) -> Result<
 {
     let Reader {
         node,
-        mut pods,
-        mut arrivals,
-        ticks,
-        mut keys,
-        following,
-    } = reader;
-    keys.push(key)?;
-    let following = following.with_pod(alloc, pod.containers.as_slice().len())?;
-    pods.push(pod)?;
-    arrivals.push(ticks.as_slice().len())?;
-    Ok(Reader {
-        node,
         pods,
         arrivals,
         ticks,
         keys,
+        following,
+    } = reader;
+    let following = following.with_pod(alloc, pod.containers.as_slice().len())?;
+    let before = Roster {
+        pods,
+        arrivals,
+        keys,
+    };
+    let roster = enlisted(before, pod, key, ticks.as_slice().len())?;
+    Ok(Reader {
+        node,
+        pods: roster.pods,
+        arrivals: roster.arrivals,
+        ticks,
+        keys: roster.keys,
         following,
     })
 }
@@ -137,6 +157,21 @@ fn is_late(version: Version, reader: &Reader) -> bool
     }
 }
 
+/// The pod that a pod line says, whatever its key.
+#[tactic(auto, unfolding(crate::specs::Trace::pod_in))]
+fn pod_in(
+    alloc: Global,
+    version: Version,
+    reader: &Reader,
+    line: &Value,
+) -> Result<PodSpec, FaultKind>
+    ensures { Gives (λ p. p) result (pod_in version reader.now (view line.now)) }
+{
+    refused_if(is_late(version, reader), FaultKind::Order)?;
+    room_for_pod(reader)?;
+    pod_from(alloc, field(line, "pod"))
+}
+
 /// Takes a pod line.
 #[tactic(auto, unfolding(crate::specs::Trace::pod_line_at))]
 fn take_pod(
@@ -147,9 +182,7 @@ fn take_pod(
 ) -> Result<Reader, FaultKind>
     ensures { Gives (λ r. r) result (pod_line_at version reader (view line.now)) }
 {
-    refused_if(is_late(version, &reader), FaultKind::Order)?;
-    room_for_pod(&reader)?;
-    let pod = pod_in(alloc, field(line, "pod"))?;
+    let pod = pod_in(alloc, version, &reader, line)?;
     with_new_pod(alloc, reader, pod)
 }
 
@@ -163,6 +196,18 @@ fn version_in(reader: &Reader) -> Option<Version>
     }
 }
 
+/// Whether a line of the kind may stand after a node line of the version, or as the first line.
+fn turn_of(version: Option<Version>, line_kind: LineKind) -> Result<Turn, FaultKind>
+    ensures { GivesExactly (λ t. t) result (turn_of version line_kind) }
+{
+    match (version, line_kind) {
+        (None, LineKind::Node) => Ok(Turn::Node),
+        (Some(version), LineKind::Pod) => Ok(Turn::Pod(version)),
+        (Some(_), LineKind::Tick) => Ok(Turn::Tick),
+        _ => Err(FaultKind::Order),
+    }
+}
+
 fn take_in_order(
     alloc: Global,
     reader: Reader,
@@ -171,11 +216,10 @@ fn take_in_order(
 ) -> Result<Reader, FaultKind>
     ensures { Gives (λ r. r) result (in_order (version_in reader) reader line_kind (view line.now)) }
 {
-    match (version_in(&reader), line_kind) {
-        (None, LineKind::Node) => take_node(alloc, reader, line),
-        (Some(version), LineKind::Pod) => take_pod(alloc, version, reader, line),
-        (Some(_), LineKind::Tick) => take_tick(alloc, reader, line),
-        _ => Err(FaultKind::Order),
+    match turn_of(version_in(&reader), line_kind)? {
+        Turn::Node => take_node(alloc, reader, line),
+        Turn::Pod(version) => take_pod(alloc, version, reader, line),
+        Turn::Tick => take_tick(alloc, reader, line),
     }
 }
 
@@ -185,20 +229,27 @@ fn line_length(line: &[u8]) -> Result<(), FaultKind>
     refused_if(line.len() > LONGEST_LINE, FaultKind::TooLong)
 }
 
+/// The kind of a line, and its JSON value.
+#[tactic(auto, unfolding(crate::specs::Trace::kind_and_value))]
+fn kind_and_value(alloc: Global, line: &[u8]) -> Result<(LineKind, Value), FaultKind>
+    ensures { Gives (λ p. (p.0, view p.1)) result (kind_and_value line.now) }
+{
+    line_length(line)?;
+    let value = json(alloc, line)?;
+    let line_kind = kind_of_line(&value)?;
+    Ok((line_kind, value))
+}
+
 #[tactic(auto, unfolding(crate::specs::Trace::line_at))]
 fn take_line(alloc: Global, reader: Reader, line: &[u8]) -> Result<Reader, FaultKind>
     ensures { Gives (λ r. r) result (line_at reader line.now) }
 {
-    line_length(line)?;
-    let value = json(alloc, line)?;
-    let Some(line_kind) = kind_from(text_at(&value, "kind")) else {
-        return Err(FaultKind::UnknownKind);
-    };
+    let (line_kind, value) = kind_and_value(alloc, line)?;
     take_in_order(alloc, reader, line_kind, &value)
 }
 
 fn finished(line: u64, reader: Reader) -> Result<Trace, LineFault>
-    ensures { GivesAt (λ t. t) result (finished line reader reader.node) }
+    ensures { GivesExactlyAt (λ t. t) result (finished line reader reader.node) }
 {
     let Reader {
         node,
@@ -237,10 +288,7 @@ fn read_lines(alloc: Global, text: &[u8]) -> Result<Trace, LineFault>
     let mut line = 1u64;
     while let Some((found, after)) = first_line(rest) {
         if !is_blank(found) {
-            reader = match take_line(alloc, reader, found) {
-                Ok(next) => next,
-                Err(kind) => return Err(LineFault { line, kind }),
-            };
+            reader = at_line(line, take_line(alloc, reader, found))?;
         }
         rest = after;
         line += 1;

@@ -1,17 +1,19 @@
 //! Tick lines.
 
-ghost use Rattle.std.specs.Prelude.{◌≡◌, ◌++◌, ◌∷◌, [], option_map, length, nat_le, Ok, IfOk};
+ghost use Rattle.std.specs.Prelude.{◌≡◌, option_map, Ok, IfOk};
 ghost use Rattle.std.specs.List.{list_any};
 ghost use Rattle.serde_json.specs.View.{view};
 ghost use Rattle.json_fields.specs.Reading.{refused_if};
 ghost use Rattle.trace.specs.Gives.{Gives, GivesExactly};
 ghost use Rattle.trace.specs.Past.{with_tick};
 ghost use Rattle.trace.specs.Placing.{placed_of};
-ghost use Rattle.trace.specs.Observed.{seen_in, outcome_in, results_in, entry_for, listings_of, results_of, usage_of, seen_listed, containers_from, pod_observed, pods_from, observed, lacks_code, some_code_missing};
+ghost use Rattle.trace.specs.Observed.{seen_in, outcome_in, results_in, entry_for, listings_of, results_of, usage_of};
+ghost use Rattle.trace.specs.Observed.{seen_listed, containers_from, pod_observed, pods_from, observed, lacks_code};
+ghost use Rattle.trace.specs.Observed.{some_code_missing};
 ghost use Rattle.following.specs.Backwards.{is_backwards};
-ghost use Rattle.following.specs.Followed.{EndBefore, ComesNext, HasFollowed};
+ghost use Rattle.following.specs.Followed.{EndBefore, ComesNext};
 ghost use Rattle.trace.specs.Pod.{container_counts};
-ghost use Rattle.trace.specs.Tick.{moment_of, most_ticks, observed_in, tick_at};
+ghost use Rattle.trace.specs.Tick.{moment_of, moment_in, room_for_tick, HasFollowedTo, observed_in, tick_in, tick_at};
 ghost use Rattle.trace.specs.Written.{tick_line_in};
 
 use crate::fault::{FaultKind, refused_if};
@@ -19,7 +21,7 @@ use crate::past::Reader;
 use crate::placing::{
     PlacedEntry, PlacedListing, PlacedResult, is_doubled, is_of_probe, placed_entries, pod_numbers,
 };
-use following::{FollowError, Following};
+use following::Following;
 use json_fields::field;
 use manifest::{ContainerSpec, Outcome, PodSpec, ProbeKind};
 use observations::{ContainerObs, PodObs, TickObs, Usage, UsageSample};
@@ -228,16 +230,16 @@ fn tick_line_in(alloc: Global, line: &Value) -> Result<TickLine, FaultKind>
 }
 
 fn room(reader: &Reader) -> Result<(), FaultKind>
-    ensures { GivesExactly (λ t. t) result (refused_if (nat_le most_ticks (length reader.now.ticks)) FaultKind.TooMany) }
+    ensures { GivesExactly (λ t. t) result (room_for_tick reader.now.ticks) }
 {
     refused_if(reader.ticks.as_slice().len() >= 20_000, FaultKind::TooMany)
 }
 
-fn moment_after(reader: &Reader, found: Option<&Value>) -> Result<u64, FaultKind>
-    ensures gives { GivesExactly (λ n. n) result (moment_of reader.now.ticks (option_map (λ v. view v.now) found.entry)) }
+fn moment_in(reader: &Reader, line: &Value) -> Result<u64, FaultKind>
+    ensures gives { GivesExactly (λ n. n) result (moment_in reader.now.ticks (view line.now)) }
     ensures later { IfOk result (λ at. EndBefore reader.now.ticks at) }
 {
-    moment(reader.ticks.as_slice(), found)
+    moment(reader.ticks.as_slice(), field(line, "at"))
 }
 
 /// The entries with numbers in the place of names: first all pods, then all containers.
@@ -259,13 +261,9 @@ fn placed_of(
 fn following_after(alloc: Global, reader: &Reader, tick: &TickObs) -> Result<Following, FaultKind>
     requires { ComesNext reader.now.ticks (container_counts reader.now.pods) tick.now }
     ensures gives { Gives (λ _. tt) result (refused_if (is_backwards reader.now.ticks tick.now) FaultKind.Backwards) }
-    ensures followed { IfOk result (λ f. HasFollowed (reader.now.ticks ++ tick.now ∷ []) (container_counts reader.now.pods) f) }
+    ensures followed { IfOk result (HasFollowedTo reader.now tick.now) }
 {
-    match reader.following.with_tick(alloc, tick) {
-        Ok(following) => Ok(following),
-        Err(FollowError::Backwards) => Err(FaultKind::Backwards),
-        Err(FollowError::OutOfMemory) => Err(FaultKind::OutOfMemory),
-    }
+    Ok(reader.following.with_tick(alloc, tick)?)
 }
 
 /// The tick, checked against the earlier ticks, and what follows the containers after it.
@@ -279,7 +277,7 @@ fn observed_in(
 ) -> Result<(TickObs, Following), FaultKind>
     requires { EndBefore reader.now.ticks at }
     ensures gives { Gives (λ r. r.0) result (observed_in reader.now at written.now placed.now) }
-    ensures followed { IfOk result (λ r. HasFollowed (reader.now.ticks ++ r.0 ∷ []) (container_counts reader.now.pods) r.1) }
+    ensures followed { IfOk result (λ r. HasFollowedTo reader.now r.0 r.1) }
 {
     refused_if(is_doubled(placed), FaultKind::Doubled)?;
     let tick = observed(alloc, at, written, placed, reader.pods.as_slice())?;
@@ -289,7 +287,7 @@ fn observed_in(
 }
 
 fn with_tick(reader: Reader, tick: TickObs, following: Following) -> Result<Reader, FaultKind>
-    requires { HasFollowed (reader.ticks ++ tick ∷ []) (container_counts reader.pods) following }
+    requires { HasFollowedTo reader tick following }
     ensures { Gives (λ r. r) result (Ok (with_tick reader tick)) }
 {
     let Reader {
@@ -311,15 +309,24 @@ fn with_tick(reader: Reader, tick: TickObs, following: Following) -> Result<Read
     })
 }
 
+/// The tick that a tick line says, and what follows the containers after it.
+#[tactic(auto, unfolding(crate::specs::Tick::tick_in))]
+fn tick_in(alloc: Global, reader: &Reader, line: &Value) -> Result<(TickObs, Following), FaultKind>
+    ensures gives { Gives (λ r. r.0) result (tick_in reader.now (view line.now)) }
+    ensures followed { IfOk result (λ r. HasFollowedTo reader.now r.0 r.1) }
+{
+    room(reader)?;
+    let at = moment_in(reader, line)?;
+    let written = tick_line_in(alloc, line)?;
+    let placed = placed_of(alloc, reader, &written)?;
+    observed_in(alloc, reader, at, &written, &placed)
+}
+
 /// Takes a tick line.
 #[tactic(auto, unfolding(crate::specs::Tick::tick_at))]
 pub(crate) fn take_tick(alloc: Global, reader: Reader, line: &Value) -> Result<Reader, FaultKind>
     ensures { Gives (λ r. r) result (tick_at reader (view line.now)) }
 {
-    room(&reader)?;
-    let at = moment_after(&reader, field(line, "at"))?;
-    let written = tick_line_in(alloc, line)?;
-    let placed = placed_of(alloc, &reader, &written)?;
-    let (tick, following) = observed_in(alloc, &reader, at, &written, &placed)?;
+    let (tick, following) = tick_in(alloc, &reader, line)?;
     with_tick(reader, tick, following)
 }

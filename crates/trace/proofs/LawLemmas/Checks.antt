@@ -1,15 +1,15 @@
--- A line's fault is that of its first check that fails; a line without one says its node, its pod
--- or its tick.
-use Rattle.std.proofs.Common.{◌≡◌, ◌≢◌, ◌∙◌, ◌⊎◌, ℕ, ◌≤◌, ◌<◌, Bool, true, false, List, [], ◌∷◌, length, Option, Some, None, Result, Ok, Err, refl, ap, sym, subst, inl, inr, arith, is_some}
+-- A line's fault is that of its first check that fails.
+use Rattle.std.proofs.Common.{◌≡◌, ◌≢◌, ◌∙◌, ◌⊎◌, ℕ, ◌≤◌, ◌<◌, Bool, true, false, List, [], ◌∷◌, length, Option, Some}
+use Rattle.std.proofs.Common.{None, Result, Ok, Err, refl, ap, sym, subst, inl, inr, arith, is_some}
 use Rattle.std.specs.Prelude.{⊤, nat_lt, nat_le, option_map, IsSomeAnd, codes}
 use Rattle.std.proofs.lemmas.Bool.{ltb-true, ltb-false, lt-ltb, le-ltb, leb-true, leb-false, le-leb, lt-leb}
 use Rattle.serde_json.specs.Data.{Data}
 use Rattle.json_fields.specs.Fields.{field_at, text_at}
-use Rattle.json_fields.specs.Reading.{◌>>=◌, refused_if, some_or}
-use Rattle.json_fields.proofs.Steps.{bind_ok}
+use Rattle.json_fields.specs.Reading.{◌>>=◌, refused_if}
 use Rattle.manifest.specs.declared.pod.PodSpec.{PodSpec}
 use Rattle.trace.specs.declared.fault.FaultKind.{FaultKind}
-use Rattle.trace.specs.declared.fault.FaultKind.TheVariants.{TooLong, UnknownKind, Order, TooMany, DuplicatePod, Doubled, Backwards, ExitCode}
+use Rattle.trace.specs.declared.fault.FaultKind.TheVariants.{TooLong, UnknownKind, Order, TooMany, DuplicatePod}
+use Rattle.trace.specs.declared.fault.FaultKind.TheVariants.{Doubled, Backwards, ExitCode}
 use Rattle.node_config.specs.declared.node.NodeConfig.{NodeConfig}
 use Rattle.node_config.specs.declared.node.Version.{Version}
 use Rattle.node_config.specs.declared.node.Version.TheVariants.{One, Two}
@@ -21,85 +21,48 @@ use Rattle.trace.specs.declared.placing.PlacedEntry.{PlacedEntry}
 use Rattle.trace.specs.Lines.{longest_line}
 use Rattle.trace.specs.Written.{node_in, tick_line_in}
 use Rattle.trace.specs.Pod.{key_of_pod, has_key, most_pods, pod_from}
+use Rattle.trace.proofs.Whole.{with_kind, with_json, with_tick_seen, with_places, with_written, with_moment}
+use Rattle.trace.proofs.Whole.{with_room, with_code, with_forwards, with_apart, pod_new, pod_said, pod_read}
+use Rattle.trace.proofs.Whole.{pod_early, tick_whole, pod_whole, line_whole}
 use Rattle.trace.proofs.Versions.{no_node, some_node}
-use Rattle.trace.proofs.Keys.{key_there, there_key, key_nowhere, nowhere_key}
+use Rattle.trace.proofs.Keys.{key_there, there_key}
 use Rattle.trace.specs.Placing.{placed_of, is_doubled}
 use Rattle.trace.specs.Observed.{observed, some_code_missing}
 use Rattle.following.specs.Backwards.{is_backwards}
 use Rattle.trace.specs.Past.{Past, version_in, of_node, with_pod, with_tick}
 use Rattle.trace.specs.Tick.{moment_of, most_ticks, observed_in, tick_at}
 use Rattle.trace.specs.Trace.{json_of, kind_from, with_node, is_late, pod_line_at, in_order, line_at}
-use Rattle.trace.specs.Laws.{IsJson, IsOfKind, TakesPods, MayStand, Stands, HasPod, HasMoment, HasWritten, HasPlaces, IsApart, IsForwards, Fails, too_long, not_json, unknown_kind, misplaced, wrong_node, many_pods, wrong_pod, duplicate_pod, many_ticks, wrong_moment, wrong_field, stranger, doubled, backwards, no_code, FirstCheck, Says, says_node, says_pod, says_tick, AllChecks}
+use Rattle.trace.specs.Laws.{IsJson, IsOfKind, TakesPods, MayStand, Stands, HasPod, HasMoment, HasWritten, HasPlaces}
+use Rattle.trace.specs.Laws.{IsApart, IsForwards, Fails, too_long, not_json, unknown_kind, misplaced, wrong_node}
+use Rattle.trace.specs.Laws.{many_pods, wrong_pod, duplicate_pod, many_ticks, wrong_moment, wrong_field, stranger}
+use Rattle.trace.specs.Laws.{doubled, backwards, no_code, FirstCheck}
 
-pub bind_err : {A B E : Type 0} (r : Result A E) (f : A → Result B E) (fault : E) → (r >>= f) ≡ Err fault → (r ≡ Err fault) ⊎ ((x : A) × (r ≡ Ok x) × (f x ≡ Err fault))
+pub bind_err : {A B E : Type 0} (r : Result A E) (f : A → Result B E) (fault : E) → (r >>= f) ≡ Err fault
+    → (r ≡ Err fault) ⊎ ((x : A) × (r ≡ Ok x) × (f x ≡ Err fault))
 bind_err (Ok x) f fault e = inr (x, refl, e)
 bind_err (Err other) f fault e = let is : other ≡ fault = cc in inl (ap Err is)
 
 pub then_ok : {A B E : Type 0} (r : Result A E) (f : A → Result B E) (x : A) → r ≡ Ok x → (r >>= f) ≡ f x
 then_ok r f x e = rw e refl
 
-pub then_err : {A B E : Type 0} (r : Result A E) (f : A → Result B E) (fault : E) → r ≡ Err fault → (r >>= f) ≡ Err fault
+pub then_err : {A B E : Type 0} (r : Result A E) (f : A → Result B E) (fault : E) → r ≡ Err fault
+    → (r >>= f) ≡ Err fault
 then_err r f fault e = rw e refl
 
-passed : {B E : Type 0} (b : Bool) (fault : E) (f : ⊤ → Result B E) → b ≡ false → (refused_if b fault >>= f) ≡ f tt
+pub passed : {B E : Type 0} (b : Bool) (fault : E) (f : ⊤ → Result B E) → b ≡ false → (refused_if b fault >>= f) ≡ f tt
 passed b fault f e = rw e refl
 
 failed : {B E : Type 0} (b : Bool) (fault : E) (f : ⊤ → Result B E) → b ≡ true → (refused_if b fault >>= f) ≡ Err fault
 failed b fault f e = rw e refl
 
 -- a test either refuses, or what follows it does
-tested : {B E : Type 0} (b : Bool) (fault : E) (f : ⊤ → Result B E) (given : E) → (refused_if b fault >>= f) ≡ Err given → ((b ≡ true) × (fault ≡ given)) ⊎ ((b ≡ false) × (f tt ≡ Err given))
+tested : {B E : Type 0} (b : Bool) (fault : E) (f : ⊤ → Result B E) (given : E)
+    → (refused_if b fault >>= f) ≡ Err given → ((b ≡ true) × (fault ≡ given)) ⊎ ((b ≡ false) × (f tt ≡ Err given))
 tested true fault f given e = let is : fault ≡ given = cc in inl (refl, is)
 tested false fault f given e = inr (refl, e)
 
--- the steps of a line, each with those after it
-abbrev in_place : Past → Data → LineKind → Result Past FaultKind
-in_place past d line_kind = in_order (version_in past) past line_kind d
-
-abbrev PodStands : Past → Option Version → Type 0
+abbrev pub PodStands : Past → Option Version → Type 0
 PodStands past found = IsSomeAnd found (TakesPods past.ticks)
-
-abbrev with_kind : Past → Data → Option LineKind → Result Past FaultKind
-with_kind past d kind = some_or UnknownKind kind >>= in_place past d
-
-abbrev with_json : Past → Data → Result Past FaultKind
-with_json past d = with_kind past d (kind_from (text_at (codes "kind") d))
-
-abbrev with_tick_seen : Past → TickObs → Result Past FaultKind
-with_tick_seen past tick = Ok (with_tick past tick)
-
-abbrev with_places : Past → ℕ → TickLine → List PlacedEntry → Result Past FaultKind
-with_places past at written placed = observed_in past at written placed >>= with_tick_seen past
-
-abbrev with_written : Past → ℕ → TickLine → Result Past FaultKind
-with_written past at written = placed_of past.pods written.entries >>= with_places past at written
-
-abbrev with_moment : Past → Data → ℕ → Result Past FaultKind
-with_moment past d at = tick_line_in d >>= with_written past at
-
-abbrev with_room : Past → Data → ⊤ → Result Past FaultKind
-with_room past d u = moment_of past.ticks (field_at (codes "at") d) >>= with_moment past d
-
-abbrev with_code : Past → ℕ → TickLine → List PlacedEntry → ⊤ → Result TickObs FaultKind
-with_code past at written placed u = Ok (observed at written placed past.pods)
-
-abbrev with_forwards : Past → ℕ → TickLine → List PlacedEntry → ⊤ → Result TickObs FaultKind
-with_forwards past at written placed u = refused_if (some_code_missing placed) ExitCode >>= with_code past at written placed
-
-abbrev with_apart : Past → ℕ → TickLine → List PlacedEntry → ⊤ → Result TickObs FaultKind
-with_apart past at written placed u = refused_if (is_backwards past.ticks (observed at written placed past.pods)) Backwards >>= with_forwards past at written placed
-
-abbrev pod_new : Past → PodSpec → ⊤ → Result Past FaultKind
-pod_new past pod u = Ok (with_pod past pod)
-
-abbrev pod_said : Past → PodSpec → Result Past FaultKind
-pod_said past pod = refused_if (has_key past.pods (key_of_pod pod)) DuplicatePod >>= pod_new past pod
-
-abbrev pod_read : Past → Data → ⊤ → Result Past FaultKind
-pod_read past d u = pod_from (field_at (codes "pod") d) >>= pod_said past
-
-abbrev pod_early : Past → Data → ⊤ → Result Past FaultKind
-pod_early past d u = refused_if (nat_le most_pods (length past.pods)) TooMany >>= pod_read past d
 
 none_in : {A : Type 0} (xs : List A) → nat_lt 0 (length xs) ≡ false → xs ≡ []
 none_in [] e = refl
@@ -117,7 +80,7 @@ in_none : {A : Type 0} (xs : List A) → xs ≡ [] → nat_lt 0 (length xs) ≡ 
 in_none xs none = rw none refl
 
 -- whether the version takes a pod line behind these ticks
-takes_pods : (version : Version) (ticks : List TickObs) → is_late version ticks ≡ false → TakesPods ticks version
+pub takes_pods : (version : Version) (ticks : List TickObs) → is_late version ticks ≡ false → TakesPods ticks version
 takes_pods One ticks e = none_in ticks e
 takes_pods Two ticks e = tt
 
@@ -140,82 +103,118 @@ pub same_fault : {A E : Type 0} (a b : E) → ◌≡◌ {A = Result A E} (Err a)
 same_fault a b e = cc
 
 -- from a fault to the check that fails
-code_fails : (past : Past) (line : List ℕ) (d : Data) (at : ℕ) (written : TickLine) (placed : List PlacedEntry) (kind : FaultKind) → IsForwards past line d at written placed → with_forwards past at written placed tt ≡ Err kind → Fails past line kind
-code_fails past line d at written placed kind is e = elim (tested (some_code_missing placed) ExitCode (with_code past at written placed) kind e) [
-  | inl here ↦ subst (λ (k : FaultKind). Fails past line k) here.1 (no_code d at written placed is here.0)
-  | inr later ↦ absurd (no_fault (observed at written placed past.pods) kind later.1)
-]
+code_fails : (past : Past) (line : List ℕ) (d : Data) (at : ℕ) (written : TickLine) (placed : List PlacedEntry)
+    (kind : FaultKind) → IsForwards past line d at written placed → with_forwards past at written placed tt ≡ Err kind
+    → Fails past line kind
+code_fails past line d at written placed kind is e =
+    elim (tested (some_code_missing placed) ExitCode (with_code past at written placed) kind e) [
+      | inl here ↦ subst (λ (k : FaultKind). Fails past line k) here.1 (no_code d at written placed is here.0)
+      | inr later ↦ absurd (no_fault (observed at written placed past.pods) kind later.1)
+    ]
 
-order_fails : (past : Past) (line : List ℕ) (d : Data) (at : ℕ) (written : TickLine) (placed : List PlacedEntry) (kind : FaultKind) → IsApart past line d at written placed → with_apart past at written placed tt ≡ Err kind → Fails past line kind
-order_fails past line d at written placed kind is e = elim (tested (is_backwards past.ticks (observed at written placed past.pods)) Backwards (with_forwards past at written placed) kind e) [
-  | inl here ↦ subst (λ (k : FaultKind). Fails past line k) here.1 (backwards d at written placed is here.0)
-  | inr later ↦ code_fails past line d at written placed kind (record { is_apart = is; forwards = later.0 }) later.1
-]
+order_fails : (past : Past) (line : List ℕ) (d : Data) (at : ℕ) (written : TickLine) (placed : List PlacedEntry)
+    (kind : FaultKind) → IsApart past line d at written placed → with_apart past at written placed tt ≡ Err kind
+    → Fails past line kind
+order_fails past line d at written placed kind is e =
+    elim (tested (is_backwards past.ticks (observed at written placed past.pods)) Backwards
+    (with_forwards past at written placed) kind e) [
+      | inl here ↦ subst (λ (k : FaultKind). Fails past line k) here.1 (backwards d at written placed is here.0)
+      | inr later ↦ code_fails past line d at written placed kind (record { is_apart = is; forwards = later.0 }) later.1
+    ]
 
-observed_fails : (past : Past) (line : List ℕ) (d : Data) (at : ℕ) (written : TickLine) (placed : List PlacedEntry) (kind : FaultKind) → HasPlaces past line d at written placed → observed_in past at written placed ≡ Err kind → Fails past line kind
+observed_fails : (past : Past) (line : List ℕ) (d : Data) (at : ℕ) (written : TickLine) (placed : List PlacedEntry)
+    (kind : FaultKind) → HasPlaces past line d at written placed → observed_in past at written placed ≡ Err kind
+    → Fails past line kind
 unfolding observed_in
-observed_fails past line d at written placed kind is e = elim (tested (is_doubled placed) Doubled (with_apart past at written placed) kind e) [
-  | inl here ↦ subst (λ (k : FaultKind). Fails past line k) here.1 (doubled d at written placed is here.0)
-  | inr later ↦ order_fails past line d at written placed kind (record { has_places = is; apart = later.0 }) later.1
-]
+observed_fails past line d at written placed kind is e =
+    elim (tested (is_doubled placed) Doubled (with_apart past at written placed) kind e) [
+      | inl here ↦ subst (λ (k : FaultKind). Fails past line k) here.1 (doubled d at written placed is here.0)
+      | inr later ↦ order_fails past line d at written placed kind (record { has_places = is; apart = later.0 }) later.1
+    ]
 
-places_fails : (past : Past) (line : List ℕ) (d : Data) (at : ℕ) (written : TickLine) (placed : List PlacedEntry) (kind : FaultKind) → HasPlaces past line d at written placed → with_places past at written placed ≡ Err kind → Fails past line kind
-places_fails past line d at written placed kind is e = elim (bind_err (observed_in past at written placed) (with_tick_seen past) kind e) [
-  | inl here ↦ observed_fails past line d at written placed kind is here
-  | inr later ↦ absurd (no_fault (with_tick past later.0) kind later.2)
-]
+places_fails : (past : Past) (line : List ℕ) (d : Data) (at : ℕ) (written : TickLine) (placed : List PlacedEntry)
+    (kind : FaultKind) → HasPlaces past line d at written placed → with_places past at written placed ≡ Err kind
+    → Fails past line kind
+places_fails past line d at written placed kind is e =
+    elim (bind_err (observed_in past at written placed) (with_tick_seen past) kind e) [
+      | inl here ↦ observed_fails past line d at written placed kind is here
+      | inr later ↦ absurd (no_fault (with_tick past later.0) kind later.2)
+    ]
 
-written_fails : (past : Past) (line : List ℕ) (d : Data) (at : ℕ) (written : TickLine) (kind : FaultKind) → HasWritten past line d at written → with_written past at written ≡ Err kind → Fails past line kind
-written_fails past line d at written kind is e = elim (bind_err (placed_of past.pods written.entries) (with_places past at written) kind e) [
-  | inl here ↦ stranger d at written kind is here
-  | inr later ↦ places_fails past line d at written later.0 kind (record { has_written = is; placed_are = later.1 }) later.2
-]
+written_fails : (past : Past) (line : List ℕ) (d : Data) (at : ℕ) (written : TickLine) (kind : FaultKind)
+    → HasWritten past line d at written → with_written past at written ≡ Err kind → Fails past line kind
+written_fails past line d at written kind is e =
+    elim (bind_err (placed_of past.pods written.entries) (with_places past at written) kind e) [
+      | inl here ↦ stranger d at written kind is here
+      | inr later ↦ places_fails past line d at written later.0 kind (record { has_written = is; placed_are = later.1 })
+          later.2
+    ]
 
-moment_fails : (past : Past) (line : List ℕ) (d : Data) (at : ℕ) (kind : FaultKind) → HasMoment past line d at → with_moment past d at ≡ Err kind → Fails past line kind
+moment_fails : (past : Past) (line : List ℕ) (d : Data) (at : ℕ) (kind : FaultKind) → HasMoment past line d at
+    → with_moment past d at ≡ Err kind → Fails past line kind
 moment_fails past line d at kind is e = elim (bind_err (tick_line_in d) (with_written past at) kind e) [
   | inl here ↦ wrong_field d at kind is here
   | inr later ↦ written_fails past line d at later.0 kind (record { has_moment = is; written_is = later.1 }) later.2
 ]
 
-room_fails : (past : Past) (line : List ℕ) (d : Data) (kind : FaultKind) → Stands past line kinds.Tick d → length past.ticks < most_ticks → with_room past d tt ≡ Err kind → Fails past line kind
-room_fails past line d kind is room e = elim (bind_err (moment_of past.ticks (field_at (codes "at") d)) (with_moment past d) kind e) [
-  | inl here ↦ wrong_moment d kind is room here
-  | inr later ↦ moment_fails past line d later.0 kind (record { stands = is; room = room; moment = later.1 }) later.2
-]
+room_fails : (past : Past) (line : List ℕ) (d : Data) (kind : FaultKind) → Stands past line kinds.Tick d
+    → length past.ticks < most_ticks → with_room past d tt ≡ Err kind → Fails past line kind
+room_fails past line d kind is room e =
+    elim (bind_err (moment_of past.ticks (field_at (codes "at") d)) (with_moment past d) kind e) [
+      | inl here ↦ wrong_moment d kind is room here
+      | inr later ↦ moment_fails past line d later.0 kind (record { stands = is; room = room; moment = later.1 })
+          later.2
+    ]
 
-tick_fails : (past : Past) (line : List ℕ) (d : Data) (kind : FaultKind) → Stands past line kinds.Tick d → tick_at past d ≡ Err kind → Fails past line kind
-unfolding tick_at
-tick_fails past line d kind is e = elim (tested (nat_le most_ticks (length past.ticks)) TooMany (with_room past d) kind e) [
-  | inl here ↦ subst (λ (k : FaultKind). Fails past line k) here.1 (many_ticks d is (leb-true most_ticks (length past.ticks) here.0))
-  | inr later ↦ room_fails past line d kind is (leb-false most_ticks (length past.ticks) later.0) later.1
-]
+tick_fails : (past : Past) (line : List ℕ) (d : Data) (kind : FaultKind) → Stands past line kinds.Tick d
+    → tick_at past d ≡ Err kind → Fails past line kind
+tick_fails past line d kind is e =
+    elim (tested (nat_le most_ticks (length past.ticks)) TooMany (with_room past d) kind
+    (sym (tick_whole past d) ∙ e)) [
+      | inl here ↦ subst (λ (k : FaultKind). Fails past line k) here.1
+          (many_ticks d is (leb-true most_ticks (length past.ticks) here.0))
+      | inr later ↦ room_fails past line d kind is (leb-false most_ticks (length past.ticks) later.0) later.1
+    ]
 
-said_fails : (past : Past) (line : List ℕ) (d : Data) (pod : PodSpec) (kind : FaultKind) → HasPod past line d pod → pod_said past pod ≡ Err kind → Fails past line kind
-said_fails past line d pod kind is e = elim (tested (has_key past.pods (key_of_pod pod)) DuplicatePod (pod_new past pod) kind e) [
-  | inl here ↦ subst (λ (k : FaultKind). Fails past line k) here.1 (duplicate_pod d pod is (key_there past.pods (key_of_pod pod) here.0))
-  | inr later ↦ absurd (no_fault (with_pod past pod) kind later.1)
-]
+said_fails : (past : Past) (line : List ℕ) (d : Data) (pod : PodSpec) (kind : FaultKind) → HasPod past line d pod
+    → pod_said past pod ≡ Err kind → Fails past line kind
+said_fails past line d pod kind is e =
+    elim (tested (has_key past.pods (key_of_pod pod)) DuplicatePod (pod_new past pod) kind e) [
+      | inl here ↦ subst (λ (k : FaultKind). Fails past line k) here.1
+          (duplicate_pod d pod is (key_there past.pods (key_of_pod pod) here.0))
+      | inr later ↦ absurd (no_fault (with_pod past pod) kind later.1)
+    ]
 
-read_fails : (past : Past) (line : List ℕ) (d : Data) (kind : FaultKind) → Stands past line kinds.Pod d → length past.pods < most_pods → pod_read past d tt ≡ Err kind → Fails past line kind
+read_fails : (past : Past) (line : List ℕ) (d : Data) (kind : FaultKind) → Stands past line kinds.Pod d
+    → length past.pods < most_pods → pod_read past d tt ≡ Err kind → Fails past line kind
 read_fails past line d kind is room e = elim (bind_err (pod_from (field_at (codes "pod") d)) (pod_said past) kind e) [
   | inl here ↦ wrong_pod d kind is room here
   | inr later ↦ said_fails past line d later.0 kind (record { stands = is; room = room; pod_is = later.1 }) later.2
 ]
 
-early_fails : (past : Past) (line : List ℕ) (d : Data) (kind : FaultKind) → Stands past line kinds.Pod d → pod_early past d tt ≡ Err kind → Fails past line kind
-early_fails past line d kind is e = elim (tested (nat_le most_pods (length past.pods)) TooMany (pod_read past d) kind e) [
-  | inl here ↦ subst (λ (k : FaultKind). Fails past line k) here.1 (many_pods d is (leb-true most_pods (length past.pods) here.0))
-  | inr later ↦ read_fails past line d kind is (leb-false most_pods (length past.pods) later.0) later.1
-]
+early_fails : (past : Past) (line : List ℕ) (d : Data) (kind : FaultKind) → Stands past line kinds.Pod d
+    → pod_early past d tt ≡ Err kind → Fails past line kind
+early_fails past line d kind is e =
+    elim (tested (nat_le most_pods (length past.pods)) TooMany (pod_read past d) kind e) [
+      | inl here ↦ subst (λ (k : FaultKind). Fails past line k) here.1
+          (many_pods d is (leb-true most_pods (length past.pods) here.0))
+      | inr later ↦ read_fails past line d kind is (leb-false most_pods (length past.pods) later.0) later.1
+    ]
 
-pod_fails : (version : Version) (past : Past) (line : List ℕ) (d : Data) (kind : FaultKind) → version_in past ≡ Some version → IsOfKind line kinds.Pod d → pod_line_at version past d ≡ Err kind → Fails past line kind
-unfolding pod_line_at
-pod_fails version past line d kind some is e = elim (tested (is_late version past.ticks) Order (pod_early past d) kind e) [
-  | inl here ↦ subst (λ (k : FaultKind). Fails past line k) here.1 (misplaced kinds.Pod d is (λ may. too_late version past.ticks here.0 (subst (PodStands past) some may)))
-  | inr later ↦ early_fails past line d kind (record { of_kind = is; here = subst (PodStands past) (sym some) (takes_pods version past.ticks later.0) }) later.1
-]
+pod_fails : (version : Version) (past : Past) (line : List ℕ) (d : Data) (kind : FaultKind)
+    → version_in past ≡ Some version → IsOfKind line kinds.Pod d → pod_line_at version past d ≡ Err kind
+    → Fails past line kind
+pod_fails version past line d kind some is e =
+    elim (tested (is_late version past.ticks) Order (pod_early past d) kind (sym (pod_whole version past d) ∙ e)) [
+      | inl here ↦ subst (λ (k : FaultKind). Fails past line k) here.1
+          (misplaced kinds.Pod d is (λ may. too_late version past.ticks here.0 (subst (PodStands past) some may)))
+      | inr later ↦ early_fails past line d kind
+          (record { of_kind = is; here = subst (PodStands past) (sym some) (takes_pods version past.ticks later.0) })
+          later.1
+    ]
 
-node_fails : (past : Past) (line : List ℕ) (d : Data) (kind : FaultKind) → Stands past line kinds.Node d → with_node past d ≡ Err kind → Fails past line kind
+node_fails : (past : Past) (line : List ℕ) (d : Data) (kind : FaultKind) → Stands past line kinds.Node d
+    → with_node past d ≡ Err kind → Fails past line kind
 unfolding with_node
 node_fails past line d kind is e =
     let said : NodeConfig → Result Past FaultKind = λ node. Ok (of_node past node) in
@@ -228,236 +227,204 @@ not_some : (node : Option NodeConfig) → node ≡ None → is_some node ≡ tru
 not_some None none some = absurd (cc)
 not_some (Some node) none some = absurd (cc)
 
-place_fails : (found : Option Version) (past : Past) (line : List ℕ) (line_kind : LineKind) (d : Data) (kind : FaultKind) → version_in past ≡ found → IsOfKind line line_kind d → in_order found past line_kind d ≡ Err kind → Fails past line kind
-place_fails None past line kinds.Node d kind none is e = node_fails past line d kind (record { of_kind = is; here = no_node past.node none }) e
+place_fails : (found : Option Version) (past : Past) (line : List ℕ) (line_kind : LineKind) (d : Data)
+    (kind : FaultKind) → version_in past ≡ found → IsOfKind line line_kind d
+    → in_order found past line_kind d ≡ Err kind → Fails past line kind
+place_fails None past line kinds.Node d kind none is e =
+    node_fails past line d kind (record { of_kind = is; here = no_node past.node none }) e
 place_fails None past line kinds.Pod d kind none is e =
-    subst (λ (k : FaultKind). Fails past line k) (same_fault {A = Past} Order kind e) (misplaced kinds.Pod d is (λ may. subst (PodStands past) none may))
+    subst (λ (k : FaultKind). Fails past line k) (same_fault {A = Past} Order kind e)
+    (misplaced kinds.Pod d is (λ may. subst (PodStands past) none may))
 place_fails None past line kinds.Tick d kind none is e =
-    subst (λ (k : FaultKind). Fails past line k) (same_fault {A = Past} Order kind e) (misplaced kinds.Tick d is (λ may. not_some past.node (no_node past.node none) may))
+    subst (λ (k : FaultKind). Fails past line k) (same_fault {A = Past} Order kind e)
+    (misplaced kinds.Tick d is (λ may. not_some past.node (no_node past.node none) may))
 place_fails (Some version) past line kinds.Node d kind some is e =
-    subst (λ (k : FaultKind). Fails past line k) (same_fault {A = Past} Order kind e) (misplaced kinds.Node d is (λ may. not_some past.node may (some_node past.node version some)))
+    subst (λ (k : FaultKind). Fails past line k) (same_fault {A = Past} Order kind e)
+    (misplaced kinds.Node d is (λ may. not_some past.node may (some_node past.node version some)))
 place_fails (Some version) past line kinds.Pod d kind some is e = pod_fails version past line d kind some is e
 place_fails (Some version) past line kinds.Tick d kind some is e =
     tick_fails past line d kind (record { of_kind = is; here = some_node past.node version some }) e
 
-kind_fails : (past : Past) (line : List ℕ) (d : Data) (found : Option LineKind) (kind : FaultKind) → IsJson line d → kind_from (text_at (codes "kind") d) ≡ found → with_kind past d found ≡ Err kind → Fails past line kind
-kind_fails past line d None kind is found e = subst (λ (k : FaultKind). Fails past line k) (same_fault {A = Past} UnknownKind kind e) (unknown_kind d is found)
-kind_fails past line d (Some line_kind) kind is found e = place_fails (version_in past) past line line_kind d kind refl (record { json = is; kind = found }) e
+kind_fails : (past : Past) (line : List ℕ) (d : Data) (found : Option LineKind) (kind : FaultKind) → IsJson line d
+    → kind_from (text_at (codes "kind") d) ≡ found → with_kind past d found ≡ Err kind → Fails past line kind
+kind_fails past line d None kind is found e =
+    subst (λ (k : FaultKind). Fails past line k) (same_fault {A = Past} UnknownKind kind e) (unknown_kind d is found)
+kind_fails past line d (Some line_kind) kind is found e =
+    place_fails (version_in past) past line line_kind d kind refl (record { json = is; kind = found }) e
 
-json_fails : (past : Past) (line : List ℕ) (kind : FaultKind) → length line ≤ longest_line → (json_of line >>= with_json past) ≡ Err kind → Fails past line kind
+json_fails : (past : Past) (line : List ℕ) (kind : FaultKind) → length line ≤ longest_line
+    → (json_of line >>= with_json past) ≡ Err kind → Fails past line kind
 json_fails past line kind short e = elim (bind_err (json_of line) (with_json past) kind e) [
   | inl here ↦ not_json kind short here
-  | inr later ↦ kind_fails past line later.0 (kind_from (text_at (codes "kind") later.0)) kind (record { short = short; json = later.1 }) refl later.2
+  | inr later ↦ kind_fails past line later.0 (kind_from (text_at (codes "kind") later.0)) kind
+      (record { short = short; json = later.1 }) refl later.2
 ]
 
 pub line_fails : (past : Past) (line : List ℕ) (kind : FaultKind) → line_at past line ≡ Err kind → Fails past line kind
-unfolding line_at
-line_fails past line kind e = elim (tested (nat_lt longest_line (length line)) TooLong (λ u. json_of line >>= with_json past) kind e) [
-  | inl here ↦ subst (λ (k : FaultKind). Fails past line k) here.1 (too_long (ltb-true longest_line (length line) here.0))
-  | inr later ↦ json_fails past line kind (ltb-false longest_line (length line) later.0) later.1
-]
+line_fails past line kind e =
+    elim (tested (nat_lt longest_line (length line)) TooLong (λ u. json_of line >>= with_json past) kind
+    (sym (line_whole past line) ∙ e)) [
+      | inl here ↦ subst (λ (k : FaultKind). Fails past line k) here.1
+          (too_long (ltb-true longest_line (length line) here.0))
+      | inr later ↦ json_fails past line kind (ltb-false longest_line (length line) later.0) later.1
+    ]
 
 -- from a check that fails to the fault
-of_short : (past : Past) (line : List ℕ) → length line ≤ longest_line → line_at past line ≡ (json_of line >>= with_json past)
-unfolding line_at
-of_short past line short = passed (nat_lt longest_line (length line)) TooLong (λ u. json_of line >>= with_json past) (le-ltb longest_line (length line) short)
+of_short : (past : Past) (line : List ℕ) → length line ≤ longest_line
+    → line_at past line ≡ (json_of line >>= with_json past)
+of_short past line short = line_whole past line
+    ∙ passed (nat_lt longest_line (length line)) TooLong (λ u. json_of line >>= with_json past)
+    (le-ltb longest_line (length line) short)
 
 of_long : (past : Past) (line : List ℕ) → longest_line < length line → line_at past line ≡ Err TooLong
-unfolding line_at
-of_long past line long = failed (nat_lt longest_line (length line)) TooLong (λ u. json_of line >>= with_json past) (lt-ltb longest_line (length line) long)
+of_long past line long = line_whole past line
+    ∙ failed (nat_lt longest_line (length line)) TooLong (λ u. json_of line >>= with_json past)
+    (lt-ltb longest_line (length line) long)
 
 of_json : (past : Past) (line : List ℕ) (d : Data) → IsJson line d → line_at past line ≡ with_json past d
 of_json past line d is = of_short past line is.short ∙ then_ok (json_of line) (with_json past) d is.json
 
-of_kind : (past : Past) (line : List ℕ) (line_kind : LineKind) (d : Data) → IsOfKind line line_kind d → line_at past line ≡ in_order (version_in past) past line_kind d
-of_kind past line line_kind d is = of_json past line d is.json ∙ ap (λ (found : Option LineKind). with_kind past d found) is.kind
+pub of_kind : (past : Past) (line : List ℕ) (line_kind : LineKind) (d : Data) → IsOfKind line line_kind d
+    → line_at past line ≡ in_order (version_in past) past line_kind d
+of_kind past line line_kind d is =
+    of_json past line d is.json ∙ ap (λ (found : Option LineKind). with_kind past d found) is.kind
 
-misplaced_kind : (found : Option Version) (past : Past) (line_kind : LineKind) (d : Data) → version_in past ≡ found → (MayStand past line_kind → ⊥) → in_order found past line_kind d ≡ Err Order
-unfolding pod_line_at
+misplaced_kind : (found : Option Version) (past : Past) (line_kind : LineKind) (d : Data) → version_in past ≡ found
+    → (MayStand past line_kind → ⊥) → in_order found past line_kind d ≡ Err Order
 misplaced_kind None past kinds.Node d none never = absurd (never (no_node past.node none))
 misplaced_kind None past kinds.Pod d none never = refl
 misplaced_kind None past kinds.Tick d none never = refl
 misplaced_kind (Some version) past kinds.Node d some never = refl
 misplaced_kind (Some version) past kinds.Pod d some never =
     let late = comes_late version past.ticks (λ may. never (subst (PodStands past) (sym some) may)) in
-    failed (is_late version past.ticks) Order (pod_early past d) late
+    pod_whole version past d ∙ failed (is_late version past.ticks) Order (pod_early past d) late
 misplaced_kind (Some version) past kinds.Tick d some never = absurd (never (some_node past.node version some))
 
-node_in_order : (node : Option NodeConfig) (past : Past) (d : Data) → node ≡ None → in_order (option_map (λ (n : NodeConfig). n.version) node) past kinds.Node d ≡ with_node past d
+pub node_in_order : (node : Option NodeConfig) (past : Past) (d : Data) → node ≡ None
+    → in_order (option_map (λ (n : NodeConfig). n.version) node) past kinds.Node d ≡ with_node past d
 node_in_order None past d is = refl
 node_in_order (Some node) past d is = absurd (cc)
 
-pod_in_order : (found : Option Version) (past : Past) (d : Data) → PodStands past found → in_order found past kinds.Pod d ≡ pod_early past d tt
-unfolding pod_line_at
+pod_in_order : (found : Option Version) (past : Past) (d : Data) → PodStands past found
+    → in_order found past kinds.Pod d ≡ pod_early past d tt
 pod_in_order None past d may = absurd may
-pod_in_order (Some version) past d may = passed (is_late version past.ticks) Order (pod_early past d) (in_time version past.ticks may)
+pod_in_order (Some version) past d may =
+    pod_whole version past d
+    ∙ passed (is_late version past.ticks) Order (pod_early past d) (in_time version past.ticks may)
 
-tick_in_order : (node : Option NodeConfig) (past : Past) (d : Data) → is_some node ≡ true → in_order (option_map (λ (n : NodeConfig). n.version) node) past kinds.Tick d ≡ tick_at past d
+tick_in_order : (node : Option NodeConfig) (past : Past) (d : Data) → is_some node ≡ true
+    → in_order (option_map (λ (n : NodeConfig). n.version) node) past kinds.Tick d ≡ tick_at past d
 tick_in_order None past d is = absurd (cc)
 tick_in_order (Some node) past d is = refl
 
-of_wrong_node : (past : Past) (line : List ℕ) (d : Data) (kind : FaultKind) → Stands past line kinds.Node d → node_in d ≡ Err kind → line_at past line ≡ Err kind
+of_wrong_node : (past : Past) (line : List ℕ) (d : Data) (kind : FaultKind) → Stands past line kinds.Node d
+    → node_in d ≡ Err kind → line_at past line ≡ Err kind
 unfolding with_node
 of_wrong_node past line d kind is e =
     let said : NodeConfig → Result Past FaultKind = λ node. Ok (of_node past node) in
-    of_kind past line kinds.Node d is.of_kind ∙ node_in_order past.node past d is.here ∙ then_err (node_in d) said kind e
+    of_kind past line kinds.Node d is.of_kind ∙ node_in_order past.node past d is.here
+    ∙ then_err (node_in d) said kind e
 
-of_pod : (past : Past) (line : List ℕ) (d : Data) → Stands past line kinds.Pod d → line_at past line ≡ pod_early past d tt
+of_pod : (past : Past) (line : List ℕ) (d : Data) → Stands past line kinds.Pod d
+    → line_at past line ≡ pod_early past d tt
 of_pod past line d is = of_kind past line kinds.Pod d is.of_kind ∙ pod_in_order (version_in past) past d is.here
 
-of_pod_room : (past : Past) (line : List ℕ) (d : Data) → Stands past line kinds.Pod d → length past.pods < most_pods → line_at past line ≡ pod_read past d tt
-of_pod_room past line d is room = of_pod past line d is ∙ passed (nat_le most_pods (length past.pods)) TooMany (pod_read past d) (lt-leb most_pods (length past.pods) room)
+of_pod_room : (past : Past) (line : List ℕ) (d : Data) → Stands past line kinds.Pod d → length past.pods < most_pods
+    → line_at past line ≡ pod_read past d tt
+of_pod_room past line d is room =
+    of_pod past line d is ∙ passed (nat_le most_pods (length past.pods)) TooMany (pod_read past d)
+    (lt-leb most_pods (length past.pods) room)
 
-of_pod_said : (past : Past) (line : List ℕ) (d : Data) (pod : PodSpec) → HasPod past line d pod → line_at past line ≡ pod_said past pod
-of_pod_said past line d pod is = of_pod_room past line d is.stands is.room ∙ then_ok (pod_from (field_at (codes "pod") d)) (pod_said past) pod is.pod_is
+pub of_pod_said : (past : Past) (line : List ℕ) (d : Data) (pod : PodSpec) → HasPod past line d pod
+    → line_at past line ≡ pod_said past pod
+of_pod_said past line d pod is = of_pod_room past line d is.stands is.room
+    ∙ then_ok (pod_from (field_at (codes "pod") d)) (pod_said past) pod is.pod_is
 
-of_tick : (past : Past) (line : List ℕ) (d : Data) → Stands past line kinds.Tick d → line_at past line ≡ (refused_if (nat_le most_ticks (length past.ticks)) TooMany >>= with_room past d)
-unfolding tick_at
+of_tick : (past : Past) (line : List ℕ) (d : Data) → Stands past line kinds.Tick d
+    → line_at past line ≡ (refused_if (nat_le most_ticks (length past.ticks)) TooMany >>= with_room past d)
 of_tick past line d is = of_kind past line kinds.Tick d is.of_kind ∙ tick_in_order past.node past d is.here
+    ∙ tick_whole past d
 
-of_room : (past : Past) (line : List ℕ) (d : Data) → Stands past line kinds.Tick d → length past.ticks < most_ticks → line_at past line ≡ with_room past d tt
-of_room past line d is room = of_tick past line d is ∙ passed (nat_le most_ticks (length past.ticks)) TooMany (with_room past d) (lt-leb most_ticks (length past.ticks) room)
+of_room : (past : Past) (line : List ℕ) (d : Data) → Stands past line kinds.Tick d → length past.ticks < most_ticks
+    → line_at past line ≡ with_room past d tt
+of_room past line d is room = of_tick past line d is
+    ∙ passed (nat_le most_ticks (length past.ticks)) TooMany (with_room past d)
+    (lt-leb most_ticks (length past.ticks) room)
 
-of_moment : (past : Past) (line : List ℕ) (d : Data) (at : ℕ) → HasMoment past line d at → line_at past line ≡ with_moment past d at
-of_moment past line d at is = of_room past line d is.stands is.room ∙ then_ok (moment_of past.ticks (field_at (codes "at") d)) (with_moment past d) at is.moment
+of_moment : (past : Past) (line : List ℕ) (d : Data) (at : ℕ) → HasMoment past line d at
+    → line_at past line ≡ with_moment past d at
+of_moment past line d at is = of_room past line d is.stands is.room
+    ∙ then_ok (moment_of past.ticks (field_at (codes "at") d)) (with_moment past d) at is.moment
 
-of_written : (past : Past) (line : List ℕ) (d : Data) (at : ℕ) (written : TickLine) → HasWritten past line d at written → line_at past line ≡ with_written past at written
-of_written past line d at written is = of_moment past line d at is.has_moment ∙ then_ok (tick_line_in d) (with_written past at) written is.written_is
+of_written : (past : Past) (line : List ℕ) (d : Data) (at : ℕ) (written : TickLine)
+    → HasWritten past line d at written → line_at past line ≡ with_written past at written
+of_written past line d at written is = of_moment past line d at is.has_moment
+    ∙ then_ok (tick_line_in d) (with_written past at) written is.written_is
 
-of_places : (past : Past) (line : List ℕ) (d : Data) (at : ℕ) (written : TickLine) (placed : List PlacedEntry) → HasPlaces past line d at written placed → line_at past line ≡ with_places past at written placed
-of_places past line d at written placed is = of_written past line d at written is.has_written ∙ then_ok (placed_of past.pods written.entries) (with_places past at written) placed is.placed_are
+pub of_places : (past : Past) (line : List ℕ) (d : Data) (at : ℕ) (written : TickLine) (placed : List PlacedEntry)
+    → HasPlaces past line d at written placed → line_at past line ≡ with_places past at written placed
+of_places past line d at written placed is = of_written past line d at written is.has_written
+    ∙ then_ok (placed_of past.pods written.entries) (with_places past at written) placed is.placed_are
 
-of_observed : (past : Past) (line : List ℕ) (d : Data) (at : ℕ) (written : TickLine) (placed : List PlacedEntry) (kind : FaultKind) → HasPlaces past line d at written placed
-    → (refused_if (is_doubled placed) Doubled >>= with_apart past at written placed) ≡ Err kind → line_at past line ≡ Err kind
+of_observed : (past : Past) (line : List ℕ) (d : Data) (at : ℕ) (written : TickLine) (placed : List PlacedEntry)
+    (kind : FaultKind) → HasPlaces past line d at written placed
+    → (refused_if (is_doubled placed) Doubled >>= with_apart past at written placed) ≡ Err kind
+    → line_at past line ≡ Err kind
 unfolding observed_in
-of_observed past line d at written placed kind is e = of_places past line d at written placed is ∙ then_err (observed_in past at written placed) (with_tick_seen past) kind e
+of_observed past line d at written placed kind is e = of_places past line d at written placed is
+    ∙ then_err (observed_in past at written placed) (with_tick_seen past) kind e
 
-of_apart : (past : Past) (line : List ℕ) (d : Data) (at : ℕ) (written : TickLine) (placed : List PlacedEntry) (kind : FaultKind) → IsApart past line d at written placed
+of_apart : (past : Past) (line : List ℕ) (d : Data) (at : ℕ) (written : TickLine) (placed : List PlacedEntry)
+    (kind : FaultKind) → IsApart past line d at written placed
     → with_apart past at written placed tt ≡ Err kind → line_at past line ≡ Err kind
-of_apart past line d at written placed kind is e = of_observed past line d at written placed kind is.has_places (passed (is_doubled placed) Doubled (with_apart past at written placed) is.apart ∙ e)
+of_apart past line d at written placed kind is e =
+    of_observed past line d at written placed kind is.has_places
+    (passed (is_doubled placed) Doubled (with_apart past at written placed) is.apart ∙ e)
 
-of_forwards : (past : Past) (line : List ℕ) (d : Data) (at : ℕ) (written : TickLine) (placed : List PlacedEntry) (kind : FaultKind) → IsForwards past line d at written placed
+of_forwards : (past : Past) (line : List ℕ) (d : Data) (at : ℕ) (written : TickLine) (placed : List PlacedEntry)
+    (kind : FaultKind) → IsForwards past line d at written placed
     → with_forwards past at written placed tt ≡ Err kind → line_at past line ≡ Err kind
 of_forwards past line d at written placed kind is e =
-    of_apart past line d at written placed kind is.is_apart (passed (is_backwards past.ticks (observed at written placed past.pods)) Backwards (with_forwards past at written placed) is.forwards ∙ e)
+    of_apart past line d at written placed kind is.is_apart
+    (passed (is_backwards past.ticks (observed at written placed past.pods)) Backwards
+    (with_forwards past at written placed) is.forwards ∙ e)
 
 fails_line : (past : Past) (line : List ℕ) (kind : FaultKind) → Fails past line kind → line_at past line ≡ Err kind
 fails_line past line _ (too_long long) = of_long past line long
-fails_line past line _ (not_json kind short e) = of_short past line short ∙ then_err (json_of line) (with_json past) kind e
-fails_line past line _ (unknown_kind d is none) = of_json past line d is ∙ ap (λ (found : Option LineKind). with_kind past d found) none
-fails_line past line _ (misplaced line_kind d is never) = of_kind past line line_kind d is ∙ misplaced_kind (version_in past) past line_kind d refl never
+fails_line past line _ (not_json kind short e) =
+    of_short past line short ∙ then_err (json_of line) (with_json past) kind e
+fails_line past line _ (unknown_kind d is none) =
+    of_json past line d is ∙ ap (λ (found : Option LineKind). with_kind past d found) none
+fails_line past line _ (misplaced line_kind d is never) = of_kind past line line_kind d is
+    ∙ misplaced_kind (version_in past) past line_kind d refl never
 fails_line past line _ (wrong_node d kind is e) = of_wrong_node past line d kind is e
-fails_line past line _ (many_pods d is many) = of_pod past line d is ∙ failed (nat_le most_pods (length past.pods)) TooMany (pod_read past d) (le-leb most_pods (length past.pods) many)
-fails_line past line _ (wrong_pod d kind is room e) = of_pod_room past line d is room ∙ then_err (pod_from (field_at (codes "pod") d)) (pod_said past) kind e
-fails_line past line _ (duplicate_pod d pod is known) = of_pod_said past line d pod is ∙ failed (has_key past.pods (key_of_pod pod)) DuplicatePod (pod_new past pod) (there_key past.pods (key_of_pod pod) known)
-fails_line past line _ (many_ticks d is many) = of_tick past line d is ∙ failed (nat_le most_ticks (length past.ticks)) TooMany (with_room past d) (le-leb most_ticks (length past.ticks) many)
-fails_line past line _ (wrong_moment d kind is room e) = of_room past line d is room ∙ then_err (moment_of past.ticks (field_at (codes "at") d)) (with_moment past d) kind e
-fails_line past line _ (wrong_field d at kind is e) = of_moment past line d at is ∙ then_err (tick_line_in d) (with_written past at) kind e
-fails_line past line _ (stranger d at written kind is e) = of_written past line d at written is ∙ then_err (placed_of past.pods written.entries) (with_places past at written) kind e
-fails_line past line _ (doubled d at written placed is twice) = of_observed past line d at written placed Doubled is (failed (is_doubled placed) Doubled (with_apart past at written placed) twice)
-fails_line past line _ (backwards d at written placed is back) = of_apart past line d at written placed Backwards is (failed (is_backwards past.ticks (observed at written placed past.pods)) Backwards (with_forwards past at written placed) back)
-fails_line past line _ (no_code d at written placed is missing) = of_forwards past line d at written placed ExitCode is (failed (some_code_missing placed) ExitCode (with_code past at written placed) missing)
+fails_line past line _ (many_pods d is many) =
+    of_pod past line d is ∙ failed (nat_le most_pods (length past.pods)) TooMany (pod_read past d)
+    (le-leb most_pods (length past.pods) many)
+fails_line past line _ (wrong_pod d kind is room e) = of_pod_room past line d is room
+    ∙ then_err (pod_from (field_at (codes "pod") d)) (pod_said past) kind e
+fails_line past line _ (duplicate_pod d pod is known) = of_pod_said past line d pod is
+    ∙ failed (has_key past.pods (key_of_pod pod)) DuplicatePod (pod_new past pod)
+    (there_key past.pods (key_of_pod pod) known)
+fails_line past line _ (many_ticks d is many) =
+    of_tick past line d is ∙ failed (nat_le most_ticks (length past.ticks)) TooMany (with_room past d)
+    (le-leb most_ticks (length past.ticks) many)
+fails_line past line _ (wrong_moment d kind is room e) =
+    of_room past line d is room ∙ then_err (moment_of past.ticks (field_at (codes "at") d)) (with_moment past d) kind e
+fails_line past line _ (wrong_field d at kind is e) =
+    of_moment past line d at is ∙ then_err (tick_line_in d) (with_written past at) kind e
+fails_line past line _ (stranger d at written kind is e) = of_written past line d at written is
+    ∙ then_err (placed_of past.pods written.entries) (with_places past at written) kind e
+fails_line past line _ (doubled d at written placed is twice) =
+    of_observed past line d at written placed Doubled is
+    (failed (is_doubled placed) Doubled (with_apart past at written placed) twice)
+fails_line past line _ (backwards d at written placed is back) =
+    of_apart past line d at written placed Backwards is
+    (failed (is_backwards past.ticks (observed at written placed past.pods)) Backwards
+    (with_forwards past at written placed) back)
+fails_line past line _ (no_code d at written placed is missing) =
+    of_forwards past line d at written placed ExitCode is
+    (failed (some_code_missing placed) ExitCode (with_code past at written placed) missing)
 
 pub first_check : FirstCheck
 first_check past line kind = (line_fails past line kind, fails_line past line kind)
-
--- a test that refuses nothing, and what follows it
-cleared : {B E : Type 0} (b : Bool) (fault : E) (f : ⊤ → Result B E) (y : B) → (refused_if b fault >>= f) ≡ Ok y → (b ≡ false) × (f tt ≡ Ok y)
-cleared true fault f y e = absurd (cc)
-cleared false fault f y e = (refl, e)
-
-same_value : {A E : Type 0} (a b : A) → ◌≡◌ {A = Result A E} (Ok a) (Ok b) → a ≡ b
-same_value a b e = cc
-
--- from what a line leaves to what it says
-tick_says : (past : Past) (line : List ℕ) (d : Data) (next : Past) → Stands past line kinds.Tick d → tick_at past d ≡ Ok next → Says past line next
-unfolding tick_at observed_in
-tick_says past line d next is e =
-    let room = cleared (nat_le most_ticks (length past.ticks)) TooMany (with_room past d) next e in
-    let at = bind_ok (moment_of past.ticks (field_at (codes "at") d)) (with_moment past d) next room.1 in
-    let written = bind_ok (tick_line_in d) (with_written past at.0) next at.2 in
-    let placed = bind_ok (placed_of past.pods written.0.entries) (with_places past at.0 written.0) next written.2 in
-    let tick = bind_ok (observed_in past at.0 written.0 placed.0) (with_tick_seen past) next placed.2 in
-    let apart = cleared (is_doubled placed.0) Doubled (with_apart past at.0 written.0 placed.0) tick.0 tick.1 in
-    let forwards = cleared (is_backwards past.ticks (observed at.0 written.0 placed.0 past.pods)) Backwards (with_forwards past at.0 written.0 placed.0) tick.0 apart.1 in
-    let coded = cleared (some_code_missing placed.0) ExitCode (with_code past at.0 written.0 placed.0) tick.0 forwards.1 in
-    let is_tick : observed at.0 written.0 placed.0 past.pods ≡ tick.0 = same_value {E = FaultKind} (observed at.0 written.0 placed.0 past.pods) tick.0 coded.1 in
-    let is_next : with_tick past tick.0 ≡ next = same_value {E = FaultKind} (with_tick past tick.0) next tick.2 in
-    let has_moment : HasMoment past line d at.0 = record { stands = is; room = leb-false most_ticks (length past.ticks) room.0; moment = at.1 } in
-    let has_written : HasWritten past line d at.0 written.0 = record { has_moment = has_moment; written_is = written.1 } in
-    let has_places : HasPlaces past line d at.0 written.0 placed.0 = record { has_written = has_written; placed_are = placed.1 } in
-    let is_apart : IsApart past line d at.0 written.0 placed.0 = record { has_places = has_places; apart = apart.0 } in
-    let is_forwards : IsForwards past line d at.0 written.0 placed.0 = record { is_apart = is_apart; forwards = forwards.0 } in
-    let says : Says past line (with_tick past (observed at.0 written.0 placed.0 past.pods)) = says_tick d at.0 written.0 placed.0 is_forwards coded.0 in
-    subst (λ (p : Past). Says past line p) {x = with_tick past tick.0} {y = next} is_next
-    (subst (λ (t : TickObs). Says past line (with_tick past t)) {x = observed at.0 written.0 placed.0 past.pods} {y = tick.0} is_tick says)
-
-pod_says : (version : Version) (past : Past) (line : List ℕ) (d : Data) (next : Past) → version_in past ≡ Some version → IsOfKind line kinds.Pod d → pod_line_at version past d ≡ Ok next → Says past line next
-unfolding pod_line_at
-pod_says version past line d next some is e =
-    let before = cleared (is_late version past.ticks) Order (pod_early past d) next e in
-    let room = cleared (nat_le most_pods (length past.pods)) TooMany (pod_read past d) next before.1 in
-    let pod = bind_ok (pod_from (field_at (codes "pod") d)) (pod_said past) next room.1 in
-    let new = cleared (has_key past.pods (key_of_pod pod.0)) DuplicatePod (pod_new past pod.0) next pod.2 in
-    let is_next : with_pod past pod.0 ≡ next = same_value {E = FaultKind} (with_pod past pod.0) next new.1 in
-    let stands : Stands past line kinds.Pod d = record { of_kind = is; here = subst (PodStands past) (sym some) (takes_pods version past.ticks before.0) } in
-    let has_pod : HasPod past line d pod.0 = record { stands = stands; room = leb-false most_pods (length past.pods) room.0; pod_is = pod.1 } in
-    subst (λ (p : Past). Says past line p) {x = with_pod past pod.0} is_next (says_pod d pod.0 has_pod (key_nowhere past.pods (key_of_pod pod.0) new.0))
-
-node_says : (past : Past) (line : List ℕ) (d : Data) (next : Past) → Stands past line kinds.Node d → with_node past d ≡ Ok next → Says past line next
-unfolding with_node
-node_says past line d next is e =
-    let said : NodeConfig → Past = of_node past in
-    let last : NodeConfig → Result Past FaultKind = λ node. Ok (said node) in
-    let node = bind_ok (node_in d) last next e in
-    let is_next : said node.0 ≡ next = same_value {E = FaultKind} (said node.0) next node.2 in
-    subst (λ (p : Past). Says past line p) {x = said node.0} is_next (says_node d node.0 is node.1)
-
-place_says : (found : Option Version) (past : Past) (line : List ℕ) (line_kind : LineKind) (d : Data) (next : Past) → version_in past ≡ found → IsOfKind line line_kind d → in_order found past line_kind d ≡ Ok next → Says past line next
-place_says None past line kinds.Node d next none is e = node_says past line d next (record { of_kind = is; here = no_node past.node none }) e
-place_says None past line kinds.Pod d next none is e = absurd (no_fault next Order (sym e))
-place_says None past line kinds.Tick d next none is e = absurd (no_fault next Order (sym e))
-place_says (Some version) past line kinds.Node d next some is e = absurd (no_fault next Order (sym e))
-place_says (Some version) past line kinds.Pod d next some is e = pod_says version past line d next some is e
-place_says (Some version) past line kinds.Tick d next some is e =
-    tick_says past line d next (record { of_kind = is; here = some_node past.node version some }) e
-
-kind_says : (past : Past) (line : List ℕ) (d : Data) (found : Option LineKind) (next : Past) → IsJson line d → kind_from (text_at (codes "kind") d) ≡ found → with_kind past d found ≡ Ok next → Says past line next
-kind_says past line d None next is found e = absurd (no_fault next UnknownKind (sym e))
-kind_says past line d (Some line_kind) next is found e = place_says (version_in past) past line line_kind d next refl (record { json = is; kind = found }) e
-
-line_says_it : (past : Past) (line : List ℕ) (next : Past) → line_at past line ≡ Ok next → Says past line next
-unfolding line_at
-line_says_it past line next e =
-    let short = cleared (nat_lt longest_line (length line)) TooLong (λ u. json_of line >>= with_json past) next e in
-    let json = bind_ok (json_of line) (with_json past) next short.1 in
-    let is : IsJson line json.0 = record { short = ltb-false longest_line (length line) short.0; json = json.1 } in
-    kind_says past line json.0 (kind_from (text_at (codes "kind") json.0)) next is refl json.2
-
--- from what a line says to what it leaves
-node_line : (past : Past) (line : List ℕ) (d : Data) (node : NodeConfig) → Stands past line kinds.Node d → node_in d ≡ Ok node
-    → line_at past line ≡ Ok (of_node past node)
-unfolding with_node
-node_line past line d node is e =
-    let said : NodeConfig → Result Past FaultKind = λ node. Ok (of_node past node) in
-    of_kind past line kinds.Node d is.of_kind ∙ node_in_order past.node past d is.here ∙ then_ok (node_in d) said node e
-
-tick_line : (past : Past) (line : List ℕ) (d : Data) (at : ℕ) (written : TickLine) (placed : List PlacedEntry) → IsForwards past line d at written placed → some_code_missing placed ≡ false
-    → line_at past line ≡ Ok (with_tick past (observed at written placed past.pods))
-unfolding observed_in
-tick_line past line d at written placed is coded =
-    let seen = observed at written placed past.pods in
-    let given : observed_in past at written placed ≡ Ok seen =
-    passed (is_doubled placed) Doubled (with_apart past at written placed) is.is_apart.apart
-    ∙ passed (is_backwards past.ticks seen) Backwards (with_forwards past at written placed) is.forwards
-    ∙ passed (some_code_missing placed) ExitCode (with_code past at written placed) coded in
-    of_places past line d at written placed is.is_apart.has_places ∙ then_ok (observed_in past at written placed) (with_tick_seen past) seen given
-
-says_line : (past : Past) (line : List ℕ) (next : Past) → Says past line next → line_at past line ≡ Ok next
-says_line past line _ (says_node d node is e) = node_line past line d node is e
-says_line past line _ (says_pod d pod is new) =
-    of_pod_said past line d pod is ∙ passed (has_key past.pods (key_of_pod pod)) DuplicatePod (pod_new past pod) (nowhere_key past.pods (key_of_pod pod) new)
-says_line past line _ (says_tick d at written placed is coded) = tick_line past line d at written placed is coded
-
-pub all_checks : AllChecks
-all_checks past line next = (line_says_it past line next, says_line past line next)

@@ -1,5 +1,6 @@
 -- A tick goes back exactly where some container's listing does.
-use Rattle.std.proofs.Common.{◌≡◌, ◌⊎◌, ℕ, suc, ◌+◌, ◌||◌, not, Bool, true, false, List, [], ◌∷◌, Option, Some, None, refl, sym, subst, inl, inr, arith}
+use Rattle.std.proofs.Common.{◌≡◌, ◌⊎◌, ℕ, suc, ◌+◌, ◌||◌, not, Bool, true, false, List, [], ◌∷◌, Option, Some, None}
+use Rattle.std.proofs.Common.{refl, sym, subst, inl, inr, arith}
 use Rattle.std.specs.Prelude.{slice_get, option_and_then}
 use Rattle.std.proofs.lemmas.Bool.{cases_Bool}
 use Rattle.state_diff.specs.declared.seen.Seen.{Seen}
@@ -30,38 +31,50 @@ unaccepted : (a : Bool) → not a ≡ true → a ≡ false
 unaccepted true e = absurd (cc)
 unaccepted false e = refl
 
-container_back : (ticks : List TickObs) (pod n : ℕ) (os : List ContainerObs) → some_container_backwards ticks pod n os ≡ true
+container_back : (ticks : List TickObs) (pod n : ℕ) (os : List ContainerObs)
+    → some_container_backwards ticks pod n os ≡ true
     → (c : ℕ) × Refused (history ticks pod (n + c)) (option_and_then (λ (o : ContainerObs). o.seen) (slice_get os c))
 container_back ticks pod n [] e = absurd (cc)
-container_back ticks pod n (o ∷ os) e = elim (here_or_later (not (is_acceptable (history ticks pod n) o.seen)) (some_container_backwards ticks pod (n + 1) os) e) [
-  | inl here ↦
-      let same : n + 0 ≡ n = omega arith in
-      let refused = refused_entry (history ticks pod n) o.seen (unaccepted (is_acceptable (history ticks pod n) o.seen) here) in
-      (0, subst (λ (k : ℕ). Refused (history ticks pod k) o.seen) (sym same) refused)
-  | inr rest ↦
-      let later = container_back ticks pod (n + 1) os rest in
-      let same : n + 1 + later.0 ≡ n + suc later.0 = omega arith in
-      (suc later.0, subst (λ (k : ℕ). Refused (history ticks pod k) (option_and_then (λ (o : ContainerObs). o.seen) (slice_get os later.0))) same later.1)
-]
+container_back ticks pod n (o ∷ os) e =
+    elim (here_or_later (not (is_acceptable (history ticks pod n) o.seen))
+    (some_container_backwards ticks pod (n + 1) os) e) [
+      | inl here ↦
+          let same : n + 0 ≡ n = omega arith in
+          let refused = refused_entry (history ticks pod n) o.seen
+          (unaccepted (is_acceptable (history ticks pod n) o.seen) here) in
+          (0, subst (λ (k : ℕ). Refused (history ticks pod k) o.seen) (sym same) refused)
+      | inr rest ↦
+          let later = container_back ticks pod (n + 1) os rest in
+          let same : n + 1 + later.0 ≡ n + suc later.0 = omega arith in (
+            suc later.0,
+            subst (λ (k : ℕ). Refused (history ticks pod k)
+                (option_and_then (λ (o : ContainerObs). o.seen) (slice_get os later.0))) same later.1,
+          )
+    ]
 
 pod_back : (ticks : List TickObs) (n : ℕ) (ps : List PodObs) → some_pod_backwards ticks n ps ≡ true
     → (p c : ℕ) × Refused (history ticks (n + p) c) (seen_in_pod (slice_get ps p) c)
 pod_back ticks n [] e = absurd (cc)
-pod_back ticks n (q ∷ qs) e = elim (here_or_later (some_container_backwards ticks n 0 q.containers) (some_pod_backwards ticks (n + 1) qs) e) [
-  | inl here ↦
-      let found = container_back ticks n 0 q.containers here in
-      let same : n + 0 ≡ n = omega arith in
-      let place : 0 + found.0 ≡ found.0 = omega arith in (
-        0,
-        found.0,
-        subst (λ (k : ℕ). Refused (history ticks k found.0) (seen_in_pod (Some q) found.0)) (sym same)
-            (subst (λ (k : ℕ). Refused (history ticks n k) (seen_in_pod (Some q) found.0)) place found.1),
-      )
-  | inr rest ↦
-      let later = pod_back ticks (n + 1) qs rest in
-      let same : n + 1 + later.0 ≡ n + suc later.0 = omega arith in
-      (suc later.0, later.1, subst (λ (k : ℕ). Refused (history ticks k later.1) (seen_in_pod (slice_get qs later.0) later.1)) same later.2)
-]
+pod_back ticks n (q ∷ qs) e = elim (here_or_later (some_container_backwards ticks n 0 q.containers)
+    (some_pod_backwards ticks (n + 1) qs) e) [
+      | inl here ↦
+          let found = container_back ticks n 0 q.containers here in
+          let same : n + 0 ≡ n = omega arith in
+          let place : 0 + found.0 ≡ found.0 = omega arith in (
+            0,
+            found.0,
+            subst (λ (k : ℕ). Refused (history ticks k found.0) (seen_in_pod (Some q) found.0)) (sym same)
+                (subst (λ (k : ℕ). Refused (history ticks n k) (seen_in_pod (Some q) found.0)) place found.1),
+          )
+      | inr rest ↦
+          let later = pod_back ticks (n + 1) qs rest in
+          let same : n + 1 + later.0 ≡ n + suc later.0 = omega arith in (
+            suc later.0,
+            later.1,
+            subst (λ (k : ℕ). Refused (history ticks k later.1)
+                (seen_in_pod (slice_get qs later.0) later.1)) same later.2,
+          )
+    ]
 
 goes_back : (ticks : List TickObs) (tick : TickObs) → is_backwards ticks tick ≡ true → GoesBack ticks tick
 goes_back ticks tick e =
@@ -77,7 +90,8 @@ goes_back ticks tick e =
       listed = refused.1;
       behind = λ may.
           let accepted = (is_acceptable_is (history ticks p c) (Some refused.0)).1 may in
-          let not_accepted : is_acceptable (history ticks p c) (Some refused.0) ≡ false = subst (λ (o : Option Seen). is_acceptable (history ticks p c) o ≡ false) refused.1 refused.2 in
+          let not_accepted : is_acceptable (history ticks p c) (Some refused.0) ≡ false =
+          subst (λ (o : Option Seen). is_acceptable (history ticks p c) o ≡ false) refused.1 refused.2 in
           absurd (cc);
     }
 
@@ -89,8 +103,10 @@ back_goes ticks tick is = elim (cases_Bool (is_backwards ticks tick)) [
       let c = is.container in
       let place : 0 + p ≡ p = omega arith in
       let ok : is_acceptable (history ticks p c) (seen_of tick p c) ≡ true =
-      subst (λ (k : ℕ). is_acceptable (history ticks k c) (seen_of tick p c) ≡ true) place (pods_forwards ticks 0 tick.pods forth p c) in
-      let accepted : is_acceptable (history ticks p c) (Some is.seen) ≡ true = subst (λ (o : Option Seen). is_acceptable (history ticks p c) o ≡ true) is.listed ok in
+      subst (λ (k : ℕ). is_acceptable (history ticks k c) (seen_of tick p c) ≡ true) place
+      (pods_forwards ticks 0 tick.pods forth p c) in
+      let accepted : is_acceptable (history ticks p c) (Some is.seen) ≡ true =
+      subst (λ (o : Option Seen). is_acceptable (history ticks p c) o ≡ true) is.listed ok in
       absurd (is.behind ((is_acceptable_is (history ticks p c) (Some is.seen)).0 accepted))
 ]
 

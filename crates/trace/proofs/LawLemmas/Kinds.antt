@@ -1,13 +1,15 @@
 -- The kinds of fault that the checks of a line answer.
-use Rattle.std.proofs.Common.{◌≡◌, ◌⊎◌, ℕ, Bool, List, [], length, slice_get, Option, Some, None, Result, Ok, Err, refl, ap, sym, subst, inl, inr}
-use Rattle.std.specs.Prelude.{◌==◌, ◌&&◌, ◌-◌, ◌^◌, if◌then◌else◌, option_and_then, nat_lt, codes}
-use Rattle.serde_json.specs.Data.{Data, Items}
-use Rattle.serde_json.specs.Find.{as_str, as_number, as_u64, as_array}
-use Rattle.json_fields.specs.Fields.{field_at, text_at}
+use Rattle.std.proofs.Common.{◌≡◌, ◌⊎◌, ℕ, List, length, slice_get, Option, Some, None, Result, Ok, Err}
+use Rattle.std.proofs.Common.{refl, ap, sym, subst, inl, inr}
+use Rattle.std.specs.Prelude.{◌&&◌, ◌-◌, ◌^◌, option_and_then, nat_lt, codes}
+use Rattle.serde_json.specs.Data.{Data}
+use Rattle.serde_json.specs.Find.{as_number, as_u64}
+use Rattle.json_fields.specs.Fields.{field_at}
 use Rattle.json_fields.specs.Reading.{some_or}
 use Rattle.manifest.specs.declared.pod.PodSpec.{PodSpec}
 use Rattle.trace.specs.declared.fault.FaultKind.{FaultKind}
-use Rattle.trace.specs.declared.fault.FaultKind.TheVariants.{NotJson, Config, SoftWithoutGrace, Manifest, Moment, Usage, StrangerPod, StrangerContainer, Order}
+use Rattle.trace.specs.declared.fault.FaultKind.TheVariants.{NotJson, Config, SoftWithoutGrace, Manifest, Moment}
+use Rattle.trace.specs.declared.fault.FaultKind.TheVariants.{Usage, StrangerPod, StrangerContainer, Order}
 use Rattle.trace.specs.declared.fault.LineFault.{LineFault}
 use Rattle.observations.specs.declared.tick.TickObs.{TickObs}
 use Rattle.tick_lines.specs.declared.entry.Entry.{Entry}
@@ -28,10 +30,12 @@ use Rattle.trace.specs.Placing.{number_in, container_number, placed_listing, pla
 use Rattle.trace.specs.Past.{Past}
 use Rattle.trace.specs.Tick.{is_later, moment_from}
 use Rattle.trace.specs.Trace.{json_of}
-use Rattle.trace.specs.Laws.{IsFirstFault, Fails, too_long, not_json, unknown_kind, misplaced, wrong_node, many_pods, wrong_pod, duplicate_pod, many_ticks, wrong_moment, wrong_field, stranger, doubled, backwards, no_code, KindsOfChecks, IsNotMemory, NeverMemory}
+use Rattle.trace.specs.Laws.{IsFirstFault, Fails, too_long, not_json, unknown_kind, misplaced, wrong_node, many_pods}
+use Rattle.trace.specs.Laws.{wrong_pod, duplicate_pod, many_ticks, wrong_moment, wrong_field, stranger, doubled}
+use Rattle.trace.specs.Laws.{backwards, no_code, KindsOfChecks, IsNotMemory, NeverMemory}
 use Rattle.trace.proofs.LawLemmas.{first_fault}
 use Rattle.trace.proofs.LawLemmas.Checks.{line_fails}
-use Rattle.json_fields.proofs.Only.{Only, only_ok, only_err, only_bind, only_if, only_refused, only_some, only_each}
+use Rattle.json_fields.proofs.Only.{Only, only_ok, only_err, only_bind, only_if, only_some, only_each}
 use Rattle.node_lines.specs.declared.fault.NodeFault.{NodeFault}
 use Rattle.node_lines.specs.Node.{node_of}
 use Rattle.node_lines.proofs.FaultLemmas.{IsNodeFault, node_only}
@@ -63,7 +67,8 @@ json_only : (line : List ℕ) → Only (Is NotJson) (json_of line)
 unfolding json_of
 json_only line =
     let P = Is NotJson in
-    only_if P (is_utf8 line) (some_or NotJson (read line)) (Err NotJson) (only_some P NotJson (read line) refl) (only_err P NotJson refl)
+    only_if P (is_utf8 line) (some_or NotJson (read line)) (Err NotJson) (only_some P NotJson (read line) refl)
+    (only_err P NotJson refl)
 
 abbrev IsManifest : FaultKind → Type 0
 IsManifest kind = (fault : ManifestFault) × (kind ≡ Manifest fault) × IsFound fault
@@ -79,11 +84,13 @@ pod_only (Some d) = manifest_only (pod_at d) (pod_at_only d)
 moment_only : (ticks : List TickObs) (found : Option ℕ) → Only (Is Moment) (moment_from ticks found)
 moment_only ticks None = only_err (Is Moment) Moment refl
 moment_only ticks (Some at) =
-    only_if (Is Moment) (nat_lt at (2 ^ 40) && is_later (slice_get ticks (length ticks - 1)) at) (Ok at) (Err Moment) (only_ok (Is Moment) at) (only_err (Is Moment) Moment refl)
+    only_if (Is Moment) (nat_lt at (2 ^ 40) && is_later (slice_get ticks (length ticks - 1)) at) (Ok at) (Err Moment)
+    (only_ok (Is Moment) at) (only_err (Is Moment) Moment refl)
 
 of_tick_only : {A : Type 0} (r : Result A TickLineFault) → Only IsUsageFault r → Only (Is Usage) (of_tick_line r)
 of_tick_only (Ok x) only = only_ok (Is Usage) x
-of_tick_only (Err fault) only = only_err (Is Usage) (kind_of_tick_fault fault) (ap kind_of_tick_fault (only.has fault refl))
+of_tick_only (Err fault) only =
+    only_err (Is Usage) (kind_of_tick_fault fault) (ap kind_of_tick_fault (only.has fault refl))
 
 tick_only : (d : Data) → Only (Is Usage) (tick_line_in d)
 tick_only d = of_tick_only (tick_line_of d) (record { has = one_kind d })
@@ -95,15 +102,19 @@ number_only : (keys : List (List ℕ)) (entry : Entry) → Only IsStranger (numb
 number_only keys entry = only_some IsStranger StrangerPod (place_of keys entry.key) (inl refl)
 
 container_number_only : (pod : PodSpec) (name : List ℕ) → Only IsStranger (container_number pod name)
-container_number_only pod name = only_some IsStranger StrangerContainer (place_of (names_of pod.containers) name) (inr refl)
+container_number_only pod name =
+    only_some IsStranger StrangerContainer (place_of (names_of pod.containers) name) (inr refl)
 
 placed_listing_only : (pod : PodSpec) (listing : Listing) → Only IsStranger (placed_listing pod listing)
-placed_listing_only pod listing = only_bind IsStranger _ _ (container_number_only pod listing.name) (λ number. only_ok IsStranger _)
+placed_listing_only pod listing =
+    only_bind IsStranger _ _ (container_number_only pod listing.name) (λ number. only_ok IsStranger _)
 
 placed_result_only : (pod : PodSpec) (r : ProbeResult) → Only IsStranger (placed_result pod r)
-placed_result_only pod r = only_bind IsStranger _ _ (container_number_only pod r.container) (λ number. only_ok IsStranger _)
+placed_result_only pod r = only_bind IsStranger _ _ (container_number_only pod r.container)
+    (λ number. only_ok IsStranger _)
 
-placed_entry_only : (keys : List (List ℕ)) (pods : List PodSpec) (entry : Entry) → Only IsStranger (placed_entry keys pods entry)
+placed_entry_only : (keys : List (List ℕ)) (pods : List PodSpec) (entry : Entry)
+    → Only IsStranger (placed_entry keys pods entry)
 unfolding placed_entry
 placed_entry_only keys pods entry =
     let P = IsStranger in
@@ -124,7 +135,8 @@ kinds_of_checks = record {
   json = λ line kind e. (json_only line).has kind e;
   node = λ d kind e. (node_in_only d).has kind e;
   pod = λ found kind e. let is = (pod_only found).has kind e in (is.0, is.1);
-  moment = λ ticks found kind e. (moment_only ticks (option_and_then as_u64 (option_and_then as_number found))).has kind e;
+  moment = λ ticks found kind e. (moment_only ticks (option_and_then as_u64 (option_and_then as_number found))).has
+      kind e;
   tick = λ d kind e. (tick_only d).has kind e;
   places = λ pods es kind e. (placed_only pods es).has kind e;
 }
@@ -135,7 +147,8 @@ is_not kind given is never = subst IsNotMemory (sym is) never
 
 fails_not_memory : (past : Past) (line : List ℕ) (kind : FaultKind) → Fails past line kind → IsNotMemory kind
 fails_not_memory past line _ (too_long long) = (λ memory. absurd (cc), λ memory. absurd (cc))
-fails_not_memory past line _ (not_json kind short e) = is_not kind NotJson ((json_only line).has kind e) (λ memory. absurd (cc), λ memory. absurd (cc))
+fails_not_memory past line _ (not_json kind short e) =
+    is_not kind NotJson ((json_only line).has kind e) (λ memory. absurd (cc), λ memory. absurd (cc))
 fails_not_memory past line _ (unknown_kind d is none) = (λ memory. absurd (cc), λ memory. absurd (cc))
 fails_not_memory past line _ (misplaced sort d is never) = (λ memory. absurd (cc), λ memory. absurd (cc))
 fails_not_memory past line _ (wrong_node d kind is e) = elim ((node_in_only d).has kind e) [
@@ -147,16 +160,23 @@ fails_not_memory past line _ (wrong_pod d kind is none e) =
     let given = (pod_only (field_at (codes "pod") d)).has kind e in
     let fault = given.0 in
     let found : IsFound fault = given.2 in
-    is_not kind (Manifest fault) given.1 (λ memory. absurd (cc), λ memory. let same : fault ≡ faults.OutOfMemory = cc in absurd (found same))
+    is_not kind (Manifest fault) given.1 (
+      λ memory. absurd (cc),
+      λ memory. let same : fault ≡ faults.OutOfMemory =
+          cc in absurd (found same),
+    )
 fails_not_memory past line _ (duplicate_pod d pod is known) = (λ memory. absurd (cc), λ memory. absurd (cc))
 fails_not_memory past line _ (many_ticks d is many) = (λ memory. absurd (cc), λ memory. absurd (cc))
 fails_not_memory past line _ (wrong_moment d kind is room e) =
-    is_not kind Moment (kinds_of_checks.moment past.ticks (field_at (codes "at") d) kind e) (λ memory. absurd (cc), λ memory. absurd (cc))
-fails_not_memory past line _ (wrong_field d at kind is e) = is_not kind Usage ((tick_only d).has kind e) (λ memory. absurd (cc), λ memory. absurd (cc))
-fails_not_memory past line _ (stranger d at written kind is e) = elim ((placed_only past.pods written.entries).has kind e) [
-  | inl pod ↦ is_not kind StrangerPod pod (λ memory. absurd (cc), λ memory. absurd (cc))
-  | inr container ↦ is_not kind StrangerContainer container (λ memory. absurd (cc), λ memory. absurd (cc))
-]
+    is_not kind Moment (kinds_of_checks.moment past.ticks (field_at (codes "at") d) kind e)
+    (λ memory. absurd (cc), λ memory. absurd (cc))
+fails_not_memory past line _ (wrong_field d at kind is e) =
+    is_not kind Usage ((tick_only d).has kind e) (λ memory. absurd (cc), λ memory. absurd (cc))
+fails_not_memory past line _ (stranger d at written kind is e) =
+    elim ((placed_only past.pods written.entries).has kind e) [
+      | inl pod ↦ is_not kind StrangerPod pod (λ memory. absurd (cc), λ memory. absurd (cc))
+      | inr container ↦ is_not kind StrangerContainer container (λ memory. absurd (cc), λ memory. absurd (cc))
+    ]
 fails_not_memory past line _ (doubled d at written placed is twice) = (λ memory. absurd (cc), λ memory. absurd (cc))
 fails_not_memory past line _ (backwards d at written placed is back) = (λ memory. absurd (cc), λ memory. absurd (cc))
 fails_not_memory past line _ (no_code d at written placed is missing) = (λ memory. absurd (cc), λ memory. absurd (cc))
@@ -164,7 +184,8 @@ fails_not_memory past line _ (no_code d at written placed is missing) = (λ memo
 first_not_memory : (lines : List (List ℕ)) (fault : LineFault) → IsFirstFault lines fault → IsNotMemory fault.kind
 first_not_memory lines fault (inl (n, first, number)) =
     fails_not_memory first.past first.line fault.kind (line_fails first.past first.line fault.kind first.fails)
-first_not_memory lines fault (inr (blank, kind, number)) = is_not fault.kind Order kind (λ memory. absurd (cc), λ memory. absurd (cc))
+first_not_memory lines fault (inr (blank, kind, number)) =
+    is_not fault.kind Order kind (λ memory. absurd (cc), λ memory. absurd (cc))
 
 pub never_memory : NeverMemory
 never_memory = record {

@@ -1,5 +1,6 @@
 -- What a tick shows of a container is what is listed.
-use Rattle.std.proofs.Common.{◌≡◌, ◌∙◌, ℕ, zero, suc, ◌+◌, ◌<◌, true, false, List, [], ◌∷◌, length, slice_get, Option, Some, None, refl, ap, sym, inl, inr, arith}
+use Rattle.std.proofs.Common.{◌≡◌, ◌∙◌, ℕ, zero, suc, ◌+◌, ◌<◌, true, false, List, [], ◌∷◌, length, slice_get, Option}
+use Rattle.std.proofs.Common.{Some, None, refl, ap, sym, inl, inr, arith}
 use Rattle.std.specs.Prelude.{◌==◌, option_and_then}
 use Rattle.std.specs.List.{list_any}
 use Rattle.std.proofs.lemmas.Bool.{cases_Bool, or_parts, eqb-true, eq-eqb}
@@ -15,7 +16,8 @@ use Rattle.observations.specs.Observations.{listed_in, seen_of}
 use Rattle.trace.specs.declared.placing.PlacedEntry.{PlacedEntry}
 use Rattle.trace.specs.declared.placing.PlacedResult.{PlacedResult}
 use Rattle.trace.specs.Placing.{has_twice, are_of_one_pod, are_of_one_container, repeats, is_doubled}
-use Rattle.trace.specs.Observed.{seen_listed, seen_in, containers_from, entry_for, listings_of, results_of, pod_observed, pods_from, observed}
+use Rattle.trace.specs.Observed.{seen_listed, seen_in, containers_from, entry_for, listings_of, results_of}
+use Rattle.trace.specs.Observed.{pod_observed, pods_from, observed}
 use Rattle.trace.specs.Laws.{IsListed, Lists, ListingsShown}
 use Rattle.trace.proofs.LawLemmas.Results.{some_item}
 
@@ -39,7 +41,8 @@ shown (l ∷ ls) n seen e = elim (cases_Bool (l.container == n)) [
       (suc later.0, later.1, later.2, later.3)
 ]
 
-given : (ls : List PlacedListing) (n : ℕ) (instance : ListedInstance) → has_twice are_of_one_container ls ≡ false → (m : ℕ) → slice_get ls m ≡ Some (listing n instance)
+given : (ls : List PlacedListing) (n : ℕ) (instance : ListedInstance) → has_twice are_of_one_container ls ≡ false
+    → (m : ℕ) → slice_get ls m ≡ Some (listing n instance)
     → seen_in ls n ≡ Some (seen_listed instance)
 given [] n instance once m here = absurd (cc)
 given (l ∷ ls) n instance once zero here =
@@ -50,18 +53,21 @@ given (l ∷ ls) n instance once (suc m) here =
     let none = or_parts (list_any (λ k. are_of_one_container k l) ls) (has_twice are_of_one_container ls) once in
     elim (cases_Bool (l.container == n)) [
       | inl first ↦
-          let alike : are_of_one_container (listing n instance) l ≡ true = eq-eqb n l.container (sym (eqb-true l.container n first)) in
+          let alike : are_of_one_container (listing n instance) l ≡ true =
+          eq-eqb n l.container (sym (eqb-true l.container n first)) in
           let twice = some_item (λ k. are_of_one_container k l) ls m (listing n instance) here alike in
           let never : false ≡ true = sym none.0 ∙ twice in
           absurd (cc)
       | inr other ↦ rw other (given ls n instance none.1 m here)
     ]
 
-is_given : (ls : List PlacedListing) (n : ℕ) (seen : Seen) → has_twice are_of_one_container ls ≡ false → IsListed ls n seen → seen_in ls n ≡ Some seen
+is_given : (ls : List PlacedListing) (n : ℕ) (seen : Seen) → has_twice are_of_one_container ls ≡ false
+    → IsListed ls n seen → seen_in ls n ≡ Some seen
 is_given ls n seen once (m, instance, here, is) = given ls n instance once m here ∙ ap Some is
 
 -- the entry of a pod
-pub entry_found : (es : List PlacedEntry) (n : ℕ) (entry : PlacedEntry) → entry_for es n ≡ Some entry → (k : ℕ) × (slice_get es k ≡ Some entry) × (entry.pod ≡ n)
+pub entry_found : (es : List PlacedEntry) (n : ℕ) (entry : PlacedEntry) → entry_for es n ≡ Some entry
+    → (k : ℕ) × (slice_get es k ≡ Some entry) × (entry.pod ≡ n)
 entry_found [] n entry e = absurd (cc)
 entry_found (x ∷ xs) n entry e = elim (cases_Bool (x.pod == n)) [
   | inl here ↦
@@ -74,7 +80,8 @@ entry_found (x ∷ xs) n entry e = elim (cases_Bool (x.pod == n)) [
       (suc later.0, later.1, later.2)
 ]
 
-pub entry_given : (es : List PlacedEntry) (n : ℕ) (entry : PlacedEntry) → has_twice are_of_one_pod es ≡ false → (k : ℕ) → slice_get es k ≡ Some entry → entry.pod ≡ n → entry_for es n ≡ Some entry
+pub entry_given : (es : List PlacedEntry) (n : ℕ) (entry : PlacedEntry) → has_twice are_of_one_pod es ≡ false
+    → (k : ℕ) → slice_get es k ≡ Some entry → entry.pod ≡ n → entry_for es n ≡ Some entry
 entry_given [] n entry once k here is = absurd (cc)
 entry_given (x ∷ xs) n entry once zero here is =
     let same : x ≡ entry = cc in
@@ -91,7 +98,8 @@ entry_given (x ∷ xs) n entry once (suc k) here is =
       | inr other ↦ rw other (entry_given xs n entry none.1 k here is)
     ]
 
-once_in : (es : List PlacedEntry) (k : ℕ) (entry : PlacedEntry) → list_any repeats es ≡ false → slice_get es k ≡ Some entry → has_twice are_of_one_container entry.listings ≡ false
+once_in : (es : List PlacedEntry) (k : ℕ) (entry : PlacedEntry) → list_any repeats es ≡ false
+    → slice_get es k ≡ Some entry → has_twice are_of_one_container entry.listings ≡ false
 once_in es k entry none here = elim (cases_Bool (has_twice are_of_one_container entry.listings)) [
   | inl twice ↦
       let repeated : repeats entry ≡ true = rw twice refl in
@@ -101,7 +109,8 @@ once_in es k entry none here = elim (cases_Bool (has_twice are_of_one_container 
 ]
 
 -- what is observed of a container is what the entry of its pod lists
-container_at : (ls : List PlacedListing) (rs : List PlacedResult) (n : ℕ) (cs : List ContainerSpec) (c : ℕ) → c < length cs
+container_at : (ls : List PlacedListing) (rs : List PlacedResult) (n : ℕ) (cs : List ContainerSpec) (c : ℕ)
+    → c < length cs
     → option_and_then (λ (o : ContainerObs). o.seen) (slice_get (containers_from ls rs n cs) c) ≡ seen_in ls (n + c)
 container_at ls rs n [] c lt = absurd (omega arith)
 container_at ls rs n (x ∷ xs) zero lt = let same : n ≡ n + 0 = omega arith in ap (seen_in ls) same
@@ -109,18 +118,21 @@ container_at ls rs n (x ∷ xs) (suc c) lt =
     let same : n + 1 + c ≡ n + suc c = omega arith in
     container_at ls rs (n + 1) xs c (omega arith) ∙ ap (seen_in ls) same
 
-pub pod_at : (at : ℕ) (es : List PlacedEntry) (n : ℕ) (pods : List PodSpec) (p : ℕ) (pod : PodSpec) → slice_get pods p ≡ Some pod
+pub pod_at : (at : ℕ) (es : List PlacedEntry) (n : ℕ) (pods : List PodSpec) (p : ℕ) (pod : PodSpec)
+    → slice_get pods p ≡ Some pod
     → slice_get (pods_from at es n pods) p ≡ Some (pod_observed at (entry_for es (n + p)) pod)
 pod_at at es n [] p pod here = absurd (cc)
 pod_at at es n (x ∷ xs) zero pod here =
     let same : x ≡ pod = cc in
     let place : n ≡ n + 0 = omega arith in
-    ap (λ (q : PodSpec). Some (pod_observed at (entry_for es n) q)) same ∙ ap (λ (k : ℕ). Some (pod_observed at (entry_for es k) pod)) place
+    ap (λ (q : PodSpec). Some (pod_observed at (entry_for es n) q)) same
+    ∙ ap (λ (k : ℕ). Some (pod_observed at (entry_for es k) pod)) place
 pod_at at es n (x ∷ xs) (suc p) pod here =
     let place : n + 1 + p ≡ n + suc p = omega arith in
     pod_at at es (n + 1) xs p pod here ∙ ap (λ (k : ℕ). Some (pod_observed at (entry_for es k) pod)) place
 
-seen_is : (at : ℕ) (written : TickLine) (es : List PlacedEntry) (pods : List PodSpec) (n c : ℕ) (pod : PodSpec) → slice_get pods n ≡ Some pod → c < length pod.containers
+seen_is : (at : ℕ) (written : TickLine) (es : List PlacedEntry) (pods : List PodSpec) (n c : ℕ) (pod : PodSpec)
+    → slice_get pods n ≡ Some pod → c < length pod.containers
     → seen_of (observed at written es pods) n c ≡ seen_in (listings_of (entry_for es n)) c
 seen_is at written es pods n c pod here lt =
     let zeroth : 0 + n ≡ n = omega arith in
@@ -131,17 +143,20 @@ seen_is at written es pods n c pod here lt =
     ∙ container_at (listings_of entry) (results_of entry) 0 pod.containers c lt
     ∙ ap (seen_in (listings_of entry)) first
 
-lists : (es : List PlacedEntry) (n c : ℕ) (seen : Seen) (entry : Option PlacedEntry) → entry_for es n ≡ entry → seen_in (listings_of entry) c ≡ Some seen → Lists es n c seen
+lists : (es : List PlacedEntry) (n c : ℕ) (seen : Seen) (entry : Option PlacedEntry) → entry_for es n ≡ entry
+    → seen_in (listings_of entry) c ≡ Some seen → Lists es n c seen
 lists es n c seen None is e = absurd (cc)
 lists es n c seen (Some entry) is e =
     let found = entry_found es n entry is in
     (found.0, entry, found.1, found.2, shown entry.listings c seen e)
 
-listed : (es : List PlacedEntry) (n c : ℕ) (seen : Seen) → is_doubled es ≡ false → Lists es n c seen → seen_in (listings_of (entry_for es n)) c ≡ Some seen
+listed : (es : List PlacedEntry) (n c : ℕ) (seen : Seen) → is_doubled es ≡ false → Lists es n c seen
+    → seen_in (listings_of (entry_for es n)) c ≡ Some seen
 listed es n c seen apart (k, entry, here, is, given) =
     let parts = or_parts (has_twice are_of_one_pod es) (list_any repeats es) apart in
     let found = entry_given es n entry parts.0 k here is in
-    ap (λ (o : Option PlacedEntry). seen_in (listings_of o) c) found ∙ is_given entry.listings c seen (once_in es k entry parts.1 here) given
+    ap (λ (o : Option PlacedEntry). seen_in (listings_of o) c) found
+    ∙ is_given entry.listings c seen (once_in es k entry parts.1 here) given
 
 pub listings_shown : ListingsShown
 listings_shown at written es pods n c pod seen apart here lt =

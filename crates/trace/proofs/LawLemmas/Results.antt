@@ -1,5 +1,6 @@
 -- What a tick shows of a probe is the result that is given.
-use Rattle.std.proofs.Common.{◌≡◌, ◌∙◌, ℕ, zero, suc, Bool, true, false, List, [], ◌∷◌, slice_get, Some, refl, ap, sym, inl, inr}
+use Rattle.std.proofs.Common.{◌≡◌, ◌∙◌, ℕ, zero, suc, Bool, true, false, List, [], ◌∷◌, slice_get, Some, refl, ap}
+use Rattle.std.proofs.Common.{sym, inl, inr}
 use Rattle.std.specs.Prelude.{◌==◌, ◌&&◌}
 use Rattle.std.specs.List.{list_any}
 use Rattle.std.proofs.lemmas.Bool.{cases_Bool, and_parts, or_parts, eqb-true, eq-eqb}
@@ -37,7 +38,8 @@ of_itself : (n : ℕ) (probe : ProbeKind) → (n == n && place probe == place pr
 of_itself n probe = rw (eq-eqb n n refl, eq-eqb (place probe) (place probe) refl) refl
 
 -- what holds of an item holds of some item
-pub some_item : {A : Type 0} (test : A → Bool) (xs : List A) (m : ℕ) (x : A) → slice_get xs m ≡ Some x → test x ≡ true → list_any test xs ≡ true
+pub some_item : {A : Type 0} (test : A → Bool) (xs : List A) (m : ℕ) (x : A) → slice_get xs m ≡ Some x → test x ≡ true
+    → list_any test xs ≡ true
 some_item test [] m x here holds = absurd (cc)
 some_item test (y ∷ ys) zero x here holds =
     let is : y ≡ x = cc in
@@ -48,7 +50,8 @@ some_item test (y ∷ ys) (suc m) x here holds = elim (cases_Bool (test y)) [
   | inr later ↦ rw later (some_item test ys m x here holds)
 ]
 
-shown : (rs : List PlacedResult) (n : ℕ) (probe : ProbeKind) (outcome : Outcome) → outcome_in rs n probe ≡ Some outcome → IsGiven rs n probe outcome
+shown : (rs : List PlacedResult) (n : ℕ) (probe : ProbeKind) (outcome : Outcome)
+    → outcome_in rs n probe ≡ Some outcome → IsGiven rs n probe outcome
 shown [] n probe outcome e = absurd (cc)
 shown (r ∷ rs) n probe outcome e = elim (cases_Bool (is_of_probe r n probe)) [
   | inl here ↦
@@ -61,19 +64,22 @@ shown (r ∷ rs) n probe outcome e = elim (cases_Bool (is_of_probe r n probe)) [
       (suc later.0, later.1)
 ]
 
-given : (rs : List PlacedResult) (n : ℕ) (probe : ProbeKind) (outcome : Outcome) → has_twice are_of_one_probe rs ≡ false → (m : ℕ) → slice_get rs m ≡ Some (result n probe outcome)
+given : (rs : List PlacedResult) (n : ℕ) (probe : ProbeKind) (outcome : Outcome)
+    → has_twice are_of_one_probe rs ≡ false → (m : ℕ) → slice_get rs m ≡ Some (result n probe outcome)
     → outcome_in rs n probe ≡ Some outcome
 given [] n probe outcome once m here = absurd (cc)
 given (r ∷ rs) n probe outcome once zero here =
     let is : r ≡ result n probe outcome = cc in
-    let first : is_of_probe r n probe ≡ true = ap (λ (s : PlacedResult). is_of_probe s n probe) is ∙ of_itself n probe in
+    let first : is_of_probe r n probe ≡ true = ap (λ (s : PlacedResult). is_of_probe s n probe) is
+    ∙ of_itself n probe in
     let same : r.outcome ≡ outcome = ap (λ (s : PlacedResult). s.outcome) is in
     rw first (ap Some same)
 given (r ∷ rs) n probe outcome once (suc m) here =
     let none = or_parts (list_any (λ s. are_of_one_probe s r) rs) (has_twice are_of_one_probe rs) once in
     elim (cases_Bool (is_of_probe r n probe)) [
       | inl first ↦
-          let alike : are_of_one_probe (result n probe outcome) r ≡ true = ap (are_of_one_probe (result n probe outcome)) (is_result r n probe first) ∙ of_itself n probe in
+          let alike : are_of_one_probe (result n probe outcome) r ≡ true =
+          ap (are_of_one_probe (result n probe outcome)) (is_result r n probe first) ∙ of_itself n probe in
           let twice = some_item (λ s. are_of_one_probe s r) rs m (result n probe outcome) here alike in
           let never : false ≡ true = sym none.0 ∙ twice in
           absurd (cc)

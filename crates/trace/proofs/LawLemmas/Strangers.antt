@@ -1,5 +1,6 @@
 -- Which entries of a tick line name what isn't known.
-use Rattle.std.proofs.Common.{◌≡◌, ◌∙◌, ◌⊎◌, ℕ, zero, suc, ◌+◌, ◌<◌, Bool, true, false, List, [], ◌∷◌, length, slice_get, Option, Some, None, Result, Ok, Err, refl, ap, sym, inl, inr, arith}
+use Rattle.std.proofs.Common.{◌≡◌, ◌∙◌, ◌⊎◌, ℕ, zero, suc, ◌+◌, ◌<◌, Bool, true, false, List, [], ◌∷◌, length}
+use Rattle.std.proofs.Common.{slice_get, Option, Some, None, Result, Ok, Err, refl, ap, sym, inl, inr, arith}
 use Rattle.std.specs.Prelude.{option_map, if◌then◌else◌, bytes_eq}
 use Rattle.std.proofs.Common.{get_or}
 use Rattle.std.proofs.lemmas.Option.{slice_get-get_or}
@@ -17,12 +18,14 @@ use Rattle.trace.specs.declared.placing.PlacedListing.{PlacedListing}
 use Rattle.trace.specs.declared.placing.PlacedResult.{PlacedResult}
 use Rattle.trace.specs.declared.placing.PlacedEntry.{PlacedEntry}
 use Rattle.trace.specs.Pod.{keys_of}
-use Rattle.trace.specs.Placing.{number_in, pod_numbered, container_number, placed_listing, placed_result, placed_entry, placed_of}
+use Rattle.trace.specs.Placing.{number_in, pod_numbered, container_number, placed_listing, placed_result}
+use Rattle.trace.specs.Placing.{placed_entry, placed_of}
 use Rattle.trace.specs.Laws.{HasNo, NamesOther, NamesStranger, NamesStrangerContainer, Strangers}
 use Rattle.trace.proofs.LawLemmas.Checks.{no_fault, same_fault, bind_err, then_ok, then_err}
 
 -- the first item that gives a fault
-each_at : {A B E : Type 0} (f : A → Result B E) (xs : List A) (fault : E) → each f xs ≡ Err fault → (n : ℕ) × (x : A) × (slice_get xs n ≡ Some x) × (f x ≡ Err fault)
+each_at : {A B E : Type 0} (f : A → Result B E) (xs : List A) (fault : E) → each f xs ≡ Err fault → (n : ℕ) × (x : A)
+    × (slice_get xs n ≡ Some x) × (f x ≡ Err fault)
 each_at f [] fault e = absurd (no_fault [] fault e)
 each_at f (x ∷ xs) fault e = elim (bind_err (f x) (λ y. each f xs >>= λ ys. Ok (y ∷ ys)) fault e) [
   | inl here ↦ (0, x, refl, here)
@@ -32,24 +35,28 @@ each_at f (x ∷ xs) fault e = elim (bind_err (f x) (λ y. each f xs >>= λ ys. 
   ]
 ]
 
-first_or_later : {A B E : Type 0} (f : A → Result B E) (fault : E) (y : A) (xs : List A) (r : Result B E) → f y ≡ r → ((other : E) → f y ≡ Err other → other ≡ fault) → each f xs ≡ Err fault → each f (y ∷ xs) ≡ Err fault
+first_or_later : {A B E : Type 0} (f : A → Result B E) (fault : E) (y : A) (xs : List A) (r : Result B E) → f y ≡ r
+    → ((other : E) → f y ≡ Err other → other ≡ fault) → each f xs ≡ Err fault → each f (y ∷ xs) ≡ Err fault
 first_or_later f fault y xs (Ok z) is only later =
     then_ok (f y) (λ z. each f xs >>= λ zs. Ok (z ∷ zs)) z is ∙ then_err (each f xs) (λ zs. Ok (z ∷ zs)) fault later
 first_or_later f fault y xs (Err other) is only later =
     then_err (f y) (λ z. each f xs >>= λ zs. Ok (z ∷ zs)) fault (is ∙ ap Err (only other is))
 
 -- some item gives the fault, and no item gives another
-each_meets : {A B E : Type 0} (f : A → Result B E) (fault : E) (xs : List A) (n : ℕ) (x : A) → slice_get xs n ≡ Some x → f x ≡ Err fault
+each_meets : {A B E : Type 0} (f : A → Result B E) (fault : E) (xs : List A) (n : ℕ) (x : A) → slice_get xs n ≡ Some x
+    → f x ≡ Err fault
     → ((m : ℕ) (z : A) (other : E) → slice_get xs m ≡ Some z → f z ≡ Err other → other ≡ fault) → each f xs ≡ Err fault
 each_meets f fault [] n x here e only = absurd (cc)
 each_meets f fault (y ∷ xs) zero x here e only =
     let is : y ≡ x = cc in
     then_err (f y) (λ z. each f xs >>= λ zs. Ok (z ∷ zs)) fault (ap f is ∙ e)
 each_meets f fault (y ∷ xs) (suc n) x here e only =
-    first_or_later f fault y xs (f y) refl (λ other is. only 0 y other refl is) (each_meets f fault xs n x here e (λ m z other at is. only (suc m) z other at is))
+    first_or_later f fault y xs (f y) refl (λ other is. only 0 y other refl is)
+    (each_meets f fault xs n x here e (λ m z other at is. only (suc m) z other at is))
 
 -- what is missing gives its fault, and what is there none
-missing_is : {A E : Type 0} (fault given : E) (found : Option A) → some_or fault found ≡ Err given → (found ≡ None) × (given ≡ fault)
+missing_is : {A E : Type 0} (fault given : E) (found : Option A) → some_or fault found ≡ Err given → (found ≡ None)
+    × (given ≡ fault)
 missing_is fault given None e = (refl, sym (same_fault fault given e))
 missing_is fault given (Some x) e = absurd (no_fault x given e)
 
@@ -57,16 +64,20 @@ there_is : {A E : Type 0} (fault : E) (found : Option A) (x : A) → some_or fau
 there_is fault None x e = absurd (no_fault x fault (sym e))
 there_is fault (Some y) x e = let is : y ≡ x = cc in ap Some is
 
-within_one : (here : Bool) (ks : List (List ℕ)) (n : ℕ) (later : Option ℕ) → ((m : ℕ) → later ≡ Some m → m < length ks) → (if here then Some 0 else option_map (λ i. i + 1) later) ≡ Some n → n < suc (length ks)
+within_one : (here : Bool) (ks : List (List ℕ)) (n : ℕ) (later : Option ℕ)
+    → ((m : ℕ) → later ≡ Some m → m < length ks) → (if here then Some 0 else option_map (λ i. i + 1) later) ≡ Some n
+    → n < suc (length ks)
 within_one true ks n later rest e = let is : 0 ≡ n = cc in omega arith
 within_one false ks n None rest e = absurd (cc)
 within_one false ks n (Some m) rest e = let is : m + 1 ≡ n = cc in let lt = rest m refl in omega arith
 
 place_within : (ks : List (List ℕ)) (name : List ℕ) (n : ℕ) → place_of ks name ≡ Some n → n < length ks
 place_within [] name n e = absurd (cc)
-place_within (k ∷ ks) name n e = within_one (bytes_eq name k) ks n (place_of ks name) (λ m is. place_within ks name m is) e
+place_within (k ∷ ks) name n e =
+    within_one (bytes_eq name k) ks n (place_of ks name) (λ m is. place_within ks name m is) e
 
-pod_is_there : (pods : List PodSpec) (key : List ℕ) (n : ℕ) → place_of (keys_of pods) key ≡ Some n → (pod : PodSpec) × (slice_get pods n ≡ Some pod)
+pod_is_there : (pods : List PodSpec) (key : List ℕ) (n : ℕ) → place_of (keys_of pods) key ≡ Some n → (pod : PodSpec)
+    × (slice_get pods n ≡ Some pod)
 pod_is_there [] key n e = absurd (cc)
 pod_is_there (pod ∷ pods) key n e =
     let within : n < length (keys_of (pod ∷ pods)) = place_within (keys_of (pod ∷ pods)) key n e in
@@ -75,7 +86,8 @@ pod_is_there (pod ∷ pods) key n e =
 
 -- the steps of an entry
 abbrev placed : Entry → ℕ → List PlacedListing → List PlacedResult → Result PlacedEntry FaultKind
-placed entry number listings results = Ok (record { pod = number; listings = listings; results = results; usage = entry.usage })
+placed entry number listings results =
+    Ok (record { pod = number; listings = listings; results = results; usage = entry.usage })
 
 abbrev with_listings : Entry → ℕ → PodSpec → List PlacedListing → Result PlacedEntry FaultKind
 with_listings entry number pod listings = each (placed_result pod) entry.results >>= placed entry number listings
@@ -86,123 +98,182 @@ with_pod entry number pod = each (placed_listing pod) entry.listings >>= with_li
 abbrev with_number : List PodSpec → Entry → ℕ → Result PlacedEntry FaultKind
 with_number pods entry number = pod_numbered pods number >>= with_pod entry number
 
-container_fault : (pod : PodSpec) (name : List ℕ) (kind : FaultKind) → container_number pod name ≡ Err kind → HasNo pod name × (kind ≡ StrangerContainer)
+container_fault : (pod : PodSpec) (name : List ℕ) (kind : FaultKind) → container_number pod name ≡ Err kind
+    → HasNo pod name × (kind ≡ StrangerContainer)
 container_fault pod name kind e = missing_is StrangerContainer kind (place_of (names_of pod.containers) name) e
 
-listing_fault : (pod : PodSpec) (listing : Listing) (kind : FaultKind) → placed_listing pod listing ≡ Err kind → HasNo pod listing.name × (kind ≡ StrangerContainer)
+listing_fault : (pod : PodSpec) (listing : Listing) (kind : FaultKind) → placed_listing pod listing ≡ Err kind
+    → HasNo pod listing.name × (kind ≡ StrangerContainer)
 listing_fault pod listing kind e =
-    let last : ℕ → Result PlacedListing FaultKind = λ number. Ok (record { container = number; instance = listing.instance }) in
+    let last : ℕ → Result PlacedListing FaultKind =
+    λ number. Ok (record { container = number; instance = listing.instance }) in
     elim (bind_err (container_number pod listing.name) last kind e) [
       | inl here ↦ container_fault pod listing.name kind here
       | inr later ↦ absurd (no_fault (record { container = later.0; instance = listing.instance }) kind later.2)
     ]
 
-result_fault : (pod : PodSpec) (r : ProbeResult) (kind : FaultKind) → placed_result pod r ≡ Err kind → HasNo pod r.container × (kind ≡ StrangerContainer)
+result_fault : (pod : PodSpec) (r : ProbeResult) (kind : FaultKind) → placed_result pod r ≡ Err kind
+    → HasNo pod r.container × (kind ≡ StrangerContainer)
 result_fault pod r kind e =
-    let last : ℕ → Result PlacedResult FaultKind = λ number. Ok (record { container = number; probe = r.probe; outcome = r.outcome }) in
+    let last : ℕ → Result PlacedResult FaultKind =
+    λ number. Ok (record { container = number; probe = r.probe; outcome = r.outcome }) in
     elim (bind_err (container_number pod r.container) last kind e) [
       | inl here ↦ container_fault pod r.container kind here
-      | inr later ↦ absurd (no_fault (record { container = later.0; probe = r.probe; outcome = r.outcome }) kind later.2)
+      | inr later ↦ absurd (no_fault (record { container = later.0; probe = r.probe; outcome = r.outcome }) kind
+          later.2)
     ]
 
 -- a fault of an entry of a known pod: it names a container that isn't the pod's
-known_fault : (entry : Entry) (number : ℕ) (pod : PodSpec) (kind : FaultKind) → with_pod entry number pod ≡ Err kind → (kind ≡ StrangerContainer) × NamesOther pod entry
-known_fault entry number pod kind e = elim (bind_err (each (placed_listing pod) entry.listings) (with_listings entry number pod) kind e) [
-  | inl faulty ↦
-      let at = each_at (placed_listing pod) entry.listings kind faulty in
-      let why = listing_fault pod at.1 kind at.3 in
-      (why.1, inl (at.0, at.1, at.2, why.0))
-  | inr listings ↦ elim (bind_err (each (placed_result pod) entry.results) (placed entry number listings.0) kind listings.2) [
-    | inl faulty ↦
-        let at = each_at (placed_result pod) entry.results kind faulty in
-        let why = result_fault pod at.1 kind at.3 in
-        (why.1, inr (at.0, at.1, at.2, why.0))
-    | inr done ↦ absurd (no_fault (record { pod = number; listings = listings.0; results = done.0; usage = entry.usage }) kind done.2)
-  ]
-]
+known_fault : (entry : Entry) (number : ℕ) (pod : PodSpec) (kind : FaultKind) → with_pod entry number pod ≡ Err kind
+    → (kind ≡ StrangerContainer) × NamesOther pod entry
+known_fault entry number pod kind e =
+    elim (bind_err (each (placed_listing pod) entry.listings) (with_listings entry number pod) kind e) [
+      | inl faulty ↦
+          let at = each_at (placed_listing pod) entry.listings kind faulty in
+          let why = listing_fault pod at.1 kind at.3 in
+          (why.1, inl (at.0, at.1, at.2, why.0))
+      | inr listings ↦ elim (bind_err (each (placed_result pod) entry.results) (placed entry number listings.0) kind
+          listings.2) [
+            | inl faulty ↦
+                let at = each_at (placed_result pod) entry.results kind faulty in
+                let why = result_fault pod at.1 kind at.3 in
+                (why.1, inr (at.0, at.1, at.2, why.0))
+            | inr done ↦ absurd (no_fault (record {
+              pod = number;
+              listings = listings.0;
+              results = done.0;
+              usage =
+                  entry.usage;
+            }) kind done.2)
+          ]
+    ]
 
 -- and where it names one, that is its fault
-known_is : (entry : Entry) (number : ℕ) (pod : PodSpec) → NamesOther pod entry → (r : Result (List PlacedListing) FaultKind) → each (placed_listing pod) entry.listings ≡ r → with_pod entry number pod ≡ Err StrangerContainer
+known_is : (entry : Entry) (number : ℕ) (pod : PodSpec) → NamesOther pod entry
+    → (r : Result (List PlacedListing) FaultKind) → each (placed_listing pod) entry.listings ≡ r
+    → with_pod entry number pod ≡ Err StrangerContainer
 known_is entry number pod (inl (m, listing, here, unknown)) r e =
-    let last : ℕ → Result PlacedListing FaultKind = λ number. Ok (record { container = number; instance = listing.instance }) in
+    let last : ℕ → Result PlacedListing FaultKind =
+    λ number. Ok (record { container = number; instance = listing.instance }) in
     let one : placed_listing pod listing ≡ Err StrangerContainer =
-    then_err (container_number pod listing.name) last StrangerContainer (ap (λ (found : Option ℕ). some_or StrangerContainer found) unknown) in
+    then_err (container_number pod listing.name) last StrangerContainer
+    (ap (λ (found : Option ℕ). some_or StrangerContainer found) unknown) in
     then_err (each (placed_listing pod) entry.listings) (with_listings entry number pod) StrangerContainer
-    (each_meets (placed_listing pod) StrangerContainer entry.listings m listing here one (λ m z other at e. (listing_fault pod z other e).1))
+    (each_meets (placed_listing pod) StrangerContainer entry.listings m listing here one
+    (λ m z other at e. (listing_fault pod z other e).1))
 known_is entry number pod (inr (m, result, here, unknown)) (Ok listings) e =
-    let last : ℕ → Result PlacedResult FaultKind = λ number. Ok (record { container = number; probe = result.probe; outcome = result.outcome }) in
+    let last : ℕ → Result PlacedResult FaultKind =
+    λ number. Ok (record { container = number; probe = result.probe; outcome = result.outcome }) in
     let one : placed_result pod result ≡ Err StrangerContainer =
-    then_err (container_number pod result.container) last StrangerContainer (ap (λ (found : Option ℕ). some_or StrangerContainer found) unknown) in
+    then_err (container_number pod result.container) last StrangerContainer
+    (ap (λ (found : Option ℕ). some_or StrangerContainer found) unknown) in
     then_ok (each (placed_listing pod) entry.listings) (with_listings entry number pod) listings e
     ∙ then_err (each (placed_result pod) entry.results) (placed entry number listings) StrangerContainer
-    (each_meets (placed_result pod) StrangerContainer entry.results m result here one (λ m z other at e. (result_fault pod z other e).1))
+    (each_meets (placed_result pod) StrangerContainer entry.results m result here one
+    (λ m z other at e. (result_fault pod z other e).1))
 known_is entry number pod (inr other) (Err kind) e =
     let at = each_at (placed_listing pod) entry.listings kind e in
-    then_err (each (placed_listing pod) entry.listings) (with_listings entry number pod) StrangerContainer (e ∙ ap Err (listing_fault pod at.1 kind at.3).1)
+    then_err (each (placed_listing pod) entry.listings) (with_listings entry number pod) StrangerContainer
+    (e ∙ ap Err (listing_fault pod at.1 kind at.3).1)
 
 -- a fault of one entry: its pod isn't known, or a container isn't its pod's
-entry_fault : (pods : List PodSpec) (es : List Entry) (n : ℕ) (entry : Entry) (kind : FaultKind) → slice_get es n ≡ Some entry → placed_entry (keys_of pods) pods entry ≡ Err kind
+entry_fault : (pods : List PodSpec) (es : List Entry) (n : ℕ) (entry : Entry) (kind : FaultKind)
+    → slice_get es n ≡ Some entry → placed_entry (keys_of pods) pods entry ≡ Err kind
     → NamesStranger pods es ⊎ ((kind ≡ StrangerContainer) × NamesStrangerContainer pods es)
 unfolding placed_entry
-entry_fault pods es n entry kind here e = elim (bind_err (number_in (keys_of pods) entry) (with_number pods entry) kind e) [
-  | inl unknown ↦ inl (record { n = n; entry = entry; here = here; unknown = (missing_is StrangerPod kind (place_of (keys_of pods) entry.key) unknown).0 })
-  | inr number ↦
-      let known = there_is StrangerPod (place_of (keys_of pods) entry.key) number.0 number.1 in
-      let pod = pod_is_there pods entry.key number.0 known in
-      elim (bind_err (pod_numbered pods number.0) (with_pod entry number.0) kind number.2) [
-        | inl gone ↦
-            let none = (missing_is StrangerPod kind (slice_get pods number.0) gone).0 in
-            let some = pod.1 in
-            absurd (cc)
-        | inr found ↦
-            let is = there_is StrangerPod (slice_get pods number.0) found.0 found.1 in
-            let why = known_fault entry number.0 found.0 kind found.2 in
-            inr (why.0, record { n = n; entry = entry; number = number.0; pod = found.0; here = here; known = known; pod_is = is; other = why.1 })
-      ]
-]
+entry_fault pods es n entry kind here e =
+    elim (bind_err (number_in (keys_of pods) entry) (with_number pods entry) kind e) [
+      | inl unknown ↦ inl (record {
+        n = n;
+        entry = entry;
+        here = here;
+        unknown =
+            (missing_is StrangerPod kind (place_of (keys_of pods) entry.key) unknown).0;
+      })
+      | inr number ↦
+          let known = there_is StrangerPod (place_of (keys_of pods) entry.key) number.0 number.1 in
+          let pod = pod_is_there pods entry.key number.0 known in
+          elim (bind_err (pod_numbered pods number.0) (with_pod entry number.0) kind number.2) [
+            | inl gone ↦
+                let none = (missing_is StrangerPod kind (slice_get pods number.0) gone).0 in
+                let some = pod.1 in
+                absurd (cc)
+            | inr found ↦
+                let is = there_is StrangerPod (slice_get pods number.0) found.0 found.1 in
+                let why = known_fault entry number.0 found.0 kind found.2 in
+                inr (
+                  why.0,
+                  record {
+                    n = n;
+                    entry = entry;
+                    number = number.0;
+                    pod = found.0;
+                    here = here;
+                    known =
+                        known;
+                    pod_is = is;
+                    other = why.1;
+                  },
+                )
+          ]
+    ]
 
-unknown_pod : (pods : List PodSpec) (es : List Entry) → NamesStranger pods es → each (number_in (keys_of pods)) es ≡ Err StrangerPod
+unknown_pod : (pods : List PodSpec) (es : List Entry) → NamesStranger pods es
+    → each (number_in (keys_of pods)) es ≡ Err StrangerPod
 unknown_pod pods es is =
-    each_meets (number_in (keys_of pods)) StrangerPod es is.n is.entry is.here (ap (λ (found : Option ℕ). some_or StrangerPod found) is.unknown)
+    each_meets (number_in (keys_of pods)) StrangerPod es is.n is.entry is.here
+    (ap (λ (found : Option ℕ). some_or StrangerPod found) is.unknown)
     (λ m z other at e. (missing_is StrangerPod other (place_of (keys_of pods) z.key) e).1)
 
 -- where every number is found, no entry names a stranger
-all_known : (pods : List PodSpec) (es : List Entry) (numbers : List ℕ) → each (number_in (keys_of pods)) es ≡ Ok numbers → NamesStranger pods es → ⊥
+all_known : (pods : List PodSpec) (es : List Entry) (numbers : List ℕ)
+    → each (number_in (keys_of pods)) es ≡ Ok numbers → NamesStranger pods es → ⊥
 all_known pods es numbers e is = no_fault numbers StrangerPod (sym e ∙ unknown_pod pods es is)
 
-entries_fault : (pods : List PodSpec) (es : List Entry) (kind : FaultKind) → placed_of pods es ≡ Err kind → ((kind ≡ StrangerPod) × NamesStranger pods es) ⊎ ((kind ≡ StrangerContainer) × NamesStrangerContainer pods es)
+entries_fault : (pods : List PodSpec) (es : List Entry) (kind : FaultKind) → placed_of pods es ≡ Err kind
+    → ((kind ≡ StrangerPod) × NamesStranger pods es) ⊎ ((kind ≡ StrangerContainer) × NamesStrangerContainer pods es)
 unfolding placed_of
-entries_fault pods es kind e = elim (bind_err (each (number_in (keys_of pods)) es) (λ numbers. each (placed_entry (keys_of pods) pods) es) kind e) [
-  | inl unknown ↦
-      let at = each_at (number_in (keys_of pods)) es kind unknown in
-      let why = missing_is StrangerPod kind (place_of (keys_of pods) at.1.key) at.3 in
-      inl (why.1, record { n = at.0; entry = at.1; here = at.2; unknown = why.0 })
-  | inr numbers ↦
-      let at = each_at (placed_entry (keys_of pods) pods) es kind numbers.2 in
-      elim (entry_fault pods es at.0 at.1 kind at.2 at.3) [
-        | inl stranger ↦ absurd (all_known pods es numbers.0 numbers.1 stranger)
-        | inr container ↦ inr container
-      ]
-]
+entries_fault pods es kind e =
+    elim (bind_err (each (number_in (keys_of pods)) es) (λ numbers. each (placed_entry (keys_of pods) pods) es) kind
+    e) [
+      | inl unknown ↦
+          let at = each_at (number_in (keys_of pods)) es kind unknown in
+          let why = missing_is StrangerPod kind (place_of (keys_of pods) at.1.key) at.3 in
+          inl (why.1, record { n = at.0; entry = at.1; here = at.2; unknown = why.0 })
+      | inr numbers ↦
+          let at = each_at (placed_entry (keys_of pods) pods) es kind numbers.2 in
+          elim (entry_fault pods es at.0 at.1 kind at.2 at.3) [
+            | inl stranger ↦ absurd (all_known pods es numbers.0 numbers.1 stranger)
+            | inr container ↦ inr container
+          ]
+    ]
 
 pod_is : (pods : List PodSpec) (es : List Entry) → NamesStranger pods es → placed_of pods es ≡ Err StrangerPod
 unfolding placed_of
-pod_is pods es is = then_err (each (number_in (keys_of pods)) es) (λ numbers. each (placed_entry (keys_of pods) pods) es) StrangerPod (unknown_pod pods es is)
+pod_is pods es is = then_err (each (number_in (keys_of pods)) es)
+    (λ numbers. each (placed_entry (keys_of pods) pods) es) StrangerPod (unknown_pod pods es is)
 
-one_entry : (pods : List PodSpec) (es : List Entry) → (is : NamesStrangerContainer pods es) → placed_entry (keys_of pods) pods is.entry ≡ Err StrangerContainer
+one_entry : (pods : List PodSpec) (es : List Entry) → (is : NamesStrangerContainer pods es)
+    → placed_entry (keys_of pods) pods is.entry ≡ Err StrangerContainer
 unfolding placed_entry
 one_entry pods es is =
-    then_ok (number_in (keys_of pods) is.entry) (with_number pods is.entry) is.number (ap (λ (found : Option ℕ). some_or StrangerPod found) is.known)
-    ∙ then_ok (pod_numbered pods is.number) (with_pod is.entry is.number) is.pod (ap (λ (found : Option PodSpec). some_or StrangerPod found) is.pod_is)
+    then_ok (number_in (keys_of pods) is.entry) (with_number pods is.entry) is.number
+    (ap (λ (found : Option ℕ). some_or StrangerPod found) is.known)
+    ∙ then_ok (pod_numbered pods is.number) (with_pod is.entry is.number) is.pod
+    (ap (λ (found : Option PodSpec). some_or StrangerPod found) is.pod_is)
     ∙ known_is is.entry is.number is.pod is.other (each (placed_listing is.pod) is.entry.listings) refl
 
-only_container : (pods : List PodSpec) (es : List Entry) → (NamesStranger pods es → ⊥) → (m : ℕ) (z : Entry) (other : FaultKind) → slice_get es m ≡ Some z → placed_entry (keys_of pods) pods z ≡ Err other → other ≡ StrangerContainer
+only_container : (pods : List PodSpec) (es : List Entry) → (NamesStranger pods es → ⊥)
+    → (m : ℕ) (z : Entry) (other : FaultKind) → slice_get es m ≡ Some z
+    → placed_entry (keys_of pods) pods z ≡ Err other → other ≡ StrangerContainer
 only_container pods es none m z other at faulty = elim (entry_fault pods es m z other at faulty) [
   | inl stranger ↦ absurd (none stranger)
   | inr container ↦ container.0
 ]
 
-container_is : (pods : List PodSpec) (es : List Entry) → (NamesStranger pods es → ⊥) → NamesStrangerContainer pods es → (r : Result (List ℕ) FaultKind) → each (number_in (keys_of pods)) es ≡ r → placed_of pods es ≡ Err StrangerContainer
+container_is : (pods : List PodSpec) (es : List Entry) → (NamesStranger pods es → ⊥) → NamesStrangerContainer pods es
+    → (r : Result (List ℕ) FaultKind) → each (number_in (keys_of pods)) es ≡ r
+    → placed_of pods es ≡ Err StrangerContainer
 unfolding placed_of
 container_is pods es none is (Ok numbers) e =
     then_ok (each (number_in (keys_of pods)) es) (λ numbers. each (placed_entry (keys_of pods) pods) es) numbers e
@@ -210,7 +281,13 @@ container_is pods es none is (Ok numbers) e =
     (λ m z other at faulty. only_container pods es none m z other at faulty)
 container_is pods es none is (Err kind) e =
     let at = each_at (number_in (keys_of pods)) es kind e in
-    absurd (none (record { n = at.0; entry = at.1; here = at.2; unknown = (missing_is StrangerPod kind (place_of (keys_of pods) at.1.key) at.3).0 }))
+    absurd (none (record {
+      n = at.0;
+      entry = at.1;
+      here = at.2;
+      unknown =
+          (missing_is StrangerPod kind (place_of (keys_of pods) at.1.key) at.3).0;
+    }))
 
 pod_of : (pods : List PodSpec) (es : List Entry) → placed_of pods es ≡ Err StrangerPod → NamesStranger pods es
 pod_of pods es e = elim (entries_fault pods es StrangerPod e) [
@@ -221,7 +298,8 @@ pod_of pods es e = elim (entries_fault pods es StrangerPod e) [
 apart : ◌≡◌ {A = Result (List PlacedEntry) FaultKind} (Err StrangerPod) (Err StrangerContainer) → ⊥
 apart e = let same = same_fault {A = List PlacedEntry} StrangerPod StrangerContainer e in absurd (cc)
 
-container_of : (pods : List PodSpec) (es : List Entry) → placed_of pods es ≡ Err StrangerContainer → (NamesStranger pods es → ⊥) × NamesStrangerContainer pods es
+container_of : (pods : List PodSpec) (es : List Entry) → placed_of pods es ≡ Err StrangerContainer
+    → (NamesStranger pods es → ⊥) × NamesStrangerContainer pods es
 container_of pods es e = elim (entries_fault pods es StrangerContainer e) [
   | inl pod ↦ let other : StrangerContainer ≡ StrangerPod = pod.0 in absurd (cc)
   | inr container ↦ (λ is. apart (sym (pod_is pods es is) ∙ e), container.1)
@@ -230,5 +308,9 @@ container_of pods es e = elim (entries_fault pods es StrangerContainer e) [
 pub strangers : Strangers
 strangers = record {
   pod = λ pods es. (pod_of pods es, pod_is pods es);
-  container = λ pods es. (container_of pods es, λ is. container_is pods es is.0 is.1 (each (number_in (keys_of pods)) es) refl);
+  container = λ pods es. (
+    container_of pods es,
+    λ is. container_is pods es is.0 is.1
+        (each (number_in (keys_of pods)) es) refl,
+  );
 }

@@ -8,7 +8,6 @@ use Rattle.tick_lines.specs.declared.fault.TickLineFault.{TickLineFault}
 use Rattle.tick_lines.specs.declared.line.TickLine.{TickLine}
 use Rattle.tick_lines.specs.Line.{tick_line_of}
 use Rattle.tick_lines.proofs.Quantities.{samples_said}
-use Rattle.trace.specs.declared.fault.FaultKind.{FaultKind}
 use Rattle.trace.specs.declared.placing.PlacedEntry.{PlacedEntry}
 use Rattle.trace.specs.Observed.{usage_of, entry_for, pod_observed, observed}
 use Rattle.trace.specs.Placing.{has_twice, are_of_one_pod}
@@ -16,20 +15,23 @@ use Rattle.trace.specs.Written.{of_tick_line}
 use Rattle.trace.specs.Laws.{Tells, usage_shown_of, UsageShown, SignalsShown}
 use Rattle.trace.proofs.LawLemmas.Listings.{entry_found, entry_given, pod_at}
 
-usage_is : (at : ℕ) (written : TickLine) (es : List PlacedEntry) (pods : List PodSpec) (n : ℕ) (pod : PodSpec) → slice_get pods n ≡ Some pod
+usage_is : (at : ℕ) (written : TickLine) (es : List PlacedEntry) (pods : List PodSpec) (n : ℕ) (pod : PodSpec)
+    → slice_get pods n ≡ Some pod
     → usage_shown_of (observed at written es pods) n ≡ usage_of (entry_for es n)
 usage_is at written es pods n pod here =
     let zeroth : 0 + n ≡ n = omega arith in
     let shown = pod_at at es 0 pods n pod here ∙ ap (λ (k : ℕ). Some (pod_observed at (entry_for es k) pod)) zeroth in
     ap (λ (o : Option PodObs). option_and_then (λ (p : PodObs). p.usage) o) shown
 
-tells : (es : List PlacedEntry) (n : ℕ) (usage : Usage) (entry : Option PlacedEntry) → entry_for es n ≡ entry → usage_of entry ≡ Some usage → Tells es n usage
+tells : (es : List PlacedEntry) (n : ℕ) (usage : Usage) (entry : Option PlacedEntry) → entry_for es n ≡ entry
+    → usage_of entry ≡ Some usage → Tells es n usage
 tells es n usage None is e = absurd (cc)
 tells es n usage (Some entry) is e =
     let found = entry_found es n entry is in
     (found.0, entry, found.1, found.2, e)
 
-told : (es : List PlacedEntry) (n : ℕ) (usage : Usage) → has_twice are_of_one_pod es ≡ false → Tells es n usage → usage_of (entry_for es n) ≡ Some usage
+told : (es : List PlacedEntry) (n : ℕ) (usage : Usage) → has_twice are_of_one_pod es ≡ false → Tells es n usage
+    → usage_of (entry_for es n) ≡ Some usage
 told es n usage once (k, entry, here, is, given) = ap usage_of (entry_given es n entry once k here is) ∙ given
 
 pub usage_shown : UsageShown
@@ -44,6 +46,8 @@ as_read (Err fault) written e = absurd (cc)
 
 pub signals_shown : SignalsShown
 signals_shown = record {
-  signals = λ d at written placed pods signal e. samples_said.signals d written signal (as_read (tick_line_of d) written e);
-  after_reclaim = λ d at written placed pods signal e. samples_said.after_reclaim d written signal (as_read (tick_line_of d) written e);
+  signals = λ d at written placed pods signal e. samples_said.signals d written signal
+      (as_read (tick_line_of d) written e);
+  after_reclaim = λ d at written placed pods signal e. samples_said.after_reclaim d written signal
+      (as_read (tick_line_of d) written e);
 }

@@ -9,7 +9,8 @@ pub after_tick-requires : goal.after_tick-requires
 after_tick-requires c =
     let shown = c.loop-piece.observations.rest.items in
     let rest = c.next-observed.new.self.rest in
-    let ends = none_left c.next-observed.result _ _ _ rest.items c.next-observed.ensures.cases (omega (arith, rest.ok)) in
+    let ends = none_left c.next-observed.result _ _ _ rest.items c.next-observed.ensures.cases
+    (omega (arith, rest.ok)) in
     let may = subst (λ (ps : List Piece). MayTakeAll ps shown) c.in-Some.ensures.steps.0 c.loop-piece.invariant.may in
     (next_may c.in-Some.piece _ shown rest.items c.next-observed.result c.next-observed.ensures.items ends may).0
 
@@ -19,7 +20,8 @@ loop-piece-preserved c =
     let rest = c.next-observed.new.self.rest in
     let pieces = c.next.new.self.rest.items in
     let all = c.loop-piece.all.items in
-    let ends = none_left c.next-observed.result _ _ _ rest.items c.next-observed.ensures.cases (omega (arith, rest.ok)) in
+    let ends = none_left c.next-observed.result _ _ _ rest.items c.next-observed.ensures.cases
+    (omega (arith, rest.ok)) in
     let may = subst (λ (ps : List Piece). MayTakeAll ps shown) c.in-Some.ensures.steps.0 c.loop-piece.invariant.may in
     let o = c.next-observed.result in
     record {

@@ -7,7 +7,8 @@ returns-then-not-is_next c = (
   (λ t. absurd (let w : false ≡ true = t in cc)),
   (λ all.
       let is : c.is_next.result ≡ true = c.is_next.ensures.1
-      (all c.loop-number.number c.piece_at.result.now c.shown_at.result.now (omega arith) c.piece_at.ensures c.shown_at.ensures) in
+      (all c.loop-number.number c.piece_at.result.now c.shown_at.result.now (omega arith) c.piece_at.ensures
+      c.shown_at.ensures) in
       let not : c.is_next.result ≡ false = c.if-not-is_next.true in
       absurd (cc)),
 )

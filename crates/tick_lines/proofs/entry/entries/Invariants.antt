@@ -6,4 +6,5 @@ use Rattle.tick_lines.specs.Entries.{entry_of}
 use Rattle.tick_lines.proofs.entry.entries.Given as goal
 
 abbrev pub invariant-loop-value : goal.invariant-loop-value
-invariant-loop-value l = with_front l.all.items (each entry_of (map view (drop l.value-index l.values))) ≡ each entry_of (map view l.values)
+invariant-loop-value l = with_front l.all.items (each entry_of (map view (drop l.value-index l.values)))
+    ≡ each entry_of (map view l.values)

@@ -6,4 +6,5 @@ use Rattle.tick_lines.specs.Listings.{listing_of}
 use Rattle.tick_lines.proofs.listing.listings.Given as goal
 
 abbrev pub invariant-loop-value : goal.invariant-loop-value
-invariant-loop-value l = with_front l.all.items (each listing_of (map view (drop l.value-index l.values))) ≡ each listing_of (map view l.values)
+invariant-loop-value l = with_front l.all.items (each listing_of (map view (drop l.value-index l.values)))
+    ≡ each listing_of (map view l.values)

@@ -1,4 +1,4 @@
-use Rattle.trace.proofs.LawLemmas.Checks as lemmas
+use Rattle.trace.proofs.LawLemmas.Saying as lemmas
 use Rattle.trace.proofs.laws.all_checks.Goals as goal
 
 pub returns : goal.returns

@@ -5,4 +5,5 @@ use Rattle.trace.specs.Placing.{placed_entry}
 use Rattle.trace.proofs.placing.placed_entries.Given as goal
 
 abbrev pub invariant-loop-entry : goal.invariant-loop-entry
-invariant-loop-entry l = with_front l.all.items (each (placed_entry l.keys l.pods) (drop l.entry-index l.entries)) ≡ each (placed_entry l.keys l.pods) l.entries
+invariant-loop-entry l = with_front l.all.items (each (placed_entry l.keys l.pods) (drop l.entry-index l.entries))
+    ≡ each (placed_entry l.keys l.pods) l.entries

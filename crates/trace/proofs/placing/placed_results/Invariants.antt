@@ -5,4 +5,5 @@ use Rattle.trace.specs.Placing.{placed_result}
 use Rattle.trace.proofs.placing.placed_results.Given as goal
 
 abbrev pub invariant-loop-written : goal.invariant-loop-written
-invariant-loop-written l = with_front l.all.items (each (placed_result l.pod) (drop l.written-index l.results)) ≡ each (placed_result l.pod) l.results
+invariant-loop-written l = with_front l.all.items (each (placed_result l.pod) (drop l.written-index l.results))
+    ≡ each (placed_result l.pod) l.results

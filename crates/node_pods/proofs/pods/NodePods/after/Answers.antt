@@ -13,7 +13,8 @@ rank_all-requires c =
     let next = subst (λ (p : Pods). AreNext p.pieces shown) (sym c.self.view_is) c.requires in
     λ n piece at.
     (placed_after i.pieces.items i.greatest i.has_dedicated_imagefs shown new c.self.invariant.placed next
-    c.in_ok-pieces.ensures n piece (ap (λ (ps : List Piece). slice_get ps n) (sym c.deref.ensures.value) ∙ at)).number_is
+    c.in_ok-pieces.ensures n piece
+    (ap (λ (ps : List Piece). slice_get ps n) (sym c.deref.ensures.value) ∙ at)).number_is
 
 pub invariant_of-result : goal.invariant_of-result
 invariant_of-result c =

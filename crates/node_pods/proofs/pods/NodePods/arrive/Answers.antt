@@ -21,7 +21,8 @@ pub returns-in_err-add-clause-err : goal.returns-in_err-add-clause-err
 returns-in_err-add-clause-err c =
     let i = c.self.inside in
     on_any_err c.from_residual-in_err-add.result
-    (ap (λ (ps : List Piece). pods_of ps i.greatest i.has_dedicated_imagefs) c.try_reserve.ensures.items ∙ c.self.view_is)
+    (ap (λ (ps : List Piece). pods_of ps i.greatest i.has_dedicated_imagefs) c.try_reserve.ensures.items
+    ∙ c.self.view_is)
 
 pub invariant_of-self-2 : goal.invariant_of-self-2
 invariant_of-self-2 c =

@@ -8,6 +8,7 @@ pub returns : goal.returns
 returns c =
     let ranked = c.self.invariant.ranked in
     let i = c.self.inside in
-    subst (λ (p : Pods). IsVictim c.args.signal p.has_dedicated_imagefs (IsCandidate p.pieces) c.first.result) c.self.view_is
+    subst (λ (p : Pods). IsVictim c.args.signal p.has_dedicated_imagefs (IsCandidate p.pieces) c.first.result)
+    c.self.view_is
     (victim_of_held c.args.signal i.has_dedicated_imagefs i.pieces.items ranked.held ranked.are_held c.first.result
     (c.first.ensures i.has_dedicated_imagefs ranked.held ranked.are_rankings))

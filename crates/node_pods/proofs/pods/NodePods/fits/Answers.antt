@@ -11,4 +11,5 @@ returns-then-shown-len c =
     let long : length shown ≡ length pieces =
     omega (arith, c.if-shown-len.true, c.len.ensures, items.ok, ap length c.deref.ensures.value) in
     fits_by c.args.self.now c.args.tick.now pieces shown c.are_next.result
-    (c.deref.ensures.value ∙ ap (λ (p : Pods). p.pieces) c.self.view_is) c.as_slice-shown.ensures long c.are_next.ensures
+    (c.deref.ensures.value ∙ ap (λ (p : Pods). p.pieces) c.self.view_is) c.as_slice-shown.ensures long
+    c.are_next.ensures

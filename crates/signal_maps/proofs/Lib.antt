@@ -1,0 +1,4 @@
+pub mod EachSignal
+pub mod Refused
+pub mod Strangers
+pub mod Nulls

@@ -1,0 +1,33 @@
+//! The signals that a map may name.
+
+ghost use Rattle.std.specs.Prelude.{◌≡◌};
+ghost use Rattle.signal_maps.specs.Maps.{includes, may_name};
+
+use signals::Signal;
+
+/// The signals that a map may name.
+#[derive(Clone, Copy)]
+pub enum Scope {
+    /// Those of a whole node, which are all.
+    Node,
+    /// Those of the file systems alone.
+    FileSystems,
+}
+
+fn includes(scope: Scope, signal: Signal) -> bool
+    ensures { result ≡ includes scope signal }
+{
+    match scope {
+        Scope::Node => true,
+        Scope::FileSystems => signal.is_of_file_system(),
+    }
+}
+
+pub(crate) fn may_name(scope: Scope, name: &str) -> bool
+    ensures { result ≡ may_name scope name.now }
+{
+    match Signal::named(name) {
+        None => false,
+        Some(signal) => includes(scope, signal),
+    }
+}

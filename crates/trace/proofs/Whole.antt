@@ -1,0 +1,141 @@
+-- The steps of a line in one row.
+use Rattle.std.proofs.Common.{◌≡◌, List, ℕ, Option, Result, Ok, Err, refl, length}
+use Rattle.std.specs.Prelude.{⊤, nat_lt, nat_le, codes}
+use Rattle.serde_json.specs.Data.{Data}
+use Rattle.json_fields.specs.Fields.{field_at, text_at}
+use Rattle.json_fields.specs.Reading.{◌>>=◌, refused_if, some_or}
+use Rattle.following.specs.Backwards.{is_backwards}
+use Rattle.manifest.specs.declared.pod.PodSpec.{PodSpec}
+use Rattle.node_config.specs.declared.node.Version.{Version}
+use Rattle.observations.specs.declared.tick.TickObs.{TickObs}
+use Rattle.tick_lines.specs.declared.line.TickLine.{TickLine}
+use Rattle.trace.specs.declared.fault.FaultKind.{FaultKind}
+use Rattle.trace.specs.declared.fault.FaultKind.TheVariants.{TooLong, UnknownKind, Order, TooMany, DuplicatePod}
+use Rattle.trace.specs.declared.fault.FaultKind.TheVariants.{Backwards, ExitCode}
+use Rattle.trace.specs.declared.past.LineKind.{LineKind}
+use Rattle.trace.specs.declared.placing.PlacedEntry.{PlacedEntry}
+use Rattle.trace.specs.Lines.{longest_line}
+use Rattle.trace.specs.Observed.{observed, some_code_missing}
+use Rattle.trace.specs.Past.{Past, version_in, with_pod, with_tick}
+use Rattle.trace.specs.Placing.{placed_of}
+use Rattle.trace.specs.Pod.{key_of_pod, has_key, most_pods, pod_from}
+use Rattle.trace.specs.Tick.{moment_of, most_ticks, observed_in, tick_in, tick_at}
+use Rattle.trace.specs.Trace.{json_of, kind_from, kind_of_line, is_late, pod_in, pod_line_at}
+use Rattle.trace.specs.Trace.{in_order, kind_and_value, line_at}
+use Rattle.trace.specs.Written.{tick_line_in}
+
+-- the steps of a line, each with those after it
+abbrev pub in_place : Past → Data → LineKind → Result Past FaultKind
+in_place past d line_kind = in_order (version_in past) past line_kind d
+
+abbrev pub with_kind : Past → Data → Option LineKind → Result Past FaultKind
+with_kind past d kind = some_or UnknownKind kind >>= in_place past d
+
+abbrev pub with_json : Past → Data → Result Past FaultKind
+with_json past d = with_kind past d (kind_from (text_at (codes "kind") d))
+
+abbrev pub with_tick_seen : Past → TickObs → Result Past FaultKind
+with_tick_seen past tick = Ok (with_tick past tick)
+
+abbrev pub with_places : Past → ℕ → TickLine → List PlacedEntry → Result Past FaultKind
+with_places past at written placed = observed_in past at written placed >>= with_tick_seen past
+
+abbrev pub with_written : Past → ℕ → TickLine → Result Past FaultKind
+with_written past at written = placed_of past.pods written.entries >>= with_places past at written
+
+abbrev pub with_moment : Past → Data → ℕ → Result Past FaultKind
+with_moment past d at = tick_line_in d >>= with_written past at
+
+abbrev pub with_room : Past → Data → ⊤ → Result Past FaultKind
+with_room past d u = moment_of past.ticks (field_at (codes "at") d) >>= with_moment past d
+
+abbrev pub with_code : Past → ℕ → TickLine → List PlacedEntry → ⊤ → Result TickObs FaultKind
+with_code past at written placed u = Ok (observed at written placed past.pods)
+
+abbrev pub with_forwards : Past → ℕ → TickLine → List PlacedEntry → ⊤ → Result TickObs FaultKind
+with_forwards past at written placed u =
+    refused_if (some_code_missing placed) ExitCode >>= with_code past at written placed
+
+abbrev pub with_apart : Past → ℕ → TickLine → List PlacedEntry → ⊤ → Result TickObs FaultKind
+with_apart past at written placed u =
+    refused_if (is_backwards past.ticks (observed at written placed past.pods)) Backwards >>= with_forwards past at
+    written placed
+
+abbrev pub pod_new : Past → PodSpec → ⊤ → Result Past FaultKind
+pod_new past pod u = Ok (with_pod past pod)
+
+abbrev pub pod_said : Past → PodSpec → Result Past FaultKind
+pod_said past pod = refused_if (has_key past.pods (key_of_pod pod)) DuplicatePod >>= pod_new past pod
+
+abbrev pub pod_read : Past → Data → ⊤ → Result Past FaultKind
+pod_read past d u = pod_from (field_at (codes "pod") d) >>= pod_said past
+
+abbrev pub pod_early : Past → Data → ⊤ → Result Past FaultKind
+pod_early past d u = refused_if (nat_le most_pods (length past.pods)) TooMany >>= pod_read past d
+
+-- steps in two rows, and in one
+in_a_row : {A B C E : Type 0} (r : Result A E) (f : A → Result B E) (g : B → Result C E) (h : A → Result C E)
+    → ((x : A) → (f x >>= g) ≡ h x) → ((r >>= f) >>= g) ≡ (r >>= h)
+in_a_row (Ok x) f g h same = same x
+in_a_row (Err fault) f g h same = refl
+
+-- of a tick line, up to the tick
+abbrev said_placed : Past → ℕ → TickLine → Result TickObs FaultKind
+said_placed past at written = placed_of past.pods written.entries >>= observed_in past at written
+
+abbrev said_written : Past → Data → ℕ → Result TickObs FaultKind
+said_written past d at = tick_line_in d >>= said_placed past at
+
+abbrev said_moment : Past → Data → ⊤ → Result TickObs FaultKind
+said_moment past d room = moment_of past.ticks (field_at (codes "at") d) >>= said_written past d
+
+pub tick_whole : (past : Past) (d : Data)
+    → tick_at past d ≡ (refused_if (nat_le most_ticks (length past.ticks)) TooMany >>= with_room past d)
+unfolding tick_at tick_in
+tick_whole past d =
+    let last = with_tick_seen past in
+    in_a_row (refused_if (nat_le most_ticks (length past.ticks)) TooMany) (said_moment past d) last (with_room past d)
+    (λ room.
+    in_a_row (moment_of past.ticks (field_at (codes "at") d)) (said_written past d) last (with_moment past d) (λ at.
+    in_a_row (tick_line_in d) (said_placed past at) last (with_written past at) (λ written.
+    in_a_row (placed_of past.pods written.entries) (observed_in past at written) last (with_places past at written)
+    (λ placed. refl))))
+
+-- of a pod line, up to the pod
+abbrev said_pod : Data → ⊤ → Result PodSpec FaultKind
+said_pod d room = pod_from (field_at (codes "pod") d)
+
+abbrev said_early : Past → Data → ⊤ → Result PodSpec FaultKind
+said_early past d in_time = refused_if (nat_le most_pods (length past.pods)) TooMany >>= said_pod d
+
+pub pod_whole : (version : Version) (past : Past) (d : Data)
+    → pod_line_at version past d ≡ (refused_if (is_late version past.ticks) Order >>= pod_early past d)
+unfolding pod_line_at pod_in
+pod_whole version past d =
+    let last = pod_said past in
+    in_a_row (refused_if (is_late version past.ticks) Order) (said_early past d) last (pod_early past d) (λ in_time.
+    in_a_row (refused_if (nat_le most_pods (length past.pods)) TooMany) (said_pod d) last (pod_read past d)
+    (λ room. refl))
+
+-- of any line, up to its kind and its value
+abbrev said_kind : Data → Result (LineKind × Data) FaultKind
+said_kind d = kind_of_line d >>= λ line_kind. Ok (line_kind, d)
+
+abbrev said_json : List ℕ → ⊤ → Result (LineKind × Data) FaultKind
+said_json line short = json_of line >>= said_kind
+
+abbrev of_said : Past → LineKind × Data → Result Past FaultKind
+of_said past said = in_order (version_in past) past said.0 said.1
+
+abbrev pub json_read : Past → List ℕ → ⊤ → Result Past FaultKind
+json_read past line short = json_of line >>= with_json past
+
+pub line_whole : (past : Past) (line : List ℕ)
+    → line_at past line ≡ (refused_if (nat_lt longest_line (length line)) TooLong >>= json_read past line)
+unfolding line_at kind_and_value
+line_whole past line =
+    let last = of_said past in
+    in_a_row (refused_if (nat_lt longest_line (length line)) TooLong) (said_json line) last (json_read past line)
+    (λ short.
+    in_a_row (json_of line) said_kind last (with_json past) (λ d.
+    in_a_row (kind_of_line d) (λ line_kind. Ok (line_kind, d)) last (in_place past d) (λ line_kind. refl)))
