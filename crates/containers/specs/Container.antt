@@ -15,7 +15,8 @@ use Rattle.containers.specs.Probed.{WasStarted}
 use Rattle.containers.specs.Exits.{AreExits}
 
 -- once the newest instance has started, the probe set follows it
-pub record IsFollowedBy (spec : ContainerSpec) (h : List ContainerTick) (c : Container) (start : ℕ) (a : ℕ) : Type 0 where
+pub record IsFollowedBy (spec : ContainerSpec) (h : List ContainerTick) (c : Container) (start : ℕ)
+    (a : ℕ) : Type 0 where
   pub ticks : List ProbeTick
   pub are_ticks : AreTicksOf h a ticks
   pub followed : IsProbeSetOf spec.probes start ticks c.probes

@@ -6,7 +6,8 @@ use Rattle.manifest.specs.declared.pod.ContainerSpec.{ContainerSpec}
 use Rattle.state_diff.specs.Instances.{Listed, IsStart, IsExit, IsCodeAt}
 use Rattle.probes.specs.declared.probe_set.Cause.{Cause}
 use Rattle.containers.specs.declared.what.What.{What}
-use Rattle.containers.specs.declared.what.What.TheVariants.{Died, Started, StartupPassed, Kill, Ready, Unready, Backoff, Restart}
+use Rattle.containers.specs.declared.what.What.TheVariants.{Died, Started, StartupPassed, Kill, Ready, Unready, Backoff}
+use Rattle.containers.specs.declared.what.What.TheVariants.{Restart}
 use Rattle.containers.specs.declared.events.ContainerEvents.{ContainerEvents}
 use Rattle.containers.specs.Ticks.{ContainerTick, listings}
 use Rattle.containers.specs.Probed.{HasPassed, IsKillOrdered, IsReady}
@@ -62,7 +63,8 @@ abbrev pub Gives : (What → Type 0) → Option What → Type 0
 Gives P event = (what : What) → ((event ≡ Some what) ↔ P what)
 
 -- the events of the tick, place by place
-pub record AreEvents (policy : Policy) (greatest : ℕ) (spec : ContainerSpec) (h : List ContainerTick) (t : ℕ) (events : ContainerEvents) : Type 0 where
+pub record AreEvents (policy : Policy) (greatest : ℕ) (spec : ContainerSpec) (h : List ContainerTick) (t : ℕ)
+    (events : ContainerEvents) : Type 0 where
   pub gone : Gives (IsGone h t) events.gone
   pub started : Gives (HasStarted h t) events.started
   pub died : Gives (HasDied h t) events.died

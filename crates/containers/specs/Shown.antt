@@ -37,7 +37,8 @@ HasExitedWith h code = (a : ℕ) × IsNewest h a × IsExitCode h a code
 
 -- what is shown of the container after these ticks: in a pod that was evicted none is ready or
 -- started
-pub record IsShown (spec : ContainerSpec) (is_evicted : Type 0) (h : List ContainerTick) (status : ContainerStatus) : Type 0 where
+pub record IsShown (spec : ContainerSpec) (is_evicted : Type 0) (h : List ContainerTick)
+    (status : ContainerStatus) : Type 0 where
   pub state : IsContainerState (listings h) status.state
   pub code : (code : ℤ) → ((status.code ≡ Some code) ↔ HasExitedWith (listings h) code)
   pub restarts : IsRestarts (listings h) status.restarts

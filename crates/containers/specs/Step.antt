@@ -1,5 +1,6 @@
 -- What one more tick makes of a container: the verdicts on the listed instance, and the exits.
-use Rattle.std.specs.Prelude.{◌≡◌, ◌⊎◌, ℕ, Bool, true, false, List, [], ◌∷◌, ◌++◌, length, Option, Some, None, IsSomeAnd}
+use Rattle.std.specs.Prelude.{◌≡◌, ◌⊎◌, ℕ, Bool, true, false, List, [], ◌∷◌, ◌++◌, length, Option, Some, None}
+use Rattle.std.specs.Prelude.{IsSomeAnd}
 use Rattle.histories.specs.Histories.{recorded}
 use Rattle.manifest.specs.declared.outcome.Outcome.{Outcome}
 use Rattle.manifest.specs.declared.pod.ContainerSpec.{ContainerSpec}
@@ -43,7 +44,8 @@ AreVerdictsOf spec h x (Some verdicts) =
     × AreVerdicts spec.probes start (ticks ++ results_of x ∷ []) (length ticks) verdicts)
 
 -- the exits with those of the tick are counted; where there was one, its delay is known
-pub record AreCounted (greatest : ℕ) (h : List ContainerTick) (x : ContainerTick) (backoff : RestartBackoff) (delay : Option ℕ) : Type 0 where
+pub record AreCounted (greatest : ℕ) (h : List ContainerTick) (x : ContainerTick) (backoff : RestartBackoff)
+    (delay : Option ℕ) : Type 0 where
   pub exits : List Exit
   pub are_exits : AreExits (listings (h ++ x ∷ [])) exits
   pub counted : IsBackoffOf greatest exits backoff

@@ -2,7 +2,8 @@
 -- ticks are a list as long: of each tick its eviction, or none. Each is determined by the ticks up to
 -- its own and by the evictions before it; that one pod at most is evicted in a tick is this profile's
 -- rule. A tick is named by its place, a pod by its number.
-use Rattle.std.specs.Prelude.{◌≡◌, ◌==◌, ℕ, suc, List, [], ◌∷◌, ◌++◌, length, map, take, slice_get, Option, Some, None, option_map, IsSome, if◌then◌else◌, min}
+use Rattle.std.specs.Prelude.{◌≡◌, ◌==◌, ℕ, suc, List, [], ◌∷◌, ◌++◌, length, map, take, slice_get, Option, Some, None}
+use Rattle.std.specs.Prelude.{option_map, IsSome, if◌then◌else◌, min}
 use Rattle.manifest.specs.declared.pod.PodSpec.{PodSpec}
 use Rattle.signals.specs.declared.threshold.ThresholdKind.{ThresholdKind}
 use Rattle.signals.specs.declared.threshold.ThresholdKind.TheVariants.{Hard, Soft}
@@ -38,12 +39,14 @@ abbrev pub evicted_at : ℕ → List (Option Eviction) → Option EvictedAt
 evicted_at n [] = None
 evicted_at n (None ∷ evictions) = option_map later (evicted_at n evictions)
 evicted_at n (Some eviction ∷ evictions) =
-    if eviction.pod == n then Some (record { tick = 0; order = eviction.order }) else option_map later (evicted_at n evictions)
+    if eviction.pod == n then Some (record { tick = 0; order = eviction.order })
+    else option_map later (evicted_at n evictions)
 
 -- the pod's eviction, by its place among the pod's own ticks: as many of them are before it
 abbrev pub own_eviction : ℕ → List TickObs → List (Option Eviction) → Option EvictionOfPod
 own_eviction n ticks evictions =
-    option_map (λ (found : EvictedAt). record { place = length (pod_ticks (take found.tick ticks) n); order = found.order })
+    option_map
+    (λ (found : EvictedAt). record { place = length (pod_ticks (take found.tick ticks) n); order = found.order })
     (evicted_at n evictions)
 
 -- a pod's status after these ticks and evictions
@@ -51,7 +54,8 @@ abbrev pub IsStatusIn : List TickObs → List (Option Eviction) → ℕ → PodS
 IsStatusIn ticks evictions n pod = IsStatusAfter n pod (own_eviction n ticks evictions) (pod_ticks ticks n)
 
 -- a pod that may be evicted, and its status after the tick's update: it is present, and has not ended
-pub record IsCandidate (pods : List PodSpec) (before : List TickObs) (tick : TickObs) (evictions : List (Option Eviction)) (n : ℕ) (status : PodStatus) : Type 0 where
+pub record IsCandidate (pods : List PodSpec) (before : List TickObs) (tick : TickObs)
+    (evictions : List (Option Eviction)) (n : ℕ) (status : PodStatus) : Type 0 where
   pub pod : PodSpec
   pub at : slice_get pods n ≡ Some pod
   pub present : IsSome (shown_of tick n)
@@ -70,7 +74,8 @@ order_of config pod at key =
     record { at = at; signal = key.signal; kind = key.kind; grace = grace_of config pod key.kind }
 
 -- the pod of this number is evicted at this moment, for this threshold
-pub record Evicts (config : NodeConfig) (pods : List PodSpec) (at : ℕ) (key : ThresholdKey) (n : ℕ) (eviction : Eviction) : Type 0 where
+pub record Evicts (config : NodeConfig) (pods : List PodSpec) (at : ℕ) (key : ThresholdKey) (n : ℕ)
+    (eviction : Eviction) : Type 0 where
   pub pod : PodSpec
   pub is_pod : slice_get pods n ≡ Some pod
   pub number : eviction.pod ≡ n
@@ -83,7 +88,8 @@ IsOfVictim config pods at key (Some n) None = ⊥
 IsOfVictim config pods at key (Some n) (Some eviction) = Evicts config pods at key n eviction
 
 -- one pod at most is evicted, for the threshold that is served
-abbrev pub IsEvictionFor : NodeConfig → List PodSpec → List TickObs → TickObs → List (Option Eviction) → Option ThresholdKey → Option Eviction → Type 0
+abbrev pub IsEvictionFor : NodeConfig → List PodSpec → List TickObs → TickObs → List (Option Eviction)
+    → Option ThresholdKey → Option Eviction → Type 0
 IsEvictionFor config pods before tick evictions None eviction = eviction ≡ None
 IsEvictionFor config pods before tick evictions (Some key) eviction =
     (victim : Option ℕ)
@@ -91,13 +97,16 @@ IsEvictionFor config pods before tick evictions (Some key) eviction =
     × IsOfVictim config pods tick.at key victim eviction
 
 -- the eviction of a tick that comes after these ticks with these evictions
-pub record IsRound (config : NodeConfig) (pods : List PodSpec) (before : List TickObs) (tick : TickObs) (evictions : List (Option Eviction)) (eviction : Option Eviction) : Type 0 where
+pub record IsRound (config : NodeConfig) (pods : List PodSpec) (before : List TickObs) (tick : TickObs)
+    (evictions : List (Option Eviction)) (eviction : Option Eviction) : Type 0 where
   pub served : Option ThresholdKey
   pub is_served : IsServed config.eviction before tick served
   pub is_for : IsEvictionFor config pods before tick evictions served eviction
 
 -- these are the evictions of these ticks
-pub record IsReplay (config : NodeConfig) (pods : List PodSpec) (ticks : List TickObs) (evictions : List (Option Eviction)) : Type 0 where
+pub record IsReplay (config : NodeConfig) (pods : List PodSpec) (ticks : List TickObs)
+    (evictions : List (Option Eviction)) : Type 0 where
   pub as_many : length evictions ≡ length ticks
-  pub each : (t : ℕ) (tick : TickObs) (eviction : Option Eviction) → slice_get ticks t ≡ Some tick → slice_get evictions t ≡ Some eviction
+  pub each : (t : ℕ) (tick : TickObs) (eviction : Option Eviction) → slice_get ticks t ≡ Some tick
+      → slice_get evictions t ≡ Some eviction
       → IsRound config pods (take t ticks) tick (take t evictions) eviction

@@ -1,6 +1,9 @@
 -- The node of a trace, one tick and some pods more.
-use Rattle.std.proofs.Common.{◌≡◌, ◌⊎◌, inl, inr, ◌∙◌, ℕ, suc, zero, ◌+◌, ◌-◌, ◌<◌, ◌≤◌, ◌^◌, List, [], ◌∷◌, ◌++◌, length, map, take, drop, get_or, append_assoc, append-nil, Option, Some, None, refl, ap, sym, subst, arith}
-use Rattle.std.specs.Prelude.{slice_get, MatchOption, IfSome, IsSomeAnd, is_some, IsSome, option_and_then, unwrap_or, ◌↔◌}
+use Rattle.std.proofs.Common.{◌≡◌, ◌⊎◌, inl, inr, ◌∙◌, ℕ, suc, zero, ◌+◌, ◌-◌, ◌<◌, ◌≤◌, ◌^◌, List, [], ◌∷◌, ◌++◌}
+use Rattle.std.proofs.Common.{length, map, take, drop, get_or, append_assoc, append-nil, Option, Some, None, refl, ap}
+use Rattle.std.proofs.Common.{sym, subst, arith}
+use Rattle.std.specs.Prelude.{slice_get, MatchOption, IfSome, IsSomeAnd, is_some, IsSome, option_and_then, unwrap_or}
+use Rattle.std.specs.Prelude.{◌↔◌}
 use Rattle.std.proofs.lemmas.Bool.{cases_lt}
 use Rattle.std.proofs.lemmas.List.{length-take-le, take-append-le, take_all}
 use Rattle.manifest.specs.declared.pod.PodSpec.{PodSpec}
@@ -30,11 +33,13 @@ use Rattle.kubelet_replay.specs.Ticks.{AreReplayable}
 use Rattle.kubelet_replay.specs.Report.{AreLines}
 
 -- what a trace keeps lets every tick be handed on
-listed : (o : Option ContainerObs) → (unwrap_or o unseen).seen ≡ option_and_then (λ (shown : ContainerObs). shown.seen) o
+listed : (o : Option ContainerObs)
+    → (unwrap_or o unseen).seen ≡ option_and_then (λ (shown : ContainerObs). shown.seen) o
 listed None = refl
 listed (Some shown) = refl
 
-same_history : (own : List PodObs) (c : ℕ) → listings (ticks_of (map pod_tick own) c) ≡ map (λ (shown : PodObs). recorded shown.at (listed_in shown c)) own
+same_history : (own : List PodObs) (c : ℕ)
+    → listings (ticks_of (map pod_tick own) c) ≡ map (λ (shown : PodObs). recorded shown.at (listed_in shown c)) own
 same_history [] c = refl
 same_history (o ∷ os) c =
     ap (λ (s : Option Seen). recorded o.at s ∷ listings (ticks_of (map pod_tick os) c)) (listed (slice_get o.containers c))
@@ -50,7 +55,8 @@ ends_so h at ends =
     ∙ ap (λ m. moment_at h (m - 1)) (length-project g (ticks_of h 0) ∙ length-project f h) in
     subst (λ (o : Option ℕ). IfSome o (λ last. last < at)) same ends
 
-kept : (i t : ℕ) (ticks : List TickObs) (tick : TickObs) → slice_get (take i ticks) t ≡ Some tick → (t < i) × (slice_get ticks t ≡ Some tick)
+kept : (i t : ℕ) (ticks : List TickObs) (tick : TickObs) → slice_get (take i ticks) t ≡ Some tick → (t < i)
+    × (slice_get ticks t ≡ Some tick)
 kept zero t ticks tick e = absurd (cc)
 kept (suc i) t [] tick e = absurd (cc)
 kept (suc i) zero (x ∷ xs) tick e = (omega arith, e)
@@ -58,7 +64,8 @@ kept (suc i) (suc t) (x ∷ xs) tick e = let w = kept i t xs tick e in (omega (a
 
 -- no tick shows fewer pods than one before it
 grows : (pods : List PodSpec) (arrivals : List ℕ) (ticks : List TickObs) → HasShape pods arrivals ticks
-    → (t u : ℕ) (earlier later : TickObs) → t < u → slice_get ticks t ≡ Some earlier → slice_get ticks u ≡ Some later → length earlier.pods ≤ length later.pods
+    → (t u : ℕ) (earlier later : TickObs) → t < u → slice_get ticks t ≡ Some earlier → slice_get ticks u ≡ Some later
+    → length earlier.pods ≤ length later.pods
 grows pods arrivals ticks shape t u earlier later lt at there = elim (cases_lt (length later.pods) (length earlier.pods)) [
   | inl fewer ↦
       let n = length later.pods in
@@ -74,7 +81,8 @@ grows pods arrivals ticks shape t u earlier later lt at there = elim (cases_lt (
     before (Some arrival) p = let le : arrival ≤ t = p in omega arith
 
 -- and none shows more than there are
-no_more : (pods : List PodSpec) (arrivals : List ℕ) (ticks : List TickObs) → HasShape pods arrivals ticks → (t : ℕ) (tick : TickObs) → slice_get ticks t ≡ Some tick
+no_more : (pods : List PodSpec) (arrivals : List ℕ) (ticks : List TickObs) → HasShape pods arrivals ticks → (t : ℕ)
+    (tick : TickObs) → slice_get ticks t ≡ Some tick
     → length tick.pods ≤ length pods
 no_more pods arrivals ticks shape t tick at = elim (cases_lt (length pods) (length tick.pods)) [
   | inl more ↦
@@ -90,7 +98,8 @@ no_more pods arrivals ticks shape t tick at = elim (cases_lt (length pods) (leng
     some_below (x ∷ xs) zero p = omega arith
     some_below (x ∷ xs) (suc n) p = let lt : n < length xs = some_below xs n p in omega arith
 
-pub are_replayable : (pods : List PodSpec) (arrivals : List ℕ) (ticks : List TickObs) → AreAcceptable ticks → HasShape pods arrivals ticks → AreReplayable pods ticks
+pub are_replayable : (pods : List PodSpec) (arrivals : List ℕ) (ticks : List TickObs) → AreAcceptable ticks
+    → HasShape pods arrivals ticks → AreReplayable pods ticks
 are_replayable pods arrivals ticks acceptable shape = record {
   next = next;
   moments = λ t n tick shown at is. (shape.shown t tick at).moment n shown is;
@@ -125,7 +134,8 @@ are_replayable pods arrivals ticks acceptable shape = record {
         }
 
 -- where a list is cut
-pub rest_more : {A : Type 0} (all front : List A) (x : A) (rest : List A) → all ≡ front ++ x ∷ rest → all ≡ (front ++ x ∷ []) ++ rest
+pub rest_more : {A : Type 0} (all front : List A) (x : A) (rest : List A) → all ≡ front ++ x ∷ rest
+    → all ≡ (front ++ x ∷ []) ++ rest
 rest_more all front x rest is = is ∙ sym (append_assoc front (x ∷ []) rest)
 
 middle : {A : Type 0} (xs : List A) (x : A) (ys : List A) → slice_get (xs ++ x ∷ ys) (length xs) ≡ Some x
@@ -140,18 +150,21 @@ get_before [] ys n x e = absurd (cc)
 get_before (z ∷ xs) ys zero x e = e
 get_before (z ∷ xs) ys (suc n) x e = get_before xs ys n x e
 
-get_behind : {A : Type 0} (xs : List A) (x : A) (ys : List A) (t : ℕ) (y : A) → slice_get ys t ≡ Some y → slice_get (xs ++ x ∷ ys) (length xs + suc t) ≡ Some y
+get_behind : {A : Type 0} (xs : List A) (x : A) (ys : List A) (t : ℕ) (y : A) → slice_get ys t ≡ Some y
+    → slice_get (xs ++ x ∷ ys) (length xs + suc t) ≡ Some y
 get_behind [] x ys t y e = ap (λ (k : ℕ). slice_get (x ∷ ys) k) (let z : 0 + suc t ≡ suc t = omega arith in z) ∙ e
 get_behind (z ∷ xs) x ys t y e =
     ap (λ (k : ℕ). slice_get (z ∷ (xs ++ x ∷ ys)) k) (let n : suc (length xs) + suc t ≡ suc (length xs + suc t) = omega arith in n) ∙ get_behind xs x ys t y e
 
-taken_at : (n k : ℕ) (pods : List PodSpec) (pod : PodSpec) → slice_get (take k pods) n ≡ Some pod → slice_get pods n ≡ Some pod
+taken_at : (n k : ℕ) (pods : List PodSpec) (pod : PodSpec) → slice_get (take k pods) n ≡ Some pod
+    → slice_get pods n ≡ Some pod
 taken_at n zero pods pod e = absurd (cc)
 taken_at n (suc k) [] pod e = absurd (cc)
 taken_at zero (suc k) (p ∷ pods) pod e = e
 taken_at (suc n) (suc k) (p ∷ pods) pod e = taken_at n k pods pod e
 
-last_place : (ticks : List TickObs) (m : ℕ) → last_of ticks ≡ Some m → (t : ℕ) × (tick : TickObs) × (slice_get ticks t ≡ Some tick) × (tick.at ≡ m) × (t < length ticks)
+last_place : (ticks : List TickObs) (m : ℕ) → last_of ticks ≡ Some m → (t : ℕ) × (tick : TickObs)
+    × (slice_get ticks t ≡ Some tick) × (tick.at ≡ m) × (t < length ticks)
 last_place [] m e = absurd (cc)
 last_place (x ∷ []) m e = (0, x, refl, cc, omega arith)
 last_place (x ∷ y ∷ ticks) m e = let w = last_place (y ∷ ticks) m e in let lt : w.0 < length (y ∷ ticks) = w.4 in (suc w.0, w.1, w.2, w.3, omega arith)
@@ -161,7 +174,8 @@ if_some None P each = tt
 if_some (Some m) P each = each m refl
 
 -- a node that has taken the ticks so far, and as many pods as the tick shows, may take it
-pub fits_next : (pods : List PodSpec) (ticks before : List TickObs) (tick : TickObs) (rest : List TickObs) (s : State) → AreReplayable pods ticks → ticks ≡ before ++ tick ∷ rest
+pub fits_next : (pods : List PodSpec) (ticks before : List TickObs) (tick : TickObs) (rest : List TickObs) (s : State)
+    → AreReplayable pods ticks → ticks ≡ before ++ tick ∷ rest
     → HasTaken (take (length tick.pods) pods) before s → Fits s tick
 fits_next pods ticks before tick rest s may whole taken =
     let t = length before in
@@ -191,7 +205,8 @@ fits_next pods ticks before tick rest s may whole taken =
     }
 
 -- a node that has taken the ticks so far, and the pods that the last of them shows
-pub record IsSoFar (config : NodeConfig) (pods : List PodSpec) (ticks before rest : List TickObs) (arrived : ℕ) (left : List PodSpec) (node : Option State) : Type 0 where
+pub record IsSoFar (config : NodeConfig) (pods : List PodSpec) (ticks before rest : List TickObs) (arrived : ℕ)
+    (left : List PodSpec) (node : Option State) : Type 0 where
   pub whole : ticks ≡ before ++ rest
   pub left_is : left ≡ drop arrived pods
   pub few : arrived ≤ length pods
@@ -222,11 +237,13 @@ drop_drop (suc n) (suc k) (p ∷ pods) le =
     ap (λ (i : ℕ). drop i (drop n pods)) (let z : suc k - suc n ≡ k - n = omega arith in z) ∙ drop_drop n k pods (omega arith)
 
 -- no tick and no pod yet
-pub none_yet : (config : NodeConfig) (pods : List PodSpec) (ticks : List TickObs) (new : Option State) → IsAfter config [] [] new → IsSoFar config pods ticks [] ticks 0 pods new
+pub none_yet : (config : NodeConfig) (pods : List PodSpec) (ticks : List TickObs) (new : Option State)
+    → IsAfter config [] [] new → IsSoFar config pods ticks [] ticks 0 pods new
 none_yet config pods ticks new after = record { whole = refl; left_is = refl; few = omega arith; shown = λ t tick at. omega arith; after = after }
 
 -- the pods that the next tick shows have arrived
-pub arrived_next : (config : NodeConfig) (pods : List PodSpec) (ticks before : List TickObs) (tick : TickObs) (rest : List TickObs) (arrived : ℕ) (left : List PodSpec) (old new : Option State)
+pub arrived_next : (config : NodeConfig) (pods : List PodSpec) (ticks before : List TickObs) (tick : TickObs)
+    (rest : List TickObs) (arrived : ℕ) (left : List PodSpec) (old new : Option State)
     → IsSoFar config pods ticks before (tick ∷ rest) arrived left old
     → ((ps : List PodSpec) (ts : List TickObs) → IsAfter config ps ts old → IsAfter config (ps ++ take (length tick.pods - arrived) left) ts new)
     → IsAfter config (take (length tick.pods) pods) before new
@@ -236,20 +253,24 @@ arrived_next config pods ticks before tick rest arrived left old new s arrives =
     subst (λ (ps : List PodSpec). IsAfter config ps before new)
     (ap (λ (ps : List PodSpec). take arrived pods ++ take (length tick.pods - arrived) ps) s.left_is ∙ take_drop arrived (length tick.pods) pods le) now
 
-may_take : (config : NodeConfig) (pods : List PodSpec) (ticks before : List TickObs) (tick : TickObs) (rest : List TickObs) (node : Option State)
-    → AreReplayable pods ticks → ticks ≡ before ++ tick ∷ rest → IsAfter config (take (length tick.pods) pods) before node → MayTake node tick
+may_take : (config : NodeConfig) (pods : List PodSpec) (ticks before : List TickObs) (tick : TickObs)
+    (rest : List TickObs) (node : Option State)
+    → AreReplayable pods ticks → ticks ≡ before ++ tick ∷ rest
+    → IsAfter config (take (length tick.pods) pods) before node → MayTake node tick
 may_take config pods ticks before tick rest None may whole after = absurd after
 may_take config pods ticks before tick rest (Some s) may whole after = fits_next pods ticks before tick rest s may whole after.1
 
 -- so it may be taken
-pub may_take_next : (config : NodeConfig) (pods : List PodSpec) (ticks before : List TickObs) (tick : TickObs) (rest : List TickObs) (arrived : ℕ) (left : List PodSpec) (old new : Option State)
+pub may_take_next : (config : NodeConfig) (pods : List PodSpec) (ticks before : List TickObs) (tick : TickObs)
+    (rest : List TickObs) (arrived : ℕ) (left : List PodSpec) (old new : Option State)
     → AreReplayable pods ticks → IsSoFar config pods ticks before (tick ∷ rest) arrived left old
     → ((ps : List PodSpec) (ts : List TickObs) → IsAfter config ps ts old → IsAfter config (ps ++ take (length tick.pods - arrived) left) ts new) → MayTake new tick
 may_take_next config pods ticks before tick rest arrived left old new may s arrives =
     may_take config pods ticks before tick rest new may s.whole (arrived_next config pods ticks before tick rest arrived left old new s arrives)
 
 -- and once it was
-pub one_more : (config : NodeConfig) (pods : List PodSpec) (ticks before : List TickObs) (tick : TickObs) (rest : List TickObs) (arrived : ℕ) (left left' : List PodSpec) (old mid new : Option State)
+pub one_more : (config : NodeConfig) (pods : List PodSpec) (ticks before : List TickObs) (tick : TickObs)
+    (rest : List TickObs) (arrived : ℕ) (left left' : List PodSpec) (old mid new : Option State)
     → AreReplayable pods ticks → IsSoFar config pods ticks before (tick ∷ rest) arrived left old
     → ((ps : List PodSpec) (ts : List TickObs) → IsAfter config ps ts old → IsAfter config (ps ++ take (length tick.pods - arrived) left) ts mid)
     → left' ≡ drop (length tick.pods - arrived) left
@@ -270,7 +291,8 @@ one_more config pods ticks before tick rest arrived left left' old mid new may s
     }
 
 -- all ticks taken, and the other pods arrived
-pub all_taken : (config : NodeConfig) (pods : List PodSpec) (ticks before : List TickObs) (arrived count : ℕ) (left : List PodSpec) (old new : Option State)
+pub all_taken : (config : NodeConfig) (pods : List PodSpec) (ticks before : List TickObs) (arrived count : ℕ)
+    (left : List PodSpec) (old new : Option State)
     → IsSoFar config pods ticks before [] arrived left old → count ≡ length pods
     → ((ps : List PodSpec) (ts : List TickObs) → IsAfter config ps ts old → IsAfter config (ps ++ take (count - arrived) left) ts new)
     → IsAfter config pods ticks new
@@ -283,7 +305,8 @@ all_taken config pods ticks before arrived count left old new s many arrives =
     (subst (λ (ps : List PodSpec). IsAfter config ps before new) all now)
 
 -- some pods arrive one after the other
-pub took_more : (config : NodeConfig) (arrived : List PodSpec) (ticks : List TickObs) (taken : List PodSpec) (pod : PodSpec) (old new : Option State)
+pub took_more : (config : NodeConfig) (arrived : List PodSpec) (ticks : List TickObs) (taken : List PodSpec)
+    (pod : PodSpec) (old new : Option State)
     → IsAfter config (arrived ++ taken) ticks old
     → ((ps : List PodSpec) (ts : List TickObs) → IsAfter config ps ts old → IsAfter config (ps ++ pod ∷ []) ts new)
     → IsAfter config (arrived ++ (taken ++ pod ∷ [])) ticks new
@@ -291,7 +314,8 @@ took_more config arrived ticks taken pod old new after arrives =
     subst (λ (ps : List PodSpec). IsAfter config ps ticks new) (append_assoc arrived taken (pod ∷ [])) (arrives (arrived ++ taken) ticks after)
 
 -- where an iterator has ended it has nothing left
-pub none_left : {A : Type 0} (o : Option A) (old new : ℕ) (Q : A → Type 0) (rest : List A) → MatchOption o ((old ≡ 0) × (new ≡ 0)) Q → length rest ≡ new → o ≡ None → rest ≡ []
+pub none_left : {A : Type 0} (o : Option A) (old new : ℕ) (Q : A → Type 0) (rest : List A)
+    → MatchOption o ((old ≡ 0) × (new ≡ 0)) Q → length rest ≡ new → o ≡ None → rest ≡ []
 none_left None old new Q [] ends long is = refl
 none_left None old new Q (x ∷ xs) ends long is = absurd (omega (arith, long, ends.1))
 none_left (Some x) old new Q rest ends long is = absurd (let w : Some x ≡ None = is in cc)
@@ -302,7 +326,8 @@ nothing_left (x ∷ xs) long = absurd (omega (arith, long))
 
 -- the first so many of these pods have arrived
 pub record AreArriving (all : List PodSpec) (i : ℕ) (old new : Option State) (left : List PodSpec) : Type 0 where
-  pub arrived : (config : NodeConfig) (pods : List PodSpec) (ticks : List TickObs) → IsAfter config pods ticks old → IsAfter config (pods ++ take i all) ticks new
+  pub arrived : (config : NodeConfig) (pods : List PodSpec) (ticks : List TickObs) → IsAfter config pods ticks old
+      → IsAfter config (pods ++ take i all) ticks new
   pub left_is : left ≡ drop i all
 
 pub none_arrived : (all : List PodSpec) (old : Option State) → AreArriving all 0 old old all
@@ -311,13 +336,15 @@ none_arrived all old = record {
   left_is = refl;
 }
 
-cut : (i : ℕ) (all : List PodSpec) (pod : PodSpec) (rest : List PodSpec) → pod ∷ rest ≡ drop i all → (take (suc i) all ≡ take i all ++ pod ∷ []) × (rest ≡ drop (suc i) all)
+cut : (i : ℕ) (all : List PodSpec) (pod : PodSpec) (rest : List PodSpec) → pod ∷ rest ≡ drop i all
+    → (take (suc i) all ≡ take i all ++ pod ∷ []) × (rest ≡ drop (suc i) all)
 cut zero [] pod rest e = absurd (cc)
 cut zero (p ∷ all) pod rest e = let head : p ≡ pod = cc in let tail : rest ≡ all = cc in (ap (λ (q : PodSpec). q ∷ []) head, tail)
 cut (suc i) [] pod rest e = absurd (cc)
 cut (suc i) (p ∷ all) pod rest e = let w = cut i all pod rest e in (ap (λ (ps : List PodSpec). p ∷ ps) w.0, w.1)
 
-pub arriving_more : (all : List PodSpec) (i : ℕ) (old mid new : Option State) (left : List PodSpec) (pod : PodSpec) (rest : List PodSpec) → AreArriving all i old mid left → left ≡ pod ∷ rest
+pub arriving_more : (all : List PodSpec) (i : ℕ) (old mid new : Option State) (left : List PodSpec) (pod : PodSpec)
+    (rest : List PodSpec) → AreArriving all i old mid left → left ≡ pod ∷ rest
     → ((config : NodeConfig) (pods : List PodSpec) (ticks : List TickObs) → IsAfter config pods ticks mid → IsAfter config (pods ++ pod ∷ []) ticks new)
     → AreArriving all (i + 1) old new rest
 arriving_more all i old mid new left pod rest are is arrives =
@@ -345,7 +372,8 @@ short (suc i) zero (p ∷ all) e le = absurd (omega arith)
 short (suc i) (suc n) (p ∷ all) e le = let w = short i n all e (omega arith) in (ap (λ (ps : List PodSpec). p ∷ ps) w.0, w.1)
 
 -- where none are left all have
-pub all_arrived : (all : List PodSpec) (i count : ℕ) (old new : Option State) (left rest : List PodSpec) → AreArriving all i old new left → left ≡ [] → rest ≡ [] → i ≤ count → AreArriving all count old new rest
+pub all_arrived : (all : List PodSpec) (i count : ℕ) (old new : Option State) (left rest : List PodSpec)
+    → AreArriving all i old new left → left ≡ [] → rest ≡ [] → i ≤ count → AreArriving all count old new rest
 all_arrived all i count old new left rest are none none' le =
     let w = short i count all (sym none ∙ are.left_is) le in
     record {
@@ -353,13 +381,16 @@ all_arrived all i count old new left rest are none none' le =
       left_is = none' ∙ w.1;
     }
 
-pub as_many_arrived : (all : List PodSpec) (i count : ℕ) (old new : Option State) (left : List PodSpec) → AreArriving all i old new left → i ≤ count → count ≤ i → AreArriving all count old new left
+pub as_many_arrived : (all : List PodSpec) (i count : ℕ) (old new : Option State) (left : List PodSpec)
+    → AreArriving all i old new left → i ≤ count → count ≤ i → AreArriving all count old new left
 as_many_arrived all i count old new left are le ge = let same : i ≡ count = omega arith in subst (λ (k : ℕ). AreArriving all k old new left) same are
 
 -- the lines of each pod of a node
-pub piece_here : (config : NodeConfig) (pods : List PodSpec) (ticks : List TickObs) (evictions : List (Option Eviction)) (pieces : List Piece) (n : ℕ) (piece : Piece)
+pub piece_here : (config : NodeConfig) (pods : List PodSpec) (ticks : List TickObs)
+    (evictions : List (Option Eviction)) (pieces : List Piece) (n : ℕ) (piece : Piece)
     → ArePieces config pods ticks evictions pieces → n < length pieces → piece ≡ get_or pieces n piece
-    → (pod : PodSpec) × (n < length pods) × (pod ≡ get_or pods n pod) × (piece ≡ piece_after config ticks evictions n pod)
+    → (pod : PodSpec) × (n < length pods) × (pod ≡ get_or pods n pod)
+    × (piece ≡ piece_after config ticks evictions n pod)
 piece_here config pods ticks evictions pieces n piece are lt is =
     let many : length pieces ≡ length pods = are.as_many in
     let pod = at_place pods n (omega arith) in
@@ -376,33 +407,40 @@ piece_here config pods ticks evictions pieces n piece are lt is =
     slice_get-get_or (y ∷ xs) zero x d e = cc
     slice_get-get_or (y ∷ xs) (suc k) x d e = slice_get-get_or xs k x d e
 
-pub whole_report : (config : NodeConfig) (ticks : List TickObs) (evictions : List (Option Eviction)) (pods : List PodSpec) (pieces : List Piece) (n : ℕ) (bytes : List ℕ)
-    → ArePieces config pods ticks evictions pieces → n ≡ length pieces → AreLines ticks evictions (take n pods) bytes → AreLines ticks evictions pods bytes
+pub whole_report : (config : NodeConfig) (ticks : List TickObs) (evictions : List (Option Eviction))
+    (pods : List PodSpec) (pieces : List Piece) (n : ℕ) (bytes : List ℕ)
+    → ArePieces config pods ticks evictions pieces → n ≡ length pieces → AreLines ticks evictions (take n pods) bytes
+    → AreLines ticks evictions pods bytes
 whole_report config ticks evictions pods pieces n bytes are all is =
     let many : length pieces ≡ length pods = are.as_many in
     subst (λ (ps : List PodSpec). AreLines ticks evictions ps bytes) (take_all n pods (omega arith)) is
 
 -- a halted node is after no ticks
-pub halted : (config : NodeConfig) (pods : List PodSpec) (ticks : List TickObs) (one : Option State) → one ≡ None → IsAfter config pods ticks one → ⊥
+pub halted : (config : NodeConfig) (pods : List PodSpec) (ticks : List TickObs) (one : Option State) → one ≡ None
+    → IsAfter config pods ticks one → ⊥
 halted config pods ticks None is after = after
 halted config pods ticks (Some s) is after = absurd (cc)
 
 -- the same with what the code has of the tick
-pub so_far_next : (config : NodeConfig) (pods : List PodSpec) (ticks before rest next : List TickObs) (arrived : ℕ) (left : List PodSpec) (old : Option State)
-    → rest ≡ next → IsSoFar config pods ticks before rest arrived left old → IsSoFar config pods ticks before next arrived left old
+pub so_far_next : (config : NodeConfig) (pods : List PodSpec) (ticks before rest next : List TickObs) (arrived : ℕ)
+    (left : List PodSpec) (old : Option State)
+    → rest ≡ next → IsSoFar config pods ticks before rest arrived left old
+    → IsSoFar config pods ticks before next arrived left old
 so_far_next config pods ticks before rest next arrived left old is s = subst (λ (ts : List TickObs). IsSoFar config pods ticks before ts arrived left old) is s
 
 abbrev pub Arrive : NodeConfig → Option State → Option State → List PodSpec → Type 0
 Arrive config old new arriving = (ps : List PodSpec) (ts : List TickObs) → IsAfter config ps ts old → IsAfter config (ps ++ arriving) ts new
 
-pub may_take_shown : (config : NodeConfig) (pods : List PodSpec) (ticks before : List TickObs) (tick : TickObs) (rest : List TickObs) (shown : List PodObs) (arrived : ℕ) (left : List PodSpec) (old new : Option State)
+pub may_take_shown : (config : NodeConfig) (pods : List PodSpec) (ticks before : List TickObs) (tick : TickObs)
+    (rest : List TickObs) (shown : List PodObs) (arrived : ℕ) (left : List PodSpec) (old new : Option State)
     → AreReplayable pods ticks → IsSoFar config pods ticks before (tick ∷ rest) arrived left old → shown ≡ tick.pods
     → Arrive config old new (take (length shown - arrived) left) → MayTake new tick
 may_take_shown config pods ticks before tick rest shown arrived left old new may s is arrives =
     may_take_next config pods ticks before tick rest arrived left old new may s
     (subst (λ (os : List PodObs). Arrive config old new (take (length os - arrived) left)) is arrives)
 
-pub one_more_shown : (config : NodeConfig) (pods : List PodSpec) (ticks before : List TickObs) (tick : TickObs) (rest : List TickObs) (shown : List PodObs) (arrived : ℕ) (left left' : List PodSpec) (old mid new : Option State)
+pub one_more_shown : (config : NodeConfig) (pods : List PodSpec) (ticks before : List TickObs) (tick : TickObs)
+    (rest : List TickObs) (shown : List PodObs) (arrived : ℕ) (left left' : List PodSpec) (old mid new : Option State)
     → AreReplayable pods ticks → IsSoFar config pods ticks before (tick ∷ rest) arrived left old → shown ≡ tick.pods
     → Arrive config old mid (take (length shown - arrived) left) → left' ≡ drop (length shown - arrived) left
     → ((ps : List PodSpec) (ts : List TickObs) → IsAfter config ps ts mid → IsAfter config ps (ts ++ tick ∷ []) new)

@@ -60,16 +60,22 @@ pod_line n pod qos phase order =
 
 -- without ticks the moment is 0
 unfoldable pub condition_line : ℕ → List ℕ → Condition → List ℕ
-condition_line n kind c = joined (codes "condition " ∷ decimal n ∷ codes " " ∷ kind ∷ codes " " ∷ truth c.value ∷ codes " " ∷ decimal (unwrap_or c.since 0) ∷ codes "\n" ∷ [])
+condition_line n kind c =
+    joined (codes "condition " ∷ decimal n ∷ codes " " ∷ kind ∷ codes " " ∷ truth c.value
+    ∷ codes " " ∷ decimal (unwrap_or c.since 0) ∷ codes "\n" ∷ [])
 
 abbrev pub container_words : ℕ → List ℕ → List ℕ → List ℕ → List ℕ
-container_words n name state code = joined (codes "container " ∷ decimal n ∷ codes " " ∷ name ∷ codes " state=" ∷ state ∷ codes " code=" ∷ code ∷ [])
+container_words n name state code =
+    joined (codes "container " ∷ decimal n ∷ codes " " ∷ name ∷ codes " state=" ∷ state ∷ codes " code=" ∷ code ∷ [])
 
 abbrev pub flag_words : List ℕ → ℕ → Bool → Bool → List ℕ
-flag_words words restarts ready started = joined (words ∷ codes " restarts=" ∷ decimal restarts ∷ codes " ready=" ∷ bool_text ready ∷ codes " started=" ∷ bool_text started ∷ codes "\n" ∷ [])
+flag_words words restarts ready started =
+    joined (words ∷ codes " restarts=" ∷ decimal restarts ∷ codes " ready=" ∷ bool_text ready
+    ∷ codes " started=" ∷ bool_text started ∷ codes "\n" ∷ [])
 
 unfoldable pub container_line : ℕ → List ℕ → ContainerStatus → List ℕ
-container_line n name s = flag_words (container_words n name (state_word s.state) (code_text s.code)) s.restarts s.ready s.started
+container_line n name s =
+    flag_words (container_words n name (state_word s.state) (code_text s.code)) s.restarts s.ready s.started
 
 -- Ready is the same as ContainersReady
 abbrev pub conditions_text : ℕ → Conditions → List ℕ
@@ -83,7 +89,8 @@ conditions_text n c =
 abbrev pub disruption_text : ℕ → Option EvictOrder → List ℕ
 disruption_text n None = []
 disruption_text n (Some order) =
-    joined (codes "condition " ∷ decimal n ∷ codes " DisruptionTarget True " ∷ decimal order.at ∷ codes " TerminationByKubelet\n" ∷ [])
+    joined (codes "condition " ∷ decimal n ∷ codes " DisruptionTarget True " ∷ decimal order.at
+    ∷ codes " TerminationByKubelet\n" ∷ [])
 
 -- a line for each container
 abbrev pub containers_text : ℕ → List ContainerSpec → List ContainerStatus → List ℕ

@@ -26,17 +26,20 @@ abbrev pub evicting_order : ℕ → List TickObs → List (Option Eviction) → 
 evicting_order n ticks evictions = option_map (λ (e : EvictionOfPod). e.order) (own_eviction n ticks evictions)
 
 -- the lines of the pod with the number after these ticks with these evictions
-pub record ArePodLines (ticks : List TickObs) (evictions : List (Option Eviction)) (n : ℕ) (pod : PodSpec) (bytes : List ℕ) : Type 0 where
+pub record ArePodLines (ticks : List TickObs) (evictions : List (Option Eviction)) (n : ℕ) (pod : PodSpec)
+    (bytes : List ℕ) : Type 0 where
   pub lifecycle : Lifecycle
   pub is_lifecycle : IsLifecycleOf pod (evicting_tick n ticks evictions) (pod_ticks ticks n) lifecycle
   pub containers : List ContainerStatus
   pub are_statuses : AreStatusesOf pod (evicting_tick n ticks evictions) (pod_ticks ticks n) containers
   pub qos : Qos
   pub is_qos : IsOfClass pod.containers qos
-  pub text : bytes ≡ pod_text n pod qos lifecycle.phase lifecycle.conditions (evicting_order n ticks evictions) containers
+  pub text : bytes ≡ pod_text n pod qos lifecycle.phase lifecycle.conditions
+      (evicting_order n ticks evictions) containers
 
 -- the lines of each pod, one pod after the other
-pub record AreLines (ticks : List TickObs) (evictions : List (Option Eviction)) (pods : List PodSpec) (bytes : List ℕ) : Type 0 where
+pub record AreLines (ticks : List TickObs) (evictions : List (Option Eviction)) (pods : List PodSpec)
+    (bytes : List ℕ) : Type 0 where
   pub parts : List (List ℕ)
   pub as_many : length parts ≡ length pods
   pub each : (n : ℕ) (d : PodSpec) (e : List ℕ) → n < length pods

@@ -12,12 +12,16 @@ use Rattle.eviction.specs.Replay.{pod_ticks}
 -- moments rise and are in range; and no tick shows fewer pods than one before it, or more than there are
 pub record AreReplayable (pods : List PodSpec) (ticks : List TickObs) : Type 0 where
   pub next : (t n : ℕ) (tick : TickObs) (pod : PodSpec) (shown : PodObs) → slice_get ticks t ≡ Some tick
-      → slice_get pods n ≡ Some pod → shown_of tick n ≡ Some shown → IsNextTick pod (pod_ticks (take t ticks) n) (pod_tick shown)
-  pub moments : (t n : ℕ) (tick : TickObs) (shown : PodObs) → slice_get ticks t ≡ Some tick → shown_of tick n ≡ Some shown
+      → slice_get pods n ≡ Some pod → shown_of tick n ≡ Some shown
+      → IsNextTick pod (pod_ticks (take t ticks) n) (pod_tick shown)
+  pub moments : (t n : ℕ) (tick : TickObs) (shown : PodObs) → slice_get ticks t ≡ Some tick
+      → shown_of tick n ≡ Some shown
       → shown.at ≡ tick.at
-  pub rising : (t u : ℕ) (earlier later : TickObs) → t < u → slice_get ticks t ≡ Some earlier → slice_get ticks u ≡ Some later
+  pub rising : (t u : ℕ) (earlier later : TickObs) → t < u → slice_get ticks t ≡ Some earlier
+      → slice_get ticks u ≡ Some later
       → earlier.at < later.at
   pub below : (t : ℕ) (tick : TickObs) → slice_get ticks t ≡ Some tick → tick.at < 2 ^ 40
-  pub growing : (t u : ℕ) (earlier later : TickObs) → t < u → slice_get ticks t ≡ Some earlier → slice_get ticks u ≡ Some later
+  pub growing : (t u : ℕ) (earlier later : TickObs) → t < u → slice_get ticks t ≡ Some earlier
+      → slice_get ticks u ≡ Some later
       → length earlier.pods ≤ length later.pods
   pub within : (t : ℕ) (tick : TickObs) → slice_get ticks t ≡ Some tick → length tick.pods ≤ length pods

@@ -2,7 +2,8 @@
 
 ghost use Rattle.std.specs.Prelude.{◌≡◌, ◌+◌, ◌^◌, ◌<◌, IfOk, IfErr, OnOk, string_bytes};
 ghost use Rattle.std.specs.Io.KnownBytes.{Appends};
-ghost use Rattle.kubelet_replay.specs.Run.{longest_input, failed_reads, failed_writes, HasRead, IsReportOfText, RefusesText, Refuses, IsWritten, fault_of, WritesReport, IsRefusal};
+ghost use Rattle.kubelet_replay.specs.Run.{longest_input, failed_reads, failed_writes, HasRead, IsReportOfText};
+ghost use Rattle.kubelet_replay.specs.Run.{RefusesText, Refuses, IsWritten, fault_of, WritesReport, IsRefusal};
 
 use crate::fault::RunFault;
 use crate::report::report_of;

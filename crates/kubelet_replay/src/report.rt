@@ -18,7 +18,8 @@ use trace::Trace;
 
 /// The lines of a pod.
 fn pod_lines(alloc: Global, number: usize, piece: &PodPiece) -> Result<String, AllocError>
-    ensures { IfOk result (λ s. (config : NodeConfig) (ticks : List TickObs) (evictions : List (Option Eviction)) (pod : PodSpec)
+    ensures { IfOk result (λ s. (config : NodeConfig) (ticks : List TickObs) (evictions : List (Option Eviction))
+        (pod : PodSpec)
         → piece.now ≡ piece_after config ticks evictions number pod
         → ArePodLines ticks evictions number pod (string_bytes s)) }
 {

@@ -2,7 +2,10 @@
 
 ghost use Rattle.std.specs.Prelude.{◌≡◌, ◌++◌, length, IfOk, OnOk, string_bytes};
 ghost use Rattle.kubelet_replay.specs.Texts.{joined};
-ghost use Rattle.kubelet_replay.specs.Lines.{phase_word, state_word, reason_word, qos_word, truth, code_text, pod_words, class_words, pod_line, condition_line, container_words, flag_words, container_line, conditions_text, disruption_text, containers_text, pod_text};
+ghost use Rattle.kubelet_replay.specs.Lines.{phase_word, state_word, reason_word, qos_word, truth, code_text};
+ghost use Rattle.kubelet_replay.specs.Lines.{pod_words, class_words, pod_line, condition_line, container_words};
+ghost use Rattle.kubelet_replay.specs.Lines.{flag_words, container_line, conditions_text, disruption_text};
+ghost use Rattle.kubelet_replay.specs.Lines.{containers_text, pod_text};
 
 use manifest::{ContainerSpec, PodSpec};
 use phase::{Condition, Conditions, ContainerState, Phase};
@@ -239,7 +242,8 @@ fn add_containers(
     statuses: &[ContainerStatus],
 ) -> Result<(), AllocError>
     requires { length statuses.now ≡ length containers.now }
-    ensures { OnOk result (string_bytes text.new ≡ string_bytes text.old ++ containers_text number containers.now statuses.now) }
+    ensures { OnOk result (string_bytes text.new
+        ≡ string_bytes text.old ++ containers_text number containers.now statuses.now) }
 {
     for (place, container) in containers.iter().enumerate() {
         let line = container_line(alloc, number, container.name.as_str(), statuses[place])?;

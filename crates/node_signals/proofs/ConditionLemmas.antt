@@ -1,5 +1,6 @@
 -- What the ticks say of a condition.
-use Rattle.std.proofs.Common.{◌≡◌, ◌⊎◌, inl, inr, ℕ, zero, suc, ◌<◌, List, [], ◌∷◌, ◌++◌, length, take, Bool, true, false, Some, None, refl, sym, ap, subst, ◌∙◌, arith}
+use Rattle.std.proofs.Common.{◌≡◌, ◌⊎◌, inl, inr, ℕ, zero, suc, ◌<◌, List, [], ◌∷◌, ◌++◌, length, take, Bool, true}
+use Rattle.std.proofs.Common.{false, Some, None, refl, sym, ap, subst, ◌∙◌, arith}
 use Rattle.std.specs.Prelude.{◌↔◌, IsTrue, IsSomeAnd, slice_get}
 use Rattle.std.proofs.lemmas.Bool.{cases_lt}
 use Rattle.std.proofs.lemmas.List.{take-append-le, take_all}
@@ -17,7 +18,8 @@ use Rattle.node_signals.specs.Node.{IsPressureOf}
 use Rattle.node_signals.proofs.PlaceLemmas.{within, place_split}
 
 -- lists of observations that say the same of each place are one
-same_observations : (h k : List Observation) → length h ≡ length k → ((t : ℕ) → t < length h → moment_at h t ≡ moment_at k t)
+same_observations : (h k : List Observation) → length h ≡ length k
+    → ((t : ℕ) → t < length h → moment_at h t ≡ moment_at k t)
     → ((t : ℕ) → t < length h → (IsMetAt h t ↔ IsMetAt k t)) → h ≡ k
 same_observations [] [] len moments met = refl
 same_observations [] (y ∷ k) len moments met = absurd (omega arith)
@@ -56,13 +58,15 @@ met_here : (h : List Observation) (at : ℕ) (b : Bool) → (IsMetAt (h ++ recor
 met_here [] at b = ((λ m. m), (λ m. m))
 met_here (x ∷ h) at b = met_here h at b
 
-met_before : (h : List Observation) (at : ℕ) (b : Bool) (t : ℕ) → t < length h → (IsMetAt (h ++ recorded at b ∷ []) t ↔ IsMetAt h t)
+met_before : (h : List Observation) (at : ℕ) (b : Bool) (t : ℕ) → t < length h
+    → (IsMetAt (h ++ recorded at b ∷ []) t ↔ IsMetAt h t)
 met_before [] at b t lt = absurd (omega arith)
 met_before (x ∷ h) at b zero lt = ((λ m. m), (λ m. m))
 met_before (x ∷ h) at b (suc t) lt = met_before h at b t (omega arith)
 
 -- with one more tick
-pub observed_more : (eviction : Eviction) (condition : NodeCondition) (before : List TickObs) (tick : TickObs) (h : List Observation) (met : Bool)
+pub observed_more : (eviction : Eviction) (condition : NodeCondition) (before : List TickObs) (tick : TickObs)
+    (h : List Observation) (met : Bool)
     → (IsTrue met ↔ IsMet eviction condition (before ++ tick ∷ [])) → AreObservations eviction condition before h
     → AreObservations eviction condition (before ++ tick ∷ []) (h ++ recorded tick.at met ∷ [])
 observed_more eviction condition before tick h met is a = record {
@@ -97,8 +101,10 @@ observed_more eviction condition before tick h met is a = record {
 }
 
 -- a value that says of the observations whether the condition is true says it of the ticks
-pub true_after : (eviction : Eviction) (period : ℕ) (condition : NodeCondition) (ticks : List TickObs) (h : List Observation) (value : Bool)
-    → AreObservations eviction condition ticks h → (IsTrue value ↔ IsUnderPressure period h) → (IsTrue value ↔ IsTrueAfter eviction period condition ticks)
+pub true_after : (eviction : Eviction) (period : ℕ) (condition : NodeCondition) (ticks : List TickObs)
+    (h : List Observation) (value : Bool)
+    → AreObservations eviction condition ticks h → (IsTrue value ↔ IsUnderPressure period h)
+    → (IsTrue value ↔ IsTrueAfter eviction period condition ticks)
 true_after eviction period condition ticks h value a is = (
   (λ t. (h, a, is.0 t)),
   (λ after. is.1 (subst (IsUnderPressure period) (one_list eviction condition ticks after.0 h after.1 a) after.2)),
@@ -108,23 +114,27 @@ true_after eviction period condition ticks h value a is = (
 abbrev pub TakesMore : Pressure → ℕ → Bool → Pressure → Type 0
 TakesMore old at met new = (period : ℕ) (h : List Observation) → IsPressureState period h old → IsPressureState period (h ++ recorded at met ∷ []) new
 
-pub pressure_more : (eviction : Eviction) (period : ℕ) (condition : NodeCondition) (before : List TickObs) (tick : TickObs) (at : ℕ) (met : Bool) (old new : Pressure)
+pub pressure_more : (eviction : Eviction) (period : ℕ) (condition : NodeCondition) (before : List TickObs)
+    (tick : TickObs) (at : ℕ) (met : Bool) (old new : Pressure)
     → tick.at ≡ at → (IsTrue met ↔ IsMet eviction condition (before ++ tick ∷ [])) → TakesMore old at met new
-    → IsPressureOf eviction period condition before old → IsPressureOf eviction period condition (before ++ tick ∷ []) new
+    → IsPressureOf eviction period condition before old
+    → IsPressureOf eviction period condition (before ++ tick ∷ []) new
 pressure_more eviction period condition before tick at met old new is_at is takes (h, observed, state) = (
   h ++ recorded tick.at met ∷ [],
   observed_more eviction condition before tick h met is observed,
   subst (λ k. IsPressureState period (h ++ recorded k met ∷ []) new) (sym is_at) (takes period h state),
 )
 
-pub is_true_of : (eviction : Eviction) (period : ℕ) (condition : NodeCondition) (ticks : List TickObs) (pressure : Pressure) (value : Bool)
+pub is_true_of : (eviction : Eviction) (period : ℕ) (condition : NodeCondition) (ticks : List TickObs)
+    (pressure : Pressure) (value : Bool)
     → IsPressureOf eviction period condition ticks pressure
     → ((p : ℕ) (h : List Observation) → IsPressureState p h pressure → (IsTrue value ↔ IsUnderPressure p h))
     → (IsTrue value ↔ IsTrueAfter eviction period condition ticks)
 is_true_of eviction period condition ticks pressure value (h, observed, state) tells =
     true_after eviction period condition ticks h value observed (tells period h state)
 
-pub since_of : (eviction : Eviction) (period : ℕ) (condition : NodeCondition) (ticks : List TickObs) (pressure : Pressure) (since : ℕ)
+pub since_of : (eviction : Eviction) (period : ℕ) (condition : NodeCondition) (ticks : List TickObs)
+    (pressure : Pressure) (since : ℕ)
     → IsPressureOf eviction period condition ticks pressure
     → ((p : ℕ) (h : List Observation) → IsPressureState p h pressure → IsSince p h since)
     → IsSinceMoment eviction period condition ticks since

@@ -1,5 +1,6 @@
 -- The events of a tick.
-use Rattle.std.proofs.Common.{◌≡◌, ℕ, suc, ◌+◌, ◌<◌, ◌≤◌, List, [], ◌∷◌, ◌++◌, take, Bool, true, false, Option, Some, None, refl, sym, ap, subst, ◌∙◌, append_assoc, append-nil, arith}
+use Rattle.std.proofs.Common.{◌≡◌, ℕ, suc, ◌+◌, ◌<◌, ◌≤◌, List, [], ◌∷◌, ◌++◌, take, Bool, true, false, Option, Some}
+use Rattle.std.proofs.Common.{None, refl, sym, ap, subst, ◌∙◌, append_assoc, append-nil, arith}
 use mathlib.Core.Bool.{beq}
 use Rattle.std.specs.Prelude.{◌↔◌, IsTrue, slice_get}
 use Rattle.std.proofs.lemmas.List.{take_all}
@@ -10,14 +11,16 @@ use Rattle.observations.specs.declared.tick.TickObs.{TickObs}
 use Rattle.node_signals.specs.declared.key.ThresholdKey.{ThresholdKey}
 use Rattle.node_signals.specs.Keys.{serving_order}
 use Rattle.node_signals.specs.Conditions.{conditions}
-use Rattle.node_signals.specs.Events.{Changes, ChangesThreshold, ChangesCondition, Reclaims, Gives, as_list, AreGiven, AreNodeEvents, Adds}
+use Rattle.node_signals.specs.Events.{Changes, ChangesThreshold, ChangesCondition, Reclaims, Gives, as_list, AreGiven}
+use Rattle.node_signals.specs.Events.{AreNodeEvents, Adds}
 use Rattle.node_signals.proofs.PlaceLemmas.{take_more}
 use Rattle.node_signals.proofs.ServedLemmas.{key_at}
 
 pub gives_none : (P : NodeEvent → Type 0) → ((e : NodeEvent) → P e → ⊥) → Gives P None
 gives_none P none = λ e. ((λ is. absurd (cc)), (λ p. absurd (none e p)))
 
-pub gives_one : (P : NodeEvent → Type 0) (event : NodeEvent) → P event → ((e : NodeEvent) → P e → event ≡ e) → Gives P (Some event)
+pub gives_one : (P : NodeEvent → Type 0) (event : NodeEvent) → P event → ((e : NodeEvent) → P e → event ≡ e)
+    → Gives P (Some event)
 gives_one P event p one = λ e. (
   (λ is. let same : event ≡ e = cc in subst P same p),
   (λ q. ap (λ k. Some k) (one e q)),
@@ -41,14 +44,16 @@ same_from false true e = e
 same_from false false e = refl
 
 -- a value that changed, or did not
-pub changed : (event_of : Bool → NodeEvent) (N O : Type 0) (value old : Bool) → (IsTrue value ↔ N) → (IsTrue old ↔ O) → beq value old ≡ false
+pub changed : (event_of : Bool → NodeEvent) (N O : Type 0) (value old : Bool) → (IsTrue value ↔ N) → (IsTrue old ↔ O)
+    → beq value old ≡ false
     → Gives (Changes event_of N O) (Some (event_of value))
 changed event_of N O value old now was apart =
     gives_one (Changes event_of N O) (event_of value)
     (value, refl, now, (λ is. apart_from value old apart (same_bool value old ((λ t. was.1 (is.0 t)), (λ t. is.1 (was.0 t))))))
     (λ e c. ap event_of (same_bool value c.0 ((λ t. c.2.1 (now.0 t)), (λ t. now.1 (c.2.0 t)))) ∙ sym c.1)
 
-pub unchanged : (event_of : Bool → NodeEvent) (N O : Type 0) (value old : Bool) → (IsTrue value ↔ N) → (IsTrue old ↔ O) → beq value old ≡ true
+pub unchanged : (event_of : Bool → NodeEvent) (N O : Type 0) (value old : Bool) → (IsTrue value ↔ N) → (IsTrue old ↔ O)
+    → beq value old ≡ true
     → Gives (Changes event_of N O) None
 unchanged event_of N O value old now was same =
     gives_none (Changes event_of N O) (λ e c.
@@ -57,7 +62,8 @@ unchanged event_of N O value old now was same =
     c.3 (subst P (sym (same_from value old same) ∙ both) was))
 
 -- one more item
-given_more : {A : Type 0} (P : A → NodeEvent → Type 0) (xs : List A) (x : A) (events : List NodeEvent) (event : Option NodeEvent)
+given_more : {A : Type 0} (P : A → NodeEvent → Type 0) (xs : List A) (x : A) (events : List NodeEvent)
+    (event : Option NodeEvent)
     → AreGiven P xs events → Gives (P x) event → AreGiven P (xs ++ x ∷ []) (events ++ as_list event)
 given_more P [] x events event given gives = (event, [], gives, refl, ap (λ k. k ++ as_list event) given ∙ sym (append-nil (as_list event)))
 given_more P (y ∷ xs) x events event (first, rest, g, given, is) gives = (
@@ -71,12 +77,14 @@ given_more P (y ∷ xs) x events event (first, rest, g, given, is) gives = (
 pub adds_none : {A : Type 0} (P : A → NodeEvent → Type 0) (old : List NodeEvent) → Adds P [] old old
 adds_none P old = ([], refl, sym (append-nil old))
 
-pub adds_more : {A : Type 0} (P : A → NodeEvent → Type 0) (xs : List A) (x : A) (old mid new : List NodeEvent) (event : Option NodeEvent)
+pub adds_more : {A : Type 0} (P : A → NodeEvent → Type 0) (xs : List A) (x : A) (old mid new : List NodeEvent)
+    (event : Option NodeEvent)
     → Adds P xs old mid → Gives (P x) event → new ≡ mid ++ as_list event → Adds P (xs ++ x ∷ []) old new
 adds_more P xs x old mid new event (added, given, is) gives more =
     (added ++ as_list event, given_more P xs x added event given gives, more ∙ ap (λ k. k ++ as_list event) is ∙ append_assoc old added (as_list event))
 
-pub given_unique : {A : Type 0} (P : A → NodeEvent → Type 0) (xs : List A) (a b : List NodeEvent) → AreGiven P xs a → AreGiven P xs b → a ≡ b
+pub given_unique : {A : Type 0} (P : A → NodeEvent → Type 0) (xs : List A) (a b : List NodeEvent) → AreGiven P xs a
+    → AreGiven P xs b → a ≡ b
 given_unique P [] a b f g = f ∙ sym g
 given_unique P (x ∷ xs) a b (e, rest, gives, given, is) (e', rest', gives', given', is') =
     let first : e ≡ e' = gives_unique (P x) e e' gives gives' in
@@ -84,9 +92,11 @@ given_unique P (x ∷ xs) a b (e, rest, gives, given, is) (e', rest', gives', gi
     is ∙ ap (λ k. as_list k ++ rest) first ∙ ap (λ k. as_list e' ++ k) later ∙ sym is'
 
 -- one more place of the serving order
-pub adds_next : (P : ThresholdKey → NodeEvent → Type 0) (place : ℕ) (old mid new : List NodeEvent) (event : Option NodeEvent) → place < 12
+pub adds_next : (P : ThresholdKey → NodeEvent → Type 0) (place : ℕ) (old mid new : List NodeEvent)
+    (event : Option NodeEvent) → place < 12
     → ((key : ThresholdKey) → slice_get serving_order place ≡ Some key → Gives (P key) event)
-    → new ≡ mid ++ as_list event → Adds P (take place serving_order) old mid → Adds P (take (place + 1) serving_order) old new
+    → new ≡ mid ++ as_list event → Adds P (take place serving_order) old mid
+    → Adds P (take (place + 1) serving_order) old new
 adds_next P place old mid new event lt gives more adds =
     let here = key_at serving_order place lt in
     let grown : take (place + 1) serving_order ≡ take place serving_order ++ here.0 ∷ [] =
@@ -98,15 +108,18 @@ pub adds_all : (P : ThresholdKey → NodeEvent → Type 0) (place : ℕ) (old ne
 adds_all P place old new le adds = subst (λ (keys : List ThresholdKey). Adds P keys old new) (take_all place serving_order le) adds
 
 -- of three items one after the other
-pub adds_three : {A : Type 0} (P : A → NodeEvent → Type 0) (x y z : A) (old first second new : List NodeEvent) (a b c : Option NodeEvent)
-    → Gives (P x) a → Gives (P y) b → Gives (P z) c → first ≡ old ++ as_list a → second ≡ first ++ as_list b → new ≡ second ++ as_list c
+pub adds_three : {A : Type 0} (P : A → NodeEvent → Type 0) (x y z : A) (old first second new : List NodeEvent)
+    (a b c : Option NodeEvent)
+    → Gives (P x) a → Gives (P y) b → Gives (P z) c → first ≡ old ++ as_list a → second ≡ first ++ as_list b
+    → new ≡ second ++ as_list c
     → Adds P (x ∷ y ∷ z ∷ []) old new
 adds_three P x y z old first second new a b c gives_a gives_b gives_c one two three =
     adds_more P (x ∷ y ∷ []) z old second new c
     (adds_more P (x ∷ []) y old first second b (adds_more P [] x old old first a (adds_none P old) gives_a one) gives_b two) gives_c three
 
 -- the three kinds, one after the other
-pub all_events : (eviction : Eviction) (period : ℕ) (before : List TickObs) (tick : TickObs) (first second all : List NodeEvent)
+pub all_events : (eviction : Eviction) (period : ℕ) (before : List TickObs) (tick : TickObs)
+    (first second all : List NodeEvent)
     → Adds (ChangesThreshold eviction before tick) serving_order [] first
     → Adds (ChangesCondition eviction period before tick) conditions first second
     → Adds (Reclaims eviction before tick) serving_order second all

@@ -1,5 +1,6 @@
 -- What is at a place of a list, and of a list with one place set or one item more.
-use Rattle.std.proofs.Common.{◌≡◌, ◌⊎◌, inl, inr, ℕ, zero, suc, ◌<◌, ◌≤◌, List, [], ◌∷◌, ◌++◌, length, take, map, Option, Some, refl, ap, arith}
+use Rattle.std.proofs.Common.{◌≡◌, ◌⊎◌, inl, inr, ℕ, zero, suc, ◌<◌, ◌≤◌, List, [], ◌∷◌, ◌++◌, length, take, map}
+use Rattle.std.proofs.Common.{Option, Some, refl, ap, arith}
 use Rattle.std.specs.Prelude.{slice_get, slice_set, IsSomeAnd}
 
 -- a place of a list with one place set
@@ -39,7 +40,8 @@ place_split (z ∷ xs) x y zero e = inl e
 place_split (z ∷ xs) x y (suc t) e = elim (place_split xs x y t e) [ inl old ↦ inl old | inr w ↦ inr (ap suc w.0, w.1) ]
 
 -- the first places, with one more
-pub take_more : {A : Type 0} (xs : List A) (i : ℕ) (x : A) → slice_get xs i ≡ Some x → take (suc i) xs ≡ take i xs ++ x ∷ []
+pub take_more : {A : Type 0} (xs : List A) (i : ℕ) (x : A) → slice_get xs i ≡ Some x
+    → take (suc i) xs ≡ take i xs ++ x ∷ []
 take_more [] i x e = absurd (cc)
 take_more (y ∷ xs) zero x e = let same : y ≡ x = cc in cc
 take_more (y ∷ xs) (suc i) x e = ap (λ k. y ∷ k) (take_more xs i x e)

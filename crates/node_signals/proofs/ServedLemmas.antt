@@ -1,5 +1,6 @@
 -- The places of the serving order.
-use Rattle.std.proofs.Common.{◌≡◌, ℕ, zero, suc, ◌+◌, ◌<◌, ◌≤◌, List, [], ◌∷◌, ◌++◌, length, Bool, true, false, Option, Some, None, refl, sym, subst, ◌∙◌, arith}
+use Rattle.std.proofs.Common.{◌≡◌, ℕ, zero, suc, ◌+◌, ◌<◌, ◌≤◌, List, [], ◌∷◌, ◌++◌, length, Bool, true, false, Option}
+use Rattle.std.proofs.Common.{Some, None, refl, sym, subst, ◌∙◌, arith}
 use Rattle.std.specs.Prelude.{◌↔◌, IsTrue, IsSomeAnd, slice_get}
 use Rattle.histories.proofs.First.{none_next}
 use Rattle.node_config.specs.Eviction.{Eviction}
@@ -15,15 +16,18 @@ use Rattle.node_signals.proofs.PlaceLemmas.{within_and}
 abbrev pub At : (ThresholdKey → Type 0) → ℕ → Type 0
 At P place = IsSomeAnd (slice_get serving_order place) P
 
-pub at_key : (P : ThresholdKey → Type 0) (place : ℕ) (key : ThresholdKey) → slice_get serving_order place ≡ Some key → P key → At P place
+pub at_key : (P : ThresholdKey → Type 0) (place : ℕ) (key : ThresholdKey) → slice_get serving_order place ≡ Some key
+    → P key → At P place
 at_key P place key at p = subst (λ o. IsSomeAnd o P) (sym at) p
 
-some_key : (P : ThresholdKey → Type 0) (o : Option ThresholdKey) → IsSomeAnd o P → (key : ThresholdKey) × (o ≡ Some key) × P key
+some_key : (P : ThresholdKey → Type 0) (o : Option ThresholdKey) → IsSomeAnd o P → (key : ThresholdKey)
+    × (o ≡ Some key) × P key
 some_key P None p = absurd p
 some_key P (Some key) p = (key, refl, p)
 
 -- where it holds there is a threshold
-key_of : (P : ThresholdKey → Type 0) (place : ℕ) → At P place → (key : ThresholdKey) × (slice_get serving_order place ≡ Some key) × P key
+key_of : (P : ThresholdKey → Type 0) (place : ℕ) → At P place → (key : ThresholdKey)
+    × (slice_get serving_order place ≡ Some key) × P key
 key_of P place p = some_key P (slice_get serving_order place) p
 
 pub refused : {P : Type 0} {b : Bool} → (IsTrue b ↔ P) → b ≡ false → P → ⊥
@@ -36,7 +40,8 @@ NoneBelow P place = (t : ℕ) → t < place → At P t → ⊥
 pub none_below_first : (P : ThresholdKey → Type 0) → NoneBelow P 0
 none_below_first P t lt p = absurd (omega arith)
 
-pub none_below_next : (P : ThresholdKey → Type 0) (place : ℕ) → ((key : ThresholdKey) → slice_get serving_order place ≡ Some key → P key → ⊥)
+pub none_below_next : (P : ThresholdKey → Type 0) (place : ℕ)
+    → ((key : ThresholdKey) → slice_get serving_order place ≡ Some key → P key → ⊥)
     → NoneBelow P place → NoneBelow P (place + 1)
 none_below_next P place not none = none_next (At P) place none (λ p. let here = key_of P place p in not here.0 here.1 here.2)
 
@@ -44,31 +49,38 @@ pub none_at_all : (P : ThresholdKey → Type 0) (place : ℕ) → 12 ≤ place �
 none_at_all P place le none t p = none t (let lt : t < 12 = within_and P serving_order t p in omega arith) p
 
 -- the first that asks is served
-pub served_here : (eviction : Eviction) (before : List TickObs) (tick : TickObs) (place : ℕ) (key : ThresholdKey) → slice_get serving_order place ≡ Some key
-    → Asks eviction before tick key → NoneBelow (Asks eviction before tick) place → IsServed eviction before tick (Some key)
+pub served_here : (eviction : Eviction) (before : List TickObs) (tick : TickObs) (place : ℕ) (key : ThresholdKey)
+    → slice_get serving_order place ≡ Some key
+    → Asks eviction before tick key → NoneBelow (Asks eviction before tick) place
+    → IsServed eviction before tick (Some key)
 served_here eviction before tick place key at asks none =
     (Some place, record { holds = at_key (Asks eviction before tick) place key at asks; none_before = none }, sym at)
 
-pub none_served : (eviction : Eviction) (before : List TickObs) (tick : TickObs) (place : ℕ) → 12 ≤ place → NoneBelow (Asks eviction before tick) place
+pub none_served : (eviction : Eviction) (before : List TickObs) (tick : TickObs) (place : ℕ) → 12 ≤ place
+    → NoneBelow (Asks eviction before tick) place
     → IsServed eviction before tick None
 none_served eviction before tick place le none = (None, none_at_all (Asks eviction before tick) place le none, refl)
 
 -- a place below twelve has a threshold, and one alone
-pub key_at : (xs : List ThresholdKey) (place : ℕ) → place < length xs → (key : ThresholdKey) × (slice_get xs place ≡ Some key)
+pub key_at : (xs : List ThresholdKey) (place : ℕ) → place < length xs → (key : ThresholdKey)
+    × (slice_get xs place ≡ Some key)
 key_at [] place lt = absurd (omega arith)
 key_at (x ∷ xs) zero lt = (x, refl)
 key_at (x ∷ xs) (suc place) lt = key_at xs place (omega arith)
 
-pub one_key : (place : ℕ) (key other : ThresholdKey) → slice_get serving_order place ≡ Some key → slice_get serving_order place ≡ Some other → key ≡ other
+pub one_key : (place : ℕ) (key other : ThresholdKey) → slice_get serving_order place ≡ Some key
+    → slice_get serving_order place ≡ Some other → key ≡ other
 one_key place key other at there = let both : Some key ≡ Some other = sym at ∙ there in cc
 
 pub some_met : (eviction : Eviction) (condition : NodeCondition) (ticks : List TickObs) (place : ℕ) → place < 12
-    → ((key : ThresholdKey) → slice_get serving_order place ≡ Some key → Meets eviction condition ticks key) → (IsTrue true ↔ IsMet eviction condition ticks)
+    → ((key : ThresholdKey) → slice_get serving_order place ≡ Some key → Meets eviction condition ticks key)
+    → (IsTrue true ↔ IsMet eviction condition ticks)
 some_met eviction condition ticks place lt meets =
     let here = key_at serving_order place lt in
     ((λ t. (place, at_key (Meets eviction condition ticks) place here.0 here.1 (meets here.0 here.1))), (λ met. refl))
 
-pub none_met : (eviction : Eviction) (condition : NodeCondition) (ticks : List TickObs) (place : ℕ) → 12 ≤ place → NoneBelow (Meets eviction condition ticks) place
+pub none_met : (eviction : Eviction) (condition : NodeCondition) (ticks : List TickObs) (place : ℕ) → 12 ≤ place
+    → NoneBelow (Meets eviction condition ticks) place
     → (IsTrue false ↔ IsMet eviction condition ticks)
 none_met eviction condition ticks place le none =
     ((λ t. let e : false ≡ true = t in absurd (cc)), (λ met. absurd (none_at_all (Meets eviction condition ticks) place le none met.0 met.1)))

@@ -1,5 +1,6 @@
 -- The watches of a node, one for each place of the serving order.
-use Rattle.std.proofs.Common.{◌≡◌, ◌⊎◌, inl, inr, ℕ, ◌+◌, ◌<◌, ◌≤◌, List, [], ◌∷◌, ◌++◌, length, Bool, true, false, Option, Some, None, refl, sym, ap, subst, ◌∙◌, arith}
+use Rattle.std.proofs.Common.{◌≡◌, ◌⊎◌, inl, inr, ℕ, ◌+◌, ◌<◌, ◌≤◌, List, [], ◌∷◌, ◌++◌, length, Bool, true, false}
+use Rattle.std.proofs.Common.{Option, Some, None, refl, sym, ap, subst, ◌∙◌, arith}
 use Rattle.std.specs.Prelude.{◌↔◌, IsTrue, IsSomeAnd, slice_get, slice_set}
 use Rattle.signals.specs.declared.threshold.Threshold.{Threshold}
 use Rattle.signals.specs.BySignal.{of}
@@ -24,29 +25,36 @@ abbrev pub Holds : (Threshold → Option ℕ → List Sample → Type 0) → Evi
 Holds Q eviction ticks key =
     IsSomeAnd (threshold_at eviction key) (λ t. Q t (of eviction.capacity key.signal) (samples key.signal ticks))
 
-told : (Q : Threshold → Option ℕ → List Sample → Type 0) (threshold : Option Threshold) (capacity : Option ℕ) (h : List Sample) (watch : Watch) (b : Bool)
-    → IsWatchOf threshold capacity h (Some watch) → Tells Q watch b → (IsTrue b ↔ IsSomeAnd threshold (λ t. Q t capacity h))
+told : (Q : Threshold → Option ℕ → List Sample → Type 0) (threshold : Option Threshold) (capacity : Option ℕ)
+    (h : List Sample) (watch : Watch) (b : Bool)
+    → IsWatchOf threshold capacity h (Some watch) → Tells Q watch b
+    → (IsTrue b ↔ IsSomeAnd threshold (λ t. Q t capacity h))
 told Q None capacity h watch b w tells = absurd w
 told Q (Some t) capacity h watch b w tells = tells t capacity h w
 
-silent : (Q : Threshold → Option ℕ → List Sample → Type 0) (threshold : Option Threshold) (capacity : Option ℕ) (h : List Sample)
+silent : (Q : Threshold → Option ℕ → List Sample → Type 0) (threshold : Option Threshold) (capacity : Option ℕ)
+    (h : List Sample)
     → IsWatchOf threshold capacity h None → (IsTrue false ↔ IsSomeAnd threshold (λ t. Q t capacity h))
 silent Q None capacity h w = ((λ e. let f : false ≡ true = e in absurd (cc)), (λ q. absurd q))
 silent Q (Some t) capacity h w = absurd w
 
 -- a watch at a place tells of the threshold there
-pub watched : (Q : Threshold → Option ℕ → List Sample → Type 0) (eviction : Eviction) (ticks : List TickObs) (key : ThresholdKey) (place : ℕ)
+pub watched : (Q : Threshold → Option ℕ → List Sample → Type 0) (eviction : Eviction) (ticks : List TickObs)
+    (key : ThresholdKey) (place : ℕ)
     (watches : List (Option Watch)) (found : Option Watch) (watch : Watch) (b : Bool)
-    → slice_get serving_order place ≡ Some key → AreWatches eviction ticks watches → slice_get watches place ≡ Some found
+    → slice_get serving_order place ≡ Some key → AreWatches eviction ticks watches
+    → slice_get watches place ≡ Some found
     → found ≡ Some watch → Tells Q watch b → (IsTrue b ↔ Holds Q eviction ticks key)
 watched Q eviction ticks key place watches found watch b at w there is tells =
     told Q (threshold_at eviction key) (of eviction.capacity key.signal) (samples key.signal ticks) watch b
     (subst (IsWatchAt eviction ticks key) is (w.each place key found at there)) tells
 
 -- where there is none, there is no threshold
-pub unwatched : (Q : Threshold → Option ℕ → List Sample → Type 0) (eviction : Eviction) (ticks : List TickObs) (key : ThresholdKey) (place : ℕ)
+pub unwatched : (Q : Threshold → Option ℕ → List Sample → Type 0) (eviction : Eviction) (ticks : List TickObs)
+    (key : ThresholdKey) (place : ℕ)
     (watches : List (Option Watch)) (found : Option Watch)
-    → slice_get serving_order place ≡ Some key → AreWatches eviction ticks watches → slice_get watches place ≡ Some found
+    → slice_get serving_order place ≡ Some key → AreWatches eviction ticks watches
+    → slice_get watches place ≡ Some found
     → found ≡ None → (IsTrue false ↔ Holds Q eviction ticks key)
 unwatched Q eviction ticks key place watches found at w there is =
     silent Q (threshold_at eviction key) (of eviction.capacity key.signal) (samples key.signal ticks)
@@ -55,13 +63,16 @@ unwatched Q eviction ticks key place watches found at w there is =
 -- the watches at the places below one
 pub record AreMade (eviction : Eviction) (ticks : List TickObs) (i : ℕ) (watches : List (Option Watch)) : Type 0 where
   pub as_many : length watches ≡ length serving_order
-  pub each : (place : ℕ) (key : ThresholdKey) (watch : Option Watch) → place < i → slice_get serving_order place ≡ Some key
+  pub each : (place : ℕ) (key : ThresholdKey) (watch : Option Watch) → place < i
+      → slice_get serving_order place ≡ Some key
       → slice_get watches place ≡ Some watch → IsWatchAt eviction ticks key watch
 
-pub none_made : (eviction : Eviction) (ticks : List TickObs) (watches : List (Option Watch)) → length watches ≡ length serving_order → AreMade eviction ticks 0 watches
+pub none_made : (eviction : Eviction) (ticks : List TickObs) (watches : List (Option Watch))
+    → length watches ≡ length serving_order → AreMade eviction ticks 0 watches
 none_made eviction ticks watches many = record { as_many = many; each = λ place key watch lt at e. absurd (omega arith) }
 
-pub made_more : (eviction : Eviction) (ticks : List TickObs) (i : ℕ) (watches : List (Option Watch)) (key : ThresholdKey) (watch : Option Watch)
+pub made_more : (eviction : Eviction) (ticks : List TickObs) (i : ℕ) (watches : List (Option Watch))
+    (key : ThresholdKey) (watch : Option Watch)
     → slice_get serving_order i ≡ Some key → IsWatchAt eviction ticks key watch
     → AreMade eviction ticks i watches → AreMade eviction ticks (i + 1) (slice_set watches i watch)
 made_more eviction ticks i watches key watch at is m = record {
@@ -78,19 +89,23 @@ made_more eviction ticks i watches key watch at is m = record {
   ];
 }
 
-pub all_made : (eviction : Eviction) (ticks : List TickObs) (i : ℕ) (watches : List (Option Watch)) → 12 ≤ i → AreMade eviction ticks i watches → AreWatches eviction ticks watches
+pub all_made : (eviction : Eviction) (ticks : List TickObs) (i : ℕ) (watches : List (Option Watch)) → 12 ≤ i
+    → AreMade eviction ticks i watches → AreWatches eviction ticks watches
 all_made eviction ticks i watches le m = record {
   as_many = m.as_many;
   each = λ place key w at e. m.each place key w (let lt : place < 12 = within serving_order place key at in omega arith) at e;
 }
 
 -- the watches, of which those below a place have taken the new sample
-pub record AreSampled (eviction : Eviction) (before : List TickObs) (tick : TickObs) (i : ℕ) (watches : List (Option Watch)) : Type 0 where
+pub record AreSampled (eviction : Eviction) (before : List TickObs) (tick : TickObs) (i : ℕ)
+    (watches : List (Option Watch)) : Type 0 where
   pub made : AreMade eviction (before ++ tick ∷ []) i watches
-  pub left : (place : ℕ) (key : ThresholdKey) (watch : Option Watch) → i ≤ place → slice_get serving_order place ≡ Some key
+  pub left : (place : ℕ) (key : ThresholdKey) (watch : Option Watch) → i ≤ place
+      → slice_get serving_order place ≡ Some key
       → slice_get watches place ≡ Some watch → IsWatchAt eviction before key watch
 
-pub none_sampled : (eviction : Eviction) (before : List TickObs) (tick : TickObs) (watches : List (Option Watch)) → AreWatches eviction before watches → AreSampled eviction before tick 0 watches
+pub none_sampled : (eviction : Eviction) (before : List TickObs) (tick : TickObs) (watches : List (Option Watch))
+    → AreWatches eviction before watches → AreSampled eviction before tick 0 watches
 none_sampled eviction before tick watches w = record {
   made = none_made eviction (before ++ tick ∷ []) watches w.as_many;
   left = λ place key watch le at e. w.each place key watch at e;
@@ -101,8 +116,10 @@ abbrev pub TakesSample : Option Watch → ℕ → Option ℕ → Option Watch �
 TakesSample old at value new = (threshold : Option Threshold) (capacity : Option ℕ) (h : List Sample)
     → IsWatchOf threshold capacity h old → IsWatchOf threshold capacity (h ++ sample at value ∷ []) new
 
-pub sampled_more : (eviction : Eviction) (before : List TickObs) (tick : TickObs) (i : ℕ) (watches : List (Option Watch)) (key : ThresholdKey) (old new : Option Watch) (value : Option ℕ)
-    → slice_get serving_order i ≡ Some key → slice_get watches i ≡ Some old → value ≡ of tick.signals key.signal → TakesSample old tick.at value new
+pub sampled_more : (eviction : Eviction) (before : List TickObs) (tick : TickObs) (i : ℕ)
+    (watches : List (Option Watch)) (key : ThresholdKey) (old new : Option Watch) (value : Option ℕ)
+    → slice_get serving_order i ≡ Some key → slice_get watches i ≡ Some old → value ≡ of tick.signals key.signal
+    → TakesSample old tick.at value new
     → AreSampled eviction before tick i watches → AreSampled eviction before tick (i + 1) (slice_set watches i new)
 sampled_more eviction before tick i watches key old new value at there is takes s =
     let P : Option ℕ → Type 0 = λ v. IsWatchOf (threshold_at eviction key) (of eviction.capacity key.signal) (samples key.signal before ++ sample tick.at v ∷ []) new in

@@ -3,7 +3,8 @@
 use Rattle.std.specs.Prelude.{◌≡◌, ◌↔◌, ℕ, suc, List, [], ◌∷◌, length, take, slice_get, codes, Some, IsSomeAnd}
 use Rattle.histories.specs.Histories.{moment_at}
 use Rattle.signals.specs.declared.signal.Signal.{Signal}
-use Rattle.signals.specs.declared.signal.Signal.TheVariants.{MemoryAvailable, NodefsAvailable, ImagefsAvailable, NodefsInodesFree, ImagefsInodesFree, PidAvailable}
+use Rattle.signals.specs.declared.signal.Signal.TheVariants.{MemoryAvailable, NodefsAvailable, ImagefsAvailable}
+use Rattle.signals.specs.declared.signal.Signal.TheVariants.{NodefsInodesFree, ImagefsInodesFree, PidAvailable}
 use Rattle.pressure.specs.Pressures.{Observation, IsMetAt, IsUnderPressure, IsSince}
 use Rattle.node_config.specs.Eviction.{Eviction}
 use Rattle.observations.specs.declared.tick.TickObs.{TickObs}
@@ -30,19 +31,23 @@ abbrev pub conditions : List NodeCondition
 conditions = MemoryPressure ∷ DiskPressure ∷ PidPressure ∷ []
 
 -- the threshold is one of the condition's, and active after these ticks
-pub record Meets (eviction : Eviction) (condition : NodeCondition) (ticks : List TickObs) (key : ThresholdKey) : Type 0 where
+pub record Meets (eviction : Eviction) (condition : NodeCondition) (ticks : List TickObs)
+    (key : ThresholdKey) : Type 0 where
   pub belongs : condition_of key.signal ≡ condition
   pub active : IsActive eviction ticks key
 
 -- the condition is met after these ticks: one of its thresholds is active
 abbrev pub IsMet : Eviction → NodeCondition → List TickObs → Type 0
-IsMet eviction condition ticks = (place : ℕ) × IsSomeAnd (slice_get serving_order place) (Meets eviction condition ticks)
+IsMet eviction condition ticks =
+    (place : ℕ) × IsSomeAnd (slice_get serving_order place) (Meets eviction condition ticks)
 
 -- these say of each tick, at its moment, whether the condition is met after it
-pub record AreObservations (eviction : Eviction) (condition : NodeCondition) (ticks : List TickObs) (h : List Observation) : Type 0 where
+pub record AreObservations (eviction : Eviction) (condition : NodeCondition) (ticks : List TickObs)
+    (h : List Observation) : Type 0 where
   pub as_many : length h ≡ length ticks
   pub moments : (t : ℕ) (tick : TickObs) → slice_get ticks t ≡ Some tick → moment_at h t ≡ Some tick.at
-  pub met : (t : ℕ) (tick : TickObs) → slice_get ticks t ≡ Some tick → (IsMetAt h t ↔ IsMet eviction condition (take (suc t) ticks))
+  pub met : (t : ℕ) (tick : TickObs) → slice_get ticks t ≡ Some tick
+      → (IsMetAt h t ↔ IsMet eviction condition (take (suc t) ticks))
 
 -- the condition is true after these ticks, with this transition period in seconds
 abbrev pub IsTrueAfter : Eviction → ℕ → NodeCondition → List TickObs → Type 0

@@ -47,7 +47,8 @@ AreGiven P (x ∷ xs) events =
     × (events ≡ as_list event ++ rest)
 
 -- all events of the tick: thresholds in their serving order, conditions, then what was reclaimed
-pub record AreNodeEvents (eviction : Eviction) (period : ℕ) (before : List TickObs) (tick : TickObs) (events : List NodeEvent) : Type 0 where
+pub record AreNodeEvents (eviction : Eviction) (period : ℕ) (before : List TickObs) (tick : TickObs)
+    (events : List NodeEvent) : Type 0 where
   pub thresholds : List NodeEvent
   pub of_thresholds : AreGiven (ChangesThreshold eviction before tick) serving_order thresholds
   pub pressures : List NodeEvent

@@ -20,4 +20,5 @@ ServedIsDue =
 abbrev pub OneListOfNodeEvents : Type 0
 OneListOfNodeEvents =
     (eviction : Eviction) (period : ℕ) (before : List TickObs) (tick : TickObs) (events others : List NodeEvent)
-    → AreNodeEvents eviction period before tick events → AreNodeEvents eviction period before tick others → events ≡ others
+    → AreNodeEvents eviction period before tick events → AreNodeEvents eviction period before tick others
+    → events ≡ others

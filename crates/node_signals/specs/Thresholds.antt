@@ -1,7 +1,8 @@
 -- Which of a node's thresholds are active, due and served (Kubernetes, "Node-pressure Eviction",
 -- "Eviction thresholds" and "Node out of memory behavior"; that one threshold alone is served in a
 -- tick is this profile's rule). The ticks are all that the node has recorded, oldest first.
-use Rattle.std.specs.Prelude.{◌≡◌, ℕ, ◌+◌, ◌≤◌, List, [], ◌∷◌, ◌++◌, map, slice_get, true, Option, option_and_then, IsSomeAnd}
+use Rattle.std.specs.Prelude.{◌≡◌, ℕ, ◌+◌, ◌≤◌, List, [], ◌∷◌, ◌++◌, map, slice_get, true, Option, option_and_then}
+use Rattle.std.specs.Prelude.{IsSomeAnd}
 use Rattle.histories.specs.Histories.{IsFirstPlace}
 use Rattle.signals.specs.declared.signal.Signal.{Signal}
 use Rattle.signals.specs.declared.threshold.Threshold.{Threshold}

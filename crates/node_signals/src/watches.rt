@@ -1,6 +1,7 @@
 //! A node's thresholds over the samples of its signals.
 
-ghost use Rattle.std.specs.Prelude.{◌≡◌, ◌↔◌, ◌<◌, ◌≤◌, ℕ, slice_get, IsTrue, IfSome, IsSomeAnd, List, [], ◌∷◌, ◌++◌, Option, Some, None};
+ghost use Rattle.std.specs.Prelude.{◌≡◌, ◌↔◌, ◌<◌, ◌≤◌, ℕ, slice_get, IsTrue, IfSome, IsSomeAnd, List, [], ◌∷◌, ◌++◌};
+ghost use Rattle.std.specs.Prelude.{Option, Some, None};
 ghost use Rattle.quantity.specs.Quantity.{greatest};
 ghost use Rattle.signals.specs.declared.threshold.Threshold.{Threshold};
 ghost use Rattle.thresholds.specs.Samples.{Sample, sample as sample_of};

@@ -12,19 +12,22 @@ abbrev pub IsShownOf : PodSpec → Type 0 → List PodTick → ℕ → Container
 IsShownOf pod is_evicted h number status = OfSpec pod number (λ spec. IsShown spec is_evicted (ticks_of h number) status)
 
 -- and of each
-pub record AreShown (pod : PodSpec) (is_evicted : Type 0) (h : List PodTick) (statuses : List ContainerStatus) : Type 0 where
+pub record AreShown (pod : PodSpec) (is_evicted : Type 0) (h : List PodTick)
+    (statuses : List ContainerStatus) : Type 0 where
   pub as_many : length statuses ≡ length pod.containers
   pub each : (number : ℕ) (d : ContainerStatus) → number < length pod.containers
       → IsShownOf pod is_evicted h number (slice_index_or statuses number d)
 
 -- the status of a container of the pod after these ticks: by those that count
-pub record IsContainerStatus (pod : PodSpec) (evicted : Option ℕ) (h : List PodTick) (container : ℕ) (status : ContainerStatus) : Type 0 where
+pub record IsContainerStatus (pod : PodSpec) (evicted : Option ℕ) (h : List PodTick) (container : ℕ)
+    (status : ContainerStatus) : Type 0 where
   pub end : Option ℕ
   pub is_end : IsEnd pod evicted h end
   pub shown : IsShownOf pod (EndsEvicted evicted end) (counted h end) container status
 
 -- the statuses of all its containers
-pub record AreStatusesOf (pod : PodSpec) (evicted : Option ℕ) (h : List PodTick) (statuses : List ContainerStatus) : Type 0 where
+pub record AreStatusesOf (pod : PodSpec) (evicted : Option ℕ) (h : List PodTick)
+    (statuses : List ContainerStatus) : Type 0 where
   pub as_many : length statuses ≡ length pod.containers
   pub each : (number : ℕ) (d : ContainerStatus) → number < length pod.containers
       → IsContainerStatus pod evicted h number (slice_index_or statuses number d)
@@ -35,13 +38,15 @@ abbrev pub IsContainerOf : PodSpec → ℕ → List PodTick → ℕ → Containe
 IsContainerOf pod greatest h number container = OfSpec pod number (λ spec. IsStateOf spec greatest (ticks_of h number) container)
 
 -- all of them
-pub record AreContainersOf (pod : PodSpec) (greatest : ℕ) (h : List PodTick) (containers : List Container) : Type 0 where
+pub record AreContainersOf (pod : PodSpec) (greatest : ℕ) (h : List PodTick)
+    (containers : List Container) : Type 0 where
   pub as_many : length containers ≡ length pod.containers
   pub each : (number : ℕ) (d : Container) → number < length pod.containers
       → IsContainerOf pod greatest h number (slice_index_or containers number d)
 
 -- the containers as the ticks that count leave them
-pub record AreKept (pod : PodSpec) (greatest : ℕ) (evicted : Option ℕ) (h : List PodTick) (containers : List Container) : Type 0 where
+pub record AreKept (pod : PodSpec) (greatest : ℕ) (evicted : Option ℕ) (h : List PodTick)
+    (containers : List Container) : Type 0 where
   pub end : Option ℕ
   pub is_end : IsEnd pod evicted h end
   pub kept : AreContainersOf pod greatest (counted h end) containers

@@ -1,7 +1,8 @@
 -- The events of a pod at a tick that comes after these ticks of it, by their places: container by
 -- container, then the pod's own. (Kubernetes, "Pod Lifecycle"; the places, and that an end leaves
 -- no events after it, are this profile's rule.)
-use Rattle.std.specs.Prelude.{◌≡◌, ◌⊎◌, ℕ, ◌+◌, ◌<◌, List, [], ◌∷◌, ◌++◌, length, Option, Some, None, option_map, slice_index_or}
+use Rattle.std.specs.Prelude.{◌≡◌, ◌⊎◌, ℕ, ◌+◌, ◌<◌, List, [], ◌∷◌, ◌++◌, length, Option, Some, None, option_map}
+use Rattle.std.specs.Prelude.{slice_index_or}
 use Rattle.std.specs.List.{filter_map}
 use Rattle.manifest.specs.declared.pod.PodSpec.{PodSpec}
 use Rattle.phase.specs.declared.phase.Phase.{Phase}
@@ -19,7 +20,8 @@ IsMadeOf pod greatest before tick number made =
     OfSpec pod number (λ spec. AreEvents pod.policy greatest spec (ticks_of (before ++ tick ∷ []) number) (length before) made)
 
 -- and of each container
-pub record AreMade (pod : PodSpec) (greatest : ℕ) (before : List PodTick) (tick : PodTick) (made : List ContainerEvents) : Type 0 where
+pub record AreMade (pod : PodSpec) (greatest : ℕ) (before : List PodTick) (tick : PodTick)
+    (made : List ContainerEvents) : Type 0 where
   pub as_many : length made ≡ length pod.containers
   pub each : (number : ℕ) (d : ContainerEvents) → number < length pod.containers
       → IsMadeOf pod greatest before tick number (slice_index_or made number d)
@@ -53,7 +55,8 @@ events_from phase n [] = []
 events_from phase n (made ∷ rest) = events_at (Some n) (places_in phase made) ++ events_from phase (n + 1) rest
 
 -- the events of a tick of a pod that has not ended before it
-pub record AreNews (pod : PodSpec) (greatest : ℕ) (evicted : Option ℕ) (before : List PodTick) (tick : PodTick) (events : List PodEvent) : Type 0 where
+pub record AreNews (pod : PodSpec) (greatest : ℕ) (evicted : Option ℕ) (before : List PodTick) (tick : PodTick)
+    (events : List PodEvent) : Type 0 where
   pub made : List ContainerEvents
   pub are_made : AreMade pod greatest before tick made
   pub phase : Phase

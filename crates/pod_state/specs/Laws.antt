@@ -88,4 +88,5 @@ SomeListOfEvents =
 abbrev pub OneListOfEvents : Type 0
 OneListOfEvents =
     (pod : PodSpec) (greatest : ℕ) (evicted : Option ℕ) (before : List PodTick) (tick : PodTick) (events others : List PodEvent)
-    → AreEventsOf pod greatest evicted before tick events → AreEventsOf pod greatest evicted before tick others → events ≡ others
+    → AreEventsOf pod greatest evicted before tick events → AreEventsOf pod greatest evicted before tick others
+    → events ≡ others

@@ -1,6 +1,7 @@
 -- A pod's phase, and its conditions with their moments, after a list of ticks (Kubernetes, "Pod
 -- Lifecycle", "Pod phase" and "Pod conditions").
-use Rattle.std.specs.Prelude.{◌≡◌, ◌↔◌, ℕ, ◌<◌, List, [], ◌∷◌, ◌++◌, length, Option, Some, Bool, true, IsSomeAnd, IsTrue}
+use Rattle.std.specs.Prelude.{◌≡◌, ◌↔◌, ℕ, ◌<◌, List, [], ◌∷◌, ◌++◌, length, Option, Some, Bool, true, IsSomeAnd}
+use Rattle.std.specs.Prelude.{IsTrue}
 use Rattle.histories.specs.Histories.{Recorded, recorded, project, entry_at, moment_at, IsSo, IsTransition}
 use Rattle.phase.specs.declared.conditions.Condition.{Condition}
 use Rattle.phase.specs.declared.conditions.Values.{Values}

@@ -1,7 +1,8 @@
 -- The phase of a pod after a list of ticks (Kubernetes, "Pod Lifecycle", "Pod phase"; that what is
 -- recorded after the end of a pod changes nothing is this profile's rule). A tick is named by its
 -- place in the list, a container by its number.
-use Rattle.std.specs.Prelude.{◌≡◌, ◌≢◌, ◌⊎◌, ℕ, suc, ◌<◌, List, [], ◌∷◌, length, Option, Some, None, IsSomeAnd, unwrap_or, slice_get, slice_index_or}
+use Rattle.std.specs.Prelude.{◌≡◌, ◌≢◌, ◌⊎◌, ℕ, suc, ◌<◌, List, [], ◌∷◌, length, Option, Some, None, IsSomeAnd}
+use Rattle.std.specs.Prelude.{unwrap_or, slice_get, slice_index_or}
 use Rattle.std.specs.List.{range_with_len}
 use Rattle.histories.specs.Histories.{Recorded, recorded, project, up_to, IsSo, IsFirstPlace}
 use Rattle.observations.specs.declared.container.ContainerObs.{ContainerObs}

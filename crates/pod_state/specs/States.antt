@@ -13,7 +13,8 @@ use Rattle.pod_state.specs.Lifecycles.{IsProgressOf}
 
 -- the pod's phase and conditions after these ticks, and its containers after those that count, on a
 -- node with a greatest restart delay
-pub record IsStateOf (pod : PodSpec) (greatest : ℕ) (evicted : Option ℕ) (h : List PodTick) (state : PodState) : Type 0 where
+pub record IsStateOf (pod : PodSpec) (greatest : ℕ) (evicted : Option ℕ) (h : List PodTick)
+    (state : PodState) : Type 0 where
   pub progress : IsProgressOf pod evicted h state.lifecycle
   pub containers : AreKept pod greatest evicted h state.containers.items
 

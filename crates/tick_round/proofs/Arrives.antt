@@ -1,5 +1,6 @@
 -- A node with one more pod.
-use Rattle.std.proofs.Common.{◌≡◌, ◌⊎◌, inl, inr, ℕ, zero, suc, ◌<◌, ◌≤◌, List, [], ◌∷◌, ◌++◌, length, map, take, true, false, Option, Some, None, refl, sym, ap, subst, ◌∙◌, arith}
+use Rattle.std.proofs.Common.{◌≡◌, ◌⊎◌, inl, inr, ℕ, zero, suc, ◌<◌, ◌≤◌, List, [], ◌∷◌, ◌++◌, length, map, take, true}
+use Rattle.std.proofs.Common.{false, Option, Some, None, refl, sym, ap, subst, ◌∙◌, arith}
 use Rattle.std.specs.List.{cons_option}
 use Rattle.observations.specs.Observations.{own_ticks}
 use Rattle.std.specs.Prelude.{◌↔◌, slice_get, is_some, IsSome, option_map}
@@ -18,13 +19,15 @@ use Rattle.pod_piece.specs.declared.status.PodStatus.{PodStatus}
 use Rattle.pod_piece.specs.Piece.{Piece, new_piece}
 use Rattle.ranking.proofs.LawLemmas.{same_victim}
 use Rattle.eviction.specs.declared.eviction.Eviction.{Eviction}
-use Rattle.eviction.specs.Replay.{EvictedAt, later, pod_ticks, evicted_at, own_eviction, IsCandidate, Evicts, IsOfVictim, IsEvictionFor, IsRound, IsReplay}
+use Rattle.eviction.specs.Replay.{EvictedAt, later, pod_ticks, evicted_at, own_eviction, IsCandidate, Evicts}
+use Rattle.eviction.specs.Replay.{IsOfVictim, IsEvictionFor, IsRound, IsReplay}
 use Rattle.eviction.proofs.Own.{evicted_none}
 use Rattle.eviction.proofs.Unique.{at_place}
 use Rattle.node_pods.specs.Pods.{Pods, with_pod}
 use Rattle.tick_round.specs.Node.{State, state, piece_after, ArePieces, HasTaken}
 
-get_left : {A : Type 0} (xs : List A) (y : A) (n : ℕ) (x : A) → slice_get xs n ≡ Some x → slice_get (xs ++ y ∷ []) n ≡ Some x
+get_left : {A : Type 0} (xs : List A) (y : A) (n : ℕ) (x : A) → slice_get xs n ≡ Some x
+    → slice_get (xs ++ y ∷ []) n ≡ Some x
 get_left [] y n x e = absurd (cc)
 get_left (z ∷ xs) y zero x e = e
 get_left (z ∷ xs) y (suc n) x e = get_left xs y n x e
@@ -44,7 +47,8 @@ absent (x ∷ xs) zero le = absurd (omega arith)
 absent (x ∷ xs) (suc n) le = absent xs n (omega arith)
 
 -- a pod that no tick shows has no ticks
-unshown : (ticks : List TickObs) (n : ℕ) → ((t : ℕ) (tick : TickObs) → slice_get ticks t ≡ Some tick → length tick.pods ≤ n) → pod_ticks ticks n ≡ []
+unshown : (ticks : List TickObs) (n : ℕ)
+    → ((t : ℕ) (tick : TickObs) → slice_get ticks t ≡ Some tick → length tick.pods ≤ n) → pod_ticks ticks n ≡ []
 unshown [] n none = refl
 unshown (x ∷ ticks) n none =
     ap (λ (o : Option PodObs). map pod_tick (cons_option o (own_ticks ticks n))) (absent x.pods n (none 0 x refl))
@@ -55,8 +59,10 @@ piece_of number pod greatest handed eviction =
     record { number = number; pod = pod; greatest = greatest; handed = handed; is_pending = false; eviction = eviction }
 
 -- the round of an earlier tick does not see the pod
-same_round : (config : NodeConfig) (pods : List PodSpec) (pod : PodSpec) (before : List TickObs) (tick : TickObs) (es : List (Option Eviction)) (eviction : Option Eviction)
-    → length tick.pods ≤ length pods → IsRound config pods before tick es eviction → IsRound config (pods ++ pod ∷ []) before tick es eviction
+same_round : (config : NodeConfig) (pods : List PodSpec) (pod : PodSpec) (before : List TickObs) (tick : TickObs)
+    (es : List (Option Eviction)) (eviction : Option Eviction)
+    → length tick.pods ≤ length pods → IsRound config pods before tick es eviction
+    → IsRound config (pods ++ pod ∷ []) before tick es eviction
 same_round config pods pod before tick es eviction fewer r = record { served = r.served; is_served = r.is_served; is_for = for r.served r.is_for }
   where
     same : (n : ℕ) (p : PodStatus) → (IsCandidate pods before tick es n p ↔ IsCandidate (pods ++ pod ∷ []) before tick es n p)
@@ -81,7 +87,8 @@ same_round config pods pod before tick es eviction fewer r = record { served = r
         (victim, same_victim key.signal config.has_dedicated_imagefs (IsCandidate pods before tick es) (IsCandidate (pods ++ pod ∷ []) before tick es) same victim is, of key victim eviction v)
 
 -- who is evicted is one of the pods
-evicted_below : (config : NodeConfig) (pods : List PodSpec) (before : List TickObs) (tick : TickObs) (es : List (Option Eviction)) (e : Eviction)
+evicted_below : (config : NodeConfig) (pods : List PodSpec) (before : List TickObs) (tick : TickObs)
+    (es : List (Option Eviction)) (e : Eviction)
     → IsRound config pods before tick es (Some e) → e.pod < length pods
 evicted_below config pods before tick es e r = by r.served r.is_for
   where
@@ -139,7 +146,8 @@ arrives pods ticks s pod taken = record {
         subst Q same (subst P (sym here) done)
 
 -- the same of a node whose pods are set
-pub arrives_as : (pods : List PodSpec) (ticks : List TickObs) (now : State) (pod : PodSpec) (config : NodeConfig) (signals : NodeSignals) (old new : Pods)
+pub arrives_as : (pods : List PodSpec) (ticks : List TickObs) (now : State) (pod : PodSpec) (config : NodeConfig)
+    (signals : NodeSignals) (old new : Pods)
     (es : List (Option Eviction)) (last : Option ℕ) → now ≡ state config signals old es last → new ≡ with_pod old pod → HasTaken pods ticks now
     → HasTaken (pods ++ pod ∷ []) ticks (state config signals new es last)
 arrives_as pods ticks now pod config signals old new es last is more taken =

@@ -1,5 +1,6 @@
 -- The candidates and the eviction of a tick, by a node's pieces and by its history.
-use Rattle.std.proofs.Common.{◌≡◌, ℕ, zero, suc, ◌-◌, ◌<◌, ◌≤◌, List, [], ◌∷◌, ◌++◌, length, map, get_or, Bool, true, Option, Some, None, refl, sym, ap, subst, ◌∙◌, arith}
+use Rattle.std.proofs.Common.{◌≡◌, ℕ, zero, suc, ◌-◌, ◌<◌, ◌≤◌, List, [], ◌∷◌, ◌++◌, length, map, get_or, Bool, true}
+use Rattle.std.proofs.Common.{Option, Some, None, refl, sym, ap, subst, ◌∙◌, arith}
 use Rattle.std.specs.Prelude.{nat_lt, ◌↔◌, slice_get, is_some, IsSome}
 use Rattle.std.proofs.lemmas.Bool.{ltb-true}
 use Rattle.histories.specs.Histories.{last_moment, moment_at}
@@ -27,7 +28,8 @@ use Rattle.tick_round.specs.Node.{piece_after, ArePieces, pods_in, IsEvictionAt,
 use Rattle.tick_round.proofs.Pieces.{pod_at}
 
 -- a node's candidates are those of its history
-candidates : (config : NodeConfig) (pods : List PodSpec) (before : List TickObs) (tick : TickObs) (es : List (Option Eviction)) (pieces : List Piece)
+candidates : (config : NodeConfig) (pods : List PodSpec) (before : List TickObs) (tick : TickObs)
+    (es : List (Option Eviction)) (pieces : List Piece)
     → length tick.pods ≡ length pods → ArePieces config pods (before ++ tick ∷ []) es pieces
     → (n : ℕ) (p : PodStatus) → (IsCandidate pieces n p ↔ IsCandidateIn pods before tick es n p)
 candidates config pods before tick es pieces shown are n p = (
@@ -64,12 +66,14 @@ specs_same (piece ∷ pieces) (pod ∷ pods) len each =
     let rest : pods_in pieces ≡ pods = specs_same pieces pods (omega arith) (λ n p at. each (suc n) p at) in
     ap (λ (p : PodSpec). p ∷ pods_in pieces) head ∙ ap (λ (ps : List PodSpec). pod ∷ ps) rest
 
-pub specs_are : (config : NodeConfig) (pods : List PodSpec) (ticks : List TickObs) (es : List (Option Eviction)) (pieces : List Piece)
+pub specs_are : (config : NodeConfig) (pods : List PodSpec) (ticks : List TickObs) (es : List (Option Eviction))
+    (pieces : List Piece)
     → ArePieces config pods ticks es pieces → pods_in pieces ≡ pods
 specs_are config pods ticks es pieces are = specs_same pieces pods are.as_many (λ n pod at. (piece_after config ticks es n pod, are.each n pod at, refl))
 
 -- the eviction by the node's pieces is that of the round
-pub round_of : (config : NodeConfig) (pods : List PodSpec) (before : List TickObs) (tick : TickObs) (es : List (Option Eviction)) (pieces : List Piece)
+pub round_of : (config : NodeConfig) (pods : List PodSpec) (before : List TickObs) (tick : TickObs)
+    (es : List (Option Eviction)) (pieces : List Piece)
     (served : Option ThresholdKey) (eviction : Option Eviction)
     → length tick.pods ≡ length pods → ArePieces config pods (before ++ tick ∷ []) es pieces
     → IsServed config.eviction before tick served → IsEvictionAt config pieces tick.at served eviction
@@ -103,7 +107,8 @@ are_at old new shown at len after moments n piece is =
     ap (λ (p : Piece). last_moment p.handed) same ∙ last_more was.0.handed (pod_tick o.0) ∙ ap (λ (k : ℕ). Some k) (moments n o.0 o.1)
 
 -- the eviction may be carried out
-pub may_be_evicted : (config : NodeConfig) (pieces : List Piece) (at : ℕ) (served : Option ThresholdKey) (eviction : Option Eviction)
+pub may_be_evicted : (config : NodeConfig) (pieces : List Piece) (at : ℕ) (served : Option ThresholdKey)
+    (eviction : Option Eviction)
     → AreAt pieces at → IsEvictionAt config pieces at served eviction → MayBeEvicted pieces eviction
 may_be_evicted config pieces at served None last by = tt
 may_be_evicted config pieces at None (Some e) last by = absurd (cc)
@@ -117,17 +122,21 @@ may_be_evicted config pieces at (Some key) (Some e) last (Some n, (status, candi
     }
 
 -- who is evicted was a candidate
-pub evicted_candidate : (pieces : List Piece) (e : Eviction) → IsEvictable pieces e.pod e.order.at → (status : PodStatus) × IsCandidate pieces e.pod status
+pub evicted_candidate : (pieces : List Piece) (e : Eviction) → IsEvictable pieces e.pod e.order.at
+    → (status : PodStatus) × IsCandidate pieces e.pod status
 evicted_candidate pieces e may = may.candidate
 
-get_pod : (pieces : List Piece) (n : ℕ) (piece : Piece) → slice_get pieces n ≡ Some piece → slice_get (pods_in pieces) n ≡ Some piece.pod
+get_pod : (pieces : List Piece) (n : ℕ) (piece : Piece) → slice_get pieces n ≡ Some piece
+    → slice_get (pods_in pieces) n ≡ Some piece.pod
 get_pod [] n piece e = absurd (cc)
 get_pod (p ∷ pieces) zero piece e = let same : p ≡ piece = cc in ap (λ (q : Piece). Some q.pod) same
 get_pod (p ∷ pieces) (suc n) piece e = get_pod pieces n piece e
 
 -- the first of the candidates is evicted
-pub evicts_first : (config : NodeConfig) (pieces : List Piece) (at : ℕ) (served : Option ThresholdKey) (key : ThresholdKey) (dedicated : Bool) (victim : Option ℕ) (n : ℕ) (piece : Piece) (order : EvictOrder)
-    → served ≡ Some key → dedicated ≡ config.has_dedicated_imagefs → IsVictim key.signal dedicated (IsCandidate pieces) victim → victim ≡ Some n
+pub evicts_first : (config : NodeConfig) (pieces : List Piece) (at : ℕ) (served : Option ThresholdKey)
+    (key : ThresholdKey) (dedicated : Bool) (victim : Option ℕ) (n : ℕ) (piece : Piece) (order : EvictOrder)
+    → served ≡ Some key → dedicated ≡ config.has_dedicated_imagefs
+    → IsVictim key.signal dedicated (IsCandidate pieces) victim → victim ≡ Some n
     → slice_get pieces n ≡ Some piece → order ≡ order_of config piece.pod at key → IsEvictionAt config pieces at served (Some (record { pod = n; order = order }))
 evicts_first config pieces at served key dedicated victim n piece order is same first number found by =
     let now : IsVictim key.signal config.has_dedicated_imagefs (IsCandidate pieces) victim = subst (λ (d : Bool). IsVictim key.signal d (IsCandidate pieces) victim) same first in
@@ -137,8 +146,10 @@ evicts_first config pieces at served key dedicated victim n piece order is same 
     subst (λ (k : Option ThresholdKey). IsEvictionAt config pieces at k (Some (record { pod = n; order = order }))) (sym is) of
 
 -- without candidates nobody is
-pub evicts_none : (config : NodeConfig) (pieces : List Piece) (at : ℕ) (served : Option ThresholdKey) (key : ThresholdKey) (dedicated : Bool) (victim : Option ℕ)
-    → served ≡ Some key → dedicated ≡ config.has_dedicated_imagefs → IsVictim key.signal dedicated (IsCandidate pieces) victim → victim ≡ None
+pub evicts_none : (config : NodeConfig) (pieces : List Piece) (at : ℕ) (served : Option ThresholdKey)
+    (key : ThresholdKey) (dedicated : Bool) (victim : Option ℕ)
+    → served ≡ Some key → dedicated ≡ config.has_dedicated_imagefs
+    → IsVictim key.signal dedicated (IsCandidate pieces) victim → victim ≡ None
     → IsEvictionAt config pieces at served None
 evicts_none config pieces at served key dedicated victim is same first none =
     let now : IsVictim key.signal config.has_dedicated_imagefs (IsCandidate pieces) victim = subst (λ (d : Bool). IsVictim key.signal d (IsCandidate pieces) victim) same first in
@@ -147,7 +158,8 @@ evicts_none config pieces at served key dedicated victim is same first none =
     subst (λ (k : Option ThresholdKey). IsEvictionAt config pieces at k None) (sym is) of
 
 -- the first of the candidates is one of the pods
-pub victim_there : (pieces : List Piece) (key : ThresholdKey) (dedicated : Bool) (victim : Option ℕ) (n : ℕ) → IsVictim key.signal dedicated (IsCandidate pieces) victim → victim ≡ Some n
+pub victim_there : (pieces : List Piece) (key : ThresholdKey) (dedicated : Bool) (victim : Option ℕ) (n : ℕ)
+    → IsVictim key.signal dedicated (IsCandidate pieces) victim → victim ≡ Some n
     → slice_get pieces n ≡ None → ⊥
 victim_there pieces key dedicated None n first is none = absurd (let e : None ≡ Some n = is in cc)
 victim_there pieces key dedicated (Some m) n (status, candidate, before) is none =
@@ -156,7 +168,8 @@ victim_there pieces key dedicated (Some m) n (status, candidate, before) is none
     let both : Some candidate.piece ≡ None = sym at ∙ none in absurd (cc)
 
 -- what is found at a place is there
-pub get_here : (pieces now : List Piece) (n : ℕ) (piece : Piece) → now ≡ pieces → true ≡ nat_lt n (length now) → piece ≡ get_or now n piece → slice_get pieces n ≡ Some piece
+pub get_here : (pieces now : List Piece) (n : ℕ) (piece : Piece) → now ≡ pieces → true ≡ nat_lt n (length now)
+    → piece ≡ get_or now n piece → slice_get pieces n ≡ Some piece
 get_here pieces now n piece same lt is =
     subst (λ (ps : List Piece). slice_get ps n ≡ Some piece) same (at now n piece (ltb-true n (length now) (sym lt)) is)
   where

@@ -1,5 +1,6 @@
 -- The pieces of a node after one more tick and its eviction.
-use Rattle.std.proofs.Common.{◌≡◌, inl, inr, ℕ, zero, suc, ◌+◌, ◌-◌, ◌<◌, ◌≤◌, List, [], ◌∷◌, ◌++◌, length, map, take, Bool, false, Option, Some, None, refl, sym, ap, subst, ◌∙◌, arith}
+use Rattle.std.proofs.Common.{◌≡◌, inl, inr, ℕ, zero, suc, ◌+◌, ◌-◌, ◌<◌, ◌≤◌, List, [], ◌∷◌, ◌++◌, length, map, take}
+use Rattle.std.proofs.Common.{Bool, false, Option, Some, None, refl, sym, ap, subst, ◌∙◌, arith}
 use Rattle.std.specs.Prelude.{slice_get, option_map, IsSomeAnd}
 use Rattle.std.specs.List.{cons_option}
 use Rattle.std.proofs.lemmas.Bool.{cases_eq}
@@ -34,7 +35,8 @@ made number pod greatest handed eviction =
     record { number = number; pod = pod; greatest = greatest; handed = handed; is_pending = false; eviction = eviction }
 
 -- the pod at a place, of a piece at that place
-pub pod_at : (config : NodeConfig) (pods : List PodSpec) (ticks : List TickObs) (es : List (Option Eviction)) (pieces : List Piece) (n : ℕ) (piece : Piece)
+pub pod_at : (config : NodeConfig) (pods : List PodSpec) (ticks : List TickObs) (es : List (Option Eviction))
+    (pieces : List Piece) (n : ℕ) (piece : Piece)
     → ArePieces config pods ticks es pieces → slice_get pieces n ≡ Some piece
     → (pod : PodSpec) × (slice_get pods n ≡ Some pod) × (piece ≡ piece_after config ticks es n pod)
 pod_at config pods ticks es pieces n piece are at =
@@ -45,7 +47,8 @@ pod_at config pods ticks es pieces n piece are at =
     (here.0, here.1, let same : piece ≡ piece_after config ticks es n here.0 = cc in same)
 
 -- after the update
-pub pieces_updated : (config : NodeConfig) (pods : List PodSpec) (ticks : List TickObs) (es : List (Option Eviction)) (x : TickObs) (old new : List Piece)
+pub pieces_updated : (config : NodeConfig) (pods : List PodSpec) (ticks : List TickObs) (es : List (Option Eviction))
+    (x : TickObs) (old new : List Piece)
     → length es ≡ length ticks → length x.pods ≡ length pods
     → ArePieces config pods ticks es old → AreAfter old x.pods new → ArePieces config pods (ticks ++ x ∷ []) es new
 pieces_updated config pods ticks es x old new len shown are after = record {
@@ -61,7 +64,8 @@ pieces_updated config pods ticks es x old new len shown are after = record {
 }
 
 -- a pod whose eviction was at one of its ticks has ended
-evicted_ends : (pod : PodSpec) (place : ℕ) (h : List PodTick) (p : Phase) → IsPhase pod (Some place) h p → place < length h → IsTerminal p
+evicted_ends : (pod : PodSpec) (place : ℕ) (h : List PodTick) (p : Phase) → IsPhase pod (Some place) h p
+    → place < length h → IsTerminal p
 evicted_ends pod place h p is lt = elim (terminal_cases p) [
   | inl ended ↦ ended
   | inr still ↦
@@ -82,8 +86,10 @@ fewer (x ∷ ticks) (suc k) n = by (shown_of x n) (fewer ticks k n)
     by (Some shown) le = omega arith
 
 -- a candidate was not evicted before
-pub candidate_not_evicted : (config : NodeConfig) (pods : List PodSpec) (ticks : List TickObs) (es : List (Option Eviction)) (x : TickObs) (pieces : List Piece) (n : ℕ) (status : PodStatus)
-    → length es ≡ length ticks → length x.pods ≡ length pods → ArePieces config pods (ticks ++ x ∷ []) es pieces → IsCandidate pieces n status
+pub candidate_not_evicted : (config : NodeConfig) (pods : List PodSpec) (ticks : List TickObs)
+    (es : List (Option Eviction)) (x : TickObs) (pieces : List Piece) (n : ℕ) (status : PodStatus)
+    → length es ≡ length ticks → length x.pods ≡ length pods → ArePieces config pods (ticks ++ x ∷ []) es pieces
+    → IsCandidate pieces n status
     → own_eviction n (ticks ++ x ∷ []) es ≡ None
 candidate_not_evicted config pods ticks es x pieces n status len shown are candidate =
     let here = pod_at config pods (ticks ++ x ∷ []) es pieces n candidate.piece are candidate.at in
@@ -114,7 +120,8 @@ candidate_not_evicted config pods ticks es x pieces n status len shown are candi
         absurd (candidate.lives (evicted_ends pod v.place (pod_ticks (ticks ++ x ∷ []) n) status.phase now (omega arith)))
 
 -- after the eviction
-pub pieces_evicted : (config : NodeConfig) (pods : List PodSpec) (ticks : List TickObs) (es : List (Option Eviction)) (x : TickObs) (e : Eviction) (old new : List Piece) (status : PodStatus)
+pub pieces_evicted : (config : NodeConfig) (pods : List PodSpec) (ticks : List TickObs) (es : List (Option Eviction))
+    (x : TickObs) (e : Eviction) (old new : List Piece) (status : PodStatus)
     → length es ≡ length ticks → length x.pods ≡ length pods
     → ArePieces config pods (ticks ++ x ∷ []) es old → IsCandidate old e.pod status → AreEvicted old e.pod e.order new
     → ArePieces config pods (ticks ++ x ∷ []) (es ++ Some e ∷ []) new
@@ -143,7 +150,8 @@ pieces_evicted config pods ticks es x e old new status len shown are candidate e
 }
 
 -- without one
-pub pieces_spared : (config : NodeConfig) (pods : List PodSpec) (ticks : List TickObs) (es : List (Option Eviction)) (old : List Piece)
+pub pieces_spared : (config : NodeConfig) (pods : List PodSpec) (ticks : List TickObs) (es : List (Option Eviction))
+    (old : List Piece)
     → ArePieces config pods ticks es old → ArePieces config pods ticks (es ++ None ∷ []) old
 pieces_spared config pods ticks es old are = record {
   as_many = are.as_many;

@@ -1,5 +1,6 @@
 -- Where the pods and the ticks of a node lead.
-use Rattle.std.specs.Prelude.{◌≡◌, ℕ, ◌<◌, ◌≤◌, ◌^◌, false, List, [], ◌∷◌, length, map, slice_get, Option, Some, None, option_map, IfSome, IsSomeAnd}
+use Rattle.std.specs.Prelude.{◌≡◌, ℕ, ◌<◌, ◌≤◌, ◌^◌, false, List, [], ◌∷◌, length, map, slice_get, Option, Some, None}
+use Rattle.std.specs.Prelude.{option_map, IfSome, IsSomeAnd}
 use Rattle.manifest.specs.declared.pod.PodSpec.{PodSpec}
 use Rattle.observations.specs.declared.tick.TickObs.{TickObs}
 use Rattle.node_config.specs.declared.node.NodeConfig.{NodeConfig}
@@ -38,9 +39,11 @@ piece_after config ticks evictions n pod = record {
 }
 
 -- the pieces are the states of these pods' own ticks and evictions
-pub record ArePieces (config : NodeConfig) (pods : List PodSpec) (ticks : List TickObs) (evictions : List (Option Eviction)) (pieces : List Piece) : Type 0 where
+pub record ArePieces (config : NodeConfig) (pods : List PodSpec) (ticks : List TickObs)
+    (evictions : List (Option Eviction)) (pieces : List Piece) : Type 0 where
   pub as_many : length pieces ≡ length pods
-  pub each : (n : ℕ) (pod : PodSpec) → slice_get pods n ≡ Some pod → slice_get pieces n ≡ Some (piece_after config ticks evictions n pod)
+  pub each : (n : ℕ) (pod : PodSpec) → slice_get pods n ≡ Some pod
+      → slice_get pieces n ≡ Some (piece_after config ticks evictions n pod)
 
 -- the moment of the last of these ticks
 abbrev pub last_of : List TickObs → Option ℕ

@@ -9,4 +9,5 @@ use Rattle.kubelet_replay.proofs.report.all_lines.Given as goal
 
 abbrev pub invariant-loop-number : goal.invariant-loop-number
 invariant-loop-number l = (config : NodeConfig) (ticks : List TickObs) (evictions : List (Option Eviction)) (pods : List PodSpec)
-    → ArePieces config pods ticks evictions l.pieces → AreLines ticks evictions (take l.number pods) (string_bytes l.report)
+    → ArePieces config pods ticks evictions l.pieces → AreLines ticks evictions (take l.number pods)
+    (string_bytes l.report)
