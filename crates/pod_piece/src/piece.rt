@@ -199,14 +199,15 @@ impl PodPiece {
         ensures ok { IfOk result (λ piece. piece ≡ updated self) }
         ensures err { IfErr result (λ refused. refused.piece ≡ self) }
     {
-        match self.take_last() {
+        match self.update_in_place() {
             Ok(()) => Ok(self),
             Err(_) => Err(Refused { piece: self }),
         }
     }
 
-    /// Takes the last tick of its history into its status. An `Err` changes nothing.
-    fn take_last(&mut self) -> Result<(), AllocError>
+    /// The same in its place: takes what was handed to it into its status. An `Err` changes nothing, and it is
+    /// still pending.
+    pub fn update_in_place(&mut self) -> Result<(), AllocError>
         requires { IsTrue self.old.is_pending }
         ensures ok { OnOk result (self.new ≡ updated self.old) }
         ensures err { OnErr result (self.new ≡ self.old) }

@@ -10,7 +10,7 @@ use Rattle.pod_piece.specs.Usage.{IsUsageOf, newer}
 use Rattle.pod_piece.specs.Piece.{Piece, piece, before_last, last_of, place_of}
 use Rattle.pod_piece.proofs.PieceLemmas.{observed_last, some_last, of_last, state_pending, may_self, may_take, has_containers, kept_updated, state_more, by_eviction, end_is, flag_says, at_last}
 use Rattle.pod_piece.proofs.UsageLemmas.{usage_more}
-use Rattle.pod_piece.proofs.piece.PodPiece.take_last.Goals as goal
+use Rattle.pod_piece.proofs.piece.PodPiece.update_in_place.Goals as goal
 
 pub take-requires-clause-follows : goal.take-requires-clause-follows
 take-requires-clause-follows c =

@@ -1,0 +1,5 @@
+pub mod Events
+pub mod Totals
+pub mod Shares
+pub mod Text
+pub mod Names

@@ -1,0 +1,119 @@
+//! The book that counts what happens.
+
+ghost use Rattle.std.specs.Prelude.{◌≡◌, ◌<◌, ◌≤◌, ◌^◌, OnOk, OnErr};
+ghost use Rattle.event_book.specs.Totals.{plus, nothing};
+ghost use Rattle.event_book.specs.Shares.{most_parts, one_update, numbers_of, parts_of, Gains, IsSame};
+ghost use Rattle.event_book.specs.Shares.{AreWithin, ArePast};
+
+use crate::shares::Shares;
+use crate::totals::{Entry, Totals};
+use std::sync::ledger::{Blank, Book, Ledger};
+
+/// No total passes this.
+const GREATEST_TOTAL: u64 = 1 << 63;
+
+/// A total would pass 2^63.
+#[derive(Clone, Copy, Debug, PartialEq, Eq)]
+pub struct Full;
+
+/// The totals of a node, of which any number of workers may each hold a share. Its type keeps that each
+/// total is the sum of what was entered with all shares, and at most 2^63.
+#[derive(Drop)]
+pub struct EventBook<U: Ledger, E: Ledger, O: Ledger> {
+    totals: Totals,
+    updates: Book<U>,
+    events: Book<E>,
+    orders: Book<O>,
+    pub ghost updates_are: { totals.updates ≡ updates.total },
+    pub ghost events_are: { totals.events ≡ events.total },
+    pub ghost orders_are: { totals.orders ≡ orders.total },
+    pub ghost within: { (totals.updates ≤ 2 ^ 63) × (totals.events ≤ 2 ^ 63) × (totals.orders ≤ 2 ^ 63) },
+}
+
+impl<U: Ledger, E: Ledger, O: Ledger> EventBook<U, E, O> {
+    /// An empty book over these ledgers, and its whole share, of 65 parts.
+    pub fn new(
+        updates: Blank,
+        events: Blank,
+        orders: Blank,
+    ) -> (EventBook<U, E, O>, Shares<U, E, O>)
+        requires names { (updates.name ≡ U.name) × (events.name ≡ E.name) × (orders.name ≡ O.name) }
+        requires parts { (updates.parts ≡ U.parts) × (events.parts ≡ E.parts) × (orders.parts ≡ O.parts) }
+        requires level { (U.parts ≡ most_parts) × (E.parts ≡ most_parts) × (O.parts ≡ most_parts) }
+        ensures book { result.0.totals ≡ nothing }
+        ensures whole { parts_of result.1 ≡ most_parts }
+        ensures empty { numbers_of result.1 ≡ nothing }
+    {
+        let (update_book, update_share) = updates.open::<U>();
+        let (event_book, event_share) = events.open::<E>();
+        let (order_book, order_share) = orders.open::<O>();
+        (
+            EventBook {
+                totals: Totals {
+                    updates: 0,
+                    events: 0,
+                    orders: 0,
+                },
+                updates: update_book,
+                events: event_book,
+                orders: order_book,
+            },
+            Shares {
+                updates: update_share,
+                events: event_share,
+                orders: order_share,
+            },
+        )
+    }
+
+    /// Enters one update of a pod with this entry, in the book and with the share. `Full` comes only
+    /// where a total would pass 2^63, and changes nothing.
+    pub fn enter(&mut self, entry: Entry, share: &mut Shares<U, E, O>) -> Result<(), Full>
+        requires { 0 < parts_of share.old }
+        ensures book { OnOk result (self.new.totals ≡ plus self.old.totals (one_update entry)) }
+        ensures share { OnOk result (Gains share.old (one_update entry) share.new) }
+        ensures full { OnErr result (ArePast (plus self.old.totals (one_update entry))) }
+        ensures kept { OnErr result ((self.new.totals ≡ self.old.totals) × IsSame share.old share.new) }
+    {
+        if self.totals.updates >= GREATEST_TOTAL
+            || entry.events > GREATEST_TOTAL - self.totals.events
+            || entry.orders > GREATEST_TOTAL - self.totals.orders
+        {
+            return Err(Full);
+        }
+        let EventBook {
+            totals,
+            updates,
+            events,
+            orders,
+        } = self;
+        updates.add(&mut share.updates, 1);
+        events.add(&mut share.events, entry.events);
+        orders.add(&mut share.orders, entry.orders);
+        totals.updates += 1;
+        totals.events += entry.events;
+        totals.orders += entry.orders;
+        Ok(())
+    }
+
+    /// The totals.
+    pub fn totals(&self) -> Totals
+        ensures value { result ≡ self.now.totals }
+        ensures within { AreWithin result }
+    {
+        self.totals
+    }
+
+    /// Changes nothing, and says that the whole share's numbers are the totals.
+    pub fn audit(&mut self, share: &mut Shares<U, E, O>)
+        requires whole { parts_of share.old ≡ U.parts }
+        requires level { (E.parts ≡ U.parts) × (O.parts ≡ U.parts) }
+        ensures book { self.new.totals ≡ self.old.totals }
+        ensures share { IsSame share.old share.new }
+        ensures totals { self.new.totals ≡ numbers_of share.new }
+    {
+        self.updates.audit(&mut share.updates);
+        self.events.audit(&mut share.events);
+        self.orders.audit(&mut share.orders);
+    }
+}

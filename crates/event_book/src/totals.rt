@@ -1,0 +1,46 @@
+//! How much happened.
+
+ghost use Rattle.std.specs.Prelude.{◌≡◌};
+ghost use Rattle.event_book.specs.Totals.{entry_of, is_order};
+
+use containers::What;
+use pod_state::PodEvent;
+
+/// What is counted over all ticks of a node.
+#[derive(Clone, Copy, Debug, PartialEq, Eq)]
+pub struct Totals {
+    /// The updates of pods: one for each pod and tick that shows it.
+    pub updates: u64,
+    /// The events of pods and containers.
+    pub events: u64,
+    /// Those of them that order a kubelet to kill or to restart a container.
+    pub orders: u64,
+}
+
+/// What a pod's tick adds to the totals, beside one update.
+#[derive(Clone, Copy, Debug, PartialEq, Eq)]
+pub struct Entry {
+    /// Its events.
+    pub events: u64,
+    /// Those that order a kubelet to kill or to restart a container.
+    pub orders: u64,
+}
+
+/// Whether it orders a kubelet to kill or to restart a container.
+fn is_order(event: &PodEvent) -> bool
+    ensures { result ≡ is_order event.now }
+{
+    matches!(event.what, What::Kill(_, _) | What::Restart(_))
+}
+
+impl Entry {
+    /// The entry of a tick with these events.
+    pub fn of(events: &[PodEvent]) -> Entry
+        ensures { result ≡ entry_of events.now }
+    {
+        Entry {
+            events: events.len() as u64,
+            orders: events.iter().filter(|event| is_order(event)).count() as u64,
+        }
+    }
+}

@@ -1,0 +1,86 @@
+//! A book beside its whole share.
+
+ghost use Rattle.std.specs.Prelude.{◌≡◌};
+ghost use Rattle.event_book.specs.Totals.{plus, nothing};
+ghost use Rattle.event_book.specs.Shares.{most_parts, one_update, numbers_of, parts_of, AreWithin};
+
+use crate::book::EventBook;
+use crate::shares::Shares;
+use crate::totals::{Entry, Totals};
+use std::marker::Model;
+use std::sync::ledger::{Blank, Ledger};
+
+/// A book in the hands of one: beside it is its whole share, so what was entered is what it holds.
+/// Contracts see its totals.
+#[derive(Drop)]
+pub struct WholeBook<U: Ledger, E: Ledger, O: Ledger> {
+    book: EventBook<U, E, O>,
+    share: Shares<U, E, O>,
+}
+
+impl<U: Ledger, E: Ledger, O: Ledger> Model for WholeBook<U, E, O> {
+    ghost use Rattle.std.specs.Prelude.{◌≡◌};
+    ghost use Rattle.event_book.specs.declared.totals.Totals.{Totals};
+    ghost use Rattle.event_book.specs.Shares.{most_parts, numbers_of, parts_of};
+
+    ghost Value = { Totals };
+
+    ghost view = { λ w. w.book.totals };
+
+    ghost invariant = { λ w. (w.book.totals ≡ numbers_of w.share) × (parts_of w.share ≡ most_parts)
+        × (U.parts ≡ most_parts) × (E.parts ≡ most_parts) × (O.parts ≡ most_parts) };
+}
+
+impl<U: Ledger, E: Ledger, O: Ledger> WholeBook<U, E, O> {
+    /// An empty book over these ledgers.
+    pub fn new(updates: Blank, events: Blank, orders: Blank) -> WholeBook<U, E, O>
+        requires names { (updates.name ≡ U.name) × (events.name ≡ E.name) × (orders.name ≡ O.name) }
+        requires parts { (updates.parts ≡ U.parts) × (events.parts ≡ E.parts) × (orders.parts ≡ O.parts) }
+        requires level { (U.parts ≡ most_parts) × (E.parts ≡ most_parts) × (O.parts ≡ most_parts) }
+        ensures { result ≡ nothing }
+    {
+        let (book, share) = EventBook::new(updates, events, orders);
+        WholeBook { book, share }
+    }
+
+    /// Enters one update of a pod with this entry.
+    pub fn enter(&mut self, entry: Entry)
+        requires { AreWithin (plus self.old (one_update entry)) }
+        ensures { self.new ≡ plus self.old (one_update entry) }
+    {
+        match self.book.enter(entry, &mut self.share) {
+            Ok(()) => {}
+            Err(_) => unreachable!(),
+        }
+    }
+
+    /// The totals.
+    pub fn totals(&self) -> Totals
+        ensures { result ≡ self.now }
+    {
+        self.book.totals()
+    }
+
+    /// The book and its whole share.
+    pub fn into_parts(self) -> (EventBook<U, E, O>, Shares<U, E, O>)
+        ensures book { result.0.totals ≡ self }
+        ensures share { numbers_of result.1 ≡ self }
+        ensures whole { parts_of result.1 ≡ most_parts }
+        ensures level { (U.parts ≡ most_parts) × (E.parts ≡ most_parts) × (O.parts ≡ most_parts) }
+    {
+        let WholeBook { book, share } = self;
+        (book, share)
+    }
+
+    /// A book beside its whole share.
+    pub fn of_parts(book: EventBook<U, E, O>, share: Shares<U, E, O>) -> WholeBook<U, E, O>
+        requires whole { parts_of share ≡ most_parts }
+        requires level { (U.parts ≡ most_parts) × (E.parts ≡ most_parts) × (O.parts ≡ most_parts) }
+        ensures { result ≡ numbers_of share }
+    {
+        let mut book = book;
+        let mut share = share;
+        book.audit(&mut share);
+        WholeBook { book, share }
+    }
+}
