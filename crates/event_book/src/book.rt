@@ -2,11 +2,11 @@
 
 ghost use Rattle.std.specs.Prelude.{◌≡◌, ◌<◌, ◌≤◌, ◌^◌, OnOk, OnErr};
 ghost use Rattle.event_book.specs.Totals.{plus, nothing};
-ghost use Rattle.event_book.specs.Shares.{most_parts, one_update, numbers_of, parts_of, Gains, IsSame};
-ghost use Rattle.event_book.specs.Shares.{AreWithin, ArePast};
+ghost use Rattle.event_book.specs.Shares.{most_parts, part, one_update, AreWithin, ArePast};
 
 use crate::shares::Shares;
 use crate::totals::{Entry, Totals};
+use std::marker::Model;
 use std::sync::ledger::{Blank, Book, Ledger};
 
 /// No total passes this.
@@ -24,10 +24,19 @@ pub struct EventBook<U: Ledger, E: Ledger, O: Ledger> {
     updates: Book<U>,
     events: Book<E>,
     orders: Book<O>,
-    pub ghost updates_are: { totals.updates ≡ updates.total },
-    pub ghost events_are: { totals.events ≡ events.total },
-    pub ghost orders_are: { totals.orders ≡ orders.total },
-    pub ghost within: { (totals.updates ≤ 2 ^ 63) × (totals.events ≤ 2 ^ 63) × (totals.orders ≤ 2 ^ 63) },
+}
+
+impl<U: Ledger, E: Ledger, O: Ledger> Model for EventBook<U, E, O> {
+    ghost use Rattle.std.specs.Prelude.{◌≡◌};
+    ghost use Rattle.event_book.specs.declared.totals.Totals.{Totals};
+    ghost use Rattle.event_book.specs.Shares.{AreWithin};
+
+    ghost Value = { Totals };
+
+    ghost view = { λ b. b.totals };
+
+    ghost invariant = { λ b. (b.totals.updates ≡ b.updates.total) × (b.totals.events ≡ b.events.total)
+        × (b.totals.orders ≡ b.orders.total) × AreWithin b.totals };
 }
 
 impl<U: Ledger, E: Ledger, O: Ledger> EventBook<U, E, O> {
@@ -40,9 +49,8 @@ impl<U: Ledger, E: Ledger, O: Ledger> EventBook<U, E, O> {
         requires names { (updates.name ≡ U.name) × (events.name ≡ E.name) × (orders.name ≡ O.name) }
         requires parts { (updates.parts ≡ U.parts) × (events.parts ≡ E.parts) × (orders.parts ≡ O.parts) }
         requires level { (U.parts ≡ most_parts) × (E.parts ≡ most_parts) × (O.parts ≡ most_parts) }
-        ensures book { result.0.totals ≡ nothing }
-        ensures whole { parts_of result.1 ≡ most_parts }
-        ensures empty { numbers_of result.1 ≡ nothing }
+        ensures book { result.0 ≡ nothing }
+        ensures whole { result.1 ≡ part most_parts nothing }
     {
         let (update_book, update_share) = updates.open::<U>();
         let (event_book, event_share) = events.open::<E>();
@@ -69,11 +77,11 @@ impl<U: Ledger, E: Ledger, O: Ledger> EventBook<U, E, O> {
     /// Enters one update of a pod with this entry, in the book and with the share. `Full` comes only
     /// where a total would pass 2^63, and changes nothing.
     pub fn enter(&mut self, entry: Entry, share: &mut Shares<U, E, O>) -> Result<(), Full>
-        requires { 0 < parts_of share.old }
-        ensures book { OnOk result (self.new.totals ≡ plus self.old.totals (one_update entry)) }
-        ensures share { OnOk result (Gains share.old (one_update entry) share.new) }
-        ensures full { OnErr result (ArePast (plus self.old.totals (one_update entry))) }
-        ensures kept { OnErr result ((self.new.totals ≡ self.old.totals) × IsSame share.old share.new) }
+        requires { 0 < share.old.parts }
+        ensures book { OnOk result (self.new ≡ plus self.old (one_update entry)) }
+        ensures share { OnOk result (share.new ≡ part share.old.parts (plus share.old.numbers (one_update entry))) }
+        ensures full { OnErr result (ArePast (plus self.old (one_update entry))) }
+        ensures kept { OnErr result ((self.new ≡ self.old) × (share.new ≡ share.old)) }
     {
         if self.totals.updates >= GREATEST_TOTAL
             || entry.events > GREATEST_TOTAL - self.totals.events
@@ -81,24 +89,18 @@ impl<U: Ledger, E: Ledger, O: Ledger> EventBook<U, E, O> {
         {
             return Err(Full);
         }
-        let EventBook {
-            totals,
-            updates,
-            events,
-            orders,
-        } = self;
-        updates.add(&mut share.updates, 1);
-        events.add(&mut share.events, entry.events);
-        orders.add(&mut share.orders, entry.orders);
-        totals.updates += 1;
-        totals.events += entry.events;
-        totals.orders += entry.orders;
+        self.updates.add(&mut share.updates, 1);
+        self.events.add(&mut share.events, entry.events);
+        self.orders.add(&mut share.orders, entry.orders);
+        self.totals.updates += 1;
+        self.totals.events += entry.events;
+        self.totals.orders += entry.orders;
         Ok(())
     }
 
     /// The totals.
     pub fn totals(&self) -> Totals
-        ensures value { result ≡ self.now.totals }
+        ensures value { result ≡ self.now }
         ensures within { AreWithin result }
     {
         self.totals
@@ -106,11 +108,11 @@ impl<U: Ledger, E: Ledger, O: Ledger> EventBook<U, E, O> {
 
     /// Changes nothing, and says that the whole share's numbers are the totals.
     pub fn audit(&mut self, share: &mut Shares<U, E, O>)
-        requires whole { parts_of share.old ≡ U.parts }
+        requires whole { share.old.parts ≡ U.parts }
         requires level { (E.parts ≡ U.parts) × (O.parts ≡ U.parts) }
-        ensures book { self.new.totals ≡ self.old.totals }
-        ensures share { IsSame share.old share.new }
-        ensures totals { self.new.totals ≡ numbers_of share.new }
+        ensures book { self.new ≡ self.old }
+        ensures share { share.new ≡ share.old }
+        ensures totals { self.new ≡ share.new.numbers }
     {
         self.updates.audit(&mut share.updates);
         self.events.audit(&mut share.events);

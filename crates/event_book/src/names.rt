@@ -22,8 +22,8 @@ impl<'n> Names<'n> {
 
     /// The pod with the number.
     pub(crate) fn pod(self, number: usize) -> Option<&'n PodSpec>
-        ensures some { IfSome result (λ pod. pod_in self.pods.now number ≡ Some pod.now) }
-        ensures none { IfNone result (pod_in self.pods.now number ≡ None) }
+        ensures some { IfSome result (λ pod. pod_in self.entry.pods.now number ≡ Some pod.now) }
+        ensures none { IfNone result (pod_in self.entry.pods.now number ≡ None) }
     {
         let piece = self.pods.get(number)?;
         Some(piece.pod())

@@ -17,7 +17,7 @@ use std::alloc::{AllocError, Global};
 
 /// The key of the pod with the number: `NAMESPACE/NAME`.
 fn key_text(alloc: Global, names: Names<'_>, number: usize) -> Result<String, AllocError>
-    ensures { IfOk result (λ s. string_bytes s ≡ key_of (pod_in names.pods.now number)) }
+    ensures { IfOk result (λ s. string_bytes s ≡ key_of (pod_in names.entry.pods.now number)) }
 {
     let Some(pod) = names.pod(number) else {
         return Ok(String::new(alloc));
@@ -29,7 +29,7 @@ fn key_text(alloc: Global, names: Names<'_>, number: usize) -> Result<String, Al
 
 /// The name of a container of the pod with the number, and a dash for the pod itself.
 fn container_text(names: Names<'_>, number: usize, container: Option<usize>) -> &str
-    ensures { result.now ≡ container_of (pod_in names.pods.now number) container }
+    ensures { result.now ≡ container_of (pod_in names.entry.pods.now number) container }
 {
     let Some(place) = container else {
         return "-";
@@ -80,7 +80,7 @@ fn pod_event_text(
     number: usize,
     event: PodEvent,
 ) -> Result<String, AllocError>
-    ensures { IfOk result (λ s. string_bytes s ≡ pod_event_words (pod_in names.pods.now number) event) }
+    ensures { IfOk result (λ s. string_bytes s ≡ pod_event_words (pod_in names.entry.pods.now number) event) }
 {
     let key = key_text(alloc, names, number)?;
     let container = container_text(names, number, event.container);
@@ -118,12 +118,13 @@ fn node_event_text(alloc: Global, event: NodeEvent) -> Result<String, AllocError
     }
 }
 
+#[tactic(auto, unfolding(crate::specs::Text::event_words))]
 fn evicted_text(
     alloc: Global,
     names: Names<'_>,
     eviction: Eviction,
 ) -> Result<String, AllocError>
-    ensures { IfOk result (λ s. string_bytes s ≡ event_words (pods_in names.pods.now) (Evicted eviction)) }
+    ensures { IfOk result (λ s. string_bytes s ≡ event_words (pods_in names.entry.pods.now) (Evicted eviction)) }
 {
     let key = key_text(alloc, names, eviction.pod)?;
     let words = eviction_words(alloc, key.as_str(), eviction.order)?;
@@ -131,8 +132,9 @@ fn evicted_text(
 }
 
 /// The words of an event.
+#[tactic(auto, unfolding(crate::specs::Text::event_words))]
 fn words_of(alloc: Global, event: EventKind, names: Names<'_>) -> Result<String, AllocError>
-    ensures { IfOk result (λ s. string_bytes s ≡ event_words (pods_in names.pods.now) event) }
+    ensures { IfOk result (λ s. string_bytes s ≡ event_words (pods_in names.entry.pods.now) event) }
 {
     match event {
         EventKind::Pod(number, event) => pod_event_text(alloc, names, number, event),
@@ -145,7 +147,7 @@ fn words_of(alloc: Global, event: EventKind, names: Names<'_>) -> Result<String,
 /// happened to whom. A pod or a container that the names don't know has an empty name.
 #[tactic(auto, unfolding(crate::specs::Text::event_line))]
 pub fn event_text(alloc: Global, event: &Event, names: Names<'_>) -> Result<String, AllocError>
-    ensures { IfOk result (λ s. string_bytes s ≡ event_line (pods_in names.pods.now) event.now) }
+    ensures { IfOk result (λ s. string_bytes s ≡ event_line (pods_in names.entry.pods.now) event.now) }
 {
     let at = event.at;
     let words = words_of(alloc, event.what, names)?;

@@ -1,6 +1,7 @@
 //! How much happened.
 
-ghost use Rattle.std.specs.Prelude.{◌≡◌};
+ghost use Rattle.std.specs.Prelude.{◌≡◌, length};
+ghost use Rattle.std.specs.List.{filter};
 ghost use Rattle.event_book.specs.Totals.{entry_of, is_order};
 
 use containers::What;
@@ -33,6 +34,19 @@ fn is_order(event: &PodEvent) -> bool
     matches!(event.what, What::Kill(_, _) | What::Restart(_))
 }
 
+/// How many of these order a kubelet to kill or to restart a container.
+fn count_orders(events: &[PodEvent]) -> u64
+    ensures { result ≡ length (filter is_order events.now) }
+{
+    let mut count = 0;
+    for event in events {
+        if is_order(event) {
+            count += 1;
+        }
+    }
+    count
+}
+
 impl Entry {
     /// The entry of a tick with these events.
     pub fn of(events: &[PodEvent]) -> Entry
@@ -40,7 +54,7 @@ impl Entry {
     {
         Entry {
             events: events.len() as u64,
-            orders: events.iter().filter(|event| is_order(event)).count() as u64,
+            orders: count_orders(events),
         }
     }
 }

@@ -2,7 +2,7 @@
 
 ghost use Rattle.std.specs.Prelude.{◌≡◌};
 ghost use Rattle.event_book.specs.Totals.{plus, nothing};
-ghost use Rattle.event_book.specs.Shares.{most_parts, one_update, numbers_of, parts_of, AreWithin};
+ghost use Rattle.event_book.specs.Shares.{most_parts, part, one_update, AreWithin};
 
 use crate::book::EventBook;
 use crate::shares::Shares;
@@ -21,13 +21,13 @@ pub struct WholeBook<U: Ledger, E: Ledger, O: Ledger> {
 impl<U: Ledger, E: Ledger, O: Ledger> Model for WholeBook<U, E, O> {
     ghost use Rattle.std.specs.Prelude.{◌≡◌};
     ghost use Rattle.event_book.specs.declared.totals.Totals.{Totals};
-    ghost use Rattle.event_book.specs.Shares.{most_parts, numbers_of, parts_of};
+    ghost use Rattle.event_book.specs.Shares.{most_parts, part};
 
     ghost Value = { Totals };
 
-    ghost view = { λ w. w.book.totals };
+    ghost view = { λ w. w.book };
 
-    ghost invariant = { λ w. (w.book.totals ≡ numbers_of w.share) × (parts_of w.share ≡ most_parts)
+    ghost invariant = { λ w. (w.share ≡ part most_parts w.book)
         × (U.parts ≡ most_parts) × (E.parts ≡ most_parts) × (O.parts ≡ most_parts) };
 }
 
@@ -63,9 +63,8 @@ impl<U: Ledger, E: Ledger, O: Ledger> WholeBook<U, E, O> {
 
     /// The book and its whole share.
     pub fn into_parts(self) -> (EventBook<U, E, O>, Shares<U, E, O>)
-        ensures book { result.0.totals ≡ self }
-        ensures share { numbers_of result.1 ≡ self }
-        ensures whole { parts_of result.1 ≡ most_parts }
+        ensures book { result.0 ≡ self }
+        ensures share { result.1 ≡ part most_parts self }
         ensures level { (U.parts ≡ most_parts) × (E.parts ≡ most_parts) × (O.parts ≡ most_parts) }
     {
         let WholeBook { book, share } = self;
@@ -74,9 +73,9 @@ impl<U: Ledger, E: Ledger, O: Ledger> WholeBook<U, E, O> {
 
     /// A book beside its whole share.
     pub fn of_parts(book: EventBook<U, E, O>, share: Shares<U, E, O>) -> WholeBook<U, E, O>
-        requires whole { parts_of share ≡ most_parts }
+        requires whole { share.parts ≡ most_parts }
         requires level { (U.parts ≡ most_parts) × (E.parts ≡ most_parts) × (O.parts ≡ most_parts) }
-        ensures { result ≡ numbers_of share }
+        ensures { result ≡ share.numbers }
     {
         let mut book = book;
         let mut share = share;
