@@ -2,11 +2,13 @@
 #![tactic(auto)]
 
 mod container;
+mod limits;
 mod pod;
 mod tick;
 mod usage;
 
 pub use container::ContainerObs;
+pub use limits::{MOST_PODS, MOST_TICKS};
 pub use pod::PodObs;
 pub use tick::{TickObs, seen_of};
 pub use usage::{Usage, UsageSample};

@@ -29,16 +29,17 @@ use Rattle.trace.specs.declared.past.Trace.{Trace}
 use Rattle.trace.specs.declared.past.LineKind.{LineKind}
 use Rattle.trace.specs.declared.past.LineKind.TheVariants as kinds
 use Rattle.observations.specs.declared.tick.TickObs.{TickObs}
+use Rattle.observations.specs.Limits.{most_pods, most_ticks}
 use Rattle.tick_lines.specs.declared.line.TickLine.{TickLine}
 use Rattle.trace.specs.declared.placing.PlacedEntry.{PlacedEntry}
 use Rattle.trace.specs.Lines.{lines_of, is_blank, longest_line}
 use Rattle.trace.specs.Written.{node_in, tick_line_in}
 use Rattle.serde_json.specs.Read.{read}
-use Rattle.trace.specs.Pod.{key_of_pod, has_key, most_pods, pod_from}
+use Rattle.trace.specs.Pod.{key_of_pod, has_key, pod_from}
 use Rattle.trace.specs.Placing.{placed_of}
 use Rattle.node_config.specs.declared.node.Version.{Version}
 use Rattle.trace.specs.Past.{Past, version_in, of_node, with_pod, with_tick}
-use Rattle.trace.specs.Tick.{moment_of, most_ticks, observed_in, tick_at}
+use Rattle.trace.specs.Tick.{moment_of, observed_in, tick_at}
 use Rattle.trace.specs.Trace.{json_of, kind_from, with_node, is_late, pod_line_at, in_order, line_at, at_line}
 use Rattle.trace.specs.Trace.{finished, read_on, nothing, trace_of}
 use Rattle.trace.specs.Laws.{Leaves, AreSaid, IsFaultAt, NoneCounts, IsFirstFault, IsWhole, FirstFault, WholeTrace}

@@ -7,6 +7,7 @@ use Rattle.std.proofs.lemmas.Option.{slice_get_within}
 use Rattle.json_fields.specs.Fields.{field_at}
 use Rattle.manifest.specs.declared.pod.PodSpec.{PodSpec}
 use Rattle.observations.specs.declared.tick.TickObs.{TickObs}
+use Rattle.observations.specs.Limits.{most_pods, most_ticks}
 use Rattle.trace.specs.declared.fault.LineFault.{LineFault}
 use Rattle.trace.specs.declared.past.Trace.{Trace}
 use Rattle.tick_lines.specs.declared.line.TickLine.{TickLine}
@@ -15,9 +16,8 @@ use Rattle.trace.specs.Gives.{GivesAt}
 use Rattle.trace.specs.Laws.{HasKey, Says, says_node, says_pod, says_tick}
 use Rattle.trace.specs.Observed.{observed}
 use Rattle.trace.specs.Past.{Past}
-use Rattle.trace.specs.Pod.{key_of_pod, most_pods}
+use Rattle.trace.specs.Pod.{key_of_pod}
 use Rattle.trace.specs.Sound.{IsPresent, ShowsEach, AreArrivals, HaveOwnKeys, HasShape}
-use Rattle.trace.specs.Tick.{most_ticks}
 use Rattle.trace.specs.Trace.{trace_of}
 use Rattle.trace.proofs.Moments.{rising-more, moment_later, moment_low}
 use Rattle.trace.proofs.Said.{IsKept, of_trace}

@@ -8,6 +8,7 @@ use Rattle.following.specs.Backwards.{is_backwards}
 use Rattle.manifest.specs.declared.pod.PodSpec.{PodSpec}
 use Rattle.node_config.specs.declared.node.Version.{Version}
 use Rattle.observations.specs.declared.tick.TickObs.{TickObs}
+use Rattle.observations.specs.Limits.{most_pods, most_ticks}
 use Rattle.tick_lines.specs.declared.line.TickLine.{TickLine}
 use Rattle.trace.specs.declared.fault.FaultKind.{FaultKind}
 use Rattle.trace.specs.declared.fault.FaultKind.TheVariants.{TooLong, UnknownKind, Order, TooMany, DuplicatePod}
@@ -18,8 +19,8 @@ use Rattle.trace.specs.Lines.{longest_line}
 use Rattle.trace.specs.Observed.{observed, some_code_missing}
 use Rattle.trace.specs.Past.{Past, version_in, with_pod, with_tick}
 use Rattle.trace.specs.Placing.{placed_of}
-use Rattle.trace.specs.Pod.{key_of_pod, has_key, most_pods, pod_from}
-use Rattle.trace.specs.Tick.{moment_of, most_ticks, observed_in, tick_in, tick_at}
+use Rattle.trace.specs.Pod.{key_of_pod, has_key, pod_from}
+use Rattle.trace.specs.Tick.{moment_of, observed_in, tick_in, tick_at}
 use Rattle.trace.specs.Trace.{json_of, kind_from, kind_of_line, is_late, pod_in, pod_line_at}
 use Rattle.trace.specs.Trace.{in_order, kind_and_value, line_at}
 use Rattle.trace.specs.Written.{tick_line_in}

@@ -31,7 +31,7 @@ use Rattle.trace.specs.declared.placing.PlacedResult.{PlacedResult}
 use Rattle.trace.specs.declared.placing.PlacedEntry.{PlacedEntry}
 use Rattle.trace.specs.Lines.{lines_of, is_blank, longest_line}
 use Rattle.trace.specs.Written.{node_in, tick_line_in}
-use Rattle.trace.specs.Pod.{key_of_pod, keys_of, most_pods, pod_from}
+use Rattle.trace.specs.Pod.{key_of_pod, keys_of, pod_from}
 use Rattle.trace.specs.Placing.{placed_of, has_twice, are_of_one_pod, are_of_one_probe, is_doubled}
 use Rattle.trace.specs.Observed.{seen_listed, outcome_in, observed, some_code_missing}
 use Rattle.following.specs.Backwards.{is_backwards}
@@ -42,13 +42,14 @@ use Rattle.observations.specs.declared.pod.PodObs.{PodObs}
 use Rattle.observations.specs.declared.tick.TickObs.{TickObs}
 use Rattle.observations.specs.declared.usage.Usage.{Usage as PodUsage}
 use Rattle.observations.specs.Observations.{seen_of, history}
+use Rattle.observations.specs.Limits.{most_pods, most_ticks}
 use Rattle.state_diff.specs.declared.seen.Seen.{Seen}
 use Rattle.state_diff.specs.Instances.{IsAcceptable}
 use Rattle.node_config.specs.declared.node.NodeConfig.{NodeConfig}
 use Rattle.node_config.specs.declared.node.Version.{Version}
 use Rattle.node_config.specs.declared.node.Version.TheVariants.{One, Two}
 use Rattle.trace.specs.Past.{Past, version_in, of_node, with_pod, with_tick}
-use Rattle.trace.specs.Tick.{moment_of, most_ticks}
+use Rattle.trace.specs.Tick.{moment_of}
 use Rattle.trace.specs.Trace.{json_of, kind_from, line_at, nothing, trace_of}
 
 -- after what is said before it, the line leaves this said: a blank line adds nothing, any other

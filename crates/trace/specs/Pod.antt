@@ -1,6 +1,7 @@
 -- What a pod line says.
 use Rattle.std.specs.Prelude.{ℕ, ⊤, nat_le, Bool, List, ◌∷◌, ◌++◌, length, map, Option, is_some, Result}
 use Rattle.std.specs.Prelude.{Ok, Err}
+use Rattle.observations.specs.Limits.{most_pods}
 use Rattle.serde_json.specs.Data.{Data}
 use Rattle.manifest.specs.declared.fault.ManifestFault.{ManifestFault}
 use Rattle.manifest.specs.declared.fault.ManifestFault.TheVariants.{Missing}
@@ -22,9 +23,6 @@ keys_of pods = map key_of_pod pods
 -- how many containers each of the pods has
 abbrev pub container_counts : List PodSpec → List ℕ
 container_counts pods = map (λ (p : PodSpec). length p.containers) pods
-
-abbrev pub most_pods : ℕ
-most_pods = 256
 
 -- there is room for one pod more
 abbrev pub room_for_pod : List PodSpec → Result ⊤ FaultKind

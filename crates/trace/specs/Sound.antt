@@ -5,8 +5,8 @@ use Rattle.manifest.specs.declared.pod.PodSpec.{PodSpec}
 use Rattle.observations.specs.declared.pod.PodObs.{PodObs}
 use Rattle.observations.specs.declared.tick.TickObs.{TickObs}
 use Rattle.observations.specs.Observations.{history}
-use Rattle.trace.specs.Pod.{key_of_pod, most_pods}
-use Rattle.trace.specs.Tick.{most_ticks}
+use Rattle.observations.specs.Limits.{most_pods, most_ticks}
+use Rattle.trace.specs.Pod.{key_of_pod}
 
 -- each listing of each container may follow those before it
 abbrev pub AreAcceptable : List TickObs → Type 0

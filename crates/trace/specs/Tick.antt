@@ -9,6 +9,7 @@ use Rattle.json_fields.specs.Reading.{◌>>=◌, refused_if}
 use Rattle.trace.specs.declared.fault.FaultKind.{FaultKind}
 use Rattle.trace.specs.declared.fault.FaultKind.TheVariants.{TooMany, Moment, Doubled, Backwards, ExitCode}
 use Rattle.observations.specs.declared.tick.TickObs.{TickObs}
+use Rattle.observations.specs.Limits.{most_ticks}
 use Rattle.tick_lines.specs.declared.line.TickLine.{TickLine}
 use Rattle.trace.specs.declared.placing.PlacedEntry.{PlacedEntry}
 use Rattle.trace.specs.Past.{Past, with_tick}
@@ -19,9 +20,6 @@ use Rattle.following.specs.Backwards.{is_backwards}
 use Rattle.following.specs.Followed.{HasFollowed}
 use Rattle.following.specs.declared.following.Following.{Following}
 use Rattle.trace.specs.Pod.{container_counts}
-
-abbrev pub most_ticks : ℕ
-most_ticks = 20000
 
 abbrev pub is_later : Option TickObs → ℕ → Bool
 is_later None at = true

@@ -24,7 +24,7 @@ use crate::placing::{
 use following::Following;
 use json_fields::field;
 use manifest::{ContainerSpec, Outcome, PodSpec, ProbeKind};
-use observations::{ContainerObs, PodObs, TickObs, Usage, UsageSample};
+use observations::{ContainerObs, MOST_TICKS, PodObs, TickObs, Usage, UsageSample};
 use sequence::Sequence;
 use serde_json::Value;
 use state_diff::{CriState, Seen};
@@ -232,7 +232,7 @@ fn tick_line_in(alloc: Global, line: &Value) -> Result<TickLine, FaultKind>
 fn room(reader: &Reader) -> Result<(), FaultKind>
     ensures { GivesExactly (λ t. t) result (room_for_tick reader.now.ticks) }
 {
-    refused_if(reader.ticks.as_slice().len() >= 20_000, FaultKind::TooMany)
+    refused_if(reader.ticks.as_slice().len() >= MOST_TICKS, FaultKind::TooMany)
 }
 
 fn moment_in(reader: &Reader, line: &Value) -> Result<u64, FaultKind>

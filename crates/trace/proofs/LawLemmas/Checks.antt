@@ -16,11 +16,12 @@ use Rattle.node_config.specs.declared.node.Version.TheVariants.{One, Two}
 use Rattle.trace.specs.declared.past.LineKind.{LineKind}
 use Rattle.trace.specs.declared.past.LineKind.TheVariants as kinds
 use Rattle.observations.specs.declared.tick.TickObs.{TickObs}
+use Rattle.observations.specs.Limits.{most_pods, most_ticks}
 use Rattle.tick_lines.specs.declared.line.TickLine.{TickLine}
 use Rattle.trace.specs.declared.placing.PlacedEntry.{PlacedEntry}
 use Rattle.trace.specs.Lines.{longest_line}
 use Rattle.trace.specs.Written.{node_in, tick_line_in}
-use Rattle.trace.specs.Pod.{key_of_pod, has_key, most_pods, pod_from}
+use Rattle.trace.specs.Pod.{key_of_pod, has_key, pod_from}
 use Rattle.trace.proofs.Whole.{with_kind, with_json, with_tick_seen, with_places, with_written, with_moment}
 use Rattle.trace.proofs.Whole.{with_room, with_code, with_forwards, with_apart, pod_new, pod_said, pod_read}
 use Rattle.trace.proofs.Whole.{pod_early, tick_whole, pod_whole, line_whole}
@@ -30,7 +31,7 @@ use Rattle.trace.specs.Placing.{placed_of, is_doubled}
 use Rattle.trace.specs.Observed.{observed, some_code_missing}
 use Rattle.following.specs.Backwards.{is_backwards}
 use Rattle.trace.specs.Past.{Past, version_in, of_node, with_pod, with_tick}
-use Rattle.trace.specs.Tick.{moment_of, most_ticks, observed_in, tick_at}
+use Rattle.trace.specs.Tick.{moment_of, observed_in, tick_at}
 use Rattle.trace.specs.Trace.{json_of, kind_from, with_node, is_late, pod_line_at, in_order, line_at}
 use Rattle.trace.specs.Laws.{IsJson, IsOfKind, TakesPods, MayStand, Stands, HasPod, HasMoment, HasWritten, HasPlaces}
 use Rattle.trace.specs.Laws.{IsApart, IsForwards, Fails, too_long, not_json, unknown_kind, misplaced, wrong_node}
