@@ -3,7 +3,10 @@ use Rattle.std.proofs.Common.{◌≡◌, ◌∙◌, inl, inr, ℕ, ◌+◌, ◌<
 use Rattle.std.proofs.Common.{Some, None, Bool, true, false, refl, ap, sym, subst, arith, append_assoc, append-nil}
 use Rattle.std.specs.Prelude.{slice_get, option_map}
 use Rattle.std.specs.List.{filter, filter_map, flat_map, sum_by, cons_option}
-use Rattle.std.proofs.lemmas.List.{take-append-le, take_all, length-append}
+use Rattle.std.proofs.lemmas.List.{take-append-le, take_all, length-append, length-map}
+use Rattle.std.proofs.lemmas.Grind.{flat_map-append}
+use Rattle.std.proofs.lemmas.List.Elements.{filter-append, filter_map-append}
+use Rattle.std.proofs.lemmas.List.Sums.{sum_by-cons, sum_by-append}
 use Rattle.histories.proofs.Places.{length-more}
 use Rattle.manifest.specs.declared.pod.PodSpec.{PodSpec}
 use Rattle.observations.specs.declared.pod.PodObs.{PodObs}
@@ -31,9 +34,9 @@ no_events config pods = record {
 
 flat_more : (parts : List (List Event)) (part : List Event)
     → flat_map (λ (p : List Event). p) (parts ++ part ∷ []) ≡ flat_map (λ (p : List Event). p) parts ++ part
-flat_more [] part = append-nil part
-flat_more (p ∷ parts) part =
-    ap (λ (xs : List Event). p ++ xs) (flat_more parts part) ∙ sym (append_assoc p (flat_map (λ (q : List Event). q) parts) part)
+flat_more parts part =
+    flat_map-append (λ (p : List Event). p) parts (part ∷ [])
+    ∙ ap (λ (xs : List Event). flat_map (λ (p : List Event). p) parts ++ xs) (append-nil part)
 
 whole : {A : Type 0} (xs : List A) (x : A) (t : ℕ) → t ≡ length xs → take t (xs ++ x ∷ []) ≡ xs
 whole xs x t e = take-append-le t xs (x ∷ []) (omega arith) ∙ take_all t xs (omega arith)
@@ -117,15 +120,6 @@ events_arrived config pods pod ticks es evs shown are = record {
   whole = are.whole;
 }
 
-filter_map-append : {A B : Type 0} (f : A → Option B) (xs ys : List A)
-    → filter_map f (xs ++ ys) ≡ filter_map f xs ++ filter_map f ys
-filter_map-append f [] ys = refl
-filter_map-append f (x ∷ xs) ys = by (f x)
-  where
-    by : (o : Option B) → cons_option o (filter_map f (xs ++ ys)) ≡ cons_option o (filter_map f xs) ++ filter_map f ys
-    by None = filter_map-append f xs ys
-    by (Some b) = ap (λ (l : List B). b ∷ l) (filter_map-append f xs ys)
-
 pod_events-append : (xs ys : List Event) → pod_events (xs ++ ys) ≡ pod_events xs ++ pod_events ys
 pod_events-append xs ys = filter_map-append _ xs ys
 
@@ -158,19 +152,11 @@ pub pods_alone : (at : ℕ) (made : List (List PodEvent)) (news : List NodeEvent
     ≡ flat_map (λ (events : List PodEvent). events) made
 pods_alone at made news e =
     let rest : pod_events (of_node at news ++ of_eviction at e) ≡ [] =
-        pod_events-append (of_node at news) (of_eviction at e)
-        ∙ (ap (λ (es : List PodEvent). es ++ pod_events (of_eviction at e)) (none_of_node at news) ∙ none_of_eviction at e) in
+    pod_events-append (of_node at news) (of_eviction at e)
+    ∙ (ap (λ (es : List PodEvent). es ++ pod_events (of_eviction at e)) (none_of_node at news) ∙ none_of_eviction at e) in
     pod_events-append (of_pods at 0 made) (of_node at news ++ of_eviction at e)
     ∙ (ap (λ (es : List PodEvent). pod_events (of_pods at 0 made) ++ es) rest
     ∙ (append-nil (pod_events (of_pods at 0 made)) ∙ of_all at 0 made))
-
-filter-append : {A : Type 0} (p : A → Bool) (xs ys : List A) → filter p (xs ++ ys) ≡ filter p xs ++ filter p ys
-filter-append p [] ys = refl
-filter-append p (x ∷ xs) ys = by (p x) refl
-  where
-    by : (b : Bool) → p x ≡ b → filter p (x ∷ xs ++ ys) ≡ filter p (x ∷ xs) ++ filter p ys
-    by true is = rw is (ap (λ (l : List A). x ∷ l) (filter-append p xs ys))
-    by false is = rw is (filter-append p xs ys)
 
 counts : (made : List (List PodEvent)) (entries : List Entry) → entries ≡ map entry_of made
     → (length (flat_map (λ (events : List PodEvent). events) made) ≡ sum_by (λ (e : Entry). e.events) entries)
@@ -182,11 +168,43 @@ counts (events ∷ made) (entry ∷ entries) is =
     let first : entry ≡ entry_of events = cc in
     let others : entries ≡ map entry_of made = cc in
     let rest = counts made entries others in
-    let flat = flat_map (λ (es : List PodEvent). es) made in
-    (
+    let flat = flat_map (λ (es : List PodEvent). es) made in (
       length-append events flat ∙ (ap (λ (n : ℕ). length events + n) rest.0
-      ∙ (ap (λ (e : Entry). e.events + sum_by (λ (f : Entry). f.events) entries) (sym first) ∙ sym (sum_by-cons (λ (f : Entry). f.events) entry entries))),
+          ∙ (ap (λ (e : Entry). e.events + sum_by (λ (f : Entry). f.events) entries) (sym first) ∙ sym (sum_by-cons (λ (f : Entry). f.events) entry entries))),
       ap length (filter-append is_order events flat) ∙ (length-append (filter is_order events) (filter is_order flat)
-      ∙ (ap (λ (n : ℕ). length (filter is_order events) + n) rest.1
-      ∙ (ap (λ (e : Entry). e.orders + sum_by (λ (f : Entry). f.orders) entries) (sym first) ∙ sym (sum_by-cons (λ (f : Entry). f.orders) entry entries)))),
+          ∙ (ap (λ (n : ℕ). length (filter is_order events) + n) rest.1
+          ∙ (ap (λ (e : Entry). e.orders + sum_by (λ (f : Entry). f.orders) entries) (sym first) ∙ sym (sum_by-cons (λ (f : Entry). f.orders) entry entries)))),
     )
+
+abbrev made_of : ℕ → ℕ → ℕ → Totals
+made_of updates events orders = record { updates = updates; events = events; orders = orders }
+
+same_totals : (a b c d e f : ℕ) → a ≡ d → b ≡ e → c ≡ f → made_of a b c ≡ made_of d e f
+same_totals a b c d e f ab be cf = cc
+
+-- the totals after one more tick, whose pods made these events
+pub totals_more : (ticks : List TickObs) (x : TickObs) (evs : List Event) (at : ℕ) (made : List (List PodEvent))
+    (news : List NodeEvent) (e : Option Eviction) (entries : List Entry)
+    → length made ≡ length x.pods → entries ≡ map entry_of made
+    → totals_of (ticks ++ x ∷ []) (evs ++ (of_pods at 0 made ++ (of_node at news ++ of_eviction at e)))
+    ≡ plus (totals_of ticks evs) (sums_of entries)
+totals_more ticks x evs at made news e entries many are =
+    let f : TickObs → ℕ = λ (tick : TickObs). length tick.pods in
+    let part = of_pods at 0 made ++ (of_node at news ++ of_eviction at e) in
+    let flat = flat_map (λ (es : List PodEvent). es) made in
+    let split : pod_events (evs ++ part) ≡ pod_events evs ++ flat =
+    pod_events-append evs part ∙ ap (λ (es : List PodEvent). pod_events evs ++ es) (pods_alone at made news e) in
+    let count = counts made entries are in
+    let one : sum_by f (x ∷ []) ≡ f x + 0 = sum_by-cons f x [] in
+    let as_many : length entries ≡ length made = ap length are ∙ length-map made entry_of in
+    let sums : sum_by f (ticks ++ x ∷ []) ≡ sum_by f ticks + sum_by f (x ∷ []) = sum_by-append f ticks (x ∷ []) in
+    same_totals (sum_by f (ticks ++ x ∷ [])) (length (pod_events (evs ++ part)))
+    (length (filter is_order (pod_events (evs ++ part))))
+    (sum_by f ticks + length entries) (length (pod_events evs) + sum_by (λ (n : Entry). n.events) entries)
+    (length (filter is_order (pod_events evs)) + sum_by (λ (n : Entry). n.orders) entries)
+    (omega (arith, sums, one, as_many, many))
+    (ap length split ∙ (length-append (pod_events evs) flat ∙ ap (λ (n : ℕ). length (pod_events evs) + n) count.0))
+    (ap (λ (es : List PodEvent). length (filter is_order es)) split
+    ∙ (ap length (filter-append is_order (pod_events evs) flat)
+    ∙ (length-append (filter is_order (pod_events evs)) (filter is_order flat)
+    ∙ ap (λ (n : ℕ). length (filter is_order (pod_events evs)) + n) count.1)))

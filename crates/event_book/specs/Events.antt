@@ -26,7 +26,7 @@ pub record ArePodEvents (config : NodeConfig) (pods : List PodSpec) (before : Li
   pub each : (n : ℕ) (pod : PodSpec) (shown : PodObs) (events : List PodEvent) → slice_get pods n ≡ Some pod
       → shown_of tick n ≡ Some shown → slice_get made n ≡ Some events
       → AreEventsOf pod config.max_restart_delay (place_of (own_eviction n before evictions))
-          (pod_ticks before n) (pod_tick shown) events
+      (pod_ticks before n) (pod_tick shown) events
 
 -- an event at a moment
 abbrev pub event : ℕ → EventKind → Event

@@ -22,8 +22,14 @@ impl<U: Ledger, E: Ledger, O: Ledger> Model for Shares<U, E, O> {
 
     ghost Value = { Part };
 
-    ghost view = { λ s. record { parts = s.updates.parts; numbers = record {
-        updates = s.updates.amount; events = s.events.amount; orders = s.orders.amount } } };
+    ghost view = { λ s. record {
+      parts = s.updates.parts;
+      numbers = record {
+        updates = s.updates.amount;
+        events = s.events.amount;
+        orders = s.orders.amount;
+      };
+    } };
 
     ghost invariant = { λ s. (s.events.parts ≡ s.updates.parts) × (s.orders.parts ≡ s.updates.parts) };
 }

@@ -119,11 +119,7 @@ fn node_event_text(alloc: Global, event: NodeEvent) -> Result<String, AllocError
 }
 
 #[tactic(auto, unfolding(crate::specs::Text::event_words))]
-fn evicted_text(
-    alloc: Global,
-    names: Names<'_>,
-    eviction: Eviction,
-) -> Result<String, AllocError>
+fn evicted_text(alloc: Global, names: Names<'_>, eviction: Eviction) -> Result<String, AllocError>
     ensures { IfOk result (λ s. string_bytes s ≡ event_words (pods_in names.entry.pods.now) (Evicted eviction)) }
 {
     let key = key_text(alloc, names, eviction.pod)?;

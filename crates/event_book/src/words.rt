@@ -44,11 +44,7 @@ pub(crate) fn activity_word(active: bool) -> &'static str
 
 /// An eviction of the pod with this key: `KEY SIGNAL KIND GRACE`, with the grace period in seconds.
 #[tactic(auto, unfolding(crate::specs::Text::eviction_words))]
-pub fn eviction_words(
-    alloc: Global,
-    key: &str,
-    order: EvictOrder,
-) -> Result<String, AllocError>
+pub fn eviction_words(alloc: Global, key: &str, order: EvictOrder) -> Result<String, AllocError>
     ensures { IfOk result (λ s. string_bytes s ≡ eviction_words key.now order) }
 {
     let signal = order.signal.name();
