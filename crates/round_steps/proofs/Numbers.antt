@@ -1,50 +1,51 @@
 -- Texts that are the number of a worker, or of two.
 use Rattle.std.proofs.Common.{◌≡◌, ◌≢◌, ◌+◌, ◌*◌, ◌/◌, ◌%◌, ◌<◌, ◌≤◌, ℕ, List, [], ◌∷◌, ◌++◌, length, get_or}
 use Rattle.std.proofs.Common.{MatchOption, Option, None, Some, Bor}
-use Rattle.std.proofs.Common.{◌∙◌, refl, ap, sym, subst, arith}
+use Rattle.std.proofs.Common.{◌∙◌, refl, ap, sym, subst, arith, unwrap_or}
 use Rattle.std.proofs.lemmas.List.Elements.{All-cons, All-nil}
-use Rattle.round_steps.specs.Spelling.{digit, Names, NamesBoth, in_one_digit, in_two_digits}
+use Rattle.round_steps.specs.Spelling.{digit, last_worker, two_bytes, Names, NamesBoth}
 use Rattle.round_steps.proofs.Cutting.{IsFreeOf, cut_once, stands_in}
+
+same_pair : (p q : ℕ × ℕ) → Some p ≡ Some q → (p.0 ≡ q.0) × (p.1 ≡ q.1)
+same_pair p q e = (ap (λ o. (unwrap_or o p).0) e, ap (λ o. (unwrap_or o p).1) e)
 
 -- the byte is no digit
 abbrev pub IsNoDigit : ℕ → Type 0
 IsNoDigit byte = (n : ℕ) → n < 10 → byte ≢ digit n
 
-pub one_no_digit : (text : List ℕ) → length text ≡ 1 → IsNoDigit (get_or text 0 0) → (worker : ℕ)
-    → Names text worker → ⊥
-one_no_digit text len none worker names =
-    elim names [
-      | in_one_digit lt is ↦ none worker lt (ap (λ (t : List ℕ). get_or t 0 0) is)
-      | in_two_digits le is ↦ absurd (omega (arith, ap length is))
-    ]
+-- the first byte of a number is a digit, and so is the second
+pub tens_no_digit : (text : List ℕ) (tens ones : ℕ) → two_bytes text ≡ Some (tens, ones) → IsNoDigit tens
+    → (worker : ℕ) → Names text worker → ⊥
+tens_no_digit text tens ones is none worker names =
+    let same : tens ≡ digit (worker / 10) = (same_pair _ _ (sym is ∙ names.digits)).0 in
+    let known : worker ≤ last_worker = names.known in
+    none (worker / 10) (omega arith) same
 
-pub tens_no_digit : (text : List ℕ) → length text ≡ 2 → IsNoDigit (get_or text 0 0) → (worker : ℕ)
-    → Names text worker → ⊥
-tens_no_digit text len none worker names =
-    elim names [
-      | in_one_digit lt is ↦ absurd (omega (arith, ap length is))
-      | in_two_digits le is ↦ none (worker / 10) (omega arith) (ap (λ (t : List ℕ). get_or t 0 0) is)
-    ]
+pub ones_no_digit : (text : List ℕ) (tens ones : ℕ) → two_bytes text ≡ Some (tens, ones) → IsNoDigit ones
+    → (worker : ℕ) → Names text worker → ⊥
+ones_no_digit text tens ones is none worker names =
+    let same : ones ≡ digit (worker % 10) = (same_pair _ _ (sym is ∙ names.digits)).1 in
+    none (worker % 10) (omega arith) same
 
-pub ones_no_digit : (text : List ℕ) → length text ≡ 2 → IsNoDigit (get_or text 1 0) → (worker : ℕ)
-    → Names text worker → ⊥
-ones_no_digit text len none worker names =
-    elim names [
-      | in_one_digit lt is ↦ absurd (omega (arith, ap length is))
-      | in_two_digits le is ↦ none (worker % 10) (omega arith) (ap (λ (t : List ℕ). get_or t 1 0) is)
-    ]
+-- neither byte is a space
+free_bytes : (text : List ℕ) (tens ones : ℕ) → two_bytes text ≡ Some (tens, ones) → tens ≢ 32 → ones ≢ 32
+    → IsFreeOf 32 text
+free_bytes [] tens ones is t o = cc
+free_bytes (a ∷ []) tens ones is t o =
+    let P : ℕ → Type 0 = λ b. b ≢ 32 in
+    let one : a ≡ ones = (same_pair _ _ is).1 in
+    All-cons P a [] (λ e. o (sym one ∙ e)) (All-nil P)
+free_bytes (a ∷ b ∷ []) tens ones is t o =
+    let P : ℕ → Type 0 = λ b. b ≢ 32 in
+    let both = same_pair _ _ is in
+    let first : a ≡ tens = both.0 in
+    let second : b ≡ ones = both.1 in
+    All-cons P a (b ∷ []) (λ e. t (sym first ∙ e)) (All-cons P b [] (λ e. o (sym second ∙ e)) (All-nil P))
+free_bytes (a ∷ b ∷ c ∷ bytes) tens ones is t o = cc
 
 -- a number has no space in it
 pub no_space : (text : List ℕ) (worker : ℕ) → Names text worker → IsFreeOf 32 text
-no_space text worker names =
-    let P : ℕ → Type 0 = λ b. b ≢ 32 in
-    elim names [
-      | in_one_digit lt is ↦
-          subst (IsFreeOf 32) (sym is) (All-cons P (digit worker) [] (omega arith) (All-nil P))
-      | in_two_digits le is ↦
-          subst (IsFreeOf 32) (sym is) (All-cons P (digit (worker / 10)) (digit (worker % 10) ∷ []) (omega arith)
-          (All-cons P (digit (worker % 10)) [] (omega arith) (All-nil P)))
-    ]
+no_space text worker names = free_bytes text _ _ names.digits (omega arith) (omega arith)
 
 -- the numbers of two workers stand where the text is cut at its first space
 pub both_where_cut : (text front behind : List ℕ) (first second : ℕ) → IsFreeOf 32 front → text ≡ front ++ 32 ∷ behind
@@ -78,12 +79,11 @@ not_second text front behind free is none first second both =
 
 -- a text is one number at most
 pub one_number : (text : List ℕ) (v w : ℕ) → Names text v → Names text w → v ≡ w
-one_number text v w (in_one_digit lt is) (in_one_digit lt' so) =
-    omega (arith, ap (λ (t : List ℕ). get_or t 0 0) (sym is ∙ so))
-one_number text v w (in_one_digit lt is) (in_two_digits le so) = absurd (omega (arith, ap length (sym is ∙ so)))
-one_number text v w (in_two_digits le is) (in_one_digit lt so) = absurd (omega (arith, ap length (sym is ∙ so)))
-one_number text v w (in_two_digits le is) (in_two_digits le' so) =
-    omega (arith, ap (λ (t : List ℕ). get_or t 0 0) (sym is ∙ so), ap (λ (t : List ℕ). get_or t 1 0) (sym is ∙ so))
+one_number text v w one other =
+    let both = same_pair _ _ (sym one.digits ∙ other.digits) in
+    let tens : digit (v / 10) ≡ digit (w / 10) = both.0 in
+    let ones : digit (v % 10) ≡ digit (w % 10) = both.1 in
+    omega arith
 
 -- and two numbers in one way at most
 pub one_pair : (text : List ℕ) (a b c d : ℕ) → NamesBoth text a b → NamesBoth text c d → (a ≡ c) × (b ≡ d)

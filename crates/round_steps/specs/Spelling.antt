@@ -1,5 +1,5 @@
 -- How a line of a steps file spells a step.
-use Rattle.std.specs.Prelude.{◌≡◌, ◌+◌, ◌/◌, ◌%◌, ◌<◌, ◌≤◌, ℕ, List, [], ◌∷◌, ◌++◌, codes}
+use Rattle.std.specs.Prelude.{◌≡◌, ◌+◌, ◌/◌, ◌%◌, ◌≤◌, ℕ, List, [], ◌∷◌, ◌++◌, Option, Some, None, codes}
 use Rattle.round_steps.specs.declared.step.Step.{Step}
 use Rattle.round_steps.specs.declared.step.Step.TheVariants.{Pop, Steal, Update, Enter}
 
@@ -11,10 +11,17 @@ last_worker = 63
 abbrev pub digit : ℕ → ℕ
 digit n = 48 + n
 
+-- a text of two bytes, or of one, with a zero before it
+abbrev pub two_bytes : List ℕ → Option (ℕ × ℕ)
+two_bytes [] = None
+two_bytes (ones ∷ []) = Some (digit 0, ones)
+two_bytes (tens ∷ ones ∷ []) = Some (tens, ones)
+two_bytes (tens ∷ ones ∷ byte ∷ bytes) = None
+
 -- the text is the number of a worker, in one digit or in two
-pub data Names (text : List ℕ) (worker : ℕ) : Type 0 where
-  in_one_digit : worker < 10 → text ≡ digit worker ∷ [] → Names text worker
-  in_two_digits : worker ≤ last_worker → text ≡ digit (worker / 10) ∷ digit (worker % 10) ∷ [] → Names text worker
+pub record Names (text : List ℕ) (worker : ℕ) : Type 0 where
+  pub known : worker ≤ last_worker
+  pub digits : two_bytes text ≡ Some (digit (worker / 10), digit (worker % 10))
 
 -- the text is the numbers of two workers with a space between them
 pub record NamesBoth (text : List ℕ) (first second : ℕ) : Type 0 where

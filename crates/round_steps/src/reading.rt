@@ -1,7 +1,7 @@
 //! Reading a steps file.
 
-ghost use Rattle.std.specs.Prelude.{◌≤◌, ◌∷◌, ◌++◌, [], ℕ, List, IfOk, IfErr, OnOk, length};
-ghost use Rattle.round_steps.specs.Steps.{lines_of, longest_text, AreSteps, IsLineBehind};
+ghost use Rattle.std.specs.Prelude.{◌<◌, ◌≤◌, ◌↔◌, ◌∷◌, ◌++◌, [], ℕ, List, IsTrue, IfOk, IfErr, OnOk, length};
+ghost use Rattle.round_steps.specs.Steps.{lines_of, longest_text, most_steps, AreSteps, IsLineBehind};
 ghost use Rattle.round_steps.specs.Steps.{IsFaultOf, IsFirstFaultBy, Refuses};
 
 use crate::fault::StepsFault;
@@ -27,6 +27,13 @@ enum Line {
     Faulty,
 }
 
+/// Whether a step may follow so many.
+fn has_room(steps: usize) -> bool
+    ensures { IsTrue result ↔ (steps < most_steps) }
+{
+    steps < MOST_STEPS
+}
+
 /// What a line is behind so many steps.
 fn line_behind(steps: usize, line: &[u8]) -> Line
     ensures { IsLineBehind steps line.now result }
@@ -35,7 +42,7 @@ fn line_behind(steps: usize, line: &[u8]) -> Line
         return Line::Empty;
     }
     match step_of(line) {
-        Some(step) if steps < MOST_STEPS => Line::Step(step),
+        Some(step) if has_room(steps) => Line::Step(step),
         _ => Line::Faulty,
     }
 }

@@ -2,7 +2,7 @@
 
 ghost use Rattle.std.specs.Prelude.{◌≡◌, ◌≢◌, ◌<◌, ◌++◌, ℕ, List, MatchOption};
 ghost use Rattle.round_steps.specs.declared.step.Step.{Step};
-ghost use Rattle.round_steps.specs.Spelling.{digit, Names, NamesBoth, Spells};
+ghost use Rattle.round_steps.specs.Spelling.{digit, two_bytes, Names, NamesBoth, Spells};
 
 use crate::lines::cut;
 use crate::step::Step;
@@ -19,15 +19,23 @@ fn digit_of(byte: u8) -> Option<usize>
     }
 }
 
+/// The two bytes of a text, or its only one with a zero before it.
+fn two_bytes(text: &[u8]) -> Option<(u8, u8)>
+    ensures { result ≡ two_bytes text.now }
+{
+    match text {
+        [ones] => Some((b'0', *ones)),
+        [tens, ones] => Some((*tens, *ones)),
+        _ => None,
+    }
+}
+
 /// The worker whose number the text is.
 fn worker_of(text: &[u8]) -> Option<usize>
     ensures { MatchOption result ((worker : ℕ) → Names text.now worker → ⊥) (Names text.now) }
 {
-    let worker = match text {
-        [ones] => digit_of(*ones)?,
-        [tens, ones] => 10 * digit_of(*tens)? + digit_of(*ones)?,
-        _ => return None,
-    };
+    let (tens, ones) = two_bytes(text)?;
+    let worker = 10 * digit_of(tens)? + digit_of(ones)?;
     if worker > LAST_WORKER {
         return None;
     }
