@@ -8,7 +8,8 @@ use Rattle.clap.specs.declared.builder.command.Command.TheViews.{out-Command}
 use Rattle.clap.specs.Simple.{app_of_fields}
 use Rattle.commands.specs.Program.{IsCommand, needing_one}
 
-pub with_arg : (old new : Command) (a : Arg) (app : App) (rule : Rule) → IsCommand app old → rule_of a ≡ rule → a.global ≡ false
+pub with_arg : (old new : Command) (a : Arg) (app : App) (rule : Rule) → IsCommand app old → rule_of a ≡ rule
+    → a.global ≡ false
     → AddsArg old a new → IsCommand (with_rule app rule) new
 with_arg old new a app rule is one local adds =
     record {

@@ -1,5 +1,6 @@
 -- What was found for the arguments of a subcommand, and the job for which it asks.
-use Rattle.std.proofs.Common.{◌≡◌, ◌∙◌, ◌≤◌, ◌<◌, ℕ, List, [], ◌∷◌, codes, get_or, Option, None, Some, Result, Ok, Err}
+use Rattle.std.proofs.Common.{◌≡◌, ◌∙◌, ◌≤◌, ◌<◌, ℕ, List, [], ◌∷◌, codes, get_or, Option, None, Some, Result, Ok}
+use Rattle.std.proofs.Common.{Err}
 use Rattle.std.proofs.Common.{refl, ap, sym, subst, arith}
 use Rattle.std.specs.Str.Parse.{ParsesUnsigned}
 use Rattle.clap.specs.Words.{Row, ReadsOne, first_of, first_value, one_of, one_text, rows_of}
@@ -30,7 +31,8 @@ apart name v w vs ws other is so = other (ap (λ (l : List ℕ). get_or l 0 0) (
 pub run_workers : (name : List ℕ) (rows : List Row) (job : Job) → name ≡ codes "run" → IsJobFor name rows job
     → (workers : ℕ) × HasWorkers rows workers
 run_workers name rows (Run trace workers) named is = (workers, is.2)
-run_workers name rows (Check trace) named is = absurd (apart name 114 99 _ _ (λ e. absurd (omega (arith, e))) named is.0)
+run_workers name rows (Check trace) named is =
+    absurd (apart name 114 99 _ _ (λ e. absurd (omega (arith, e))) named is.0)
 run_workers name rows (Play trace steps workers) named is =
     absurd (apart name 114 112 _ _ (λ e. absurd (omega (arith, e))) named is.0)
 
@@ -38,14 +40,16 @@ run_workers name rows (Play trace steps workers) named is =
 pub play_workers : (name : List ℕ) (rows : List Row) (job : Job) → name ≡ codes "play" → IsJobFor name rows job
     → (workers : ℕ) × HasWorkers rows workers
 play_workers name rows (Run trace workers) named is = (workers, is.2)
-play_workers name rows (Check trace) named is = absurd (apart name 112 99 _ _ (λ e. absurd (omega (arith, e))) named is.0)
+play_workers name rows (Check trace) named is =
+    absurd (apart name 112 99 _ _ (λ e. absurd (omega (arith, e))) named is.0)
 play_workers name rows (Play trace steps workers) named is = (workers, is.3)
 
 pub play_steps : (name : List ℕ) (rows : List Row) (job : Job) → name ≡ codes "play" → IsJobFor name rows job
     → (text : List ℕ) × Has rows (codes "STEPS") text
 play_steps name rows (Run trace workers) named is =
     absurd (apart name 112 114 _ _ (λ e. absurd (omega (arith, e))) named is.0)
-play_steps name rows (Check trace) named is = absurd (apart name 112 99 _ _ (λ e. absurd (omega (arith, e))) named is.0)
+play_steps name rows (Check trace) named is =
+    absurd (apart name 112 99 _ _ (λ e. absurd (omega (arith, e))) named is.0)
 play_steps name rows (Play trace steps workers) named is = (steps.now, is.2)
 
 -- ---- the number of workers, as `get_one` reads it

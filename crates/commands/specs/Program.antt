@@ -39,7 +39,8 @@ needing_one app = record app { top = record app.top { subcommand_required = true
 -- the program, of which one of the three is asked
 abbrev pub program : App
 program =
-    with_subcommand (with_subcommand (with_subcommand (needing_one (new_app (codes "kubelet_replay"))) run.top) check.top) play.top
+    let named = needing_one (new_app (codes "kubelet_replay")) in
+    with_subcommand (with_subcommand (with_subcommand named run.top) check.top) play.top
 
 -- clap's command is the one that is described, with no argument for the levels below it
 pub record IsCommand (app : App) (command : Command) : Type 0 where

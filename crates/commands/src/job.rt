@@ -1,7 +1,7 @@
 //! A job, from the program's words.
 
-ghost use Rattle.std.specs.Prelude.{◌≡◌, ◌≤◌, ℕ, List, IfOk, IfErr, MatchOption, IsSomeAnd, map};
-ghost use Rattle.clap.specs.Words.{found_of, rows_of, subcommand_rows_of, app_of, fault_of, subcommand_of};
+ghost use Rattle.std.specs.Prelude.{◌≤◌, ◌↔◌, ℕ, IsTrue, IfOk, IfErr, MatchOption, map};
+ghost use Rattle.clap.specs.Words.{found_of, rows_of, subcommand_rows_of};
 ghost use Rattle.commands.specs.declared.job.Job.{Job};
 ghost use Rattle.commands.specs.Jobs.{HasWorkers, IsJobFor, IsJobOf, IsAskedBy, IsRefusal, Refuses};
 
@@ -10,6 +10,7 @@ use crate::program::program;
 use clap::error::ErrorKind;
 use clap::{ArgMatches, Error};
 use std::alloc::Global;
+use std::convert::AsStr;
 
 /// The most workers.
 const MOST_WORKERS: usize = 64;
@@ -18,9 +19,14 @@ const MOST_WORKERS: usize = 64;
 #[derive(Clone, Copy, Debug, PartialEq, Eq)]
 pub enum Job<'a> {
     /// Write the report of a trace, with so many workers.
-    Run { trace: &'a str, workers: usize },
+    Run {
+        trace: &'a str,
+        workers: usize,
+    },
     /// Say whether a file is a trace.
-    Check { trace: &'a str },
+    Check {
+        trace: &'a str,
+    },
     /// Write the report of a trace, with so many workers that take the steps of a steps file.
     Play {
         trace: &'a str,
@@ -29,16 +35,25 @@ pub enum Job<'a> {
     },
 }
 
-/// The number of workers that a subcommand's matches say.
+/// Whether there may be so many workers.
+fn may_share(workers: usize) -> bool
+    ensures { IsTrue result ↔ ((1 ≤ workers) × (workers ≤ 64)) }
+{
+    workers >= 1 && workers <= MOST_WORKERS
+}
+
+/// The number of workers that a subcommand's matches say. What clap promises of the program's own
+/// words it does not promise of a subcommand's, so the number is looked at here.
 fn workers_in(given: &ArgMatches<'_>) -> Option<usize>
     ensures { MatchOption result ((workers : ℕ) → HasWorkers (rows_of (found_of given.now)) workers → ⊥)
         (HasWorkers (rows_of (found_of given.now))) }
 {
     let workers = given.get_one::<usize>("workers")?;
-    if workers < 1 || workers > MOST_WORKERS {
-        return None;
+    if may_share(workers) {
+        Some(workers)
+    } else {
+        None
     }
-    Some(workers)
 }
 
 /// The job that the matches of the subcommand of this name say.
@@ -89,9 +104,9 @@ fn refusal(error: Error) -> UsageFault
 ///
 /// `Refused` has clap's error, with the text for the user: a mistake in the words, or help that was
 /// asked for.
-pub fn job_of<'a>(alloc: Global, words: &'a [&'a str]) -> Result<Job<'a>, UsageFault>
-    ensures ok { IfOk result (IsAskedBy (map (λ word. word.now) words.entry.now)) }
-    ensures err { IfErr result (Refuses (map (λ word. word.now) words.entry.now)) }
+pub fn job_of<'a, S: AsStr>(alloc: Global, words: &'a [S]) -> Result<Job<'a>, UsageFault>
+    ensures ok { IfOk result (IsAskedBy (map S.text words.entry.now)) }
+    ensures err { IfErr result (Refuses (map S.text words.entry.now)) }
 {
     let matches = match program(alloc)?.try_get_matches_from(words) {
         Ok(matches) => matches,
@@ -99,8 +114,9 @@ pub fn job_of<'a>(alloc: Global, words: &'a [&'a str]) -> Result<Job<'a>, UsageF
     };
     match job_in(&matches) {
         Some(job) => Ok(job),
-        None => Err(UsageFault::Refused(
-            program(alloc)?.error(ErrorKind::ValueValidation, "--workers is from 1 to 64")?,
-        )),
+        None => Err(UsageFault::Refused(program(alloc)?.error(
+            ErrorKind::ValueValidation,
+            "--workers is from 1 to 64",
+        )?)),
     }
 }

@@ -4,7 +4,6 @@
 mod fault;
 mod job;
 mod program;
-
 #[cfg(test)]
 mod tests;
 

@@ -7,16 +7,19 @@ ghost use Rattle.commands.specs.Program.{trace_rule, steps_rule, workers_rule, r
 use clap::{Arg, Command};
 use std::alloc::{AllocError, Global};
 
-const ABOUT: &str = "Replays what a kubelet would have decided on a node, from the node's recorded trace.";
+const ABOUT: &str =
+    "Replays what a kubelet would have decided on a node, from the node's recorded trace.";
 
-const TRACE_HELP: &str = "The recorded trace of the node: a file of JSON lines, with the node's configuration, \
-    its pods, and what was observed at each tick";
+const TRACE_HELP: &str =
+    "The node's recorded trace, a file of JSON lines: the node's configuration, its pods, and what was \
+    observed at each tick";
 
-const STEPS_HELP: &str = "The steps file: a line for each step of a worker, as `pop 0`, `steal 1 0`, `update 0` \
-    or `enter 0`";
+const STEPS_HELP: &str =
+    "The steps file, a line for each step: `pop W`, `steal W V`, `update W` or `enter W`, where W and V \
+    are numbers of workers, from 0 on";
 
-const WORKERS_HELP: &str = "How many workers share the pods of a tick, from 1 to 64. The report is the same for \
-    any number";
+const WORKERS_HELP: &str =
+    "How many workers share the pods of a tick, from 1 to 64; their number never changes the report";
 
 fn trace_arg<'a>(alloc: Global) -> Arg<'a>
     ensures rule { rule_of result ≡ trace_rule }
@@ -48,7 +51,9 @@ fn run_command<'a>(alloc: Global) -> Result<Command<'a>, AllocError>
     ensures { IfOk result (IsCommand run) }
 {
     Command::new(alloc, "run")
-        .about("Writes the report of a trace: each pod's status, and the events in their order")
+        .about(
+            "Writes the report of a trace: what each pod's status would have been by the kubelet's rules",
+        )
         .arg(trace_arg(alloc))?
         .arg(workers_arg(alloc))
 }
@@ -65,7 +70,9 @@ fn play_command<'a>(alloc: Global) -> Result<Command<'a>, AllocError>
     ensures { IfOk result (IsCommand play) }
 {
     Command::new(alloc, "play")
-        .about("Writes the report of a trace whose workers take the steps that a file tells")
+        .about(
+            "Writes the same report, with workers that take the steps of a steps file, in their order",
+        )
         .arg(trace_arg(alloc))?
         .arg(steps_arg(alloc))?
         .arg(workers_arg(alloc))

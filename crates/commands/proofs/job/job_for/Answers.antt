@@ -28,13 +28,19 @@ returns-in_err-workers-in-play c =
     c.in_err-workers-in-play.ensures workers.0 workers.1)
 
 pub returns-in_ok-workers-in-run : goal.returns-in_ok-workers-in-run
-returns-in_ok-workers-in-run c =
-    (c.in-run.is, has_text (found_of c.args.given.now) (codes "TRACE") _ c.in_ok-trace.ensures, c.in_ok-workers-in-run.ensures)
+returns-in_ok-workers-in-run c = (
+  c.in-run.is,
+  has_text (found_of c.args.given.now) (codes "TRACE") _ c.in_ok-trace.ensures,
+  c.in_ok-workers-in-run.ensures,
+)
 
 pub returns-in-check : goal.returns-in-check
 returns-in-check c = (c.in-check.is, has_text (found_of c.args.given.now) (codes "TRACE") _ c.in_ok-trace.ensures)
 
 pub returns-in_ok-workers-in-play : goal.returns-in_ok-workers-in-play
-returns-in_ok-workers-in-play c =
-    (c.in-play.is, has_text (found_of c.args.given.now) (codes "TRACE") _ c.in_ok-trace.ensures,
-    has_text (found_of c.args.given.now) (codes "STEPS") _ c.in_ok-steps-in-play.ensures, c.in_ok-workers-in-play.ensures)
+returns-in_ok-workers-in-play c = (
+  c.in-play.is,
+  has_text (found_of c.args.given.now) (codes "TRACE") _ c.in_ok-trace.ensures,
+  has_text (found_of c.args.given.now) (codes "STEPS") _ c.in_ok-steps-in-play.ensures,
+  c.in_ok-workers-in-play.ensures,
+)

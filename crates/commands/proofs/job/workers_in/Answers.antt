@@ -1,10 +1,9 @@
-use Rattle.std.proofs.Common.{◌≡◌, ◌∙◌, ◌≤◌, ℕ, List, Result, arith}
+use Rattle.std.proofs.Common.{◌≡◌, ◌≤◌, ℕ, false, true, List, Result, subst, rules}
 use Rattle.std.specs.Str.Parse.{ParsesUnsigned, ExplainsUnsignedError, HasUnsignedDigitsIfOk}
 use Rattle.std.specs.declared.num.ParseIntError.{ParseIntError}
 use Rattle.clap.specs.Words.{found_of}
 use Rattle.commands.proofs.Found.{unread_workers, read_workers, has_workers}
 use Rattle.commands.proofs.job.workers_in.Goals as goal
-use Rattle.commands.proofs.job.workers_in.Goals.{then-workers-lt1-via-then-workers-lt1, then-workers-lt1-via-else-workers-lt1+then-workers-gt-MOST_WORKERS}
 
 -- what `get_one` gives of a text
 abbrev Reads : List ℕ → Result ℕ ParseIntError → Type 0
@@ -15,17 +14,17 @@ returns-in_err-workers c =
     rw c.from_residual.ensures
     (unread_workers Reads (λ t x h. h.0) (found_of c.args.given.now) c.in_err-workers.ensures.value)
 
-pub returns-then-workers-lt1 : goal.returns-then-workers-lt1
-returns-then-workers-lt1 c = λ workers has.
-    let n = c.in_ok-workers.workers in
-    let same : workers ≡ n =
-    read_workers Reads (λ t x h. h.0) (found_of c.args.given.now) n c.in_ok-workers.ensures.value workers has in
-    elim c.then-workers-lt1.branch [
-      | then-workers-lt1-via-then-workers-lt1 w ↦ absurd (omega (arith, same, has.some, has.few))
-      | then-workers-lt1-via-else-workers-lt1+then-workers-gt-MOST_WORKERS w ↦ absurd (omega (arith, same, has.some, has.few))
-    ]
-
-pub returns : goal.returns
-returns c =
+pub returns-then-may_share : goal.returns-then-may_share
+returns-then-may_share c =
+    let bounds : (1 ≤ c.in_ok-workers.workers) × (c.in_ok-workers.workers ≤ 64) = search rules in
     has_workers Reads (λ t x h. h.0) (found_of c.args.given.now) c.in_ok-workers.workers c.in_ok-workers.ensures.none
-    c.in_ok-workers.ensures.value (omega arith) (omega arith)
+    c.in_ok-workers.ensures.value bounds.0 bounds.1
+
+pub returns-else-may_share : goal.returns-else-may_share
+returns-else-may_share c = λ workers has.
+    let same = read_workers Reads (λ t x h. h.0) (found_of c.args.given.now) c.in_ok-workers.workers
+    c.in_ok-workers.ensures.value workers has in
+    let bounds : (1 ≤ c.in_ok-workers.workers) × (c.in_ok-workers.workers ≤ 64) =
+    (subst (λ n. 1 ≤ n) same has.some, subst (λ n. n ≤ 64) same has.few) in
+    let no : false ≡ true = c.if-may_share.ensures.1 bounds in
+    cc

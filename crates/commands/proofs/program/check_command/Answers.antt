@@ -1,4 +1,3 @@
-use Rattle.std.proofs.Common.{ap, refl}
 use Rattle.std.proofs.lemmas.Result.{IfOk-weaker}
 use Rattle.commands.proofs.Built.{about_told, with_arg}
 use Rattle.commands.proofs.program.check_command.Goals as goal
@@ -7,5 +6,6 @@ pub returns : goal.returns
 returns c =
     let start = about_told c.new.result c.about.result _ c.new.ensures.app c.new.ensures.local c.about.ensures in
     IfOk-weaker c.arg.result _ _
-    (λ command adds. with_arg c.about.result command c.trace_arg.result _ _ start c.trace_arg.ensures.rule c.trace_arg.ensures.local adds)
+    (λ command adds. with_arg c.about.result command c.trace_arg.result _ _ start c.trace_arg.ensures.rule
+    c.trace_arg.ensures.local adds)
     c.arg.ensures
