@@ -22,7 +22,8 @@ pub fn read_all<S: Source>(
     ensures ok { IfOk result (λ v. IfSome (S.left source.old) (λ bytes. v.items ≡ bytes)) }
     ensures limited { IfOk result (λ v. length v.items ≤ limit) }
     ensures end { OnOk result (IsAtEnd (S.left source.new)) }
-    ensures too_long { IsErrOf result ReadAllFault.TooLong → IfSome (S.left source.old) (λ bytes. limit < length bytes) }
+    ensures too_long { IsErrOf result ReadAllFault.TooLong
+        → IfSome (S.left source.old) (λ bytes. limit < length bytes) }
 
     // Where memory lacks, the bytes that were taken are within the limit.
     ensures no_memory { IsErrOf result ReadAllFault.OutOfMemory → (front : List ℕ) × (length front ≤ limit)
