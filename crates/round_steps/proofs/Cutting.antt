@@ -1,7 +1,7 @@
 -- A text cut at the first of its bytes that is some byte.
-use Rattle.std.proofs.Common.{◌≡◌, ◌≢◌, ◌<◌, ℕ, false, List, [], ◌∷◌, ◌++◌, All, length, MatchOption, Option, None}
+use Rattle.std.proofs.Common.{◌≡◌, ◌≢◌, ℕ, false, List, [], ◌∷◌, ◌++◌, All, MatchOption, Option, None}
 use Rattle.std.proofs.Common.{Some, Bor}
-use Rattle.std.proofs.Common.{refl, ap, sym, subst, arith, eqb, append-nil}
+use Rattle.std.proofs.Common.{refl, eqb}
 use Rattle.std.proofs.lemmas.Bool.{ne_eqb}
 use Rattle.std.proofs.lemmas.List.Elements.{All-head, All-tail}
 use Rattle.std.proofs.lemmas.List.Splits.{slice_split_none, slice_split_at}

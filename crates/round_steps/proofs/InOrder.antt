@@ -1,17 +1,18 @@
 -- Lines that spell steps, one line more and one line faulty.
-use Rattle.std.proofs.Common.{◌≡◌, ◌≢◌, ◌+◌, ◌<◌, ◌≤◌, ℕ, true, false, List, [], ◌∷◌, ◌++◌, length, filter}
+use Rattle.std.proofs.Common.{◌≡◌, ◌≢◌, ◌<◌, ℕ, List, [], ◌∷◌, ◌++◌, length, filter}
 use Rattle.std.proofs.Common.{◌∙◌, refl, ap, sym, subst, arith, append-nil}
 use Rattle.std.proofs.lemmas.List.Elements.{filter-append}
 use Rattle.std.proofs.lemmas.List.{length_push}
 use Rattle.round_steps.specs.declared.step.Step.{Step}
 use Rattle.round_steps.specs.Spelling.{Spells}
-use Rattle.round_steps.specs.Steps.{counts, most_steps, SpellInOrder, AreSteps, IsFirstFault, IsFaultyBehind}
+use Rattle.round_steps.specs.Steps.{counts, most_steps, SpellInOrder, AreSteps}
 
 -- an empty line more
 pub empty_more : (lines : List (List ℕ)) (steps : List Step) → AreSteps lines steps
     → AreSteps (lines ++ [] ∷ []) steps
 empty_more lines steps are =
-    let kept : filter counts (lines ++ [] ∷ []) ≡ filter counts lines = filter-append counts lines ([] ∷ []) ∙ append-nil _ in
+    let kept : filter counts (lines ++ [] ∷ []) ≡ filter counts lines =
+    filter-append counts lines ([] ∷ []) ∙ append-nil _ in
     record {
       spelled = subst (λ (ls : List (List ℕ)). SpellInOrder ls steps) (sym kept) are.spelled;
       few = are.few;

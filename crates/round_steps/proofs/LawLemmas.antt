@@ -1,5 +1,5 @@
 -- The laws of a steps file.
-use Rattle.std.proofs.Common.{◌≡◌, ◌≢◌, ◌+◌, ◌<◌, ℕ, true, List, [], ◌∷◌, ◌++◌, length, filter}
+use Rattle.std.proofs.Common.{◌≡◌, ◌<◌, ℕ, List, [], ◌∷◌, ◌++◌, length, filter}
 use Rattle.std.proofs.Common.{◌∙◌, refl, ap, sym, subst, arith, ap₂, inl, inr, codes}
 use Rattle.std.proofs.lemmas.List.Elements.{filter-append}
 use Rattle.std.proofs.lemmas.Bool.{cases_order}
@@ -7,7 +7,7 @@ use Rattle.round_steps.specs.declared.step.Step.{Step}
 use Rattle.round_steps.specs.declared.step.Step.TheVariants.{Pop, Steal, Update, Enter}
 use Rattle.round_steps.specs.Spelling.{Names, NamesBoth, Spells, spells_pop, spells_steal, spells_update}
 use Rattle.round_steps.specs.Spelling.{spells_enter}
-use Rattle.round_steps.specs.Steps.{counts, most_steps, SpellInOrder, AreSteps, IsFirstFault, IsFaultyBehind}
+use Rattle.round_steps.specs.Steps.{counts, SpellInOrder, AreSteps, IsFirstFault}
 use Rattle.round_steps.specs.Laws.{OneSpelling, OneAnswer}
 use Rattle.round_steps.proofs.InOrder.{counted_first}
 use Rattle.round_steps.proofs.Numbers.{one_number, one_pair}

@@ -1,7 +1,7 @@
 -- Texts that are the number of a worker, or of two.
-use Rattle.std.proofs.Common.{◌≡◌, ◌≢◌, ◌+◌, ◌*◌, ◌/◌, ◌%◌, ◌<◌, ◌≤◌, ℕ, List, [], ◌∷◌, ◌++◌, length, get_or}
+use Rattle.std.proofs.Common.{◌≡◌, ◌≢◌, ◌/◌, ◌%◌, ◌<◌, ◌≤◌, ℕ, List, [], ◌∷◌, ◌++◌}
 use Rattle.std.proofs.Common.{MatchOption, Option, None, Some, Bor}
-use Rattle.std.proofs.Common.{◌∙◌, refl, ap, sym, subst, arith, unwrap_or}
+use Rattle.std.proofs.Common.{◌∙◌, ap, sym, subst, arith, unwrap_or}
 use Rattle.std.proofs.lemmas.List.Elements.{All-cons, All-nil}
 use Rattle.round_steps.specs.Spelling.{digit, last_worker, two_bytes, Names, NamesBoth}
 use Rattle.round_steps.proofs.Cutting.{IsFreeOf, cut_once, stands_in}

@@ -22,12 +22,14 @@ loop-steps-preserved c =
 pub returns-in_default-clause-ok : goal.returns-in_default-clause-ok
 returns-in_default-clause-ok c =
     all_read c.args.text.now c.loop-steps.rest.now c.first_line.result.0.now c.loop-steps.number c.loop-steps.steps
-    c.take_line.new.steps c.loop-steps.invariant (rw c.in_default.is at c.first_line.ensures) c.in_ok-take_line.ensures.ok
+    c.take_line.new.steps c.loop-steps.invariant (rw c.in_default.is at c.first_line.ensures)
+    c.in_ok-take_line.ensures.ok
 
 pub returns-in_err-take_line-clause-err : goal.returns-in_err-take_line-clause-err
 returns-in_err-take_line-clause-err c =
     let p = err_from_is_err_and c.from_residual.result c.from_residual.ensures.1 in
     rw (p.1, p.2)
-    (line_refused c.args.text.now c.loop-steps.rest.now c.first_line.result.0.now c.loop-steps.number c.loop-steps.steps
+    (line_refused c.args.text.now c.loop-steps.rest.now c.first_line.result.0.now c.loop-steps.number
+    c.loop-steps.steps
     c.first_line.result.1 c.in_err-take_line.field-0.0 c.loop-steps.invariant c.first_line.ensures
     c.in_err-take_line.ensures.err)

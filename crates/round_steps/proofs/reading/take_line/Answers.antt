@@ -1,6 +1,6 @@
-use Rattle.std.proofs.Common.{◌<◌, List, length, subst, sym}
+use Rattle.std.proofs.Common.{◌<◌, List, length, subst}
 use Rattle.round_steps.specs.declared.step.Step.{Step}
-use Rattle.round_steps.specs.Steps.{AreSteps, most_steps}
+use Rattle.round_steps.specs.Steps.{most_steps}
 use Rattle.round_steps.proofs.InOrder.{step_more}
 use Rattle.round_steps.proofs.reading.take_line.Goals as goal
 
