@@ -22,7 +22,8 @@ pub struct MemSink<'a> {
 
 impl<'a> MemSink<'a> {
     ghost use Rattle.std.specs.Prelude.{◌≡◌, [], None, Some, length};
-    ghost use Rattle.replay_stream.specs.MemSink.{sink_bytes, sink_room, sink_step, sink_failures, calls_to_stop, sink_stop};
+    ghost use Rattle.replay_stream.specs.MemSink.{sink_bytes, sink_room, sink_step, sink_failures};
+    ghost use Rattle.replay_stream.specs.MemSink.{calls_to_stop, sink_stop};
 
     /// Writes into `room`, `step` bytes a call.
     pub fn new(room: &'a mut [u8], step: usize) -> MemSink<'a>
@@ -70,11 +71,13 @@ impl<'a> MemSink<'a> {
 }
 
 impl Sink for MemSink<'_> {
-    ghost use Rattle.std.specs.Prelude.{◌≡◌, ◌+◌, ◌-◌, ◌^◌, ◌<◌, ◌≤◌, ◌↔◌, Some, IfOk, IsErr, if◌then◌else◌, length, min, take};
+    ghost use Rattle.std.specs.Prelude.{◌≡◌, ◌+◌, ◌-◌, ◌^◌, ◌<◌, ◌≤◌, ◌↔◌, Some, IfOk, IsErr};
+    ghost use Rattle.std.specs.Prelude.{if◌then◌else◌, length, min, take};
     ghost use Rattle.std.specs.Io.KnownBytes.{WriteAppends};
     ghost use Rattle.replay_stream.specs.Stop.{is_stopped, one_fewer};
     ghost use Rattle.replay_stream.specs.Stream.{has_stalled};
-    ghost use Rattle.replay_stream.specs.MemSink.{sink_bytes, sink_room, sink_step, sink_failures, calls_to_stop, sink_stop, piece_of};
+    ghost use Rattle.replay_stream.specs.MemSink.{sink_bytes, sink_room, sink_step, sink_failures};
+    ghost use Rattle.replay_stream.specs.MemSink.{calls_to_stop, sink_stop, piece_of};
 
     ghost written = { λ s. Some (take s.len s.room.now) };
 
@@ -84,12 +87,14 @@ impl Sink for MemSink<'_> {
         requires { sink_failures self.old < 2 ^ 63 }
         ensures within { IfOk result (λ n. n ≤ length bytes.now) }
         ensures bytes { WriteAppends (Some (sink_bytes self.old)) (Some (sink_bytes self.new)) result bytes.now }
-        ensures counted { sink_failures self.new ≡ sink_failures self.old + (if has_stalled result bytes.now then 1 else 0) }
+        ensures counted { sink_failures self.new
+            ≡ sink_failures self.old + (if has_stalled result bytes.now then 1 else 0) }
 
         // It fails only after the calls before, and else moves as many bytes as a call may.
         ensures fails { IsErr result ↔ ((calls_to_stop self.old ≡ Some 0) × (sink_stop self.old ≡ Stop.Fail)) }
         ensures calls { calls_to_stop self.new ≡ one_fewer (calls_to_stop self.old) }
-        ensures piece { IfOk result (λ n. n ≡ (if is_stopped (calls_to_stop self.old) then 0 else piece_of self.old bytes.now)) }
+        ensures piece { IfOk result (λ n.
+            n ≡ (if is_stopped (calls_to_stop self.old) then 0 else piece_of self.old bytes.now)) }
         ensures step { sink_step self.new ≡ sink_step self.old }
         ensures stop { sink_stop self.new ≡ sink_stop self.old }
         ensures room { sink_room self.new ≡ sink_room self.old }

@@ -75,7 +75,8 @@ fn front_of(bytes: &[u8], step: usize, calls: usize) -> &[u8]
 }
 
 impl Source for MemSource<'_> {
-    ghost use Rattle.std.specs.Prelude.{◌≡◌, ◌+◌, ◌^◌, ◌<◌, ◌≤◌, ◌↔◌, Some, IfOk, IsErr, is_err, if◌then◌else◌, length, min};
+    ghost use Rattle.std.specs.Prelude.{◌≡◌, ◌+◌, ◌^◌, ◌<◌, ◌≤◌, ◌↔◌, Some, IfOk, IsErr};
+    ghost use Rattle.std.specs.Prelude.{is_err, if◌then◌else◌, length, min};
     ghost use Rattle.std.specs.Io.KnownBytes.{ReadConsumes};
     ghost use Rattle.replay_stream.specs.Stop.{one_fewer};
     ghost use Rattle.replay_stream.specs.MemSource.{source_bytes, source_step, source_failures, calls_to_failure};
@@ -94,7 +95,8 @@ impl Source for MemSource<'_> {
         // It fails exactly after the calls before, and else moves as many bytes as a call may.
         ensures fails { IsErr result ↔ (calls_to_failure self.old ≡ Some 0) }
         ensures calls { calls_to_failure self.new ≡ one_fewer (calls_to_failure self.old) }
-        ensures piece { IfOk result (λ n. n ≡ min (min (source_step self.old) (length (source_bytes self.old))) (length buffer.old)) }
+        ensures piece { IfOk result (λ n.
+            n ≡ min (min (source_step self.old) (length (source_bytes self.old))) (length buffer.old)) }
         ensures step { source_step self.new ≡ source_step self.old }
     {
         if is_over(&mut self.calls_left) {

@@ -11,8 +11,8 @@ use std::alloc::Global;
 /// All bytes that were left, of which there may be `limit`.
 ///
 /// `Read` comes only where the reader failed in this call, and `TooLong` only where more than
-/// `limit` bytes were left; without memory for the bytes the answer is `OutOfMemory`. After a
-/// refusal the reader has lost some of its bytes.
+/// `limit` bytes were left; without memory for the bytes the answer is `OutOfMemory`, and no byte past
+/// the limit was taken. After a refusal the reader has lost some of its bytes.
 pub fn read_all<S: Source>(
     alloc: Global,
     source: &mut S,
@@ -22,7 +22,12 @@ pub fn read_all<S: Source>(
     ensures ok { IfOk result (λ v. IfSome (S.left source.old) (λ bytes. v.items ≡ bytes)) }
     ensures limited { IfOk result (λ v. length v.items ≤ limit) }
     ensures end { OnOk result (IsAtEnd (S.left source.new)) }
-    ensures too_long { IsErrOf result ReadAllFault.TooLong → IfSome (S.left source.old) (λ bytes. limit < length bytes) }
+    ensures too_long { IsErrOf result ReadAllFault.TooLong
+        → IfSome (S.left source.old) (λ bytes. limit < length bytes) }
+
+    // Where memory lacks, the bytes that were taken are within the limit.
+    ensures no_memory { IsErrOf result ReadAllFault.OutOfMemory → (front : List ℕ) × (length front ≤ limit)
+        × Consumes (S.left source.old) (S.left source.new) front }
 
     // The reader failed once where the answer is `Read`, and else not at all.
     ensures counted { S.failures source.new ≡ S.failures source.old + failed_reads result }

@@ -12,7 +12,8 @@ pub fn write_all<S: Sink>(sink: &mut S, bytes: &[u8]) -> Result<(), WriteFailed>
     ensures ok { OnOk result (Appends (S.written sink.old) (S.written sink.new) bytes.now) }
 
     // A part of the bytes was written, and not all.
-    ensures err { OnErr result ((n : ℕ) × (n < length bytes.now) × Appends (S.written sink.old) (S.written sink.new) (take n bytes.now)) }
+    ensures err { OnErr result ((n : ℕ) × (n < length bytes.now)
+        × Appends (S.written sink.old) (S.written sink.new) (take n bytes.now)) }
 
     // One call failed where the answer is `Err`, and else none.
     ensures counted { S.failures sink.new ≡ S.failures sink.old + (if is_err result then 1 else 0) }

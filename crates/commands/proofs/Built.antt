@@ -1,0 +1,44 @@
+-- Commands that grow by an argument or a subcommand.
+use Rattle.std.proofs.Common.{◌≡◌, ◌∙◌, ap, ap₂, sym, Bool, true, false, Option, Some, List, ℕ, ◌||◌}
+use Rattle.std.specs.Borrow.{Bor}
+use Rattle.clap.specs.Words.{App, Rule, AddsArg, AddsSubcommand, app_of, rule_of, with_rule, with_subcommand}
+use Rattle.clap.specs.declared.builder.arg.Arg.{Arg}
+use Rattle.clap.specs.declared.builder.command.Command.{Command}
+use Rattle.clap.specs.declared.builder.command.Command.TheViews.{out-Command}
+use Rattle.clap.specs.Simple.{app_of_fields}
+use Rattle.commands.specs.Program.{IsCommand, needing_one}
+
+pub with_arg : (old new : Command) (a : Arg) (app : App) (rule : Rule) → IsCommand app old → rule_of a ≡ rule
+    → a.global ≡ false
+    → AddsArg old a new → IsCommand (with_rule app rule) new
+with_arg old new a app rule is one local adds =
+    record {
+      described = adds.shape local ∙ ap₂ with_rule is.described one;
+      local = adds.globals ∙ ap₂ (λ (b c : Bool). b || c) is.local local;
+    }
+
+pub with_one_below : (old sub new : Command) (app below : App) → IsCommand app old → IsCommand below sub
+    → AddsSubcommand old sub new → IsCommand (with_subcommand app below.top) new
+with_one_below old sub new app below is one adds =
+    record {
+      described = adds.shape one.local ∙ ap₂ with_subcommand is.described (ap (λ (a : App). a.top) one.described);
+      local = adds.globals ∙ ap₂ (λ (b c : Bool). b || c) is.local one.local;
+    }
+
+-- a text about the command changes nothing of this
+pub about_told : (old new : Command) (app : App) {about : Option (Bor (List ℕ))} → app_of old ≡ app
+    → (out-Command old).has_globals ≡ false → out-Command new ≡ record (out-Command old) { about = about }
+    → IsCommand app new
+about_told old new app is local same =
+    record {
+      described = ap app_of_fields same ∙ is;
+      local = ap (λ f. f.has_globals) same ∙ local;
+    }
+
+pub needs_one_below : (old new : Command) (app : App) → IsCommand app old
+    → out-Command new ≡ record (out-Command old) { subcommand_required = true } → IsCommand (needing_one app) new
+needs_one_below old new app is same =
+    record {
+      described = ap app_of_fields same ∙ ap needing_one is.described;
+      local = ap (λ f. f.has_globals) same ∙ is.local;
+    }

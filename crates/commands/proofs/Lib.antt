@@ -1,0 +1,3 @@
+pub mod Built
+pub mod Found
+pub mod Asked

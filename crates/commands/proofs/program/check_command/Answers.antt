@@ -1,0 +1,11 @@
+use Rattle.std.proofs.lemmas.Result.{IfOk-weaker}
+use Rattle.commands.proofs.Built.{about_told, with_arg}
+use Rattle.commands.proofs.program.check_command.Goals as goal
+
+pub returns : goal.returns
+returns c =
+    let start = about_told c.new.result c.about.result _ c.new.ensures.app c.new.ensures.local c.about.ensures in
+    IfOk-weaker c.arg.result _ _
+    (λ command adds. with_arg c.about.result command c.trace_arg.result _ _ start c.trace_arg.ensures.rule
+    c.trace_arg.ensures.local adds)
+    c.arg.ensures

@@ -1,0 +1,48 @@
+-- The program's command line, as clap's contracts see it.
+use Rattle.std.specs.Prelude.{◌≡◌, Some, [], ◌∷◌, codes, true, false}
+use Rattle.clap.specs.Words.{App, Rule, app_of, new_app, new_rule, with_rule, with_subcommand}
+use Rattle.clap.specs.declared.builder.command.Command.{Command}
+use Rattle.clap.specs.declared.builder.command.Command.TheViews.{out-Command}
+use Rattle.clap.specs.declared.builder.value_parser.ValueParser.TheVariants.{Unsigned}
+
+abbrev pub trace_rule : Rule
+trace_rule = record (new_rule (codes "TRACE")) { required = true }
+
+abbrev pub steps_rule : Rule
+steps_rule = record (new_rule (codes "STEPS")) { required = true }
+
+-- a number from 1 to 64, and else 4
+abbrev pub workers_rule : Rule
+workers_rule = record (new_rule (codes "workers")) {
+  long = Some (codes "workers");
+  value_names = 1;
+  parser = Some (Unsigned 1 64);
+  defaults = codes "4" ∷ [];
+}
+
+-- `run TRACE --workers N`
+abbrev pub run : App
+run = with_rule (with_rule (new_app (codes "run")) trace_rule) workers_rule
+
+-- `check TRACE`
+abbrev pub check : App
+check = with_rule (new_app (codes "check")) trace_rule
+
+-- `play TRACE STEPS --workers N`
+abbrev pub play : App
+play = with_rule (with_rule (with_rule (new_app (codes "play")) trace_rule) steps_rule) workers_rule
+
+-- the command wants one of its subcommands
+abbrev pub needing_one : App → App
+needing_one app = record app { top = record app.top { subcommand_required = true } }
+
+-- the program, of which one of the three is asked
+abbrev pub program : App
+program =
+    let named = needing_one (new_app (codes "kubelet_replay")) in
+    with_subcommand (with_subcommand (with_subcommand named run.top) check.top) play.top
+
+-- clap's command is the one that is described, with no argument for the levels below it
+pub record IsCommand (app : App) (command : Command) : Type 0 where
+  pub described : app_of command ≡ app
+  pub local : (out-Command command).has_globals ≡ false

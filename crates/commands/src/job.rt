@@ -1,0 +1,122 @@
+//! A job, from the program's words.
+
+ghost use Rattle.std.specs.Prelude.{◌≤◌, ◌↔◌, ℕ, IsTrue, IfOk, IfErr, MatchOption, map};
+ghost use Rattle.clap.specs.Words.{found_of, rows_of, subcommand_rows_of};
+ghost use Rattle.commands.specs.declared.job.Job.{Job};
+ghost use Rattle.commands.specs.Jobs.{HasWorkers, IsJobFor, IsJobOf, IsAskedBy, IsRefusal, Refuses};
+
+use crate::fault::UsageFault;
+use crate::program::program;
+use clap::error::ErrorKind;
+use clap::{ArgMatches, Error};
+use std::alloc::Global;
+use std::convert::AsStr;
+
+/// The most workers.
+const MOST_WORKERS: usize = 64;
+
+/// What the program is asked to do.
+#[derive(Clone, Copy, Debug, PartialEq, Eq)]
+pub enum Job<'a> {
+    /// Write the report of a trace, with so many workers.
+    Run {
+        trace: &'a str,
+        workers: usize,
+    },
+    /// Say whether a file is a trace.
+    Check {
+        trace: &'a str,
+    },
+    /// Write the report of a trace, with so many workers that take the steps of a steps file.
+    Play {
+        trace: &'a str,
+        steps: &'a str,
+        workers: usize,
+    },
+}
+
+/// Whether there may be so many workers.
+fn may_share(workers: usize) -> bool
+    ensures { IsTrue result ↔ ((1 ≤ workers) × (workers ≤ 64)) }
+{
+    workers >= 1 && workers <= MOST_WORKERS
+}
+
+/// The number of workers that a subcommand's matches say. What clap promises of the program's own
+/// words it does not promise of a subcommand's, so the number is looked at here.
+fn workers_in(given: &ArgMatches<'_>) -> Option<usize>
+    ensures { MatchOption result ((workers : ℕ) → HasWorkers (rows_of (found_of given.now)) workers → ⊥)
+        (HasWorkers (rows_of (found_of given.now))) }
+{
+    let workers = given.get_one::<usize>("workers")?;
+    if may_share(workers) {
+        Some(workers)
+    } else {
+        None
+    }
+}
+
+/// The job that the matches of the subcommand of this name say.
+fn job_for<'a>(name: &str, given: &ArgMatches<'a>) -> Option<Job<'a>>
+    ensures { MatchOption result ((job : Job) → IsJobFor name.now (rows_of (found_of given.now)) job → ⊥)
+        (IsJobFor name.now (rows_of (found_of given.now))) }
+{
+    let trace = given.get_str("TRACE")?;
+    match name {
+        "run" => {
+            let workers = workers_in(given)?;
+            Some(Job::Run { trace, workers })
+        }
+        "check" => Some(Job::Check { trace }),
+        "play" => {
+            let steps = given.get_str("STEPS")?;
+            let workers = workers_in(given)?;
+            Some(Job::Play {
+                trace,
+                steps,
+                workers,
+            })
+        }
+        _ => None,
+    }
+}
+
+/// The job that the matches of the program say.
+fn job_in<'a>(matches: &ArgMatches<'a>) -> Option<Job<'a>>
+    ensures { MatchOption result ((job : Job) → IsJobOf (subcommand_rows_of matches.now) job → ⊥)
+        (IsJobOf (subcommand_rows_of matches.now)) }
+{
+    let (name, given) = matches.subcommand()?;
+    job_for(name, given)
+}
+
+/// Why clap refused the words.
+fn refusal(error: Error) -> UsageFault
+    ensures { IsRefusal error result }
+{
+    match error.kind() {
+        ErrorKind::OutOfMemory => UsageFault::OutOfMemory,
+        _ => UsageFault::Refused(error),
+    }
+}
+
+/// The job that the words ask for. The first word is the program's name.
+///
+/// `Refused` has clap's error, with the text for the user: a mistake in the words, or help that was
+/// asked for.
+pub fn job_of<'a, S: AsStr>(alloc: Global, words: &'a [S]) -> Result<Job<'a>, UsageFault>
+    ensures ok { IfOk result (IsAskedBy (map S.text words.entry.now)) }
+    ensures err { IfErr result (Refuses (map S.text words.entry.now)) }
+{
+    let matches = match program(alloc)?.try_get_matches_from(words) {
+        Ok(matches) => matches,
+        Err(error) => return Err(refusal(error)),
+    };
+    match job_in(&matches) {
+        Some(job) => Ok(job),
+        None => Err(UsageFault::Refused(program(alloc)?.error(
+            ErrorKind::ValueValidation,
+            "--workers is from 1 to 64",
+        )?)),
+    }
+}

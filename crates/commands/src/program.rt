@@ -1,0 +1,91 @@
+//! The program's command line.
+
+ghost use Rattle.std.specs.Prelude.{◌≡◌, IfOk, false};
+ghost use Rattle.clap.specs.Words.{rule_of};
+ghost use Rattle.commands.specs.Program.{trace_rule, steps_rule, workers_rule, run, check, play, program, IsCommand};
+
+use clap::{Arg, Command};
+use std::alloc::{AllocError, Global};
+
+const ABOUT: &str =
+    "Replays what a kubelet would have decided on a node, from the node's recorded trace.";
+
+const TRACE_HELP: &str =
+    "The node's recorded trace, a file of JSON lines: the node's configuration, its pods, and what was \
+    observed at each tick";
+
+const STEPS_HELP: &str =
+    "The steps file, a line for each step: `pop W`, `steal W V`, `update W` or `enter W`, where W and V \
+    are numbers of workers, from 0 on";
+
+const WORKERS_HELP: &str =
+    "How many workers share the pods of a tick, from 1 to 64; their number never changes the report";
+
+fn trace_arg<'a>(alloc: Global) -> Arg<'a>
+    ensures rule { rule_of result ≡ trace_rule }
+    ensures local { result.global ≡ false }
+{
+    Arg::new(alloc, "TRACE").required(true).help(TRACE_HELP)
+}
+
+fn steps_arg<'a>(alloc: Global) -> Arg<'a>
+    ensures rule { rule_of result ≡ steps_rule }
+    ensures local { result.global ≡ false }
+{
+    Arg::new(alloc, "STEPS").required(true).help(STEPS_HELP)
+}
+
+fn workers_arg<'a>(alloc: Global) -> Arg<'a>
+    ensures rule { rule_of result ≡ workers_rule }
+    ensures local { result.global ≡ false }
+{
+    Arg::new(alloc, "workers")
+        .long("workers")
+        .value_name("N")
+        .value_parser(clap::value_parser!(usize).range(1..=64))
+        .default_value("4")
+        .help(WORKERS_HELP)
+}
+
+fn run_command<'a>(alloc: Global) -> Result<Command<'a>, AllocError>
+    ensures { IfOk result (IsCommand run) }
+{
+    Command::new(alloc, "run")
+        .about(
+            "Writes the report of a trace: what each pod's status would have been by the kubelet's rules",
+        )
+        .arg(trace_arg(alloc))?
+        .arg(workers_arg(alloc))
+}
+
+fn check_command<'a>(alloc: Global) -> Result<Command<'a>, AllocError>
+    ensures { IfOk result (IsCommand check) }
+{
+    Command::new(alloc, "check")
+        .about("Says whether a file is a trace, or names its first faulty line")
+        .arg(trace_arg(alloc))
+}
+
+fn play_command<'a>(alloc: Global) -> Result<Command<'a>, AllocError>
+    ensures { IfOk result (IsCommand play) }
+{
+    Command::new(alloc, "play")
+        .about(
+            "Writes the same report, with workers that take the steps of a steps file, in their order",
+        )
+        .arg(trace_arg(alloc))?
+        .arg(steps_arg(alloc))?
+        .arg(workers_arg(alloc))
+}
+
+/// The program, with what each of its words means.
+pub(crate) fn program<'a>(alloc: Global) -> Result<Command<'a>, AllocError>
+    ensures { IfOk result (IsCommand program) }
+{
+    Command::new(alloc, "kubelet_replay")
+        .about(ABOUT)
+        .subcommand_required(true)
+        .subcommand(run_command(alloc)?)?
+        .subcommand(check_command(alloc)?)?
+        .subcommand(play_command(alloc)?)
+}

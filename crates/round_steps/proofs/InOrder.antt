@@ -1,0 +1,46 @@
+-- Lines that spell steps, one line more and one line faulty.
+use Rattle.std.proofs.Common.{◌≡◌, ◌≢◌, ◌<◌, ℕ, List, [], ◌∷◌, ◌++◌, length, filter}
+use Rattle.std.proofs.Common.{◌∙◌, refl, ap, sym, subst, arith, append-nil}
+use Rattle.std.proofs.lemmas.List.Elements.{filter-append}
+use Rattle.std.proofs.lemmas.List.{length_push}
+use Rattle.round_steps.specs.declared.step.Step.{Step}
+use Rattle.round_steps.specs.Spelling.{Spells}
+use Rattle.round_steps.specs.Steps.{counts, most_steps, SpellInOrder, AreSteps}
+
+-- an empty line more
+pub empty_more : (lines : List (List ℕ)) (steps : List Step) → AreSteps lines steps
+    → AreSteps (lines ++ [] ∷ []) steps
+empty_more lines steps are =
+    let kept : filter counts (lines ++ [] ∷ []) ≡ filter counts lines =
+    filter-append counts lines ([] ∷ []) ∙ append-nil _ in
+    record {
+      spelled = subst (λ (ls : List (List ℕ)). SpellInOrder ls steps) (sym kept) are.spelled;
+      few = are.few;
+    }
+
+in_order_more : (lines : List (List ℕ)) (steps : List Step) (line : List ℕ) (step : Step)
+    → SpellInOrder lines steps → Spells line step
+    → SpellInOrder (lines ++ line ∷ []) (steps ++ step ∷ [])
+in_order_more [] [] line step all one = (one, tt)
+in_order_more [] (s ∷ steps) line step all one = absurd all
+in_order_more (l ∷ lines) [] line step all one = absurd all
+in_order_more (l ∷ lines) (s ∷ steps) line step all one = (all.0, in_order_more lines steps line step all.1 one)
+
+pub counted_first : (line : List ℕ) (lines : List (List ℕ)) → line ≢ []
+    → filter counts (line ∷ lines) ≡ line ∷ filter counts lines
+counted_first [] lines some = absurd (some refl)
+counted_first (b ∷ bs) lines some = refl
+
+-- a line more that spells a step
+pub step_more : (lines : List (List ℕ)) (steps : List Step) (line : List ℕ) (step : Step) → AreSteps lines steps
+    → line ≢ []
+    → Spells line step → length steps < most_steps → AreSteps (lines ++ line ∷ []) (steps ++ step ∷ [])
+step_more lines steps line step are some one lt =
+    let kept : filter counts (lines ++ line ∷ []) ≡ filter counts lines ++ line ∷ [] =
+    filter-append counts lines (line ∷ [])
+    ∙ ap (λ (ls : List (List ℕ)). filter counts lines ++ ls) (counted_first line [] some) in
+    let spelled = in_order_more (filter counts lines) steps line step are.spelled one in
+    record {
+      spelled = subst (λ (ls : List (List ℕ)). SpellInOrder ls (steps ++ step ∷ [])) (sym kept) spelled;
+      few = omega (arith, length_push steps step);
+    }

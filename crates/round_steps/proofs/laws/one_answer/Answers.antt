@@ -1,0 +1,5 @@
+use Rattle.round_steps.proofs.LawLemmas as lemmas
+use Rattle.round_steps.proofs.laws.one_answer.Goals as goal
+
+pub returns : goal.returns
+returns c = lemmas.one_answer

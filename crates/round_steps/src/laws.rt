@@ -1,0 +1,14 @@
+//! What the definitions of a steps file imply. The functions do nothing; their contracts are the
+//! laws.
+
+ghost use Rattle.round_steps.specs.Laws.{OneSpelling, OneAnswer};
+
+/// A line spells one step at most.
+pub fn one_spelling()
+    ensures { OneSpelling }
+{}
+
+/// Lines say one list of steps, or have one first fault, and never both.
+pub fn one_answer()
+    ensures { OneAnswer }
+{}

@@ -1,0 +1,13 @@
+//! The steps that a played round is told to take, and the text of a steps file.
+#![tactic(auto)]
+
+mod fault;
+pub mod laws;
+mod lines;
+mod reading;
+mod spelling;
+mod step;
+
+pub use fault::{StepsFault, steps_fault_line, steps_status_of};
+pub use reading::read_steps;
+pub use step::Step;

@@ -1,0 +1,97 @@
+//! Reading a steps file.
+
+ghost use Rattle.std.specs.Prelude.{◌<◌, ◌≤◌, ◌↔◌, ◌∷◌, ◌++◌, [], ℕ, List, IsTrue, IfOk, IfErr, OnOk, length};
+ghost use Rattle.round_steps.specs.Steps.{lines_of, longest_text, most_steps, AreSteps, IsLineBehind};
+ghost use Rattle.round_steps.specs.Steps.{IsFaultOf, IsFirstFaultBy, Refuses};
+
+use crate::fault::StepsFault;
+use crate::lines::first_line;
+use crate::spelling::step_of;
+use crate::step::Step;
+use sequence::Sequence;
+use std::alloc::Global;
+
+/// The most bytes of a text, 1 MiB.
+const LONGEST_TEXT: usize = 1_048_576;
+
+/// The most steps of a text.
+const MOST_STEPS: usize = 100_000;
+
+/// What a line is.
+enum Line {
+    /// It says nothing.
+    Empty,
+    /// It spells a step for which there is room.
+    Step(Step),
+    /// It spells no step, or one too many.
+    Faulty,
+}
+
+/// Whether a step may follow so many.
+fn has_room(steps: usize) -> bool
+    ensures { IsTrue result ↔ (steps < most_steps) }
+{
+    steps < MOST_STEPS
+}
+
+/// What a line is behind so many steps.
+fn line_behind(steps: usize, line: &[u8]) -> Line
+    ensures { IsLineBehind steps line.now result }
+{
+    if line.is_empty() {
+        return Line::Empty;
+    }
+    match step_of(line) {
+        Some(step) if has_room(steps) => Line::Step(step),
+        _ => Line::Faulty,
+    }
+}
+
+/// Adds what a line says behind the steps.
+fn take_line(steps: &mut Sequence<Step>, number: u64, line: &[u8]) -> Result<(), StepsFault>
+    ensures ok { OnOk result ((lines : List (List ℕ)) → AreSteps lines steps.old
+        → AreSteps (lines ++ line.now ∷ []) steps.new) }
+    ensures err { IfErr result (IsFaultOf number line.now steps.old) }
+{
+    match line_behind(steps.as_slice().len(), line) {
+        Line::Empty => Ok(()),
+        Line::Step(step) => {
+            steps.push(step)?;
+            Ok(())
+        }
+        Line::Faulty => Err(StepsFault::Line(number)),
+    }
+}
+
+fn read_lines(alloc: Global, text: &[u8]) -> Result<Sequence<Step>, StepsFault>
+    requires { length text.now ≤ longest_text }
+    ensures ok { IfOk result (λ steps. AreSteps (lines_of text.now) steps) }
+    ensures err { IfErr result (IsFirstFaultBy (lines_of text.now)) }
+{
+    let mut steps = Sequence::new(alloc);
+    let mut rest = text;
+    let mut number = 0u64;
+    loop {
+        let (line, behind) = first_line(rest);
+        number += 1;
+        take_line(&mut steps, number, line)?;
+        let Some(behind) = behind else {
+            return Ok(steps);
+        };
+        rest = behind;
+    }
+}
+
+/// The steps that a text says, line by line.
+///
+/// `TooLong` comes where the text has more than 1 MiB, before any line is looked at, and `Line`
+/// names the first faulty line. Where a growth of memory is refused the answer is `OutOfMemory`.
+pub fn read_steps(alloc: Global, text: &[u8]) -> Result<Sequence<Step>, StepsFault>
+    ensures ok { IfOk result (λ steps. (length text.now ≤ longest_text) × AreSteps (lines_of text.now) steps) }
+    ensures err { IfErr result (Refuses text.now) }
+{
+    if text.len() > LONGEST_TEXT {
+        return Err(StepsFault::TooLong);
+    }
+    read_lines(alloc, text)
+}
