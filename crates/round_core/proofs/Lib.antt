@@ -4,3 +4,4 @@ pub mod Runs
 pub mod Drains
 pub mod Rounds
 pub mod Alike
+pub mod Turns

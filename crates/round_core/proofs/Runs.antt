@@ -22,10 +22,10 @@ pub sum_below-zero : (n : ℕ) → sum_below (λ _. 0) n ≡ 0
 sum_below-zero zero = refl
 sum_below-zero (suc n) = let rest = sum_below-zero n in omega arith
 
-one_at_same : (piece other : ℕ) → other ≡ piece → one_at piece other ≡ 1
+pub one_at_same : (piece other : ℕ) → other ≡ piece → one_at piece other ≡ 1
 one_at_same piece other same = grind (arith, nat_tests)
 
-one_at_other : (piece other : ℕ) → other ≢ piece → one_at piece other ≡ 0
+pub one_at_other : (piece other : ℕ) → other ≢ piece → one_at piece other ≡ 0
 one_at_other piece other differ = grind (arith, nat_tests)
 
 pub sum_below-one_past : (piece n : ℕ) → n ≤ piece → sum_below (one_at piece) n ≡ 0
