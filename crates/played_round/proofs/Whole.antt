@@ -14,10 +14,10 @@ use Rattle.round_core.specs.Pool.{WorkerState, PoolState, no_entry, entry_at, de
 use Rattle.round_core.specs.Pool.{after_steps, after_drain, finished_lists}
 use Rattle.round_core.specs.Places.{one_at, times_marked, times_finished, sum_of_shares, with_drain}
 use Rattle.round_core.proofs.Accounts.{marked_of}
-use Rattle.round_core.proofs.Runs.{sum_below-zero, sum_below-one, sum_below-one_at, sum_below-one_past, sum_deal, weight_deal}
+use Rattle.round_core.proofs.Runs.{length-deal, sum_below-zero, sum_below-one, sum_below-one_at, sum_below-one_past, sum_deal, weight_deal}
 use Rattle.round_core.proofs.Rounds.{book_is_shares, drained_is_run, drained_once, drained_totals}
 use Rattle.round_core.proofs.Alike.{alike_after_drain}
-use Rattle.round_core.proofs.Turns.{workers_run}
+use Rattle.round_core.proofs.Turns.{length-run, workers_run}
 use Rattle.played_round.specs.Table.{TableState, IsLow}
 use Rattle.played_round.specs.Round.{RoundState, with_pool, most_pieces, AreLow, dealt, Stands, Agrees, Follows, Plays}
 use Rattle.played_round.proofs.Marks.{marks_finished}
@@ -111,6 +111,7 @@ all_updated (piece ∷ pieces) done =
 
 -- what a whole round leaves
 pub record IsWhole (before : RoundState) (workers : ℕ) (steps : List Step) (after : RoundState) : Type 0 where
+  pub as_many : length after.pool.workers ≡ workers
   pub pieces : after.table.pieces ≡ map updated before.table.pieces
   pub entries : AreEntriesOf after.table.pieces after.table.entries
   pub shares : sum_of_shares after.pool.workers ≡ sums_of after.table.entries
@@ -164,6 +165,12 @@ module _ (before middle after : RoundState) (workers : ℕ) (steps : List Step) 
 
   pub whole : IsWhole before workers steps after
   whole = record {
+    as_many =
+        ap length after_workers
+        ∙ length-run after.table.entries (after_steps after.table.entries workers steps)
+          (drain_steps 0 (after_steps after.table.entries workers steps).workers)
+        ∙ length-run after.table.entries (deal workers (length after.table.entries)) steps
+        ∙ length-deal workers (length after.table.entries);
     pieces = sym (all_updated after.table.pieces is_updated) ∙ drained.pieces ∙ played.pieces;
     entries = record {
       as_many = drained.stands.as_many;
@@ -182,3 +189,16 @@ module _ (before middle after : RoundState) (workers : ℕ) (steps : List Step) 
       ap (map (λ (worker : WorkerState). worker.finished)) after_workers
       ∙ (alike_after_drain after.table.entries others workers steps (long ∙ sym is_long)).same_finished;
   }
+
+-- a round that was dealt from these parts, played and drained
+pub whole_of : (table : TableState) (idle_pool : PoolState) (pieces : List Piece) (workers : ℕ) (book : Totals)
+    (some : 0 < workers) (given middle after : RoundState) (steps : List Step) → table.pieces ≡ pieces
+    → table.entries ≡ replicate (length pieces) no_entry → idle_pool.book ≡ book
+    → given ≡ with_pool (let first : RoundState = record { table = table; pool = idle_pool } in first)
+        (dealt workers (length table.pieces) idle_pool.book)
+    → Plays given steps middle → Plays middle (drain_steps 0 middle.pool.workers) after
+    → IsWhole (start pieces workers book some) workers steps after
+whole_of table idle_pool pieces workers book some given middle after steps pieces_are entries_are book_is is played drained =
+    let at_first = starts table idle_pool pieces workers book some given pieces_are entries_are book_is is in
+    whole (start pieces workers book some) middle after workers steps some refl
+    (subst (λ (first : RoundState). Plays first steps middle) at_first played) drained

@@ -140,5 +140,6 @@ pub fn update_played<U: Ledger, E: Ledger, O: Ledger>(
     let mut round = deal(round, workers)?;
     round.run(steps)?;
     round.drain()?;
-    close(alloc, round, share)
+    let played = close(alloc, round, share)?;
+    Ok(played)
 }
