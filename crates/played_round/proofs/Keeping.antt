@@ -17,8 +17,9 @@ use Rattle.round_core.specs.Pool.{WorkerState, PoolState, idle, no_entry, worker
 use Rattle.round_core.specs.Places.{one_at, places, times_marked, waiting, updated_by}
 use Rattle.round_core.proofs.Runs.{one_at_same, one_at_other}
 use Rattle.played_round.specs.Table.{TableState, IsLow, IsWaiting, IsUpdate}
-use Rattle.played_round.specs.Round.{RoundState, with_pool, CanUpdate, IsUpdateOf, HasRoom, CanEnter, Stands}
-use Rattle.played_round.specs.Round.{Agrees, Follows, Plays}
+use Rattle.played_round.specs.Round.{RoundState, with_pool}
+use Rattle.played_round.specs.Playing.{CanUpdate, IsUpdateOf, HasRoom, CanEnter, Stands}
+use Rattle.played_round.specs.Playing.{Agrees, Follows, Plays}
 use Rattle.played_round.proofs.Marks.{marked_stands, taken_is_unmarked, updated_is_marked, updated_is_unfinished}
 use Rattle.played_round.proofs.Marks.{weight_step, marks_step, grown_step}
 

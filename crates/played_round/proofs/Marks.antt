@@ -17,7 +17,7 @@ use Rattle.round_core.proofs.Accounts.{gain, step_gain, marked_of, finished_acco
 use Rattle.round_core.proofs.Runs.{one_at_same, weight_run, marks_run}
 use Rattle.round_core.proofs.Rounds.{updates_total, events_total, orders_total}
 use Rattle.played_round.specs.Table.{IsLow, most_events}
-use Rattle.played_round.specs.Round.{HasGrown}
+use Rattle.played_round.specs.Playing.{HasGrown}
 
 -- Sums over the workers in two parts
 

@@ -7,7 +7,8 @@ use Rattle.round_steps.specs.declared.step.Step.TheVariants.{Pop, Update, Enter}
 use Rattle.round_core.specs.Pool.{WorkerState, PoolState, idle, worker_at, run, finishing_steps, drain_steps}
 use Rattle.round_core.proofs.Runs.{run-append}
 use Rattle.round_core.proofs.Turns.{length-run, after_drained, turn_more, drain_more}
-use Rattle.played_round.specs.Round.{RoundState, Stands, Agrees, Follows, Plays}
+use Rattle.played_round.specs.Round.{RoundState}
+use Rattle.played_round.specs.Playing.{Stands, Agrees, Follows, Plays}
 
 pub plays_none : (r : RoundState) → Stands r → Plays r [] r
 plays_none r stands =

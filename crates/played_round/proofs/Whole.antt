@@ -19,73 +19,58 @@ use Rattle.round_core.proofs.Rounds.{book_is_shares, drained_is_run, drained_onc
 use Rattle.round_core.proofs.Alike.{alike_after_drain}
 use Rattle.round_core.proofs.Turns.{length-run, workers_run}
 use Rattle.played_round.specs.Table.{TableState, IsLow}
-use Rattle.played_round.specs.Round.{RoundState, with_pool, most_pieces, AreLow, dealt, Stands, Agrees, Follows, Plays}
+use Rattle.played_round.specs.Round.{RoundState, with_pool, most_pieces, dealt, IsFresh, IsWhole}
+use Rattle.played_round.specs.Playing.{Stands, Agrees, Follows, Plays}
 use Rattle.played_round.proofs.Marks.{marks_finished}
 
 -- The start
 
-module _ (pieces : List Piece) (workers : ℕ) (book : Totals) (some : 0 < workers) where
-  -- these pieces, dealt
-  abbrev pub start : RoundState
-  start = record {
-    table = record { pieces = pieces; entries = replicate (length pieces) no_entry };
-    pool = dealt workers (length pieces) book;
-  }
+module _ (workers : ℕ) (round : RoundState) (some : 0 < workers) (fresh : IsFresh workers round) where
+  -- the round once its pieces are dealt
+  abbrev pub given : RoundState
+  given = with_pool round (dealt workers (length round.table.pieces) round.pool.book)
 
-  unmarked : (n : ℕ) → times_marked n start.pool ≡ 0
+  unmarked : (n : ℕ) → times_marked n given.pool ≡ 0
   unmarked n =
-      let none = sum_deal (marked_of (one_at n)) (λ _. 0) refl (λ worker piece. omega arith) workers (length pieces) some in
-      let nothing = sum_below-zero (length pieces) in
+      let count = length round.table.pieces in
+      let none = sum_deal (marked_of (one_at n)) (λ _. 0) refl (λ worker piece. omega arith) workers count some in
+      let nothing = sum_below-zero count in
       omega arith
 
-  blank : (n : ℕ) → entry_at start.table.entries n ≡ no_entry
+  blank : (n : ℕ) → entry_at round.table.entries n ≡ no_entry
   blank n =
-      ⊎_elim
-      (λ (within : n < length pieces). get_or-replicate (length pieces) n no_entry no_entry within)
-      (λ (past : length pieces ≤ n).
-        get_or_past (replicate (length pieces) no_entry) n no_entry
-        (let long = length-replicate (length pieces) no_entry in omega arith))
-      (cases_lt n (length pieces))
+      let count = length round.table.pieces in
+      ap (λ (entries : List Entry). get_or entries n no_entry) fresh.blank
+      ∙ ⊎_elim
+        (λ (within : n < count). get_or-replicate count n no_entry no_entry within)
+        (λ (past : count ≤ n).
+          get_or_past (replicate count no_entry) n no_entry (let long = length-replicate count no_entry in omega arith))
+        (cases_lt n count)
 
-  pub stands_at_first : All (λ (piece : Piece). IsTrue piece.is_pending) pieces → length pieces ≤ most_pieces
-      → AreLow book → Stands start
-  stands_at_first pending few low = record {
-    as_many = length-replicate (length pieces) no_entry;
-    one_place = λ n within.
-      weight_deal (one_at n) workers (length pieces) some ∙ sum_below-one_at n (length pieces) within;
-    no_stranger = λ n past.
-      weight_deal (one_at n) workers (length pieces) some ∙ sum_below-one_past n (length pieces) past;
-    waits = λ n piece is none.
-      subst (λ (p : Piece). IsTrue p.is_pending) (get_or_from_slice_get pieces n piece piece is)
-      (All-get_or (λ (p : Piece). IsTrue p.is_pending) pieces n piece (slice_get_within pieces n piece is) pending);
-    is_done = λ n piece entry is is_entry marked. absurd (let none = unmarked n in omega arith);
-    are_low = λ n. subst IsLow (sym (blank n)) (record { events = omega arith; orders = omega arith });
-    few = let all = weight_deal (λ _. 1) workers (length pieces) some in
-        let count = sum_below-one (length pieces) in
-        omega arith;
-    grown = record {
-      updates = let had = low.updates in omega arith;
-      events = let had = low.events in omega arith;
-      orders = let had = low.orders in omega arith;
-    };
-  }
-
-abbrev state : ℕ → List Piece → List Entry → ℕ → Totals → RoundState
-state workers pieces entries n book =
-    record { table = record { pieces = pieces; entries = entries }; pool = dealt workers n book }
-
--- a round that was dealt from these parts is that start
-pub starts : (table : TableState) (idle_pool : PoolState) (pieces : List Piece) (workers : ℕ) (book : Totals)
-    (some : 0 < workers) (given : RoundState) → table.pieces ≡ pieces
-    → table.entries ≡ replicate (length pieces) no_entry → idle_pool.book ≡ book
-    → given ≡ with_pool (let first : RoundState = record { table = table; pool = idle_pool } in first)
-        (dealt workers (length table.pieces) idle_pool.book)
-    → given ≡ start pieces workers book some
-starts table idle_pool pieces workers book some given pieces_are entries_are book_is is =
-    is
-    ∙ ap (λ (ps : List Piece). state workers ps table.entries (length ps) idle_pool.book) pieces_are
-    ∙ ap (λ (es : List Entry). state workers pieces es (length pieces) idle_pool.book) entries_are
-    ∙ ap (λ (b : Totals). state workers pieces (replicate (length pieces) no_entry) (length pieces) b) book_is
+  pub stands_at_first : Stands given
+  stands_at_first =
+      let pieces = round.table.pieces in
+      record {
+        as_many = ap length fresh.blank ∙ length-replicate (length pieces) no_entry;
+        one_place = λ n within.
+          weight_deal (one_at n) workers (length pieces) some ∙ sum_below-one_at n (length pieces) within;
+        no_stranger = λ n past.
+          weight_deal (one_at n) workers (length pieces) some ∙ sum_below-one_past n (length pieces) past;
+        waits = λ n piece is none.
+          subst (λ (p : Piece). IsTrue p.is_pending) (get_or_from_slice_get pieces n piece piece is)
+          (All-get_or (λ (p : Piece). IsTrue p.is_pending) pieces n piece (slice_get_within pieces n piece is) fresh.pending);
+        is_done = λ n piece entry is is_entry marked. absurd (let none = unmarked n in omega arith);
+        are_low = λ n. subst IsLow (sym (blank n)) (record { events = omega arith; orders = omega arith });
+        few = let all = weight_deal (λ _. 1) workers (length pieces) some in
+            let count = sum_below-one (length pieces) in
+            let most = fresh.few in
+            omega arith;
+        grown = record {
+          updates = let had = fresh.low.updates in omega arith;
+          events = let had = fresh.low.events in omega arith;
+          orders = let had = fresh.low.orders in omega arith;
+        };
+      }
 
 -- The end
 
@@ -108,15 +93,6 @@ all_updated [] done = refl
 all_updated (piece ∷ pieces) done =
     ap (λ (p : Piece). p ∷ map updated pieces) (updated_once piece (done 0 piece refl))
     ∙ ap (λ (ps : List Piece). piece ∷ ps) (all_updated pieces (λ n p is. done (suc n) p is))
-
--- what a whole round leaves
-pub record IsWhole (before : RoundState) (workers : ℕ) (steps : List Step) (after : RoundState) : Type 0 where
-  pub as_many : length after.pool.workers ≡ workers
-  pub pieces : after.table.pieces ≡ map updated before.table.pieces
-  pub entries : AreEntriesOf after.table.pieces after.table.entries
-  pub shares : sum_of_shares after.pool.workers ≡ sums_of after.table.entries
-  pub finished : (entries : List Entry) → length entries ≡ length before.table.pieces
-      → map (λ worker. worker.finished) after.pool.workers ≡ finished_lists (after_drain entries workers steps)
 
 module _ (before middle after : RoundState) (workers : ℕ) (steps : List Step) (some : 0 < workers)
     (given : before.pool.workers ≡ (deal workers (length before.table.pieces)).workers)
@@ -190,15 +166,20 @@ module _ (before middle after : RoundState) (workers : ℕ) (steps : List Step) 
       ∙ (alike_after_drain after.table.entries others workers steps (long ∙ sym is_long)).same_finished;
   }
 
--- a round that was dealt from these parts, played and drained
-pub whole_of : (table : TableState) (idle_pool : PoolState) (pieces : List Piece) (workers : ℕ) (book : Totals)
-    (some : 0 < workers) (given middle after : RoundState) (steps : List Step) → table.pieces ≡ pieces
-    → table.entries ≡ replicate (length pieces) no_entry → idle_pool.book ≡ book
-    → given ≡ with_pool (let first : RoundState = record { table = table; pool = idle_pool } in first)
-        (dealt workers (length table.pieces) idle_pool.book)
-    → Plays given steps middle → Plays middle (drain_steps 0 middle.pool.workers) after
-    → IsWhole (start pieces workers book some) workers steps after
-whole_of table idle_pool pieces workers book some given middle after steps pieces_are entries_are book_is is played drained =
-    let at_first = starts table idle_pool pieces workers book some given pieces_are entries_are book_is is in
-    whole (start pieces workers book some) middle after workers steps some refl
-    (subst (λ (first : RoundState). Plays first steps middle) at_first played) drained
+-- a round that was dealt, played and drained
+pub whole_of : (round dealt_round middle after : RoundState) (workers : ℕ) (steps : List Step) → 0 < workers
+    → dealt_round ≡ with_pool round (dealt workers (length round.table.pieces) round.pool.book)
+    → Plays dealt_round steps middle → Plays middle (drain_steps 0 middle.pool.workers) after
+    → IsWhole round workers steps after
+whole_of round dealt_round middle after workers steps some is played drained =
+    let at_first = with_pool round (dealt workers (length round.table.pieces) round.pool.book) in
+    let all =
+        whole at_first middle after workers steps some refl
+        (subst (λ (first : RoundState). Plays first steps middle) is played) drained in
+    record {
+      as_many = all.as_many;
+      pieces = all.pieces;
+      entries = all.entries;
+      shares = all.shares;
+      finished = all.finished;
+    }

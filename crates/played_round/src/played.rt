@@ -7,7 +7,7 @@ ghost use Rattle.event_book.specs.Totals.{plus, sums_of, AreEntriesOf};
 ghost use Rattle.event_book.specs.Shares.{most_parts, part};
 ghost use Rattle.round_core.specs.Pool.{idle, after_drain, finished_lists};
 ghost use Rattle.round_core.specs.Places.{sum_of_shares};
-ghost use Rattle.played_round.specs.Round.{most_pieces, AreLow, dealt, with_pool};
+ghost use Rattle.played_round.specs.Round.{most_pieces, AreLow, dealt, with_pool, IsFresh, IsWhole};
 
 use crate::round::Round;
 use crate::table::Table;
@@ -62,6 +62,22 @@ fn deal<U: Ledger, E: Ledger, O: Ledger>(
     Ok(round)
 }
 
+/// Deals the pieces of a round, takes these steps, and drains what is left.
+fn play<U: Ledger, E: Ledger, O: Ledger>(
+    round: Round<U, E, O>,
+    workers: usize,
+    steps: &[Step],
+) -> Result<Round<U, E, O>, AllocError>
+    requires some { 0 < workers }
+    requires fresh { IsFresh workers round }
+    ensures { IfOk result (IsWhole round workers steps.now) }
+{
+    let mut round = deal(round, workers)?;
+    round.run(steps)?;
+    round.drain()?;
+    Ok(round)
+}
+
 /// What the workers have finished; their shares join this one.
 fn gather<U: Ledger, E: Ledger, O: Ledger>(
     alloc: Global,
@@ -93,7 +109,7 @@ fn close<U: Ledger, E: Ledger, O: Ledger>(
     ensures pieces { IfOk result (λ played. played.pieces.items ≡ round.table.pieces) }
     ensures book { IfOk result (λ played. played.book ≡ plus share.numbers (sum_of_shares round.pool.workers)) }
     ensures finished { IfOk result (λ played.
-        map (λ list. list.items) played.finished.items ≡ map (λ worker. worker.finished) round.pool.workers) }
+        map (λ list. list.items) played.finished.items ≡ finished_lists round.pool) }
 {
     let Round {
         table,
@@ -137,9 +153,7 @@ pub fn update_played<U: Ledger, E: Ledger, O: Ledger>(
         workers: idle,
         book: events,
     };
-    let mut round = deal(round, workers)?;
-    round.run(steps)?;
-    round.drain()?;
+    let round = play(round, workers, steps)?;
     let played = close(alloc, round, share)?;
     Ok(played)
 }

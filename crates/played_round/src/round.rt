@@ -3,7 +3,8 @@
 ghost use Rattle.std.specs.Prelude.{◌≡◌, ◌<◌, ◌∷◌, [], length, OnOk, IfOk};
 ghost use Rattle.round_core.specs.Pool.{give, pop, steal, update, enter, worker_at, finishing_steps, drain_steps};
 ghost use Rattle.round_steps.specs.declared.step.Step.TheVariants.{Pop, Update, Enter};
-ghost use Rattle.played_round.specs.Round.{with_pool, CanUpdate, IsUpdateOf, CanEnter, Stands, Plays};
+ghost use Rattle.played_round.specs.Round.{with_pool};
+ghost use Rattle.played_round.specs.Playing.{CanUpdate, IsUpdateOf, CanEnter, Stands, Plays};
 
 use crate::table::Table;
 use crate::worker::Worker;

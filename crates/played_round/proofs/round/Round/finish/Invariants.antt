@@ -1,6 +1,6 @@
 use Rattle.std.proofs.Common.{◌≡◌, length, take}
 use Rattle.round_core.specs.Pool.{worker_at, finishing_steps}
-use Rattle.played_round.specs.Round.{Stands, Plays}
+use Rattle.played_round.specs.Playing.{Stands, Plays}
 use Rattle.played_round.proofs.round.Round.finish.Given as goal
 
 abbrev pub invariant-loop-turn : goal.invariant-loop-turn

@@ -1,6 +1,7 @@
 use Rattle.std.proofs.Common.{◌≡◌, ◌<◌, ◌∙◌, sym, subst, ap, length, get_or, arith}
 use Rattle.round_core.specs.Pool.{WorkerState, idle}
-use Rattle.played_round.specs.Round.{RoundState, CanUpdate}
+use Rattle.played_round.specs.Round.{RoundState}
+use Rattle.played_round.specs.Playing.{CanUpdate}
 use Rattle.played_round.proofs.Keeping.{hand_read}
 use Rattle.played_round.proofs.round.Round.update.Goals as goal
 
