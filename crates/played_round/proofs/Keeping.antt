@@ -50,13 +50,13 @@ module _ (r : RoundState) (stands : Stands r) where
       let unmarked = taken_unmarked w n holds in
       let as_many = stands.as_many in
       elim ((slice_get_cases r.table.pieces n).1) as (λ _. IsWaiting r.table n) [
-        inl found ↦ record {
+        | inl found ↦ record {
           piece = found.0;
           stands = found.2;
           pending = stands.waits n found.0 found.2 unmarked;
           has_entry = omega arith;
         }
-      | inr past ↦ absurd (let beyond = past.0 in omega arith)
+        | inr past ↦ absurd (let beyond = past.0 in omega arith)
       ]
 
   pub can_enter : (w : ℕ) → CanEnter r w
@@ -98,7 +98,7 @@ module _ (one other : List Entry) where
 
 pool_same : (workers others : List WorkerState) (book totals : Totals) → workers ≡ others → book ≡ totals
     → (let first : PoolState = record { workers = workers; book = book } in first)
-      ≡ (let second : PoolState = record { workers = others; book = totals } in second)
+    ≡ (let second : PoolState = record { workers = others; book = totals } in second)
 pool_same workers others book totals same_workers same_book =
     ap (λ (w : List WorkerState). let first : PoolState = record { workers = w; book = book } in first) same_workers
     ∙ ap (λ (b : Totals). let first : PoolState = record { workers = others; book = b } in first) same_book
@@ -111,7 +111,7 @@ step_same one other pool (Update w) same = refl
 step_same one other pool (Enter w) same =
     let worker = worker_at pool w in
     let at : (n : ℕ) → worker.hand ≡ Updated n → entry_at one n ≡ entry_at other n =
-        λ n holds. same n (updated_is_marked pool w n holds) in
+    λ n holds. same n (updated_is_marked pool w n holds) in
     pool_same (set pool.workers w (finishing one worker worker.hand)) (set pool.workers w (finishing other worker worker.hand))
     (entered one worker.hand pool.book) (entered other worker.hand pool.book)
     (ap (set pool.workers w) (finishing_same one other worker worker.hand at))
@@ -123,7 +123,7 @@ pub plays_step : (r : RoundState) (s : Step) → Stands r → updated_by r.pool 
 plays_step r s stands none =
     let entries = r.table.entries in
     let same_marks : (n : ℕ) → times_marked n (step entries r.pool s) ≡ times_marked n r.pool = λ n.
-        let more = marks_step entries r.pool s n in let nothing = ap (sum_by (one_at n)) none in omega arith in
+    let more = marks_step entries r.pool s n in let nothing = ap (sum_by (one_at n)) none in omega arith in
     record {
       stands = record {
         as_many = stands.as_many;
@@ -131,15 +131,15 @@ plays_step r s stands none =
         no_stranger = λ n past. weight_step entries r.pool s (one_at n) ∙ stands.no_stranger n past;
         waits = λ n piece is unmarked. stands.waits n piece is (sym (same_marks n) ∙ unmarked);
         is_done = λ n piece entry is is_entry marked.
-          stands.is_done n piece entry is is_entry (let same = same_marks n in omega arith);
+            stands.is_done n piece entry is is_entry (let same = same_marks n in omega arith);
         are_low = stands.are_low;
         few = let same = weight_step entries r.pool s (λ _. 1) in let had = stands.few in omega arith;
         grown = grown_step entries r.pool s stands.are_low stands.grown;
       };
       pieces = refl;
       follows = λ others agrees.
-        let before : Agrees others r = λ n marked. agrees n (let same = same_marks n in omega arith) in
-        record { agrees = before; leads = step_same entries others r.pool s (λ n marked. sym (before n marked)) };
+          let before : Agrees others r = λ n marked. agrees n (let same = same_marks n in omega arith) in
+          record { agrees = before; leads = step_same entries others r.pool s (λ n marked. sym (before n marked)) };
     }
 
 -- A step that updates a piece
@@ -191,24 +191,25 @@ module _ (r : RoundState) (stands : Stands r) (w n : ℕ) (holds : (worker_at r.
   is_done m piece entry is is_entry marked =
       ⊎_elim
       (λ (same : m ≡ n).
-        let here : slice_get (set r.table.pieces n (updated updates.piece)) n ≡ Some piece =
-            ap (λ (pieces : List Piece). slice_get pieces n) (sym updates.pieces)
-            ∙ ap (slice_get table.pieces) (sym same) ∙ is in
-        let noted : slice_get (set r.table.entries n updates.entry) n ≡ Some entry =
-            ap (λ (entries : List Entry). slice_get entries n) (sym updates.entries)
-            ∙ ap (slice_get table.entries) (sym same) ∙ is_entry in
-        let piece_is = slice_get-set_same r.table.pieces n piece (updated updates.piece) here in
-        let entry_is = slice_get-set_same r.table.entries n entry updates.entry noted in
-        (ap (λ (p : Piece). p.is_pending) piece_is,
-          subst (λ (p : Piece). IsEntryOf p entry) (sym piece_is)
-          (subst (λ (e : Entry). IsEntryOf (updated updates.piece) e) (sym entry_is) updates.is_entry)))
+      let here : slice_get (set r.table.pieces n (updated updates.piece)) n ≡ Some piece =
+      ap (λ (pieces : List Piece). slice_get pieces n) (sym updates.pieces)
+      ∙ ap (slice_get table.pieces) (sym same) ∙ is in
+      let noted : slice_get (set r.table.entries n updates.entry) n ≡ Some entry =
+      ap (λ (entries : List Entry). slice_get entries n) (sym updates.entries)
+      ∙ ap (slice_get table.entries) (sym same) ∙ is_entry in
+      let piece_is = slice_get-set_same r.table.pieces n piece (updated updates.piece) here in
+      let entry_is = slice_get-set_same r.table.entries n entry updates.entry noted in (
+        ap (λ (p : Piece). p.is_pending) piece_is,
+        subst (λ (p : Piece). IsEntryOf p entry) (sym piece_is)
+            (subst (λ (e : Entry). IsEntryOf (updated updates.piece) e) (sym entry_is) updates.is_entry),
+      ))
       (λ (other : m ≢ n).
-        let before = other_piece m piece other is in
-        let noted = slice_get-set_other r.table.entries n m entry updates.entry other
-          (ap (λ (entries : List Entry). slice_get entries m) (sym updates.entries) ∙ is_entry) in
-        let none = one_at_other m n (λ (e : n ≡ m). other (sym e)) in
-        let more = marks m in
-        stands.is_done m piece entry before noted (omega arith))
+      let before = other_piece m piece other is in
+      let noted = slice_get-set_other r.table.entries n m entry updates.entry other
+      (ap (λ (entries : List Entry). slice_get entries m) (sym updates.entries) ∙ is_entry) in
+      let none = one_at_other m n (λ (e : n ≡ m). other (sym e)) in
+      let more = marks m in
+      stands.is_done m piece entry before noted (omega arith))
       (cases_eq m n)
 
   waits : (m : ℕ) (piece : Piece) → slice_get table.pieces m ≡ Some piece → times_marked m (update r.pool w) ≡ 0
@@ -224,13 +225,13 @@ module _ (r : RoundState) (stands : Stands r) (w n : ℕ) (holds : (worker_at r.
   are_low m =
       ⊎_elim
       (λ (same : m ≡ n).
-        let has_entry : n < length r.table.entries =
-            omega (arith, stands.as_many, taken_within r stands w n holds) in
-        let here : entry_at table.entries m ≡ updates.entry =
-            ap (λ (entries : List Entry). get_or entries m no_entry) updates.entries
-            ∙ ap (λ (k : ℕ). get_or (set r.table.entries n updates.entry) k no_entry) same
-            ∙ get_or-set_same r.table.entries n updates.entry no_entry has_entry in
-        subst IsLow (sym here) updates.is_low)
+      let has_entry : n < length r.table.entries =
+      omega (arith, stands.as_many, taken_within r stands w n holds) in
+      let here : entry_at table.entries m ≡ updates.entry =
+      ap (λ (entries : List Entry). get_or entries m no_entry) updates.entries
+      ∙ ap (λ (k : ℕ). get_or (set r.table.entries n updates.entry) k no_entry) same
+      ∙ get_or-set_same r.table.entries n updates.entry no_entry has_entry in
+      subst IsLow (sym here) updates.is_low)
       (λ (other : m ≢ n). subst IsLow (sym (other_entry m other)) (stands.are_low m))
       (cases_eq m n)
 
@@ -240,9 +241,9 @@ module _ (r : RoundState) (stands : Stands r) (w n : ℕ) (holds : (worker_at r.
     stands = record {
       as_many = long_entries ∙ stands.as_many ∙ sym long;
       one_place = λ m within.
-        weight_step r.table.entries r.pool (Update w) (one_at m) ∙ stands.one_place m (omega (arith, long));
+          weight_step r.table.entries r.pool (Update w) (one_at m) ∙ stands.one_place m (omega (arith, long));
       no_stranger = λ m past.
-        weight_step r.table.entries r.pool (Update w) (one_at m) ∙ stands.no_stranger m (omega (arith, long));
+          weight_step r.table.entries r.pool (Update w) (one_at m) ∙ stands.no_stranger m (omega (arith, long));
       waits = waits;
       is_done = is_done;
       are_low = are_low;
@@ -252,14 +253,14 @@ module _ (r : RoundState) (stands : Stands r) (w n : ℕ) (holds : (worker_at r.
     pieces =
         ap (map updated) updates.pieces
         ∙ map-set_same updated r.table.pieces n (updated updates.piece) updates.piece
-          (ap updated (sym (get_or_from_slice_get r.table.pieces n updates.piece updates.piece updates.stood)));
+        (ap updated (sym (get_or_from_slice_get r.table.pieces n updates.piece updates.piece updates.stood)));
     follows = λ others agrees. record {
       agrees = λ m marked.
-        let other : m ≢ n = λ (same : m ≡ n).
-            let none = taken_unmarked r stands w n holds in
-            let here = ap (λ (k : ℕ). times_marked k r.pool) same in
-            omega arith in
-        agrees m (let more = marks m in omega arith) ∙ other_entry m other;
+          let other : m ≢ n = λ (same : m ≡ n).
+          let none = taken_unmarked r stands w n holds in
+          let here = ap (λ (k : ℕ). times_marked k r.pool) same in
+          omega arith in
+          agrees m (let more = marks m in omega arith) ∙ other_entry m other;
       leads = refl;
     };
   }
@@ -302,5 +303,5 @@ pub plays_hand_after : (r : RoundState) (s : Step) (w : ℕ) → s ≡ Update w 
 plays_hand_after r s w is stands after updates pool_is =
     subst (λ (t : Step). Plays r (t ∷ []) after) (sym is)
     (subst
-      (λ (pool : PoolState). Plays r (Update w ∷ []) (let next : RoundState = record { table = after.table; pool = pool } in next))
-      (sym pool_is) (plays_hand r stands w (worker_at r.pool w).hand refl after.table updates))
+    (λ (pool : PoolState). Plays r (Update w ∷ []) (let next : RoundState = record { table = after.table; pool = pool } in next))
+    (sym pool_is) (plays_hand r stands w (worker_at r.pool w).hand refl after.table updates))

@@ -48,8 +48,8 @@ few_events pod greatest evicted before tick events few (inr lives) =
 
 few_last : (p : Piece) (events : List PodEvent) (last : Option PodTick) → length p.pod.containers ≤ 16
     → MatchOption last (events ≡ [])
-      (λ tick. AreEventsOf p.pod p.greatest (evicted_before (evicted_at p) (length (before_last (ticks p))))
-        (before_last (ticks p)) tick events)
+    (λ tick. AreEventsOf p.pod p.greatest (evicted_before (evicted_at p) (length (before_last (ticks p))))
+    (before_last (ticks p)) tick events)
     → length events ≤ 129
 few_last p events None few none = let nothing = ap length none in omega arith
 few_last p events (Some tick) few are =

@@ -61,7 +61,7 @@ finished_or_not weight workers =
 
 finished_is_marked : (weight : ℕ → ℕ) (workers : List WorkerState)
     → sum_by (marked_of weight) workers
-      ≡ sum_by (finished_of weight) workers + sum_by (λ worker. held_updated weight worker.hand) workers
+    ≡ sum_by (finished_of weight) workers + sum_by (λ worker. held_updated weight worker.hand) workers
 finished_is_marked weight workers =
     sum_of_both (marked_of weight) (finished_of weight) (λ worker. held_updated weight worker.hand)
     (λ worker. omega arith) workers
@@ -83,8 +83,8 @@ holder_is_there pool w amount none some =
     ⊎_elim
     (λ (within : w < length pool.workers). within)
     (λ (past : length pool.workers ≤ w).
-      let empty = ap (λ (worker : WorkerState). amount worker.hand) (get_or_past pool.workers w idle past) in
-      absurd (omega arith))
+    let empty = ap (λ (worker : WorkerState). amount worker.hand) (get_or_past pool.workers w idle past) in
+    absurd (omega arith))
     (cases_lt w (length pool.workers))
 
 -- what a worker with this hand has at least
@@ -105,16 +105,16 @@ module _ (pool : PoolState) (w n : ℕ) where
       let one = one_at_same n n refl in
       let both = marked_or_not (one_at n) pool.workers in
       let here =
-          in_hand (unmarked_of (one_at n)) (λ hand. sum_by (one_at n) (waiting hand)) pool w (Taken n) refl
-          (λ worker. omega arith) holds (omega arith) in
+      in_hand (unmarked_of (one_at n)) (λ hand. sum_by (one_at n) (waiting hand)) pool w (Taken n) refl
+      (λ worker. omega arith) holds (omega arith) in
       omega arith
 
   pub updated_is_marked : (worker_at pool w).hand ≡ Updated n → 0 < times_marked n pool
   updated_is_marked holds =
       let one = one_at_same n n refl in
       let here =
-          in_hand (marked_of (one_at n)) (held_updated (one_at n)) pool w (Updated n) refl
-          (λ worker. omega arith) holds (omega arith) in
+      in_hand (marked_of (one_at n)) (held_updated (one_at n)) pool w (Updated n) refl
+      (λ worker. omega arith) holds (omega arith) in
       omega arith
 
   pub updated_is_unfinished : (worker_at pool w).hand ≡ Updated n
@@ -122,8 +122,8 @@ module _ (pool : PoolState) (w n : ℕ) where
   updated_is_unfinished holds =
       let both = finished_or_not (λ _. 1) pool.workers in
       let here =
-          in_hand (unfinished_of (λ _. 1)) (held (λ _. 1)) pool w (Updated n) refl
-          (λ worker. omega arith) holds (omega arith) in
+      in_hand (unfinished_of (λ _. 1)) (held (λ _. 1)) pool w (Updated n) refl
+      (λ worker. omega arith) holds (omega arith) in
       omega arith
 
 -- What a step does

@@ -20,15 +20,15 @@ plays_then a b c first second one other = record {
   stands = other.stands;
   pieces = other.pieces ∙ one.pieces;
   follows = λ entries agrees.
-    let later = other.follows entries agrees in
-    let earlier = one.follows entries later.agrees in
-    record {
-      agrees = earlier.agrees;
-      leads =
-          later.leads
-          ∙ ap (λ (pool : PoolState). run entries pool second) earlier.leads
-          ∙ sym (run-append entries a.pool first second);
-    };
+      let later = other.follows entries agrees in
+      let earlier = one.follows entries later.agrees in
+      record {
+        agrees = earlier.agrees;
+        leads =
+            later.leads
+            ∙ ap (λ (pool : PoolState). run entries pool second) earlier.leads
+            ∙ sym (run-append entries a.pool first second);
+      };
 }
 
 -- one more step
@@ -84,7 +84,7 @@ module _ (a b : RoundState) (w : ℕ) (within : w < length a.pool.workers)
   plays_worker c finished =
       subst (λ (steps : List Step). Plays a steps c) (sym (drain_more a.pool.workers w within))
       (plays_then a b c (drain_steps 0 (take w a.pool.workers)) (finishing_steps w (worker_at a.pool w).deque) played
-        (subst (λ (worker : WorkerState). Plays b (finishing_steps w worker.deque) c) next_worker finished))
+      (subst (λ (worker : WorkerState). Plays b (finishing_steps w worker.deque) c) next_worker finished))
 
 pub plays_workers : (a b : RoundState) → Plays a (drain_steps 0 (take (length a.pool.workers) a.pool.workers)) b
     → Plays a (drain_steps 0 a.pool.workers) b

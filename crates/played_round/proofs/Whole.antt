@@ -42,10 +42,10 @@ module _ (workers : ℕ) (round : RoundState) (some : 0 < workers) (fresh : IsFr
       let count = length round.table.pieces in
       ap (λ (entries : List Entry). get_or entries n no_entry) fresh.blank
       ∙ ⊎_elim
-        (λ (within : n < count). get_or-replicate count n no_entry no_entry within)
-        (λ (past : count ≤ n).
-          get_or_past (replicate count no_entry) n no_entry (let long = length-replicate count no_entry in omega arith))
-        (cases_lt n count)
+      (λ (within : n < count). get_or-replicate count n no_entry no_entry within)
+      (λ (past : count ≤ n).
+      get_or_past (replicate count no_entry) n no_entry (let long = length-replicate count no_entry in omega arith))
+      (cases_lt n count)
 
   pub stands_at_first : Stands given
   stands_at_first =
@@ -53,12 +53,12 @@ module _ (workers : ℕ) (round : RoundState) (some : 0 < workers) (fresh : IsFr
       record {
         as_many = ap length fresh.blank ∙ length-replicate (length pieces) no_entry;
         one_place = λ n within.
-          weight_deal (one_at n) workers (length pieces) some ∙ sum_below-one_at n (length pieces) within;
+            weight_deal (one_at n) workers (length pieces) some ∙ sum_below-one_at n (length pieces) within;
         no_stranger = λ n past.
-          weight_deal (one_at n) workers (length pieces) some ∙ sum_below-one_past n (length pieces) past;
+            weight_deal (one_at n) workers (length pieces) some ∙ sum_below-one_past n (length pieces) past;
         waits = λ n piece is none.
-          subst (λ (p : Piece). IsTrue p.is_pending) (get_or_from_slice_get pieces n piece piece is)
-          (All-get_or (λ (p : Piece). IsTrue p.is_pending) pieces n piece (slice_get_within pieces n piece is) fresh.pending);
+            subst (λ (p : Piece). IsTrue p.is_pending) (get_or_from_slice_get pieces n piece piece is)
+            (All-get_or (λ (p : Piece). IsTrue p.is_pending) pieces n piece (slice_get_within pieces n piece is) fresh.pending);
         is_done = λ n piece entry is is_entry marked. absurd (let none = unmarked n in omega arith);
         are_low = λ n. subst IsLow (sym (blank n)) (record { events = omega arith; orders = omega arith });
         few = let all = weight_deal (λ _. 1) workers (length pieces) some in
@@ -137,21 +137,21 @@ module _ (before middle after : RoundState) (workers : ℕ) (steps : List Step) 
       let within : n < length after.table.pieces = slice_get_within after.table.pieces n piece is in
       let has_entry : n < length after.table.entries = omega (arith, drained.stands.as_many) in
       (drained.stands.is_done n piece (get_or after.table.entries n no_entry) is
-        (slice_get-get_or after.table.entries n no_entry has_entry) (is_marked n within)).0
+      (slice_get-get_or after.table.entries n no_entry has_entry) (is_marked n within)).0
 
   pub whole : IsWhole before workers steps after
   whole = record {
     as_many =
         ap length after_workers
         ∙ length-run after.table.entries (after_steps after.table.entries workers steps)
-          (drain_steps 0 (after_steps after.table.entries workers steps).workers)
+        (drain_steps 0 (after_steps after.table.entries workers steps).workers)
         ∙ length-run after.table.entries (deal workers (length after.table.entries)) steps
         ∙ length-deal workers (length after.table.entries);
     pieces = sym (all_updated after.table.pieces is_updated) ∙ drained.pieces ∙ played.pieces;
     entries = record {
       as_many = drained.stands.as_many;
       each = λ n piece entry is is_entry.
-        (drained.stands.is_done n piece entry is is_entry
+          (drained.stands.is_done n piece entry is is_entry
           (is_marked n (slice_get_within after.table.pieces n piece is))).1;
     };
     shares =
@@ -162,8 +162,8 @@ module _ (before middle after : RoundState) (workers : ℕ) (steps : List Step) 
         ∙ ap (λ (pool : PoolState). pool.book) is_run
         ∙ drained_totals after.table.entries workers steps some;
     finished = λ others is_long.
-      ap (map (λ (worker : WorkerState). worker.finished)) after_workers
-      ∙ (alike_after_drain after.table.entries others workers steps (long ∙ sym is_long)).same_finished;
+        ap (map (λ (worker : WorkerState). worker.finished)) after_workers
+        ∙ (alike_after_drain after.table.entries others workers steps (long ∙ sym is_long)).same_finished;
   }
 
 -- a round that was dealt, played and drained
@@ -174,8 +174,8 @@ pub whole_of : (round dealt_round middle after : RoundState) (workers : ℕ) (st
 whole_of round dealt_round middle after workers steps some is played drained =
     let at_first = with_pool round (dealt workers (length round.table.pieces) round.pool.book) in
     let all =
-        whole at_first middle after workers steps some refl
-        (subst (λ (first : RoundState). Plays first steps middle) is played) drained in
+    whole at_first middle after workers steps some refl
+    (subst (λ (first : RoundState). Plays first steps middle) is played) drained in
     record {
       as_many = all.as_many;
       pieces = all.pieces;

@@ -57,17 +57,17 @@ module _ (one other : PoolState) (same : AreSame one other) where
   same_can_steal thief owner =
       ap (λ (n : ℕ). nat_lt thief n && not (thief == owner) && is_empty (worker_at one thief).hand) same_length
       ∙ ap (λ (worker : WorkerState). nat_lt thief (length other.workers) && not (thief == owner) && is_empty worker.hand)
-        (bare_at thief)
+      (bare_at thief)
 
 same_stolen : (one other : PoolState) → AreSame one other → (thief owner : ℕ) (deque : List ℕ)
     → AreSame (stolen one thief owner deque) (stolen other thief owner deque)
 same_stolen one other same thief owner [] = same
 same_stolen one other same thief owner (piece ∷ pieces) =
     let robbed : PoolState → PoolState = λ pool.
-        record { workers = set pool.workers owner (with_deque (worker_at pool owner) pieces); book = pool.book } in
+    record { workers = set pool.workers owner (with_deque (worker_at pool owner) pieces); book = pool.book } in
     same_set (robbed one) (robbed other)
     (same_set one other same owner (with_deque (worker_at one owner) pieces) (with_deque (worker_at other owner) pieces)
-      (ap (λ (worker : WorkerState). with_deque worker pieces) (bare_at one other same owner)))
+    (ap (λ (worker : WorkerState). with_deque worker pieces) (bare_at one other same owner)))
     thief (holding (worker_at one thief) piece) (holding (worker_at other thief) piece)
     (ap (λ (worker : WorkerState). holding worker piece) (bare_at one other same thief))
 
@@ -84,17 +84,17 @@ module _ (round_one round_other : List Entry) where
       let theirs = worker_at other w in
       same_set one other same w (popped mine mine.deque (is_empty mine.hand)) (popped theirs theirs.deque (is_empty theirs.hand))
       (bare_popped mine mine.deque (is_empty mine.hand)
-        ∙ ap (λ (worker : WorkerState). popped worker worker.deque (is_empty worker.hand)) (bare_at one other same w)
-        ∙ sym (bare_popped theirs theirs.deque (is_empty theirs.hand)))
+      ∙ ap (λ (worker : WorkerState). popped worker worker.deque (is_empty worker.hand)) (bare_at one other same w)
+      ∙ sym (bare_popped theirs theirs.deque (is_empty theirs.hand)))
   same_step one other same (Steal thief owner) =
       same_steal one other same thief owner (can_steal one thief owner) (worker_at one owner).deque
       ∙ ap
-        (λ (can : Bool). map bare (if can then stolen other thief owner (worker_at one owner).deque else other).workers)
-        (same_can_steal one other same thief owner)
+      (λ (can : Bool). map bare (if can then stolen other thief owner (worker_at one owner).deque else other).workers)
+      (same_can_steal one other same thief owner)
       ∙ ap
-        (λ (worker : WorkerState).
-          map bare (if can_steal other thief owner then stolen other thief owner worker.deque else other).workers)
-        (bare_at one other same owner)
+      (λ (worker : WorkerState).
+      map bare (if can_steal other thief owner then stolen other thief owner worker.deque else other).workers)
+      (bare_at one other same owner)
   same_step one other same (Update w) =
       let mine = worker_at one w in
       let theirs = worker_at other w in
@@ -105,8 +105,8 @@ module _ (round_one round_other : List Entry) where
       let theirs = worker_at other w in
       same_set one other same w (finishing round_one mine mine.hand) (finishing round_other theirs theirs.hand)
       (bare_finishing round_one round_other mine mine.hand
-        ∙ ap (λ (worker : WorkerState). bare (finishing round_other worker worker.hand)) (bare_at one other same w)
-        ∙ sym (bare_finishing round_other round_other theirs theirs.hand))
+      ∙ ap (λ (worker : WorkerState). bare (finishing round_other worker worker.hand)) (bare_at one other same w)
+      ∙ sym (bare_finishing round_other round_other theirs theirs.hand))
 
   same_run : (one other : PoolState) → AreSame one other → (steps : List Step)
       → AreSame (run round_one one steps) (run round_other other steps)
@@ -162,4 +162,4 @@ alike_after_drain round other workers steps long =
     let same = same_after_steps round other workers steps long in
     alike (after_drain round workers steps) (after_drain other workers steps)
     (same_run round other mine theirs same (drain_steps 0 mine.workers)
-      ∙ ap (λ (last : List Step). map bare (run other theirs last).workers) (same_drain_steps mine theirs same))
+    ∙ ap (λ (last : List Step). map bare (run other theirs last).workers) (same_drain_steps mine theirs same))

@@ -18,7 +18,7 @@ length-step round pool (Pop w) = length-set pool.workers w _
 length-step round pool (Steal thief owner) =
     steal_cases (λ (after : PoolState). length after.workers ≡ length pool.workers) pool thief owner refl
     (λ piece pieces differ thief_in owner_in free stands.
-      length-set (set pool.workers owner _) thief _ ∙ length-set pool.workers owner _)
+    length-set (set pool.workers owner _) thief _ ∙ length-set pool.workers owner _)
 length-step round pool (Update w) = length-set pool.workers w _
 length-step round pool (Enter w) = length-set pool.workers w _
 
@@ -55,7 +55,7 @@ after_drained round w [] pool k later = refl
 after_drained round w (worker ∷ workers) pool k later =
     let finished = run round pool (finishing_steps w worker.deque) in
     ap (λ (after : PoolState). worker_at after k)
-      (run-append round pool (finishing_steps w worker.deque) (drain_steps (w + 1) workers))
+    (run-append round pool (finishing_steps w worker.deque) (drain_steps (w + 1) workers))
     ∙ after_drained round (w + 1) workers finished k (omega arith)
     ∙ other_finishing round w k (omega arith) worker.deque pool
 
@@ -68,7 +68,7 @@ emptying_last w (first ∷ pieces) piece =
 -- one more turn of a worker
 pub turn_more : (w : ℕ) (pieces : List ℕ) (i : ℕ) → i < length pieces
     → finishing_steps w (take (i + 1) pieces)
-      ≡ finishing_steps w (take i pieces) ++ (Pop w ∷ Update w ∷ Enter w ∷ [])
+    ≡ finishing_steps w (take i pieces) ++ (Pop w ∷ Update w ∷ Enter w ∷ [])
 turn_more w pieces i within =
     ap (finishing_steps w) (take_more pieces i 0 within)
     ∙ ap (λ (steps : List Step). Update w ∷ Enter w ∷ steps) (emptying_last w (take i pieces) (get_or pieces i 0))
@@ -81,15 +81,15 @@ drain_last w [] worker =
 drain_last w (first ∷ workers) worker =
     let place : w + 1 + length workers ≡ w + length (first ∷ workers) = omega arith in
     ap (λ (steps : List Step). finishing_steps w first.deque ++ steps)
-      (drain_last (w + 1) workers worker
-        ∙ ap (λ (k : ℕ). drain_steps (w + 1) workers ++ finishing_steps k worker.deque) place)
+    (drain_last (w + 1) workers worker
+    ∙ ap (λ (k : ℕ). drain_steps (w + 1) workers ++ finishing_steps k worker.deque) place)
     ∙ sym (append_assoc (finishing_steps w first.deque) (drain_steps (w + 1) workers)
-        (finishing_steps (w + length (first ∷ workers)) worker.deque))
+    (finishing_steps (w + length (first ∷ workers)) worker.deque))
 
 -- one more worker of a drain
 pub drain_more : (workers : List WorkerState) (w : ℕ) → w < length workers
     → drain_steps 0 (take (w + 1) workers)
-      ≡ drain_steps 0 (take w workers) ++ finishing_steps w (get_or workers w idle).deque
+    ≡ drain_steps 0 (take w workers) ++ finishing_steps w (get_or workers w idle).deque
 drain_more workers w within =
     let place : 0 + length (take w workers) ≡ w = omega (arith, length-take-le w workers (let most : w ≤ length workers = omega arith in most)) in
     ap (drain_steps 0) (take_more workers w idle within)
@@ -103,7 +103,7 @@ with_book workers book = record { workers = workers; book = book }
 
 workers_stolen : (workers : List WorkerState) (one other : Totals) (thief owner : ℕ) (can : Bool) (deque : List ℕ)
     → (if can then stolen (with_book workers one) thief owner deque else with_book workers one).workers
-      ≡ (if can then stolen (with_book workers other) thief owner deque else with_book workers other).workers
+    ≡ (if can then stolen (with_book workers other) thief owner deque else with_book workers other).workers
 workers_stolen workers one other thief owner false deque = refl
 workers_stolen workers one other thief owner true [] = refl
 workers_stolen workers one other thief owner true (piece ∷ pieces) = refl
@@ -123,4 +123,4 @@ workers_run round one other [] same = same
 workers_run round one other (s ∷ steps) same =
     workers_run round (step round one s) (step round other s) steps
     (workers_step round one.workers one.book other.book s
-      ∙ ap (λ (workers : List WorkerState). (step round (with_book workers other.book) s).workers) same)
+    ∙ ap (λ (workers : List WorkerState). (step round (with_book workers other.book) s).workers) same)

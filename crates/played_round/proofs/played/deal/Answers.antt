@@ -6,6 +6,6 @@ use Rattle.played_round.proofs.played.deal.Goals as goal
 pub give-requires : goal.give-requires
 give-requires g c =
     let long =
-        ap (λ (round : RoundState). length round.pool.workers) c.loop-number.invariant
-        ∙ length-deal c.args.workers c.loop-number.number in
+    ap (λ (round : RoundState). length round.pool.workers) c.loop-number.invariant
+    ∙ length-deal c.args.workers c.loop-number.number in
     omega arith

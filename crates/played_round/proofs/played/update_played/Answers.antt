@@ -18,10 +18,11 @@ returns-clause-book g c =
     let whole = c.in_ok-round.ensures in
     let after = c.in_ok-round.round in
     let numbers =
-        c.in_ok-idle.ensures.numbers ∙ ap (λ (share : Part). share.numbers) c.into_parts-events.ensures.share in
-    (after.table.entries,
+    c.in_ok-idle.ensures.numbers ∙ ap (λ (share : Part). share.numbers) c.into_parts-events.ensures.share in (
+      after.table.entries,
       subst (λ (pieces : List Piece). AreEntriesOf pieces after.table.entries) (sym c.in_ok-played.ensures.pieces)
-        whole.entries,
+          whole.entries,
       c.in_ok-played.ensures.book
-      ∙ ap (λ (had : Totals). plus had (sum_of_shares after.pool.workers)) numbers
-      ∙ ap (plus c.args.book) whole.shares)
+          ∙ ap (λ (had : Totals). plus had (sum_of_shares after.pool.workers)) numbers
+          ∙ ap (plus c.args.book) whole.shares,
+    )

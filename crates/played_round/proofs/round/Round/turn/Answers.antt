@@ -8,5 +8,5 @@ returns g c =
     let w = c.args.w in
     plays_then c.args.self.now c.step-2.new.self c.step-3.new.self (Pop w ∷ Update w ∷ []) (Enter w ∷ [])
     (plays_then c.args.self.now c.step.new.self c.step-2.new.self (Pop w ∷ []) (Update w ∷ []) c.in_ok-step.ensures
-      c.in_ok-step-2.ensures)
+    c.in_ok-step-2.ensures)
     c.in_ok-step-3.ensures
