@@ -1,5 +1,6 @@
 -- What the entries of the pieces are makes no difference to the deques, the hands and the finished lists.
-use Rattle.std.proofs.Common.{◌≡◌, ℕ, ◌+◌, Bool, true, false, List, [], ◌∷◌, ◌++◌, length, get_or, set, map, refl, sym, ap, ◌∙◌}
+use Rattle.std.proofs.Common.{◌≡◌, ℕ, ◌+◌, Bool, true, false, List, [], ◌∷◌, ◌++◌, length, get_or, set, map, refl}
+use Rattle.std.proofs.Common.{sym, ap, ◌∙◌}
 use Rattle.std.specs.Prelude.{nat_lt, not, ◌&&◌, ◌==◌, if◌then◌else◌}
 use Rattle.std.proofs.Math.ListN.{get_or-map}
 use Rattle.std.proofs.lemmas.List.{length-map, map-set}
@@ -11,7 +12,7 @@ use Rattle.round_steps.specs.declared.step.Step.{Step}
 use Rattle.round_steps.specs.declared.step.Step.TheVariants.{Pop, Steal, Update, Enter}
 use Rattle.round_core.specs.Pool.{WorkerState, PoolState, idle, worker_at, with_deque, holding, with_hand, is_empty}
 use Rattle.round_core.specs.Pool.{popped, can_steal, stolen, marked, finishing, step, run, finishing_steps, drain_steps}
-use Rattle.round_core.specs.Pool.{deal, after_steps, after_drain, deques, hands, finished_lists}
+use Rattle.round_core.specs.Pool.{deal, after_steps, after_drain}
 use Rattle.round_core.specs.Places.{AreAlike}
 
 -- a worker but for its share
@@ -56,7 +57,8 @@ module _ (one other : PoolState) (same : AreSame one other) where
   same_can_steal : (thief owner : ℕ) → can_steal one thief owner ≡ can_steal other thief owner
   same_can_steal thief owner =
       ap (λ (n : ℕ). nat_lt thief n && not (thief == owner) && is_empty (worker_at one thief).hand) same_length
-      ∙ ap (λ (worker : WorkerState). nat_lt thief (length other.workers) && not (thief == owner) && is_empty worker.hand)
+      ∙ ap (λ (worker : WorkerState). nat_lt thief (length other.workers) && not (thief == owner) && is_empty
+      worker.hand)
       (bare_at thief)
 
 same_stolen : (one other : PoolState) → AreSame one other → (thief owner : ℕ) (deque : List ℕ)
@@ -72,7 +74,8 @@ same_stolen one other same thief owner (piece ∷ pieces) =
     (ap (λ (worker : WorkerState). holding worker piece) (bare_at one other same thief))
 
 same_steal : (one other : PoolState) → AreSame one other → (thief owner : ℕ) (can : Bool) (deque : List ℕ)
-    → AreSame (if can then stolen one thief owner deque else one) (if can then stolen other thief owner deque else other)
+    → AreSame (if can then stolen one thief owner deque else one)
+    (if can then stolen other thief owner deque else other)
 same_steal one other same thief owner true deque = same_stolen one other same thief owner deque
 same_steal one other same thief owner false deque = same
 
@@ -82,7 +85,8 @@ module _ (round_one round_other : List Entry) where
   same_step one other same (Pop w) =
       let mine = worker_at one w in
       let theirs = worker_at other w in
-      same_set one other same w (popped mine mine.deque (is_empty mine.hand)) (popped theirs theirs.deque (is_empty theirs.hand))
+      same_set one other same w (popped mine mine.deque (is_empty mine.hand))
+      (popped theirs theirs.deque (is_empty theirs.hand))
       (bare_popped mine mine.deque (is_empty mine.hand)
       ∙ ap (λ (worker : WorkerState). popped worker worker.deque (is_empty worker.hand)) (bare_at one other same w)
       ∙ sym (bare_popped theirs theirs.deque (is_empty theirs.hand)))

@@ -1,5 +1,6 @@
 -- The turns of the workers in a drain, one after the other.
-use Rattle.std.proofs.Common.{◌≡◌, ◌≢◌, ℕ, ◌+◌, ◌<◌, ◌≤◌, Bool, true, false, List, [], ◌∷◌, ◌++◌, length, get_or, set, take, refl, sym, ap, ◌∙◌, append_assoc, append-nil, length-set, get_or-set_other, arith}
+use Rattle.std.proofs.Common.{◌≡◌, ◌≢◌, ℕ, ◌+◌, ◌<◌, ◌≤◌, Bool, true, false, List, [], ◌∷◌, ◌++◌, length, get_or, set}
+use Rattle.std.proofs.Common.{take, refl, sym, ap, ◌∙◌, append_assoc, append-nil, length-set, get_or-set_other, arith}
 use Rattle.std.specs.Prelude.{if◌then◌else◌}
 use Rattle.std.proofs.lemmas.List.{take_more, length-take-le}
 use Rattle.event_book.specs.declared.totals.Entry.{Entry}
@@ -74,7 +75,8 @@ turn_more w pieces i within =
     ∙ ap (λ (steps : List Step). Update w ∷ Enter w ∷ steps) (emptying_last w (take i pieces) (get_or pieces i 0))
 
 drain_last : (w : ℕ) (workers : List WorkerState) (worker : WorkerState)
-    → drain_steps w (workers ++ worker ∷ []) ≡ drain_steps w workers ++ finishing_steps (w + length workers) worker.deque
+    → drain_steps w (workers ++ worker ∷ []) ≡ drain_steps w workers ++ finishing_steps (w + length workers)
+    worker.deque
 drain_last w [] worker =
     append-nil (finishing_steps w worker.deque)
     ∙ ap (λ (k : ℕ). finishing_steps k worker.deque) {x = w} {y = w + 0} (omega arith)
@@ -91,7 +93,8 @@ pub drain_more : (workers : List WorkerState) (w : ℕ) → w < length workers
     → drain_steps 0 (take (w + 1) workers)
     ≡ drain_steps 0 (take w workers) ++ finishing_steps w (get_or workers w idle).deque
 drain_more workers w within =
-    let place : 0 + length (take w workers) ≡ w = omega (arith, length-take-le w workers (let most : w ≤ length workers = omega arith in most)) in
+    let place : 0 + length (take w workers) ≡ w =
+    omega (arith, length-take-le w workers (let most : w ≤ length workers = omega arith in most)) in
     ap (drain_steps 0) (take_more workers w idle within)
     ∙ drain_last 0 (take w workers) (get_or workers w idle)
     ∙ ap (λ (k : ℕ). drain_steps 0 (take w workers) ++ finishing_steps k (get_or workers w idle).deque) place

@@ -92,7 +92,8 @@ can_steal pool thief owner =
 abbrev pub stolen : PoolState → ℕ → ℕ → List ℕ → PoolState
 stolen pool thief owner [] = pool
 stolen pool thief owner (piece ∷ pieces) =
-    set_worker (set_worker pool owner (with_deque (worker_at pool owner) pieces)) thief (holding (worker_at pool thief) piece)
+    set_worker (set_worker pool owner (with_deque (worker_at pool owner) pieces)) thief
+    (holding (worker_at pool thief) piece)
 
 abbrev pub steal : PoolState → ℕ → ℕ → PoolState
 steal pool thief owner =

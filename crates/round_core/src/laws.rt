@@ -33,7 +33,8 @@ pub fn drain_leaves_quiet()
     ensures { (round : List Entry) (workers : ℕ) (steps : List Step) → IsQuiet (after_drain round workers steps) }
 {}
 
-/// Where any steps leave nothing in a deque or in a hand, each piece is finished once, and the book has the round's sums.
+/// Where any steps leave nothing in a deque or in a hand, each piece is finished once, and the book has the round's
+/// sums.
 pub fn quiet_round_is_whole()
     ensures once { (round : List Entry) (workers : ℕ) (steps : List Step) (piece : ℕ) →
         0 < workers → IsQuiet (after_steps round workers steps) → piece < length round →
