@@ -1,5 +1,7 @@
 -- What holds after each step of a played round.
-use Rattle.std.proofs.Common.{◌≡◌, ◌≢◌, ℕ, ◌+◌, ◌<◌, ◌≤◌, ◌^◌, Bool, true, false, List, [], ◌∷◌, length, get_or, set, map, Option, Some, None, refl, sym, ap, ◌∙◌, subst, inl, inr, ⊎_elim, length-set, get_or-set_same, get_or-set_other, arith}
+use Rattle.std.proofs.Common.{◌≡◌, ◌≢◌, ℕ, ◌+◌, ◌<◌, ◌≤◌, ◌^◌, Bool, true, false, List, [], ◌∷◌, length, get_or, set}
+use Rattle.std.proofs.Common.{map, Option, Some, None, refl, sym, ap, ◌∙◌, subst, inl, inr, ⊎_elim, length-set}
+use Rattle.std.proofs.Common.{get_or-set_same, get_or-set_other, arith}
 use Rattle.std.specs.Prelude.{sum_by, slice_get, IsTrue}
 use Rattle.std.proofs.Math.Seq.{map-set_same}
 use Rattle.std.proofs.lemmas.Bool.{cases_eq, cases_lt}
@@ -13,11 +15,12 @@ use Rattle.round_steps.specs.declared.step.Step.{Step}
 use Rattle.round_steps.specs.declared.step.Step.TheVariants.{Pop, Steal, Update, Enter}
 use Rattle.round_core.specs.declared.hand.Hand.{Hand}
 use Rattle.round_core.specs.declared.hand.Hand.TheVariants.{Empty, Taken, Updated}
-use Rattle.round_core.specs.Pool.{WorkerState, PoolState, idle, no_entry, worker_at, entry_at, entered, finishing, update, step, run}
+use Rattle.round_core.specs.Pool.{WorkerState, PoolState, idle, no_entry, worker_at, entry_at, entered, finishing}
+use Rattle.round_core.specs.Pool.{update, step, run}
 use Rattle.round_core.specs.Places.{one_at, places, times_marked, waiting, updated_by}
 use Rattle.round_core.proofs.Runs.{one_at_same, one_at_other}
 use Rattle.played_round.specs.Table.{TableState, IsLow, IsWaiting, IsUpdate}
-use Rattle.played_round.specs.Round.{RoundState, with_pool}
+use Rattle.played_round.specs.Round.{RoundState, round_of, with_pool}
 use Rattle.played_round.specs.Playing.{CanUpdate, IsUpdateOf, HasRoom, CanEnter, Stands}
 use Rattle.played_round.specs.Playing.{Agrees, Follows, Plays}
 use Rattle.played_round.proofs.Marks.{marked_stands, taken_is_unmarked, updated_is_marked, updated_is_unfinished}
@@ -82,7 +85,8 @@ module _ (r : RoundState) (stands : Stands r) where
 
 -- a step goes by the entries of marked pieces alone
 module _ (one other : List Entry) where
-  finishing_same : (worker : WorkerState) (hand : Hand) → ((n : ℕ) → hand ≡ Updated n → entry_at one n ≡ entry_at other n)
+  finishing_same : (worker : WorkerState) (hand : Hand)
+      → ((n : ℕ) → hand ≡ Updated n → entry_at one n ≡ entry_at other n)
       → finishing one worker hand ≡ finishing other worker hand
   finishing_same worker Empty same = refl
   finishing_same worker (Taken n) same = refl
@@ -112,7 +116,8 @@ step_same one other pool (Enter w) same =
     let worker = worker_at pool w in
     let at : (n : ℕ) → worker.hand ≡ Updated n → entry_at one n ≡ entry_at other n =
     λ n holds. same n (updated_is_marked pool w n holds) in
-    pool_same (set pool.workers w (finishing one worker worker.hand)) (set pool.workers w (finishing other worker worker.hand))
+    pool_same (set pool.workers w (finishing one worker worker.hand))
+    (set pool.workers w (finishing other worker worker.hand))
     (entered one worker.hand pool.book) (entered other worker.hand pool.book)
     (ap (set pool.workers w) (finishing_same one other worker worker.hand at))
     (entered_same one other pool.book worker.hand at)
@@ -160,7 +165,7 @@ slice_get-set_same xs i x y is =
 module _ (r : RoundState) (stands : Stands r) (w n : ℕ) (holds : (worker_at r.pool w).hand ≡ Taken n)
     (table : TableState) (updates : IsUpdate n r.table table) where
   abbrev pub after : RoundState
-  after = record { table = table; pool = update r.pool w }
+  after = round_of table (update r.pool w)
 
   long : length table.pieces ≡ length r.table.pieces
   long = ap length updates.pieces ∙ length-set r.table.pieces n (updated updates.piece)
@@ -268,12 +273,12 @@ module _ (r : RoundState) (stands : Stands r) (w n : ℕ) (holds : (worker_at r.
 -- an update of what is in a hand, whatever that is
 pub plays_hand : (r : RoundState) → Stands r → (w : ℕ) (hand : Hand) → (worker_at r.pool w).hand ≡ hand
     → (table : TableState) → IsUpdateOf hand r.table table
-    → Plays r (Update w ∷ []) (let next : RoundState = record { table = table; pool = update r.pool w } in next)
+    → Plays r (Update w ∷ []) (round_of table (update r.pool w))
 plays_hand r stands w Empty holds table same =
-    subst (λ (t : TableState). Plays r (Update w ∷ []) (let next : RoundState = record { table = t; pool = update r.pool w } in next))
+    subst (λ (t : TableState). Plays r (Update w ∷ []) (round_of t (update r.pool w)))
     (sym same) (plays_step r (Update w) stands (ap waiting holds))
 plays_hand r stands w (Updated n) holds table same =
-    subst (λ (t : TableState). Plays r (Update w ∷ []) (let next : RoundState = record { table = t; pool = update r.pool w } in next))
+    subst (λ (t : TableState). Plays r (Update w ∷ []) (round_of t (update r.pool w)))
     (sym same) (plays_step r (Update w) stands (ap waiting holds))
 plays_hand r stands w (Taken n) holds table updates = plays_update r stands w n holds table updates
 
@@ -303,5 +308,5 @@ pub plays_hand_after : (r : RoundState) (s : Step) (w : ℕ) → s ≡ Update w 
 plays_hand_after r s w is stands after updates pool_is =
     subst (λ (t : Step). Plays r (t ∷ []) after) (sym is)
     (subst
-    (λ (pool : PoolState). Plays r (Update w ∷ []) (let next : RoundState = record { table = after.table; pool = pool } in next))
+    (λ (pool : PoolState). Plays r (Update w ∷ []) (round_of after.table pool))
     (sym pool_is) (plays_hand r stands w (worker_at r.pool w).hand refl after.table updates))

@@ -1,5 +1,6 @@
 -- An update of a pod makes few events.
-use Rattle.std.proofs.Common.{◌≡◌, ℕ, ◌+◌, ◌*◌, ◌≤◌, List, [], ◌∷◌, ◌++◌, length, Option, Some, None, ap, inl, inr, length-append, arith}
+use Rattle.std.proofs.Common.{◌≡◌, ℕ, ◌+◌, ◌*◌, ◌≤◌, List, [], ◌∷◌, ◌++◌, length, Option, Some, None, ap, inl, inr}
+use Rattle.std.proofs.Common.{length-append, arith}
 use Rattle.std.specs.Prelude.{MatchOption, option_map}
 use Rattle.std.specs.List.{filter, filter_map}
 use Rattle.std.proofs.lemmas.List.Sums.{length-filter, count_by-le-length}
@@ -53,8 +54,8 @@ few_last : (p : Piece) (events : List PodEvent) (last : Option PodTick) → leng
     → length events ≤ 129
 few_last p events None few none = let nothing = ap length none in omega arith
 few_last p events (Some tick) few are =
-    few_events p.pod p.greatest (evicted_before (evicted_at p) (length (before_last (ticks p)))) (before_last (ticks p)) tick
-    events few are
+    few_events p.pod p.greatest (evicted_before (evicted_at p) (length (before_last (ticks p))))
+    (before_last (ticks p)) tick events few are
 
 -- the entry of a pod's last update is low
 pub low : (p : Piece) (entry : Entry) → length p.pod.containers ≤ 16 → IsEntryOf p entry → IsLow entry

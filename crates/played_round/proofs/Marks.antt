@@ -1,5 +1,6 @@
 -- What a step does to the places of the pieces, their marks and the totals.
-use Rattle.std.proofs.Common.{◌≡◌, ℕ, ◌+◌, ◌*◌, ◌<◌, ◌≤◌, List, [], ◌∷◌, ◌++◌, length, get_or, refl, ap, append-nil, ⊎_elim, arith}
+use Rattle.std.proofs.Common.{◌≡◌, ℕ, ◌+◌, ◌*◌, ◌<◌, ◌≤◌, List, [], ◌∷◌, ◌++◌, length, get_or, refl, ap, append-nil}
+use Rattle.std.proofs.Common.{⊎_elim, arith}
 use Rattle.std.specs.Prelude.{sum_by}
 use Rattle.std.proofs.lemmas.Bool.{cases_lt}
 use Rattle.std.proofs.lemmas.List.{get_or_past}
@@ -55,7 +56,8 @@ marked_or_not weight workers =
     (λ worker. let hand = hand_parts weight worker.hand in omega arith) workers
 
 finished_or_not : (weight : ℕ → ℕ) (workers : List WorkerState)
-    → sum_by (worker_weight weight) workers ≡ sum_by (finished_of weight) workers + sum_by (unfinished_of weight) workers
+    → sum_by (worker_weight weight) workers
+    ≡ sum_by (finished_of weight) workers + sum_by (unfinished_of weight) workers
 finished_or_not weight workers =
     sum_of_both (worker_weight weight) (finished_of weight) (unfinished_of weight) (λ worker. omega arith) workers
 

@@ -1,5 +1,6 @@
 -- The start of a played round, and its end.
-use Rattle.std.proofs.Common.{◌≡◌, ℕ, zero, suc, ◌+◌, ◌<◌, ◌≤◌, ◌^◌, Bool, false, List, [], ◌∷◌, length, get_or, map, replicate, Some, None, refl, sym, ap, ◌∙◌, subst, ⊎_elim, arith}
+use Rattle.std.proofs.Common.{◌≡◌, ℕ, zero, suc, ◌+◌, ◌<◌, ◌≤◌, ◌^◌, Bool, false, List, [], ◌∷◌, length, get_or, map}
+use Rattle.std.proofs.Common.{replicate, Some, None, refl, sym, ap, ◌∙◌, subst, ⊎_elim, arith}
 use Rattle.std.specs.Prelude.{sum_by, slice_get, IsTrue, All}
 use Rattle.std.proofs.lemmas.Bool.{cases_lt}
 use Rattle.std.proofs.lemmas.List.{length-map, length-replicate, get_or-replicate, get_or_past}
@@ -14,7 +15,8 @@ use Rattle.round_core.specs.Pool.{WorkerState, PoolState, no_entry, entry_at, de
 use Rattle.round_core.specs.Pool.{after_steps, after_drain, finished_lists}
 use Rattle.round_core.specs.Places.{one_at, times_marked, times_finished, sum_of_shares, with_drain}
 use Rattle.round_core.proofs.Accounts.{marked_of}
-use Rattle.round_core.proofs.Runs.{length-deal, sum_below-zero, sum_below-one, sum_below-one_at, sum_below-one_past, sum_deal, weight_deal}
+use Rattle.round_core.proofs.Runs.{length-deal, sum_below-zero, sum_below-one, sum_below-one_at, sum_below-one_past}
+use Rattle.round_core.proofs.Runs.{sum_deal, weight_deal}
 use Rattle.round_core.proofs.Rounds.{book_is_shares, drained_is_run, drained_once, drained_totals}
 use Rattle.round_core.proofs.Alike.{alike_after_drain}
 use Rattle.round_core.proofs.Turns.{length-run, workers_run}
@@ -58,7 +60,8 @@ module _ (workers : ℕ) (round : RoundState) (some : 0 < workers) (fresh : IsFr
             weight_deal (one_at n) workers (length pieces) some ∙ sum_below-one_past n (length pieces) past;
         waits = λ n piece is none.
             subst (λ (p : Piece). IsTrue p.is_pending) (get_or_from_slice_get pieces n piece piece is)
-            (All-get_or (λ (p : Piece). IsTrue p.is_pending) pieces n piece (slice_get_within pieces n piece is) fresh.pending);
+            (All-get_or (λ (p : Piece). IsTrue p.is_pending) pieces n piece (slice_get_within pieces n piece is)
+            fresh.pending);
         is_done = λ n piece entry is is_entry marked. absurd (let none = unmarked n in omega arith);
         are_low = λ n. subst IsLow (sym (blank n)) (record { events = omega arith; orders = omega arith });
         few = let all = weight_deal (λ _. 1) workers (length pieces) some in
@@ -87,7 +90,8 @@ updated_once piece done =
     } in p)
     (sym done)
 
-all_updated : (pieces : List Piece) → ((n : ℕ) (piece : Piece) → slice_get pieces n ≡ Some piece → piece.is_pending ≡ false)
+all_updated : (pieces : List Piece)
+    → ((n : ℕ) (piece : Piece) → slice_get pieces n ≡ Some piece → piece.is_pending ≡ false)
     → map updated pieces ≡ pieces
 all_updated [] done = refl
 all_updated (piece ∷ pieces) done =
@@ -128,7 +132,8 @@ module _ (before middle after : RoundState) (workers : ℕ) (steps : List Step) 
   is_marked : (n : ℕ) → n < length after.table.pieces → 0 < times_marked n after.pool
   is_marked n within =
       let once = drained_once after.table.entries workers steps n some (omega (arith, drained.stands.as_many)) in
-      let same = ap (λ (ws : List WorkerState). sum_by (λ worker. sum_by (one_at n) worker.finished) ws) after_workers in
+      let same =
+      ap (λ (ws : List WorkerState). sum_by (λ worker. sum_by (one_at n) worker.finished) ws) after_workers in
       let least = marks_finished n after.pool.workers in
       omega arith
 

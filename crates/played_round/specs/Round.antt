@@ -14,9 +14,13 @@ pub record RoundState : Type 0 where
   pub table : TableState
   pub pool : PoolState
 
+-- these pieces with these workers
+abbrev pub round_of : TableState → PoolState → RoundState
+round_of table pool = record { table = table; pool = pool }
+
 -- the same pieces with other workers
 abbrev pub with_pool : RoundState → PoolState → RoundState
-with_pool round pool = record { table = round.table; pool = pool }
+with_pool round pool = round_of round.table pool
 
 -- the workers of a deal beside a book with these totals
 abbrev pub dealt : ℕ → ℕ → Totals → PoolState

@@ -54,7 +54,8 @@ fn deal<U: Ledger, E: Ledger, O: Ledger>(
 ) -> Result<Round<U, E, O>, AllocError>
     requires some { 0 < workers }
     requires idle { round.pool.workers ≡ replicate workers idle }
-    ensures { IfOk result (λ given. given ≡ with_pool round (dealt workers (length round.table.pieces) round.pool.book)) }
+    ensures { IfOk result (λ given.
+        given ≡ with_pool round (dealt workers (length round.table.pieces) round.pool.book)) }
 {
     for number in 0..round.table.len() {
         round.give(number % workers, number)?;
@@ -124,9 +125,9 @@ fn close<U: Ledger, E: Ledger, O: Ledger>(
     })
 }
 
-/// Plays a round of pending pieces on one thread: deals them to the workers, takes these steps, and drains what is left.
-/// Each piece is updated once, and entered in the book. A step that is not possible, or that names a worker that is not
-/// there, is skipped. The one error is a refused growth of memory.
+/// Plays a round of pending pieces on one thread: deals them to the workers, takes these steps, and drains what is
+/// left. Each piece is updated once, and entered in the book with a part of its share for each worker. A step that is
+/// not possible, or that names a worker that is not there, is skipped. The one error is a refused growth of memory.
 pub fn update_played<U: Ledger, E: Ledger, O: Ledger>(
     alloc: Global,
     pieces: Vec<PodPiece>,

@@ -18,7 +18,10 @@ loop-turn-init g c =
 pub loop-turn-preserved : goal.loop-turn-preserved
 loop-turn-preserved g c =
     let seen : RoundState =
-    record { table = c.self.inside.table; pool = record { workers = c.self.inside.workers.items; book = c.self.inside.book } } in
+    record {
+      table = c.self.inside.table;
+      pool = record { workers = c.self.inside.workers.items; book = c.self.inside.book };
+    } in
     let there = ap (λ (round : RoundState). length round.pool.workers) c.self.view_is in
     let in_range : c.args.w < length c.self.inside.workers.items = omega (arith, c.requires.in_range) in
     let read = waiting_read seen c.args.w c.index.result.now in_range c.index.ensures in

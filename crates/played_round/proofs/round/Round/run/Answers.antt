@@ -11,7 +11,8 @@ pub loop-next-preserved : goal.loop-next-preserved
 loop-next-preserved g c =
     let stepped = c.in_ok-step.ensures in
     record {
-      played = plays_more c.args.self.now c.loop-next.self c.step.new.self c.args.steps.now c.loop-next.next-index (Pop 0)
+      played =
+          plays_more c.args.self.now c.loop-next.self c.step.new.self c.args.steps.now c.loop-next.next-index (Pop 0)
           c.loop-next-test.true c.loop-next.invariant.played stepped;
       stands = stepped.stands;
     }
