@@ -1,6 +1,6 @@
 -- What holds after each step of a played round.
-use Rattle.std.proofs.Common.{◌≡◌, ◌≢◌, ℕ, ◌+◌, ◌<◌, ◌≤◌, ◌^◌, Bool, true, false, List, [], ◌∷◌, length, get_or, set}
-use Rattle.std.proofs.Common.{map, Option, Some, None, refl, sym, ap, ◌∙◌, subst, inl, inr, ⊎_elim, length-set}
+use Rattle.std.proofs.Common.{◌≡◌, ◌≢◌, ℕ, ◌+◌, ◌<◌, ◌≤◌, false, List, [], ◌∷◌, length, get_or, set}
+use Rattle.std.proofs.Common.{map, Some, refl, sym, ap, ◌∙◌, subst, inl, inr, ⊎_elim, length-set}
 use Rattle.std.proofs.Common.{get_or-set_same, get_or-set_other, arith}
 use Rattle.std.specs.Prelude.{sum_by, slice_get, IsTrue}
 use Rattle.std.proofs.Math.Seq.{map-set_same}
@@ -16,13 +16,13 @@ use Rattle.round_steps.specs.declared.step.Step.TheVariants.{Pop, Steal, Update,
 use Rattle.round_core.specs.declared.hand.Hand.{Hand}
 use Rattle.round_core.specs.declared.hand.Hand.TheVariants.{Empty, Taken, Updated}
 use Rattle.round_core.specs.Pool.{WorkerState, PoolState, idle, no_entry, worker_at, entry_at, entered, finishing}
-use Rattle.round_core.specs.Pool.{update, step, run}
+use Rattle.round_core.specs.Pool.{update, step}
 use Rattle.round_core.specs.Places.{one_at, places, times_marked, waiting, updated_by}
 use Rattle.round_core.proofs.Runs.{one_at_same, one_at_other}
 use Rattle.played_round.specs.Table.{TableState, IsLow, IsWaiting, IsUpdate}
 use Rattle.played_round.specs.Round.{RoundState, round_of, with_pool}
-use Rattle.played_round.specs.Playing.{CanUpdate, IsUpdateOf, HasRoom, CanEnter, Stands}
-use Rattle.played_round.specs.Playing.{Agrees, Follows, Plays}
+use Rattle.played_round.specs.Playing.{CanUpdate, IsUpdateOf, CanEnter, Stands}
+use Rattle.played_round.specs.Playing.{Agrees, Plays}
 use Rattle.played_round.proofs.Marks.{marked_stands, taken_is_unmarked, updated_is_marked, updated_is_unfinished}
 use Rattle.played_round.proofs.Marks.{weight_step, marks_step, grown_step}
 

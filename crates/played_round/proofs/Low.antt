@@ -1,8 +1,7 @@
 -- An update of a pod makes few events.
-use Rattle.std.proofs.Common.{◌≡◌, ℕ, ◌+◌, ◌*◌, ◌≤◌, List, [], ◌∷◌, ◌++◌, length, Option, Some, None, ap, inl, inr}
+use Rattle.std.proofs.Common.{◌≡◌, ℕ, ◌+◌, ◌*◌, ◌≤◌, List, [], ◌∷◌, length, Option, Some, None, ap, inl, inr}
 use Rattle.std.proofs.Common.{length-append, arith}
-use Rattle.std.specs.Prelude.{MatchOption, option_map}
-use Rattle.std.specs.List.{filter, filter_map}
+use Rattle.std.specs.Prelude.{MatchOption}
 use Rattle.std.proofs.lemmas.List.Sums.{length-filter, count_by-le-length}
 use Rattle.manifest.specs.declared.pod.PodSpec.{PodSpec}
 use Rattle.phase.specs.declared.phase.Phase.{Phase}
@@ -13,7 +12,7 @@ use Rattle.pod_state.specs.Pods.{PodTick}
 use Rattle.pod_state.specs.Events.{places_in, events_at, events_from, AreNews, AreEventsOf}
 use Rattle.pod_piece.specs.Piece.{Piece, before_last, last_of, ticks, evicted_at, evicted_before}
 use Rattle.event_book.specs.declared.totals.Entry.{Entry}
-use Rattle.event_book.specs.Totals.{entry_of, is_order, IsEntryOf}
+use Rattle.event_book.specs.Totals.{is_order, IsEntryOf}
 use Rattle.played_round.specs.Table.{IsLow}
 
 few_at : (container : Option ℕ) (places : List (Option What)) → length (events_at container places) ≤ length places

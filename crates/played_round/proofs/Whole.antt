@@ -1,28 +1,26 @@
 -- The start of a played round, and its end.
-use Rattle.std.proofs.Common.{◌≡◌, ℕ, zero, suc, ◌+◌, ◌<◌, ◌≤◌, ◌^◌, Bool, false, List, [], ◌∷◌, length, get_or, map}
-use Rattle.std.proofs.Common.{replicate, Some, None, refl, sym, ap, ◌∙◌, subst, ⊎_elim, arith}
-use Rattle.std.specs.Prelude.{sum_by, slice_get, IsTrue, All}
+use Rattle.std.proofs.Common.{◌≡◌, ℕ, suc, ◌<◌, ◌≤◌, Bool, false, List, [], ◌∷◌, length, get_or, map}
+use Rattle.std.proofs.Common.{replicate, Some, refl, sym, ap, ◌∙◌, subst, ⊎_elim, arith}
+use Rattle.std.specs.Prelude.{sum_by, slice_get, IsTrue}
 use Rattle.std.proofs.lemmas.Bool.{cases_lt}
 use Rattle.std.proofs.lemmas.List.{length-map, length-replicate, get_or-replicate, get_or_past}
 use Rattle.std.proofs.lemmas.List.Elements.{All-get_or}
 use Rattle.std.proofs.lemmas.Option.{slice_get-get_or, slice_get_within, get_or_from_slice_get}
 use Rattle.pod_piece.specs.Piece.{Piece, updated}
 use Rattle.event_book.specs.declared.totals.Entry.{Entry}
-use Rattle.event_book.specs.declared.totals.Totals.{Totals}
-use Rattle.event_book.specs.Totals.{plus, sums_of, IsEntryOf, AreEntriesOf}
 use Rattle.round_steps.specs.declared.step.Step.{Step}
-use Rattle.round_core.specs.Pool.{WorkerState, PoolState, no_entry, entry_at, deal, run, drain_steps, drain}
-use Rattle.round_core.specs.Pool.{after_steps, after_drain, finished_lists}
-use Rattle.round_core.specs.Places.{one_at, times_marked, times_finished, sum_of_shares, with_drain}
+use Rattle.round_core.specs.Pool.{WorkerState, PoolState, no_entry, entry_at, deal, run, drain_steps}
+use Rattle.round_core.specs.Pool.{after_steps, after_drain}
+use Rattle.round_core.specs.Places.{one_at, times_marked, sum_of_shares, with_drain}
 use Rattle.round_core.proofs.Accounts.{marked_of}
 use Rattle.round_core.proofs.Runs.{length-deal, sum_below-zero, sum_below-one, sum_below-one_at, sum_below-one_past}
 use Rattle.round_core.proofs.Runs.{sum_deal, weight_deal}
 use Rattle.round_core.proofs.Rounds.{book_is_shares, drained_is_run, drained_once, drained_totals}
 use Rattle.round_core.proofs.Alike.{alike_after_drain}
 use Rattle.round_core.proofs.Turns.{length-run, workers_run}
-use Rattle.played_round.specs.Table.{TableState, IsLow}
-use Rattle.played_round.specs.Round.{RoundState, with_pool, most_pieces, dealt, IsFresh, IsWhole}
-use Rattle.played_round.specs.Playing.{Stands, Agrees, Follows, Plays}
+use Rattle.played_round.specs.Table.{IsLow}
+use Rattle.played_round.specs.Round.{RoundState, with_pool, dealt, IsFresh, IsWhole}
+use Rattle.played_round.specs.Playing.{Stands, Follows, Plays}
 use Rattle.played_round.proofs.Marks.{marks_finished}
 
 -- The start

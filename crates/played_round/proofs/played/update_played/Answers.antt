@@ -1,5 +1,5 @@
-use Rattle.std.proofs.Common.{◌≡◌, ◌+◌, length, List, sym, subst, ap, ◌∙◌, arith}
-use Rattle.pod_piece.specs.Piece.{Piece, updated}
+use Rattle.std.proofs.Common.{List, sym, subst, ap, ◌∙◌, arith}
+use Rattle.pod_piece.specs.Piece.{Piece}
 use Rattle.event_book.specs.declared.totals.Totals.{Totals}
 use Rattle.event_book.specs.Totals.{plus, AreEntriesOf}
 use Rattle.event_book.specs.Shares.{Part}

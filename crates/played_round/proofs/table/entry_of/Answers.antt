@@ -1,4 +1,3 @@
-use Rattle.std.proofs.Common.{◌≡◌, ◌≤◌, length, arith}
 use Rattle.played_round.proofs.Low.{low}
 use Rattle.played_round.proofs.table.entry_of.Goals as goal
 

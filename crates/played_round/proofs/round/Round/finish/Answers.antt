@@ -1,9 +1,9 @@
-use Rattle.std.proofs.Common.{◌≡◌, ◌<◌, ◌∷◌, [], length, sym, subst, ap, ◌∙◌, arith}
+use Rattle.std.proofs.Common.{◌<◌, ◌∷◌, [], length, ap, arith}
 use Rattle.round_steps.specs.declared.step.Step.TheVariants.{Update, Enter}
 use Rattle.round_core.specs.Pool.{worker_at}
 use Rattle.played_round.specs.Round.{RoundState}
 use Rattle.played_round.proofs.Keeping.{waiting_read}
-use Rattle.played_round.proofs.Playing.{plays_then, plays_turn, plays_turns}
+use Rattle.played_round.proofs.Playing.{plays_then, plays_turn}
 use Rattle.played_round.proofs.round.Round.finish.Goals as goal
 
 pub loop-turn-init : goal.loop-turn-init

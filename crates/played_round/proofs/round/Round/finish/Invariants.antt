@@ -1,4 +1,4 @@
-use Rattle.std.proofs.Common.{◌≡◌, length, take}
+use Rattle.std.proofs.Common.{take}
 use Rattle.round_core.specs.Pool.{worker_at, finishing_steps}
 use Rattle.played_round.specs.Playing.{Stands, Plays}
 use Rattle.played_round.proofs.round.Round.finish.Given as goal

@@ -1,7 +1,5 @@
-use Rattle.std.proofs.Common.{◌≡◌, length, subst, take, arith}
 use Rattle.round_steps.specs.declared.step.Step.TheVariants.{Pop}
-use Rattle.played_round.specs.Playing.{Plays}
-use Rattle.played_round.proofs.Playing.{plays_none, plays_more, plays_all}
+use Rattle.played_round.proofs.Playing.{plays_none, plays_more}
 use Rattle.played_round.proofs.round.Round.run.Goals as goal
 
 pub loop-next-init : goal.loop-next-init

@@ -1,9 +1,5 @@
-use Rattle.std.proofs.Common.{◌≡◌, ◌∷◌, [], refl, sym, subst, ap}
-use Rattle.round_steps.specs.declared.step.Step.{Step}
-use Rattle.round_steps.specs.declared.step.Step.TheVariants.{Pop, Steal, Update, Enter}
-use Rattle.round_core.specs.Pool.{worker_at, update}
-use Rattle.played_round.specs.Round.{RoundState}
-use Rattle.played_round.specs.Playing.{Plays}
+use Rattle.std.proofs.Common.{refl}
+use Rattle.round_steps.specs.declared.step.Step.TheVariants.{Pop, Steal, Enter}
 use Rattle.played_round.proofs.Keeping.{can_update, can_enter, plays_after, plays_hand_after}
 use Rattle.played_round.proofs.round.Round.step.Goals as goal
 

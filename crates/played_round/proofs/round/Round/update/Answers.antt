@@ -1,5 +1,4 @@
-use Rattle.std.proofs.Common.{◌≡◌, ◌<◌, ◌∙◌, sym, subst, ap, length, get_or, arith}
-use Rattle.round_core.specs.Pool.{WorkerState, idle}
+use Rattle.std.proofs.Common.{◌<◌, ◌∙◌, sym, subst, length, arith}
 use Rattle.played_round.specs.Round.{RoundState}
 use Rattle.played_round.specs.Playing.{CanUpdate}
 use Rattle.played_round.proofs.Keeping.{hand_read}
