@@ -1,0 +1,5 @@
+pub mod Low
+pub mod Marks
+pub mod Keeping
+pub mod Playing
+pub mod Whole

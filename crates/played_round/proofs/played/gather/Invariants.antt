@@ -1,0 +1,13 @@
+use Rattle.std.proofs.Common.{◌≡◌, ◌+◌, ◌++◌, length, map}
+use Rattle.event_book.specs.Totals.{plus}
+use Rattle.round_core.specs.Places.{sum_of_shares}
+use Rattle.played_round.proofs.played.gather.Given as goal
+
+abbrev pub invariant-loop-worker : goal.invariant-loop-worker
+invariant-loop-worker g l = record {
+  finished : map (λ list. list.items) l.finished.items ++ map (λ worker. worker.finished) l.worker-iterator.rest.items
+      ≡ map (λ worker. worker.finished) l.fn.workers.items;
+  parts : l.share.parts + length l.worker-iterator.rest.items ≡ l.fn.share.parts + length l.fn.workers.items;
+  numbers : plus l.share.numbers (sum_of_shares l.worker-iterator.rest.items)
+      ≡ plus l.fn.share.numbers (sum_of_shares l.fn.workers.items);
+}

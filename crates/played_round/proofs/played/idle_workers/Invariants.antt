@@ -1,0 +1,10 @@
+use Rattle.std.proofs.Common.{◌≡◌, ◌+◌, replicate}
+use Rattle.round_core.specs.Pool.{idle}
+use Rattle.played_round.proofs.played.idle_workers.Given as goal
+
+abbrev pub invariant-loop-count : goal.invariant-loop-count
+invariant-loop-count g l = record {
+  idle : l.workers.items ≡ replicate l._count idle;
+  parts : l.share.parts + l._count ≡ l.fn.share.parts;
+  numbers : l.share.numbers ≡ l.fn.share.numbers;
+}

@@ -1,0 +1,10 @@
+use Rattle.std.proofs.Common.{take}
+use Rattle.round_core.specs.Pool.{drain_steps}
+use Rattle.played_round.specs.Playing.{Stands, Plays}
+use Rattle.played_round.proofs.round.Round.drain.Given as goal
+
+abbrev pub invariant-loop-w : goal.invariant-loop-w
+invariant-loop-w g l = record {
+  played : Plays l.fn.self (drain_steps 0 (take l.w l.fn.self.pool.workers)) l.self;
+  stands : Stands l.self;
+}

@@ -1,0 +1,17 @@
+use Rattle.std.proofs.Common.{◌<◌, ◌∙◌, sym, subst, length, arith}
+use Rattle.played_round.specs.Round.{RoundState}
+use Rattle.played_round.specs.Playing.{CanEnter}
+use Rattle.played_round.proofs.Keeping.{hand_read}
+use Rattle.played_round.proofs.round.Round.enter.Goals as goal
+
+pub entry-entry-requires : goal.entry-entry-requires
+entry-entry-requires g c =
+    let seen : RoundState =
+    record {
+      table = c.self.inside.table;
+      pool = record { workers = c.self.inside.workers.items; book = c.self.inside.book };
+    } in
+    let can = subst (λ (round : RoundState). CanEnter round c.args.w) (sym c.self.view_is) c.requires in
+    let within : c.args.w < length c.self.inside.workers.items = omega arith in
+    let holds = hand_read seen c.args.w c.index.result.now within c.index.ensures ∙ sym c.in-Updated.ensures in
+    (can c.in-Updated.number holds).has_entry
