@@ -95,18 +95,20 @@ events_more config pods ticks es evs part x e many are now = record {
 -- one pod more, that no tick shows yet
 pub events_arrived : (config : NodeConfig) (pods : List PodSpec) (pod : PodSpec) (ticks : List TickObs)
     (es : List (Option Eviction)) (evs : List Event)
-    → ((t : ℕ) (tick : TickObs) → slice_get ticks t ≡ Some tick → length tick.pods ≤ length pods)
     → AreEvents config pods ticks es evs → AreEvents config (pods ++ pod ∷ []) ticks es evs
-events_arrived config pods pod ticks es evs shown are = record {
+events_arrived config pods pod ticks es evs are = record {
   parts = are.parts;
   as_many = are.as_many;
   each = λ t tick eviction part at is here.
       let now = are.each t tick eviction part at is here in record {
         made = now.made;
         are_made = record {
+          known =
+              let few : length tick.pods ≤ length pods = now.are_made.known in
+              omega (arith, length-more pods pod);
           as_many = now.are_made.as_many;
           each = λ n p o events found seen made.
-              let few : length tick.pods ≤ length pods = shown t tick at in
+              let few : length tick.pods ≤ length pods = now.are_made.known in
               let lt : n < length tick.pods = within tick.pods n o seen in
               elim (place_split pods pod p n found) [
                 | inl old ↦ now.are_made.each n p o events old seen made

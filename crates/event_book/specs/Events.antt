@@ -1,6 +1,6 @@
 -- The events of a node, tick by tick: those of its pods by their numbers, those of the node, and the
 -- eviction. (Kubernetes, "Pod Lifecycle" and "Node-pressure Eviction"; the order is this profile's.)
-use Rattle.std.specs.Prelude.{◌≡◌, ℕ, ◌+◌, List, [], ◌∷◌, ◌++◌, length, map, take, slice_get, Option, Some, None}
+use Rattle.std.specs.Prelude.{◌≡◌, ℕ, ◌+◌, ◌≤◌, List, [], ◌∷◌, ◌++◌, length, map, take, slice_get, Option, Some, None}
 use Rattle.std.specs.List.{flat_map}
 use Rattle.manifest.specs.declared.pod.PodSpec.{PodSpec}
 use Rattle.observations.specs.declared.pod.PodObs.{PodObs}
@@ -19,9 +19,11 @@ use Rattle.event_book.specs.declared.event.Event.{Event}
 use Rattle.event_book.specs.declared.event.EventKind.{EventKind}
 use Rattle.event_book.specs.declared.event.EventKind.TheVariants.{Pod, Node, Evicted}
 
--- the events of each pod that a tick shows, where the tick comes after these ticks with these evictions
+-- the events of each pod that a tick shows, where the tick comes after these ticks with these evictions;
+-- it shows none but the pods that there are
 pub record ArePodEvents (config : NodeConfig) (pods : List PodSpec) (before : List TickObs) (tick : TickObs)
     (evictions : List (Option Eviction)) (made : List (List PodEvent)) : Type 0 where
+  pub known : length tick.pods ≤ length pods
   pub as_many : length made ≡ length tick.pods
   pub each : (n : ℕ) (pod : PodSpec) (shown : PodObs) (events : List PodEvent) → slice_get pods n ≡ Some pod
       → shown_of tick n ≡ Some shown → slice_get made n ≡ Some events

@@ -3,3 +3,4 @@ pub mod Totals
 pub mod Shares
 pub mod Text
 pub mod Names
+pub mod Laws

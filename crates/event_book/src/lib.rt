@@ -3,6 +3,7 @@
 
 mod book;
 mod event;
+pub mod laws;
 mod names;
 mod shares;
 mod text;

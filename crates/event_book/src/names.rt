@@ -1,10 +1,12 @@
 //! The names of a node's pods.
 
-ghost use Rattle.std.specs.Prelude.{◌≡◌, slice_get, MatchOption, IfSome, IfNone, None, Some};
+ghost use Rattle.std.specs.Prelude.{◌≡◌, IfOk, IfSome, IfNone, None, Some, string_bytes};
 ghost use Rattle.event_book.specs.Names.{pod_in};
+ghost use Rattle.event_book.specs.Text.{key_of};
 
 use manifest::PodSpec;
 use pod_piece::PodPiece;
+use std::alloc::{AllocError, Global};
 
 /// The names of a node's pods and of their containers, by their numbers.
 #[derive(Clone, Copy)]
@@ -27,5 +29,16 @@ impl<'n> Names<'n> {
     {
         let piece = self.pods.get(number)?;
         Some(piece.pod())
+    }
+    /// The key of the pod with the number, `NAMESPACE/NAME`; of a number without a pod it is empty.
+    pub fn key(self, alloc: Global, number: usize) -> Result<String, AllocError>
+        ensures { IfOk result (λ s. string_bytes s ≡ key_of (pod_in self.entry.pods.now number)) }
+    {
+        let Some(pod) = self.pod(number) else {
+            return Ok(String::new(alloc));
+        };
+        let namespace = pod.namespace.as_str();
+        let name = pod.name.as_str();
+        format!(in alloc; "{namespace}/{name}")
     }
 }

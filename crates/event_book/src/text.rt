@@ -1,7 +1,7 @@
 //! The line of an event.
 
 ghost use Rattle.std.specs.Prelude.{◌≡◌, IfOk, string_bytes, Option, slice_get};
-ghost use Rattle.event_book.specs.Text.{key_of, container_of, what_words, pod_event_words, node_event_words};
+ghost use Rattle.event_book.specs.Text.{container_of, what_words, pod_event_words, node_event_words};
 ghost use Rattle.event_book.specs.Text.{event_words, event_line, of_attempt, threshold_words};
 ghost use Rattle.event_book.specs.declared.event.EventKind.TheVariants.{Evicted};
 ghost use Rattle.event_book.specs.Names.{pods_in, pod_in};
@@ -14,18 +14,6 @@ use eviction::Eviction;
 use node_signals::{NodeEvent, ThresholdKey};
 use pod_state::PodEvent;
 use std::alloc::{AllocError, Global};
-
-/// The key of the pod with the number: `NAMESPACE/NAME`.
-fn key_text(alloc: Global, names: Names<'_>, number: usize) -> Result<String, AllocError>
-    ensures { IfOk result (λ s. string_bytes s ≡ key_of (pod_in names.entry.pods.now number)) }
-{
-    let Some(pod) = names.pod(number) else {
-        return Ok(String::new(alloc));
-    };
-    let namespace = pod.namespace.as_str();
-    let name = pod.name.as_str();
-    format!(in alloc; "{namespace}/{name}")
-}
 
 /// The name of a container of the pod with the number, and a dash for the pod itself.
 fn container_text(names: Names<'_>, number: usize, container: Option<usize>) -> &str
@@ -82,7 +70,7 @@ fn pod_event_text(
 ) -> Result<String, AllocError>
     ensures { IfOk result (λ s. string_bytes s ≡ pod_event_words (pod_in names.entry.pods.now number) event) }
 {
-    let key = key_text(alloc, names, number)?;
+    let key = names.key(alloc, number)?;
     let container = container_text(names, number, event.container);
     let what = what_text(alloc, event.what)?;
     format!(in alloc; "{key} {container} {what}")
@@ -122,7 +110,7 @@ fn node_event_text(alloc: Global, event: NodeEvent) -> Result<String, AllocError
 fn evicted_text(alloc: Global, names: Names<'_>, eviction: Eviction) -> Result<String, AllocError>
     ensures { IfOk result (λ s. string_bytes s ≡ event_words (pods_in names.entry.pods.now) (Evicted eviction)) }
 {
-    let key = key_text(alloc, names, eviction.pod)?;
+    let key = names.key(alloc, eviction.pod)?;
     let words = eviction_words(alloc, key.as_str(), eviction.order)?;
     format!(in alloc; "node evicted {words}")
 }
