@@ -52,10 +52,10 @@ tick_one : (config : NodeConfig) (pods : List PodSpec) (before : List TickObs) (
     → events ≡ others
 tick_one config pods before tick es e events others are were =
     let made : are.made ≡ were.made =
-        pods_one config pods before tick es are.made were.made are.are_made were.are_made in
+    pods_one config pods before tick es are.made were.made are.are_made were.are_made in
     let news : are.news ≡ were.news =
-        one_list_of_node_events config.eviction config.eviction_pressure_transition_period before tick
-        are.news were.news are.are_news were.are_news in
+    one_list_of_node_events config.eviction config.eviction_pressure_transition_period before tick
+    are.news were.news are.are_news were.are_news in
     are.in_order
     ∙ (ap (λ (m : List (List PodEvent)). of_pods tick.at 0 m ++ (of_node tick.at are.news ++ of_eviction tick.at e)) made
     ∙ (ap (λ (n : List NodeEvent). of_pods tick.at 0 were.made ++ (of_node tick.at n ++ of_eviction tick.at e)) news
@@ -65,11 +65,11 @@ tick_one config pods before tick es e events others are were =
 pub one_list_of_events : OneListOfEvents
 one_list_of_events config pods ticks es events others many are were =
     let parts : are.parts ≡ were.parts =
-        same_places are.parts were.parts (are.as_many ∙ sym were.as_many) (λ t x y here there.
-        let lt : t < length are.parts = within are.parts t x here in
-        let count : length are.parts ≡ length ticks = are.as_many in
-        let tick = at_place ticks t (omega arith) in
-        let eviction = at_place es t (omega arith) in
-        tick_one config pods (take t ticks) tick.0 (take t es) eviction.0 x y
-        (are.each t tick.0 eviction.0 x tick.1 eviction.1 here) (were.each t tick.0 eviction.0 y tick.1 eviction.1 there)) in
+    same_places are.parts were.parts (are.as_many ∙ sym were.as_many) (λ t x y here there.
+    let lt : t < length are.parts = within are.parts t x here in
+    let count : length are.parts ≡ length ticks = are.as_many in
+    let tick = at_place ticks t (omega arith) in
+    let eviction = at_place es t (omega arith) in
+    tick_one config pods (take t ticks) tick.0 (take t es) eviction.0 x y
+    (are.each t tick.0 eviction.0 x tick.1 eviction.1 here) (were.each t tick.0 eviction.0 y tick.1 eviction.1 there)) in
     are.whole ∙ (ap (λ (ps : List (List Event)). flat_map (λ (p : List Event). p) ps) parts ∙ sym were.whole)

@@ -9,8 +9,8 @@ ghost use Rattle.trace.specs.Pod.{key_of_pod, keys_of, new_key, room_for_pod, ma
 use crate::fault::{FaultKind, refused_if};
 use crate::past::Reader;
 use manifest::{Field, ManifestFault, PodSpec};
-use observations::MOST_PODS;
 use name_list::NameList;
+use observations::MOST_PODS;
 use serde_json::Value;
 use std::alloc::{AllocError, Global};
 
@@ -45,7 +45,10 @@ fn key_text(alloc: Global, pod: &PodSpec) -> Result<String, AllocError>
 pub(crate) fn room_for_pod(reader: &Reader) -> Result<(), FaultKind>
     ensures { GivesExactly (λ t. t) result (room_for_pod reader.now.pods) }
 {
-    refused_if(reader.pods.as_slice().len() >= MOST_PODS, FaultKind::TooMany)
+    refused_if(
+        reader.pods.as_slice().len() >= MOST_PODS,
+        FaultKind::TooMany,
+    )
 }
 
 fn is_known(keys: &NameList, key: &str) -> bool

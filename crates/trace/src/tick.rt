@@ -232,7 +232,10 @@ fn tick_line_in(alloc: Global, line: &Value) -> Result<TickLine, FaultKind>
 fn room(reader: &Reader) -> Result<(), FaultKind>
     ensures { GivesExactly (λ t. t) result (room_for_tick reader.now.ticks) }
 {
-    refused_if(reader.ticks.as_slice().len() >= MOST_TICKS, FaultKind::TooMany)
+    refused_if(
+        reader.ticks.as_slice().len() >= MOST_TICKS,
+        FaultKind::TooMany,
+    )
 }
 
 fn moment_in(reader: &Reader, line: &Value) -> Result<u64, FaultKind>
