@@ -19,6 +19,7 @@ pub(crate) enum Kind {
     Name,
     Manifest,
     Class,
+    Steps,
 }
 
 impl Kind {
@@ -34,6 +35,7 @@ impl Kind {
             "name" => Some(Kind::Name),
             "manifest" => Some(Kind::Manifest),
             "class" => Some(Kind::Class),
+            "steps" => Some(Kind::Steps),
             _ => None,
         }
     }
@@ -50,6 +52,7 @@ impl Kind {
             Kind::Duration => texts::duration(alloc, bytes)?,
             Kind::Limit => texts::limit(alloc, bytes)?,
             Kind::Name => texts::name(alloc, bytes)?,
+            Kind::Steps => texts::steps(alloc, text)?,
             Kind::Manifest => return manifest_text::pod(alloc, text),
             Kind::Class => return manifest_text::class(alloc, text),
         })

@@ -2,6 +2,7 @@
 //! and names it. A new case is two files or a row of a table, and its count in the file `stdout`:
 //!
 //! - `traces/FAMILY/NAME.trace` beside `NAME.report`, the bytes of the report, or `NAME.refusal`, the status and the line.
+//!   Each is replayed with one worker, and again by each of a few plays, which leave the answer as it is.
 //! - `lines/NAME.table`: a row's text is the last line of a trace, after the lines of `NAME.before`.
 //! - `manifests/NAME.json` beside `NAME.read`, what is read of it.
 //! - `texts/KIND.table`: a row's text is of that kind.
@@ -12,6 +13,7 @@ mod files;
 mod kind;
 mod manifest_text;
 mod manifests;
+mod plays;
 mod replays;
 mod table;
 mod texts;

@@ -1,29 +1,28 @@
 //! Replays over memory.
 
-use anyhow::{Context, Result};
-use kubelet_replay::{MemSink, MemSource, fault_line, replay_alone, status_of};
+use crate::plays::PLAYS;
+use anyhow::{Context, Result, bail};
+use kubelet_replay::{
+    MemSink, MemSource, RunFault, Step, check, fault_line, replay_play, status_of,
+};
 use std::alloc::Global;
 
 /// The greatest length of a report.
-const ROOM: usize = 262_144;
+const ROOM: usize = 1_048_576;
 
 /// So many bytes are read or written in one call.
 const STEP: usize = 4096;
 
 /// What a replay gave.
-#[derive(Drop)]
+#[derive(Drop, PartialEq, Eq)]
 pub(crate) enum Answer {
     Report(String),
     /// The status, and the line on standard error.
     Refusal(String),
 }
 
-/// Replays the bytes of a trace.
-pub(crate) fn answer_of(alloc: Global, trace: &[u8]) -> Result<Answer> {
-    let mut room = vec![in alloc; 0u8; ROOM]?;
-    let mut input = MemSource::new(trace, STEP);
-    let mut output = MemSink::new(&mut room, STEP);
-    let outcome = replay_alone(alloc, &mut input, &mut output);
+/// What was written and how the call ended.
+fn answered(alloc: Global, output: &MemSink<'_>, outcome: Result<(), RunFault>) -> Result<Answer> {
     let written = std::str::from_utf8(output.written()).context("what was written is no text")?;
     match outcome {
         Ok(()) => Ok(Answer::Report(String::from_str(alloc, written)?)),
@@ -32,4 +31,54 @@ pub(crate) fn answer_of(alloc: Global, trace: &[u8]) -> Result<Answer> {
             Ok(Answer::Refusal(format!(in alloc; "{written}status {status}: {line}")?))
         }
     }
+}
+
+/// Replays the bytes of a trace by these steps.
+fn played(alloc: Global, trace: &[u8], workers: usize, steps: &[Step]) -> Result<Answer> {
+    let mut room = vec![in alloc; 0u8; ROOM]?;
+    let mut input = MemSource::new(trace, STEP);
+    let mut output = MemSink::new(&mut room, STEP);
+    let outcome = replay_play(alloc, &mut input, &mut output, workers, steps);
+    answered(alloc, &output, outcome)
+}
+
+/// Reads the bytes of a trace without a replay.
+fn checked(alloc: Global, trace: &[u8]) -> Result<Answer> {
+    let mut room = vec![in alloc; 0u8; STEP]?;
+    let mut input = MemSource::new(trace, STEP);
+    let mut output = MemSink::new(&mut room, STEP);
+    let outcome = check(alloc, &mut input, &mut output);
+    answered(alloc, &output, outcome)
+}
+
+/// What is to be answered where a trace with this answer is read without a replay: the same refusal,
+/// or the numbers of pods and ticks in the report's first line.
+fn answer_of_check(alloc: Global, answer: &Answer) -> Result<Answer> {
+    Ok(match answer {
+        Answer::Report(report) => {
+            let (header, _) = report
+                .as_str()
+                .split_once('\n')
+                .context("a report has no line")?;
+            let (_, numbers) = header.split_once(' ').context("a header has no name")?;
+            let (_, numbers) = numbers.split_once(' ').context("a header has no numbers")?;
+            Answer::Report(format!(in alloc; "ok {numbers}\n")?)
+        }
+        Answer::Refusal(refusal) => Answer::Refusal(String::from_str(alloc, refusal.as_str())?),
+    })
+}
+
+/// Replays the bytes of a trace with one worker. With the workers and steps of each play the answer is
+/// to be the same, and to read the trace without a replay is to fit it.
+pub(crate) fn answer_of(alloc: Global, trace: &[u8]) -> Result<Answer> {
+    let answer = played(alloc, trace, 1, &[])?;
+    for (workers, steps) in PLAYS {
+        if played(alloc, trace, workers, steps)? != answer {
+            bail!("{workers} workers give another answer");
+        }
+    }
+    if checked(alloc, trace)? != answer_of_check(alloc, &answer)? {
+        bail!("without a replay there is another answer");
+    }
+    Ok(answer)
 }

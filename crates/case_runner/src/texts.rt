@@ -1,5 +1,6 @@
-//! Quantities, percentages, durations, limits and names, each with its answer.
+//! Quantities, percentages, durations, limits, names and steps, each with its answer.
 
+use kubelet_replay::{read_steps, steps_fault_line, steps_status_of};
 use manifest::is_name;
 use quantity::{Limit, Percent, Quantity, QuantityFault, seconds_of};
 use std::alloc::{AllocError, Global};
@@ -64,4 +65,20 @@ pub(crate) fn limit(alloc: Global, text: &[u8]) -> Result<String, AllocError> {
 /// Whether the text is the name of an object.
 pub(crate) fn name(alloc: Global, text: &[u8]) -> Result<String, AllocError> {
     is_name(text).to_string(alloc)
+}
+
+/// The steps of a steps file, in which `|` stands for the end of a line, or the status and the line of
+/// the refusal.
+pub(crate) fn steps(alloc: Global, text: &str) -> Result<String, AllocError> {
+    let lines: Vec<u8> = text
+        .bytes()
+        .map(|byte| if byte == b'|' { b'\n' } else { byte })
+        .collect(alloc)?;
+    match read_steps(alloc, &lines) {
+        Ok(steps) => format!(in alloc; "{:?}", steps.as_slice()),
+        Err(fault) => {
+            let (status, line) = (steps_status_of(&fault), steps_fault_line(alloc, &fault)?);
+            format!(in alloc; "status {status}: {line}")
+        }
+    }
 }

@@ -1,3 +1,2 @@
-pub mod Parts
 pub mod NodeLemmas
 pub mod Unique

@@ -5,12 +5,13 @@ use Rattle.std.proofs.Common.{sym, subst, arith}
 use Rattle.std.specs.Prelude.{slice_get, MatchOption, IfSome, IsSomeAnd, is_some, IsSome, option_and_then, unwrap_or}
 use Rattle.std.specs.Prelude.{◌↔◌}
 use Rattle.std.proofs.lemmas.Bool.{cases_lt}
-use Rattle.std.proofs.lemmas.List.{length-take-le, take-append-le, take_all}
+use Rattle.std.proofs.lemmas.List.{length-take-le, take-append-le, take_all, length-append}
 use Rattle.manifest.specs.declared.pod.PodSpec.{PodSpec}
 use Rattle.node_config.specs.declared.node.NodeConfig.{NodeConfig}
 use Rattle.observations.specs.declared.pod.PodObs.{PodObs}
 use Rattle.observations.specs.declared.tick.TickObs.{TickObs}
 use Rattle.observations.specs.declared.container.ContainerObs.{ContainerObs}
+use Rattle.observations.specs.Limits.{most_ticks, most_pods}
 use Rattle.observations.specs.Observations.{shown_of, listed_in, own_ticks, history}
 use Rattle.observations.proofs.OwnTicks.{AreBefore, acceptable_at, history_ends_before}
 use Rattle.histories.specs.Histories.{recorded, last_moment, moment_at, EndsBefore}
@@ -27,10 +28,9 @@ use Rattle.eviction.proofs.Unique.{at_place}
 use Rattle.eviction.specs.declared.eviction.Eviction.{Eviction}
 use Rattle.eviction.specs.Replay.{pod_ticks}
 use Rattle.node_pods.specs.Pods.{AreNext}
-use Rattle.tick_round.specs.Node.{State, ArePieces, piece_after, HasTaken, Fits, IsAfter, MayTake, last_of}
+use Rattle.tick_round.specs.Node.{State, ArePieces, piece_after, HasTaken, Fits, IsAfter, MayTake, HasRoom, last_of}
 use Rattle.tick_round.proofs.Pieces.{pod_at}
-use Rattle.kubelet_replay.specs.Ticks.{AreReplayable}
-use Rattle.kubelet_replay.specs.Report.{AreLines}
+use Rattle.kubelet_replay.specs.Ticks.{AreReplayable, MayArrive}
 
 -- what a trace keeps lets every tick be handed on
 listed : (o : Option ContainerObs)
@@ -106,6 +106,8 @@ are_replayable pods arrivals ticks acceptable shape = record {
   rising = shape.rising;
   below = shape.below;
   growing = grows pods arrivals ticks shape;
+  few_ticks = shape.few_ticks;
+  few_pods = shape.few_pods;
   within = no_more pods arrivals ticks shape;
 }
   where
@@ -183,6 +185,12 @@ fits_next pods ticks before tick rest s may whole taken =
     let cut : take t ticks ≡ before = ap (take t) whole ∙ front before (tick ∷ rest) in
     let count : length (take (length tick.pods) pods) ≡ length tick.pods = length-take-le (length tick.pods) pods (may.within t tick at) in
     record {
+      few =
+          let all : length ticks ≡ length before + suc (length rest) =
+          ap length whole ∙ length-append before (tick ∷ rest) in
+          let some : length ticks ≤ most_ticks = may.few_ticks in
+          let many : length s.evictions ≡ length before = taken.replay.as_many in
+          omega (arith, all, some, many);
       later = subst (λ (o : Option ℕ). IfSome o (λ last. last < tick.at)) (sym taken.last_is)
           (if_some (last_of before) (λ m. m < tick.at) (λ m is.
           let w = last_place before m is in
@@ -385,36 +393,6 @@ pub as_many_arrived : (all : List PodSpec) (i count : ℕ) (old new : Option Sta
     → AreArriving all i old new left → i ≤ count → count ≤ i → AreArriving all count old new left
 as_many_arrived all i count old new left are le ge = let same : i ≡ count = omega arith in subst (λ (k : ℕ). AreArriving all k old new left) same are
 
--- the lines of each pod of a node
-pub piece_here : (config : NodeConfig) (pods : List PodSpec) (ticks : List TickObs)
-    (evictions : List (Option Eviction)) (pieces : List Piece) (n : ℕ) (piece : Piece)
-    → ArePieces config pods ticks evictions pieces → n < length pieces → piece ≡ get_or pieces n piece
-    → (pod : PodSpec) × (n < length pods) × (pod ≡ get_or pods n pod)
-    × (piece ≡ piece_after config ticks evictions n pod)
-piece_here config pods ticks evictions pieces n piece are lt is =
-    let many : length pieces ≡ length pods = are.as_many in
-    let pod = at_place pods n (omega arith) in
-    let here : Some piece ≡ Some (piece_after config ticks evictions n pod.0) = sym (found pieces n piece lt is) ∙ are.each n pod.0 pod.1 in
-    (pod.0, omega arith, sym (slice_get-get_or pods n pod.0 pod.0 pod.1), let same : piece ≡ piece_after config ticks evictions n pod.0 = cc in same)
-  where
-    found : (xs : List Piece) (k : ℕ) (x : Piece) → k < length xs → x ≡ get_or xs k x → slice_get xs k ≡ Some x
-    found [] k x lt e = absurd (omega arith)
-    found (y ∷ xs) zero x lt e = ap (λ (p : Piece). Some p) (sym e)
-    found (y ∷ xs) (suc k) x lt e = found xs k x (omega arith) e
-
-    slice_get-get_or : (xs : List PodSpec) (k : ℕ) (x d : PodSpec) → slice_get xs k ≡ Some x → get_or xs k d ≡ x
-    slice_get-get_or [] k x d e = absurd (cc)
-    slice_get-get_or (y ∷ xs) zero x d e = cc
-    slice_get-get_or (y ∷ xs) (suc k) x d e = slice_get-get_or xs k x d e
-
-pub whole_report : (config : NodeConfig) (ticks : List TickObs) (evictions : List (Option Eviction))
-    (pods : List PodSpec) (pieces : List Piece) (n : ℕ) (bytes : List ℕ)
-    → ArePieces config pods ticks evictions pieces → n ≡ length pieces → AreLines ticks evictions (take n pods) bytes
-    → AreLines ticks evictions pods bytes
-whole_report config ticks evictions pods pieces n bytes are all is =
-    let many : length pieces ≡ length pods = are.as_many in
-    subst (λ (ps : List PodSpec). AreLines ticks evictions ps bytes) (take_all n pods (omega arith)) is
-
 -- a halted node is after no ticks
 pub halted : (config : NodeConfig) (pods : List PodSpec) (ticks : List TickObs) (one : Option State) → one ≡ None
     → IsAfter config pods ticks one → ⊥
@@ -450,3 +428,54 @@ one_more_shown config pods ticks before tick rest shown arrived left left' old m
     (one_more config pods ticks before tick rest arrived left left' old mid new may s
     (subst (λ (os : List PodObs). Arrive config old mid (take (length os - arrived) left)) is arrives)
     (subst (λ (os : List PodObs). left' ≡ drop (length os - arrived) left) is left_is) takes)
+
+-- the pods that the next tick shows may arrive
+pub may_arrive : (config : NodeConfig) (pods : List PodSpec) (ticks before rest : List TickObs) (arrived more : ℕ)
+    (left : List PodSpec) (node : Option State)
+    → AreReplayable pods ticks → IsSoFar config pods ticks before rest arrived left node
+    → arrived + more ≤ length pods → MayArrive more node
+may_arrive config pods ticks before rest arrived more left node may s le = record {
+  config = config;
+  arrived = take arrived pods;
+  taken = before;
+  after = s.after;
+  room =
+      let few : length pods ≤ most_pods = may.few_pods in
+      omega (arith, few, le, length-take-le arrived pods s.few);
+}
+
+-- those that the next tick shows
+pub may_arrive_shown : (config : NodeConfig) (pods : List PodSpec) (ticks before : List TickObs) (tick : TickObs)
+    (rest : List TickObs) (shown : List PodObs) (arrived : ℕ) (left : List PodSpec) (old : Option State)
+    → AreReplayable pods ticks → IsSoFar config pods ticks before (tick ∷ rest) arrived left old → shown ≡ tick.pods
+    → MayArrive (length shown - arrived) old
+may_arrive_shown config pods ticks before tick rest shown arrived left old may s is =
+    let le : arrived ≤ length tick.pods = s.shown 0 tick refl in
+    let at : slice_get ticks (length before) ≡ Some tick =
+    ap (λ (xs : List TickObs). slice_get xs (length before)) s.whole ∙ middle before tick rest in
+    let within : length tick.pods ≤ length pods = may.within (length before) tick at in
+    let same : length shown ≡ length tick.pods = ap length is in
+    may_arrive config pods ticks before (tick ∷ rest) arrived (length shown - arrived) left old may s
+    (omega (arith, le, within, same))
+
+at_most : (k : ℕ) (xs : List PodSpec) → length (take k xs) ≤ k
+at_most zero xs = omega arith
+at_most (suc k) [] = omega arith
+at_most (suc k) (x ∷ xs) = let le : length (take k xs) ≤ k = at_most k xs in omega (arith, le)
+
+room_in : (config : NodeConfig) (pods : List PodSpec) (ticks : List TickObs) (node : Option State)
+    → IsAfter config pods ticks node → length pods < most_pods → HasRoom node
+room_in config pods ticks None after lt = absurd after
+room_in config pods ticks (Some s) after lt =
+    let many : length s.pods.pieces ≡ length pods = after.1.pieces.as_many in omega (arith, many, lt)
+
+-- of these pods one more may arrive
+pub has_room : (all : List PodSpec) (i count : ℕ) (old new : Option State) (left : List PodSpec)
+    → MayArrive count old → AreArriving all i old new left → i < count → HasRoom new
+has_room all i count old new left may are lt =
+    let room : length may.arrived + count ≤ most_pods = may.room in
+    let few : length (take i all) ≤ i = at_most i all in
+    let whole : length (may.arrived ++ take i all) ≡ length may.arrived + length (take i all) =
+    length-append may.arrived (take i all) in
+    room_in may.config (may.arrived ++ take i all) may.taken new
+    (are.arrived may.config may.arrived may.taken may.after) (omega (arith, room, few, whole, lt))

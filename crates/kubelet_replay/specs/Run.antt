@@ -1,5 +1,6 @@
 -- What a replay writes, and when it refuses.
-use Rattle.std.specs.Prelude.{◌≡◌, ℕ, ◌<◌, ◌≤◌, List, length, take, Option, Some, None, Result, Ok, Err}
+use Rattle.std.specs.Prelude.{◌≡◌, ℕ, ◌<◌, ◌≤◌, List, [], ◌∷◌, length, take, codes, Option, Some, None, Result, Ok, Err}
+use Rattle.std.specs.Fmt.{decimal}
 use Rattle.std.specs.Io.KnownBytes.{Appends}
 use Rattle.trace.specs.declared.past.Trace.{Trace}
 use Rattle.trace.specs.declared.fault.FaultKind.{FaultKind}
@@ -8,7 +9,8 @@ use Rattle.trace.specs.declared.fault.LineFault.{LineFault}
 use Rattle.trace.specs.Trace.{trace_of}
 use Rattle.kubelet_replay.specs.declared.fault.RunFault.{RunFault}
 use Rattle.kubelet_replay.specs.declared.fault.RunFault.TheVariants.{Read, TooLong, Line, OutOfMemory, Write}
-use Rattle.kubelet_replay.specs.Report.{IsReport}
+use Rattle.event_book.specs.Text.{joined}
+use Rattle.node_report.specs.Report.{IsReport}
 
 -- 64 MiB
 abbrev pub longest_input : ℕ
@@ -47,7 +49,18 @@ abbrev pub IsTooLong : Option (List ℕ) → Type 0
 IsTooLong None = Unit {0}
 IsTooLong (Some bytes) = longest_input < length bytes
 
--- these bytes are the pod lines of the report of the text's trace
+-- the line of a trace with so many pods and ticks
+abbrev pub check_line : ℕ → ℕ → List ℕ
+check_line pods ticks =
+    joined (codes "ok pods=" ∷ decimal pods ∷ codes " ticks=" ∷ decimal ticks ∷ codes "\n" ∷ [])
+
+-- these bytes are the line of the text's trace
+pub record IsCheckOfText (text bytes : List ℕ) : Type 0 where
+  pub trace : Trace
+  pub is_trace : trace_of text ≡ Ok trace
+  pub line : bytes ≡ check_line (length trace.pods) (length trace.ticks)
+
+-- these bytes are the report of the text's trace
 pub record IsReportOfText (text bytes : List ℕ) : Type 0 where
   pub trace : Trace
   pub is_trace : trace_of text ≡ Ok trace
@@ -86,12 +99,12 @@ IsWritten old new text (Err (Line fault)) = ⊥
 IsWritten old new text (Err OutOfMemory) = ⊥
 IsWritten old new text (Err Write) = (n : ℕ) × (n < length text) × Appends old new (take n text)
 
--- what is written is the report of the input, from the first byte to the last
-pub record WritesReport (left old new : Option (List ℕ)) : Type 0 where
+-- what is written is what the input's text is answered, from the first byte to the last
+pub record Writes (IsAnswer : List ℕ → List ℕ → Type 0) (left old new : Option (List ℕ)) : Type 0 where
   pub text : List ℕ
   pub read : HasRead left text
   pub bytes : List ℕ
-  pub report : IsReportOfText text bytes
+  pub answer : IsAnswer text bytes
   pub written : Appends old new bytes
 
 -- the input is a text that is refused at its first faulty line
@@ -100,20 +113,21 @@ pub record IsFaulty (left : Option (List ℕ)) (fault : LineFault) : Type 0 wher
   pub read : HasRead left text
   pub refused : trace_of text ≡ Err fault
 
--- a part of the report is written, from its beginning
-pub record WritesPart (left old new : Option (List ℕ)) : Type 0 where
+-- a part of it is written, from its beginning
+pub record WritesPart (IsAnswer : List ℕ → List ℕ → Type 0) (left old new : Option (List ℕ)) : Type 0 where
   pub text : List ℕ
   pub read : HasRead left text
   pub bytes : List ℕ
-  pub report : IsReportOfText text bytes
+  pub answer : IsAnswer text bytes
   pub count : ℕ
   pub part : count < length bytes
   pub written : Appends old new (take count bytes)
 
 -- what each refusal says of the input and of what is written
-abbrev pub IsRefusal : Option (List ℕ) → Option (List ℕ) → Option (List ℕ) → RunFault → Type 0
-IsRefusal left old new Read = new ≡ old
-IsRefusal left old new TooLong = IsTooLong left × (new ≡ old)
-IsRefusal left old new (Line fault) = IsFaulty left fault × (new ≡ old)
-IsRefusal left old new OutOfMemory = new ≡ old
-IsRefusal left old new Write = WritesPart left old new
+abbrev pub IsRefusal : (List ℕ → List ℕ → Type 0) → Option (List ℕ) → Option (List ℕ) → Option (List ℕ) → RunFault
+    → Type 0
+IsRefusal IsAnswer left old new Read = new ≡ old
+IsRefusal IsAnswer left old new TooLong = IsTooLong left × (new ≡ old)
+IsRefusal IsAnswer left old new (Line fault) = IsFaulty left fault × (new ≡ old)
+IsRefusal IsAnswer left old new OutOfMemory = new ≡ old
+IsRefusal IsAnswer left old new Write = WritesPart IsAnswer left old new

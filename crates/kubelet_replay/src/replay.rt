@@ -1,14 +1,17 @@
 //! The replay of a trace, from its bytes to the bytes of its report.
 
-ghost use Rattle.std.specs.Prelude.{◌≡◌, ◌+◌, ◌^◌, ◌<◌, IfOk, IfErr, OnOk, string_bytes};
+ghost use Rattle.std.specs.Prelude.{◌≡◌, ◌+◌, ◌^◌, ◌<◌, ◌≤◌, IfOk, IfErr, OnOk, string_bytes};
 ghost use Rattle.std.specs.Io.KnownBytes.{Appends};
 ghost use Rattle.kubelet_replay.specs.Run.{longest_input, failed_reads, failed_writes, HasRead, IsReportOfText};
-ghost use Rattle.kubelet_replay.specs.Run.{RefusesText, Refuses, IsWritten, fault_of, WritesReport, IsRefusal};
+ghost use Rattle.tick_round.specs.Played.{most_workers};
+ghost use Rattle.kubelet_replay.specs.Run.{RefusesText, Refuses, IsWritten, fault_of, Writes, IsRefusal};
+ghost use Rattle.kubelet_replay.specs.Run.{IsCheckOfText, check_line};
 
 use crate::fault::RunFault;
 use crate::report::report_of;
 use replay_stream::{ReadAllFault, Sink, Source, read_all, write_all};
-use std::alloc::Global;
+use std::alloc::{AllocError, Global};
+use tick_round::Step;
 use trace::{FaultKind, LineFault, read_trace};
 
 /// The greatest length of an input: 64 MiB.
@@ -37,15 +40,45 @@ fn fault_of(fault: LineFault) -> RunFault
     }
 }
 
-fn report_of_text(alloc: Global, text: &[u8]) -> Result<String, RunFault>
+fn report_of_text(
+    alloc: Global,
+    text: &[u8],
+    workers: usize,
+    steps: &[Step],
+) -> Result<String, RunFault>
+    requires some { 0 < workers }
+    requires most { workers ≤ most_workers }
     ensures ok { IfOk result (λ report. IsReportOfText text.now (string_bytes report)) }
     ensures err { IfErr result (RefusesText text.now) }
 {
     match read_trace(alloc, text) {
-        Ok(trace) => match report_of(alloc, trace) {
+        Ok(trace) => match report_of(alloc, trace, workers, steps) {
             Ok(report) => Ok(report),
             Err(_) => Err(RunFault::OutOfMemory),
         },
+        Err(fault) => Err(fault_of(fault)),
+    }
+}
+
+/// The line of a text that is a trace.
+fn check_line(alloc: Global, pods: usize, ticks: usize) -> Result<String, AllocError>
+    ensures { IfOk result (λ s. string_bytes s ≡ check_line pods ticks) }
+{
+    format!(in alloc; "ok pods={pods} ticks={ticks}\n")
+}
+
+fn check_of_text(alloc: Global, text: &[u8]) -> Result<String, RunFault>
+    ensures ok { IfOk result (λ line. IsCheckOfText text.now (string_bytes line)) }
+    ensures err { IfErr result (RefusesText text.now) }
+{
+    match read_trace(alloc, text) {
+        Ok(trace) => {
+            let (pods, ticks) = (trace.pods.as_slice().len(), trace.ticks.as_slice().len());
+            match check_line(alloc, pods, ticks) {
+                Ok(line) => Ok(line),
+                Err(_) => Err(RunFault::OutOfMemory),
+            }
+        }
         Err(fault) => Err(fault_of(fault)),
     }
 }
@@ -61,26 +94,51 @@ fn write_text<W: Sink>(output: &mut W, text: &str) -> Result<(), RunFault>
     }
 }
 
-/// Replays a trace on one thread and writes the pod lines of its report.
+/// Replays a trace on one thread and writes its report. Each tick is a round that so many workers, 1 to
+/// 64, play by these steps, from their beginning; then each worker finishes what it has. The report is
+/// that of the rules applied pod after pod, whatever the workers and the steps are.
 ///
 /// The input is read to its end and the report is made whole before the first write. So nothing is
 /// written where the reader failed (`Read`), the input has more than 64 MiB (`TooLong`), the text
 /// is no trace (`Line`, with its first faulty line), or a growth of memory was refused
 /// (`OutOfMemory`). Where the writer failed or took nothing (`Write`), a part of the report from
 /// its beginning is written.
-pub fn replay_alone<R: Source, W: Sink>(
+pub fn replay_play<R: Source, W: Sink>(
+    alloc: Global,
+    input: &mut R,
+    output: &mut W,
+    workers: usize,
+    steps: &[Step],
+) -> Result<(), RunFault>
+    requires some { 0 < workers }
+    requires most { workers ≤ most_workers }
+    requires reads { R.failures input.old < 2 ^ 63 }
+    requires writes { W.failures output.old < 2 ^ 63 }
+    ensures ok { OnOk result (Writes IsReportOfText (R.left input.old) (W.written output.old) (W.written output.new)) }
+    ensures err { IfErr result (IsRefusal IsReportOfText (R.left input.old) (W.written output.old) (W.written output.new)) }
+    ensures reads { R.failures input.new ≡ R.failures input.old + failed_reads result }
+    ensures writes { W.failures output.new ≡ W.failures output.old + failed_writes result }
+{
+    let text = read_text(alloc, input)?;
+    let report = report_of_text(alloc, &text, workers, steps)?;
+    write_text(output, report.as_str())
+}
+
+/// Reads a trace without replaying it, and writes `ok pods=P ticks=T` and a newline. It refuses as
+/// [`replay_play`] does.
+pub fn check<R: Source, W: Sink>(
     alloc: Global,
     input: &mut R,
     output: &mut W,
 ) -> Result<(), RunFault>
     requires reads { R.failures input.old < 2 ^ 63 }
     requires writes { W.failures output.old < 2 ^ 63 }
-    ensures ok { OnOk result (WritesReport (R.left input.old) (W.written output.old) (W.written output.new)) }
-    ensures err { IfErr result (IsRefusal (R.left input.old) (W.written output.old) (W.written output.new)) }
+    ensures ok { OnOk result (Writes IsCheckOfText (R.left input.old) (W.written output.old) (W.written output.new)) }
+    ensures err { IfErr result (IsRefusal IsCheckOfText (R.left input.old) (W.written output.old) (W.written output.new)) }
     ensures reads { R.failures input.new ≡ R.failures input.old + failed_reads result }
     ensures writes { W.failures output.new ≡ W.failures output.old + failed_writes result }
 {
     let text = read_text(alloc, input)?;
-    let report = report_of_text(alloc, &text)?;
-    write_text(output, report.as_str())
+    let line = check_of_text(alloc, &text)?;
+    write_text(output, line.as_str())
 }

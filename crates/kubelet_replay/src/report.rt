@@ -1,62 +1,46 @@
-//! The report of a trace: what the ticks make of each pod, as text.
+//! The report of a trace, played.
 
-ghost use Rattle.std.specs.Prelude.{◌≡◌, ℕ, List, Option, IfOk, string_bytes};
-ghost use Rattle.manifest.specs.declared.pod.PodSpec.{PodSpec};
-ghost use Rattle.node_config.specs.declared.node.NodeConfig.{NodeConfig};
-ghost use Rattle.observations.specs.declared.tick.TickObs.{TickObs};
-ghost use Rattle.eviction.specs.declared.eviction.Eviction.{Eviction};
-ghost use Rattle.tick_round.specs.Node.{piece_after, ArePieces, IsAfter};
+ghost use Rattle.std.specs.Prelude.{◌≡◌, ◌<◌, ◌≤◌, IfOk, string_bytes};
+ghost use Rattle.event_book.specs.Shares.{most_parts};
+ghost use Rattle.node_report.specs.Report.{IsReport};
+ghost use Rattle.tick_round.specs.Played.{most_workers};
 ghost use Rattle.trace.specs.Sound.{AreAcceptable, HasShape};
-ghost use Rattle.kubelet_replay.specs.Report.{ArePodLines, AreLines, IsReport};
 
 use crate::replayed::replayed;
-use crate::text::pod_text;
-use pod_piece::PodPiece;
+use event_book::WholeBook;
+use node_report::report_text;
 use std::alloc::{AllocError, Global};
-use tick_round::Node;
+use std::marker::Brand;
+use std::sync::ledger::{Blank, Ledger};
+use tick_round::Step;
 use trace::Trace;
 
-/// The lines of a pod.
-fn pod_lines(alloc: Global, number: usize, piece: &PodPiece) -> Result<String, AllocError>
-    ensures { IfOk result (λ s. (config : NodeConfig) (ticks : List TickObs) (evictions : List (Option Eviction))
-        (pod : PodSpec)
-        → piece.now ≡ piece_after config ticks evictions number pod
-        → ArePodLines ticks evictions number pod (string_bytes s)) }
-{
-    let text = pod_text(alloc, number, piece.pod(), piece.status())?;
-    Ok(text)
+/// Into so many parts the shares of a book can be cut: one for each of 64 workers, and one that stays.
+const PARTS: u64 = 65;
+
+/// The ledgers of a book that is still to be opened.
+#[derive(Drop)]
+struct Blanks {
+    updates: Blank,
+    events: Blank,
+    orders: Blank,
 }
 
-/// The lines of all pods.
-fn all_lines(alloc: Global, pieces: &[PodPiece]) -> Result<String, AllocError>
-    ensures { IfOk result (λ s. (config : NodeConfig) (ticks : List TickObs) (evictions : List (Option Eviction))
-        (pods : List PodSpec) → ArePieces config pods ticks evictions pieces.now
-        → AreLines ticks evictions pods (string_bytes s)) }
-{
-    let mut report = String::new(alloc);
-    for (number, piece) in pieces.iter().enumerate() {
-        let lines = pod_lines(alloc, number, piece)?;
-        report.push_str(lines.as_str())?;
-    }
-    Ok(report)
-}
-
-/// The lines of a node's pods.
-fn node_lines(alloc: Global, node: &Node) -> Result<String, AllocError>
-    ensures { IfOk result (λ s. (config : NodeConfig) (pods : List PodSpec) (ticks : List TickObs)
-        → IsAfter config pods ticks node.now → IsReport config ticks pods (string_bytes s)) }
-{
-    let Some(pieces) = node.pieces() else {
-        return Ok(String::new(alloc));
-    };
-    let lines = all_lines(alloc, pieces)?;
-    Ok(lines)
-}
-
-/// The report of a trace.
-pub(crate) fn report_of(alloc: Global, trace: Trace) -> Result<String, AllocError>
+/// The report of a trace, on a node with a book over these ledgers.
+fn report_with<U: Ledger, E: Ledger, O: Ledger>(
+    alloc: Global,
+    trace: Trace,
+    blanks: Blanks,
+    workers: usize,
+    steps: &[Step],
+) -> Result<String, AllocError>
     requires acceptable { AreAcceptable trace.ticks }
     requires shape { HasShape trace.pods trace.arrivals trace.ticks }
+    requires names { (blanks.updates.name ≡ U.name) × (blanks.events.name ≡ E.name) × (blanks.orders.name ≡ O.name) }
+    requires parts { (blanks.updates.parts ≡ U.parts) × (blanks.events.parts ≡ E.parts) × (blanks.orders.parts ≡ O.parts) }
+    requires level { (U.parts ≡ most_parts) × (E.parts ≡ most_parts) × (O.parts ≡ most_parts) }
+    requires some { 0 < workers }
+    requires most { workers ≤ most_workers }
     ensures { IfOk result (λ s. IsReport trace.node trace.ticks trace.pods (string_bytes s)) }
 {
     let Trace {
@@ -65,9 +49,40 @@ pub(crate) fn report_of(alloc: Global, trace: Trace) -> Result<String, AllocErro
         ticks,
         ..
     } = trace;
-    let Ok(node) = replayed(alloc, node, pods.into_vec(), ticks.into_vec()) else {
+    let Blanks {
+        updates,
+        events,
+        orders,
+    } = blanks;
+    let book = WholeBook::<U, E, O>::new(updates, events, orders);
+    let (pods, ticks) = (pods.into_vec(), ticks.into_vec());
+    let Ok(node) = replayed(alloc, node, pods, ticks, book, workers, steps) else {
         return Err(AllocError);
     };
-    let lines = node_lines(alloc, &node)?;
-    Ok(lines)
+    let Ok(summary) = node.summary() else {
+        return Err(AllocError);
+    };
+    let report = report_text(alloc, &summary)?;
+    Ok(report)
+}
+
+/// The report of a trace, each of whose ticks is a round that so many workers play by these steps.
+pub(crate) fn report_of(
+    alloc: Global,
+    trace: Trace,
+    workers: usize,
+    steps: &[Step],
+) -> Result<String, AllocError>
+    requires acceptable { AreAcceptable trace.ticks }
+    requires shape { HasShape trace.pods trace.arrivals trace.ticks }
+    requires some { 0 < workers }
+    requires most { workers ≤ most_workers }
+    ensures { IfOk result (λ s. IsReport trace.node trace.ticks trace.pods (string_bytes s)) }
+{
+    let blanks = Blanks {
+        updates: Blank::new(PARTS),
+        events: Blank::new(PARTS),
+        orders: Blank::new(PARTS),
+    };
+    report_with::<Brand, Brand, Brand>(alloc, trace, blanks, workers, steps)
 }

@@ -1,5 +1,5 @@
 -- The candidates that are held, and their victim.
-use Rattle.std.proofs.Common.{◌≡◌, ◌∙◌, inl, inr, ℕ, ◌+◌, ◌<◌, Bool, true, false, List, [], length, Option}
+use Rattle.std.proofs.Common.{◌≡◌, ◌∙◌, inl, inr, ℕ, ◌+◌, ◌<◌, ◌≤◌, Bool, true, false, List, [], length, Option}
 use Rattle.std.proofs.Common.{Some, None, refl, sym, subst, arith}
 use Rattle.std.specs.Prelude.{◌≢◌, IsSome, slice_get}
 use Rattle.std.proofs.lemmas.Bool.{cases_eq, cases_lt}
@@ -137,16 +137,16 @@ below_more pieces i piece status before held after at is number are so_far = rec
 }
 
 -- all have it
-pub all_below : (old new : List Piece) (before held : ℕ → Option PodStatus) → length new ≡ length old
-    → AreHeld old before → AreHeldBelow new (length new) before held → AreHeld new held
-all_below old new before held long was so_far n = elim (cases_lt n (length new)) [
+pub all_below : (pieces : List Piece) (before held : ℕ → Option PodStatus)
+    → ((n : ℕ) → length pieces ≤ n → before n ≡ None) → AreHeldBelow pieces (length pieces) before held
+    → AreHeld pieces held
+all_below pieces before held none so_far n = elim (cases_lt n (length pieces)) [
   | inl lt ↦ so_far.below n lt
   | inr past ↦ record {
     sound = λ p e.
-        let c = (was n).sound p (sym (so_far.rest n (omega arith)) ∙ e) in
-        let lt : n < length old = slice_get_within old n c.piece c.at in
-        absurd (omega arith);
-    complete = λ p c. let lt : n < length new = slice_get_within new n c.piece c.at in absurd (omega arith);
+        let w : None ≡ Some p = sym (none n (omega arith)) ∙ sym (so_far.rest n (omega arith)) ∙ e in absurd (cc);
+    complete = λ p c.
+        let lt : n < length pieces = slice_get_within pieces n c.piece c.at in absurd (omega arith);
   }
 ]
 
@@ -157,15 +157,15 @@ none_held n = record {
 }
 
 -- no pod is held behind the last
-pub none_past : (pieces : List Piece) (held : ℕ → Option PodStatus) → AreHeld pieces held
-    → held (length pieces) ≡ None
-none_past pieces held are = none_at (held (length pieces)) refl
+pub none_past : (pieces : List Piece) (held : ℕ → Option PodStatus) → AreHeld pieces held → (n : ℕ)
+    → length pieces ≤ n → held n ≡ None
+none_past pieces held are n past = none_at (held n) refl
   where
-    none_at : (o : Option PodStatus) → held (length pieces) ≡ o → held (length pieces) ≡ None
+    none_at : (o : Option PodStatus) → held n ≡ o → held n ≡ None
     none_at None e = e
     none_at (Some p) e =
-        let c = (are (length pieces)).sound p e in
-        let lt : length pieces < length pieces = slice_get_within pieces (length pieces) c.piece c.at in
+        let c = (are n).sound p e in
+        let lt : n < length pieces = slice_get_within pieces n c.piece c.at in
         absurd (omega arith)
 
 -- the pod that was evicted is no candidate any more

@@ -1,6 +1,6 @@
 -- What the pods of a node keep, from call to call.
-use Rattle.std.proofs.Common.{◌≡◌, ◌∙◌, inl, inr, ℕ, Bool, List, [], ◌∷◌, ◌++◌, length, Option, Some, None}
-use Rattle.std.proofs.Common.{refl, ap, sym, subst, arith}
+use Rattle.std.proofs.Common.{◌≡◌, ◌∙◌, inl, inr, ℕ, Bool, List, [], ◌∷◌, ◌++◌, length, map}
+use Rattle.std.proofs.Common.{Option, Some, None, refl, ap, sym, subst, arith}
 use Rattle.std.specs.Prelude.{◌≢◌, slice_get, Result, Ok, Err, OnErr}
 use Rattle.std.proofs.lemmas.Bool.{cases_eq, cases_order}
 use Rattle.std.proofs.lemmas.Option.{slice_get_within, slice_get_past}
@@ -18,14 +18,15 @@ use Rattle.pod_piece.specs.Status.{IsStatusOf}
 use Rattle.ranking.specs.Index.{AreHeldAfter, AreHeldWithout}
 use Rattle.ranking.proofs.LawLemmas.{one_is_held_after, one_is_held_without}
 use Rattle.node_pods.specs.declared.rankings.Rankings.{Rankings}
-use Rattle.node_pods.specs.Pods.{pods_of, IsPlaced, ArePlaced, AreNext, AreAfter, IsEvictable, AreEvicted}
+use Rattle.node_pods.specs.Pods.{pods_of, IsPlaced, ArePlaced, AreNext, AreHanded, AreAfter, awaited, AreAwaited}
+use Rattle.node_pods.specs.Pods.{IsEvictable, AreEvicted}
 use Rattle.node_pods.specs.Laws.{CandidateIsEvictable}
 use Rattle.node_pods.specs.Steps.{AreFree}
-use Rattle.node_pods.specs.Ranked.{AreHeldBelow, AreRankings, AreRankingsBut, IsKept}
+use Rattle.node_pods.specs.Ranked.{AreHeldBelow, AreRankings, AreRankingsBut, AreRanked, AreRankedBelow, IsKept}
 use Rattle.node_pods.proofs.Candidates.{same_piece, held_after, held_without, all_below, none_past}
 use Rattle.node_pods.proofs.Candidates.{evicted_is_no_candidate}
 use Rattle.node_pods.proofs.Indexes.{but}
-use Rattle.node_pods.proofs.Steps.{item_at}
+use Rattle.node_pods.proofs.Steps.{item_at, after_handed}
 
 -- where each pod has its number
 pub free_all : (pieces : List Piece) (greatest : ℕ) (dedicated : Bool)
@@ -83,7 +84,8 @@ pub kept_refused : (pieces : List Piece) (greatest : ℕ) (dedicated : Bool) (ol
     → AreRankings d held new) → IsKept (pods_of pieces greatest dedicated) new
 kept_refused pieces greatest dedicated old new status kept number undo =
     let ranked = kept.ranked in
-    let none = subst (λ (k : ℕ). ranked.held k ≡ None) (sym number) (none_past pieces ranked.held ranked.are_held) in
+    let none = subst (λ (k : ℕ). ranked.held k ≡ None) (sym number)
+    (none_past pieces ranked.held ranked.are_held (length pieces) (omega arith)) in
     record {
       placed = kept.placed;
       ranked = record {
@@ -106,20 +108,38 @@ placed_after old greatest dedicated shown new placed next are n piece at =
     (same_piece new n (updated (with_tick p.0 (pod_tick o.0))) piece (are.each n p.0 o.0 p.1 o.1) at)
     (record { number_is = was.number_is; greatest_is = was.greatest_is; free = refl })
 
-pub kept_after : (old : List Piece) (greatest : ℕ) (dedicated : Bool) (shown : List PodObs) (new : List Piece)
-    (before after : Rankings) → IsKept (pods_of old greatest dedicated) before → AreNext old shown
-    → AreAfter old shown new
-    → ((d : Bool) (was : ℕ → Option PodStatus) → AreRankings d was before
-    → (held : ℕ → Option PodStatus) × AreRankings d held after × AreHeldBelow new (length new) was held)
-    → IsKept (pods_of new greatest dedicated) after
-kept_after old greatest dedicated shown new before after kept next are rank =
-    let ranked = kept.ranked in
-    let now = rank dedicated ranked.held ranked.are_rankings in
+-- while the pieces are updated
+pub awaited_after : (old : List Piece) (greatest : ℕ) (dedicated : Bool) (shown : List PodObs) (pending : List Piece)
+    → ArePlaced (pods_of old greatest dedicated) → AreNext old shown → AreHanded old shown pending
+    → AreAwaited (awaited (length old) greatest dedicated) (map updated pending)
+awaited_after old greatest dedicated shown pending placed next are =
+    let after = after_handed old shown pending are in
     record {
-      placed = placed_after old greatest dedicated shown new kept.placed next are;
+      as_many = after.as_many;
+      placed = placed_after old greatest dedicated shown (map updated pending) placed next after;
+    }
+
+pub ranked_below : (pieces : List Piece) (greatest count : ℕ) (dedicated : Bool) (r : Rankings)
+    → count ≡ length pieces → AreRanked (pods_of pieces greatest dedicated) r → AreRankedBelow count dedicated r
+ranked_below pieces greatest count dedicated r many ranked = record {
+  held = ranked.held;
+  none_past = λ n past. none_past pieces ranked.held ranked.are_held n (omega (arith, past, many));
+  are_rankings = ranked.are_rankings;
+}
+
+pub kept_with : (pieces : List Piece) (greatest count : ℕ) (dedicated : Bool) (before after : Rankings)
+    → AreRankedBelow count dedicated before → AreAwaited (awaited count greatest dedicated) pieces
+    → ((d : Bool) (was : ℕ → Option PodStatus) → AreRankings d was before
+    → (held : ℕ → Option PodStatus) × AreRankings d held after × AreHeldBelow pieces (length pieces) was held)
+    → IsKept (pods_of pieces greatest dedicated) after
+kept_with pieces greatest count dedicated before after ranked are rank =
+    let now = rank dedicated ranked.held ranked.are_rankings in
+    let many : length pieces ≡ count = are.as_many in
+    record {
+      placed = are.placed;
       ranked = record {
         held = now.0;
-        are_held = all_below old new ranked.held now.0 are.as_many ranked.are_held now.2;
+        are_held = all_below pieces ranked.held now.0 (λ n past. ranked.none_past n (omega (arith, past, many))) now.2;
         are_rankings = now.1;
       };
     }

@@ -1,17 +1,18 @@
 -- The pods of a node, one after the other: which tick may come, and what it makes of them.
-use Rattle.std.proofs.Common.{◌≡◌, ◌∙◌, inl, inr, ℕ, zero, suc, ◌+◌, ◌<◌, Bool, List, [], ◌∷◌, ◌++◌, length}
+use Rattle.std.proofs.Common.{◌≡◌, ◌∙◌, inl, inr, ℕ, zero, suc, ◌+◌, ◌<◌, Bool, List, [], ◌∷◌, ◌++◌, length, map}
 use Rattle.std.proofs.Common.{Option, Some, None, refl, ap, sym, subst, arith}
-use Rattle.std.specs.Prelude.{◌≢◌, ◌↔◌, IsTrue, MatchOption, slice_get, slice_set}
+use Rattle.std.specs.Prelude.{◌≢◌, ◌↔◌, IsTrue, MatchOption, option_map, slice_get, slice_set}
 use Rattle.std.specs.Option.{option_to_list}
 use Rattle.std.proofs.lemmas.Bool.{cases_eq}
-use Rattle.std.proofs.lemmas.Option.{slice_get_within}
+use Rattle.std.proofs.lemmas.List.{length-map}
+use Rattle.std.proofs.lemmas.Option.{slice_get_within, slice_get-map}
 use Rattle.observations.specs.declared.pod.PodObs.{PodObs}
 use Rattle.observations.specs.declared.tick.TickObs.{TickObs}
 use Rattle.pod_state.specs.Pods.{pod_tick}
 use Rattle.pod_piece.specs.declared.order.EvictOrder.{EvictOrder}
 use Rattle.pod_piece.specs.Piece.{Piece, with_tick, updated, with_eviction}
-use Rattle.node_pods.specs.Pods.{Pods, AreNext, Fits, AreAfter, AreEvicted}
-use Rattle.node_pods.specs.Steps.{AreFree, IsNextAt, AreNextBelow, MayTake, with_shown, MayTakeAll, with_all}
+use Rattle.node_pods.specs.Pods.{Pods, AreNext, Fits, AreHanded, AreAfter, AreEvicted}
+use Rattle.node_pods.specs.Steps.{AreFree, IsNextAt, AreNextBelow, MayTake, with_shown}
 use Rattle.node_pods.specs.Laws.{OneIsAfter, OneIsEvicted}
 use Rattle.node_pods.proofs.Candidates.{same_piece}
 
@@ -33,7 +34,18 @@ item_at [] n lt = absurd (omega arith)
 item_at (x ∷ xs) zero lt = (x, refl)
 item_at (x ∷ xs) (suc n) lt = item_at xs n (omega arith)
 
--- what is shown of the pods, one after the other
+-- what is shown of the pods, one after the other, may be handed to them
+abbrev pub MayTakeAll : List Piece → List PodObs → Type 0
+MayTakeAll [] shown = Unit {0}
+MayTakeAll (p ∷ ps) [] = Unit {0}
+MayTakeAll (p ∷ ps) (o ∷ os) = MayTake p (Some o) × MayTakeAll ps os
+
+-- it is handed to them
+abbrev pub with_all : List Piece → List PodObs → List Piece
+with_all [] shown = []
+with_all (p ∷ ps) [] = p ∷ ps
+with_all (p ∷ ps) (o ∷ os) = with_shown p (Some o) ∷ with_all ps os
+
 pub may_take_all : (pieces : List Piece) (shown : List PodObs) → AreFree pieces → AreNext pieces shown
     → MayTakeAll pieces shown
 may_take_all [] shown free next = tt
@@ -46,25 +58,34 @@ may_take_all (p ∷ ps) (o ∷ os) free next = (
   }),
 )
 
-after_more : (p : Piece) (o : PodObs) (old : List Piece) (shown : List PodObs) (new : List Piece)
-    → AreAfter old shown new → AreAfter (p ∷ old) (o ∷ shown) (updated (with_tick p (pod_tick o)) ∷ new)
-after_more p o old shown new are = record { as_many = ap suc are.as_many; each = each }
+handed_more : (p : Piece) (o : PodObs) (old : List Piece) (shown : List PodObs) (new : List Piece)
+    → AreHanded old shown new → AreHanded (p ∷ old) (o ∷ shown) (with_tick p (pod_tick o) ∷ new)
+handed_more p o old shown new are = record { as_many = ap suc are.as_many; each = each }
   where
     each : (n : ℕ) (piece : Piece) (observed : PodObs) → slice_get (p ∷ old) n ≡ Some piece
         → slice_get (o ∷ shown) n ≡ Some observed
-        → slice_get (updated (with_tick p (pod_tick o)) ∷ new) n ≡ Some (updated (with_tick piece (pod_tick observed)))
+        → slice_get (with_tick p (pod_tick o) ∷ new) n ≡ Some (with_tick piece (pod_tick observed))
     each zero piece observed at there =
         let same : p ≡ piece = cc in
         let shown_same : o ≡ observed = cc in
-        ap (λ (q : Piece). Some (updated (with_tick q (pod_tick o)))) same
-        ∙ ap (λ (x : PodObs). Some (updated (with_tick piece (pod_tick x)))) shown_same
+        ap (λ (q : Piece). Some (with_tick q (pod_tick o))) same
+        ∙ ap (λ (x : PodObs). Some (with_tick piece (pod_tick x))) shown_same
     each (suc n) piece observed at there = are.each n piece observed at there
 
-pub all_after : (old : List Piece) (shown : List PodObs) → length shown ≡ length old
-    → AreAfter old shown (with_all old shown)
-all_after [] shown long = record { as_many = refl; each = λ n piece observed at there. absurd (cc) }
-all_after (p ∷ ps) [] long = absurd (omega arith)
-all_after (p ∷ ps) (o ∷ os) long = after_more p o ps os (with_all ps os) (all_after ps os (omega (arith, long)))
+pub all_handed : (old : List Piece) (shown : List PodObs) → length shown ≡ length old
+    → AreHanded old shown (with_all old shown)
+all_handed [] shown long = record { as_many = refl; each = λ n piece observed at there. absurd (cc) }
+all_handed (p ∷ ps) [] long = absurd (omega arith)
+all_handed (p ∷ ps) (o ∷ os) long = handed_more p o ps os (with_all ps os) (all_handed ps os (omega (arith, long)))
+
+-- the pieces that were handed a tick, once they have taken it
+pub after_handed : (old : List Piece) (shown : List PodObs) (pending : List Piece) → AreHanded old shown pending
+    → AreAfter old shown (map updated pending)
+after_handed old shown pending are = record {
+  as_many = length-map pending updated ∙ are.as_many;
+  each = λ n piece observed at there.
+      slice_get-map updated pending n ∙ ap (option_map updated) (are.each n piece observed at there);
+}
 
 pub after_unique : (old : List Piece) (shown : List PodObs) (one other : List Piece) → AreNext old shown
     → AreAfter old shown one → AreAfter old shown other → one ≡ other
@@ -74,18 +95,18 @@ after_unique old shown one other next a b = same_items one other (a.as_many ∙ 
     a.each n p.0 o.0 p.1 o.1 ∙ sym (b.each n p.0 o.0 p.1 o.1))
 
 -- one piece set
-set_length : {A : Type 0} (xs : List A) (n : ℕ) (x : A) → length (slice_set xs n x) ≡ length xs
+pub set_length : {A : Type 0} (xs : List A) (n : ℕ) (x : A) → length (slice_set xs n x) ≡ length xs
 set_length [] n x = refl
 set_length (y ∷ xs) zero x = refl
 set_length (y ∷ xs) (suc n) x = ap suc (set_length xs n x)
 
-set_here : {A : Type 0} (xs : List A) (n : ℕ) (x y : A) → slice_get xs n ≡ Some y
+pub set_here : {A : Type 0} (xs : List A) (n : ℕ) (x y : A) → slice_get xs n ≡ Some y
     → slice_get (slice_set xs n x) n ≡ Some x
 set_here [] n x y at = absurd (cc)
 set_here (z ∷ xs) zero x y at = refl
 set_here (z ∷ xs) (suc n) x y at = set_here xs n x y at
 
-set_others : {A : Type 0} (xs : List A) (n m : ℕ) (x : A) → m ≢ n → slice_get (slice_set xs n x) m ≡ slice_get xs m
+pub set_others : {A : Type 0} (xs : List A) (n m : ℕ) (x : A) → m ≢ n → slice_get (slice_set xs n x) m ≡ slice_get xs m
 set_others [] n m x apart = refl
 set_others (z ∷ xs) zero zero x apart = absurd (apart refl)
 set_others (z ∷ xs) zero (suc m) x apart = refl
@@ -184,7 +205,10 @@ all_fit pods tick fits n piece observed lt at there =
 -- there are pieces after a tick, and after an eviction
 pub one_is_after : OneIsAfter
 one_is_after = record {
-  exists = λ old shown next. (with_all old shown, all_after old shown next.as_many);
+  exists = λ old shown next. (
+    map updated (with_all old shown),
+    after_handed old shown (with_all old shown) (all_handed old shown next.as_many),
+  );
   unique = after_unique;
 }
 

@@ -58,11 +58,33 @@ pub record Fits (pods : Pods) (tick : TickObs) : Type 0 where
   pub next : AreNext pods.pieces tick.pods
   pub at_its_moment : (n : ℕ) (observed : PodObs) → shown_of tick n ≡ Some observed → observed.at ≡ tick.at
 
+-- the pieces once each was handed what is shown of it
+pub record AreHanded (old : List Piece) (shown : List PodObs) (new : List Piece) : Type 0 where
+  pub as_many : length new ≡ length old
+  pub each : (n : ℕ) (piece : Piece) (observed : PodObs) → slice_get old n ≡ Some piece
+      → slice_get shown n ≡ Some observed → slice_get new n ≡ Some (with_tick piece (pod_tick observed))
+
 -- the pieces once each was handed what is shown of it, and has taken it into its status
 pub record AreAfter (old : List Piece) (shown : List PodObs) (new : List Piece) : Type 0 where
   pub as_many : length new ≡ length old
   pub each : (n : ℕ) (piece : Piece) (observed : PodObs) → slice_get old n ≡ Some piece
       → slice_get shown n ≡ Some observed → slice_get new n ≡ Some (updated (with_tick piece (pod_tick observed)))
+
+-- what a node keeps of its pods while their pieces take a tick into their statuses
+pub record Awaited : Type 0 where
+  -- as many pieces come back
+  pub count : ℕ
+  pub greatest : ℕ
+  pub has_dedicated_imagefs : Bool
+
+abbrev pub awaited : ℕ → ℕ → Bool → Awaited
+awaited count greatest has_dedicated_imagefs =
+    record { count = count; greatest = greatest; has_dedicated_imagefs = has_dedicated_imagefs }
+
+-- these pieces may come back: there are as many, and each is a pod of the node
+pub record AreAwaited (a : Awaited) (pieces : List Piece) : Type 0 where
+  pub as_many : length pieces ≡ a.count
+  pub placed : ArePlaced (pods_of pieces a.greatest a.has_dedicated_imagefs)
 
 -- the pod with the number may be evicted by the tick of this moment
 pub record IsEvictable (pieces : List Piece) (number : ℕ) (at : ℕ) : Type 0 where

@@ -1,5 +1,5 @@
 -- The indexes of a node's pods, one for each signal.
-use Rattle.std.specs.Prelude.{◌≡◌, ◌≢◌, ℕ, ◌<◌, ◌≤◌, Bool, List, Option, Some, IsSome}
+use Rattle.std.specs.Prelude.{◌≡◌, ◌≢◌, ℕ, ◌<◌, ◌≤◌, Bool, List, Option, Some, None, IsSome}
 use Rattle.signals.specs.declared.signal.Signal.{Signal}
 use Rattle.signals.specs.declared.signal.Signal.TheVariants.{MemoryAvailable, NodefsAvailable, ImagefsAvailable}
 use Rattle.signals.specs.declared.signal.Signal.TheVariants.{NodefsInodesFree, ImagefsInodesFree, PidAvailable}
@@ -62,3 +62,9 @@ pub record AreRanked (pods : Pods) (r : Rankings) : Type 0 where
 pub record IsKept (pods : Pods) (r : Rankings) : Type 0 where
   pub placed : ArePlaced pods
   pub ranked : AreRanked pods r
+
+-- what the indexes keep while the pieces are updated: none holds a pod from this number on
+pub record AreRankedBelow (count : ℕ) (has_dedicated_imagefs : Bool) (r : Rankings) : Type 0 where
+  pub held : ℕ → Option PodStatus
+  pub none_past : (n : ℕ) → count ≤ n → held n ≡ None
+  pub are_rankings : AreRankings has_dedicated_imagefs held r

@@ -1,9 +1,9 @@
 -- The pieces of a node's pods, one after the other, at one tick.
-use Rattle.std.specs.Prelude.{◌≡◌, ◌<◌, ℕ, false, List, [], ◌∷◌, slice_get, Option, Some, None}
+use Rattle.std.specs.Prelude.{◌≡◌, ◌<◌, ℕ, false, List, slice_get, Option, Some, None}
 use Rattle.observations.specs.declared.pod.PodObs.{PodObs}
 use Rattle.pod_state.specs.Pods.{pod_tick}
 use Rattle.pod_piece.specs.Listings.{IsNextTick}
-use Rattle.pod_piece.specs.Piece.{Piece, with_tick, updated}
+use Rattle.pod_piece.specs.Piece.{Piece, with_tick}
 
 -- none has a tick that is still to come into its status
 abbrev pub AreFree : List Piece → Type 0
@@ -25,18 +25,7 @@ abbrev pub MayTake : Piece → Option PodObs → Type 0
 MayTake p None = Unit {0}
 MayTake p (Some observed) = (p.is_pending ≡ false) × IsNextTick p.pod p.handed (pod_tick observed)
 
--- it is handed to it, and comes into its status
+-- it is handed to it
 abbrev pub with_shown : Piece → Option PodObs → Piece
 with_shown p None = p
-with_shown p (Some observed) = updated (with_tick p (pod_tick observed))
-
--- the same of all pods
-abbrev pub MayTakeAll : List Piece → List PodObs → Type 0
-MayTakeAll [] shown = Unit {0}
-MayTakeAll (p ∷ ps) [] = Unit {0}
-MayTakeAll (p ∷ ps) (o ∷ os) = MayTake p (Some o) × MayTakeAll ps os
-
-abbrev pub with_all : List Piece → List PodObs → List Piece
-with_all [] shown = []
-with_all (p ∷ ps) [] = p ∷ ps
-with_all (p ∷ ps) (o ∷ os) = with_shown p (Some o) ∷ with_all ps os
+with_shown p (Some observed) = with_tick p (pod_tick observed)

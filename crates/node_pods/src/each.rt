@@ -4,7 +4,7 @@ ghost use Rattle.std.specs.Prelude.{◌≡◌, ◌↔◌, ℕ, ◌<◌, Bool, fa
 ghost use Rattle.std.specs.Prelude.{IsTrue, IfSome, IfOk, OnOk};
 ghost use Rattle.pod_piece.specs.declared.status.PodStatus.{PodStatus};
 ghost use Rattle.pod_piece.specs.Piece.{Piece};
-ghost use Rattle.node_pods.specs.Pods.{AreNext, AreAfter, IsEvictable, AreEvicted};
+ghost use Rattle.node_pods.specs.Pods.{AreNext, AreHanded, IsEvictable, AreEvicted};
 ghost use Rattle.node_pods.specs.Steps.{AreFree, IsNextAt, AreNextBelow, MayTake, with_shown};
 ghost use Rattle.node_pods.specs.Ranked.{AreRankings, AreHeldBelow};
 
@@ -67,37 +67,33 @@ pub(crate) fn are_next(pieces: &[PodPiece], shown: &[PodObs], at: u64) -> bool
     true
 }
 
-/// The piece after a tick that shows this of its pod, if it shows the pod.
-fn after_tick(piece: PodPiece, observed: Option<PodObs>) -> Result<PodPiece, AllocError>
+/// The piece once it was handed what a tick shows of its pod, if the tick shows the pod.
+fn handed(piece: PodPiece, observed: Option<PodObs>) -> Result<PodPiece, AllocError>
     requires { MayTake piece observed }
     ensures { IfOk result (λ p. p ≡ with_shown piece observed) }
 {
     let mut piece = piece;
-    let Some(observed) = observed else {
-        return Ok(piece);
-    };
-    piece.hand(observed)?;
-    match piece.update() {
-        Ok(updated) => Ok(updated),
-        Err(_) => Err(AllocError),
+    if let Some(observed) = observed {
+        piece.hand(observed)?;
     }
+    Ok(piece)
 }
 
-/// The pieces after a tick that shows this of their pods, by number.
-pub(crate) fn after_all(
+/// The pieces once each was handed what a tick shows of its pod, by number.
+pub(crate) fn all_handed(
     alloc: Global,
     pieces: Vec<PodPiece>,
     shown: Vec<PodObs>,
 ) -> Result<Vec<PodPiece>, AllocError>
     requires free { AreFree pieces.items }
     requires next { AreNext pieces.items shown.items }
-    ensures { IfOk result (λ v. AreAfter pieces.items shown.items v.items) }
+    ensures { IfOk result (λ v. AreHanded pieces.items shown.items v.items) }
 {
     let mut all = Vec::with_capacity(alloc, pieces.len())?;
     let mut observations = shown.into_iter();
     for piece in pieces {
         let observed = observations.next();
-        all.push(after_tick(piece, observed)?)?;
+        all.push(handed(piece, observed)?)?;
     }
     Ok(all)
 }

@@ -1,8 +1,8 @@
 //! The pods that are present on a node, with their places in the orders of eviction.
 //! (Kubernetes, "Pod Lifecycle" and "Node-pressure Eviction".)
 //!
-//! A tick is handed to all pods together, and one pod at a time is evicted. What that makes of them
-//! is defined in `specs/Pods.antt`.
+//! A tick is handed to all pods together. Their pieces then go out to take it into their statuses, and
+//! come back; and one pod at a time is evicted. What that makes of them is defined in `specs/Pods.antt`.
 #![tactic(auto)]
 
 mod each;
@@ -10,4 +10,4 @@ pub mod laws;
 mod pods;
 mod rankings;
 
-pub use pods::NodePods;
+pub use pods::{AwaitedPods, NodePods};

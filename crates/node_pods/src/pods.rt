@@ -1,11 +1,12 @@
 //! The pods of a node.
 
-ghost use Rattle.std.specs.Prelude.{◌≡◌, ◌↔◌, [], IsTrue, IfOk, OnOk, OnErr};
+ghost use Rattle.std.specs.Prelude.{◌≡◌, ◌↔◌, [], length, map, IsTrue, IfOk, OnOk, OnErr};
+ghost use Rattle.pod_piece.specs.Piece.{updated};
 ghost use Rattle.ranking.specs.Order.{IsVictim};
-ghost use Rattle.node_pods.specs.Pods.{pods_of, with_pod, ArePlaced, IsCandidate, AreNext, Fits, AreAfter};
-ghost use Rattle.node_pods.specs.Pods.{IsEvictable, AreEvicted};
+ghost use Rattle.node_pods.specs.Pods.{pods_of, with_pod, ArePlaced, IsCandidate, AreNext, Fits, AreHanded};
+ghost use Rattle.node_pods.specs.Pods.{awaited, AreAwaited, IsEvictable, AreEvicted};
 
-use crate::each::{after_all, are_next, evict_at, rank_all};
+use crate::each::{all_handed, are_next, evict_at, rank_all};
 use crate::rankings::Rankings;
 use manifest::{MaxRestartDelay, PodSpec};
 use observations::{PodObs, TickObs};
@@ -82,30 +83,35 @@ impl NodePods {
         shown.len() == self.pieces.len() && are_next(&self.pieces, shown, tick.at)
     }
 
-    /// The pods after a tick that shows this of them, by number. An `Err` says that memory was
-    /// refused.
-    pub fn after(self, shown: Vec<PodObs>) -> Result<NodePods, AllocError>
+    /// Hands each pod what a tick shows of it, by number. The pieces, which are still to take it into
+    /// their statuses, go out of the node's hands, and come back by `AwaitedPods::with`. An `Err` says
+    /// that memory was refused.
+    pub fn hand(self, shown: Vec<PodObs>) -> Result<(Vec<PodPiece>, AwaitedPods), AllocError>
         requires { AreNext self.pieces shown.items }
-        ensures after { IfOk result (λ pods. AreAfter self.pieces shown.items pods.pieces) }
-        ensures greatest { IfOk result (λ pods. pods.greatest ≡ self.greatest) }
-        ensures dedicated { IfOk result (λ pods. pods.has_dedicated_imagefs ≡ self.has_dedicated_imagefs) }
+        ensures handed { IfOk result (λ r. AreHanded self.pieces shown.items r.0.items) }
+        ensures awaited { IfOk result (λ r. r.1
+            ≡ awaited (length self.pieces) self.greatest self.has_dedicated_imagefs) }
+        ensures updated { IfOk result (λ r. AreAwaited r.1 (map updated r.0.items)) }
     {
         let NodePods {
             alloc,
             greatest,
             has_dedicated_imagefs,
             pieces,
-            mut rankings,
-        } = self;
-        let pieces = after_all(alloc, pieces, shown)?;
-        rank_all(&mut rankings, &pieces)?;
-        Ok(NodePods {
-            alloc,
-            greatest,
-            has_dedicated_imagefs,
-            pieces,
             rankings,
-        })
+        } = self;
+        let count = pieces.len();
+        let pieces = all_handed(alloc, pieces, shown)?;
+        Ok((
+            pieces,
+            AwaitedPods {
+                alloc,
+                greatest,
+                has_dedicated_imagefs,
+                count,
+                rankings,
+            },
+        ))
     }
 
     /// The number of the pod that is evicted first under the signal; none, where all pods have ended.
@@ -126,5 +132,51 @@ impl NodePods {
     {
         evict_at(&mut self.pieces, number, order);
         self.rankings.remove(number);
+    }
+}
+
+/// What a node keeps of its pods while their pieces take a tick into their statuses.
+#[derive(Drop)]
+pub struct AwaitedPods {
+    alloc: Global,
+    greatest: MaxRestartDelay,
+    has_dedicated_imagefs: bool,
+    count: usize,
+    rankings: Rankings,
+}
+
+impl Model for AwaitedPods {
+    ghost use Rattle.node_pods.specs.Pods.{Awaited, awaited};
+    ghost use Rattle.node_pods.specs.Ranked.{AreRankedBelow};
+
+    ghost Value = { Awaited };
+
+    ghost view = { λ a. awaited a.count a.greatest a.has_dedicated_imagefs };
+
+    ghost invariant = { λ a. AreRankedBelow a.count a.has_dedicated_imagefs a.rankings };
+}
+
+impl AwaitedPods {
+    /// The pods of the node with these pieces, each at its present place in the orders of eviction. An
+    /// `Err` says that memory was refused.
+    pub fn with(self, pieces: Vec<PodPiece>) -> Result<NodePods, AllocError>
+        requires { AreAwaited self pieces.items }
+        ensures { IfOk result (λ pods. pods ≡ pods_of pieces.items self.greatest self.has_dedicated_imagefs) }
+    {
+        let AwaitedPods {
+            alloc,
+            greatest,
+            has_dedicated_imagefs,
+            count: _,
+            mut rankings,
+        } = self;
+        rank_all(&mut rankings, &pieces)?;
+        Ok(NodePods {
+            alloc,
+            greatest,
+            has_dedicated_imagefs,
+            pieces,
+            rankings,
+        })
     }
 }

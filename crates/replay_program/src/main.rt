@@ -1,38 +1,88 @@
-//! Reads the trace of a node from standard input, and writes the pod lines of its report on
-//! standard output.
+//! Writes the report of a node's trace, or says whether a file is a trace. With no words at all it
+//! reads standard input.
 #![tactic(auto)]
 
-use kubelet_replay::{Counted, RunFault, fault_line, replay_alone, status_of};
+mod fault;
+
+use fault::Fault;
+use kubelet_replay::{Counted, Job, check, job_of, read_steps, replay_play};
+use replay_stream::read_all;
+use std::alloc::AllocError;
+use std::env::Env;
+use std::fs::File;
 use std::process::ExitCode;
+use std::rt::Files;
 use std::{env, io};
 
-/// The status of a call with words, which the program doesn't take yet.
-const USAGE: u8 = 3;
+/// So many workers share the pods where no word says how many.
+const WORKERS: usize = 4;
 
-/// Ends with status 0 where the whole report was written, and with 1, 2 or 3 otherwise. (An entry
+/// The most bytes of a steps file, 1 MiB.
+const LONGEST_STEPS: usize = 1_048_576;
+
+/// The program's words, the program's own name first.
+fn words_of(rt: &(impl Env + AllocGlobal)) -> Result<Vec<String>, Fault> {
+    let mut words = Vec::new(rt.alloc());
+    for word in env::args(rt)? {
+        words.push(word).map_err(|_| AllocError)?;
+    }
+    Ok(words)
+}
+
+/// Does what the words ask for, and writes the answer on standard output.
+fn work(
+    rt: &(impl Files + AllocGlobal),
+    job: Job<'_>,
+    output: impl io::Write + Drop,
+) -> Result<(), Fault> {
+    let alloc = rt.alloc();
+    let mut output = Counted::new(output);
+    match job {
+        Job::Run { trace, workers } => {
+            let mut input = Counted::new(File::open(rt, trace)?);
+            replay_play(alloc, &mut input, &mut output, workers, &[])?;
+        }
+        Job::Check { trace } => {
+            let mut input = Counted::new(File::open(rt, trace)?);
+            check(alloc, &mut input, &mut output)?;
+        }
+        Job::Play {
+            trace,
+            steps,
+            workers,
+        } => {
+            let text = read_all(
+                alloc,
+                &mut Counted::new(File::open(rt, steps)?),
+                LONGEST_STEPS,
+            )?;
+            let steps = read_steps(alloc, &text)?;
+            let mut input = Counted::new(File::open(rt, trace)?);
+            replay_play(alloc, &mut input, &mut output, workers, steps.as_slice())?;
+        }
+    }
+    Ok(())
+}
+
+/// Ends with status 0 where the whole answer was written, and with 1, 2 or 3 otherwise. (An entry
 /// function can have no clause.)
 fn main(rt: HostRuntime) -> ExitCode {
-    let has_words = match env::args(&rt) {
-        Ok(mut words) => Ok(words.nth(1).is_some()),
-        Err(error) if error.kind() == io::ErrorKind::OutOfMemory => Err(RunFault::OutOfMemory),
-        // A word that isn't UTF-8 is a word too.
-        Err(_) => Ok(true),
+    let words = match words_of(&rt) {
+        Ok(words) => words,
+        Err(fault) => return fault.told(&rt),
     };
-    let answer = match has_words {
-        Ok(true) => return ExitCode::from(USAGE),
-        Ok(false) => {
-            let mut input = Counted::new(rt.stdin());
-            let mut output = Counted::new(rt.stdout());
-            replay_alone(rt.alloc(), &mut input, &mut output)
+    let done = if words.len() > 1 {
+        match job_of(rt.alloc(), &words) {
+            Ok(job) => work(&rt, job, rt.stdout()),
+            Err(fault) => Err(Fault::from(fault)),
         }
-        Err(fault) => Err(fault),
+    } else {
+        let (mut input, mut output) = (Counted::new(rt.stdin()), Counted::new(rt.stdout()));
+        let replayed = replay_play(rt.alloc(), &mut input, &mut output, WORKERS, &[]);
+        replayed.map_err(Fault::from)
     };
-    let Err(fault) = answer else {
-        return ExitCode::SUCCESS;
-    };
-    // Where there is no memory for the line, the status alone tells.
-    if let Ok(line) = fault_line(rt.alloc(), &fault) {
-        let _told = eprintln!(rt; "{line}");
+    match done {
+        Ok(()) => ExitCode::SUCCESS,
+        Err(fault) => fault.told(&rt),
     }
-    ExitCode::from(status_of(&fault))
 }

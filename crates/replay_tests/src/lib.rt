@@ -5,9 +5,10 @@
 #[cfg(test)]
 mod lists_tests;
 #[cfg(test)]
+mod node_tests;
+#[cfg(test)]
 mod replay_tests;
 #[cfg(test)]
 mod size_tests;
-#[cfg(test)]
 #[cfg(test)]
 mod trace_tests;

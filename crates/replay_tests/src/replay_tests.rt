@@ -1,7 +1,7 @@
 //! Replays of texts that are cut, over readers and writers that stop, and refusals that no text
 //! reaches.
 
-use kubelet_replay::{MemSink, MemSource, RunFault, Stop, fault_line, replay_alone, status_of};
+use kubelet_replay::{MemSink, MemSource, RunFault, Stop, fault_line, replay_play, status_of};
 use manifest::ManifestFault;
 use std::alloc::Global;
 use std::process::Abort;
@@ -15,21 +15,42 @@ pub(crate) const FIRST_TICK: &str = r#"{"kind":"node","name":"n1"}
 "#;
 
 /// The report of `FIRST_TICK`.
-const FIRST_REPORT: &str = "pod 0 default/a phase=Running reason=- qos=BestEffort
+const FIRST_REPORT: &str = "node n1 pods=1 ticks=1
+event 100 default/a c started 0
+event 100 default/a c ready
+event 100 default/a - phase Running
+pod 0 default/a phase=Running reason=- qos=BestEffort
 condition 0 PodScheduled True 100
 condition 0 Initialized True 100
 condition 0 ContainersReady True 100
 condition 0 Ready True 100
 container 0 c state=Running code=- restarts=0 ready=true started=true
+nodecondition MemoryPressure False 100
+nodecondition DiskPressure False 100
+nodecondition PIDPressure False 100
+totals updates=1 events=3 orders=0
+";
+
+/// The report of its node line alone.
+pub(crate) const NODE_REPORT: &str = "node n1 pods=0 ticks=0
+nodecondition MemoryPressure False 0
+nodecondition DiskPressure False 0
+nodecondition PIDPressure False 0
+totals updates=0 events=0 orders=0
 ";
 
 /// The report of its pod before any tick.
-const PENDING_REPORT: &str = "pod 0 default/a phase=Pending reason=- qos=BestEffort
+const PENDING_REPORT: &str = "node n1 pods=1 ticks=0
+pod 0 default/a phase=Pending reason=- qos=BestEffort
 condition 0 PodScheduled True 0
 condition 0 Initialized True 0
 condition 0 ContainersReady False 0
 condition 0 Ready False 0
 container 0 c state=Waiting code=- restarts=0 ready=false started=false
+nodecondition MemoryPressure False 0
+nodecondition DiskPressure False 0
+nodecondition PIDPressure False 0
+totals updates=0 events=0 orders=0
 ";
 
 /// Replays a text from a reader into a writer of 1000 bytes, and compares the answer and what was
@@ -44,7 +65,7 @@ pub(crate) fn expect(
     let mut room = [0u8; 1000];
     let mut input = MemSource::new(text, 4096);
     let mut output = MemSink::new(&mut room, 100);
-    let answer = replay_alone(alloc, &mut input, &mut output);
+    let answer = replay_play(alloc, &mut input, &mut output, 1, &[]);
     let length = text.len();
     assert_eq!(rt; answer, wanted, "a text of {length} bytes");
     assert_eq!(rt;
@@ -66,7 +87,7 @@ fn each_beginning_of_a_text_is_answered(rt: HostRuntime) {
         let (wanted, report) = match end {
             0 => (refused(1, FaultKind::Order), ""),
             1..=26 => (refused(1, FaultKind::NotJson), ""),
-            27 | 28 => (Ok(()), ""),
+            27 | 28 => (Ok(()), NODE_REPORT),
             29..=110 => (refused(2, FaultKind::NotJson), ""),
             111 | 112 => (Ok(()), PENDING_REPORT),
             113..=232 => (refused(3, FaultKind::NotJson), ""),
@@ -83,7 +104,7 @@ fn failing_readers_leave_nothing_written(rt: HostRuntime) {
         let mut room = [0u8; 1000];
         let mut input = MemSource::stopping(FIRST_TICK.as_bytes(), 50, calls, Stop::Fail);
         let mut output = MemSink::new(&mut room, 100);
-        let answer = replay_alone(rt.alloc(), &mut input, &mut output);
+        let answer = replay_play(rt.alloc(), &mut input, &mut output, 1, &[]);
         let (wanted, report) = if calls < 6 {
             (Err(RunFault::Read), "")
         } else {
@@ -103,7 +124,7 @@ fn failing_writers_keep_the_beginning_of_the_report(rt: HostRuntime) {
             let mut room = [0u8; 1000];
             let mut input = MemSource::new(FIRST_TICK.as_bytes(), 1);
             let mut output = MemSink::stopping(&mut room, 10, calls, stop);
-            let answer = replay_alone(rt.alloc(), &mut input, &mut output);
+            let answer = replay_play(rt.alloc(), &mut input, &mut output, 1, &[]);
             assert_eq!(rt; answer, Err(RunFault::Write), "{stop:?} after {calls}");
             let end = calls.saturating_mul(10).min(report.len());
             assert_eq!(rt; output.written(), &report[..end], "{stop:?} after {calls}");

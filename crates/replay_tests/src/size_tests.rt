@@ -1,7 +1,7 @@
 //! The greatest lines, traces and inputs.
 
-use crate::replay_tests::{expect, refused};
-use kubelet_replay::{Counted, MemSink, RunFault, replay_alone};
+use crate::replay_tests::{NODE_REPORT, expect, refused};
+use kubelet_replay::{Counted, MemSink, RunFault, replay_play};
 use std::alloc::{AllocError, Global};
 use std::io;
 use std::io::Read;
@@ -31,7 +31,8 @@ fn lines_may_have_one_mebibyte(rt: HostRuntime) -> Result<(), Fail> {
         (1_048_575, "{", refused(1, FaultKind::NotJson)),
     ] {
         let text = after_spaces(rt.alloc(), spaces, end)?;
-        expect(&rt, rt.alloc(), text.as_bytes(), wanted, "");
+        let report = if wanted.is_ok() { NODE_REPORT } else { "" };
+        expect(&rt, rt.alloc(), text.as_bytes(), wanted, report);
     }
     Ok(())
 }
@@ -52,12 +53,20 @@ fn idle_ticks(alloc: Global, count: u64) -> Result<String, AllocError> {
 }
 
 /// The report where the last of 20,000 ticks alone lists the container.
-const LAST_TICK_REPORT: &str = "pod 0 default/a phase=Running reason=- qos=BestEffort
+const LAST_TICK_REPORT: &str = "node n1 pods=1 ticks=20000
+event 19999 default/a c started 0
+event 19999 default/a c ready
+event 19999 default/a - phase Running
+pod 0 default/a phase=Running reason=- qos=BestEffort
 condition 0 PodScheduled True 0
 condition 0 Initialized True 0
 condition 0 ContainersReady True 19999
 condition 0 Ready True 19999
 container 0 c state=Running code=- restarts=0 ready=true started=true
+nodecondition MemoryPressure False 0
+nodecondition DiskPressure False 0
+nodecondition PIDPressure False 0
+totals updates=20000 events=3 orders=0
 ";
 
 #[test]
@@ -98,7 +107,7 @@ fn inputs_may_have_64_mebibytes(rt: HostRuntime) {
         let mut room = [0u8; 10];
         let mut input = Counted::new(Spaces { left });
         let mut output = MemSink::new(&mut room, 10);
-        let answer = replay_alone(rt.alloc(), &mut input, &mut output);
+        let answer = replay_play(rt.alloc(), &mut input, &mut output, 1, &[]);
         assert_eq!(rt; answer, wanted, "{left} bytes");
         assert!(rt; output.written().is_empty());
     }

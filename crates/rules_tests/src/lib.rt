@@ -3,6 +3,8 @@
 #![tactic(auto)]
 
 #[cfg(test)]
+mod book_tests;
+#[cfg(test)]
 mod instances_tests;
 #[cfg(test)]
 mod pod_tests;

@@ -1,16 +1,14 @@
 -- A node with one more pod.
-use Rattle.std.proofs.Common.{◌≡◌, ◌⊎◌, inl, inr, ℕ, zero, suc, ◌<◌, ◌≤◌, List, [], ◌∷◌, ◌++◌, length, map, take, true}
-use Rattle.std.proofs.Common.{false, Option, Some, None, refl, sym, ap, subst, ◌∙◌, arith}
+use Rattle.std.proofs.Common.{◌≡◌, inl, inr, ℕ, zero, suc, ◌<◌, ◌≤◌, List, [], ◌∷◌, ◌++◌, length, map}
+use Rattle.std.proofs.Common.{take, true, false, Option, Some, None, refl, sym, ap, subst, ◌∙◌, arith}
 use Rattle.std.specs.List.{cons_option}
 use Rattle.observations.specs.Observations.{own_ticks}
-use Rattle.std.specs.Prelude.{◌↔◌, slice_get, is_some, IsSome, option_map}
+use Rattle.std.specs.Prelude.{◌↔◌, slice_get, IsSome, option_map}
 use Rattle.manifest.specs.declared.pod.PodSpec.{PodSpec}
 use Rattle.histories.proofs.Places.{length-more}
 use Rattle.observations.specs.declared.pod.PodObs.{PodObs}
 use Rattle.observations.specs.declared.tick.TickObs.{TickObs}
-use Rattle.observations.specs.Observations.{shown_of}
 use Rattle.node_config.specs.declared.node.NodeConfig.{NodeConfig}
-use Rattle.node_signals.specs.declared.node.NodeSignals.{NodeSignals}
 use Rattle.node_signals.specs.declared.key.ThresholdKey.{ThresholdKey}
 use Rattle.node_signals.proofs.PlaceLemmas.{within, place_split}
 use Rattle.pod_state.specs.Pods.{PodTick, pod_tick}
@@ -19,12 +17,16 @@ use Rattle.pod_piece.specs.declared.status.PodStatus.{PodStatus}
 use Rattle.pod_piece.specs.Piece.{Piece, new_piece}
 use Rattle.ranking.proofs.LawLemmas.{same_victim}
 use Rattle.eviction.specs.declared.eviction.Eviction.{Eviction}
-use Rattle.eviction.specs.Replay.{EvictedAt, later, pod_ticks, evicted_at, own_eviction, IsCandidate, Evicts}
-use Rattle.eviction.specs.Replay.{IsOfVictim, IsEvictionFor, IsRound, IsReplay}
+use Rattle.eviction.specs.Replay.{EvictedAt, pod_ticks, own_eviction, IsCandidate}
+use Rattle.eviction.specs.Replay.{IsOfVictim, IsEvictionFor, IsRound}
 use Rattle.eviction.proofs.Own.{evicted_none}
 use Rattle.eviction.proofs.Unique.{at_place}
+use Rattle.event_book.proofs.More.{events_arrived}
 use Rattle.node_pods.specs.Pods.{Pods, with_pod}
-use Rattle.tick_round.specs.Node.{State, state, piece_after, ArePieces, HasTaken}
+use Rattle.observations.specs.Limits.{most_pods}
+use Rattle.tick_round.specs.Node.{State, state, piece_after, HasTaken, pods_in}
+use Rattle.tick_round.specs.Round.{AreFew, IsKept}
+use Rattle.tick_round.proofs.GoesOn.{kept_by}
 
 get_left : {A : Type 0} (xs : List A) (y : A) (n : ℕ) (x : A) → slice_get xs n ≡ Some x
     → slice_get (xs ++ y ∷ []) n ≡ Some x
@@ -63,28 +65,49 @@ same_round : (config : NodeConfig) (pods : List PodSpec) (pod : PodSpec) (before
     (es : List (Option Eviction)) (eviction : Option Eviction)
     → length tick.pods ≤ length pods → IsRound config pods before tick es eviction
     → IsRound config (pods ++ pod ∷ []) before tick es eviction
-same_round config pods pod before tick es eviction fewer r = record { served = r.served; is_served = r.is_served; is_for = for r.served r.is_for }
+same_round config pods pod before tick es eviction fewer r =
+    record { served = r.served; is_served = r.is_served; is_for = for r.served r.is_for }
   where
-    same : (n : ℕ) (p : PodStatus) → (IsCandidate pods before tick es n p ↔ IsCandidate (pods ++ pod ∷ []) before tick es n p)
+    same : (n : ℕ) (p : PodStatus)
+        → (IsCandidate pods before tick es n p ↔ IsCandidate (pods ++ pod ∷ []) before tick es n p)
     same n p = (
-      (λ c. record { pod = c.pod; at = get_left pods pod n c.pod c.at; present = c.present; is_status = c.is_status; lives = c.lives }),
+      (λ c. record {
+        pod = c.pod;
+        at = get_left pods pod n c.pod c.at;
+        present = c.present;
+        is_status = c.is_status;
+        lives = c.lives;
+      }),
       (λ c.
           let lt : n < length tick.pods = present_below tick.pods n c.present in
           elim (place_split pods pod c.pod n c.at) [
-            | inl old ↦ record { pod = c.pod; at = old; present = c.present; is_status = c.is_status; lives = c.lives }
+            | inl old ↦ record {
+              pod = c.pod;
+              at = old;
+              present = c.present;
+              is_status = c.is_status;
+              lives = c.lives;
+            }
             | inr w ↦ let here : n ≡ length pods = w.0 in absurd (omega arith)
           ]),
     )
 
-    of : (key : ThresholdKey) (victim : Option ℕ) (e : Option Eviction) → IsOfVictim config pods tick.at key victim e → IsOfVictim config (pods ++ pod ∷ []) tick.at key victim e
+    of : (key : ThresholdKey) (victim : Option ℕ) (e : Option Eviction) → IsOfVictim config pods tick.at key victim e
+        → IsOfVictim config (pods ++ pod ∷ []) tick.at key victim e
     of key None e v = v
     of key (Some n) None v = v
-    of key (Some n) (Some e) v = record { pod = v.pod; is_pod = get_left pods pod n v.pod v.is_pod; number = v.number; order = v.order }
+    of key (Some n) (Some e) v =
+        record { pod = v.pod; is_pod = get_left pods pod n v.pod v.is_pod; number = v.number; order = v.order }
 
-    for : (served : Option ThresholdKey) → IsEvictionFor config pods before tick es served eviction → IsEvictionFor config (pods ++ pod ∷ []) before tick es served eviction
+    for : (served : Option ThresholdKey) → IsEvictionFor config pods before tick es served eviction
+        → IsEvictionFor config (pods ++ pod ∷ []) before tick es served eviction
     for None by = by
-    for (Some key) (victim, is, v) =
-        (victim, same_victim key.signal config.has_dedicated_imagefs (IsCandidate pods before tick es) (IsCandidate (pods ++ pod ∷ []) before tick es) same victim is, of key victim eviction v)
+    for (Some key) (victim, is, v) = (
+      victim,
+      same_victim key.signal config.has_dedicated_imagefs (IsCandidate pods before tick es)
+          (IsCandidate (pods ++ pod ∷ []) before tick es) same victim is,
+      of key victim eviction v,
+    )
 
 -- who is evicted is one of the pods
 evicted_below : (config : NodeConfig) (pods : List PodSpec) (before : List TickObs) (tick : TickObs)
@@ -92,64 +115,122 @@ evicted_below : (config : NodeConfig) (pods : List PodSpec) (before : List TickO
     → IsRound config pods before tick es (Some e) → e.pod < length pods
 evicted_below config pods before tick es e r = by r.served r.is_for
   where
-    by : (served : Option ThresholdKey) → IsEvictionFor config pods before tick es served (Some e) → e.pod < length pods
+    by : (served : Option ThresholdKey) → IsEvictionFor config pods before tick es served (Some e)
+        → e.pod < length pods
     by None is = absurd (cc)
     by (Some key) (None, is, v) = absurd (cc)
     by (Some key) (Some n, is, v) =
         let lt : n < length pods = within pods n v.pod v.is_pod in
         let here : e.pod ≡ n = v.number in omega arith
 
+-- the pod is one of the node's
+abbrev with_arrived : State → PodSpec → State
+with_arrived s pod = state s.config s.signals (with_pod s.pods pod) s.evictions s.events s.totals s.last
+
+abbrev pieces_with : State → PodSpec → List Piece
+pieces_with s pod = s.pods.pieces ++ new_piece (length s.pods.pieces) pod s.pods.greatest ∷ []
+
+-- it has no eviction
+never : (pods : List PodSpec) (ticks : List TickObs) (s : State) → HasTaken pods ticks s
+    → own_eviction (length pods) ticks s.evictions ≡ None
+never pods ticks s taken =
+    ap
+    (option_map (λ (f : EvictedAt).
+    record { place = length (pod_ticks (take f.tick ticks) (length pods)); order = f.order }))
+    (evicted_none (length pods) s.evictions (λ t e is here.
+    let lt : t < length s.evictions = within s.evictions t (Some e) is in
+    let many : length s.evictions ≡ length ticks = taken.replay.as_many in
+    let tick = at_place ticks t (omega arith) in
+    let below : e.pod < length pods =
+    evicted_below s.config pods (take t ticks) tick.0 (take t s.evictions) e
+    (taken.replay.each t tick.0 (Some e) tick.1 is) in
+    omega arith))
+
+-- its piece is that of a pod without ticks
+newest : (pods : List PodSpec) (ticks : List TickObs) (s : State) (pod : PodSpec) (n : ℕ) (p : PodSpec)
+    → HasTaken pods ticks s → n ≡ length pods → pod ≡ p
+    → slice_get (pieces_with s pod) n ≡ Some (piece_after s.config ticks s.evictions n p)
+newest pods ticks s pod n p taken here same =
+    let many : length s.pods.pieces ≡ length pods = taken.pieces.as_many in
+    let none : [] ≡ pod_ticks ticks (length pods) = sym (unshown ticks (length pods) taken.shown) in
+    let last : slice_get (pieces_with s pod) (length pods)
+    ≡ Some (new_piece (length s.pods.pieces) pod s.pods.greatest) =
+    subst
+    (λ (k : ℕ). slice_get (pieces_with s pod) k ≡ Some (new_piece (length s.pods.pieces) pod s.pods.greatest))
+    many (get_last s.pods.pieces (new_piece (length s.pods.pieces) pod s.pods.greatest)) in
+    let delay = s.config.max_restart_delay in
+    let done : slice_get (pieces_with s pod) (length pods)
+    ≡ Some (piece_after s.config ticks s.evictions (length pods) pod) =
+    last ∙ ap (λ (k : ℕ). Some (piece_of k pod s.pods.greatest [] None)) many
+    ∙ ap (λ (k : ℕ). Some (piece_of (length pods) pod k [] None)) taken.greatest
+    ∙ ap (λ (h : List PodTick). Some (piece_of (length pods) pod delay h None)) none
+    ∙ ap (λ (e : Option EvictionOfPod). Some (piece_of (length pods) pod delay (pod_ticks ticks (length pods)) e))
+    (sym (never pods ticks s taken)) in
+    let P : ℕ → Type 0 = λ k.
+    slice_get (pieces_with s pod) k ≡ Some (piece_after s.config ticks s.evictions k pod) in
+    let Q : PodSpec → Type 0 = λ q.
+    slice_get (pieces_with s pod) n ≡ Some (piece_after s.config ticks s.evictions n q) in
+    subst Q same (subst P (sym here) done)
+
 pub arrives : (pods : List PodSpec) (ticks : List TickObs) (s : State) (pod : PodSpec) → HasTaken pods ticks s
-    → HasTaken (pods ++ pod ∷ []) ticks (state s.config s.signals (with_pod s.pods pod) s.evictions s.last)
-arrives pods ticks s pod taken = record {
+    → length s.pods.pieces < most_pods → HasTaken (pods ++ pod ∷ []) ticks (with_arrived s pod)
+arrives pods ticks s pod taken room = record {
   replay = record {
     as_many = taken.replay.as_many;
     each = λ t tick eviction at is.
-        same_round s.config pods pod (take t ticks) tick (take t s.evictions) eviction (taken.shown t tick at) (taken.replay.each t tick eviction at is);
+        same_round s.config pods pod (take t ticks) tick (take t s.evictions) eviction (taken.shown t tick at)
+        (taken.replay.each t tick eviction at is);
   };
   pieces = record {
-    as_many = let many : length s.pods.pieces ≡ length pods = taken.pieces.as_many in omega (arith, length-more pods pod, length-more s.pods.pieces (new_piece (length s.pods.pieces) pod s.pods.greatest));
+    as_many =
+        omega (arith, many, more, length-more s.pods.pieces (new_piece (length s.pods.pieces) pod s.pods.greatest));
     each = λ n p at. elim (place_split pods pod p n at) [
-      | inl old ↦ get_left s.pods.pieces (new_piece (length s.pods.pieces) pod s.pods.greatest) n (piece_after s.config ticks s.evictions n p) (taken.pieces.each n p old)
-      | inr w ↦ newest n p w.0 w.1
+      | inl old ↦
+          get_left s.pods.pieces (new_piece (length s.pods.pieces) pod s.pods.greatest) n
+          (piece_after s.config ticks s.evictions n p) (taken.pieces.each n p old)
+      | inr w ↦ newest pods ticks s pod n p taken w.0 w.1
     ];
   };
+  events = events_arrived s.config pods pod ticks s.evictions s.events taken.events;
+  totals = taken.totals;
   signals = taken.signals;
   greatest = taken.greatest;
   dedicated = taken.dedicated;
-  shown = λ t tick at. let le : length tick.pods ≤ length pods = taken.shown t tick at in omega (arith, length-more pods pod);
+  shown = λ t tick at. let le : length tick.pods ≤ length pods = taken.shown t tick at in omega (arith, le, more);
   last_is = taken.last_is;
+  few_ticks = taken.few_ticks;
+  few_pods = let most : length s.pods.pieces < 256 = room in omega (arith, many, more, most);
 }
   where
-    never : own_eviction (length pods) ticks s.evictions ≡ None
-    never = ap (option_map (λ (f : EvictedAt). record { place = length (pod_ticks (take f.tick ticks) (length pods)); order = f.order }))
-        (evicted_none (length pods) s.evictions (λ t e is here.
-        let lt : t < length s.evictions = within s.evictions t (Some e) is in
-        let many : length s.evictions ≡ length ticks = taken.replay.as_many in
-        let tick = at_place ticks t (omega arith) in
-        let below : e.pod < length pods = evicted_below s.config pods (take t ticks) tick.0 (take t s.evictions) e (taken.replay.each t tick.0 (Some e) tick.1 is) in
-        omega arith))
+    many : length s.pods.pieces ≡ length pods
+    many = taken.pieces.as_many
 
-    newest : (n : ℕ) (p : PodSpec) → n ≡ length pods → pod ≡ p
-        → slice_get (s.pods.pieces ++ new_piece (length s.pods.pieces) pod s.pods.greatest ∷ []) n ≡ Some (piece_after s.config ticks s.evictions n p)
-    newest n p here same =
-        let many : length s.pods.pieces ≡ length pods = taken.pieces.as_many in
-        let none : [] ≡ pod_ticks ticks (length pods) = sym (unshown ticks (length pods) taken.shown) in
-        let done : slice_get (s.pods.pieces ++ new_piece (length s.pods.pieces) pod s.pods.greatest ∷ []) (length pods) ≡ Some (piece_after s.config ticks s.evictions (length pods) pod) =
-        subst (λ (k : ℕ). slice_get (s.pods.pieces ++ new_piece (length s.pods.pieces) pod s.pods.greatest ∷ []) k ≡ Some (new_piece (length s.pods.pieces) pod s.pods.greatest)) many (get_last s.pods.pieces (new_piece (length s.pods.pieces) pod s.pods.greatest))
-        ∙ ap (λ (k : ℕ). Some (piece_of k pod s.pods.greatest [] None)) many
-        ∙ ap (λ (k : ℕ). Some (piece_of (length pods) pod k [] None)) taken.greatest
-        ∙ ap (λ (h : List PodTick). Some (piece_of (length pods) pod s.config.max_restart_delay h None)) none
-        ∙ ap (λ (e : Option EvictionOfPod). Some (piece_of (length pods) pod s.config.max_restart_delay (pod_ticks ticks (length pods)) e)) (sym never) in
-        let P : ℕ → Type 0 = λ k. slice_get (s.pods.pieces ++ new_piece (length s.pods.pieces) pod s.pods.greatest ∷ []) k ≡ Some (piece_after s.config ticks s.evictions k pod) in
-        let Q : PodSpec → Type 0 = λ q. slice_get (s.pods.pieces ++ new_piece (length s.pods.pieces) pod s.pods.greatest ∷ []) n ≡ Some (piece_after s.config ticks s.evictions n q) in
-        subst Q same (subst P (sym here) done)
+    more : length (pods ++ pod ∷ []) ≡ suc (length pods)
+    more = length-more pods pod
 
 -- the same of a node whose pods are set
-pub arrives_as : (pods : List PodSpec) (ticks : List TickObs) (now : State) (pod : PodSpec) (config : NodeConfig)
-    (signals : NodeSignals) (old new : Pods)
-    (es : List (Option Eviction)) (last : Option ℕ) → now ≡ state config signals old es last → new ≡ with_pod old pod → HasTaken pods ticks now
-    → HasTaken (pods ++ pod ∷ []) ticks (state config signals new es last)
-arrives_as pods ticks now pod config signals old new es last is more taken =
-    subst (λ (p : Pods). HasTaken (pods ++ pod ∷ []) ticks (state config signals p es last)) (sym more)
-    (arrives pods ticks (state config signals old es last) pod (subst (λ (s : State). HasTaken pods ticks s) is taken))
+pub arrives_as : (pods : List PodSpec) (ticks : List TickObs) (now s : State) (pod : PodSpec) (new : Pods)
+    → now ≡ s → new ≡ with_pod s.pods pod → length now.pods.pieces < most_pods → HasTaken pods ticks now
+    → HasTaken (pods ++ pod ∷ []) ticks (state s.config s.signals new s.evictions s.events s.totals s.last)
+arrives_as pods ticks now s pod new is more room taken =
+    subst
+    (λ (p : Pods). HasTaken (pods ++ pod ∷ []) ticks (state s.config s.signals p s.evictions s.events s.totals s.last))
+    (sym more)
+    (arrives pods ticks s pod (subst (λ (t : State). HasTaken pods ticks t) is taken)
+    (subst (λ (t : State). length t.pods.pieces < most_pods) is room))
+
+few_more : (pods : List PodSpec) (pod : PodSpec) → AreFew pods → length pod.containers ≤ 16 → AreFew (pods ++ pod ∷ [])
+few_more pods pod few one n p at = elim (place_split pods pod p n at) [
+  | inl old ↦ few n p old
+  | inr w ↦ subst (λ (q : PodSpec). length q.containers ≤ 16) w.1 one
+]
+
+pub arrived_kept : (now s : State) (pod : PodSpec) (new : Pods) → now ≡ s → new ≡ with_pod s.pods pod
+    → length now.pods.pieces < most_pods → length pod.containers ≤ 16 → IsKept s
+    → IsKept (state s.config s.signals new s.evictions s.events s.totals s.last)
+arrived_kept now s pod new is more room small kept =
+    kept_by (pods_in s.pods.pieces ++ pod ∷ []) kept.ticks
+    (state s.config s.signals new s.evictions s.events s.totals s.last)
+    (arrives_as (pods_in s.pods.pieces) kept.ticks now s pod new is more room
+    (subst (λ (t : State). HasTaken (pods_in s.pods.pieces) kept.ticks t) (sym is) kept.taken))
+    (few_more (pods_in s.pods.pieces) pod kept.few small) kept.room

@@ -1,14 +1,13 @@
 -- The candidates and the eviction of a tick, by a node's pieces and by its history.
-use Rattle.std.proofs.Common.{◌≡◌, ℕ, zero, suc, ◌-◌, ◌<◌, ◌≤◌, List, [], ◌∷◌, ◌++◌, length, map, get_or, Bool, true}
+use Rattle.std.proofs.Common.{◌≡◌, ℕ, zero, suc, ◌-◌, ◌<◌, List, [], ◌∷◌, ◌++◌, length, get_or, Bool, true}
 use Rattle.std.proofs.Common.{Option, Some, None, refl, sym, ap, subst, ◌∙◌, arith}
-use Rattle.std.specs.Prelude.{nat_lt, ◌↔◌, slice_get, is_some, IsSome}
+use Rattle.std.specs.Prelude.{nat_lt, ◌↔◌, slice_get, is_some}
 use Rattle.std.proofs.lemmas.Bool.{ltb-true}
 use Rattle.histories.specs.Histories.{last_moment, moment_at}
 use Rattle.histories.proofs.Places.{length-more, moment_at-new}
 use Rattle.manifest.specs.declared.pod.PodSpec.{PodSpec}
 use Rattle.observations.specs.declared.pod.PodObs.{PodObs}
 use Rattle.observations.specs.declared.tick.TickObs.{TickObs}
-use Rattle.observations.specs.Observations.{shown_of}
 use Rattle.node_config.specs.declared.node.NodeConfig.{NodeConfig}
 use Rattle.node_signals.specs.declared.key.ThresholdKey.{ThresholdKey}
 use Rattle.node_signals.specs.Thresholds.{IsServed}
@@ -53,7 +52,8 @@ candidates config pods before tick es pieces shown are n p = (
 )
 
 specs_same : (pieces : List Piece) (pods : List PodSpec) → length pieces ≡ length pods
-    → ((n : ℕ) (pod : PodSpec) → slice_get pods n ≡ Some pod → (piece : Piece) × (slice_get pieces n ≡ Some piece) × (piece.pod ≡ pod))
+    → ((n : ℕ) (pod : PodSpec) → slice_get pods n ≡ Some pod
+    → (piece : Piece) × (slice_get pieces n ≡ Some piece) × (piece.pod ≡ pod))
     → pods_in pieces ≡ pods
 specs_same [] [] len each = refl
 specs_same [] (pod ∷ pods) len each = absurd (omega arith)
@@ -69,7 +69,8 @@ specs_same (piece ∷ pieces) (pod ∷ pods) len each =
 pub specs_are : (config : NodeConfig) (pods : List PodSpec) (ticks : List TickObs) (es : List (Option Eviction))
     (pieces : List Piece)
     → ArePieces config pods ticks es pieces → pods_in pieces ≡ pods
-specs_are config pods ticks es pieces are = specs_same pieces pods are.as_many (λ n pod at. (piece_after config ticks es n pod, are.each n pod at, refl))
+specs_are config pods ticks es pieces are =
+    specs_same pieces pods are.as_many (λ n pod at. (piece_after config ticks es n pod, are.each n pod at, refl))
 
 -- the eviction by the node's pieces is that of the round
 pub round_of : (config : NodeConfig) (pods : List PodSpec) (before : List TickObs) (tick : TickObs)
@@ -78,14 +79,18 @@ pub round_of : (config : NodeConfig) (pods : List PodSpec) (before : List TickOb
     → length tick.pods ≡ length pods → ArePieces config pods (before ++ tick ∷ []) es pieces
     → IsServed config.eviction before tick served → IsEvictionAt config pieces tick.at served eviction
     → IsRound config pods before tick es eviction
-round_of config pods before tick es pieces served eviction shown are is by = record { served = served; is_served = is; is_for = for served by }
+round_of config pods before tick es pieces served eviction shown are is by =
+    record { served = served; is_served = is; is_for = for served by }
   where
-    for : (served : Option ThresholdKey) → IsEvictionAt config pieces tick.at served eviction → IsEvictionFor config pods before tick es served eviction
+    for : (served : Option ThresholdKey) → IsEvictionAt config pieces tick.at served eviction
+        → IsEvictionFor config pods before tick es served eviction
     for None by = by
     for (Some key) (victim, first, of) = (
       victim,
-      same_victim key.signal config.has_dedicated_imagefs (IsCandidate pieces) (IsCandidateIn pods before tick es) (candidates config pods before tick es pieces shown are) victim first,
-      subst (λ (ps : List PodSpec). IsOfVictim config ps tick.at key victim eviction) (specs_are config pods (before ++ tick ∷ []) es pieces are) of,
+      same_victim key.signal config.has_dedicated_imagefs (IsCandidate pieces) (IsCandidateIn pods before tick es)
+          (candidates config pods before tick es pieces shown are) victim first,
+      subst (λ (ps : List PodSpec). IsOfVictim config ps tick.at key victim eviction)
+          (specs_are config pods (before ++ tick ∷ []) es pieces are) of,
     )
 
 -- the last ticks of the pieces have this moment
@@ -93,7 +98,9 @@ abbrev pub AreAt : List Piece → ℕ → Type 0
 AreAt pieces at = (n : ℕ) (piece : Piece) → slice_get pieces n ≡ Some piece → last_moment piece.handed ≡ Some at
 
 last_more : (h : List PodTick) (x : PodTick) → last_moment (h ++ x ∷ []) ≡ Some x.moment
-last_more h x = subst (λ (k : ℕ). moment_at (h ++ x ∷ []) k ≡ Some x.moment) (let same : length h ≡ length (h ++ x ∷ []) - 1 = omega (arith, length-more h x) in same) (moment_at-new h x)
+last_more h x =
+    subst (λ (k : ℕ). moment_at (h ++ x ∷ []) k ≡ Some x.moment)
+    (let same : length h ≡ length (h ++ x ∷ []) - 1 = omega (arith, length-more h x) in same) (moment_at-new h x)
 
 pub are_at : (old new : List Piece) (shown : List PodObs) (at : ℕ) → length shown ≡ length old → AreAfter old shown new
     → ((n : ℕ) (o : PodObs) → slice_get shown n ≡ Some o → o.at ≡ at) → AreAt new at
@@ -102,9 +109,11 @@ are_at old new shown at len after moments n piece is =
     let many : length new ≡ length old = after.as_many in
     let was = at_place old n (omega arith) in
     let o = at_place shown n (omega arith) in
-    let both : Some piece ≡ Some (updated (with_tick was.0 (pod_tick o.0))) = sym is ∙ after.each n was.0 o.0 was.1 o.1 in
+    let both : Some piece ≡ Some (updated (with_tick was.0 (pod_tick o.0))) =
+    sym is ∙ after.each n was.0 o.0 was.1 o.1 in
     let same : piece ≡ updated (with_tick was.0 (pod_tick o.0)) = cc in
-    ap (λ (p : Piece). last_moment p.handed) same ∙ last_more was.0.handed (pod_tick o.0) ∙ ap (λ (k : ℕ). Some k) (moments n o.0 o.1)
+    ap (λ (p : Piece). last_moment p.handed) same ∙ last_more was.0.handed (pod_tick o.0)
+    ∙ ap (λ (k : ℕ). Some k) (moments n o.0 o.1)
 
 -- the eviction may be carried out
 pub may_be_evicted : (config : NodeConfig) (pieces : List Piece) (at : ℕ) (served : Option ThresholdKey)
@@ -126,7 +135,7 @@ pub evicted_candidate : (pieces : List Piece) (e : Eviction) → IsEvictable pie
     → (status : PodStatus) × IsCandidate pieces e.pod status
 evicted_candidate pieces e may = may.candidate
 
-get_pod : (pieces : List Piece) (n : ℕ) (piece : Piece) → slice_get pieces n ≡ Some piece
+pub get_pod : (pieces : List Piece) (n : ℕ) (piece : Piece) → slice_get pieces n ≡ Some piece
     → slice_get (pods_in pieces) n ≡ Some piece.pod
 get_pod [] n piece e = absurd (cc)
 get_pod (p ∷ pieces) zero piece e = let same : p ≡ piece = cc in ap (λ (q : Piece). Some q.pod) same
@@ -137,13 +146,19 @@ pub evicts_first : (config : NodeConfig) (pieces : List Piece) (at : ℕ) (serve
     (key : ThresholdKey) (dedicated : Bool) (victim : Option ℕ) (n : ℕ) (piece : Piece) (order : EvictOrder)
     → served ≡ Some key → dedicated ≡ config.has_dedicated_imagefs
     → IsVictim key.signal dedicated (IsCandidate pieces) victim → victim ≡ Some n
-    → slice_get pieces n ≡ Some piece → order ≡ order_of config piece.pod at key → IsEvictionAt config pieces at served (Some (record { pod = n; order = order }))
+    → slice_get pieces n ≡ Some piece → order ≡ order_of config piece.pod at key
+    → IsEvictionAt config pieces at served (Some (record { pod = n; order = order }))
 evicts_first config pieces at served key dedicated victim n piece order is same first number found by =
-    let now : IsVictim key.signal config.has_dedicated_imagefs (IsCandidate pieces) victim = subst (λ (d : Bool). IsVictim key.signal d (IsCandidate pieces) victim) same first in
+    let now : IsVictim key.signal config.has_dedicated_imagefs (IsCandidate pieces) victim =
+    subst (λ (d : Bool). IsVictim key.signal d (IsCandidate pieces) victim) same first in
     let P : Option ℕ → Type 0 = λ v. IsVictim key.signal config.has_dedicated_imagefs (IsCandidate pieces) v in
-    let of : IsEvictionAt config pieces at (Some key) (Some (record { pod = n; order = order })) =
-    (Some n, subst P number now, record { pod = piece.pod; is_pod = get_pod pieces n piece found; number = refl; order = by }) in
-    subst (λ (k : Option ThresholdKey). IsEvictionAt config pieces at k (Some (record { pod = n; order = order }))) (sym is) of
+    let of : IsEvictionAt config pieces at (Some key) (Some (record { pod = n; order = order })) = (
+      Some n,
+      subst P number now,
+      record { pod = piece.pod; is_pod = get_pod pieces n piece found; number = refl; order = by },
+    ) in
+    subst (λ (k : Option ThresholdKey). IsEvictionAt config pieces at k (Some (record { pod = n; order = order })))
+    (sym is) of
 
 -- without candidates nobody is
 pub evicts_none : (config : NodeConfig) (pieces : List Piece) (at : ℕ) (served : Option ThresholdKey)
@@ -152,7 +167,8 @@ pub evicts_none : (config : NodeConfig) (pieces : List Piece) (at : ℕ) (served
     → IsVictim key.signal dedicated (IsCandidate pieces) victim → victim ≡ None
     → IsEvictionAt config pieces at served None
 evicts_none config pieces at served key dedicated victim is same first none =
-    let now : IsVictim key.signal config.has_dedicated_imagefs (IsCandidate pieces) victim = subst (λ (d : Bool). IsVictim key.signal d (IsCandidate pieces) victim) same first in
+    let now : IsVictim key.signal config.has_dedicated_imagefs (IsCandidate pieces) victim =
+    subst (λ (d : Bool). IsVictim key.signal d (IsCandidate pieces) victim) same first in
     let P : Option ℕ → Type 0 = λ v. IsVictim key.signal config.has_dedicated_imagefs (IsCandidate pieces) v in
     let of : IsEvictionAt config pieces at (Some key) None = (None, subst P none now, refl) in
     subst (λ (k : Option ThresholdKey). IsEvictionAt config pieces at k None) (sym is) of
@@ -164,7 +180,8 @@ pub victim_there : (pieces : List Piece) (key : ThresholdKey) (dedicated : Bool)
 victim_there pieces key dedicated None n first is none = absurd (let e : None ≡ Some n = is in cc)
 victim_there pieces key dedicated (Some m) n (status, candidate, before) is none =
     let same : m ≡ n = cc in
-    let at : slice_get pieces n ≡ Some candidate.piece = subst (λ (k : ℕ). slice_get pieces k ≡ Some candidate.piece) same candidate.at in
+    let at : slice_get pieces n ≡ Some candidate.piece =
+    subst (λ (k : ℕ). slice_get pieces k ≡ Some candidate.piece) same candidate.at in
     let both : Some candidate.piece ≡ None = sym at ∙ none in absurd (cc)
 
 -- what is found at a place is there

@@ -1,10 +1,10 @@
 -- The pieces of a node after one more tick and its eviction.
-use Rattle.std.proofs.Common.{◌≡◌, inl, inr, ℕ, zero, suc, ◌+◌, ◌-◌, ◌<◌, ◌≤◌, List, [], ◌∷◌, ◌++◌, length, map, take}
-use Rattle.std.proofs.Common.{Bool, false, Option, Some, None, refl, sym, ap, subst, ◌∙◌, arith}
-use Rattle.std.specs.Prelude.{slice_get, option_map, IsSomeAnd}
+use Rattle.std.proofs.Common.{◌≡◌, inl, inr, ℕ, zero, suc, ◌-◌, ◌<◌, ◌≤◌, List, [], ◌∷◌, ◌++◌, length, map, take}
+use Rattle.std.proofs.Common.{false, Option, Some, None, refl, sym, ap, subst, ◌∙◌, arith}
+use Rattle.std.specs.Prelude.{slice_get, option_map}
 use Rattle.std.specs.List.{cons_option}
 use Rattle.std.proofs.lemmas.Bool.{cases_eq}
-use Rattle.std.proofs.lemmas.List.{length-take-le, take-append-le, length-append}
+use Rattle.std.proofs.lemmas.List.{length-take-le}
 use Rattle.histories.specs.Histories.{up_to, IsSo}
 use Rattle.histories.proofs.Places.{length-more}
 use Rattle.manifest.specs.declared.pod.PodSpec.{PodSpec}
@@ -17,15 +17,14 @@ use Rattle.phase.specs.declared.phase.Phase.{Phase}
 use Rattle.phase.specs.RawPhase.{IsTerminal}
 use Rattle.pod_state.specs.Pods.{PodTick, pod_tick, EndsPod, IsPhase}
 use Rattle.pod_state.proofs.EndLemmas.{terminal_cases, lives}
-use Rattle.pod_piece.specs.declared.order.EvictOrder.{EvictOrder}
 use Rattle.pod_piece.specs.declared.piece.Eviction.{Eviction as EvictionOfPod}
 use Rattle.pod_piece.specs.declared.status.PodStatus.{PodStatus}
-use Rattle.pod_piece.specs.Piece.{Piece, with_tick, updated, with_eviction}
+use Rattle.pod_piece.specs.Piece.{Piece}
 use Rattle.pod_piece.specs.Status.{IsStatusOf}
 use Rattle.eviction.specs.declared.eviction.Eviction.{Eviction}
 use Rattle.eviction.specs.Replay.{EvictedAt, pod_ticks, evicted_at, own_eviction}
 use Rattle.eviction.proofs.Unique.{at_place}
-use Rattle.eviction.proofs.Own.{pod_ticks-more, own_eviction-longer, own_eviction-other, own_eviction-now, IsOf}
+use Rattle.eviction.proofs.Own.{pod_ticks-more, own_eviction-longer, own_eviction-other, own_eviction-now}
 use Rattle.node_pods.specs.Pods.{IsCandidate, AreAfter, AreEvicted}
 use Rattle.tick_round.specs.Node.{piece_after, ArePieces}
 
@@ -56,8 +55,10 @@ pieces_updated config pods ticks es x old new len shown are after = record {
   each = λ n pod at.
       let lt : n < length pods = within pods n pod at in
       let o = at_place x.pods n (omega arith) in
-      let handed : pod_ticks ticks n ++ pod_tick o.0 ∷ [] ≡ pod_ticks (ticks ++ x ∷ []) n = sym (pod_ticks-more ticks x n o.0 o.1) in
-      let eviction : own_eviction n ticks es ≡ own_eviction n (ticks ++ x ∷ []) es = sym (own_eviction-longer n ticks x es len) in
+      let handed : pod_ticks ticks n ++ pod_tick o.0 ∷ [] ≡ pod_ticks (ticks ++ x ∷ []) n =
+      sym (pod_ticks-more ticks x n o.0 o.1) in
+      let eviction : own_eviction n ticks es ≡ own_eviction n (ticks ++ x ∷ []) es =
+      sym (own_eviction-longer n ticks x es len) in
       after.each n (piece_after config ticks es n pod) o.0 (are.each n pod at) o.1
       ∙ ap (λ h. Some (made n pod config.max_restart_delay h (own_eviction n ticks es))) handed
       ∙ ap (λ e. Some (made n pod config.max_restart_delay (pod_ticks (ticks ++ x ∷ []) n) e)) eviction;
@@ -75,13 +76,14 @@ evicted_ends pod place h p is lt = elim (terminal_cases p) [
       absurd (none place so)
 ]
 
-fewer : (ticks : List TickObs) (k n : ℕ) → length (pod_ticks (take k ticks) n) ≤ length (pod_ticks ticks n)
+pub fewer : (ticks : List TickObs) (k n : ℕ) → length (pod_ticks (take k ticks) n) ≤ length (pod_ticks ticks n)
 fewer ticks zero n = omega arith
 fewer [] (suc k) n = omega arith
 fewer (x ∷ ticks) (suc k) n = by (shown_of x n) (fewer ticks k n)
   where
     by : (o : Option PodObs) → length (pod_ticks (take k ticks) n) ≤ length (pod_ticks ticks n)
-        → length (map pod_tick (cons_option o (own_ticks (take k ticks) n))) ≤ length (map pod_tick (cons_option o (own_ticks ticks n)))
+        → length (map pod_tick (cons_option o (own_ticks (take k ticks) n))) ≤ length
+        (map pod_tick (cons_option o (own_ticks ticks n)))
     by None le = le
     by (Some shown) le = omega arith
 
@@ -93,31 +95,43 @@ pub candidate_not_evicted : (config : NodeConfig) (pods : List PodSpec) (ticks :
     → own_eviction n (ticks ++ x ∷ []) es ≡ None
 candidate_not_evicted config pods ticks es x pieces n status len shown are candidate =
     let here = pod_at config pods (ticks ++ x ∷ []) es pieces n candidate.piece are candidate.at in
-    let is : IsStatusOf (piece_after config (ticks ++ x ∷ []) es n here.0) status = subst (λ (p : Piece). IsStatusOf p status) here.2 candidate.is_status in
+    let is : IsStatusOf (piece_after config (ticks ++ x ∷ []) es n here.0) status =
+    subst (λ (p : Piece). IsStatusOf p status) here.2 candidate.is_status in
     let lt : n < length pods = within pods n here.0 here.1 in
     let o = at_place x.pods n (omega arith) in
-    none here.0 o.0 o.1 (own_eviction n ticks es) (λ e found. before e found) (own_eviction-longer n ticks x es len) is.lifecycle.phase
+    none here.0 o.0 o.1 (own_eviction n ticks es) (λ e found. before e found)
+    (own_eviction-longer n ticks x es len) is.lifecycle.phase
   where
     before : (e : EvictionOfPod) → own_eviction n ticks es ≡ Some e → e.place ≤ length (pod_ticks ticks n)
     before e found = by (evicted_at n es) found
       where
-        by : (o : Option EvictedAt) → option_map (λ (f : EvictedAt). record { place = length (pod_ticks (take f.tick ticks) n); order = f.order }) o ≡ Some e → e.place ≤ length (pod_ticks ticks n)
+        by : (o : Option EvictedAt)
+            → option_map
+            (λ (f : EvictedAt). record { place = length (pod_ticks (take f.tick ticks) n); order = f.order }) o
+            ≡ Some e → e.place ≤ length (pod_ticks ticks n)
         by None f = absurd (cc)
         by (Some f) is =
             let same : record { place = length (pod_ticks (take f.tick ticks) n); order = f.order } ≡ e = cc in
             let place : length (pod_ticks (take f.tick ticks) n) ≡ e.place = ap (λ (v : EvictionOfPod). v.place) same in
-            let le : length (pod_ticks (take f.tick ticks) n) ≤ length (pod_ticks ticks n) = fewer ticks f.tick n in omega arith
+            let le : length (pod_ticks (take f.tick ticks) n) ≤ length (pod_ticks ticks n) =
+            fewer ticks f.tick n in omega arith
 
-    none : (pod : PodSpec) (o : PodObs) → shown_of x n ≡ Some o → (e : Option EvictionOfPod) → ((v : EvictionOfPod) → e ≡ Some v → v.place ≤ length (pod_ticks ticks n))
-        → own_eviction n (ticks ++ x ∷ []) es ≡ e → IsPhase pod (option_map (λ (v : EvictionOfPod). v.place) (own_eviction n (ticks ++ x ∷ []) es)) (pod_ticks (ticks ++ x ∷ []) n) status.phase
+    none : (pod : PodSpec) (o : PodObs) → shown_of x n ≡ Some o → (e : Option EvictionOfPod)
+        → ((v : EvictionOfPod) → e ≡ Some v → v.place ≤ length (pod_ticks ticks n))
+        → own_eviction n (ticks ++ x ∷ []) es ≡ e
+        → IsPhase pod (option_map (λ (v : EvictionOfPod). v.place) (own_eviction n (ticks ++ x ∷ []) es))
+        (pod_ticks (ticks ++ x ∷ []) n) status.phase
         → own_eviction n (ticks ++ x ∷ []) es ≡ None
     none pod o at None below is phase = is
     none pod o at (Some v) below is phase =
         let le : v.place ≤ length (pod_ticks ticks n) = below v refl in
-        let grown : length (pod_ticks (ticks ++ x ∷ []) n) ≡ suc (length (pod_ticks ticks n)) = ap length (pod_ticks-more ticks x n o at) ∙ length-more (pod_ticks ticks n) (pod_tick o) in
+        let grown : length (pod_ticks (ticks ++ x ∷ []) n) ≡ suc (length (pod_ticks ticks n)) =
+        ap length (pod_ticks-more ticks x n o at) ∙ length-more (pod_ticks ticks n) (pod_tick o) in
         let now : IsPhase pod (Some v.place) (pod_ticks (ticks ++ x ∷ []) n) status.phase =
-        subst (λ (e : Option EvictionOfPod). IsPhase pod (option_map (λ (v : EvictionOfPod). v.place) e) (pod_ticks (ticks ++ x ∷ []) n) status.phase) is phase in
-        absurd (candidate.lives (evicted_ends pod v.place (pod_ticks (ticks ++ x ∷ []) n) status.phase now (omega arith)))
+        subst (λ (e : Option EvictionOfPod). IsPhase pod (option_map (λ (v : EvictionOfPod). v.place) e)
+        (pod_ticks (ticks ++ x ∷ []) n) status.phase) is phase in
+        absurd (candidate.lives
+        (evicted_ends pod v.place (pod_ticks (ticks ++ x ∷ []) n) status.phase now (omega arith)))
 
 -- after the eviction
 pub pieces_evicted : (config : NodeConfig) (pods : List PodSpec) (ticks : List TickObs) (es : List (Option Eviction))
@@ -139,12 +153,17 @@ pieces_evicted config pods ticks es x e old new status len shown are candidate e
         let now = own_eviction-now e.pod ticks x es e len never refl in
         let done : slice_get new e.pod ≡ Some (piece_after config (ticks ++ x ∷ []) (es ++ Some e ∷ []) e.pod pod) =
         evicted.here (piece_after config (ticks ++ x ∷ []) es e.pod pod) (are.each e.pod pod at')
-        ∙ ap (λ (k : ℕ). Some (made e.pod pod config.max_restart_delay (pod_ticks (ticks ++ x ∷ []) e.pod) (Some (record { place = k; order = e.order })))) last
-        ∙ ap (λ (v : Option EvictionOfPod). Some (made e.pod pod config.max_restart_delay (pod_ticks (ticks ++ x ∷ []) e.pod) v)) (sym now) in
-        subst (λ (k : ℕ). slice_get new k ≡ Some (piece_after config (ticks ++ x ∷ []) (es ++ Some e ∷ []) k pod)) (sym here) done
+        ∙ ap (λ (k : ℕ). Some
+        (made e.pod pod config.max_restart_delay (pod_ticks (ticks ++ x ∷ []) e.pod)
+        (Some (record { place = k; order = e.order })))) last
+        ∙ ap (λ (v : Option EvictionOfPod). Some
+        (made e.pod pod config.max_restart_delay (pod_ticks (ticks ++ x ∷ []) e.pod) v)) (sym now) in
+        subst (λ (k : ℕ). slice_get new k ≡ Some (piece_after config (ticks ++ x ∷ []) (es ++ Some e ∷ []) k pod))
+        (sym here) done
     | inr apart ↦
         evicted.others n apart ∙ are.each n pod at
-        ∙ ap (λ (v : Option EvictionOfPod). Some (made n pod config.max_restart_delay (pod_ticks (ticks ++ x ∷ []) n) v))
+        ∙ ap (λ (v : Option EvictionOfPod). Some
+        (made n pod config.max_restart_delay (pod_ticks (ticks ++ x ∷ []) n) v))
         (sym (own_eviction-other n (ticks ++ x ∷ []) es (Some e) (λ is. apart (sym is))))
   ];
 }
@@ -157,5 +176,6 @@ pieces_spared config pods ticks es old are = record {
   as_many = are.as_many;
   each = λ n pod at.
       are.each n pod at
-      ∙ ap (λ (v : Option EvictionOfPod). Some (made n pod config.max_restart_delay (pod_ticks ticks n) v)) (sym (own_eviction-other n ticks es None (λ is. is)));
+      ∙ ap (λ (v : Option EvictionOfPod). Some (made n pod config.max_restart_delay (pod_ticks ticks n) v))
+      (sym (own_eviction-other n ticks es None (λ is. is)));
 }

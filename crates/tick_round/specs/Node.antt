@@ -1,8 +1,9 @@
 -- Where the pods and the ticks of a node lead.
 use Rattle.std.specs.Prelude.{◌≡◌, ℕ, ◌<◌, ◌≤◌, ◌^◌, false, List, [], ◌∷◌, length, map, slice_get, Option, Some, None}
-use Rattle.std.specs.Prelude.{option_map, IfSome, IsSomeAnd}
+use Rattle.std.specs.Prelude.{IfSome, IsSomeAnd}
 use Rattle.manifest.specs.declared.pod.PodSpec.{PodSpec}
 use Rattle.observations.specs.declared.tick.TickObs.{TickObs}
+use Rattle.observations.specs.Limits.{most_ticks, most_pods}
 use Rattle.node_config.specs.declared.node.NodeConfig.{NodeConfig}
 use Rattle.node_signals.specs.declared.node.NodeSignals.{NodeSignals}
 use Rattle.node_signals.specs.declared.key.ThresholdKey.{ThresholdKey}
@@ -11,6 +12,10 @@ use Rattle.pod_piece.specs.Piece.{Piece}
 use Rattle.ranking.specs.Order.{IsVictim}
 use Rattle.eviction.specs.declared.eviction.Eviction.{Eviction}
 use Rattle.eviction.specs.Replay.{pod_ticks, own_eviction, IsOfVictim, IsReplay}
+use Rattle.event_book.specs.declared.event.Event.{Event}
+use Rattle.event_book.specs.declared.totals.Totals.{Totals}
+use Rattle.event_book.specs.Events.{AreEvents}
+use Rattle.event_book.specs.Totals.{totals_of}
 use Rattle.node_pods.specs.Pods.{Pods, IsCandidate, Fits as PodsFit, IsEvictable, AreEvicted}
 
 -- what a node keeps that is not halted
@@ -20,12 +25,22 @@ pub record State : Type 0 where
   pub pods : Pods
   -- the eviction of each tick, or none
   pub evictions : List (Option Eviction)
+  -- what happened, tick after tick
+  pub events : List Event
+  pub totals : Totals
   -- the moment of the last tick, in seconds
   pub last : Option ℕ
 
-abbrev pub state : NodeConfig → NodeSignals → Pods → List (Option Eviction) → Option ℕ → State
-state config signals pods evictions last =
-    record { config = config; signals = signals; pods = pods; evictions = evictions; last = last }
+abbrev pub state : NodeConfig → NodeSignals → Pods → List (Option Eviction) → List Event → Totals → Option ℕ → State
+state config signals pods evictions events totals last = record {
+  config = config;
+  signals = signals;
+  pods = pods;
+  evictions = evictions;
+  events = events;
+  totals = totals;
+  last = last;
+}
 
 -- a pod after these ticks and evictions: its own ticks have come into its status, and its eviction
 abbrev pub piece_after : NodeConfig → List TickObs → List (Option Eviction) → ℕ → PodSpec → Piece
@@ -55,14 +70,20 @@ last_of (tick ∷ next ∷ ticks) = last_of (next ∷ ticks)
 pub record HasTaken (pods : List PodSpec) (ticks : List TickObs) (s : State) : Type 0 where
   pub replay : IsReplay s.config pods ticks s.evictions
   pub pieces : ArePieces s.config pods ticks s.evictions s.pods.pieces
+  pub events : AreEvents s.config pods ticks s.evictions s.events
+  pub totals : s.totals ≡ totals_of ticks s.events
   pub signals : IsStateOf s.config.eviction s.config.eviction_pressure_transition_period ticks s.signals
   pub greatest : s.pods.greatest ≡ s.config.max_restart_delay
   pub dedicated : s.pods.has_dedicated_imagefs ≡ s.config.has_dedicated_imagefs
   pub shown : (t : ℕ) (tick : TickObs) → slice_get ticks t ≡ Some tick → length tick.pods ≤ length pods
   pub last_is : s.last ≡ last_of ticks
+  pub few_ticks : length ticks ≤ most_ticks
+  pub few_pods : length pods ≤ most_pods
 
--- the tick may come next: it is later than the last, and shows each pod so that it may be handed to it
+-- the tick may come next: one more may be taken, it is later than the last, and it shows each pod so
+-- that it may be handed to it
 pub record Fits (s : State) (tick : TickObs) : Type 0 where
+  pub few : length s.evictions < most_ticks
   pub later : IfSome s.last (λ last. last < tick.at)
   pub bounded : tick.at < 2 ^ 40
   pub pods : PodsFit s.pods tick
@@ -87,6 +108,10 @@ MayBeEvicted pieces (Some eviction) = IsEvictable pieces eviction.pod eviction.o
 abbrev pub AreWithout : List Piece → Option Eviction → List Piece → Type 0
 AreWithout old None new = new ≡ old
 AreWithout old (Some eviction) new = AreEvicted old eviction.pod eviction.order new
+
+-- where the node is not halted, one more pod may arrive
+abbrev pub HasRoom : Option State → Type 0
+HasRoom node = IfSome node (λ s. length s.pods.pieces < most_pods)
 
 -- the node is not halted: of this configuration, these pods have arrived, and these ticks were taken
 abbrev pub IsAfter : NodeConfig → List PodSpec → List TickObs → Option State → Type 0

@@ -1,11 +1,22 @@
 //! A node that takes one tick after another: what each tick makes of its pods, its thresholds and its
-//! conditions, and which pod it evicts. (Kubernetes, "Pod Lifecycle" and "Node-pressure Eviction".)
+//! conditions, which pod it evicts, and what happened. (Kubernetes, "Pod Lifecycle" and "Node-pressure
+//! Eviction".)
+//!
+//! A tick is begun, then its pods are updated, then it is ended. The updates are all that differs
+//! between the ways to take a tick.
 #![tactic(auto)]
 
+mod begun;
+mod events;
 mod fault;
 mod node;
 mod round;
 mod running;
+mod summary;
+mod update;
 
 pub use fault::TickFault;
 pub use node::Node;
+pub use round_core::laws;
+pub use round_steps::Step;
+pub use summary::{ConditionStatus, Summary};

@@ -1,32 +1,37 @@
 //! A node, tick by tick.
 
-ghost use Rattle.std.specs.Prelude.{◌≡◌, ◌↔◌, ◌++◌, ◌∷◌, [], List, Option, None, IsTrue, IfOk, IfSome, OnOk, OnErr};
-ghost use Rattle.std.specs.Prelude.{IsErrOf};
+ghost use Rattle.std.specs.Prelude.{◌≡◌, ◌↔◌, ◌<◌, ◌≤◌, ◌++◌, ◌∷◌, [], List, length, map, None, IsTrue, IfOk, OnOk, OnErr};
+ghost use Rattle.std.specs.Prelude.{IfErr, IsErrOf};
 ghost use Rattle.manifest.specs.declared.pod.PodSpec.{PodSpec};
 ghost use Rattle.observations.specs.declared.tick.TickObs.{TickObs};
 ghost use Rattle.node_config.specs.declared.node.NodeConfig.{NodeConfig};
-ghost use Rattle.eviction.specs.declared.eviction.Eviction.{Eviction};
-ghost use Rattle.eviction.specs.Replay.{IsReplay};
+ghost use Rattle.observations.specs.Limits.{most_pods};
+ghost use Rattle.event_book.specs.Totals.{nothing};
 ghost use Rattle.tick_round.specs.declared.fault.TickFault.TheVariants.{Halted};
-ghost use Rattle.tick_round.specs.Node.{IsAfter, MayTake, ArePieces};
+ghost use Rattle.tick_round.specs.Node.{IsAfter, MayTake, HasRoom};
+ghost use Rattle.tick_round.specs.Played.{most_workers, AreFinished};
+ghost use Rattle.tick_round.specs.Summary.{IsSummary};
 
 use crate::fault::TickFault;
 use crate::running::Running;
+use crate::summary::Summary;
+use event_book::WholeBook;
 use manifest::PodSpec;
 use node_config::NodeConfig;
 use observations::TickObs;
-use pod_piece::PodPiece;
+use round_steps::Step;
 use std::alloc::{AllocError, Global};
 use std::marker::Model;
+use std::sync::ledger::Ledger;
 
 /// A node with its pods. After a tick that was refused for want of memory it is halted: it takes no
 /// further tick and tells nothing. (Kubernetes, "Node-pressure Eviction".)
 #[derive(Drop)]
-pub struct Node {
-    running: Option<Running>,
+pub struct Node<U: Ledger, E: Ledger, O: Ledger> {
+    running: Option<Running<U, E, O>>,
 }
 
-impl Model for Node {
+impl<U: Ledger, E: Ledger, O: Ledger> Model for Node<U, E, O> {
     ghost use Rattle.std.specs.Prelude.{Option};
     ghost use Rattle.tick_round.specs.Node.{State};
 
@@ -35,12 +40,20 @@ impl Model for Node {
     ghost view = { λ n. n.running };
 }
 
-impl Node {
-    /// A node with these pods, numbered in their order, before any tick.
-    pub fn new(alloc: Global, config: NodeConfig, pods: Vec<PodSpec>) -> Result<Node, AllocError>
+impl<U: Ledger, E: Ledger, O: Ledger> Node<U, E, O> {
+    /// A node with these pods, at most 256, numbered in their order, and with an empty book, before any
+    /// tick.
+    pub fn new(
+        alloc: Global,
+        config: NodeConfig,
+        pods: Vec<PodSpec>,
+        book: WholeBook<U, E, O>,
+    ) -> Result<Node<U, E, O>, AllocError>
+        requires empty { book ≡ nothing }
+        requires few { length pods.items ≤ most_pods }
         ensures { IfOk result (IsAfter config pods.items []) }
     {
-        let mut running = Running::new(alloc, config);
+        let mut running = Running::new(alloc, config, book);
         for pod in pods {
             running.arrive(pod)?;
         }
@@ -49,9 +62,10 @@ impl Node {
         })
     }
 
-    /// A pod arrives, with the next number: it is present from the next tick on. An `Err` changes
-    /// nothing.
+    /// A pod arrives, with the next number, where there are fewer than 256: it is present from the next
+    /// tick on. An `Err` changes nothing.
     pub fn arrive(&mut self, pod: PodSpec) -> Result<(), TickFault>
+        requires { HasRoom self.old }
         ensures arrived { (config : NodeConfig) (pods : List PodSpec) (ticks : List TickObs)
             → IsAfter config pods ticks self.old
             → OnOk result (IsAfter config (pods ++ pod ∷ []) ticks self.new) }
@@ -67,9 +81,9 @@ impl Node {
         }
     }
 
-    /// Whether the tick may come next: it is later than the last and below 2^40, and shows each pod,
-    /// with a listing of each container that may come after all earlier ones. Of a halted node it is
-    /// true. It takes no memory.
+    /// Whether the tick may come next: fewer than 20,000 were taken, it is later than the last and below
+    /// 2^40, and it shows each pod, with a listing of each container that may come after all earlier
+    /// ones. Of a halted node it is true. It takes no memory.
     pub fn fits(&self, tick: &TickObs) -> bool
         ensures { IsTrue result ↔ MayTake self.now tick.now }
     {
@@ -90,7 +104,7 @@ impl Node {
         ensures halted { IsErrOf result Halted ↔ (self.old ≡ None) }
     {
         match self.running.take() {
-            Some(running) => match running.after(tick) {
+            Some(running) => match running.after_alone(tick) {
                 Ok(next) => {
                     self.running = Some(next);
                     Ok(())
@@ -101,18 +115,52 @@ impl Node {
         }
     }
 
-    /// The pods by their numbers, as the ticks and the evictions leave them; nothing of a halted node.
-    /// It takes no memory.
-    pub fn pieces(&self) -> Option<&[PodPiece]>
-        ensures halted { (result ≡ None) ↔ (self.now ≡ None) }
+    /// Takes one tick, whose round is played on one thread: so many workers, 1 to 64, update the pods by
+    /// these steps, then each finishes what it has. A step that is not possible is skipped. It answers
+    /// the numbers of the pods that each worker finished. The node is as after `tick_alone`, whatever the
+    /// steps are. An `Err` says that memory was refused, or that the node was halted; it is halted then.
+    pub fn tick_play(
+        &mut self,
+        tick: TickObs,
+        workers: usize,
+        steps: &[Step],
+    ) -> Result<Vec<Vec<usize>>, TickFault>
+        requires fits { MayTake self.old tick }
+        requires some { 0 < workers }
+        requires most { workers ≤ most_workers }
         ensures taken { (config : NodeConfig) (pods : List PodSpec) (ticks : List TickObs)
-            → IsAfter config pods ticks self.now
-            → IfSome result (λ pieces. (evictions : List (Option Eviction)) × IsReplay config pods ticks evictions
-            × ArePieces config pods ticks evictions pieces.now) }
+            → IsAfter config pods ticks self.old
+            → OnOk result (IsAfter config pods (ticks ++ tick ∷ []) self.new) }
+        ensures finished { (config : NodeConfig) (pods : List PodSpec) (ticks : List TickObs)
+            → IsAfter config pods ticks self.old
+            → IfOk result (λ lists.
+            AreFinished (length pods) workers steps.now (map (λ list. list.items) lists.items)) }
+        ensures err { OnErr result (self.new ≡ None) }
+        ensures halted { IsErrOf result Halted ↔ (self.old ≡ None) }
+    {
+        match self.running.take() {
+            Some(running) => match running.after_played(tick, workers, steps) {
+                Ok((next, finished)) => {
+                    self.running = Some(next);
+                    Ok(finished)
+                }
+                Err(_) => Err(TickFault::OutOfMemory),
+            },
+            None => Err(TickFault::Halted),
+        }
+    }
+
+    /// What the node has come to, as its ticks leave it. An `Err` says that the node is halted. It takes
+    /// no memory.
+    pub fn summary(&self) -> Result<Summary<'_>, TickFault>
+        ensures taken { (config : NodeConfig) (pods : List PodSpec) (ticks : List TickObs)
+            → IsAfter config pods ticks self.now → IfOk result (IsSummary config pods ticks) }
+        ensures halted { IsErrOf result Halted ↔ (self.now ≡ None) }
+        ensures err { IfErr result (λ fault. fault ≡ Halted) }
     {
         match &self.running {
-            Some(running) => Some(running.pieces()),
-            None => None,
+            Some(running) => Ok(running.summary()),
+            None => Err(TickFault::Halted),
         }
     }
 }

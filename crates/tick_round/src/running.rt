@@ -1,48 +1,68 @@
 //! A node that is not halted.
 
-ghost use Rattle.std.specs.Prelude.{◌≡◌, ◌↔◌, ◌<◌, ◌++◌, ◌∷◌, [], List, IsTrue, IfSome, IfOk, OnOk, OnErr};
+ghost use Rattle.std.specs.Prelude.{◌≡◌, ◌↔◌, ◌<◌, ◌≤◌, ◌++◌, ◌∷◌, [], List, length, map, IsTrue, IfSome, IfOk, OnOk, OnErr};
 ghost use Rattle.manifest.specs.declared.pod.PodSpec.{PodSpec};
 ghost use Rattle.observations.specs.declared.tick.TickObs.{TickObs};
+ghost use Rattle.observations.specs.Limits.{most_pods};
+ghost use Rattle.node_config.specs.declared.node.NodeConfig.{NodeConfig};
+ghost use Rattle.pod_piece.specs.Piece.{updated};
+ghost use Rattle.event_book.specs.Totals.{nothing};
+ghost use Rattle.node_pods.specs.Pods.{AreHanded, AreAwaited};
 ghost use Rattle.tick_round.specs.Node.{HasTaken, Fits};
+ghost use Rattle.tick_round.specs.Update.{MayUpdate};
+ghost use Rattle.tick_round.specs.Played.{most_workers, AreFinished};
+ghost use Rattle.tick_round.specs.Round.{IsKept, HasBegun};
+ghost use Rattle.tick_round.specs.Summary.{IsSummary};
 
-use crate::round::{carry_out, eviction_for};
+use crate::begun::Begun;
+use crate::summary::{Summary, conditions_of};
+use crate::update::update_alone;
+use event_book::{Event, WholeBook};
 use eviction::Eviction;
 use manifest::PodSpec;
 use node_config::NodeConfig;
 use node_pods::NodePods;
 use node_signals::NodeSignals;
-use observations::TickObs;
+use observations::{MOST_TICKS, TickObs};
+use played_round::update_played;
 use pod_piece::PodPiece;
+use round_steps::Step;
 use std::alloc::{AllocError, Global};
 use std::marker::Model;
+use std::sync::ledger::Ledger;
 
 /// A node that is not halted. Its type keeps that all in it is the state of the ticks that it took.
 #[derive(Drop)]
-pub(crate) struct Running {
-    alloc: Global,
-    config: NodeConfig,
-    signals: NodeSignals,
-    pods: NodePods,
-    evictions: Vec<Option<Eviction>>,
-    last: Option<u64>,
+pub(crate) struct Running<U: Ledger, E: Ledger, O: Ledger> {
+    pub(crate) alloc: Global,
+    pub(crate) config: NodeConfig,
+    pub(crate) signals: NodeSignals,
+    pub(crate) pods: NodePods,
+    pub(crate) evictions: Vec<Option<Eviction>>,
+    pub(crate) events: Vec<Event>,
+    pub(crate) book: WholeBook<U, E, O>,
+    pub(crate) last: Option<u64>,
 }
 
-impl Model for Running {
-    ghost use Rattle.std.specs.Prelude.{List};
-    ghost use Rattle.observations.specs.declared.tick.TickObs.{TickObs};
-    ghost use Rattle.tick_round.specs.Node.{State, state, HasTaken, pods_in};
+impl<U: Ledger, E: Ledger, O: Ledger> Model for Running<U, E, O> {
+    ghost use Rattle.tick_round.specs.Node.{State, state};
+    ghost use Rattle.tick_round.specs.Round.{IsKept};
 
     ghost Value = { State };
 
-    ghost view = { λ r. state r.config r.signals r.pods r.evictions.items r.last };
+    ghost view = { λ r. state r.config r.signals r.pods r.evictions.items r.events.items r.book r.last };
 
-    ghost invariant = { λ r. (ticks : List TickObs)
-        × HasTaken (pods_in r.pods.pieces) ticks (state r.config r.signals r.pods r.evictions.items r.last) };
+    ghost invariant = { λ r. IsKept (state r.config r.signals r.pods r.evictions.items r.events.items r.book r.last) };
 }
 
-impl Running {
-    /// A node without pods and ticks. It takes no memory.
-    pub(crate) fn new(alloc: Global, config: NodeConfig) -> Running
+impl<U: Ledger, E: Ledger, O: Ledger> Running<U, E, O> {
+    /// A node without pods and ticks, with an empty book. It takes no memory.
+    pub(crate) fn new(
+        alloc: Global,
+        config: NodeConfig,
+        book: WholeBook<U, E, O>,
+    ) -> Running<U, E, O>
+        requires { book ≡ nothing }
         ensures config { result.config ≡ config }
         ensures taken { HasTaken [] [] result }
     {
@@ -61,17 +81,22 @@ impl Running {
             signals,
             pods,
             evictions: Vec::new(alloc),
+            events: Vec::new(alloc),
+            book,
             last: None,
         }
     }
 
     /// A pod arrives: it is present from the next tick on. An `Err` changes nothing.
     pub(crate) fn arrive(&mut self, pod: PodSpec) -> Result<(), AllocError>
+        requires { length self.old.pods.pieces < most_pods }
         ensures config { self.new.config ≡ self.old.config }
         ensures taken { (pods : List PodSpec) (ticks : List TickObs) → HasTaken pods ticks self.old
             → OnOk result (HasTaken (pods ++ pod ∷ []) ticks self.new) }
         ensures err { OnErr result (self.new ≡ self.old) }
     {
+        // A pod has at most 16 containers, and so few events in a tick.
+        let _containers = pod.containers.as_slice();
         self.pods.arrive(pod)?;
         Ok(())
     }
@@ -80,46 +105,106 @@ impl Running {
     pub(crate) fn fits(&self, tick: &TickObs) -> bool
         ensures { IsTrue result ↔ Fits self.now tick.now }
     {
-        is_later(self.last, tick.at) && tick.at < 1 << 40 && self.pods.fits(tick)
+        self.evictions.len() < MOST_TICKS
+            && is_later(self.last, tick.at)
+            && tick.at < 1 << 40
+            && self.pods.fits(tick)
     }
 
-    /// The node after one more tick. A refused growth of memory gives the node up.
-    pub(crate) fn after(self, tick: TickObs) -> Result<Running, AllocError>
+    /// Takes the samples of a tick, and hands each pod what the tick shows of it. The pieces, which are
+    /// still to take it into their statuses, and the book go out for the updates, beside what is left
+    /// of the node. A refused growth of memory gives the node up.
+    pub(crate) fn begin(
+        self,
+        tick: TickObs,
+    ) -> Result<(Vec<PodPiece>, WholeBook<U, E, O>, Begun), AllocError>
         requires { Fits self tick }
-        ensures config { IfOk result (λ next. next.config ≡ self.config) }
-        ensures taken { (pods : List PodSpec) (ticks : List TickObs) → HasTaken pods ticks self
-            → IfOk result (HasTaken pods (ticks ++ tick ∷ [])) }
+        ensures kept { IfOk result (λ r. IsKept self) }
+        ensures handed { IfOk result (λ r. AreHanded self.pods.pieces tick.pods r.0.items) }
+        ensures may_update { IfOk result (λ r. MayUpdate r.0.items r.1) }
+        ensures book { IfOk result (λ r. r.1 ≡ self.totals) }
+        ensures begun { IfOk result (λ r. HasBegun self tick r.2) }
+        ensures awaited { IfOk result (λ r. AreAwaited r.2.pods (map updated r.0.items)) }
     {
         let Running {
             alloc,
             config,
             mut signals,
             pods,
-            mut evictions,
+            evictions,
+            events,
+            book,
             last: _,
         } = self;
-        signals.take(alloc, &config.eviction, &tick)?;
+        let news = signals.take(alloc, &config.eviction, &tick)?;
         let served = signals.served(&config.eviction, &tick);
         let at = tick.at;
-        let mut pods = pods.after(tick.pods.into_vec())?;
-        let eviction = eviction_for(&config, &pods, at, served);
-        carry_out(&mut pods, eviction);
-        evictions.push(eviction)?;
-        Ok(Running {
+        let (pieces, pods) = pods.hand(tick.pods.into_vec())?;
+        let begun = Begun {
             alloc,
             config,
             signals,
+            news,
+            served,
             pods,
             evictions,
-            last: Some(at),
-        })
+            events,
+            at,
+        };
+        Ok((pieces, book, begun))
     }
 
-    /// The pods by their numbers.
-    pub(crate) fn pieces(&self) -> &[PodPiece]
-        ensures { result.now ≡ self.now.pods.pieces }
+    /// The node after one more tick, on one thread. A refused growth of memory gives the node up.
+    pub(crate) fn after_alone(self, tick: TickObs) -> Result<Running<U, E, O>, AllocError>
+        requires { Fits self tick }
+        ensures config { IfOk result (λ next. next.config ≡ self.config) }
+        ensures taken { (pods : List PodSpec) (ticks : List TickObs) → HasTaken pods ticks self
+            → IfOk result (HasTaken pods (ticks ++ tick ∷ [])) }
     {
-        self.pods.pieces()
+        let (pieces, book, begun) = self.begin(tick)?;
+        let (pieces, book) = update_alone(pieces, book)?;
+        let next = begun.end(pieces, book)?;
+        Ok(next)
+    }
+
+    /// The node after one more tick, whose round so many workers play by these steps, and the numbers of
+    /// the pods that each of them finished. A refused growth of memory gives the node up.
+    pub(crate) fn after_played(
+        self,
+        tick: TickObs,
+        workers: usize,
+        steps: &[Step],
+    ) -> Result<(Running<U, E, O>, Vec<Vec<usize>>), AllocError>
+        requires fits { Fits self tick }
+        requires some { 0 < workers }
+        requires most { workers ≤ most_workers }
+        ensures config { IfOk result (λ r. r.0.config ≡ self.config) }
+        ensures taken { (pods : List PodSpec) (ticks : List TickObs) → HasTaken pods ticks self
+            → IfOk result (λ r. HasTaken pods (ticks ++ tick ∷ []) r.0) }
+        ensures finished { IfOk result (λ r.
+            AreFinished (length self.pods.pieces) workers steps.now (map (λ list. list.items) r.1.items)) }
+    {
+        let alloc = self.alloc;
+        let (pieces, book, begun) = self.begin(tick)?;
+        let played = update_played(alloc, pieces, book, workers, steps)?;
+        let next = begun.end(played.pieces, played.book)?;
+        Ok((next, played.finished))
+    }
+
+    /// What the node has come to. It takes no memory.
+    pub(crate) fn summary(&self) -> Summary<'_>
+        ensures { (config : NodeConfig) (pods : List PodSpec) (ticks : List TickObs) → self.now.config ≡ config
+            → HasTaken pods ticks self.now → IsSummary config pods ticks result }
+    {
+        Summary {
+            name: self.config.name.as_str(),
+            pods: self.pods.pieces(),
+            conditions: conditions_of(&self.signals),
+            events: &self.events,
+            evictions: &self.evictions,
+            ticks: self.evictions.len(),
+            totals: self.book.totals(),
+        }
     }
 }
 

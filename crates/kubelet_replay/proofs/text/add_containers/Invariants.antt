@@ -1,7 +1,0 @@
-use Rattle.std.proofs.Common.{◌≡◌, ◌++◌, drop, string_bytes}
-use Rattle.kubelet_replay.specs.Lines.{containers_text}
-use Rattle.kubelet_replay.proofs.text.add_containers.Given as goal
-
-abbrev pub invariant-loop-place : goal.invariant-loop-place
-invariant-loop-place l =
-    string_bytes l.text ++ containers_text l.number (drop l.place l.containers) (drop l.place l.statuses) ≡ string_bytes l.fn.text ++ containers_text l.number l.containers l.statuses

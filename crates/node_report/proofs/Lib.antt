@@ -1,0 +1,4 @@
+pub mod Parts
+pub mod Pieces
+pub mod Summary
+pub mod Unique

@@ -1,0 +1,13 @@
+use Rattle.std.proofs.Common.{List, Option, take, string_bytes}
+use Rattle.manifest.specs.declared.pod.PodSpec.{PodSpec}
+use Rattle.node_config.specs.declared.node.NodeConfig.{NodeConfig}
+use Rattle.observations.specs.declared.tick.TickObs.{TickObs}
+use Rattle.eviction.specs.declared.eviction.Eviction.{Eviction}
+use Rattle.tick_round.specs.Node.{ArePieces}
+use Rattle.node_report.specs.Report.{AreLines}
+use Rattle.node_report.proofs.report.all_lines.Given as goal
+
+abbrev pub invariant-loop-number : goal.invariant-loop-number
+invariant-loop-number l = (config : NodeConfig) (ticks : List TickObs) (evictions : List (Option Eviction)) (pods : List PodSpec)
+    → ArePieces config pods ticks evictions l.pieces → AreLines ticks evictions (take l.number pods)
+    (string_bytes l.report)

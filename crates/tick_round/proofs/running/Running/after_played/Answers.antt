@@ -1,0 +1,37 @@
+use Rattle.std.proofs.Common.{◌∙◌, sym}
+use Rattle.tick_round.proofs.GoesOn.{updated_by}
+use Rattle.tick_round.proofs.Played.{all_pending, are_entered}
+use Rattle.tick_round.proofs.running.Running.after_played.Goals as goal
+
+pub update_played-requires-clause-pending : goal.update_played-requires-clause-pending
+update_played-requires-clause-pending g c =
+    all_pending c.in_ok-pieces.pieces.items c.in_ok-pieces.book c.in_ok-pieces.ensures.may_update
+
+pub end-requires-clause-taken : goal.end-requires-clause-taken
+end-requires-clause-taken g c = (
+  c.args.self,
+  c.args.tick,
+  c.in_ok-pieces.ensures.kept,
+  record {
+    fits = c.requires.fits;
+    has_begun = c.in_ok-pieces.ensures.begun;
+    updated = updated_by c.args.self c.args.tick c.in_ok-pieces.pieces.items c.in_ok-played.played.pieces.items
+        c.in_ok-pieces.book c.in_ok-played.played.book c.in_ok-pieces.ensures.handed c.in_ok-played.ensures.pieces
+        c.in_ok-pieces.ensures.book
+        (are_entered c.in_ok-played.played.pieces.items c.in_ok-pieces.book c.in_ok-played.played.book c.in_ok-played.ensures.book);
+  },
+)
+
+pub returns-clause-taken : goal.returns-clause-taken
+returns-clause-taken g c = λ pods ticks taken. c.in_ok-next.ensures.taken c.args.self c.args.tick pods ticks (record {
+  fits = c.requires.fits;
+  has_begun = c.in_ok-pieces.ensures.begun;
+  updated = updated_by c.args.self c.args.tick c.in_ok-pieces.pieces.items c.in_ok-played.played.pieces.items
+      c.in_ok-pieces.book c.in_ok-played.played.book c.in_ok-pieces.ensures.handed c.in_ok-played.ensures.pieces
+      c.in_ok-pieces.ensures.book
+      (are_entered c.in_ok-played.played.pieces.items c.in_ok-pieces.book c.in_ok-played.played.book c.in_ok-played.ensures.book);
+}) taken
+
+pub returns-clause-finished : goal.returns-clause-finished
+returns-clause-finished g c = λ entries many.
+    c.in_ok-played.ensures.finished entries (many ∙ sym c.in_ok-pieces.ensures.handed.as_many)

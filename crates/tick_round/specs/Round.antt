@@ -1,0 +1,78 @@
+-- A tick of a node: what comes before the update of its pods, and what comes after it.
+use Rattle.std.specs.Prelude.{◌≡◌, ℕ, ◌*◌, ◌≤◌, List, [], ◌∷◌, ◌++◌, length, slice_get, Option, Some}
+use Rattle.manifest.specs.declared.pod.PodSpec.{PodSpec}
+use Rattle.observations.specs.declared.tick.TickObs.{TickObs}
+use Rattle.node_signals.specs.declared.node.NodeSignals.{NodeSignals}
+use Rattle.node_signals.specs.declared.event.NodeEvent.{NodeEvent}
+use Rattle.node_signals.specs.declared.key.ThresholdKey.{ThresholdKey}
+use Rattle.node_signals.specs.Events.{AreNodeEvents}
+use Rattle.node_signals.specs.Node.{IsStateOf}
+use Rattle.node_signals.specs.Thresholds.{IsServed}
+use Rattle.node_config.specs.declared.node.NodeConfig.{NodeConfig}
+use Rattle.pod_state.specs.declared.events.PodEvent.{PodEvent}
+use Rattle.pod_piece.specs.Piece.{Piece}
+use Rattle.eviction.specs.declared.eviction.Eviction.{Eviction}
+use Rattle.event_book.specs.declared.event.Event.{Event}
+use Rattle.event_book.specs.declared.totals.Totals.{Totals}
+use Rattle.event_book.specs.Events.{of_pods, of_node, of_eviction}
+use Rattle.node_pods.specs.Pods.{AreAfter, awaited}
+use Rattle.tick_round.specs.declared.begun.Begun.{Begun}
+use Rattle.tick_round.specs.Node.{State, HasTaken, Fits, pods_in}
+use Rattle.tick_round.specs.Update.{AreUpTo, AreEntered, AreMadeBy}
+
+-- a tick adds so much to each total at most: 129 events of each of 256 pods
+abbrev pub most_of_tick : ℕ
+most_of_tick = 33024
+
+-- no pod has more than 16 containers
+abbrev pub AreFew : List PodSpec → Type 0
+AreFew pods = (n : ℕ) (pod : PodSpec) → slice_get pods n ≡ Some pod → length pod.containers ≤ 16
+
+-- what a node keeps: it is the state of the ticks that it took, and its totals are what so many ticks may
+-- have added
+pub record IsKept (s : State) : Type 0 where
+  pub ticks : List TickObs
+  pub taken : HasTaken (pods_in s.pods.pieces) ticks s
+  pub few : AreFew (pods_in s.pods.pieces)
+  pub room : AreUpTo (length ticks * most_of_tick) s.totals
+
+-- what the samples of a tick make of the node
+pub record IsSampled (config : NodeConfig) (old : NodeSignals) (tick : TickObs) (new : NodeSignals)
+    (news : List NodeEvent) (served : Option ThresholdKey) : Type 0 where
+  pub signals : (before : List TickObs)
+      → IsStateOf config.eviction config.eviction_pressure_transition_period before old
+      → IsStateOf config.eviction config.eviction_pressure_transition_period (before ++ tick ∷ []) new
+  pub news_are : (before : List TickObs)
+      → IsStateOf config.eviction config.eviction_pressure_transition_period before old
+      → AreNodeEvents config.eviction config.eviction_pressure_transition_period before tick news
+  pub serves : (before : List TickObs)
+      → IsStateOf config.eviction config.eviction_pressure_transition_period (before ++ tick ∷ []) new
+      → IsServed config.eviction before tick served
+
+-- a node in this state has begun the tick: its samples are taken, and its pods are out for their updates
+pub record HasBegun (s : State) (tick : TickObs) (begun : Begun) : Type 0 where
+  pub config : begun.config ≡ s.config
+  pub sampled : IsSampled s.config s.signals tick begun.signals begun.news.items begun.served
+  pub pods : begun.pods ≡ awaited (length s.pods.pieces) s.pods.greatest s.pods.has_dedicated_imagefs
+  pub evictions : begun.evictions.items ≡ s.evictions
+  pub events : begun.events.items ≡ s.events
+  pub at : begun.at ≡ tick.at
+
+-- its pods have taken the tick, and were entered
+pub record AreUpdated (s : State) (tick : TickObs) (pieces : List Piece) (totals : Totals) : Type 0 where
+  pub after : AreAfter s.pods.pieces tick.pods pieces
+  pub entered : AreEntered pieces s.totals totals
+
+-- the node may end the tick
+pub record MayEnd (s : State) (tick : TickObs) (begun : Begun) (pieces : List Piece)
+    (totals : Totals) : Type 0 where
+  pub fits : Fits s tick
+  pub has_begun : HasBegun s tick begun
+  pub updated : AreUpdated s tick pieces totals
+
+-- the events of a tick are added to those there were
+pub record AddsEvents (at : ℕ) (pieces : List Piece) (news : List NodeEvent) (eviction : Option Eviction)
+    (old new : List Event) : Type 0 where
+  pub made : List (List PodEvent)
+  pub are_made : AreMadeBy pieces made
+  pub added : new ≡ old ++ (of_pods at 0 made ++ (of_node at news ++ of_eviction at eviction))
