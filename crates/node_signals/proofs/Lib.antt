@@ -4,3 +4,5 @@ pub mod ServedLemmas
 pub mod ConditionLemmas
 pub mod EventLemmas
 pub mod LawLemmas
+pub mod Decide
+pub mod Exists

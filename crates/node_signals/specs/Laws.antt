@@ -1,10 +1,12 @@
 -- The statements of the laws.
-use Rattle.std.specs.Prelude.{◌≡◌, ℕ, List, Option, Some}
+use Rattle.std.specs.Prelude.{◌≡◌, ◌↔◌, ℕ, Bool, List, Option, Some, IsTrue}
 use Rattle.node_config.specs.Eviction.{Eviction}
 use Rattle.observations.specs.declared.tick.TickObs.{TickObs}
 use Rattle.node_signals.specs.declared.key.ThresholdKey.{ThresholdKey}
+use Rattle.node_signals.specs.declared.condition.NodeCondition.{NodeCondition}
 use Rattle.node_signals.specs.declared.event.NodeEvent.{NodeEvent}
 use Rattle.node_signals.specs.Thresholds.{Asks, IsServed}
+use Rattle.node_signals.specs.Conditions.{IsTrueAfter, IsSinceMoment}
 use Rattle.node_signals.specs.Events.{AreNodeEvents}
 
 abbrev pub OneServed : Type 0
@@ -22,3 +24,16 @@ OneListOfNodeEvents =
     (eviction : Eviction) (period : ℕ) (before : List TickObs) (tick : TickObs) (events others : List NodeEvent)
     → AreNodeEvents eviction period before tick events → AreNodeEvents eviction period before tick others
     → events ≡ others
+
+-- a condition is true after some ticks or it isn't, and there is a moment since which it has been so
+pub record SomeCondition : Type 0 where
+  pub value : (eviction : Eviction) (period : ℕ) (condition : NodeCondition) (ticks : List TickObs)
+      → (value : Bool) × (IsTrue value ↔ IsTrueAfter eviction period condition ticks)
+  pub since : (eviction : Eviction) (period : ℕ) (condition : NodeCondition) (ticks : List TickObs)
+      → (since : ℕ) × IsSinceMoment eviction period condition ticks since
+
+-- every tick has a list of events, whatever ticks came before it
+abbrev pub SomeListOfNodeEvents : Type 0
+SomeListOfNodeEvents =
+    (eviction : Eviction) (period : ℕ) (before : List TickObs) (tick : TickObs)
+    → (events : List NodeEvent) × AreNodeEvents eviction period before tick events

@@ -1,0 +1,126 @@
+-- Every list of ticks has its conditions, and every tick its events.
+use Rattle.std.proofs.Common.{◌≡◌, inl, inr, ℕ, List, [], ◌∷◌, ◌++◌, Bool, true, false, Option, Some, None, refl, sym}
+use Rattle.std.proofs.Common.{subst, append_assoc, append-nil}
+use mathlib.Core.Bool.{beq}
+use Rattle.std.specs.Prelude.{◌↔◌, IsTrue}
+use Rattle.histories.specs.Histories.{recorded}
+use Rattle.histories.proofs.Decide.{both, test_of}
+use Rattle.pressure.specs.Pressures.{Observation}
+use Rattle.pressure.proofs.LawLemmas.{one_since}
+use Rattle.node_config.specs.Eviction.{Eviction}
+use Rattle.observations.specs.declared.tick.TickObs.{TickObs}
+use Rattle.node_signals.specs.declared.key.ThresholdKey.{ThresholdKey}
+use Rattle.node_signals.specs.declared.condition.NodeCondition.{NodeCondition}
+use Rattle.node_signals.specs.declared.event.NodeEvent.{NodeEvent}
+use Rattle.node_signals.specs.declared.event.NodeEvent.TheVariants.{Threshold, Pressure, Reclaim}
+use Rattle.node_signals.specs.Keys.{serving_order}
+use Rattle.node_signals.specs.Thresholds.{IsActive}
+use Rattle.node_signals.specs.Conditions.{conditions, AreObservations, IsTrueAfter, IsSinceMoment}
+use Rattle.node_signals.specs.Events.{Changes, ChangesThreshold, ChangesCondition, Reclaims, Gives, as_list, AreGiven}
+use Rattle.node_signals.specs.Laws.{SomeCondition, SomeListOfNodeEvents}
+use Rattle.node_signals.proofs.ConditionLemmas.{none_observed, observed_more, true_after}
+use Rattle.node_signals.proofs.Decide.{active_or_not, due_or_not, reclaimed_or_not, met_or_not, pressure_or_not}
+use Rattle.node_signals.proofs.EventLemmas.{gives_none, gives_one, changed, unchanged}
+
+-- what the ticks say of a condition
+observed_after : (eviction : Eviction) (condition : NodeCondition) (later before : List TickObs) (h : List Observation)
+    → AreObservations eviction condition before h
+    → (all : List Observation) × AreObservations eviction condition (before ++ later) all
+observed_after eviction condition [] before h are =
+    (h, subst (λ ticks. AreObservations eviction condition ticks h) (sym (append-nil before)) are)
+observed_after eviction condition (tick ∷ later) before h are =
+    let met = test_of (met_or_not eviction condition (before ++ tick ∷ [])) in
+    let next = observed_more eviction condition before tick h met.0 met.1 are in
+    let All : List TickObs → Type 0 =
+    λ ticks. (all : List Observation) × AreObservations eviction condition ticks all in
+    subst All (append_assoc before (tick ∷ []) later)
+    (observed_after eviction condition later (before ++ tick ∷ []) (h ++ recorded tick.at met.0 ∷ []) next)
+
+some_observations : (eviction : Eviction) (condition : NodeCondition) (ticks : List TickObs)
+    → (h : List Observation) × AreObservations eviction condition ticks h
+some_observations eviction condition ticks =
+    observed_after eviction condition ticks [] [] (none_observed eviction condition)
+
+some_value : (eviction : Eviction) (period : ℕ) (condition : NodeCondition) (ticks : List TickObs)
+    → (value : Bool) × (IsTrue value ↔ IsTrueAfter eviction period condition ticks)
+some_value eviction period condition ticks =
+    let observed = some_observations eviction condition ticks in
+    let value = test_of (pressure_or_not period observed.0) in
+    (value.0, true_after eviction period condition ticks observed.0 value.0 observed.1 value.1)
+
+some_moment : (eviction : Eviction) (period : ℕ) (condition : NodeCondition) (ticks : List TickObs)
+    → (since : ℕ) × IsSinceMoment eviction period condition ticks since
+some_moment eviction period condition ticks =
+    let observed = some_observations eviction condition ticks in
+    let since = one_since.exists period observed.0 in
+    (since.0, (observed.0, observed.1, since.1))
+
+pub some_condition : SomeCondition
+some_condition = record { value = some_value; since = some_moment }
+
+-- what a value has become, if it changed
+change_of : (event_of : Bool → NodeEvent) (N O : Type 0) → (now : Bool) × (IsTrue now ↔ N)
+    → (old : Bool) × (IsTrue old ↔ O)
+    → (event : Option NodeEvent) × Gives (Changes event_of N O) event
+change_of event_of N O (now, is) (old, was) = by (beq now old) refl
+  where
+    by : (same : Bool) → beq now old ≡ same → (event : Option NodeEvent) × Gives (Changes event_of N O) event
+    by true e = (None, unchanged event_of N O now old is was e)
+    by false e = (Some (event_of now), changed event_of N O now old is was e)
+
+threshold_event : (eviction : Eviction) (before : List TickObs) (tick : TickObs) (key : ThresholdKey)
+    → (event : Option NodeEvent) × Gives (ChangesThreshold eviction before tick key) event
+threshold_event eviction before tick key =
+    change_of (Threshold key) (IsActive eviction (before ++ tick ∷ []) key) (IsActive eviction before key)
+    (test_of (active_or_not eviction (before ++ tick ∷ []) key)) (test_of (active_or_not eviction before key))
+
+condition_event : (eviction : Eviction) (period : ℕ) (before : List TickObs) (tick : TickObs)
+    (condition : NodeCondition)
+    → (event : Option NodeEvent) × Gives (ChangesCondition eviction period before tick condition) event
+condition_event eviction period before tick condition =
+    change_of (Pressure condition) (IsTrueAfter eviction period condition (before ++ tick ∷ []))
+    (IsTrueAfter eviction period condition before)
+    (some_value eviction period condition (before ++ tick ∷ [])) (some_value eviction period condition before)
+
+reclaim_event : (eviction : Eviction) (before : List TickObs) (tick : TickObs) (key : ThresholdKey)
+    → (event : Option NodeEvent) × Gives (Reclaims eviction before tick key) event
+reclaim_event eviction before tick key =
+    elim (both (due_or_not eviction before tick key) (reclaimed_or_not eviction tick key)) [
+      | inl w ↦ (
+        Some (Reclaim key),
+        gives_one (Reclaims eviction before tick key) (Reclaim key) (refl, w.0, w.1) (λ e reclaims. sym reclaims.0),
+      )
+      | inr not ↦ (
+        None,
+        gives_none (Reclaims eviction before tick key) (λ e reclaims. not (reclaims.1, reclaims.2)),
+      )
+    ]
+
+-- those of some items, where each gives one or none
+given_list : {A : Type 0} (P : A → NodeEvent → Type 0) → ((x : A) → (event : Option NodeEvent) × Gives (P x) event)
+    → (xs : List A) → (events : List NodeEvent) × AreGiven P xs events
+given_list P each [] = ([], refl)
+given_list P each (x ∷ xs) =
+    let event = each x in
+    let rest = given_list P each xs in
+    (as_list event.0 ++ rest.0, (event.0, rest.0, event.1, rest.1, refl))
+
+pub some_list_of_node_events : SomeListOfNodeEvents
+some_list_of_node_events eviction period before tick =
+    let thresholds =
+    given_list (ChangesThreshold eviction before tick) (threshold_event eviction before tick) serving_order in
+    let pressures =
+    given_list (ChangesCondition eviction period before tick) (condition_event eviction period before tick)
+    conditions in
+    let reclaims = given_list (Reclaims eviction before tick) (reclaim_event eviction before tick) serving_order in (
+      thresholds.0 ++ pressures.0 ++ reclaims.0,
+      record {
+        thresholds = thresholds.0;
+        of_thresholds = thresholds.1;
+        pressures = pressures.0;
+        of_conditions = pressures.1;
+        reclaims = reclaims.0;
+        of_reclaims = reclaims.1;
+        in_order = refl;
+      },
+    )
