@@ -1,5 +1,6 @@
 pub mod Cutting
 pub mod Found
+pub mod InRange
 pub mod Keys
 pub mod Moments
 pub mod Said
