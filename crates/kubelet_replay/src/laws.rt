@@ -1,6 +1,11 @@
-//! What the definition of a report implies. The function does nothing; its contract is the law.
+//! What the definition of a report implies. The functions do nothing; their contracts are the laws.
 
-ghost use Rattle.kubelet_replay.specs.Laws.{OneReport};
+ghost use Rattle.kubelet_replay.specs.Laws.{SomeReportOfText, OneReport};
+
+/// There is a report of every text that is a trace.
+pub fn some_report_of_text()
+    ensures { SomeReportOfText }
+{}
 
 /// There is at most one report: the definition leaves no choice.
 pub fn one_report()
