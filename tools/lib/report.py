@@ -1,0 +1,299 @@
+"""Reads a report of the program, as docs/formats.md says, and what it tells over time."""
+
+import re
+from dataclasses import dataclass, field
+from datetime import datetime, timezone
+
+CONDITIONS = ("MemoryPressure", "DiskPressure", "PIDPressure")
+POD_CONDITIONS = ("PodScheduled", "Initialized", "ContainersReady", "Ready")
+# the last moment that has a date of four digits
+LAST_DATE = 253402300799
+
+
+class ReportFault(Exception):
+    """The text is no report; the message says where."""
+
+
+@dataclass
+class Event:
+    at: int
+    pod: str | None
+    container: str | None
+    word: str
+    rest: list[str]
+
+
+@dataclass
+class Condition:
+    kind: str
+    value: str
+    at: int
+    reason: str | None
+
+
+@dataclass
+class Container:
+    name: str
+    state: str
+    code: str
+    restarts: str
+    ready: str
+    started: str
+
+
+@dataclass
+class Pod:
+    number: int
+    key: str
+    phase: str
+    reason: str
+    qos: str
+    conditions: list[Condition] = field(default_factory=list)
+    containers: list[Container] = field(default_factory=list)
+    events: list[Event] = field(default_factory=list)
+
+    def condition(self, kind):
+        return next((found for found in self.conditions if found.kind == kind), None)
+
+
+@dataclass
+class Eviction:
+    at: int
+    pod: str
+    signal: str
+    kind: str
+    grace: int
+
+
+@dataclass
+class Report:
+    node: str
+    events: list[Event] = field(default_factory=list)
+    pods: list[Pod] = field(default_factory=list)
+    conditions: list[Condition] = field(default_factory=list)
+    evictions: list[Eviction] = field(default_factory=list)
+
+
+@dataclass
+class Span:
+    """From one moment until another, or to the end where `until` is None. Without `since` it began at an unknown one."""
+
+    value: str
+    since: int | None
+    until: int | None
+    note: str = ""
+
+
+FORMS = {
+    "node": r"node (\S+) pods=\d+ ticks=\d+",
+    "node event": r"event (\d+) node (threshold|pressure|reclaim|evicted) (\S.*)",
+    "event": r"event (\d+) (\S+/\S+) (\S+) (started|died|startup-passed|kill|ready|unready|backoff|restart|phase)((?: \S+)*)",
+    "pod": r"pod (\d+) (\S+) phase=(\S+) reason=(\S+) qos=(\S+)",
+    "condition": r"condition (\d+) (\S+) (True|False) (\d+)(?: (\S+))?",
+    "container": r"container (\d+) (\S+) state=(\S+) code=(\S+) restarts=(\d+) ready=(\S+) started=(\S+)",
+    "node condition": r"nodecondition (\S+) (True|False) (\d+)",
+    "eviction": r"eviction (\d+) (\S+) (\S+) (hard|soft) (\d+)",
+    "totals": r"totals updates=\d+ events=\d+ orders=\d+",
+}
+FORMS = {kind: re.compile(form, re.ASCII) for kind, form in FORMS.items()}
+WORDS = {"started": 1, "died": 2, "startup-passed": 1, "kill": 2, "ready": 0, "unready": 0, "backoff": 1, "restart": 1,
+         "phase": 1, "threshold": 3, "pressure": 2, "reclaim": 2, "evicted": 4}
+
+
+def parts_of(line):
+    for kind, form in FORMS.items():
+        found = form.fullmatch(line)
+        if found:
+            return kind, found.groups()
+    return None, ()
+
+
+def read_report(text):
+    """The report of a text. Raises ReportFault."""
+    lines = text.split("\n")
+    if lines.pop() != "" or not lines:
+        raise ReportFault("standard input has no whole report: its last line is cut or missing")
+    if lines[0].startswith("pod "):
+        raise ReportFault("standard input has the pod lines of a report alone, without its events")
+    report, ended = None, False
+    for number, line in enumerate(lines, 1):
+        kind, parts = parts_of(line)
+        if kind is None or ended or (report is None) != (kind == "node"):
+            raise ReportFault(f"line {number} of standard input is no line of a report there")
+        if kind == "node":
+            report = Report(parts[0])
+        elif kind == "totals":
+            ended = True
+        else:
+            try:
+                add_line(report, kind, parts)
+            except (IndexError, ValueError):
+                raise ReportFault(f"line {number} of standard input is no line of a report there") from None
+    if not ended:
+        raise ReportFault("standard input has no whole report: the line of totals is missing")
+    check_whole(report)
+    pods = {pod.key: pod for pod in report.pods}
+    for event in report.events:
+        if event.pod in pods:
+            pods[event.pod].events.append(event)
+    return report
+
+
+def check_whole(report):
+    if [condition.kind for condition in report.conditions] != list(CONDITIONS):
+        raise ReportFault("standard input has no whole report: a condition of the node is missing")
+    for pod in report.pods:
+        if [condition.kind for condition in pod.conditions[:4]] != list(POD_CONDITIONS):
+            raise ReportFault(f"standard input has no whole report: a condition of {pod.key} is missing")
+
+
+def add_line(report, kind, parts):
+    if kind == "event":
+        at, pod, container, word, rest = parts
+        report.events.append(checked(Event(int(at), pod, None if container == "-" else container, word, rest.split())))
+    elif kind == "node event":
+        at, word, rest = parts
+        rest = rest.split()
+        report.events.append(checked(Event(int(at), rest[0] if word == "evicted" else None, None, word, rest)))
+    elif kind == "pod":
+        report.pods.append(Pod(int(parts[0]), *parts[1:]))
+    elif kind == "condition":
+        report.pods[int(parts[0])].conditions.append(Condition(parts[1], parts[2], int(parts[3]), parts[4]))
+    elif kind == "container":
+        report.pods[int(parts[0])].containers.append(Container(*parts[1:]))
+    elif kind == "node condition":
+        report.conditions.append(Condition(parts[0], parts[1], int(parts[2]), None))
+    else:
+        report.evictions.append(Eviction(int(parts[0]), *parts[1:4], int(parts[4])))
+
+
+def checked(event):
+    if len(event.rest) != WORDS[event.word]:
+        raise ValueError
+    return event
+
+
+def find_pod(report, key):
+    return next((pod for pod in report.pods if pod.key == key), None)
+
+
+def moment_text(at, utc):
+    """A moment as its seconds, or as a UTC time where that was asked for and there is one."""
+    if not utc or at > LAST_DATE:
+        return str(at)
+    return datetime.fromtimestamp(at, timezone.utc).strftime("%Y-%m-%d %H:%M:%S")
+
+
+def first_tick(pod):
+    """The moment of a pod's first tick, since which it is scheduled."""
+    return pod.condition("PodScheduled").at
+
+
+def end_of(pod):
+    """The moment at which a pod ended, and as what; None where it did not."""
+    for event in pod.events:
+        if event.word == "evicted":
+            return event.at, "Evicted"
+        if event.word == "phase" and event.rest[0] in ("Succeeded", "Failed"):
+            later = [other for other in pod.events if other.word == "evicted" and other.at == event.at]
+            return event.at, "Evicted" if later else event.rest[0]
+    return None
+
+
+def spans_of(changes, first, value):
+    """Spans of a value from its first moment on, by (moment, value) in order; of one moment the last counts."""
+    spans = [Span(value, first, None)]
+    for at, value in changes:
+        last = spans[-1]
+        if value == last.value:
+            continue
+        if last.since == at:
+            spans.pop()
+            if spans and spans[-1].value == value:
+                spans[-1].until = None
+                continue
+        else:
+            last.until = at
+        spans.append(Span(value, at, None))
+    return spans
+
+
+def ready_spans(pod):
+    """The spans of Ready, which is ContainersReady here. Containers that are never ready are init containers, or the
+    pod was never ready; which of both the condition's own line says."""
+    final, first, end = pod.condition("Ready"), first_tick(pod), end_of(pod)
+    ever = {event.container for event in pod.events if event.word == "ready"}
+    now, changes = set(), []
+    for index, event in enumerate(pod.events):
+        if event.word == "ready":
+            now.add(event.container)
+        elif event.word == "unready":
+            now.discard(event.container)
+        following = pod.events[index + 1 : index + 2]
+        if not following or following[0].at != event.at:
+            ended = end is not None and end[0] <= event.at
+            changes.append((event.at, "True" if ever and now == ever and not ended else "False"))
+    spans = spans_of(changes, first, "False")
+    if (spans[-1].value, spans[-1].since) != (final.value, final.at):
+        return [Span(final.value, final.at, None)]
+    return spans
+
+
+def condition_spans(pod, condition):
+    """The spans of a condition as far as the report tells them."""
+    if condition.kind in ("Ready", "ContainersReady"):
+        return ready_spans(pod)
+    last = Span(condition.value, condition.at, None)
+    if condition.kind == "Initialized" and condition.at > first_tick(pod):
+        return [Span("False" if condition.value == "True" else "True", None, condition.at), last]
+    return [last]
+
+
+def state_spans(pod, name):
+    """The spans of a container's state. An instance that is only created makes no event, so it is seen as a state
+    only where it is the first one."""
+    changes = []
+    for event in pod.events:
+        if event.container == name and event.word == "started":
+            changes.append((event.at, f"Running {event.rest[0]}"))
+        elif event.container == name and event.word == "died":
+            changes.append((event.at, f"Terminated {event.rest[0]} {event.rest[1]}"))
+    spans = spans_of(changes, first_tick(pod), "Waiting")
+    end = end_of(pod)
+    if end:
+        spans[-1].until = end[0]
+    for span in spans:
+        span.value, _, span.note = span.value.partition(" ")
+    return spans
+
+
+def pressure_spans(report, kind):
+    """The spans in which a condition of the node was True."""
+    changes = [(event.at, event.rest[1]) for event in report.events
+               if event.word == "pressure" and event.rest[0] == kind]
+    return [span for span in spans_of(changes, 0, "False") if span.value == "True"]
+
+
+class Thresholds:
+    """The thresholds that are active after the tick of a moment, of moments that rise."""
+
+    def __init__(self, report):
+        self.later = [event for event in reversed(report.events) if event.word == "threshold"]
+        self.active = {}
+
+    def at(self, moment):
+        """Each with the moment since which it is active, by signal and kind."""
+        while self.later and self.later[-1].at <= moment:
+            event = self.later.pop()
+            signal, kind, value = event.rest
+            if value == "active":
+                self.active[signal, kind] = event.at
+            else:
+                self.active.pop((signal, kind), None)
+        return self.active
+
+
+def moments(report):
+    """Every moment that a report names."""
+    named = [event.at for event in report.events] + [condition.at for condition in report.conditions]
+    return named + [condition.at for pod in report.pods for condition in pod.conditions]
