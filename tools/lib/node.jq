@@ -4,14 +4,15 @@ def signal_names:
   ["memory.available", "nodefs.available", "imagefs.available", "nodefs.inodesFree", "imagefs.inodesFree",
    "pid.available"];
 
+def sets_no_threshold: percentage_fault == null and (rtrimstr("%") | tonumber | . == 0 or . == 100);
+
 # what of a map of the configuration is left out, as texts; its input is the map
 def left_out($field; $capacity):
   to_entries[]
   | if .key as $key | signal_names | index([$key]) | not then
       "\($field) \(.key) is left out: the formats have no such signal"
     elif ($field | test("SoftGrace")) or (.value | is_percentage | not) or $capacity[.key] != null then empty
-    elif $field != "evictionMinimumReclaim" and (.value | percentage_fault == null and (rtrimstr("%") | tonumber | . == 0 or . == 100))
-    then empty
+    elif $field != "evictionMinimumReclaim" and (.value | sets_no_threshold) then empty
     else "\($field) \(.key) is left out: the summary has no capacity for \(.value)" end;
 
 def kept($field; $capacity):
@@ -29,8 +30,10 @@ def of_configuration($name; $summary):
   ($summary | capacity) as $capacity
   | (if type == "object" then .kubeletconfig else null end) as $read
   | if $read | type != "object" then error("/configz: no kubeletconfig in the answer") else $read end
-  | { evictionHard: (.evictionHard // {}), evictionSoft: (.evictionSoft // {}),
-      evictionSoftGracePeriod: (.evictionSoftGracePeriod // {}), evictionMinimumReclaim: (.evictionMinimumReclaim // {}) } as $maps
+  | { evictionHard: (.evictionHard // {}),
+      evictionSoft: (.evictionSoft // {}),
+      evictionSoftGracePeriod: (.evictionSoftGracePeriod // {}),
+      evictionMinimumReclaim: (.evictionMinimumReclaim // {}) } as $maps
   | ([$maps | to_entries[] | .key as $field | .value | left_out($field; $capacity)]
      + (if .mergeDefaultEvictionSettings == true then ["mergeDefaultEvictionSettings is not followed"] else [] end))
     as $notes

@@ -28,8 +28,10 @@ def optional(f): if . == null then null else f end;
 
 def container:
   { name, restartPolicy,
-    resources: (.resources | optional({requests: (.requests | optional(resources)), limits: (.limits | optional(resources))}
-                                      | without_nulls)),
+    resources:
+      (.resources
+       | optional({requests: (.requests | optional(resources)), limits: (.limits | optional(resources))}
+                  | without_nulls)),
     startupProbe: (.startupProbe | optional(probe)),
     livenessProbe: (.livenessProbe | optional(probe)),
     readinessProbe: (.readinessProbe | optional(probe)) }

@@ -76,7 +76,7 @@ class Report:
 
 @dataclass
 class Span:
-    """From one moment until another, or to the end where `until` is None. Without `since` it began at an unknown one."""
+    """From one moment until another, to the end where `until` is None, and from an unknown one without `since`."""
 
     value: str
     since: int | None
@@ -87,7 +87,8 @@ class Span:
 FORMS = {
     "node": r"node (\S+) pods=\d+ ticks=\d+",
     "node event": r"event (\d+) node (threshold|pressure|reclaim|evicted) (\S.*)",
-    "event": r"event (\d+) (\S+/\S+) (\S+) (started|died|startup-passed|kill|ready|unready|backoff|restart|phase)((?: \S+)*)",
+    "event": r"event (\d+) (\S+/\S+) (\S+) "
+             r"(started|died|startup-passed|kill|ready|unready|backoff|restart|phase)((?: \S+)*)",
     "pod": r"pod (\d+) (\S+) phase=(\S+) reason=(\S+) qos=(\S+)",
     "condition": r"condition (\d+) (\S+) (True|False) (\d+)(?: (\S+))?",
     "container": r"container (\d+) (\S+) state=(\S+) code=(\S+) restarts=(\d+) ready=(\S+) started=(\S+)",

@@ -54,6 +54,12 @@ def departures($uids):
     if $pod.anew or ($uids | has($pod.uid)) then .
     else say("\($pod.key) is gone, and the replay goes on with it: cut the trace where pods go") end);
 
+def renumbered($pod; $name; $container; $now):
+  if $now.renumbered then
+    say("\($pod.key) \($name): attempt \($container.metadata.attempt // 0) after \($pod.last[$name].attempt) is "
+        + "written as \($now.attempt)")
+  else . end;
+
 def code($id): .codes[$id] // error("crictl inspect: no exit code of \($id)");
 
 # the containers of one pod, and its state after them
@@ -66,11 +72,8 @@ def entry_containers($number; $listed):
       | if $pod.containers | index([$name]) | not then
           say("\($pod.key) \($name) is left out: its pod's manifest has no such container")
         else
-          $pod.last[$name] as $last
-          | ($container | listing($last)) as $now
-          | (if $now.renumbered
-             then say("\($pod.key) \($name): attempt \($container.metadata.attempt // 0) after \($last.attempt) is written as \($now.attempt)")
-             else . end)
+          ($container | listing($pod.last[$name])) as $now
+          | renumbered($pod; $name; $container; $now)
           | .pods[$number].last[$name] = ($now | .renumbered = false)
           | .entry.containers += [{name: $name, attempt: $now.attempt, state: $container.state}
               + if $container.state == "CONTAINER_EXITED" then {exitCode: code($container.id)} else {} end]
@@ -81,7 +84,8 @@ def entry_probes($number; $before; $now):
   | reduce ($pod.containers[] | results($pod.uid; .; $before; $now)) as $result (.;
       .entry.probes += [$result | del(.count)]
       | if $result.count > 1 then
-          say("results"; "\($pod.key) \($result.container) \($result.probe): more than one result between two ticks, of which one is written, here and wherever it is so; a lesser --every shows each")
+          say("results"; "\($pod.key) \($result.container) \($result.probe): more than one result between two ticks, "
+              + "of which one is written, here and wherever it is so; a lesser --every shows each")
         else . end);
 
 def entry($number; $listed; $before; $now; $usages):
@@ -110,7 +114,8 @@ def outcome($at; $name; $answers):
   | ($all | by_pod) as $listed
   | ($answers.pods | parsed("pods") | listed_pods("pods") | sort_by(key)) as $pods
   | ($answers.summary | parsed("/stats/summary")) as $summary
-  | (if $summary | type == "object" and (.node | type) == "object" then . else error("/stats/summary: no node in the answer") end)
+  | (if $summary | type == "object" and (.node | type) == "object" then .
+     else error("/stats/summary: no node in the answer") end)
   | .codes += ([$answers.inspected[] | exit_code] | from_entries)
   | unknown_codes($listed; $pods) as $ids
   | if $ids != [] then {ask: $ids}

@@ -1,5 +1,6 @@
 """Runs the tests of the tools: each with recorded answers, known reports or words alone. README.md says what is kept
-here. With `--write` it writes what the tools answer in place of what was kept, to be looked at."""
+here. With `--write` it writes what the tools answer in place of what was kept, to be looked at; other words choose the
+tests whose names have one of them."""
 
 import json
 import os
@@ -213,9 +214,9 @@ def test_pictures():
     titles = [text.firstChild.data for text in xml.dom.minidom.parseString(one).getElementsByTagName("text")
               if text.getAttribute("class") == "pod"]
     expect("timeline of one pod", titles, ["shop/web: Running"])
-    odd = report.replace("worker-3", "a&b<c>\"d'").replace("shop/web", "shop/<i>&amp;")
-    texts = [text.firstChild.data for text in
-             xml.dom.minidom.parseString(run([f"{TOOLS}/timeline"], odd)[1]).getElementsByTagName("text")]
+    odd = xml.dom.minidom.parseString(run([f"{TOOLS}/timeline"], report.replace("worker-3", "a&b<c>\"d'")
+                                          .replace("shop/web", "shop/<i>&amp;"))[1])
+    texts = [text.firstChild.data for text in odd.getElementsByTagName("text")]
     expect("timeline escapes names", (any(text.startswith("a&b<c>\"d', ") for text in texts),
                                       "shop/<i>&amp;: Running" in texts), (True, True))
     empty = "node n1 pods=0 ticks=0\n" + "".join(f"nodecondition {kind}Pressure False 0\n" for kind in
@@ -231,7 +232,7 @@ def test_no_reports():
         ("nothing", "", "whole report"),
         ("a cut report", report[: len(report) // 2], "whole report"),
         ("a report without totals", "\n".join(lines[:-2]) + "\n", "totals"),
-        ("pod lines alone", "\n".join(line for line in lines if line.startswith(("pod", "cond", "cont"))) + "\n", "alone"),
+        ("pod lines alone", "".join(f"{line}\n" for line in lines if line.startswith(("pod", "cond", "cont"))), "alone"),
         ("a strange line", report.replace("ready\n", "rather ready\n", 1), "line 3 "),
         ("an event with a word too many", report.replace("ready\n", "ready 1\n", 1), "line 3 "),
         ("a report behind a report", report + report, "is no line"),
@@ -289,8 +290,10 @@ def test_refused_edits():
     for name, edit, given, words in (
         ("an edit that is no program", "node(", trace, "the edit fails"),
         ("an edit that fails", "node(.name + 1)", trace, "the edit fails"),
-        ("a trace that is refused", ".", trace.replace('"kind":"node"', '"kind":"nod"'), "the trace as it is is refused: line 1: 33 UnknownKind"),
-        ("an edited trace that is refused", "node(.maxRestartDelay = 301)", trace, "the edited trace is refused: line 1: 36 Config"),
+        ("a trace that is refused", ".", trace.replace('"kind":"node"', '"kind":"nod"'),
+         "the trace is refused: line 1: 33 UnknownKind"),
+        ("an edited trace that is refused", "node(.maxRestartDelay = 301)", trace,
+         "the edited trace is refused: line 1: 36 Config"),
     ):
         expect_refused(f"what-if {name}", run([f"{TOOLS}/what-if", edit], given), 2, words)
 
@@ -325,7 +328,8 @@ def test_words():
         expect_refused(" ".join(words), answer, 2, said)
     report = read(f"{RECORDINGS}/crash_loop/report")
     for tool in ("story", "timeline"):
-        expect_refused(f"{tool} of a strange pod", run([f"{TOOLS}/{tool}", "shop/strange"], report), 2, "no pod shop/strange")
+        strange = run([f"{TOOLS}/{tool}", "shop/strange"], report)
+        expect_refused(f"{tool} of a strange pod", strange, 2, "no pod shop/strange")
 
 
 def test_help():
@@ -373,8 +377,14 @@ def test_texts():
 
 def main():
     began = time.monotonic()
+    # it may have to be built first, which takes longer than any test may
+    first = subprocess.run([REPLAY], input=b'{"kind":"node","name":"n1"}\n', capture_output=True, check=False)
+    if first.returncode != 0 or not first.stdout.startswith(b"node n1 "):
+        print(f"tools/test: {REPLAY} does not write whole reports", file=sys.stderr)
+        return 1
+    wanted = [word for word in sys.argv[1:] if word != "--write"]
     for name, test in list(globals().items()):
-        if name.startswith("test_"):
+        if name.startswith("test_") and (not wanted or any(word in name for word in wanted)):
             test()
     print(f"{time.monotonic() - began:.0f} s", file=sys.stderr)
     print(f"{passed} passed, {failed} failed")
