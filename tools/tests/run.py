@@ -74,8 +74,9 @@ def expect_refused(name, answer, status, words):
 class Recorder:
     """A run of tools/record over recorded answers."""
 
-    def __init__(self, name, **settings):
-        self.folder = f"{RECORDINGS}/{name}"
+    def __init__(self, name, tool=f"{TOOLS}/record", **settings):
+        self.tool = tool
+        self.folder = os.path.join(RECORDINGS, name)
         self.run = tempfile.mkdtemp()
         with open(f"{self.run}/turn", "w") as file:
             file.write("1\n")
@@ -87,11 +88,11 @@ class Recorder:
                          "TMPDIR": self.run, **settings}
 
     def whole(self):
-        return run([f"{TOOLS}/record", *self.words], **self.settings)
+        return run([self.tool, *self.words], **self.settings)
 
     def start(self):
         """Begins a run in a session of its own, as from a terminal."""
-        return subprocess.Popen([f"{TOOLS}/record", *self.words], env={**os.environ, **self.settings},
+        return subprocess.Popen([self.tool, *self.words], env={**os.environ, **self.settings},
                                 stdout=subprocess.PIPE, stderr=subprocess.PIPE, start_new_session=True,
                                 preexec_fn=lambda: signal.signal(signal.SIGINT, signal.SIG_DFL))
 
@@ -135,6 +136,42 @@ def test_nothing_told():
     for name in ("crash_loop", "whole_node"):
         trace, pods = read(f"{RECORDINGS}/{name}/trace"), read(f"{RECORDINGS}/{name}/1/pods.json")
         expect(f"{name}: no environment in the trace", ("secret" in pods, "secret" in trace), (True, False))
+
+
+def test_limits():
+    """A 257th pod, a line above 1 MiB, and a trace above a limit, which is 64 MiB, are not written."""
+    folder = tempfile.mkdtemp()
+    shutil.copytree(f"{RECORDINGS}/static_pod", f"{folder}/many")
+    listed = json.loads(read(f"{folder}/many/1/pods.json"))
+    [pod] = listed["items"]
+    listed["items"] = [json.loads(json.dumps(pod).replace(pod["metadata"]["uid"], f"uid-{number}")
+                                  .replace("kube-proxy-worker-3", f"pod-{number:03}")) for number in range(257)]
+    with open(f"{folder}/many/1/pods.json", "w") as file:
+        json.dump(listed, file)
+    recorder = Recorder(f"{folder}/many")
+    status, trace, said = recorder.whole()
+    expect("257 pods", (status, trace.count('"kind":"pod"'), said),
+           (0, 256, "record: kube-system/pod-256 is left out: a trace has at most 256 pods\n"))
+    recorder.clean()
+
+    shutil.copytree(f"{RECORDINGS}/own_node_line", f"{folder}/long")
+    with open(f"{folder}/long/node_line", "w") as file:
+        json.dump({"name": "n1", "padding": " " * 1048576}, file)
+    recorder = Recorder(f"{folder}/long")
+    expect_refused("a line above 1 MiB", recorder.whole(), 1, "longer than the formats take")
+    recorder.clean()
+
+    os.symlink(f"{TOOLS}/lib", f"{folder}/lib")
+    with open(f"{folder}/record", "w") as file:
+        file.write(read(f"{TOOLS}/record").replace("most_bytes=67108864", "most_bytes=1700"))
+    os.chmod(f"{folder}/record", 0o755)
+    recorder = Recorder("crash_loop", f"{folder}/record")
+    status, trace, said = recorder.whole()
+    kinds = [json.loads(line)["kind"] for line in trace.split("\n")[:-1]]
+    expect("a trace above the limit", (status, kinds, said), (0, ["node", "pod", "tick", "tick"],
+           "record: the trace has reached 64 MiB, the most that one takes\n"))
+    recorder.clean()
+    shutil.rmtree(folder)
 
 
 def ended(process, name):
@@ -198,6 +235,7 @@ def test_stories():
         ("whole_node", "batch/report-28401", []),
         ("attempt_falls", "shop/api-7f9c", []),
         ("made_anew", "default/late", []),
+        ("never_ready", "shop/pair", []),
     ):
         status, told, said = run([f"{TOOLS}/story", *words, pod], read(f"{RECORDINGS}/{recording}/report"))
         name = "_".join([recording, pod.split("/")[1], *(word.strip("-") for word in words)])
@@ -236,6 +274,7 @@ def test_no_reports():
         ("a strange line", report.replace("ready\n", "rather ready\n", 1), "line 3 "),
         ("an event with a word too many", report.replace("ready\n", "ready 1\n", 1), "line 3 "),
         ("a report behind a report", report + report, "is no line"),
+        ("a line behind the totals", f"{report}{lines[1]}\n", "is no line"),
         ("no condition of the node", report.replace("nodecondition PIDPressure", "nodecondition Other"), "condition"),
         ("a pod without a condition", report.replace("condition 0 Ready", "condition 0 Steady"), "shop/api-7f9c"),
         ("a trace", read(f"{RECORDINGS}/crash_loop/trace"), "line 1 "),
