@@ -56,8 +56,11 @@ def read(path):
 
 def run(words, given="", **settings):
     """The status, the output and the errors of a command."""
-    done = subprocess.run(words, input=given.encode(), capture_output=True, timeout=LONGEST,
-                          env={**os.environ, "KUBELET_REPLAY": REPLAY, **settings})
+    try:
+        done = subprocess.run(words, input=given.encode(), capture_output=True, timeout=LONGEST, check=False,
+                              env={**os.environ, "KUBELET_REPLAY": REPLAY, **settings})
+    except subprocess.TimeoutExpired:
+        return None, "", f"it went on for {LONGEST} s"
     return done.returncode, done.stdout.decode("utf-8", "replace"), done.stderr.decode("utf-8", "replace")
 
 
