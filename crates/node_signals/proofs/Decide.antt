@@ -1,5 +1,5 @@
 -- What holds of a threshold or of a condition after some ticks, or doesn't.
-use Rattle.std.proofs.Common.{◌≡◌, inl, inr, ℕ, ◌+◌, ◌-◌, ◌<◌, ◌≤◌, List, [], ◌∷◌, ◌++◌, length, Option, Some, None}
+use Rattle.std.proofs.Common.{◌≡◌, inl, inr, ℕ, ◌+◌, ◌-◌, ◌<◌, ◌≤◌, List, [], ◌∷◌, ◌++◌, length, Option, Some}
 use Rattle.std.proofs.Common.{refl, sym, subst}
 use Rattle.std.specs.Prelude.{IsTrue, IsSomeAnd, is_some, slice_get}
 use Rattle.histories.specs.Histories.{entry_at, moment_at, last_moment}
@@ -23,7 +23,7 @@ use Rattle.node_signals.specs.declared.condition.NodeCondition.TheVariants.{Memo
 use Rattle.node_signals.specs.Keys.{serving_order, threshold_at}
 use Rattle.node_signals.specs.Thresholds.{samples, IsActive, IsDue, IsEnough, IsReclaimed}
 use Rattle.node_signals.specs.Conditions.{condition_of, Meets, IsMet}
-use Rattle.node_signals.proofs.PlaceLemmas.{within_and, map_more}
+use Rattle.node_signals.proofs.PlaceLemmas.{within_and, map_more, given}
 
 -- a threshold is active, or it isn't
 threshold_active_or_not : (threshold : Threshold) (capacity : Option ℕ) (h : List Sample)
@@ -121,10 +121,6 @@ lately_or_not period h t =
     given_or_not (λ moment. IsSomeAnd (last_moment h) (λ now. now - moment < period))
     (λ moment. given_or_not (λ now. now - moment < period) (λ now. less_or_not (now - moment) period) (last_moment h))
     (moment_at h t)
-
-given : {X : Type 0} (P : X → Type 0) (o : Option X) → IsSomeAnd o P → (x : X) × (o ≡ Some x) × P x
-given P None p = absurd p
-given P (Some x) p = (x, refl, p)
 
 met_lately : (period : ℕ) (h : List Observation) (t : ℕ) → t < length h - 1 → IsMetAt h t → IsLately period h t
     → WasMetLately period h

@@ -1,6 +1,6 @@
 -- What is at a place of a list, and of a list with one place set or one item more.
 use Rattle.std.proofs.Common.{◌≡◌, ◌⊎◌, inl, inr, ℕ, zero, suc, ◌<◌, ◌≤◌, List, [], ◌∷◌, ◌++◌, length, take, map}
-use Rattle.std.proofs.Common.{Option, Some, refl, ap, arith}
+use Rattle.std.proofs.Common.{Option, Some, None, refl, ap, arith}
 use Rattle.std.specs.Prelude.{slice_get, slice_set, IsSomeAnd}
 
 -- a place of a list with one place set
@@ -30,6 +30,11 @@ pub within_and : {A : Type 0} (P : A → Type 0) (xs : List A) (t : ℕ) → IsS
 within_and P [] t p = absurd p
 within_and P (y ∷ xs) zero p = omega arith
 within_and P (y ∷ xs) (suc t) p = let lt : t < length xs = within_and P xs t p in omega arith
+
+-- an option of whose value something holds has one
+pub given : {A : Type 0} (P : A → Type 0) (o : Option A) → IsSomeAnd o P → (x : A) × (o ≡ Some x) × P x
+given P None p = absurd p
+given P (Some x) p = (x, refl, p)
 
 -- a place of a list with one more: it is old, or the new one
 pub place_split : {A : Type 0} (xs : List A) (x y : A) (t : ℕ) → slice_get (xs ++ x ∷ []) t ≡ Some y

@@ -1,5 +1,5 @@
 -- The places of the serving order.
-use Rattle.std.proofs.Common.{◌≡◌, ℕ, zero, suc, ◌+◌, ◌<◌, ◌≤◌, List, [], ◌∷◌, ◌++◌, length, Bool, true, false, Option}
+use Rattle.std.proofs.Common.{◌≡◌, ℕ, zero, suc, ◌+◌, ◌<◌, ◌≤◌, List, [], ◌∷◌, ◌++◌, length, Bool, true, false}
 use Rattle.std.proofs.Common.{Some, None, refl, sym, subst, ◌∙◌, arith}
 use Rattle.std.specs.Prelude.{◌↔◌, IsTrue, IsSomeAnd, slice_get}
 use Rattle.histories.proofs.First.{none_next}
@@ -10,7 +10,7 @@ use Rattle.node_signals.specs.declared.condition.NodeCondition.{NodeCondition}
 use Rattle.node_signals.specs.Conditions.{Meets, IsMet}
 use Rattle.node_signals.specs.Keys.{serving_order}
 use Rattle.node_signals.specs.Thresholds.{Asks, AsksAt, IsServed}
-use Rattle.node_signals.proofs.PlaceLemmas.{within_and}
+use Rattle.node_signals.proofs.PlaceLemmas.{within_and, given}
 
 -- P holds of the threshold at the place
 abbrev pub At : (ThresholdKey → Type 0) → ℕ → Type 0
@@ -20,15 +20,10 @@ pub at_key : (P : ThresholdKey → Type 0) (place : ℕ) (key : ThresholdKey) �
     → P key → At P place
 at_key P place key at p = subst (λ o. IsSomeAnd o P) (sym at) p
 
-some_key : (P : ThresholdKey → Type 0) (o : Option ThresholdKey) → IsSomeAnd o P → (key : ThresholdKey)
-    × (o ≡ Some key) × P key
-some_key P None p = absurd p
-some_key P (Some key) p = (key, refl, p)
-
 -- where it holds there is a threshold
 key_of : (P : ThresholdKey → Type 0) (place : ℕ) → At P place → (key : ThresholdKey)
     × (slice_get serving_order place ≡ Some key) × P key
-key_of P place p = some_key P (slice_get serving_order place) p
+key_of P place p = given P (slice_get serving_order place) p
 
 pub refused : {P : Type 0} {b : Bool} → (IsTrue b ↔ P) → b ≡ false → P → ⊥
 refused is off p = let on : _ ≡ true = is.1 p in let both : true ≡ false = sym on ∙ off in absurd (cc)
