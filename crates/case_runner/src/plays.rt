@@ -1,9 +1,9 @@
-//! Plays of a tick that leave the report as it is.
+//! Steps of workers that leave the report as it is.
 
 use kubelet_replay::Step;
 
 /// The second of two workers takes a pod of the first and sees to it, and leaves another in its hand.
-const STOLEN: &[Step] = &[
+pub(crate) const STOLEN: &[Step] = &[
     Step::Steal { thief: 1, owner: 0 },
     Step::Update(1),
     Step::Enter(1),
@@ -11,7 +11,7 @@ const STOLEN: &[Step] = &[
 ];
 
 /// Three workers, steps out of turn, and workers that there are none of.
-const MISTAKEN: &[Step] = &[
+pub(crate) const MISTAKEN: &[Step] = &[
     Step::Update(0),
     Step::Pop(2),
     Step::Pop(2),
@@ -25,7 +25,7 @@ const MISTAKEN: &[Step] = &[
 ];
 
 /// The last of 64 workers are the first that take a pod.
-const LAST_FIRST: &[Step] = &[
+pub(crate) const LAST_FIRST: &[Step] = &[
     Step::Pop(63),
     Step::Steal {
         thief: 62,
@@ -42,6 +42,3 @@ const LAST_FIRST: &[Step] = &[
     Step::Update(61),
     Step::Enter(62),
 ];
-
-/// So many workers, and the steps that they take before each finishes what it has.
-pub(crate) const PLAYS: [(usize, &[Step]); 3] = [(2, STOLEN), (3, MISTAKEN), (64, LAST_FIRST)];

@@ -1,27 +1,20 @@
 -- Every list of ticks has its evictions.
-use Rattle.std.proofs.Common.{◌≡◌, ◌⊎◌, inl, inr, ℕ, ◌+◌, ◌-◌, ◌<◌, ◌≤◌, List, [], ◌∷◌, ◌++◌, length, Option, Some}
+use Rattle.std.proofs.Common.{◌≡◌, ◌⊎◌, inl, inr, ℕ, ◌<◌, ◌≤◌, List, [], ◌∷◌, ◌++◌, length, Option, Some}
 use Rattle.std.proofs.Common.{None}
 use Rattle.std.proofs.Common.{refl, sym, subst, ◌∙◌, arith, append_assoc, append-nil}
-use Rattle.std.specs.Prelude.{◌^◌, slice_get, is_some, IsSome, IsSomeAnd, option_and_then}
-use Rattle.histories.proofs.Decide.{OrNot, negated, both, true_or_not, less_or_not, at_most_or_not, given_or_not}
+use Rattle.std.specs.Prelude.{◌^◌, slice_get, is_some, IsSome, option_and_then}
+use Rattle.histories.proofs.Decide.{OrNot, negated, both, true_or_not, less_or_not, given_or_not}
 use Rattle.histories.proofs.Found.{first_place}
-use Rattle.signals.specs.declared.threshold.Threshold.{Threshold}
-use Rattle.signals.specs.BySignal.{of}
-use Rattle.signals.specs.Signals.{is_of_file_system}
-use Rattle.quantity.specs.Limit.{amount_of}
-use Rattle.thresholds.specs.Samples.{Sample, sample}
-use Rattle.thresholds.specs.Thresholds.{IsThresholdDue}
-use Rattle.thresholds.proofs.LawLemmas.{one_active_since}
-use Rattle.thresholds.proofs.Since.{due_by}
 use Rattle.manifest.specs.declared.pod.PodSpec.{PodSpec}
 use Rattle.observations.specs.declared.tick.TickObs.{TickObs}
 use Rattle.observations.specs.Observations.{shown_of}
 use Rattle.node_config.specs.declared.node.NodeConfig.{NodeConfig}
 use Rattle.node_config.specs.Eviction.{Eviction as EvictionConfig}
 use Rattle.node_signals.specs.declared.key.ThresholdKey.{ThresholdKey}
-use Rattle.node_signals.specs.Keys.{serving_order, threshold_at}
-use Rattle.node_signals.specs.Thresholds.{samples, IsDue, IsEnough, IsReclaimed, Asks, AsksAt, IsServed}
-use Rattle.node_signals.proofs.PlaceLemmas.{within, within_and, map_more}
+use Rattle.node_signals.specs.Keys.{serving_order}
+use Rattle.node_signals.specs.Thresholds.{Asks, AsksAt, IsServed}
+use Rattle.node_signals.proofs.Decide.{due_or_not, reclaimed_or_not}
+use Rattle.node_signals.proofs.PlaceLemmas.{within, within_and}
 use Rattle.phase.specs.RawPhase.{IsTerminal}
 use Rattle.pod_state.specs.Pods.{PodTick}
 use Rattle.pod_state.proofs.EndLemmas.{IsPhase-unique, terminal_cases}
@@ -38,49 +31,11 @@ use Rattle.eviction.specs.Laws.{SomeReplay}
 use Rattle.eviction.proofs.More.{no_replay, replay_more}
 use Rattle.eviction.proofs.Statuses.{some_status, one_usage}
 
--- a threshold is due, or it isn't
-due_or_not : (threshold : Threshold) (capacity : Option ℕ) (h : List Sample) (x : Sample)
-    → OrNot (IsThresholdDue threshold capacity (h ++ x ∷ []))
-due_or_not threshold capacity h x =
-    let limit = amount_of capacity threshold.limit in
-    let reclaim = amount_of capacity threshold.reclaim in
-    let since = one_active_since.exists limit reclaim (h ++ x ∷ []) in
-    let same = due_by limit reclaim threshold.grace h x since.0 since.1 in
-    let passed_or_not = λ (moment : ℕ). at_most_or_not threshold.grace (x.moment - moment) in
-    elim (given_or_not (λ moment. threshold.grace ≤ x.moment - moment) passed_or_not since.0) [
-      | inl passed ↦ inl (same.0 passed)
-      | inr not ↦ inr (λ due. not (same.1 due))
-    ]
-
-due_after : (eviction : EvictionConfig) (before : List TickObs) (tick : TickObs) (key : ThresholdKey)
-    → OrNot (IsDue eviction (before ++ tick ∷ []) key)
-due_after eviction before tick key =
-    let capacity = of eviction.capacity key.signal in
-    let sample_of : TickObs → Sample = λ t. sample t.at (of t.signals key.signal) in
-    let Due : Threshold → List Sample → Type 0 = λ threshold h. OrNot (IsThresholdDue threshold capacity h) in
-    let each = λ (threshold : Threshold). subst (Due threshold) (sym (map_more sample_of before tick))
-    (due_or_not threshold capacity (samples key.signal before) (sample_of tick)) in
-    given_or_not (λ threshold. IsThresholdDue threshold capacity (samples key.signal (before ++ tick ∷ []))) each
-    (threshold_at eviction key)
-
-reclaimed_or_not : (eviction : EvictionConfig) (tick : TickObs) (key : ThresholdKey)
-    → OrNot (IsReclaimed eviction tick key)
-reclaimed_or_not eviction tick key =
-    let capacity = of eviction.capacity key.signal in
-    let value = of tick.after_reclaim key.signal in
-    let enough = λ (threshold : Threshold). given_or_not (IsEnough capacity threshold)
-    (λ v. at_most_or_not (amount_of capacity threshold.limit + amount_of capacity threshold.reclaim) v) value in
-    let freed = given_or_not (λ threshold. IsSomeAnd value (IsEnough capacity threshold)) enough
-    (threshold_at eviction key) in
-    elim (both (true_or_not (is_of_file_system key.signal)) freed) [
-      | inl w ↦ inl (record { of_file_system = w.0; freed = w.1 })
-      | inr not ↦ inr (λ r. not (r.of_file_system, r.freed))
-    ]
-
+-- a threshold asks for an eviction, or it doesn't
 asks_or_not : (eviction : EvictionConfig) (before : List TickObs) (tick : TickObs) (key : ThresholdKey)
     → OrNot (Asks eviction before tick key)
 asks_or_not eviction before tick key =
-    elim (both (due_after eviction before tick key) (negated (reclaimed_or_not eviction tick key))) [
+    elim (both (due_or_not eviction before tick key) (negated (reclaimed_or_not eviction tick key))) [
       | inl w ↦ inl (record { due = w.0; not_reclaimed = w.1 })
       | inr not ↦ inr (λ asks. not (asks.due, asks.not_reclaimed))
     ]

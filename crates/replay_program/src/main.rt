@@ -4,6 +4,8 @@
 
 mod fault;
 
+ghost use Rattle.replay_program.specs.Jobs.{HasFewWorkers};
+
 use fault::Fault;
 use kubelet_replay::{Counted, Job, check, job_of, read_steps, replay_play};
 use replay_stream::read_all;
@@ -34,7 +36,9 @@ fn work(
     rt: &(impl Files + AllocGlobal),
     job: Job<'_>,
     output: impl io::Write + Drop,
-) -> Result<(), Fault> {
+) -> Result<(), Fault>
+    requires { HasFewWorkers job }
+{
     let alloc = rt.alloc();
     let mut output = Counted::new(output);
     match job {

@@ -5,8 +5,6 @@
 #[cfg(test)]
 mod lists_tests;
 #[cfg(test)]
-mod node_tests;
-#[cfg(test)]
 mod replay_tests;
 #[cfg(test)]
 mod size_tests;
