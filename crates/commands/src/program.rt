@@ -52,7 +52,7 @@ fn run_command<'a>(alloc: Global) -> Result<Command<'a>, AllocError>
 {
     Command::new(alloc, "run")
         .about(
-            "Writes the report of a trace: what each pod's status would have been by the kubelet's rules",
+            "Writes the report of a trace: why each pod was restarted, became unready or was evicted",
         )
         .arg(trace_arg(alloc))?
         .arg(workers_arg(alloc))
