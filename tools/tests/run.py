@@ -273,7 +273,7 @@ def test_no_reports():
         ("nothing", "", "whole report"),
         ("a cut report", report[: len(report) // 2], "whole report"),
         ("a report without totals", "\n".join(lines[:-2]) + "\n", "totals"),
-        ("pod lines alone", "".join(f"{line}\n" for line in lines if line.startswith(("pod", "cond", "cont"))), "alone"),
+        ("pod lines alone", "".join(f"{line}\n" for line in lines if line[:4] in ("pod ", "cond", "cont")), "alone"),
         ("a strange line", report.replace("ready\n", "rather ready\n", 1), "line 3 "),
         ("an event with a word too many", report.replace("ready\n", "ready 1\n", 1), "line 3 "),
         ("a report behind a report", report + report, "is no line"),
@@ -338,6 +338,11 @@ def test_refused_edits():
          "the edited trace is refused: line 1: 36 Config"),
     ):
         expect_refused(f"what-if {name}", run([f"{TOOLS}/what-if", edit], given), 2, words)
+
+
+    without_memory = f"{COMMANDS}/without_memory"
+    answer = run([f"{TOOLS}/what-if", "."], trace, KUBELET_REPLAY=without_memory)
+    expect_refused("what-if of a program without memory", answer, 1, "can't be replayed (status 1): out of memory")
 
 
 # --- words and commands ---
