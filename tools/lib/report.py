@@ -1,5 +1,7 @@
 """Reads a report of the program, as docs/formats.md says, and what it tells over time."""
 
+from __future__ import annotations
+
 import re
 from dataclasses import dataclass, field
 from datetime import datetime, timezone
