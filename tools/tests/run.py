@@ -321,8 +321,8 @@ def test_edited_lines():
     expect("what-if leaves other lines byte for byte", node,
            (0, '- {"kind":"node", "name":"n1"}\n+ {"kind":"node","name":"n1","version":2}\n', ""))
     container = run([f"{TOOLS}/what-if", 'container("default/b"; "d"; .x = 1)'], given, KUBELET_REPLAY=shows)[1]
-    expect("what-if changes one container", container.split("\n")[1:],
-           ['+ {"kind":"pod","pod":{"metadata":{"name":"b"},"spec":{"containers":[{"name":"c"},{"name":"d","x":1}]}}}', ""])
+    expect("what-if changes one container", container.split("\n")[1:], [
+        '+ {"kind":"pod","pod":{"metadata":{"name":"b"},"spec":{"containers":[{"name":"c"},{"name":"d","x":1}]}}}', ""])
     dropped = run([f"{TOOLS}/what-if", 'select(.kind != "tick") # ticks go'], given, KUBELET_REPLAY=shows)
     expect("what-if drops lines", dropped, (0, '- {"kind":"tick", "at":1e2}\n', ""))
 
