@@ -1,15 +1,28 @@
 //! A book of events whose totals reach their limit.
 
-ghost use Rattle.std.specs.Prelude.{◌≡◌};
+ghost use Rattle.std.specs.Prelude.{◌≡◌, ◌<◌};
 ghost use Rattle.event_book.specs.Shares.{most_parts};
 
-use event_book::{Entry, EventBook, Full, Totals};
+use event_book::{Entry, EventBook, Shares, Totals};
 use std::marker::Brand;
 use std::process::Abort;
 use std::sync::ledger::{Blank, Ledger};
 
 /// So many parts has the whole share of a book.
 const PARTS: u64 = 65;
+
+/// Whether the book has room for an update with so many events and orders, which it then has.
+fn is_entered<U: Ledger, E: Ledger, O: Ledger>(
+    book: &mut EventBook<U, E, O>,
+    share: &mut Shares<U, E, O>,
+    events: u64,
+    orders: u64,
+) -> bool
+    requires { 0 < share.old.parts }
+    ensures { share.new.parts ≡ share.old.parts }
+{
+    book.enter(Entry { events, orders }, share).is_ok()
+}
 
 /// A book takes 2^63 events and 2^63 orders, and none beyond that.
 fn fill<U: Ledger, E: Ledger, O: Ledger>(
@@ -23,29 +36,17 @@ fn fill<U: Ledger, E: Ledger, O: Ledger>(
     requires level { (U.parts ≡ most_parts) × (E.parts ≡ most_parts) × (O.parts ≡ most_parts) }
 {
     let (mut book, mut share) = EventBook::<U, E, O>::new(updates, events, orders);
-    for (events, orders, outcome) in [
-        (1 << 62, 0, Ok(())),
-        (1 << 62, 1 << 62, Ok(())),
-        (1, 0, Err(Full)),
-        (0, 1 << 62, Ok(())),
-        (0, 1, Err(Full)),
-        (0, 0, Ok(())),
-    ] {
-        let entry = Entry { events, orders };
-        assert_eq!(rt;
-            book.enter(entry, &mut share),
-            outcome,
-            "{events} and {orders}"
-        );
-    }
-    assert_eq!(rt;
-        book.totals(),
-        Totals {
-            updates: 4,
-            events: 1 << 63,
-            orders: 1 << 63
-        }
-    );
+    assert!(rt; is_entered(&mut book, &mut share, 1 << 62, 0));
+    assert!(rt; is_entered(&mut book, &mut share, 1 << 62, 1 << 62));
+    assert!(rt; !is_entered(&mut book, &mut share, 1, 0));
+    assert!(rt; is_entered(&mut book, &mut share, 0, 1 << 62));
+    assert!(rt; !is_entered(&mut book, &mut share, 0, 1));
+    let wanted = Totals {
+        updates: 3,
+        events: 1 << 63,
+        orders: 1 << 63,
+    };
+    assert_eq!(rt; book.totals(), wanted);
 }
 
 #[test]
