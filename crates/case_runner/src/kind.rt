@@ -1,6 +1,6 @@
 //! What the texts of a table are.
 
-use crate::replays::{Answer, answer_of};
+use crate::replays::{Answer, played_answer_of};
 use crate::{manifest_text, texts};
 use anyhow::Result;
 use std::alloc::Global;
@@ -62,7 +62,7 @@ impl Kind {
 /// How a trace is answered that ends in this line.
 fn after(alloc: Global, before: &str, line: &str) -> Result<String> {
     let trace = format!(in alloc; "{before}{line}\n")?;
-    match answer_of(alloc, trace.as_bytes())? {
+    match played_answer_of(alloc, trace.as_bytes())? {
         Answer::Report(_) => Ok(String::from_str(alloc, "accepted")?),
         Answer::Refusal(refusal) => Ok(refusal),
     }

@@ -1,8 +1,9 @@
-//! Runs the cases that lie in its folder, and prints how many there are. It ends at the first that is answered otherwise,
-//! and names it. A new case is two files or a row of a table, and its count in the file `stdout`:
+//! Runs the cases that lie in its folder, and prints how many there are. It ends at the first that is answered
+//! otherwise, and names it. A new case is two files or a row of a table, and its count in the file `stdout`:
 //!
-//! - `traces/FAMILY/NAME.trace` beside `NAME.report`, the bytes of the report, or `NAME.refusal`, the status and the line.
-//!   Each is replayed with one worker, and again by each of a few plays, which leave the answer as it is.
+//! - `traces/FAMILY/NAME.trace` beside `NAME.report`, the bytes of the report, or `NAME.refusal`, the status and the
+//!   line. Each is replayed on one thread, again by each of a few plays, and with 1, 2, 3 and 64 workers in threads,
+//!   which all leave the answer as it is.
 //! - `lines/NAME.table`: a row's text is the last line of a trace, after the lines of `NAME.before`.
 //! - `manifests/NAME.json` beside `NAME.read`, what is read of it.
 //! - `texts/KIND.table`: a row's text is of that kind.
@@ -21,11 +22,12 @@ mod traces;
 
 use anyhow::{Context, Result};
 use kind::Kind;
-use std::alloc::Global;
 use std::rt::Runtime;
+use std::sync::Wait;
+use std::thread::Threads;
 
 /// Replays the traces of each folder of `traces/`.
-fn run_traces(rt: &(impl Runtime + AllocGlobal)) -> Result<()> {
+fn run_traces(rt: &(impl Runtime + AllocGlobal + Threads + Wait + Sync)) -> Result<()> {
     for family in files::names_in(rt, "traces", "")? {
         let folder = format!(in rt.alloc(); "traces/{family}")?;
         let count = traces::run_all(rt, folder.as_str())?;

@@ -5,9 +5,11 @@ ghost use Rattle.std.specs.Prelude.{◌<◌, ◌≤◌};
 use crate::plays::{LAST_FIRST, MISTAKEN, STOLEN};
 use anyhow::{Context, Result, bail};
 use kubelet_replay::{
-    MemSink, MemSource, RunFault, Step, check, fault_line, replay_play, status_of,
+    MemSink, MemSource, NoGate, RunFault, Step, check, fault_line, replay, replay_play, status_of,
 };
 use std::alloc::Global;
+use std::sync::Wait;
+use std::thread::Threads;
 
 /// The greatest length of a report.
 const ROOM: usize = 1_048_576;
@@ -35,7 +37,23 @@ fn answered(alloc: Global, output: &MemSink<'_>, outcome: Result<(), RunFault>) 
     }
 }
 
-/// Replays the bytes of a trace with so many workers, 1 to 64, by these steps.
+/// Replays the bytes of a trace with so many workers, 1 to 64, in threads of their own.
+fn replayed(
+    rt: &(impl AllocGlobal + Threads + Wait + Sync),
+    trace: &[u8],
+    workers: usize,
+) -> Result<Answer>
+    requires some { 0 < workers }
+    requires most { workers ≤ 64 }
+{
+    let mut room = vec![in rt.alloc(); 0u8; ROOM]?;
+    let mut input = MemSource::new(trace, STEP);
+    let mut output = MemSink::new(&mut room, STEP);
+    let outcome = replay(rt, &mut input, &mut output, workers, &NoGate);
+    answered(rt.alloc(), &output, outcome)
+}
+
+/// Replays the bytes of a trace on one thread with so many workers, 1 to 64, by these steps.
 fn played(alloc: Global, trace: &[u8], workers: usize, steps: &[Step]) -> Result<Answer>
     requires some { 0 < workers }
     requires most { workers ≤ 64 }
@@ -73,9 +91,9 @@ fn answer_of_check(alloc: Global, answer: &Answer) -> Result<Answer> {
     })
 }
 
-/// Replays the bytes of a trace with one worker. With the workers and steps of each play the answer is
-/// to be the same, and to read the trace without a replay is to fit it.
-pub(crate) fn answer_of(alloc: Global, trace: &[u8]) -> Result<Answer> {
+/// Replays the bytes of a trace on one thread. With the workers and steps of each play the answer is to be
+/// the same, and to read the trace without a replay is to fit it.
+pub(crate) fn played_answer_of(alloc: Global, trace: &[u8]) -> Result<Answer> {
     let answer = played(alloc, trace, 1, &[])?;
     for play in [
         played(alloc, trace, 2, STOLEN)?,
@@ -88,6 +106,26 @@ pub(crate) fn answer_of(alloc: Global, trace: &[u8]) -> Result<Answer> {
     }
     if checked(alloc, trace)? != answer_of_check(alloc, &answer)? {
         bail!("without a replay there is another answer");
+    }
+    Ok(answer)
+}
+
+/// Replays the bytes of a trace with 1, 2, 3 and 64 workers in threads, which is to give what the plays
+/// on one thread give.
+pub(crate) fn answer_of(
+    rt: &(impl AllocGlobal + Threads + Wait + Sync),
+    trace: &[u8],
+) -> Result<Answer> {
+    let answer = played_answer_of(rt.alloc(), trace)?;
+    for other in [
+        replayed(rt, trace, 1)?,
+        replayed(rt, trace, 2)?,
+        replayed(rt, trace, 3)?,
+        replayed(rt, trace, 64)?,
+    ] {
+        if other != answer {
+            bail!("workers in threads give another answer");
+        }
     }
     Ok(answer)
 }

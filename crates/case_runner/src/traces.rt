@@ -5,11 +5,13 @@ use crate::files::{bytes_of, names_in, text_of};
 use crate::replays::{Answer, answer_of};
 use anyhow::{Context, Result};
 use std::rt::Runtime;
+use std::sync::Wait;
+use std::thread::Threads;
 
 /// Replays the trace of this path.
-fn run_one(rt: &(impl Runtime + AllocGlobal), path: &str) -> Result<()> {
+fn run_one(rt: &(impl Runtime + AllocGlobal + Threads + Wait + Sync), path: &str) -> Result<()> {
     let trace = bytes_of(rt, path, "trace")?;
-    match answer_of(rt.alloc(), &trace)? {
+    match answer_of(rt, &trace)? {
         Answer::Report(report) => {
             let wanted = text_of(rt, path, "report").context("the trace is accepted")?;
             expect(rt, path, report.as_str(), wanted.as_str())
@@ -22,7 +24,10 @@ fn run_one(rt: &(impl Runtime + AllocGlobal), path: &str) -> Result<()> {
 }
 
 /// Replays the traces of a folder, and says how many there are.
-pub(crate) fn run_all(rt: &(impl Runtime + AllocGlobal), folder: &str) -> Result<usize> {
+pub(crate) fn run_all(
+    rt: &(impl Runtime + AllocGlobal + Threads + Wait + Sync),
+    folder: &str,
+) -> Result<usize> {
     let names = names_in(rt, folder, ".trace")?;
     for name in names.as_slice() {
         let path = format!(in rt.alloc(); "{folder}/{name}")?;

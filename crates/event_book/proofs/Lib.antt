@@ -1,3 +1,2 @@
-pub mod More
-pub mod Unique
-pub mod Exists
+pub mod Low
+pub mod Places

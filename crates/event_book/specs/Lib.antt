@@ -1,6 +1,3 @@
-pub mod Events
 pub mod Totals
 pub mod Shares
-pub mod Text
-pub mod Names
-pub mod Laws
+pub mod Limits

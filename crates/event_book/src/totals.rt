@@ -2,9 +2,11 @@
 
 ghost use Rattle.std.specs.Prelude.{◌≡◌, length};
 ghost use Rattle.std.specs.List.{filter};
-ghost use Rattle.event_book.specs.Totals.{entry_of, is_order};
+ghost use Rattle.event_book.specs.Totals.{entry_of, is_order, IsEntryOf};
+ghost use Rattle.event_book.specs.Limits.{IsLow};
 
 use containers::What;
+use pod_piece::PodPiece;
 use pod_state::PodEvent;
 
 /// What is counted over all ticks of a node.
@@ -56,5 +58,14 @@ impl Entry {
             events: events.len() as u64,
             orders: count_orders(events),
         }
+    }
+    /// The entry of a pod's last update.
+    pub fn last_of(piece: &PodPiece) -> Entry
+        ensures entry { IsEntryOf piece.now result }
+        ensures low { IsLow result }
+    {
+        // A pod has few containers, so an update of it makes few events.
+        let _containers = piece.pod().containers.as_slice();
+        Entry::of(piece.events())
     }
 }

@@ -2,12 +2,12 @@
 use Rattle.std.proofs.Common.{◌≡◌, ℕ, List, All, get_or, Ok}
 use Rattle.std.proofs.lemmas.Option.{slice_get-get_or}
 use Rattle.manifest.specs.declared.pod.PodSpec.{PodSpec}
-use Rattle.event_book.specs.Laws.{ShowsKnownPods, HaveProbesInRange}
 use Rattle.trace.specs.declared.past.Trace.{Trace}
 use Rattle.trace.specs.Trace.{trace_of}
 use Rattle.trace.proofs.InRange.{HaveProbesInRange as HaveNumbersInRange, probes_in_range}
 use Rattle.trace.proofs.Shape.{given_shape}
 use Rattle.trace.proofs.Sound.{given_acceptable}
+use Rattle.event_list.specs.Laws.{ShowsKnownPods, HaveProbesInRange}
 use Rattle.node_report.proofs.Exists.{some_report}
 use Rattle.kubelet_replay.specs.Laws.{SomeReportOfText}
 use Rattle.kubelet_replay.proofs.NodeLemmas.{are_replayable}

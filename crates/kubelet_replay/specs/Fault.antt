@@ -5,7 +5,7 @@ use Rattle.manifest.specs.Fault.{number_of as manifest_number}
 use Rattle.trace.specs.declared.fault.FaultKind.{FaultKind}
 use Rattle.trace.specs.declared.fault.FaultKind.TheVariants.{Manifest}
 use Rattle.trace.specs.Faults.{number_of, word_of}
-use Rattle.event_book.specs.Text.{joined}
+use Rattle.event_list.specs.Text.{joined}
 use Rattle.kubelet_replay.specs.declared.fault.RunFault.{RunFault}
 use Rattle.kubelet_replay.specs.declared.fault.RunFault.TheVariants.{Read, TooLong, Line, OutOfMemory, Write}
 

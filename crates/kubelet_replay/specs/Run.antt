@@ -7,10 +7,10 @@ use Rattle.trace.specs.declared.fault.FaultKind.{FaultKind}
 use Rattle.trace.specs.declared.fault.FaultKind.TheVariants as kinds
 use Rattle.trace.specs.declared.fault.LineFault.{LineFault}
 use Rattle.trace.specs.Trace.{trace_of}
+use Rattle.event_list.specs.Text.{joined}
+use Rattle.node_report.specs.Report.{IsReport}
 use Rattle.kubelet_replay.specs.declared.fault.RunFault.{RunFault}
 use Rattle.kubelet_replay.specs.declared.fault.RunFault.TheVariants.{Read, TooLong, Line, OutOfMemory, Write}
-use Rattle.event_book.specs.Text.{joined}
-use Rattle.node_report.specs.Report.{IsReport}
 
 -- 64 MiB
 abbrev pub longest_input : ℕ

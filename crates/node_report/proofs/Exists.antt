@@ -6,18 +6,18 @@ use Rattle.std.proofs.lemmas.List.{length-map}
 use Rattle.std.proofs.lemmas.Option.{same_Some, slice_get-get_or, slice_get-map}
 use Rattle.histories.proofs.Found.{given_at, list_of}
 use Rattle.manifest.specs.declared.pod.PodSpec.{PodSpec}
-use Rattle.observations.specs.declared.tick.TickObs.{TickObs}
 use Rattle.node_config.specs.declared.node.NodeConfig.{NodeConfig}
+use Rattle.observations.specs.declared.tick.TickObs.{TickObs}
 use Rattle.qos.proofs.ClassLemmas.{some_class}
-use Rattle.pod_state.proofs.FoundLemmas.{some_status}
 use Rattle.node_signals.specs.declared.condition.NodeCondition.{NodeCondition}
 use Rattle.node_signals.specs.Conditions.{conditions}
 use Rattle.node_signals.proofs.Exists.{some_condition}
+use Rattle.pod_state.proofs.FoundLemmas.{some_status}
 use Rattle.eviction.specs.declared.eviction.Eviction.{Eviction}
 use Rattle.eviction.specs.Replay.{pod_ticks}
 use Rattle.eviction.proofs.Exists.{some_replay}
-use Rattle.event_book.specs.Totals.{totals_of}
-use Rattle.event_book.proofs.Exists.{some_list_of_events}
+use Rattle.event_list.specs.Totals.{totals_of}
+use Rattle.event_list.proofs.Exists.{some_list_of_events}
 use Rattle.tick_round.specs.declared.summary.ConditionStatus.{ConditionStatus}
 use Rattle.tick_round.specs.Summary.{IsConditionAfter, AreConditionsAfter}
 use Rattle.node_report.specs.Laws.{SomeReport}

@@ -10,9 +10,9 @@ use Rattle.observations.specs.declared.tick.TickObs.{TickObs}
 use Rattle.pod_piece.specs.Piece.{Piece}
 use Rattle.eviction.proofs.Unique.{at_place}
 use Rattle.eviction.specs.declared.eviction.Eviction.{Eviction}
+use Rattle.event_book.proofs.Places.{same_places}
+use Rattle.event_list.specs.Names.{pods_in}
 use Rattle.tick_round.specs.Node.{ArePieces, piece_after}
-use Rattle.event_book.specs.Names.{pods_in}
-use Rattle.event_book.proofs.Unique.{same_places}
 use Rattle.node_report.specs.Report.{AreLines}
 
 pub piece_here : (config : NodeConfig) (pods : List PodSpec) (ticks : List TickObs)

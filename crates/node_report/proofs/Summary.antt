@@ -2,15 +2,14 @@
 use Rattle.std.proofs.Common.{◌≡◌, ◌∙◌, ℕ, List, ◌++◌, length, ap}
 use Rattle.std.specs.List.{flat_map}
 use Rattle.manifest.specs.declared.pod.PodSpec.{PodSpec}
-use Rattle.observations.specs.declared.tick.TickObs.{TickObs}
 use Rattle.node_config.specs.declared.node.NodeConfig.{NodeConfig}
+use Rattle.observations.specs.declared.tick.TickObs.{TickObs}
 use Rattle.pod_piece.specs.Piece.{Piece}
-use Rattle.event_book.specs.Names.{pods_in}
-use Rattle.event_book.specs.Text.{event_line}
-use Rattle.event_book.specs.Totals.{totals_of}
+use Rattle.event_list.specs.Names.{pods_in}
+use Rattle.event_list.specs.Text.{event_line}
 use Rattle.tick_round.specs.declared.summary.Summary.{Summary}
 use Rattle.tick_round.specs.Summary.{IsSummary}
-use Rattle.node_report.specs.Lines.{header_line, node_condition_line, eviction_text, totals_line, report_lines}
+use Rattle.node_report.specs.Lines.{header_line, node_condition_line, eviction_text, totals_line}
 use Rattle.node_report.specs.Report.{AreLines, IsReport}
 use Rattle.node_report.proofs.Parts.{six_parts}
 use Rattle.node_report.proofs.Pieces.{pods_are}

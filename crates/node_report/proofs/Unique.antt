@@ -1,33 +1,33 @@
 -- There is one report.
-use Rattle.std.proofs.Common.{◌≡◌, ◌∙◌, ℕ, suc, Bool, ◌<◌, ◌≤◌, List, [], ◌∷◌, length, get_or, Option, slice_index_or, Ok, refl, ap, sym, subst, arith}
-use Rattle.manifest.specs.declared.pod.PodSpec.{PodSpec}
-use Rattle.containers.specs.declared.status.ContainerStatus.{ContainerStatus}
-use Rattle.pod_state.specs.declared.lifecycle.Lifecycle.{Lifecycle}
-use Rattle.pod_state.proofs.UniqueLemmas.{status_one, container_one}
-use Rattle.observations.specs.declared.tick.TickObs.{TickObs}
-use Rattle.node_config.specs.declared.node.NodeConfig.{NodeConfig}
-use Rattle.eviction.specs.declared.eviction.Eviction.{Eviction}
-use Rattle.eviction.specs.Replay.{pod_ticks}
-use Rattle.node_report.specs.Lines.{pod_text, report_lines}
+use Rattle.std.proofs.Common.{◌≡◌, ◌∙◌, ℕ, suc, Bool, ◌<◌, List, [], ◌∷◌, length, get_or, Option, slice_index_or, refl, ap, sym, subst, arith}
 use Rattle.std.specs.List.{concat}
+use Rattle.histories.proofs.Decide.{same_bool}
+use Rattle.manifest.specs.declared.pod.PodSpec.{PodSpec}
+use Rattle.node_config.specs.declared.node.NodeConfig.{NodeConfig}
+use Rattle.observations.specs.declared.tick.TickObs.{TickObs}
 use Rattle.qos.specs.declared.class.Qos.{Qos}
 use Rattle.qos.proofs.ClassLemmas.{one_class}
-use Rattle.node_report.specs.Report.{evicting_tick, evicting_order, ArePodLines, AreLines, IsReport}
-use Rattle.std.specs.Prelude.{slice_get}
-use Rattle.histories.proofs.Decide.{same_bool}
 use Rattle.pressure.specs.Pressures.{Observation, IsSince}
 use Rattle.pressure.proofs.LawLemmas.{one_since}
 use Rattle.node_signals.specs.declared.condition.NodeCondition.{NodeCondition}
 use Rattle.node_signals.specs.Conditions.{conditions}
 use Rattle.node_signals.proofs.ConditionLemmas.{one_list}
 use Rattle.node_signals.proofs.PlaceLemmas.{within}
+use Rattle.containers.specs.declared.status.ContainerStatus.{ContainerStatus}
+use Rattle.pod_state.specs.declared.lifecycle.Lifecycle.{Lifecycle}
+use Rattle.pod_state.proofs.UniqueLemmas.{status_one, container_one}
+use Rattle.eviction.specs.declared.eviction.Eviction.{Eviction}
+use Rattle.eviction.specs.Replay.{pod_ticks}
 use Rattle.eviction.proofs.Unique.{at_place, one_replay}
-use Rattle.event_book.specs.declared.event.Event.{Event}
-use Rattle.event_book.specs.Events.{AreEvents}
-use Rattle.event_book.specs.Totals.{totals_of}
-use Rattle.event_book.proofs.Unique.{same_places, one_list_of_events}
+use Rattle.event_book.proofs.Places.{same_places}
+use Rattle.event_list.specs.declared.event.Event.{Event}
+use Rattle.event_list.specs.Events.{AreEvents}
+use Rattle.event_list.specs.Totals.{totals_of}
+use Rattle.event_list.proofs.Unique.{one_list_of_events}
 use Rattle.tick_round.specs.declared.summary.ConditionStatus.{ConditionStatus}
 use Rattle.tick_round.specs.Summary.{IsConditionAfter, AreConditionsAfter}
+use Rattle.node_report.specs.Lines.{pod_text, report_lines}
+use Rattle.node_report.specs.Report.{evicting_tick, evicting_order, ArePodLines, AreLines}
 use Rattle.node_report.specs.Laws.{OneReport}
 
 -- lists of one length with the same items

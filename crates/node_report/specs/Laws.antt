@@ -3,7 +3,7 @@ use Rattle.std.specs.Prelude.{◌≡◌, ℕ, List, All}
 use Rattle.manifest.specs.declared.pod.PodSpec.{PodSpec}
 use Rattle.node_config.specs.declared.node.NodeConfig.{NodeConfig}
 use Rattle.observations.specs.declared.tick.TickObs.{TickObs}
-use Rattle.event_book.specs.Laws.{ShowsKnownPods, HaveProbesInRange}
+use Rattle.event_list.specs.Laws.{ShowsKnownPods, HaveProbesInRange}
 use Rattle.node_report.specs.Report.{IsReport}
 
 -- a node's ticks have a report, where each shows none but the pods that there are, and the numbers of the

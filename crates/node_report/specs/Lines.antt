@@ -5,20 +5,20 @@ use Rattle.std.specs.List.{flat_map}
 use Rattle.std.specs.Fmt.{decimal, signed_decimal}
 use Rattle.manifest.specs.declared.pod.ContainerSpec.{ContainerSpec}
 use Rattle.manifest.specs.declared.pod.PodSpec.{PodSpec}
+use Rattle.qos.specs.declared.class.Qos.{Qos}
+use Rattle.qos.specs.declared.class.Qos.TheVariants.{Guaranteed, Burstable, BestEffort}
+use Rattle.node_signals.specs.Conditions.{name_of}
 use Rattle.phase.specs.declared.conditions.Condition.{Condition}
 use Rattle.phase.specs.declared.conditions.Conditions.{Conditions}
 use Rattle.phase.specs.declared.container.ContainerState.{ContainerState}
 use Rattle.phase.specs.declared.container.ContainerState.TheVariants as states
-use Rattle.containers.specs.declared.status.ContainerStatus.{ContainerStatus}
 use Rattle.phase.specs.declared.phase.Phase.{Phase}
-use Rattle.qos.specs.declared.class.Qos.{Qos}
-use Rattle.qos.specs.declared.class.Qos.TheVariants.{Guaranteed, Burstable, BestEffort}
+use Rattle.containers.specs.declared.status.ContainerStatus.{ContainerStatus}
 use Rattle.pod_piece.specs.declared.order.EvictOrder.{EvictOrder}
-use Rattle.node_signals.specs.Conditions.{name_of}
 use Rattle.eviction.specs.declared.eviction.Eviction.{Eviction}
-use Rattle.event_book.specs.declared.event.Event.{Event}
 use Rattle.event_book.specs.declared.totals.Totals.{Totals}
-use Rattle.event_book.specs.Text.{joined, phase_word, truth, key_of, eviction_words, event_line}
+use Rattle.event_list.specs.declared.event.Event.{Event}
+use Rattle.event_list.specs.Text.{joined, phase_word, truth, key_of, eviction_words, event_line}
 use Rattle.tick_round.specs.declared.summary.ConditionStatus.{ConditionStatus}
 
 abbrev pub state_word : ContainerState → List ℕ

@@ -2,6 +2,8 @@
 use Rattle.std.specs.Prelude.{◌≡◌, ℕ, ◌<◌, List, length, Option, option_map, slice_index_or}
 use Rattle.std.specs.List.{concat}
 use Rattle.manifest.specs.declared.pod.PodSpec.{PodSpec}
+use Rattle.node_config.specs.declared.node.NodeConfig.{NodeConfig}
+use Rattle.observations.specs.declared.tick.TickObs.{TickObs}
 use Rattle.qos.specs.declared.class.Qos.{Qos}
 use Rattle.qos.specs.Class.{IsOfClass}
 use Rattle.containers.specs.declared.status.ContainerStatus.{ContainerStatus}
@@ -11,13 +13,11 @@ use Rattle.pod_state.specs.Lifecycles.{IsLifecycleOf}
 use Rattle.pod_piece.specs.declared.order.EvictOrder.{EvictOrder}
 use Rattle.pod_piece.specs.declared.piece.Eviction.{Eviction as EvictionOfPod}
 use Rattle.pod_piece.specs.Piece.{place_of}
-use Rattle.node_config.specs.declared.node.NodeConfig.{NodeConfig}
-use Rattle.observations.specs.declared.tick.TickObs.{TickObs}
 use Rattle.eviction.specs.declared.eviction.Eviction.{Eviction}
 use Rattle.eviction.specs.Replay.{pod_ticks, own_eviction, IsReplay}
-use Rattle.event_book.specs.declared.event.Event.{Event}
-use Rattle.event_book.specs.Events.{AreEvents}
-use Rattle.event_book.specs.Totals.{totals_of}
+use Rattle.event_list.specs.declared.event.Event.{Event}
+use Rattle.event_list.specs.Events.{AreEvents}
+use Rattle.event_list.specs.Totals.{totals_of}
 use Rattle.tick_round.specs.declared.summary.ConditionStatus.{ConditionStatus}
 use Rattle.tick_round.specs.Summary.{AreConditionsAfter}
 use Rattle.node_report.specs.Lines.{pod_text, report_lines}

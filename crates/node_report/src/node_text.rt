@@ -2,15 +2,15 @@
 
 ghost use Rattle.std.specs.Prelude.{◌≡◌, ◌++◌, IfOk, OnOk, string_bytes};
 ghost use Rattle.std.specs.List.{flat_map};
-ghost use Rattle.event_book.specs.Names.{pods_in};
-ghost use Rattle.event_book.specs.Text.{event_line};
+ghost use Rattle.event_list.specs.Names.{pods_in};
+ghost use Rattle.event_list.specs.Text.{event_line};
 ghost use Rattle.node_report.specs.Lines.{header_line, node_condition_line, eviction_line, eviction_text, totals_line};
 
 use crate::pod_text::add;
-use event_book::{Event, Names, Totals, event_text, eviction_words, truth_word};
+use event_list::{Event, Names, event_text, eviction_words, truth_word};
 use eviction::Eviction;
 use std::alloc::{AllocError, Global};
-use tick_round::ConditionStatus;
+use tick_round::{ConditionStatus, Summary};
 
 /// The first line of a report.
 #[tactic(auto, unfolding(crate::specs::Lines::header_line))]
@@ -113,11 +113,11 @@ pub(crate) fn add_evictions(
 
 /// The last line of a report.
 #[tactic(auto, unfolding(crate::specs::Lines::totals_line))]
-pub(crate) fn totals_line(alloc: Global, totals: Totals) -> Result<String, AllocError>
-    ensures { IfOk result (λ s. string_bytes s ≡ totals_line totals) }
+pub(crate) fn totals_line(alloc: Global, summary: &Summary<'_>) -> Result<String, AllocError>
+    ensures { IfOk result (λ s. string_bytes s ≡ totals_line summary.now.totals) }
 {
-    let updates = totals.updates;
-    let events = totals.events;
-    let orders = totals.orders;
+    let updates = summary.totals.updates;
+    let events = summary.totals.events;
+    let orders = summary.totals.orders;
     format!(in alloc; "totals updates={updates} events={events} orders={orders}\n")
 }

@@ -6,7 +6,7 @@ ghost use Rattle.node_report.specs.Lines.{pod_words, class_words, pod_line, cond
 ghost use Rattle.node_report.specs.Lines.{flag_words, container_line, conditions_text, disruption_text};
 ghost use Rattle.node_report.specs.Lines.{containers_text, pod_text};
 
-use event_book::{phase_word, truth_word};
+use event_list::{phase_word, truth_word};
 use manifest::{ContainerSpec, PodSpec};
 use phase::{Condition, Conditions, ContainerState, Phase};
 use pod_piece::{EvictOrder, PodStatus};

@@ -1,6 +1,6 @@
 //! The report of a node.
 
-ghost use Rattle.std.specs.Prelude.{◌≡◌, ℕ, List, Option, IfOk, string_bytes};
+ghost use Rattle.std.specs.Prelude.{◌≡◌, List, Option, IfOk, string_bytes};
 ghost use Rattle.manifest.specs.declared.pod.PodSpec.{PodSpec};
 ghost use Rattle.node_config.specs.declared.node.NodeConfig.{NodeConfig};
 ghost use Rattle.observations.specs.declared.tick.TickObs.{TickObs};
@@ -55,7 +55,7 @@ pub fn report_text(alloc: Global, summary: &Summary<'_>) -> Result<String, Alloc
     add(&mut text, lines.as_str())?;
     add_conditions_of_node(alloc, &mut text, &summary.conditions)?;
     add_evictions(alloc, &mut text, summary.evictions, names)?;
-    let totals = totals_line(alloc, summary.totals)?;
+    let totals = totals_line(alloc, summary)?;
     add(&mut text, totals.as_str())?;
     Ok(text)
 }

@@ -7,19 +7,20 @@ use Rattle.std.proofs.Math.Seq.{map-set_same}
 use Rattle.std.proofs.lemmas.Bool.{cases_eq, cases_lt}
 use Rattle.std.proofs.lemmas.List.{get_or_default}
 use Rattle.std.proofs.lemmas.Option.{slice_get-get_or, slice_get_within, slice_get_cases, get_or_from_slice_get}
+use Rattle.round_steps.specs.declared.step.Step.{Step}
+use Rattle.round_steps.specs.declared.step.Step.TheVariants.{Pop, Steal, Update, Enter}
 use Rattle.pod_piece.specs.Piece.{Piece, updated}
 use Rattle.event_book.specs.declared.totals.Entry.{Entry}
 use Rattle.event_book.specs.declared.totals.Totals.{Totals}
 use Rattle.event_book.specs.Totals.{IsEntryOf}
-use Rattle.round_steps.specs.declared.step.Step.{Step}
-use Rattle.round_steps.specs.declared.step.Step.TheVariants.{Pop, Steal, Update, Enter}
+use Rattle.event_book.specs.Limits.{IsLow}
 use Rattle.round_core.specs.declared.hand.Hand.{Hand}
 use Rattle.round_core.specs.declared.hand.Hand.TheVariants.{Empty, Taken, Updated}
 use Rattle.round_core.specs.Pool.{WorkerState, PoolState, idle, no_entry, worker_at, entry_at, entered, finishing}
 use Rattle.round_core.specs.Pool.{update, step}
 use Rattle.round_core.specs.Places.{one_at, places, times_marked, waiting, updated_by}
 use Rattle.round_core.proofs.Runs.{one_at_same, one_at_other}
-use Rattle.played_round.specs.Table.{TableState, IsLow, IsWaiting, IsUpdate}
+use Rattle.played_round.specs.Table.{TableState, IsWaiting, IsUpdate}
 use Rattle.played_round.specs.Round.{RoundState, round_of, with_pool}
 use Rattle.played_round.specs.Playing.{CanUpdate, IsUpdateOf, CanEnter, Stands}
 use Rattle.played_round.specs.Playing.{Agrees, Plays}

@@ -1,4 +1,3 @@
-pub mod Low
 pub mod Marks
 pub mod Keeping
 pub mod Playing

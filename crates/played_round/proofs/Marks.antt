@@ -5,9 +5,10 @@ use Rattle.std.specs.Prelude.{sum_by}
 use Rattle.std.proofs.lemmas.Bool.{cases_lt}
 use Rattle.std.proofs.lemmas.List.{get_or_past}
 use Rattle.std.proofs.lemmas.List.Sums.{sum_by-cons, get_or-le-sum_by}
-use Rattle.event_book.specs.declared.totals.Entry.{Entry}
 use Rattle.round_steps.specs.declared.step.Step.{Step}
 use Rattle.round_steps.specs.declared.step.Step.TheVariants.{Pop, Steal, Update, Enter}
+use Rattle.event_book.specs.declared.totals.Entry.{Entry}
+use Rattle.event_book.specs.Limits.{IsLow, most_events}
 use Rattle.round_core.specs.declared.hand.Hand.{Hand}
 use Rattle.round_core.specs.declared.hand.Hand.TheVariants.{Empty, Taken, Updated}
 use Rattle.round_core.specs.Pool.{WorkerState, PoolState, idle, worker_at, entry_at, step}
@@ -16,7 +17,6 @@ use Rattle.round_core.specs.Places.{times_marked, waiting, updated_by}
 use Rattle.round_core.proofs.Accounts.{gain, step_gain, marked_of, finished_account, book_gain}
 use Rattle.round_core.proofs.Runs.{one_at_same, weight_run, marks_run}
 use Rattle.round_core.proofs.Rounds.{updates_total, events_total, orders_total}
-use Rattle.played_round.specs.Table.{IsLow, most_events}
 use Rattle.played_round.specs.Playing.{HasGrown}
 
 -- Sums over the workers in two parts

@@ -1,16 +1,18 @@
 -- A round on its way: what each step needs, and what it keeps.
 use Rattle.std.specs.Prelude.{◌≡◌, ℕ, ◌+◌, ◌*◌, ◌<◌, ◌≤◌, ◌^◌, false, List, length, map, slice_get, Some, IsTrue}
+use Rattle.round_steps.specs.declared.step.Step.{Step}
+use Rattle.observations.specs.Limits.{most_pods}
 use Rattle.pod_piece.specs.Piece.{Piece, updated}
 use Rattle.event_book.specs.declared.totals.Entry.{Entry}
 use Rattle.event_book.specs.Totals.{IsEntryOf, plus}
 use Rattle.event_book.specs.Shares.{one_update, AreWithin}
-use Rattle.round_steps.specs.declared.step.Step.{Step}
+use Rattle.event_book.specs.Limits.{IsLow, most_events}
 use Rattle.round_core.specs.declared.hand.Hand.{Hand}
 use Rattle.round_core.specs.declared.hand.Hand.TheVariants.{Empty, Taken, Updated}
 use Rattle.round_core.specs.Pool.{PoolState, worker_at, entry_at, run}
 use Rattle.round_core.specs.Places.{places, times_marked, pool_weight, finished_weight}
-use Rattle.played_round.specs.Table.{TableState, IsLow, most_events, IsWaiting, IsUpdate}
-use Rattle.played_round.specs.Round.{RoundState, most_pieces}
+use Rattle.played_round.specs.Table.{TableState, IsWaiting, IsUpdate}
+use Rattle.played_round.specs.Round.{RoundState}
 
 -- what is in the hand of a worker may be updated
 abbrev pub CanUpdate : RoundState → ℕ → Type 0
@@ -49,7 +51,7 @@ pub record Stands (round : RoundState) : Type 0 where
       → slice_get round.table.entries n ≡ Some entry → 0 < times_marked n round.pool
       → (piece.is_pending ≡ false) × IsEntryOf piece entry
   pub are_low : (n : ℕ) → IsLow (entry_at round.table.entries n)
-  pub few : pool_weight (λ _. 1) round.pool ≤ most_pieces
+  pub few : pool_weight (λ _. 1) round.pool ≤ most_pods
   pub grown : HasGrown round.pool
 
 -- these are the entries of the pieces that are updated

@@ -1,10 +1,12 @@
 -- A round of workers over the pieces of a table: its start and its end.
-use Rattle.std.specs.Prelude.{◌≡◌, ℕ, ◌≤◌, ◌^◌, List, length, map, replicate, All, IsTrue}
+use Rattle.std.specs.Prelude.{◌≡◌, ℕ, ◌≤◌, List, length, map, replicate, All, IsTrue}
+use Rattle.round_steps.specs.declared.step.Step.{Step}
+use Rattle.observations.specs.Limits.{most_pods}
 use Rattle.pod_piece.specs.Piece.{Piece, updated}
+use Rattle.event_book.specs.Limits.{AreLow}
 use Rattle.event_book.specs.declared.totals.Entry.{Entry}
 use Rattle.event_book.specs.declared.totals.Totals.{Totals}
 use Rattle.event_book.specs.Totals.{sums_of, AreEntriesOf}
-use Rattle.round_steps.specs.declared.step.Step.{Step}
 use Rattle.round_core.specs.Pool.{PoolState, idle, no_entry, deal, after_drain, finished_lists}
 use Rattle.round_core.specs.Places.{sum_of_shares}
 use Rattle.played_round.specs.Table.{TableState}
@@ -26,20 +28,10 @@ with_pool round pool = round_of round.table pool
 abbrev pub dealt : ℕ → ℕ → Totals → PoolState
 dealt workers pieces book = record { workers = (deal workers pieces).workers; book = book }
 
--- so many pieces a round has at most
-abbrev pub most_pieces : ℕ
-most_pieces = 256
-
--- a round of the most pieces, each with the most events, leaves totals like these within their greatest
-pub record AreLow (totals : Totals) : Type 0 where
-  pub updates : totals.updates ≤ 2 ^ 62
-  pub events : totals.events ≤ 2 ^ 62
-  pub orders : totals.orders ≤ 2 ^ 62
-
 -- a round that may be played: all its pieces are pending, and its workers have nothing to do
 pub record IsFresh (workers : ℕ) (round : RoundState) : Type 0 where
   pub pending : All (λ (piece : Piece). IsTrue piece.is_pending) round.table.pieces
-  pub few : length round.table.pieces ≤ most_pieces
+  pub few : length round.table.pieces ≤ most_pods
   pub blank : round.table.entries ≡ replicate (length round.table.pieces) no_entry
   pub are_idle : round.pool.workers ≡ replicate workers idle
   pub low : AreLow round.pool.book

@@ -1,6 +1,7 @@
 -- The pieces of a round, and what their updates add to the totals.
-use Rattle.std.specs.Prelude.{◌≡◌, ℕ, ◌<◌, ◌≤◌, List, length, slice_get, slice_set, Some, IsTrue}
+use Rattle.std.specs.Prelude.{◌≡◌, ℕ, ◌<◌, List, length, slice_get, slice_set, Some, IsTrue}
 use Rattle.pod_piece.specs.Piece.{Piece, updated}
+use Rattle.event_book.specs.Limits.{IsLow}
 use Rattle.event_book.specs.declared.totals.Entry.{Entry}
 use Rattle.event_book.specs.Totals.{IsEntryOf}
 
@@ -8,15 +9,6 @@ use Rattle.event_book.specs.Totals.{IsEntryOf}
 pub record TableState : Type 0 where
   pub pieces : List Piece
   pub entries : List Entry
-
--- so many events come of one update: at most eight of each of sixteen containers, and one of the pod
-abbrev pub most_events : ℕ
-most_events = 129
-
--- an update of a pod adds no more than this
-pub record IsLow (entry : Entry) : Type 0 where
-  pub events : entry.events ≤ most_events
-  pub orders : entry.orders ≤ most_events
 
 -- the piece with this number is still to be updated
 pub record IsWaiting (table : TableState) (number : ℕ) : Type 0 where

@@ -1,18 +1,20 @@
 //! The whole of a played round.
 
 ghost use Rattle.std.specs.Prelude.{◌≡◌, ◌+◌, ◌<◌, ◌≤◌, List, All, IsTrue, length, map, OnOk, IfOk, replicate};
+ghost use Rattle.observations.specs.Limits.{most_pods};
 ghost use Rattle.pod_piece.specs.Piece.{updated};
 ghost use Rattle.event_book.specs.declared.totals.Entry.{Entry};
 ghost use Rattle.event_book.specs.Totals.{plus, sums_of, AreEntriesOf};
 ghost use Rattle.event_book.specs.Shares.{most_parts, part};
+ghost use Rattle.event_book.specs.Limits.{most_workers, AreLow};
 ghost use Rattle.round_core.specs.Pool.{idle, after_drain, finished_lists};
 ghost use Rattle.round_core.specs.Places.{sum_of_shares};
-ghost use Rattle.played_round.specs.Round.{most_pieces, AreLow, dealt, with_pool, IsFresh, IsWhole};
+ghost use Rattle.played_round.specs.Round.{dealt, with_pool, IsFresh, IsWhole};
 
 use crate::round::Round;
 use crate::table::Table;
 use crate::worker::Worker;
-use event_book::{EventBook, Shares, WholeBook};
+use event_book::{Shares, WholeBook};
 use pod_piece::PodPiece;
 use round_steps::Step;
 use std::alloc::{AllocError, Global};
@@ -136,10 +138,10 @@ pub fn update_played<U: Ledger, E: Ledger, O: Ledger>(
     steps: &[Step],
 ) -> Result<Played<U, E, O>, AllocError>
     requires pending { All (λ piece. IsTrue piece.is_pending) pieces.items }
-    requires few { length pieces.items ≤ most_pieces }
+    requires few { length pieces.items ≤ most_pods }
     requires low { AreLow book }
     requires some { 0 < workers }
-    requires most { workers ≤ 64 }
+    requires most { workers ≤ most_workers }
     ensures pieces { IfOk result (λ played. played.pieces.items ≡ map updated pieces.items) }
     ensures book { IfOk result (λ played. (entries : List Entry) × AreEntriesOf played.pieces.items entries
         × (played.book ≡ plus book (sums_of entries))) }

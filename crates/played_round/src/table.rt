@@ -3,8 +3,9 @@
 ghost use Rattle.std.specs.Prelude.{◌≡◌, ◌<◌, length, replicate, IsTrue, OnOk, IfOk};
 ghost use Rattle.pod_piece.specs.Piece.{updated};
 ghost use Rattle.event_book.specs.Totals.{IsEntryOf};
+ghost use Rattle.event_book.specs.Limits.{IsLow};
 ghost use Rattle.round_core.specs.Pool.{no_entry, entry_at};
-ghost use Rattle.played_round.specs.Table.{IsLow, IsWaiting, IsUpdate};
+ghost use Rattle.played_round.specs.Table.{IsWaiting, IsUpdate};
 
 use event_book::Entry;
 use pod_piece::PodPiece;
@@ -16,16 +17,6 @@ const NO_ENTRY: Entry = Entry {
     orders: 0,
 };
 
-/// What the last update of a piece adds to the totals.
-fn entry_of(piece: &PodPiece) -> Entry
-    ensures entry { IsEntryOf piece.now result }
-    ensures low { IsLow result }
-{
-    // A pod has few containers, so an update of it makes few events.
-    let _containers = piece.pod().containers.as_slice();
-    Entry::of(piece.events())
-}
-
 /// Updates a piece, and gives what that adds to the totals.
 fn update(piece: &mut PodPiece) -> Result<Entry, AllocError>
     requires { IsTrue piece.old.is_pending }
@@ -34,7 +25,7 @@ fn update(piece: &mut PodPiece) -> Result<Entry, AllocError>
     ensures low { IfOk result IsLow }
 {
     piece.update_in_place()?;
-    Ok(entry_of(piece))
+    Ok(Entry::last_of(piece))
 }
 
 /// The pieces of a round by their numbers, and beside each what its update adds to the totals.

@@ -7,13 +7,15 @@ mod fault;
 ghost use Rattle.replay_program.specs.Jobs.{HasFewWorkers};
 
 use fault::Fault;
-use kubelet_replay::{Counted, Job, check, job_of, read_steps, replay_play};
+use kubelet_replay::{Counted, Job, NoGate, check, job_of, read_steps, replay, replay_play};
 use replay_stream::read_all;
 use std::alloc::AllocError;
 use std::env::Env;
 use std::fs::File;
 use std::process::ExitCode;
 use std::rt::Files;
+use std::sync::Wait;
+use std::thread::Threads;
 use std::{env, io};
 
 /// So many workers share the pods where no word says how many.
@@ -33,7 +35,7 @@ fn words_of(rt: &(impl Env + AllocGlobal)) -> Result<Vec<String>, Fault> {
 
 /// Does what the words ask for, and writes the answer on standard output.
 fn work(
-    rt: &(impl Files + AllocGlobal),
+    rt: &(impl Files + AllocGlobal + Threads + Wait + Sync),
     job: Job<'_>,
     output: impl io::Write + Drop,
 ) -> Result<(), Fault>
@@ -44,7 +46,7 @@ fn work(
     match job {
         Job::Run { trace, workers } => {
             let mut input = Counted::new(File::open(rt, trace)?);
-            replay_play(alloc, &mut input, &mut output, workers, &[])?;
+            replay(rt, &mut input, &mut output, workers, &NoGate)?;
         }
         Job::Check { trace } => {
             let mut input = Counted::new(File::open(rt, trace)?);
@@ -82,7 +84,7 @@ fn main(rt: HostRuntime) -> ExitCode {
         }
     } else {
         let (mut input, mut output) = (Counted::new(rt.stdin()), Counted::new(rt.stdout()));
-        let replayed = replay_play(rt.alloc(), &mut input, &mut output, WORKERS, &[]);
+        let replayed = replay(&rt, &mut input, &mut output, WORKERS, &NoGate);
         replayed.map_err(Fault::from)
     };
     match done {

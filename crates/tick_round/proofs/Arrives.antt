@@ -2,13 +2,14 @@
 use Rattle.std.proofs.Common.{◌≡◌, inl, inr, ℕ, zero, suc, ◌<◌, ◌≤◌, List, [], ◌∷◌, ◌++◌, length, map}
 use Rattle.std.proofs.Common.{take, true, false, Option, Some, None, refl, sym, ap, subst, ◌∙◌, arith}
 use Rattle.std.specs.List.{cons_option}
-use Rattle.observations.specs.Observations.{own_ticks}
 use Rattle.std.specs.Prelude.{◌↔◌, slice_get, IsSome, option_map}
-use Rattle.manifest.specs.declared.pod.PodSpec.{PodSpec}
 use Rattle.histories.proofs.Places.{length-more}
+use Rattle.manifest.specs.declared.pod.PodSpec.{PodSpec}
+use Rattle.node_config.specs.declared.node.NodeConfig.{NodeConfig}
+use Rattle.observations.specs.Observations.{own_ticks}
 use Rattle.observations.specs.declared.pod.PodObs.{PodObs}
 use Rattle.observations.specs.declared.tick.TickObs.{TickObs}
-use Rattle.node_config.specs.declared.node.NodeConfig.{NodeConfig}
+use Rattle.observations.specs.Limits.{most_pods}
 use Rattle.node_signals.specs.declared.key.ThresholdKey.{ThresholdKey}
 use Rattle.node_signals.proofs.PlaceLemmas.{within, place_split}
 use Rattle.pod_state.specs.Pods.{PodTick, pod_tick}
@@ -21,10 +22,10 @@ use Rattle.eviction.specs.Replay.{EvictedAt, pod_ticks, own_eviction, IsCandidat
 use Rattle.eviction.specs.Replay.{IsOfVictim, IsEvictionFor, IsRound}
 use Rattle.eviction.proofs.Own.{evicted_none}
 use Rattle.eviction.proofs.Unique.{at_place}
-use Rattle.event_book.proofs.More.{events_arrived}
 use Rattle.node_pods.specs.Pods.{Pods, with_pod}
-use Rattle.observations.specs.Limits.{most_pods}
-use Rattle.tick_round.specs.Node.{State, state, piece_after, HasTaken, pods_in}
+use Rattle.event_list.proofs.More.{events_arrived}
+use Rattle.tick_parts.specs.Evict.{pods_in}
+use Rattle.tick_round.specs.Node.{State, state, piece_after, HasTaken}
 use Rattle.tick_round.specs.Round.{AreFew, IsKept}
 use Rattle.tick_round.proofs.GoesOn.{kept_by}
 

@@ -1,14 +1,13 @@
 -- The candidates and the eviction of a tick, by a node's pieces and by its history.
-use Rattle.std.proofs.Common.{◌≡◌, ℕ, zero, suc, ◌-◌, ◌<◌, List, [], ◌∷◌, ◌++◌, length, get_or, Bool, true}
+use Rattle.std.proofs.Common.{◌≡◌, ℕ, suc, ◌-◌, ◌<◌, List, [], ◌∷◌, ◌++◌, length}
 use Rattle.std.proofs.Common.{Option, Some, None, refl, sym, ap, subst, ◌∙◌, arith}
-use Rattle.std.specs.Prelude.{nat_lt, ◌↔◌, slice_get, is_some}
-use Rattle.std.proofs.lemmas.Bool.{ltb-true}
+use Rattle.std.specs.Prelude.{◌↔◌, slice_get, is_some}
 use Rattle.histories.specs.Histories.{last_moment, moment_at}
 use Rattle.histories.proofs.Places.{length-more, moment_at-new}
 use Rattle.manifest.specs.declared.pod.PodSpec.{PodSpec}
+use Rattle.node_config.specs.declared.node.NodeConfig.{NodeConfig}
 use Rattle.observations.specs.declared.pod.PodObs.{PodObs}
 use Rattle.observations.specs.declared.tick.TickObs.{TickObs}
-use Rattle.node_config.specs.declared.node.NodeConfig.{NodeConfig}
 use Rattle.node_signals.specs.declared.key.ThresholdKey.{ThresholdKey}
 use Rattle.node_signals.specs.Thresholds.{IsServed}
 use Rattle.node_signals.proofs.PlaceLemmas.{within}
@@ -17,13 +16,13 @@ use Rattle.pod_piece.specs.declared.order.EvictOrder.{EvictOrder}
 use Rattle.pod_piece.specs.declared.status.PodStatus.{PodStatus}
 use Rattle.pod_piece.specs.Piece.{Piece, with_tick, updated}
 use Rattle.pod_piece.specs.Status.{IsStatusOf}
-use Rattle.ranking.specs.Order.{IsVictim}
 use Rattle.ranking.proofs.LawLemmas.{same_victim}
 use Rattle.eviction.specs.declared.eviction.Eviction.{Eviction}
-use Rattle.eviction.specs.Replay.{IsCandidate as IsCandidateIn, order_of, IsOfVictim, IsEvictionFor, IsRound}
+use Rattle.eviction.specs.Replay.{IsCandidate as IsCandidateIn, IsOfVictim, IsEvictionFor, IsRound}
 use Rattle.eviction.proofs.Unique.{at_place}
-use Rattle.node_pods.specs.Pods.{IsCandidate, AreAfter, IsEvictable}
-use Rattle.tick_round.specs.Node.{piece_after, ArePieces, pods_in, IsEvictionAt, MayBeEvicted}
+use Rattle.node_pods.specs.Pods.{IsCandidate, AreAfter}
+use Rattle.tick_parts.specs.Evict.{pods_in, IsEvictionAt, MayBeEvicted}
+use Rattle.tick_round.specs.Node.{piece_after, ArePieces}
 use Rattle.tick_round.proofs.Pieces.{pod_at}
 
 -- a node's candidates are those of its history
@@ -129,68 +128,3 @@ may_be_evicted config pieces at (Some key) (Some e) last (Some n, (status, candi
       candidate = (status, subst (λ (k : ℕ). IsCandidate pieces k status) here candidate);
       last = λ piece is. last e.pod piece is ∙ ap (λ (k : ℕ). Some k) (sym moment);
     }
-
--- who is evicted was a candidate
-pub evicted_candidate : (pieces : List Piece) (e : Eviction) → IsEvictable pieces e.pod e.order.at
-    → (status : PodStatus) × IsCandidate pieces e.pod status
-evicted_candidate pieces e may = may.candidate
-
-pub get_pod : (pieces : List Piece) (n : ℕ) (piece : Piece) → slice_get pieces n ≡ Some piece
-    → slice_get (pods_in pieces) n ≡ Some piece.pod
-get_pod [] n piece e = absurd (cc)
-get_pod (p ∷ pieces) zero piece e = let same : p ≡ piece = cc in ap (λ (q : Piece). Some q.pod) same
-get_pod (p ∷ pieces) (suc n) piece e = get_pod pieces n piece e
-
--- the first of the candidates is evicted
-pub evicts_first : (config : NodeConfig) (pieces : List Piece) (at : ℕ) (served : Option ThresholdKey)
-    (key : ThresholdKey) (dedicated : Bool) (victim : Option ℕ) (n : ℕ) (piece : Piece) (order : EvictOrder)
-    → served ≡ Some key → dedicated ≡ config.has_dedicated_imagefs
-    → IsVictim key.signal dedicated (IsCandidate pieces) victim → victim ≡ Some n
-    → slice_get pieces n ≡ Some piece → order ≡ order_of config piece.pod at key
-    → IsEvictionAt config pieces at served (Some (record { pod = n; order = order }))
-evicts_first config pieces at served key dedicated victim n piece order is same first number found by =
-    let now : IsVictim key.signal config.has_dedicated_imagefs (IsCandidate pieces) victim =
-    subst (λ (d : Bool). IsVictim key.signal d (IsCandidate pieces) victim) same first in
-    let P : Option ℕ → Type 0 = λ v. IsVictim key.signal config.has_dedicated_imagefs (IsCandidate pieces) v in
-    let of : IsEvictionAt config pieces at (Some key) (Some (record { pod = n; order = order })) = (
-      Some n,
-      subst P number now,
-      record { pod = piece.pod; is_pod = get_pod pieces n piece found; number = refl; order = by },
-    ) in
-    subst (λ (k : Option ThresholdKey). IsEvictionAt config pieces at k (Some (record { pod = n; order = order })))
-    (sym is) of
-
--- without candidates nobody is
-pub evicts_none : (config : NodeConfig) (pieces : List Piece) (at : ℕ) (served : Option ThresholdKey)
-    (key : ThresholdKey) (dedicated : Bool) (victim : Option ℕ)
-    → served ≡ Some key → dedicated ≡ config.has_dedicated_imagefs
-    → IsVictim key.signal dedicated (IsCandidate pieces) victim → victim ≡ None
-    → IsEvictionAt config pieces at served None
-evicts_none config pieces at served key dedicated victim is same first none =
-    let now : IsVictim key.signal config.has_dedicated_imagefs (IsCandidate pieces) victim =
-    subst (λ (d : Bool). IsVictim key.signal d (IsCandidate pieces) victim) same first in
-    let P : Option ℕ → Type 0 = λ v. IsVictim key.signal config.has_dedicated_imagefs (IsCandidate pieces) v in
-    let of : IsEvictionAt config pieces at (Some key) None = (None, subst P none now, refl) in
-    subst (λ (k : Option ThresholdKey). IsEvictionAt config pieces at k None) (sym is) of
-
--- the first of the candidates is one of the pods
-pub victim_there : (pieces : List Piece) (key : ThresholdKey) (dedicated : Bool) (victim : Option ℕ) (n : ℕ)
-    → IsVictim key.signal dedicated (IsCandidate pieces) victim → victim ≡ Some n
-    → slice_get pieces n ≡ None → ⊥
-victim_there pieces key dedicated None n first is none = absurd (let e : None ≡ Some n = is in cc)
-victim_there pieces key dedicated (Some m) n (status, candidate, before) is none =
-    let same : m ≡ n = cc in
-    let at : slice_get pieces n ≡ Some candidate.piece =
-    subst (λ (k : ℕ). slice_get pieces k ≡ Some candidate.piece) same candidate.at in
-    let both : Some candidate.piece ≡ None = sym at ∙ none in absurd (cc)
-
--- what is found at a place is there
-pub get_here : (pieces now : List Piece) (n : ℕ) (piece : Piece) → now ≡ pieces → true ≡ nat_lt n (length now)
-    → piece ≡ get_or now n piece → slice_get pieces n ≡ Some piece
-get_here pieces now n piece same lt is =
-    subst (λ (ps : List Piece). slice_get ps n ≡ Some piece) same (at now n piece (ltb-true n (length now) (sym lt)) is)
-  where
-    at : (xs : List Piece) (n : ℕ) (x : Piece) → n < length xs → x ≡ get_or xs n x → slice_get xs n ≡ Some x
-    at [] n x lt is = absurd (omega arith)
-    at (y ∷ xs) zero x lt is = ap (λ (p : Piece). Some p) (sym is)
-    at (y ∷ xs) (suc n) x lt is = at xs n x (omega arith) is

@@ -5,10 +5,10 @@ use Rattle.std.specs.Prelude.{slice_get}
 use Rattle.std.proofs.lemmas.List.{length-append}
 use Rattle.histories.proofs.Places.{length-more}
 use Rattle.manifest.specs.declared.pod.PodSpec.{PodSpec}
+use Rattle.node_config.specs.declared.node.NodeConfig.{NodeConfig}
 use Rattle.observations.specs.declared.pod.PodObs.{PodObs}
 use Rattle.observations.specs.declared.tick.TickObs.{TickObs}
 use Rattle.observations.specs.Limits.{most_pods}
-use Rattle.node_config.specs.declared.node.NodeConfig.{NodeConfig}
 use Rattle.node_signals.specs.declared.node.NodeSignals.{NodeSignals}
 use Rattle.node_signals.specs.declared.event.NodeEvent.{NodeEvent}
 use Rattle.node_signals.specs.declared.key.ThresholdKey.{ThresholdKey}
@@ -20,23 +20,28 @@ use Rattle.pod_state.specs.Pods.{pod_tick}
 use Rattle.pod_piece.specs.Piece.{Piece, with_tick, updated}
 use Rattle.eviction.specs.declared.eviction.Eviction.{Eviction}
 use Rattle.eviction.proofs.More.{no_replay, replay_more}
-use Rattle.event_book.specs.declared.event.Event.{Event}
 use Rattle.event_book.specs.declared.totals.Totals.{Totals}
 use Rattle.event_book.specs.declared.totals.Entry.{Entry}
-use Rattle.event_book.specs.Events.{of_pods, of_node, of_eviction, AreEvents}
-use Rattle.event_book.specs.Totals.{totals_of, sums_of, plus, nothing}
-use Rattle.event_book.proofs.More.{no_events, events_more, totals_more}
+use Rattle.event_book.specs.Limits.{IsLow}
+use Rattle.event_book.proofs.Low.{low}
+use Rattle.event_book.specs.Totals.{sums_of, plus, nothing}
 use Rattle.node_pods.specs.Pods.{Pods, pods_of, Awaited, awaited, AreHanded, AreAfter}
 use Rattle.node_pods.proofs.Steps.{item_at, after_handed}
+use Rattle.event_list.specs.declared.event.Event.{Event}
+use Rattle.event_list.specs.Events.{of_pods, of_node, of_eviction, AreEvents}
+use Rattle.event_list.specs.Totals.{totals_of}
+use Rattle.event_list.proofs.More.{no_events, events_more, totals_more}
+use Rattle.event_list.specs.Tick.{AddsEvents}
+use Rattle.tick_parts.specs.Evict.{IsEvictionAt, MayBeEvicted, AreWithout, pods_in}
+use Rattle.tick_parts.specs.Update.{AreUpTo, MayUpdate, AreEntered}
+use Rattle.tick_parts.proofs.Evicts.{get_pod}
+use Rattle.tick_parts.proofs.Updates.{sums_low}
 use Rattle.tick_round.specs.declared.begun.Begun.{Begun}
-use Rattle.tick_round.specs.Node.{State, state, ArePieces, HasTaken, Fits, IsEvictionAt, MayBeEvicted, AreWithout}
-use Rattle.tick_round.specs.Node.{last_of, pods_in, IsAfter}
-use Rattle.tick_round.specs.Update.{AreUpTo, IsSmall, MayUpdate, AreEntered}
-use Rattle.tick_round.specs.Round.{most_of_tick, AreFew, IsKept, IsSampled, HasBegun, AreUpdated, MayEnd, AddsEvents}
+use Rattle.tick_round.specs.Node.{State, state, ArePieces, HasTaken, Fits}
+use Rattle.tick_round.specs.Node.{last_of, IsAfter}
+use Rattle.tick_round.specs.Round.{most_of_tick, AreFew, IsKept, IsSampled, HasBegun, AreUpdated, MayEnd}
 use Rattle.tick_round.proofs.Pieces.{pieces_updated, pieces_evicted, pieces_spared}
-use Rattle.tick_round.proofs.Candidates.{round_of, are_at, may_be_evicted, specs_are, get_pod}
-use Rattle.tick_round.proofs.Few.{small_entry}
-use Rattle.tick_round.proofs.Updates.{sums_small}
+use Rattle.tick_round.proofs.Candidates.{round_of, are_at, may_be_evicted, specs_are}
 use Rattle.tick_round.proofs.Made.{made_by, entries_by}
 
 last_more : (ticks : List TickObs) (x : TickObs) → last_of (ticks ++ x ∷ []) ≡ Some x.at
@@ -286,12 +291,12 @@ room_more : (n : ℕ) (pieces : List Piece) (old new : Totals) → AreUpTo (n * 
 room_more n pieces old new room entered few many =
     let entries = entered.entries in
     let as_many : length entries ≡ length pieces = entered.are_entries.as_many in
-    let small : (k : ℕ) (entry : Entry) → slice_get entries k ≡ Some entry → IsSmall entry = λ k entry at.
+    let are_low : (k : ℕ) (entry : Entry) → slice_get entries k ≡ Some entry → IsLow entry = λ k entry at.
     let lt : k < length entries = within entries k entry at in
     let piece = item_at pieces k (omega (arith, lt, as_many)) in
     let is = entered.are_entries.each k piece.0 entry piece.1 at in
-    small_entry piece.0 is.0 entry is.1 (few_piece pieces k piece.0 few piece.1) is.2 in
-    let sums = sums_small entries small in
+    low piece.0 entry (few_piece pieces k piece.0 few piece.1) is in
+    let sums = sums_low entries are_low in
     let events : (sums_of entries).events ≤ length entries * 129 = sums.events in
     let orders : (sums_of entries).orders ≤ length entries * 129 = sums.orders in
     let u : new.updates ≡ old.updates + length entries = ap (λ (t : Totals). t.updates) entered.totals in

@@ -1,11 +1,7 @@
 pub mod Conditions
-pub mod Few
-pub mod Updates
-pub mod Adds
 pub mod Pieces
 pub mod Candidates
 pub mod Made
 pub mod GoesOn
 pub mod Arrives
 pub mod Summaries
-pub mod Played

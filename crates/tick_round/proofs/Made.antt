@@ -9,10 +9,10 @@ use Rattle.std.proofs.lemmas.Option.{slice_get-map}
 use Rattle.std.proofs.lemmas.Bool.Decides.{eqb_tells}
 use Rattle.histories.proofs.Places.{length-more}
 use Rattle.manifest.specs.declared.pod.PodSpec.{PodSpec}
+use Rattle.node_config.specs.declared.node.NodeConfig.{NodeConfig}
 use Rattle.observations.specs.declared.pod.PodObs.{PodObs}
 use Rattle.observations.specs.declared.tick.TickObs.{TickObs}
 use Rattle.observations.specs.Observations.{shown_of}
-use Rattle.node_config.specs.declared.node.NodeConfig.{NodeConfig}
 use Rattle.node_signals.proofs.PlaceLemmas.{within, take_more}
 use Rattle.pod_state.specs.declared.events.PodEvent.{PodEvent}
 use Rattle.pod_state.specs.Pods.{PodTick, pod_tick}
@@ -27,12 +27,12 @@ use Rattle.eviction.proofs.Evicted.{evicted_pod_lived}
 use Rattle.eviction.proofs.Own.{pod_ticks-more, own_eviction-longer, of_pod}
 use Rattle.eviction.proofs.Unique.{at_place}
 use Rattle.event_book.specs.declared.totals.Entry.{Entry}
-use Rattle.event_book.specs.Events.{ArePodEvents}
 use Rattle.event_book.specs.Totals.{entry_of, AreEntriesOf}
+use Rattle.event_book.proofs.Low.{one_last}
 use Rattle.node_pods.proofs.Steps.{same_items, item_at}
+use Rattle.event_list.specs.Events.{ArePodEvents}
+use Rattle.event_list.specs.Tick.{AreMadeBy}
 use Rattle.tick_round.specs.Node.{piece_after, ArePieces}
-use Rattle.tick_round.specs.Update.{AreMadeBy}
-use Rattle.tick_round.proofs.Few.{one_last}
 use Rattle.tick_round.proofs.Pieces.{fewer}
 
 -- an eviction that was before a place

@@ -1,15 +1,15 @@
 -- What a node has come to, by its state.
 use Rattle.std.proofs.Common.{◌≡◌, ◌∙◌, List, length, Option, sym, ap, subst}
 use Rattle.manifest.specs.declared.pod.PodSpec.{PodSpec}
-use Rattle.observations.specs.declared.tick.TickObs.{TickObs}
 use Rattle.node_config.specs.declared.node.NodeConfig.{NodeConfig}
+use Rattle.observations.specs.declared.tick.TickObs.{TickObs}
 use Rattle.node_signals.specs.Node.{IsStateOf}
 use Rattle.pod_piece.specs.Piece.{Piece}
 use Rattle.eviction.specs.declared.eviction.Eviction.{Eviction}
 use Rattle.eviction.specs.Replay.{IsReplay}
-use Rattle.event_book.specs.declared.event.Event.{Event}
-use Rattle.event_book.specs.Events.{AreEvents}
-use Rattle.event_book.specs.Totals.{totals_of}
+use Rattle.event_list.specs.declared.event.Event.{Event}
+use Rattle.event_list.specs.Events.{AreEvents}
+use Rattle.event_list.specs.Totals.{totals_of}
 use Rattle.tick_round.specs.declared.summary.Summary.{Summary}
 use Rattle.tick_round.specs.Node.{State, ArePieces, HasTaken}
 use Rattle.tick_round.specs.Summary.{AreConditionsAfter, IsSummary}

@@ -1,22 +1,20 @@
 -- Where the pods and the ticks of a node lead.
-use Rattle.std.specs.Prelude.{◌≡◌, ℕ, ◌<◌, ◌≤◌, ◌^◌, false, List, [], ◌∷◌, length, map, slice_get, Option, Some, None}
+use Rattle.std.specs.Prelude.{◌≡◌, ℕ, ◌<◌, ◌≤◌, ◌^◌, false, List, [], ◌∷◌, length, slice_get, Option, Some, None}
 use Rattle.std.specs.Prelude.{IfSome, IsSomeAnd}
 use Rattle.manifest.specs.declared.pod.PodSpec.{PodSpec}
+use Rattle.node_config.specs.declared.node.NodeConfig.{NodeConfig}
 use Rattle.observations.specs.declared.tick.TickObs.{TickObs}
 use Rattle.observations.specs.Limits.{most_ticks, most_pods}
-use Rattle.node_config.specs.declared.node.NodeConfig.{NodeConfig}
 use Rattle.node_signals.specs.declared.node.NodeSignals.{NodeSignals}
-use Rattle.node_signals.specs.declared.key.ThresholdKey.{ThresholdKey}
 use Rattle.node_signals.specs.Node.{IsStateOf}
 use Rattle.pod_piece.specs.Piece.{Piece}
-use Rattle.ranking.specs.Order.{IsVictim}
 use Rattle.eviction.specs.declared.eviction.Eviction.{Eviction}
-use Rattle.eviction.specs.Replay.{pod_ticks, own_eviction, IsOfVictim, IsReplay}
-use Rattle.event_book.specs.declared.event.Event.{Event}
+use Rattle.eviction.specs.Replay.{pod_ticks, own_eviction, IsReplay}
 use Rattle.event_book.specs.declared.totals.Totals.{Totals}
-use Rattle.event_book.specs.Events.{AreEvents}
-use Rattle.event_book.specs.Totals.{totals_of}
-use Rattle.node_pods.specs.Pods.{Pods, IsCandidate, Fits as PodsFit, IsEvictable, AreEvicted}
+use Rattle.node_pods.specs.Pods.{Pods, Fits as PodsFit}
+use Rattle.event_list.specs.declared.event.Event.{Event}
+use Rattle.event_list.specs.Events.{AreEvents}
+use Rattle.event_list.specs.Totals.{totals_of}
 
 -- what a node keeps that is not halted
 pub record State : Type 0 where
@@ -87,27 +85,6 @@ pub record Fits (s : State) (tick : TickObs) : Type 0 where
   pub later : IfSome s.last (λ last. last < tick.at)
   pub bounded : tick.at < 2 ^ 40
   pub pods : PodsFit s.pods tick
-
--- the specifications of these pieces
-abbrev pub pods_in : List Piece → List PodSpec
-pods_in pieces = map (λ (piece : Piece). piece.pod) pieces
-
--- the eviction at a moment for the threshold that is served, of these pods
-abbrev pub IsEvictionAt : NodeConfig → List Piece → ℕ → Option ThresholdKey → Option Eviction → Type 0
-IsEvictionAt config pieces at None eviction = eviction ≡ None
-IsEvictionAt config pieces at (Some key) eviction =
-    (victim : Option ℕ) × IsVictim key.signal config.has_dedicated_imagefs (IsCandidate pieces) victim
-    × IsOfVictim config (pods_in pieces) at key victim eviction
-
--- the eviction may be carried out
-abbrev pub MayBeEvicted : List Piece → Option Eviction → Type 0
-MayBeEvicted pieces None = Unit {0}
-MayBeEvicted pieces (Some eviction) = IsEvictable pieces eviction.pod eviction.order.at
-
--- the pods once it was
-abbrev pub AreWithout : List Piece → Option Eviction → List Piece → Type 0
-AreWithout old None new = new ≡ old
-AreWithout old (Some eviction) new = AreEvicted old eviction.pod eviction.order new
 
 -- where the node is not halted, one more pod may arrive
 abbrev pub HasRoom : Option State → Type 0

@@ -1,12 +1,8 @@
 -- A round that workers play by a list of steps.
 use Rattle.std.specs.Prelude.{◌≡◌, ℕ, List, length}
-use Rattle.event_book.specs.declared.totals.Entry.{Entry}
 use Rattle.round_steps.specs.declared.step.Step.{Step}
+use Rattle.event_book.specs.declared.totals.Entry.{Entry}
 use Rattle.round_core.specs.Pool.{after_drain, finished_lists}
-
--- so many workers can share a round
-abbrev pub most_workers : ℕ
-most_workers = 64
 
 -- these are the numbers of the pods that each worker finished, in a round of so many pods: after the deal,
 -- the steps and the drain. What the pods add to the book makes no difference

@@ -1,6 +1,7 @@
 -- A tick of a node: what comes before the update of its pods, and what comes after it.
 use Rattle.std.specs.Prelude.{◌≡◌, ℕ, ◌*◌, ◌≤◌, List, [], ◌∷◌, ◌++◌, length, slice_get, Option, Some}
 use Rattle.manifest.specs.declared.pod.PodSpec.{PodSpec}
+use Rattle.node_config.specs.declared.node.NodeConfig.{NodeConfig}
 use Rattle.observations.specs.declared.tick.TickObs.{TickObs}
 use Rattle.node_signals.specs.declared.node.NodeSignals.{NodeSignals}
 use Rattle.node_signals.specs.declared.event.NodeEvent.{NodeEvent}
@@ -8,17 +9,13 @@ use Rattle.node_signals.specs.declared.key.ThresholdKey.{ThresholdKey}
 use Rattle.node_signals.specs.Events.{AreNodeEvents}
 use Rattle.node_signals.specs.Node.{IsStateOf}
 use Rattle.node_signals.specs.Thresholds.{IsServed}
-use Rattle.node_config.specs.declared.node.NodeConfig.{NodeConfig}
-use Rattle.pod_state.specs.declared.events.PodEvent.{PodEvent}
 use Rattle.pod_piece.specs.Piece.{Piece}
-use Rattle.eviction.specs.declared.eviction.Eviction.{Eviction}
-use Rattle.event_book.specs.declared.event.Event.{Event}
 use Rattle.event_book.specs.declared.totals.Totals.{Totals}
-use Rattle.event_book.specs.Events.{of_pods, of_node, of_eviction}
 use Rattle.node_pods.specs.Pods.{AreAfter, awaited}
+use Rattle.tick_parts.specs.Evict.{pods_in}
+use Rattle.tick_parts.specs.Update.{AreUpTo, AreEntered}
 use Rattle.tick_round.specs.declared.begun.Begun.{Begun}
-use Rattle.tick_round.specs.Node.{State, HasTaken, Fits, pods_in}
-use Rattle.tick_round.specs.Update.{AreUpTo, AreEntered, AreMadeBy}
+use Rattle.tick_round.specs.Node.{State, HasTaken, Fits}
 
 -- a tick adds so much to each total at most: 129 events of each of 256 pods
 abbrev pub most_of_tick : ℕ
@@ -69,10 +66,3 @@ pub record MayEnd (s : State) (tick : TickObs) (begun : Begun) (pieces : List Pi
   pub fits : Fits s tick
   pub has_begun : HasBegun s tick begun
   pub updated : AreUpdated s tick pieces totals
-
--- the events of a tick are added to those there were
-pub record AddsEvents (at : ℕ) (pieces : List Piece) (news : List NodeEvent) (eviction : Option Eviction)
-    (old new : List Event) : Type 0 where
-  pub made : List (List PodEvent)
-  pub are_made : AreMadeBy pieces made
-  pub added : new ≡ old ++ (of_pods at 0 made ++ (of_node at news ++ of_eviction at eviction))

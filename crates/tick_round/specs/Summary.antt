@@ -1,13 +1,13 @@
 -- What a node has come to. (Kubernetes, "Pod Lifecycle" and "Node-pressure Eviction".)
 use Rattle.std.specs.Prelude.{◌≡◌, ◌↔◌, ℕ, List, length, slice_get, Some, IsTrue}
 use Rattle.manifest.specs.declared.pod.PodSpec.{PodSpec}
-use Rattle.observations.specs.declared.tick.TickObs.{TickObs}
 use Rattle.node_config.specs.declared.node.NodeConfig.{NodeConfig}
+use Rattle.observations.specs.declared.tick.TickObs.{TickObs}
 use Rattle.node_signals.specs.declared.condition.NodeCondition.{NodeCondition}
 use Rattle.node_signals.specs.Conditions.{conditions, IsTrueAfter, IsSinceMoment}
 use Rattle.eviction.specs.Replay.{IsReplay}
-use Rattle.event_book.specs.Events.{AreEvents}
-use Rattle.event_book.specs.Totals.{totals_of}
+use Rattle.event_list.specs.Events.{AreEvents}
+use Rattle.event_list.specs.Totals.{totals_of}
 use Rattle.tick_round.specs.declared.summary.ConditionStatus.{ConditionStatus}
 use Rattle.tick_round.specs.declared.summary.Summary.{Summary}
 use Rattle.tick_round.specs.Node.{ArePieces}

@@ -7,10 +7,9 @@ ghost use Rattle.node_pods.specs.Pods.{AreAwaited};
 ghost use Rattle.tick_round.specs.Node.{State, HasTaken};
 ghost use Rattle.tick_round.specs.Round.{IsKept, MayEnd};
 
-use crate::events::add_events;
-use crate::round::{carry_out, eviction_for};
 use crate::running::Running;
-use event_book::{Event, WholeBook};
+use event_book::WholeBook;
+use event_list::{Event, add_events};
 use eviction::Eviction;
 use node_config::NodeConfig;
 use node_pods::AwaitedPods;
@@ -18,6 +17,7 @@ use node_signals::{NodeEvent, NodeSignals, ThresholdKey};
 use pod_piece::PodPiece;
 use std::alloc::{AllocError, Global};
 use std::sync::ledger::Ledger;
+use tick_parts::{carry_out, eviction_for};
 
 /// A node that has begun a tick, without its book and the pieces of its pods, which are out for their
 /// updates.

@@ -7,16 +7,14 @@
 #![tactic(auto)]
 
 mod begun;
-mod events;
 mod fault;
 mod node;
-mod round;
 mod running;
 mod summary;
-mod update;
 
 pub use fault::TickFault;
 pub use node::Node;
 pub use round_core::laws;
 pub use round_steps::Step;
 pub use summary::{ConditionStatus, Summary};
+pub use tick_parts::{Gate, NoGate};

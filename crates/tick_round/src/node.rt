@@ -1,15 +1,16 @@
 //! A node, tick by tick.
 
-ghost use Rattle.std.specs.Prelude.{◌≡◌, ◌↔◌, ◌<◌, ◌≤◌, ◌++◌, ◌∷◌, [], List, length, map, None, IsTrue, IfOk, OnOk, OnErr};
-ghost use Rattle.std.specs.Prelude.{IfErr, IsErrOf};
+ghost use Rattle.std.specs.Prelude.{◌≡◌, ◌↔◌, ◌<◌, ◌≤◌, ◌++◌, ◌∷◌, []};
+ghost use Rattle.std.specs.Prelude.{List, length, map, None, IsTrue, IfOk, IfErr, OnOk, OnErr, IsErrOf};
 ghost use Rattle.manifest.specs.declared.pod.PodSpec.{PodSpec};
-ghost use Rattle.observations.specs.declared.tick.TickObs.{TickObs};
 ghost use Rattle.node_config.specs.declared.node.NodeConfig.{NodeConfig};
+ghost use Rattle.observations.specs.declared.tick.TickObs.{TickObs};
 ghost use Rattle.observations.specs.Limits.{most_pods};
 ghost use Rattle.event_book.specs.Totals.{nothing};
+ghost use Rattle.event_book.specs.Limits.{most_workers};
 ghost use Rattle.tick_round.specs.declared.fault.TickFault.TheVariants.{Halted};
 ghost use Rattle.tick_round.specs.Node.{IsAfter, MayTake, HasRoom};
-ghost use Rattle.tick_round.specs.Played.{most_workers, AreFinished};
+ghost use Rattle.tick_round.specs.Played.{AreFinished};
 ghost use Rattle.tick_round.specs.Summary.{IsSummary};
 
 use crate::fault::TickFault;
@@ -22,7 +23,10 @@ use observations::TickObs;
 use round_steps::Step;
 use std::alloc::{AllocError, Global};
 use std::marker::Model;
+use std::sync::Wait;
 use std::sync::ledger::Ledger;
+use std::thread::Threads;
+use tick_parts::Gate;
 
 /// A node with its pods. After a tick that was refused for want of memory it is halted: it takes no
 /// further tick and tells nothing. (Kubernetes, "Node-pressure Eviction".)
@@ -160,6 +164,40 @@ impl<U: Ledger, E: Ledger, O: Ledger> Node<U, E, O> {
     {
         match &self.running {
             Some(running) => Ok(running.summary()),
+            None => Err(TickFault::Halted),
+        }
+    }
+}
+
+impl<U: Ledger + Send, E: Ledger + Send, O: Ledger + Send> Node<U, E, O> {
+    /// Takes one tick, whose pods so many workers, 1 to 64, update in threads of their own: each pod takes what
+    /// the tick shows of it, then one pod at most is evicted. The gate is told of each update. The node is as
+    /// after `tick_alone`, whatever the threads do. An `Err` says that memory was refused, or that the node was
+    /// halted; it is halted then.
+    pub fn tick<R: Threads + Wait + Sync, G: Gate>(
+        &mut self,
+        rt: &R,
+        tick: TickObs,
+        workers: usize,
+        gate: &G,
+    ) -> Result<(), TickFault>
+        requires fits { MayTake self.old tick }
+        requires some { 0 < workers }
+        requires most { workers ≤ most_workers }
+        ensures taken { (config : NodeConfig) (pods : List PodSpec) (ticks : List TickObs)
+            → IsAfter config pods ticks self.old
+            → OnOk result (IsAfter config pods (ticks ++ tick ∷ []) self.new) }
+        ensures err { OnErr result (self.new ≡ None) }
+        ensures halted { IsErrOf result Halted ↔ (self.old ≡ None) }
+    {
+        match self.running.take() {
+            Some(running) => match running.after(rt, tick, workers, gate) {
+                Ok(next) => {
+                    self.running = Some(next);
+                    Ok(())
+                }
+                Err(_) => Err(TickFault::OutOfMemory),
+            },
             None => Err(TickFault::Halted),
         }
     }

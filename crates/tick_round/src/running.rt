@@ -1,23 +1,25 @@
 //! A node that is not halted.
 
-ghost use Rattle.std.specs.Prelude.{◌≡◌, ◌↔◌, ◌<◌, ◌≤◌, ◌++◌, ◌∷◌, [], List, length, map, IsTrue, IfSome, IfOk, OnOk, OnErr};
+ghost use Rattle.std.specs.Prelude.{◌≡◌, ◌↔◌, ◌<◌, ◌≤◌, ◌++◌, ◌∷◌, []};
+ghost use Rattle.std.specs.Prelude.{List, length, map, IsTrue, IfSome, IfOk, OnOk, OnErr};
 ghost use Rattle.manifest.specs.declared.pod.PodSpec.{PodSpec};
+ghost use Rattle.node_config.specs.declared.node.NodeConfig.{NodeConfig};
 ghost use Rattle.observations.specs.declared.tick.TickObs.{TickObs};
 ghost use Rattle.observations.specs.Limits.{most_pods};
-ghost use Rattle.node_config.specs.declared.node.NodeConfig.{NodeConfig};
 ghost use Rattle.pod_piece.specs.Piece.{updated};
 ghost use Rattle.event_book.specs.Totals.{nothing};
+ghost use Rattle.event_book.specs.Limits.{most_workers};
 ghost use Rattle.node_pods.specs.Pods.{AreHanded, AreAwaited};
+ghost use Rattle.tick_parts.specs.Update.{MayUpdate};
 ghost use Rattle.tick_round.specs.Node.{HasTaken, Fits};
-ghost use Rattle.tick_round.specs.Update.{MayUpdate};
-ghost use Rattle.tick_round.specs.Played.{most_workers, AreFinished};
+ghost use Rattle.tick_round.specs.Played.{AreFinished};
 ghost use Rattle.tick_round.specs.Round.{IsKept, HasBegun};
 ghost use Rattle.tick_round.specs.Summary.{IsSummary};
 
 use crate::begun::Begun;
 use crate::summary::{Summary, conditions_of};
-use crate::update::update_alone;
-use event_book::{Event, WholeBook};
+use event_book::WholeBook;
+use event_list::Event;
 use eviction::Eviction;
 use manifest::PodSpec;
 use node_config::NodeConfig;
@@ -29,7 +31,10 @@ use pod_piece::PodPiece;
 use round_steps::Step;
 use std::alloc::{AllocError, Global};
 use std::marker::Model;
+use std::sync::Wait;
 use std::sync::ledger::Ledger;
+use std::thread::Threads;
+use tick_parts::{Gate, update_alone, update_by_workers};
 
 /// A node that is not halted. Its type keeps that all in it is the state of the ticks that it took.
 #[derive(Drop)]
@@ -205,6 +210,31 @@ impl<U: Ledger, E: Ledger, O: Ledger> Running<U, E, O> {
             ticks: self.evictions.len(),
             totals: self.book.totals(),
         }
+    }
+}
+
+impl<U: Ledger + Send, E: Ledger + Send, O: Ledger + Send> Running<U, E, O> {
+    /// The node after one more tick, whose pods so many workers update. A refused growth of memory gives the
+    /// node up.
+    pub(crate) fn after<R: Threads + Wait + Sync, G: Gate>(
+        self,
+        rt: &R,
+        tick: TickObs,
+        workers: usize,
+        gate: &G,
+    ) -> Result<Running<U, E, O>, AllocError>
+        requires fits { Fits self tick }
+        requires some { 0 < workers }
+        requires most { workers ≤ most_workers }
+        ensures config { IfOk result (λ next. next.config ≡ self.config) }
+        ensures taken { (pods : List PodSpec) (ticks : List TickObs) → HasTaken pods ticks self
+            → IfOk result (HasTaken pods (ticks ++ tick ∷ [])) }
+    {
+        let alloc = self.alloc;
+        let (pieces, book, begun) = self.begin(tick)?;
+        let (pieces, book) = update_by_workers(rt, alloc, pieces, book, workers, gate)?;
+        let next = begun.end(pieces, book)?;
+        Ok(next)
     }
 }
 

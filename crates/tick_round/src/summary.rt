@@ -1,12 +1,13 @@
 //! What a node has come to.
 
 ghost use Rattle.std.specs.Prelude.{◌≡◌, List};
-ghost use Rattle.observations.specs.declared.tick.TickObs.{TickObs};
 ghost use Rattle.node_config.specs.declared.node.NodeConfig.{NodeConfig};
+ghost use Rattle.observations.specs.declared.tick.TickObs.{TickObs};
 ghost use Rattle.node_signals.specs.Node.{IsStateOf};
 ghost use Rattle.tick_round.specs.Summary.{IsConditionAfter, AreConditionsAfter};
 
-use event_book::{Event, Names, Totals};
+use event_book::Totals;
+use event_list::{Event, Names};
 use eviction::Eviction;
 use node_signals::{NodeCondition, NodeSignals};
 use pod_piece::PodPiece;

@@ -1,6 +1,6 @@
 use Rattle.std.proofs.Common.{◌∙◌, sym}
+use Rattle.tick_parts.proofs.Rounds.{all_pending, are_entered}
 use Rattle.tick_round.proofs.GoesOn.{updated_by}
-use Rattle.tick_round.proofs.Played.{all_pending, are_entered}
 use Rattle.tick_round.proofs.running.Running.after_played.Goals as goal
 
 pub update_played-requires-clause-pending : goal.update_played-requires-clause-pending
@@ -18,7 +18,8 @@ end-requires-clause-taken g c = (
     updated = updated_by c.args.self c.args.tick c.in_ok-pieces.pieces.items c.in_ok-played.played.pieces.items
         c.in_ok-pieces.book c.in_ok-played.played.book c.in_ok-pieces.ensures.handed c.in_ok-played.ensures.pieces
         c.in_ok-pieces.ensures.book
-        (are_entered c.in_ok-played.played.pieces.items c.in_ok-pieces.book c.in_ok-played.played.book c.in_ok-played.ensures.book);
+        (are_entered c.in_ok-played.played.pieces.items c.in_ok-pieces.book c.in_ok-played.played.book
+        c.in_ok-played.ensures.book);
   },
 )
 
@@ -29,7 +30,8 @@ returns-clause-taken g c = λ pods ticks taken. c.in_ok-next.ensures.taken c.arg
   updated = updated_by c.args.self c.args.tick c.in_ok-pieces.pieces.items c.in_ok-played.played.pieces.items
       c.in_ok-pieces.book c.in_ok-played.played.book c.in_ok-pieces.ensures.handed c.in_ok-played.ensures.pieces
       c.in_ok-pieces.ensures.book
-      (are_entered c.in_ok-played.played.pieces.items c.in_ok-pieces.book c.in_ok-played.played.book c.in_ok-played.ensures.book);
+      (are_entered c.in_ok-played.played.pieces.items c.in_ok-pieces.book c.in_ok-played.played.book
+      c.in_ok-played.ensures.book);
 }) taken
 
 pub returns-clause-finished : goal.returns-clause-finished

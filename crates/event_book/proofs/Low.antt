@@ -1,0 +1,92 @@
+-- An update of a pod makes few events, and has one entry.
+use Rattle.std.proofs.Common.{◌≡◌, ℕ, ◌+◌, ◌*◌, ◌≤◌, List, [], ◌∷◌, length, Option, Some, None, ap, inl, inr}
+use Rattle.std.proofs.Common.{◌∙◌, sym, length-append, arith}
+use Rattle.std.specs.Prelude.{MatchOption}
+use Rattle.std.proofs.lemmas.List.Sums.{length-filter, count_by-le-length}
+use Rattle.manifest.specs.declared.pod.PodSpec.{PodSpec}
+use Rattle.phase.specs.declared.phase.Phase.{Phase}
+use Rattle.containers.specs.declared.what.What.{What}
+use Rattle.containers.specs.declared.events.ContainerEvents.{ContainerEvents}
+use Rattle.pod_state.specs.declared.events.PodEvent.{PodEvent}
+use Rattle.pod_state.specs.Pods.{PodTick}
+use Rattle.pod_state.specs.Events.{places_in, events_at, events_from, AreNews, AreEventsOf}
+use Rattle.pod_state.proofs.PodEventLemmas.{one_list_of_pod_events}
+use Rattle.pod_piece.specs.Piece.{Piece, before_last, last_of, ticks, evicted_at, evicted_before}
+use Rattle.pod_piece.specs.Status.{AreLastEvents}
+use Rattle.event_book.specs.declared.totals.Entry.{Entry}
+use Rattle.event_book.specs.Totals.{is_order, entry_of, IsEntryOf}
+use Rattle.event_book.specs.Limits.{IsLow}
+
+few_at : (container : Option ℕ) (places : List (Option What)) → length (events_at container places) ≤ length places
+few_at container [] = omega arith
+few_at container (None ∷ places) = let rest = few_at container places in omega arith
+few_at container (Some what ∷ places) = let rest = few_at container places in omega arith
+
+few_from : (phase : Phase) (n : ℕ) (made : List ContainerEvents) → length (events_from phase n made) ≤ 8 * length made
+few_from phase n [] = omega arith
+few_from phase n (made ∷ rest) =
+    let first = few_at (Some n) (places_in phase made) in
+    let others = few_from phase (n + 1) rest in
+    let both = length-append (events_at (Some n) (places_in phase made)) (events_from phase (n + 1) rest) in
+    omega arith
+
+few_news : (pod : PodSpec) (greatest : ℕ) (evicted : Option ℕ) (before : List PodTick) (tick : PodTick)
+    (events : List PodEvent) → length pod.containers ≤ 16 → AreNews pod greatest evicted before tick events
+    → length events ≤ 129
+few_news pod greatest evicted before tick events few news =
+    let all = ap length news.in_order in
+    let both = length-append (events_from news.phase 0 news.made) (events_at None (news.change ∷ [])) in
+    let of_containers = few_from news.phase 0 news.made in
+    let of_pod = few_at None (news.change ∷ []) in
+    let as_many = news.are_made.as_many in
+    omega arith
+
+few_events : (pod : PodSpec) (greatest : ℕ) (evicted : Option ℕ) (before : List PodTick) (tick : PodTick)
+    (events : List PodEvent) → length pod.containers ≤ 16 → AreEventsOf pod greatest evicted before tick events
+    → length events ≤ 129
+few_events pod greatest evicted before tick events few (inl ended) = let none = ap length ended.1 in omega arith
+few_events pod greatest evicted before tick events few (inr lives) =
+    few_news pod greatest evicted before tick events few lives.1
+
+few_last : (p : Piece) (events : List PodEvent) (last : Option PodTick) → length p.pod.containers ≤ 16
+    → MatchOption last (events ≡ [])
+    (λ tick. AreEventsOf p.pod p.greatest (evicted_before (evicted_at p) (length (before_last (ticks p))))
+    (before_last (ticks p)) tick events)
+    → length events ≤ 129
+few_last p events None few none = let nothing = ap length none in omega arith
+few_last p events (Some tick) few are =
+    few_events p.pod p.greatest (evicted_before (evicted_at p) (length (before_last (ticks p))))
+    (before_last (ticks p)) tick events few are
+
+-- the entry of a pod's last update is low
+pub low : (p : Piece) (entry : Entry) → length p.pod.containers ≤ 16 → IsEntryOf p entry → IsLow entry
+low p entry few (events, are, is) =
+    let some = few_last p events (last_of (ticks p)) few are in
+    let orders = count_by-le-length is_order events in
+    let counted = length-filter is_order events in
+    let events_is = ap (λ (e : Entry). e.events) is in
+    let orders_is = ap (λ (e : Entry). e.orders) is in
+    record { events = omega arith; orders = omega arith }
+
+-- the events of its last update are determined
+pub one_last : (p : Piece) (events others : List PodEvent) → AreLastEvents p events → AreLastEvents p others
+    → events ≡ others
+one_last p events others is is' = by (last_of (ticks p)) is is'
+  where
+    by : (o : Option PodTick)
+        → MatchOption o (events ≡ []) (λ tick.
+        AreEventsOf p.pod p.greatest (evicted_before (evicted_at p) (length (before_last (ticks p))))
+        (before_last (ticks p)) tick events)
+        → MatchOption o (others ≡ []) (λ tick.
+        AreEventsOf p.pod p.greatest (evicted_before (evicted_at p) (length (before_last (ticks p))))
+        (before_last (ticks p)) tick others)
+        → events ≡ others
+    by None none none' = none ∙ sym none'
+    by (Some tick) some some' =
+        one_list_of_pod_events p.pod p.greatest (evicted_before (evicted_at p) (length (before_last (ticks p))))
+        (before_last (ticks p)) tick events others some some'
+
+-- and its entry
+pub one_entry : (p : Piece) (entry other : Entry) → IsEntryOf p entry → IsEntryOf p other → entry ≡ other
+one_entry p entry other (events, are, is) (others, were, was) =
+    is ∙ (ap entry_of (one_last p events others are were) ∙ sym was)

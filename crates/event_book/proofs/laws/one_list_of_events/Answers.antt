@@ -1,5 +1,0 @@
-use Rattle.event_book.proofs.Unique.{one_list_of_events}
-use Rattle.event_book.proofs.laws.one_list_of_events.Goals as goal
-
-pub returns : goal.returns
-returns c = one_list_of_events

@@ -1,5 +1,0 @@
-use Rattle.event_book.proofs.Exists.{some_list_of_events}
-use Rattle.event_book.proofs.laws.some_list_of_events.Goals as goal
-
-pub returns : goal.returns
-returns c = some_list_of_events

@@ -1,0 +1,23 @@
+-- How much an update of a pod adds to the totals at most, and what leaves room for a tick of all pods.
+use Rattle.std.specs.Prelude.{ℕ, ◌≤◌, ◌^◌}
+use Rattle.event_book.specs.declared.totals.Entry.{Entry}
+use Rattle.event_book.specs.declared.totals.Totals.{Totals}
+
+-- so many workers can share a book
+abbrev pub most_workers : ℕ
+most_workers = 64
+
+-- so many events come of one update: at most eight of each of sixteen containers, and one of the pod
+abbrev pub most_events : ℕ
+most_events = 129
+
+-- an update of a pod adds no more than this
+pub record IsLow (entry : Entry) : Type 0 where
+  pub events : entry.events ≤ most_events
+  pub orders : entry.orders ≤ most_events
+
+-- an update of each pod of a node leaves totals like these within their greatest
+pub record AreLow (totals : Totals) : Type 0 where
+  pub updates : totals.updates ≤ 2 ^ 62
+  pub events : totals.events ≤ 2 ^ 62
+  pub orders : totals.orders ≤ 2 ^ 62

@@ -1,0 +1,114 @@
+-- Ticks with their evictions have a list of events.
+use Rattle.std.proofs.Common.{◌≡◌, ◌∙◌, ℕ, ◌<◌, List, [], ◌∷◌, ◌++◌, length, Option, Some, refl, sym, subst}
+use Rattle.std.proofs.Common.{append_assoc, append-nil, arith}
+use Rattle.std.specs.Prelude.{All, slice_get}
+use Rattle.std.proofs.lemmas.List.Elements.{All-head, All-tail}
+use Rattle.std.proofs.lemmas.Option.{get_or_from_slice_get, same_Some, slice_get_within}
+use Rattle.histories.proofs.Found.{given_at, list_of}
+use Rattle.histories.proofs.Places.{length-more}
+use Rattle.manifest.specs.declared.pod.PodSpec.{PodSpec}
+use Rattle.node_config.specs.declared.node.NodeConfig.{NodeConfig}
+use Rattle.observations.specs.declared.pod.PodObs.{PodObs}
+use Rattle.observations.specs.declared.tick.TickObs.{TickObs}
+use Rattle.observations.specs.Observations.{shown_of}
+use Rattle.node_signals.proofs.Exists.{some_list_of_node_events}
+use Rattle.pod_state.specs.declared.events.PodEvent.{PodEvent}
+use Rattle.pod_state.specs.Pods.{pod_tick}
+use Rattle.pod_state.specs.Events.{AreEventsOf}
+use Rattle.pod_state.proofs.EventFoundLemmas.{some_list_of_events as some_of_pod}
+use Rattle.pod_piece.specs.Piece.{place_of}
+use Rattle.eviction.specs.declared.eviction.Eviction.{Eviction}
+use Rattle.eviction.specs.Replay.{pod_ticks, own_eviction}
+use Rattle.event_list.specs.declared.event.Event.{Event}
+use Rattle.event_list.specs.Events.{ArePodEvents, of_pods, of_node, of_eviction, AreTickEvents, AreEvents}
+use Rattle.event_list.specs.Laws.{ShowsKnownPods, HaveProbesInRange, HasProbesInRange, SomeListOfEvents}
+use Rattle.event_list.proofs.More.{no_events, events_more}
+
+-- what holds of all items holds of the one at a place
+all_at : {A : Type 0} (P : A → Type 0) (xs : List A) (n : ℕ) (x : A) → All P xs → slice_get xs n ≡ Some x → P x
+all_at P xs n x all here =
+    subst P (get_or_from_slice_get xs n x x here) (all n x (slice_get_within xs n x here))
+
+-- of a pod that a tick shows
+abbrev AreOfPod : NodeConfig → List PodSpec → List TickObs → TickObs → List (Option Eviction) → ℕ → List PodEvent
+    → Type 0
+AreOfPod config pods before tick es n events =
+    (pod : PodSpec) (shown : PodObs) → slice_get pods n ≡ Some pod → shown_of tick n ≡ Some shown
+    → AreEventsOf pod config.max_restart_delay (place_of (own_eviction n before es)) (pod_ticks before n)
+    (pod_tick shown) events
+
+of_pod : (config : NodeConfig) (pods : List PodSpec) (before : List TickObs) (tick : TickObs)
+    (es : List (Option Eviction))
+    → HaveProbesInRange pods → ShowsKnownPods pods tick → (n : ℕ) → n < length tick.pods
+    → (events : List PodEvent) × AreOfPod config pods before tick es n events
+of_pod config pods before tick es range known n lt =
+    let pod = given_at pods n (omega arith) in
+    let shown = given_at tick.pods n lt in
+    let evicted = place_of (own_eviction n before es) in
+    let h = pod_ticks before n in
+    let events = some_of_pod pod.0 config.max_restart_delay evicted h (pod_tick shown.0)
+    (all_at HasProbesInRange pods n pod.0 range pod.1) in
+    let Of : PodSpec → PodObs → Type 0 =
+    λ p s. AreEventsOf p config.max_restart_delay evicted h (pod_tick s) events.0 in (
+      events.0,
+      (λ p s here there.
+          subst (Of p) (same_Some shown.0 s (sym shown.1 ∙ there))
+          (subst (λ q. Of q shown.0) (same_Some pod.0 p (sym pod.1 ∙ here)) events.1)),
+    )
+
+some_pod_events : (config : NodeConfig) (pods : List PodSpec) (before : List TickObs) (tick : TickObs)
+    (es : List (Option Eviction))
+    → HaveProbesInRange pods → ShowsKnownPods pods tick
+    → (made : List (List PodEvent)) × ArePodEvents config pods before tick es made
+some_pod_events config pods before tick es range known =
+    let Of : ℕ → List PodEvent → Type 0 = AreOfPod config pods before tick es in
+    let made = list_of Of (length tick.pods) (of_pod config pods before tick es range known) in (
+      made.0,
+      record {
+        known = known;
+        as_many = made.1;
+        each = λ n pod shown events here there is.
+            let lt = slice_get_within tick.pods n shown there in
+            subst (Of n) (get_or_from_slice_get made.0 n events events is) (made.2 n events lt) pod shown here there;
+      },
+    )
+
+-- of a tick
+some_tick_events : (config : NodeConfig) (pods : List PodSpec) (before : List TickObs) (tick : TickObs)
+    (es : List (Option Eviction)) (e : Option Eviction)
+    → HaveProbesInRange pods → ShowsKnownPods pods tick
+    → (events : List Event) × AreTickEvents config pods before tick es e events
+some_tick_events config pods before tick es e range known =
+    let made = some_pod_events config pods before tick es range known in
+    let news =
+    some_list_of_node_events config.eviction config.eviction_pressure_transition_period before tick in (
+      of_pods tick.at 0 made.0 ++ (of_node tick.at news.0 ++ of_eviction tick.at e),
+      record { made = made.0; are_made = made.1; news = news.0; are_news = news.1; in_order = refl },
+    )
+
+-- of the ticks that follow
+events_from : (config : NodeConfig) (pods : List PodSpec) (later before : List TickObs)
+    (later_es es : List (Option Eviction)) (events : List Event)
+    → HaveProbesInRange pods → All (ShowsKnownPods pods) later
+    → length later_es ≡ length later → length es ≡ length before → AreEvents config pods before es events
+    → (all : List Event) × AreEvents config pods (before ++ later) (es ++ later_es) all
+events_from config pods [] before [] es events range known left many are =
+    let Of : List TickObs → List (Option Eviction) → Type 0 = λ h g. AreEvents config pods h g events in
+    (events, subst (Of (before ++ [])) (sym (append-nil es)) (subst (λ h. Of h es) (sym (append-nil before)) are))
+events_from config pods [] before (e ∷ later_es) es events range known left many are = absurd (omega arith)
+events_from config pods (tick ∷ later) before [] es events range known left many are = absurd (omega arith)
+events_from config pods (tick ∷ later) before (e ∷ later_es) es events range known left many are =
+    let part = some_tick_events config pods before tick es e range
+    (All-head (ShowsKnownPods pods) tick later known) in
+    let next = events_more config pods before es events part.0 tick e many are part.1 in
+    let Some_of : List TickObs → List (Option Eviction) → Type 0 =
+    λ h g. (all : List Event) × AreEvents config pods h g all in
+    subst (Some_of (before ++ tick ∷ later)) (append_assoc es (e ∷ []) later_es)
+    (subst (λ h. Some_of h ((es ++ e ∷ []) ++ later_es)) (append_assoc before (tick ∷ []) later)
+    (events_from config pods later (before ++ tick ∷ []) later_es (es ++ e ∷ []) (events ++ part.0) range
+    (All-tail (ShowsKnownPods pods) tick later known) (omega arith)
+    (omega (arith, length-more es e, length-more before tick)) next))
+
+pub some_list_of_events : SomeListOfEvents
+some_list_of_events config pods ticks es many known range =
+    events_from config pods ticks [] es [] [] range known many refl (no_events config pods)

@@ -1,0 +1,4 @@
+pub mod More
+pub mod Unique
+pub mod Exists
+pub mod Adds

@@ -1,0 +1,211 @@
+-- Events and totals after one more tick, and one more pod.
+use Rattle.std.proofs.Common.{◌≡◌, ◌∙◌, inl, inr, ℕ, ◌+◌, ◌<◌, ◌≤◌, List, [], ◌∷◌, ◌++◌, length, map, take, Option}
+use Rattle.std.proofs.Common.{Some, None, refl, ap, sym, subst, arith, append-nil}
+use Rattle.std.specs.List.{filter, flat_map, sum_by}
+use Rattle.std.proofs.lemmas.List.{take-append-le, take_all, length-append, length-map}
+use Rattle.std.proofs.lemmas.Grind.{flat_map-append}
+use Rattle.std.proofs.lemmas.List.Elements.{filter-append, filter_map-append}
+use Rattle.std.proofs.lemmas.List.Sums.{sum_by-cons, sum_by-append}
+use Rattle.histories.proofs.Places.{length-more}
+use Rattle.manifest.specs.declared.pod.PodSpec.{PodSpec}
+use Rattle.node_config.specs.declared.node.NodeConfig.{NodeConfig}
+use Rattle.observations.specs.declared.tick.TickObs.{TickObs}
+use Rattle.node_signals.specs.declared.event.NodeEvent.{NodeEvent}
+use Rattle.node_signals.proofs.PlaceLemmas.{within, place_split}
+use Rattle.pod_state.specs.declared.events.PodEvent.{PodEvent}
+use Rattle.eviction.specs.declared.eviction.Eviction.{Eviction}
+use Rattle.event_book.specs.declared.totals.Totals.{Totals}
+use Rattle.event_book.specs.declared.totals.Entry.{Entry}
+use Rattle.event_book.specs.Totals.{is_order, entry_of, sums_of, plus}
+use Rattle.event_list.specs.declared.event.Event.{Event}
+use Rattle.event_list.specs.declared.event.EventKind.TheVariants.{Pod}
+use Rattle.event_list.specs.Events.{event, of_pods, of_node, of_eviction, AreTickEvents, AreEvents}
+use Rattle.event_list.specs.Totals.{pod_events, totals_of}
+
+-- no ticks
+pub no_events : (config : NodeConfig) (pods : List PodSpec) → AreEvents config pods [] [] []
+no_events config pods = record {
+  parts = [];
+  as_many = refl;
+  each = λ t tick eviction part at is here. absurd (cc);
+  whole = refl;
+}
+
+flat_more : (parts : List (List Event)) (part : List Event)
+    → flat_map (λ (p : List Event). p) (parts ++ part ∷ []) ≡ flat_map (λ (p : List Event). p) parts ++ part
+flat_more parts part =
+    flat_map-append (λ (p : List Event). p) parts (part ∷ [])
+    ∙ ap (λ (xs : List Event). flat_map (λ (p : List Event). p) parts ++ xs) (append-nil part)
+
+whole : {A : Type 0} (xs : List A) (x : A) (t : ℕ) → t ≡ length xs → take t (xs ++ x ∷ []) ≡ xs
+whole xs x t e = take-append-le t xs (x ∷ []) (omega arith) ∙ take_all t xs (omega arith)
+
+-- one tick more
+pub events_more : (config : NodeConfig) (pods : List PodSpec) (ticks : List TickObs) (es : List (Option Eviction))
+    (evs part : List Event) (x : TickObs) (e : Option Eviction)
+    → length es ≡ length ticks → AreEvents config pods ticks es evs → AreTickEvents config pods ticks x es e part
+    → AreEvents config pods (ticks ++ x ∷ []) (es ++ e ∷ []) (evs ++ part)
+events_more config pods ticks es evs part x e many are now = record {
+  parts = are.parts ++ part ∷ [];
+  as_many =
+      let count : length are.parts ≡ length ticks = are.as_many in
+      omega (arith, length-more are.parts part, length-more ticks x);
+  each = λ t tick eviction p at is here. elim (place_split ticks x tick t at) [
+    | inl old ↦
+        let lt : t < length ticks = within ticks t tick old in
+        let count : length are.parts ≡ length ticks = are.as_many in
+        elim (place_split es e eviction t is) [
+          | inl older ↦ elim (place_split are.parts part p t here) [
+            | inl oldest ↦
+                let P : List TickObs → Type 0 = λ h. AreTickEvents config pods h tick (take t (es ++ e ∷ [])) eviction p in
+                let Q : List (Option Eviction) → Type 0 = λ g. AreTickEvents config pods (take t ticks) tick g eviction p in
+                subst P (sym (take-append-le t ticks (x ∷ []) (omega arith)))
+                (subst Q (sym (take-append-le t es (e ∷ []) (omega arith))) (are.each t tick eviction p old older oldest))
+            | inr w ↦ let same : t ≡ length are.parts = w.0 in absurd (omega arith)
+          ]
+          | inr w ↦ let same : t ≡ length es = w.0 in absurd (omega arith)
+        ]
+    | inr v ↦
+        let last : t ≡ length ticks = v.0 in
+        let count : length are.parts ≡ length ticks = are.as_many in
+        elim (place_split es e eviction t is) [
+          | inl older ↦ let lt : t < length es = within es t eviction older in absurd (omega arith)
+          | inr w ↦ elim (place_split are.parts part p t here) [
+            | inl oldest ↦ let lt : t < length are.parts = within are.parts t p oldest in absurd (omega arith)
+            | inr u ↦ this t tick eviction p last w.0 v.1 w.1 u.1
+          ]
+        ]
+  ];
+  whole = ap (λ (xs : List Event). xs ++ part) are.whole ∙ sym (flat_more are.parts part);
+}
+  where
+    this : (t : ℕ) (tick : TickObs) (eviction : Option Eviction) (p : List Event) → t ≡ length ticks
+        → t ≡ length es → x ≡ tick → e ≡ eviction → part ≡ p
+        → AreTickEvents config pods (take t (ticks ++ x ∷ [])) tick (take t (es ++ e ∷ [])) eviction p
+    this t tick eviction p last evicted same same' same'' =
+        let P : List TickObs → Type 0 = λ h. AreTickEvents config pods h tick (take t (es ++ e ∷ [])) eviction p in
+        let Q : List (Option Eviction) → Type 0 = λ g. AreTickEvents config pods ticks tick g eviction p in
+        let R : TickObs → Type 0 = λ y. AreTickEvents config pods ticks y es eviction p in
+        let S : Option Eviction → Type 0 = λ f. AreTickEvents config pods ticks x es f p in
+        let T : List Event → Type 0 = λ q. AreTickEvents config pods ticks x es e q in
+        subst P (sym (whole ticks x t last)) (subst Q (sym (whole es e t evicted))
+        (subst R same (subst S same' (subst T same'' now))))
+
+-- one pod more, that no tick shows yet
+pub events_arrived : (config : NodeConfig) (pods : List PodSpec) (pod : PodSpec) (ticks : List TickObs)
+    (es : List (Option Eviction)) (evs : List Event)
+    → AreEvents config pods ticks es evs → AreEvents config (pods ++ pod ∷ []) ticks es evs
+events_arrived config pods pod ticks es evs are = record {
+  parts = are.parts;
+  as_many = are.as_many;
+  each = λ t tick eviction part at is here.
+      let now = are.each t tick eviction part at is here in record {
+        made = now.made;
+        are_made = record {
+          known =
+              let few : length tick.pods ≤ length pods = now.are_made.known in
+              omega (arith, length-more pods pod);
+          as_many = now.are_made.as_many;
+          each = λ n p o events found seen made.
+              let few : length tick.pods ≤ length pods = now.are_made.known in
+              let lt : n < length tick.pods = within tick.pods n o seen in
+              elim (place_split pods pod p n found) [
+                | inl old ↦ now.are_made.each n p o events old seen made
+                | inr v ↦ let same : n ≡ length pods = v.0 in absurd (omega arith)
+              ];
+        };
+        news = now.news;
+        are_news = now.are_news;
+        in_order = now.in_order;
+      };
+  whole = are.whole;
+}
+
+pod_events-append : (xs ys : List Event) → pod_events (xs ++ ys) ≡ pod_events xs ++ pod_events ys
+pod_events-append xs ys = filter_map-append _ xs ys
+
+-- the events of one pod
+of_one : (at n : ℕ) (events : List PodEvent) → pod_events (map (λ (e : PodEvent). event at (Pod n e)) events) ≡ events
+of_one at n [] = refl
+of_one at n (e ∷ events) = ap (λ (es : List PodEvent). e ∷ es) (of_one at n events)
+
+-- of all pods
+of_all : (at n : ℕ) (made : List (List PodEvent))
+    → pod_events (of_pods at n made) ≡ flat_map (λ (events : List PodEvent). events) made
+of_all at n [] = refl
+of_all at n (events ∷ made) =
+    pod_events-append (map (λ (e : PodEvent). event at (Pod n e)) events) (of_pods at (n + 1) made)
+    ∙ (ap (λ (es : List PodEvent). es ++ pod_events (of_pods at (n + 1) made)) (of_one at n events)
+    ∙ ap (λ (es : List PodEvent). events ++ es) (of_all at (n + 1) made))
+
+-- those of the node are not of pods
+none_of_node : (at : ℕ) (news : List NodeEvent) → pod_events (of_node at news) ≡ []
+none_of_node at [] = refl
+none_of_node at (e ∷ news) = none_of_node at news
+
+none_of_eviction : (at : ℕ) (e : Option Eviction) → pod_events (of_eviction at e) ≡ []
+none_of_eviction at None = refl
+none_of_eviction at (Some e) = refl
+
+-- the events of pods in a tick
+pub pods_alone : (at : ℕ) (made : List (List PodEvent)) (news : List NodeEvent) (e : Option Eviction)
+    → pod_events (of_pods at 0 made ++ (of_node at news ++ of_eviction at e))
+    ≡ flat_map (λ (events : List PodEvent). events) made
+pods_alone at made news e =
+    let rest : pod_events (of_node at news ++ of_eviction at e) ≡ [] =
+    pod_events-append (of_node at news) (of_eviction at e)
+    ∙ (ap (λ (es : List PodEvent). es ++ pod_events (of_eviction at e)) (none_of_node at news) ∙ none_of_eviction at e) in
+    pod_events-append (of_pods at 0 made) (of_node at news ++ of_eviction at e)
+    ∙ (ap (λ (es : List PodEvent). pod_events (of_pods at 0 made) ++ es) rest
+    ∙ (append-nil (pod_events (of_pods at 0 made)) ∙ of_all at 0 made))
+
+counts : (made : List (List PodEvent)) (entries : List Entry) → entries ≡ map entry_of made
+    → (length (flat_map (λ (events : List PodEvent). events) made) ≡ sum_by (λ (e : Entry). e.events) entries)
+    × (length (filter is_order (flat_map (λ (events : List PodEvent). events) made)) ≡ sum_by (λ (e : Entry). e.orders) entries)
+counts [] [] is = (refl, refl)
+counts [] (entry ∷ entries) is = absurd (cc)
+counts (events ∷ made) [] is = absurd (cc)
+counts (events ∷ made) (entry ∷ entries) is =
+    let first : entry ≡ entry_of events = cc in
+    let others : entries ≡ map entry_of made = cc in
+    let rest = counts made entries others in
+    let flat = flat_map (λ (es : List PodEvent). es) made in (
+      length-append events flat ∙ (ap (λ (n : ℕ). length events + n) rest.0
+          ∙ (ap (λ (e : Entry). e.events + sum_by (λ (f : Entry). f.events) entries) (sym first) ∙ sym (sum_by-cons (λ (f : Entry). f.events) entry entries))),
+      ap length (filter-append is_order events flat) ∙ (length-append (filter is_order events) (filter is_order flat)
+          ∙ (ap (λ (n : ℕ). length (filter is_order events) + n) rest.1
+          ∙ (ap (λ (e : Entry). e.orders + sum_by (λ (f : Entry). f.orders) entries) (sym first) ∙ sym (sum_by-cons (λ (f : Entry). f.orders) entry entries)))),
+    )
+
+abbrev made_of : ℕ → ℕ → ℕ → Totals
+made_of updates events orders = record { updates = updates; events = events; orders = orders }
+
+same_totals : (a b c d e f : ℕ) → a ≡ d → b ≡ e → c ≡ f → made_of a b c ≡ made_of d e f
+same_totals a b c d e f ab be cf = cc
+
+-- the totals after one more tick, whose pods made these events
+pub totals_more : (ticks : List TickObs) (x : TickObs) (evs : List Event) (at : ℕ) (made : List (List PodEvent))
+    (news : List NodeEvent) (e : Option Eviction) (entries : List Entry)
+    → length made ≡ length x.pods → entries ≡ map entry_of made
+    → totals_of (ticks ++ x ∷ []) (evs ++ (of_pods at 0 made ++ (of_node at news ++ of_eviction at e)))
+    ≡ plus (totals_of ticks evs) (sums_of entries)
+totals_more ticks x evs at made news e entries many are =
+    let f : TickObs → ℕ = λ (tick : TickObs). length tick.pods in
+    let part = of_pods at 0 made ++ (of_node at news ++ of_eviction at e) in
+    let flat = flat_map (λ (es : List PodEvent). es) made in
+    let split : pod_events (evs ++ part) ≡ pod_events evs ++ flat =
+    pod_events-append evs part ∙ ap (λ (es : List PodEvent). pod_events evs ++ es) (pods_alone at made news e) in
+    let count = counts made entries are in
+    let one : sum_by f (x ∷ []) ≡ f x + 0 = sum_by-cons f x [] in
+    let as_many : length entries ≡ length made = ap length are ∙ length-map made entry_of in
+    let sums : sum_by f (ticks ++ x ∷ []) ≡ sum_by f ticks + sum_by f (x ∷ []) = sum_by-append f ticks (x ∷ []) in
+    same_totals (sum_by f (ticks ++ x ∷ [])) (length (pod_events (evs ++ part)))
+    (length (filter is_order (pod_events (evs ++ part))))
+    (sum_by f ticks + length entries) (length (pod_events evs) + sum_by (λ (n : Entry). n.events) entries)
+    (length (filter is_order (pod_events evs)) + sum_by (λ (n : Entry). n.orders) entries)
+    (omega (arith, sums, one, as_many, many))
+    (ap length split ∙ (length-append (pod_events evs) flat ∙ ap (λ (n : ℕ). length (pod_events evs) + n) count.0))
+    (ap (λ (es : List PodEvent). length (filter is_order es)) split
+    ∙ (ap length (filter-append is_order (pod_events evs) flat)
+    ∙ (length-append (filter is_order (pod_events evs)) (filter is_order flat)
+    ∙ ap (λ (n : ℕ). length (filter is_order (pod_events evs)) + n) count.1)))

@@ -1,0 +1,64 @@
+-- There is one list of events.
+use Rattle.std.proofs.Common.{◌≡◌, ◌∙◌, ◌<◌, ◌≤◌, List, [], ◌++◌, length, take, Option, refl}
+use Rattle.std.proofs.Common.{ap, sym, arith}
+use Rattle.std.specs.List.{flat_map}
+use Rattle.manifest.specs.declared.pod.PodSpec.{PodSpec}
+use Rattle.node_config.specs.declared.node.NodeConfig.{NodeConfig}
+use Rattle.observations.specs.declared.tick.TickObs.{TickObs}
+use Rattle.node_signals.specs.declared.event.NodeEvent.{NodeEvent}
+use Rattle.node_signals.proofs.LawLemmas.{one_list_of_node_events}
+use Rattle.node_signals.proofs.PlaceLemmas.{within}
+use Rattle.pod_state.specs.declared.events.PodEvent.{PodEvent}
+use Rattle.pod_state.specs.Pods.{pod_tick}
+use Rattle.pod_state.proofs.PodEventLemmas.{one_list_of_pod_events}
+use Rattle.pod_piece.specs.Piece.{place_of}
+use Rattle.eviction.specs.declared.eviction.Eviction.{Eviction}
+use Rattle.eviction.specs.Replay.{pod_ticks, own_eviction}
+use Rattle.eviction.proofs.Unique.{at_place}
+use Rattle.event_book.proofs.Places.{same_places}
+use Rattle.event_list.specs.declared.event.Event.{Event}
+use Rattle.event_list.specs.Events.{ArePodEvents, of_pods, of_node, of_eviction, AreTickEvents}
+use Rattle.event_list.specs.Laws.{OneListOfEvents}
+
+-- of the pods
+pods_one : (config : NodeConfig) (pods : List PodSpec) (before : List TickObs) (tick : TickObs)
+    (es : List (Option Eviction)) (made others : List (List PodEvent))
+    → ArePodEvents config pods before tick es made → ArePodEvents config pods before tick es others → made ≡ others
+pods_one config pods before tick es made others are were =
+    same_places made others (are.as_many ∙ sym were.as_many) (λ n x y here there.
+    let lt : n < length made = within made n x here in
+    let many : length made ≡ length tick.pods = are.as_many in
+    let few : length tick.pods ≤ length pods = are.known in
+    let pod = at_place pods n (omega arith) in
+    let shown = at_place tick.pods n (omega arith) in
+    one_list_of_pod_events pod.0 config.max_restart_delay (place_of (own_eviction n before es)) (pod_ticks before n)
+    (pod_tick shown.0) x y (are.each n pod.0 shown.0 x pod.1 shown.1 here) (were.each n pod.0 shown.0 y pod.1 shown.1 there))
+
+-- of a tick
+tick_one : (config : NodeConfig) (pods : List PodSpec) (before : List TickObs) (tick : TickObs)
+    (es : List (Option Eviction)) (e : Option Eviction) (events others : List Event)
+    → AreTickEvents config pods before tick es e events → AreTickEvents config pods before tick es e others
+    → events ≡ others
+tick_one config pods before tick es e events others are were =
+    let made : are.made ≡ were.made =
+    pods_one config pods before tick es are.made were.made are.are_made were.are_made in
+    let news : are.news ≡ were.news =
+    one_list_of_node_events config.eviction config.eviction_pressure_transition_period before tick
+    are.news were.news are.are_news were.are_news in
+    are.in_order
+    ∙ (ap (λ (m : List (List PodEvent)). of_pods tick.at 0 m ++ (of_node tick.at are.news ++ of_eviction tick.at e)) made
+    ∙ (ap (λ (n : List NodeEvent). of_pods tick.at 0 were.made ++ (of_node tick.at n ++ of_eviction tick.at e)) news
+    ∙ sym were.in_order))
+
+-- of all ticks
+pub one_list_of_events : OneListOfEvents
+one_list_of_events config pods ticks es events others many are were =
+    let parts : are.parts ≡ were.parts =
+    same_places are.parts were.parts (are.as_many ∙ sym were.as_many) (λ t x y here there.
+    let lt : t < length are.parts = within are.parts t x here in
+    let count : length are.parts ≡ length ticks = are.as_many in
+    let tick = at_place ticks t (omega arith) in
+    let eviction = at_place es t (omega arith) in
+    tick_one config pods (take t ticks) tick.0 (take t es) eviction.0 x y
+    (are.each t tick.0 eviction.0 x tick.1 eviction.1 here) (were.each t tick.0 eviction.0 y tick.1 eviction.1 there)) in
+    are.whole ∙ (ap (λ (ps : List (List Event)). flat_map (λ (p : List Event). p) ps) parts ∙ sym were.whole)

@@ -1,0 +1,44 @@
+//! The names of a node's pods.
+
+ghost use Rattle.std.specs.Prelude.{◌≡◌, IfOk, IfSome, IfNone, None, Some, string_bytes};
+ghost use Rattle.event_list.specs.Names.{pod_in};
+ghost use Rattle.event_list.specs.Text.{key_of};
+
+use manifest::PodSpec;
+use pod_piece::PodPiece;
+use std::alloc::{AllocError, Global};
+
+/// The names of a node's pods and of their containers, by their numbers.
+#[derive(Clone, Copy)]
+pub struct Names<'n> {
+    pods: &'n [PodPiece],
+}
+
+impl<'n> Names<'n> {
+    /// The names of these pods.
+    pub fn of(pods: &'n [PodPiece]) -> Names<'n>
+        ensures { result.pods.now ≡ pods.now }
+    {
+        Names { pods }
+    }
+
+    /// The pod with the number.
+    pub(crate) fn pod(self, number: usize) -> Option<&'n PodSpec>
+        ensures some { IfSome result (λ pod. pod_in self.entry.pods.now number ≡ Some pod.now) }
+        ensures none { IfNone result (pod_in self.entry.pods.now number ≡ None) }
+    {
+        let piece = self.pods.get(number)?;
+        Some(piece.pod())
+    }
+    /// The key of the pod with the number, `NAMESPACE/NAME`; of a number without a pod it is empty.
+    pub fn key(self, alloc: Global, number: usize) -> Result<String, AllocError>
+        ensures { IfOk result (λ s. string_bytes s ≡ key_of (pod_in self.entry.pods.now number)) }
+    {
+        let Some(pod) = self.pod(number) else {
+            return Ok(String::new(alloc));
+        };
+        let namespace = pod.namespace.as_str();
+        let name = pod.name.as_str();
+        format!(in alloc; "{namespace}/{name}")
+    }
+}

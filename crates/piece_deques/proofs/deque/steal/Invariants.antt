@@ -1,0 +1,9 @@
+use Rattle.std.proofs.Common.{◌≡◌}
+use Rattle.crossbeam_deque.specs.Handles.{view, IsPassOf, stealer_deque}
+use Rattle.piece_deques.proofs.deque.steal.Given as goal
+
+abbrev pub invariant-loop : goal.invariant-loop
+invariant-loop g l = record {
+  fits : IsPassOf (stealer_deque l.thief) l.seat;
+  same : view l.seat ≡ view l.initial.seat;
+}

@@ -1,0 +1,112 @@
+//! What an owner and its thieves do with a deque.
+
+ghost use Rattle.std.specs.Prelude.{◌≡◌, ◌<◌, ◌≤◌, ◌+◌, ◌-◌, ◌^◌, [], ◌∷◌, ◌++◌, IfOk, IfSome, IfNone};
+ghost use Rattle.crossbeam_deque.specs.Handles.{view, IsPassOf, SameWorker, stealer_deque, worker_capacity};
+ghost use Rattle.crossbeam_deque.specs.Handles.{worker_deque, worker_index, worker_view};
+ghost use Rattle.piece_deques.specs.Rule.{all_parts, tally, IsDue, Took, IsEmptied, IsBounded};
+ghost use Rattle.piece_deques.specs.Ends.{IsOwner};
+
+use crate::rule::{Cut, Deal, Dealing, Few, Popped, Pushed, Stolen, Tally};
+use crossbeam_deque::{Pass, Steal, Stealer, Worker};
+use pod_piece::PodPiece;
+use std::alloc::{AllocError, Global};
+use std::sync::Wait;
+
+/// The owner's end of a deque.
+pub type Owner<D> = Worker<PodPiece, Global, Tally, Dealing<D>>;
+
+/// The end of a deque from which a thief takes pieces, with a seat of the deque.
+pub type Thief<D> = Stealer<PodPiece, Global, Tally, Dealing<D>>;
+
+/// The right to take pieces from a deque, which keeps count of those that it has taken. It takes no room at run time.
+pub type Seat = Pass<PodPiece, Tally>;
+
+/// The number of a piece.
+pub fn number_of(piece: &PodPiece) -> usize
+    ensures { result ≡ piece.now.number }
+{
+    piece.status().number
+}
+
+/// An empty deque, first in first out, with room for so many pieces.
+pub fn open<D: Deal>(alloc: Global, room: usize) -> Result<Owner<D>, AllocError>
+    ensures owner { IfOk result IsOwner }
+    ensures room { IfOk result (λ owner. room ≤ worker_capacity owner) }
+    ensures empty { IfOk result (λ owner. worker_index owner ≡ 0) }
+    ensures view { IfOk result (λ owner. worker_view owner ≡ tally all_parts [] []) }
+{
+    Owner::fifo_as(alloc, room)
+}
+
+/// Pushes a piece to a deque that has room for it and has no seats.
+pub fn push<D: Deal>(owner: &mut Owner<D>, piece: PodPiece)
+    requires due { IsDue D.all piece }
+    requires alone { (worker_view owner.old).parts ≡ all_parts }
+    requires room { worker_index owner.old < worker_capacity owner.old }
+    requires few { worker_index owner.old < 2 ^ 62 }
+    ensures same { SameWorker owner.old owner.new }
+    ensures index { worker_index owner.new ≡ worker_index owner.old + 1 }
+    ensures pushed { worker_view owner.new ≡ tally (worker_view owner.old).parts
+        ((worker_view owner.old).pushed ++ piece.number ∷ []) (worker_view owner.old).taken }
+{
+    match owner.push_as::<Pushed>(piece) {
+        Ok(()) => {}
+        Err(_) => unreachable!(),
+    }
+}
+
+/// A seat of the deque.
+pub fn new_seat<D: Deal>(owner: &mut Owner<D>) -> Seat
+    requires { 1 < (worker_view owner.old).parts }
+    ensures same { SameWorker owner.old owner.new }
+    ensures fits { IsPassOf (worker_deque owner.old) result }
+    ensures owner { worker_view owner.new ≡ tally ((worker_view owner.old).parts - 1)
+        (worker_view owner.old).pushed (worker_view owner.old).taken }
+    ensures seat { view result ≡ tally 1 (worker_view owner.old).pushed [] }
+{
+    owner.another::<Cut>()
+}
+
+/// Takes a seat of the deque back.
+pub fn return_seat<D: Deal>(owner: &mut Owner<D>, seat: Seat)
+    requires fits { IsPassOf (worker_deque owner.old) seat }
+    requires some { 0 < (worker_view owner.old).parts }
+    ensures same { SameWorker owner.old owner.new }
+    ensures bounded { IsBounded (worker_view owner.new) }
+    ensures owner { worker_view owner.new ≡ tally ((worker_view owner.old).parts + (view seat).parts)
+        (worker_view owner.old).pushed ((worker_view owner.old).taken ++ (view seat).taken) }
+{
+    owner.absorb::<Cut>(seat);
+    owner.len_as::<Few>();
+}
+
+/// The first piece of the deque, for its owner.
+pub fn pop<D: Deal>(owner: &mut Owner<D>) -> Option<PodPiece>
+    requires { IsOwner owner.old }
+    ensures same { SameWorker owner.old owner.new }
+    ensures none { IfNone result (worker_view owner.new ≡ worker_view owner.old) }
+    ensures emptied { IfNone result (IsEmptied (worker_view owner.old)) }
+    ensures due { IfSome result (IsDue D.all) }
+    ensures took { IfSome result (λ piece. Took D.all (worker_view owner.old) (piece ∷ []) (worker_view owner.new)) }
+{
+    owner.pop_as::<Popped<D>>()
+}
+
+/// The first piece of the deque, for a thief.
+pub fn steal<D: Deal, R: Wait>(rt: &R, thief: &Thief<D>, seat: &mut Seat) -> Option<PodPiece>
+    requires fits { IsPassOf (stealer_deque thief.now) seat.old }
+    requires some { 0 < (view seat.old).parts }
+    ensures same { IsPassOf (stealer_deque thief.now) seat.new }
+    ensures none { IfNone result (view seat.new ≡ view seat.old) }
+    ensures due { IfSome result (IsDue D.all) }
+    ensures took { IfSome result (λ piece. Took D.all (view seat.old) (piece ∷ []) (view seat.new)) }
+{
+    for _ in rt.forever() {
+        match thief.steal_as::<Stolen<D>>(seat) {
+            Steal::Success(piece) => return Some(piece),
+            Steal::Empty => return None,
+            Steal::Retry => {}
+        }
+    }
+    unreachable!()
+}

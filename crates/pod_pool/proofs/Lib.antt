@@ -1,0 +1,5 @@
+pub mod Order
+pub mod Rests
+pub mod Entries
+pub mod Due
+pub mod Returned

@@ -1,0 +1,4 @@
+pub mod Order
+pub mod Rests
+pub mod Rooms
+pub mod Faults

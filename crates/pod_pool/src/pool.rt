@@ -1,0 +1,118 @@
+//! The pool.
+
+ghost use Rattle.std.specs.Prelude.{◌≡◌, ◌<◌, ◌≤◌, List, All, IfOk, IfErr, IsTrue, length, map};
+ghost use Rattle.observations.specs.Limits.{most_pods};
+ghost use Rattle.pod_piece.specs.Piece.{updated};
+ghost use Rattle.event_book.specs.declared.totals.Entry.{Entry};
+ghost use Rattle.event_book.specs.Totals.{AreEntriesOf, plus, sums_of};
+ghost use Rattle.event_book.specs.Shares.{most_parts, part};
+ghost use Rattle.event_book.specs.Limits.{most_workers, AreLow};
+ghost use Rattle.pod_pool.specs.Order.{AreNumbered};
+ghost use Rattle.pod_pool.specs.Faults.{GivesBack};
+
+use crate::fault::PoolFault;
+use crate::gathered::{Room, gather};
+use crate::run::run;
+use event_book::{EventBook, Shares};
+use piece_deques::Deal;
+use pod_piece::PodPiece;
+use pool_worker::{Gate, lay_out, make_plan};
+use std::alloc::Global;
+use std::marker::Brand;
+use std::sync::ledger::Ledger;
+use std::sync::{Mutex, Wait};
+use std::thread::Threads;
+
+/// So many workers have something to do: no more than pieces, and one at least.
+fn busy(workers: usize, pieces: usize) -> usize
+    requires { 0 < workers }
+    ensures some { 0 < result }
+    ensures most { result ≤ workers }
+{
+    if workers <= pieces {
+        workers
+    } else {
+        pieces.max(1)
+    }
+}
+
+fn pool<
+    D: Deal + Send,
+    U: Ledger + Send,
+    E: Ledger + Send,
+    O: Ledger + Send,
+    R: Threads + Wait + Sync,
+    G: Gate,
+>(
+    rt: &R,
+    alloc: Global,
+    pieces: Vec<PodPiece>,
+    book: &Mutex<EventBook<U, E, O>>,
+    share: Shares<U, E, O>,
+    workers: usize,
+    gate: &G,
+) -> Result<(Vec<PodPiece>, Shares<U, E, O>), PoolFault<U, E, O>>
+    requires all { D.all ≡ pieces.items }
+    requires pending { All (λ piece. IsTrue piece.is_pending) pieces.items }
+    requires numbered { AreNumbered pieces.items }
+    requires few { length pieces.items ≤ most_pods }
+    requires some { 0 < workers }
+    requires most { workers ≤ most_workers }
+    requires whole { share.parts ≡ most_parts }
+    requires level { (U.parts ≡ most_parts) × (E.parts ≡ most_parts) × (O.parts ≡ most_parts) }
+    requires low { AreLow share.numbers }
+    ensures pieces { IfOk result (λ r. r.0.items ≡ map updated pieces.items) }
+    ensures share { IfOk result (λ r. (entries : List Entry) × AreEntriesOf r.0.items entries
+        × (r.1 ≡ part most_parts (plus share.numbers (sums_of entries)))) }
+    ensures fault { IfErr result (GivesBack pieces share) }
+{
+    let Ok(plan) = make_plan::<D, U, E, O>(alloc, pieces.len(), workers) else {
+        return Err(PoolFault::NoRoom(pieces, share));
+    };
+    let Ok(room) = Room::<D, U, E, O>::new(alloc, workers) else {
+        return Err(PoolFault::NoRoom(pieces, share));
+    };
+    let mut share = share;
+    let mut bundles = lay_out(plan, pieces, &mut share);
+    run(rt, book, gate, bundles.as_mut_slice());
+    match gather(rt, book, gate, room, bundles, share) {
+        Ok(answer) => Ok(answer),
+        Err(piece) => Err(PoolFault::Update(piece)),
+    }
+}
+
+/// Updates each pending piece of a round once, and enters it in the book with the whole share of the book: so many
+/// workers, 1 to 64, do it in threads of their own, no more than there are pieces, and take what is left in the deques
+/// of others once their own are empty. It gives the pieces in the order of their numbers, whatever the threads do, and
+/// the share. An `Err` says that memory was refused.
+pub fn update_all<
+    U: Ledger + Send,
+    E: Ledger + Send,
+    O: Ledger + Send,
+    R: Threads + Wait + Sync,
+    G: Gate,
+>(
+    rt: &R,
+    alloc: Global,
+    pieces: Vec<PodPiece>,
+    book: &Mutex<EventBook<U, E, O>>,
+    share: Shares<U, E, O>,
+    workers: usize,
+    gate: &G,
+) -> Result<(Vec<PodPiece>, Shares<U, E, O>), PoolFault<U, E, O>>
+    requires pending { All (λ piece. IsTrue piece.is_pending) pieces.items }
+    requires numbered { AreNumbered pieces.items }
+    requires few { length pieces.items ≤ most_pods }
+    requires some { 0 < workers }
+    requires most { workers ≤ most_workers }
+    requires whole { share.parts ≡ most_parts }
+    requires level { (U.parts ≡ most_parts) × (E.parts ≡ most_parts) × (O.parts ≡ most_parts) }
+    requires low { AreLow share.numbers }
+    ensures pieces { IfOk result (λ r. r.0.items ≡ map updated pieces.items) }
+    ensures share { IfOk result (λ r. (entries : List Entry) × AreEntriesOf r.0.items entries
+        × (r.1 ≡ part most_parts (plus share.numbers (sums_of entries)))) }
+    ensures fault { IfErr result (GivesBack pieces share) }
+{
+    let workers = busy(workers, pieces.len());
+    pool::<Brand, U, E, O, R, G>(rt, alloc, pieces, book, share, workers, gate)
+}

@@ -1,0 +1,34 @@
+//! The workers' threads.
+
+ghost use Rattle.std.specs.Prelude.{◌≡◌, ◌<◌, length, map};
+ghost use Rattle.pool_worker.specs.Bundles.{bundle_tag};
+
+use event_book::EventBook;
+use piece_deques::Deal;
+use pool_worker::{Bundle, Gate};
+use std::sync::ledger::Ledger;
+use std::sync::{Mutex, Wait};
+use std::thread;
+use std::thread::Threads;
+
+/// Runs a worker for each bundle, in as many threads, which come from halving the range of workers. Where the system
+/// starts fewer threads, those that run do the rest.
+pub(crate) fn run<
+    D: Deal + Send,
+    U: Ledger + Send,
+    E: Ledger + Send,
+    O: Ledger + Send,
+    R: Threads + Wait + Sync,
+    G: Gate,
+>(rt: &R, book: &Mutex<EventBook<U, E, O>>, gate: &G, bundles: &mut [Bundle<D, U, E, O>])
+    requires { 0 < length bundles.old }
+    ensures { map bundle_tag bundles.new ≡ map bundle_tag bundles.old }
+{
+    let workers = bundles.len();
+    thread::for_each_mut(
+        rt,
+        bundles,
+        workers,
+        &|_, bundle| bundle.work(rt, book, gate),
+    );
+}

@@ -1,0 +1,5 @@
+pub mod Sums
+pub mod Numbers
+pub mod Room
+pub mod Laid
+pub mod Places

@@ -1,0 +1,61 @@
+-- Owners and the places of their deques.
+use Rattle.std.proofs.Common.{◌≡◌, ℕ, ◌+◌, ◌<◌, List, [], ◌∷◌, ◌++◌, map, length, get_or, take, drop, reverse}
+use Rattle.std.proofs.Common.{sym, refl, ap, ◌∙◌, arith}
+use Rattle.std.specs.List.{sum_by}
+use Rattle.std.specs.Global.{Global}
+use Rattle.std.proofs.lemmas.List.{reverse-append}
+use Rattle.std.proofs.lemmas.List.Sums.{sum_by-cons}
+use Rattle.crossbeam_deque.specs.Handles.{worker_deque, worker_view}
+use Rattle.crossbeam_deque.specs.declared.handles.Worker.{Worker}
+use Rattle.piece_deques.specs.declared.rule.Tally.{Tally}
+use Rattle.piece_deques.specs.Ends.{pushed_weight}
+use Rattle.piece_deques.proofs.Lists.{drop_map_more, map_push, map_same, ones, snoc_same, sum_map, sum_same}
+use Rattle.piece_deques.proofs.Lists.{take_map_more}
+use Rattle.pool_worker.specs.declared.reach.Reach.{Reach}
+use Rattle.pool_worker.specs.Seats.{Place, owner_place, seat_place, places_len, pushed_to}
+
+module _ {T P : Type 0} where
+  pub same_deques : (xs ys : List (Worker T Global Tally P)) → map owner_place xs ≡ map owner_place ys
+      → map worker_deque xs ≡ map worker_deque ys
+  same_deques xs ys e = map_same owner_place (λ (p : Place). p.deque) xs ys e
+
+  pub same_pushed : (xs ys : List (Worker T Global Tally P)) → map owner_place xs ≡ map owner_place ys
+      → (weight : ℕ → ℕ) → sum_by (pushed_weight weight) xs ≡ sum_by (pushed_weight weight) ys
+  same_pushed xs ys e weight = sum_same owner_place (λ (p : Place). sum_by weight p.pushed) xs ys e
+
+  pub owners_pushed : (xs : List (Worker T Global Tally P))
+      → places_len (map owner_place xs) ≡ sum_by (pushed_weight (λ _. 1)) xs
+  owners_pushed [] = refl
+  owners_pushed (x ∷ xs) =
+      let rest = owners_pushed xs in
+      let o = ones (worker_view x).pushed in
+      omega (
+        arith,
+        sum_by-cons (λ (p : Place). length p.pushed) (owner_place x) (map owner_place xs),
+        sum_by-cons (pushed_weight (λ _. 1)) x xs,
+      )
+
+pub row_pushed : {D : Type 0} (row : List (Reach D)) (places : List Place) → map seat_place row ≡ places
+    → pushed_to row ≡ places_len places
+row_pushed row places e = sym (sum_map seat_place (λ (p : Place). length p.pushed) row) ∙ ap places_len e
+
+module _ {X Y Z : Type 0} (f : X → Z) (g : Y → Z) (ys : List Y) (y : Y) (n at : ℕ) (next : n ≡ at + 1)
+    (in' : at < length ys) (was : y ≡ get_or ys at y) where
+  -- the last thief is one of the deque at the last place
+  pub paired : (xs rest : List X) (x : X) → xs ≡ rest ++ x ∷ [] → map f xs ≡ take n (map g ys)
+      → (map f rest ≡ take at (map g ys)) × (f x ≡ g y)
+  paired xs rest x row same =
+      snoc_same (map f rest) (take at (map g ys)) (f x) (g y)
+      (sym (map_push f rest x)
+      ∙ (ap (map f) (sym row)
+      ∙ (same ∙ (ap (λ k. take k (map g ys)) next ∙ take_map_more g ys at y in' was))))
+
+  -- a seat more at the front of the places
+  pub seated : (xs new : List X) (x : X) → new ≡ xs ++ x ∷ [] → reverse (map f xs) ≡ drop n (map g ys) → f x ≡ g y
+      → reverse (map f new) ≡ drop at (map g ys)
+  seated xs new x put same fits =
+      ap (λ l. reverse (map f l)) put
+      ∙ (ap reverse (map_push f xs x)
+      ∙ (reverse-append (map f xs) (f x ∷ [])
+      ∙ (ap (λ l. f x ∷ l) (same ∙ ap (λ k. drop k (map g ys)) next)
+      ∙ (ap (λ z. z ∷ drop (at + 1) (map g ys)) fits ∙ sym (drop_map_more g ys at y in' was)))))

@@ -1,0 +1,62 @@
+use Rattle.std.proofs.Common.{arith, vec_capacity, ◌∷◌, [], length, ap, ◌∙◌, length-append}
+use Rattle.std.specs.List.{sum_by}
+use Rattle.std.proofs.lemmas.List.Sums.{sum_by_push}
+use Rattle.crossbeam_deque.specs.Handles.{worker_view}
+use Rattle.pool_worker.proofs.Room.{no_more, room}
+use Rattle.pool_worker.proofs.bundle.Bundle.pop.Goals as goal
+
+pub finish-requires-clause-room : goal.finish-requires-clause-room
+finish-requires-clause-room g c κs within =
+    let b = c.args.self.now in
+    let old = worker_view b.owner in
+    let took = c.in-Some.ensures.took in
+    let grown = ap (λ v. length v.taken) took.grown in
+    let same = ap (λ v. length v.pushed) took.grown in
+    let few = took.few in
+    let n = length-append old.taken (c.in-Some.piece.number ∷ []) in
+    let most = no_more b.reaches.items in
+    let r = room old.taken old.pushed b.reaches.items b.harvest.done.items b.harvest.late.items b.harvest.refused
+    (vec_capacity b.harvest.done) (b.matched (λ _. 1)) (omega arith) (let all = b.room in omega arith) in
+    omega (arith, b.harvest.done.ok.0, r.0)
+
+pub finish-requires-clause-room_late : goal.finish-requires-clause-room_late
+finish-requires-clause-room_late g c κs within =
+    let b = c.args.self.now in
+    let old = worker_view b.owner in
+    let took = c.in-Some.ensures.took in
+    let grown = ap (λ v. length v.taken) took.grown in
+    let same = ap (λ v. length v.pushed) took.grown in
+    let few = took.few in
+    let n = length-append old.taken (c.in-Some.piece.number ∷ []) in
+    let most = no_more b.reaches.items in
+    let r = room old.taken old.pushed b.reaches.items b.harvest.done.items b.harvest.late.items b.harvest.refused
+    (vec_capacity b.harvest.done) (b.matched (λ _. 1)) (omega arith) (let all = b.room in omega arith) in
+    omega (arith, b.harvest.late.ok.0, b.room_late, r.1)
+
+pub invariant_of-self-2-clause-owns : goal.invariant_of-self-2-clause-owns
+invariant_of-self-2-clause-owns g c =
+    let b = c.args.self.now in
+    let parts = ap (λ v. v.parts) c.in-Some.ensures.took.grown in
+    let had = b.owns.some in
+    record { in_order = c.pop.ensures.same.1 ∙ b.owns.in_order; some = omega arith }
+
+pub invariant_of-self-2-clause-few : goal.invariant_of-self-2-clause-few
+invariant_of-self-2-clause-few g c = c.in-Some.ensures.took.few
+
+pub invariant_of-self-2-clause-matched : goal.invariant_of-self-2-clause-matched
+invariant_of-self-2-clause-matched g c = λ weight. (
+    let b = c.args.self.now in
+    let old = worker_view b.owner in
+    let grown = ap (λ v. sum_by weight v.taken) c.in-Some.ensures.took.grown in
+    let one = sum_by_push weight old.taken c.in-Some.piece.number in
+    omega (arith, c.finish.ensures.kept weight, b.matched weight))
+
+pub invariant_of-self-2-clause-room : goal.invariant_of-self-2-clause-room
+invariant_of-self-2-clause-room g c =
+    let b = c.args.self.now in
+    let same = ap (λ v. length v.pushed) c.in-Some.ensures.took.grown in
+    omega (arith, c.finish.ensures.room, b.room)
+
+pub invariant_of-self-2-clause-room_late : goal.invariant_of-self-2-clause-room_late
+invariant_of-self-2-clause-room_late g c =
+    omega (arith, c.finish.ensures.room, c.finish.ensures.room_late, c.args.self.now.room_late)

@@ -1,0 +1,66 @@
+use Rattle.std.proofs.Common.{arith, vec_capacity, refl}
+use Rattle.crossbeam_deque.specs.Handles.{worker_view}
+use Rattle.pool_worker.proofs.Room.{room, fewer, pushed_same, seat_tag, took_one}
+use Rattle.pool_worker.proofs.bundle.Bundle.steal.Goals as goal
+
+pub returns-in_default-clause-same : goal.returns-in_default-clause-same
+returns-in_default-clause-same g c =
+    let b = c.args.self.now in
+    seat_tag b.reaches.items c.args.from c.index_mut.result.now c.take.new.self (omega (arith, b.reaches.ok.0))
+    c.index_mut.ensures.value c.take.ensures.pushed b.owner _ _ c.take.ensures.deque refl
+
+pub finish-requires-clause-room : goal.finish-requires-clause-room
+finish-requires-clause-room g c κs within =
+    let b = c.args.self.now in
+    let old = worker_view b.owner in
+    let few = fewer b.reaches.items c.args.from c.index_mut.result.now c.take.new.self (omega (arith, b.reaches.ok.0))
+    c.index_mut.ensures.value c.take.ensures.pushed _ c.in-Some.ensures.taken in
+    let r = room old.taken old.pushed b.reaches.items b.harvest.done.items b.harvest.late.items b.harvest.refused
+    (vec_capacity b.harvest.done) (b.matched (λ _. 1)) (omega (arith, b.few)) (omega (arith, b.room)) in
+    omega (arith, b.harvest.done.ok.0, r.0)
+
+pub finish-requires-clause-room_late : goal.finish-requires-clause-room_late
+finish-requires-clause-room_late g c κs within =
+    let b = c.args.self.now in
+    let old = worker_view b.owner in
+    let few = fewer b.reaches.items c.args.from c.index_mut.result.now c.take.new.self (omega (arith, b.reaches.ok.0))
+    c.index_mut.ensures.value c.take.ensures.pushed _ c.in-Some.ensures.taken in
+    let r = room old.taken old.pushed b.reaches.items b.harvest.done.items b.harvest.late.items b.harvest.refused
+    (vec_capacity b.harvest.done) (b.matched (λ _. 1)) (omega (arith, b.few)) (omega (arith, b.room)) in
+    omega (arith, b.harvest.late.ok.0, b.room_late, r.1)
+
+pub returns-then-finish-clause-same : goal.returns-then-finish-clause-same
+returns-then-finish-clause-same g c =
+    let b = c.args.self.now in
+    seat_tag b.reaches.items c.args.from c.index_mut.result.now c.take.new.self (omega (arith, b.reaches.ok.0))
+    c.index_mut.ensures.value c.take.ensures.pushed b.owner _ _ c.take.ensures.deque c.finish.ensures.parts
+
+pub returns-else-finish-clause-same : goal.returns-else-finish-clause-same
+returns-else-finish-clause-same g c =
+    let b = c.args.self.now in
+    seat_tag b.reaches.items c.args.from c.index_mut.result.now c.take.new.self (omega (arith, b.reaches.ok.0))
+    c.index_mut.ensures.value c.take.ensures.pushed b.owner _ _ c.take.ensures.deque c.finish.ensures.parts
+
+pub invariant_of-self-2-clause-owns : goal.invariant_of-self-2-clause-owns
+invariant_of-self-2-clause-owns g c = c.args.self.now.owns
+
+pub invariant_of-self-2-clause-few : goal.invariant_of-self-2-clause-few
+invariant_of-self-2-clause-few g c = c.args.self.now.few
+
+pub invariant_of-self-2-clause-matched : goal.invariant_of-self-2-clause-matched
+invariant_of-self-2-clause-matched g c = λ weight. (
+    let b = c.args.self.now in
+    let one = took_one b.reaches.items c.args.from c.index_mut.result.now c.take.new.self
+    (omega (arith, b.reaches.ok.0)) c.index_mut.ensures.value c.take.ensures.pushed weight _ c.in-Some.ensures.taken in
+    omega (arith, c.finish.ensures.kept weight, b.matched weight))
+
+pub invariant_of-self-2-clause-room : goal.invariant_of-self-2-clause-room
+invariant_of-self-2-clause-room g c =
+    let b = c.args.self.now in
+    let same = pushed_same b.reaches.items c.args.from c.index_mut.result.now c.take.new.self
+    (omega (arith, b.reaches.ok.0)) c.index_mut.ensures.value c.take.ensures.pushed in
+    omega (arith, c.finish.ensures.room, b.room)
+
+pub invariant_of-self-2-clause-room_late : goal.invariant_of-self-2-clause-room_late
+invariant_of-self-2-clause-room_late g c =
+    omega (arith, c.finish.ensures.room, c.finish.ensures.room_late, c.args.self.now.room_late)

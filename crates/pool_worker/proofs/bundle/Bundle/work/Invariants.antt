@@ -1,0 +1,23 @@
+use Rattle.std.proofs.Common.{◌≡◌, None, vec_len}
+use Rattle.pool_worker.specs.Bundles.{bundle_tag}
+use Rattle.pool_worker.proofs.bundle.Bundle.work.Given as goal
+
+abbrev pub invariant-own : goal.invariant-own
+invariant-own g l = record {
+  same : bundle_tag l.self ≡ bundle_tag l.initial.self;
+  none : l.self.harvest.refused ≡ None;
+}
+
+abbrev pub invariant-loop-from : goal.invariant-loop-from
+invariant-loop-from g l = record {
+  same : bundle_tag l.self ≡ bundle_tag l.initial.self;
+  none : l.self.harvest.refused ≡ None;
+  count : vec_len l.self.reaches ≡ vec_len l.initial.self.reaches;
+}
+
+abbrev pub invariant-other : goal.invariant-other
+invariant-other g l = record {
+  same : bundle_tag l.self ≡ bundle_tag l.initial.self;
+  none : l.self.harvest.refused ≡ None;
+  count : vec_len l.self.reaches ≡ vec_len l.initial.self.reaches;
+}

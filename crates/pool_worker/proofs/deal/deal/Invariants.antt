@@ -1,0 +1,21 @@
+use Rattle.std.proofs.Common.{◌≡◌, ◌+◌, ◌-◌, ◌<◌, ◌≤◌, ℕ, All, map, vec_len}
+use Rattle.std.specs.List.{sum_by}
+use Rattle.crossbeam_deque.specs.Handles.{worker_deque}
+use Rattle.piece_deques.specs.Rule.{IsDue}
+use Rattle.piece_deques.specs.Ends.{IsOpen, pushed_weight}
+use Rattle.pool_worker.specs.Done.{weigh}
+use Rattle.pool_worker.proofs.deal.deal.Given as goal
+
+abbrev pub invariant-loop-piece : goal.invariant-loop-piece
+invariant-loop-piece g l = record {
+  due : All (IsDue g.D.Deal.all) l.left.items;
+  within : vec_len l.left ≤ vec_len l.initial.left;
+  some : 0 < vec_len l.owners;
+  deques : map worker_deque l.owners.items ≡ map worker_deque l.initial.owners.items;
+  opened : All (IsOpen (vec_len l.initial.left) (vec_len l.initial.left - vec_len l.left)) l.owners.items;
+  pushed : (weight : ℕ → ℕ) → sum_by (pushed_weight weight) l.owners.items + weigh weight l.left.items
+      ≡ sum_by (pushed_weight weight) l.initial.owners.items + weigh weight l.initial.left.items;
+}
+
+abbrev pub decreases-loop-piece : goal.decreases-loop-piece
+decreases-loop-piece g l = vec_len l.left

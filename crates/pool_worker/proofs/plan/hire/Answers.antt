@@ -1,0 +1,25 @@
+use Rattle.std.proofs.Common.{◌≡◌, ◌+◌, ◌<◌, ◌∷◌, [], ◌++◌, map, take, sym, ap, ◌∙◌, arith, length, vec_len}
+use Rattle.crossbeam_deque.specs.Handles.{worker_deque, stealer_deque}
+use Rattle.piece_deques.proofs.Lists.{map_push, take_map_more}
+use Rattle.pool_worker.proofs.plan.hire.Goals as goal
+
+pub hired-preserved : goal.hired-preserved
+hired-preserved g c =
+    let l = c.hired in
+    let owners = c.args.owners.now in
+    let n = vec_len l.thieves in
+    let put = c.push_reserved.ensures in
+    let thief = c.in_ok-thief.thief in
+    let in' : n < length owners.items = omega (arith, owners.ok.0) in
+    let more = take_map_more worker_deque owners.items n c.index.result.now in' (search arith) in
+    let next : n + 1 ≡ vec_len c.push_reserved.new.self = omega (arith, put.len) in
+    record {
+      room = omega (arith, l.invariant.room, put.capacity);
+      within = omega (arith, put.len);
+      same =
+          ap (map stealer_deque) put.items
+          ∙ (map_push stealer_deque l.thieves.items thief
+          ∙ (ap (λ l. l ++ stealer_deque thief ∷ []) l.invariant.same
+          ∙ (ap (λ d. take n (map worker_deque owners.items) ++ d ∷ []) c.in_ok-thief.ensures.0
+          ∙ (sym more ∙ ap (λ k. take k (map worker_deque owners.items)) next))));
+    }

@@ -1,0 +1,48 @@
+-- What stays the same of a bundle while its worker runs, and what is said of all bundles by it.
+use Rattle.std.specs.Prelude.{◌≡◌, ℕ, ◌+◌, List, All, length, map}
+use Rattle.std.specs.Global.{Global}
+use Rattle.crossbeam_deque.specs.Handles.{worker_view}
+use Rattle.crossbeam_deque.specs.declared.handles.Worker.{Worker}
+use Rattle.pod_piece.specs.Piece.{Piece}
+use Rattle.piece_deques.specs.declared.rule.Tally.{Tally}
+use Rattle.piece_deques.specs.Rule.{all_parts}
+use Rattle.pool_worker.specs.declared.reach.Reach.{Reach}
+use Rattle.pool_worker.specs.declared.bundle.Bundle.{Bundle}
+use Rattle.pool_worker.specs.Seats.{Place, seat_place, owner_place, places_weigh}
+use Rattle.pool_worker.specs.Done.{weigh}
+
+-- the deque of the owner and what was pushed to it, the owner's parts, the deques of the seats, and the parts of the
+-- share
+pub record Tag : Type 0 where
+  pub place : Place
+  pub parts : ℕ
+  pub seats : List Place
+  pub share : ℕ
+
+abbrev pub tag : Place → ℕ → List Place → ℕ → Tag
+tag place parts seats share = record { place = place; parts = parts; seats = seats; share = share }
+
+abbrev pub tag_of : {T P D : Type 0} → Worker T Global Tally P → List (Reach D) → ℕ → Tag
+tag_of owner reaches share = tag (owner_place owner) (worker_view owner).parts (map seat_place reaches) share
+
+abbrev pub bundle_tag : {D U E O : Type 0} {g : _} → Bundle D U E O g → Tag
+bundle_tag bundle = tag_of bundle.owner bundle.reaches.items bundle.harvest.share.parts
+
+-- so many seats of the deque are away, and the bundle has a seat of each of these deques and a part of the share
+pub record IsLaid (away : ℕ) (places : List Place) (t : Tag) : Type 0 where
+  pub parts : t.parts + away ≡ all_parts
+  pub seats : t.seats ≡ places
+  pub share : t.share ≡ 1
+
+abbrev pub places_in : List Tag → List Place
+places_in tags = map (λ (t : Tag). t.place) tags
+
+-- the bundles with these tags have a seat of each deque each, and these pieces were pushed to the deques, once each:
+-- so their numbers add up to the same, however they are weighed
+pub record AreLaid (pieces : List Piece) (tags : List Tag) : Type 0 where
+  pub each : All (IsLaid (length tags) (places_in tags)) tags
+  pub pushed : (weight : ℕ → ℕ) → places_weigh weight (places_in tags) ≡ weigh weight pieces
+
+-- the deque of a bundle's owner
+abbrev pub bundle_place : {D U E O : Type 0} {g : _} → Bundle D U E O g → Place
+bundle_place bundle = owner_place bundle.owner

@@ -1,0 +1,5 @@
+pub mod Done
+pub mod Seats
+pub mod Harvests
+pub mod Bundles
+pub mod Lanes

@@ -1,0 +1,39 @@
+//! What is told of each update.
+
+ghost use Rattle.std.specs.Prelude.{◌≡◌, IsTrue, OnOk, OnErr};
+ghost use Rattle.pod_piece.specs.Piece.{updated};
+
+use piece_deques::number_of;
+use pod_piece::PodPiece;
+use std::alloc::AllocError;
+
+/// Called before and after each update, with the number of the pod.
+pub trait Gate: Sync {
+    /// The update of the pod begins.
+    fn enter(&self, pod: usize);
+
+    /// The update of the pod has ended.
+    fn leave(&self, pod: usize);
+}
+
+/// A gate that does nothing.
+pub struct NoGate;
+
+impl Gate for NoGate {
+    fn enter(&self, _pod: usize) {}
+
+    fn leave(&self, _pod: usize) {}
+}
+
+/// Updates a piece between the two calls of the gate. An `Err` changes nothing.
+pub(crate) fn update<G: Gate>(gate: &G, piece: &mut PodPiece) -> Result<(), AllocError>
+    requires { IsTrue piece.old.is_pending }
+    ensures ok { OnOk result (piece.new ≡ updated piece.old) }
+    ensures err { OnErr result (piece.new ≡ piece.old) }
+{
+    let number = number_of(piece);
+    gate.enter(number);
+    let updated = piece.update_in_place();
+    gate.leave(number);
+    updated
+}

@@ -1,0 +1,74 @@
+-- The eviction of a tick, by a node's pieces.
+use Rattle.std.proofs.Common.{◌≡◌, ℕ, zero, suc, ◌<◌, List, [], ◌∷◌, length, get_or, Bool, true}
+use Rattle.std.proofs.Common.{Option, Some, None, refl, sym, ap, subst, ◌∙◌, arith}
+use Rattle.std.specs.Prelude.{nat_lt, slice_get}
+use Rattle.std.proofs.lemmas.Bool.{ltb-true}
+use Rattle.node_config.specs.declared.node.NodeConfig.{NodeConfig}
+use Rattle.node_signals.specs.declared.key.ThresholdKey.{ThresholdKey}
+use Rattle.pod_piece.specs.declared.order.EvictOrder.{EvictOrder}
+use Rattle.pod_piece.specs.Piece.{Piece}
+use Rattle.ranking.specs.Order.{IsVictim}
+use Rattle.eviction.specs.Replay.{order_of}
+use Rattle.node_pods.specs.Pods.{IsCandidate}
+use Rattle.tick_parts.specs.Evict.{pods_in, IsEvictionAt}
+
+-- the specification of a pod stands where its piece does
+pub get_pod : (pieces : List Piece) (n : ℕ) (piece : Piece) → slice_get pieces n ≡ Some piece
+    → slice_get (pods_in pieces) n ≡ Some piece.pod
+get_pod [] n piece e = absurd (cc)
+get_pod (p ∷ pieces) zero piece e = let same : p ≡ piece = cc in ap (λ (q : Piece). Some q.pod) same
+get_pod (p ∷ pieces) (suc n) piece e = get_pod pieces n piece e
+
+-- the first of the candidates is evicted
+pub evicts_first : (config : NodeConfig) (pieces : List Piece) (at : ℕ) (served : Option ThresholdKey)
+    (key : ThresholdKey) (dedicated : Bool) (victim : Option ℕ) (n : ℕ) (piece : Piece) (order : EvictOrder)
+    → served ≡ Some key → dedicated ≡ config.has_dedicated_imagefs
+    → IsVictim key.signal dedicated (IsCandidate pieces) victim → victim ≡ Some n
+    → slice_get pieces n ≡ Some piece → order ≡ order_of config piece.pod at key
+    → IsEvictionAt config pieces at served (Some (record { pod = n; order = order }))
+evicts_first config pieces at served key dedicated victim n piece order is same first number found by =
+    let now : IsVictim key.signal config.has_dedicated_imagefs (IsCandidate pieces) victim =
+    subst (λ (d : Bool). IsVictim key.signal d (IsCandidate pieces) victim) same first in
+    let P : Option ℕ → Type 0 = λ v. IsVictim key.signal config.has_dedicated_imagefs (IsCandidate pieces) v in
+    let of : IsEvictionAt config pieces at (Some key) (Some (record { pod = n; order = order })) = (
+      Some n,
+      subst P number now,
+      record { pod = piece.pod; is_pod = get_pod pieces n piece found; number = refl; order = by },
+    ) in
+    subst (λ (k : Option ThresholdKey). IsEvictionAt config pieces at k (Some (record { pod = n; order = order })))
+    (sym is) of
+
+-- without candidates nobody is
+pub evicts_none : (config : NodeConfig) (pieces : List Piece) (at : ℕ) (served : Option ThresholdKey)
+    (key : ThresholdKey) (dedicated : Bool) (victim : Option ℕ)
+    → served ≡ Some key → dedicated ≡ config.has_dedicated_imagefs
+    → IsVictim key.signal dedicated (IsCandidate pieces) victim → victim ≡ None
+    → IsEvictionAt config pieces at served None
+evicts_none config pieces at served key dedicated victim is same first none =
+    let now : IsVictim key.signal config.has_dedicated_imagefs (IsCandidate pieces) victim =
+    subst (λ (d : Bool). IsVictim key.signal d (IsCandidate pieces) victim) same first in
+    let P : Option ℕ → Type 0 = λ v. IsVictim key.signal config.has_dedicated_imagefs (IsCandidate pieces) v in
+    let of : IsEvictionAt config pieces at (Some key) None = (None, subst P none now, refl) in
+    subst (λ (k : Option ThresholdKey). IsEvictionAt config pieces at k None) (sym is) of
+
+-- the first of the candidates is one of the pods
+pub victim_there : (pieces : List Piece) (key : ThresholdKey) (dedicated : Bool) (victim : Option ℕ) (n : ℕ)
+    → IsVictim key.signal dedicated (IsCandidate pieces) victim → victim ≡ Some n
+    → slice_get pieces n ≡ None → ⊥
+victim_there pieces key dedicated None n first is none = absurd (let e : None ≡ Some n = is in cc)
+victim_there pieces key dedicated (Some m) n (status, candidate, before) is none =
+    let same : m ≡ n = cc in
+    let at : slice_get pieces n ≡ Some candidate.piece =
+    subst (λ (k : ℕ). slice_get pieces k ≡ Some candidate.piece) same candidate.at in
+    let both : Some candidate.piece ≡ None = sym at ∙ none in absurd (cc)
+
+-- what is found at a place is there
+pub get_here : (pieces now : List Piece) (n : ℕ) (piece : Piece) → now ≡ pieces → true ≡ nat_lt n (length now)
+    → piece ≡ get_or now n piece → slice_get pieces n ≡ Some piece
+get_here pieces now n piece same lt is =
+    subst (λ (ps : List Piece). slice_get ps n ≡ Some piece) same (at now n piece (ltb-true n (length now) (sym lt)) is)
+  where
+    at : (xs : List Piece) (n : ℕ) (x : Piece) → n < length xs → x ≡ get_or xs n x → slice_get xs n ≡ Some x
+    at [] n x lt is = absurd (omega arith)
+    at (y ∷ xs) zero x lt is = ap (λ (p : Piece). Some p) (sym is)
+    at (y ∷ xs) (suc n) x lt is = at xs n x (omega arith) is

@@ -1,0 +1,3 @@
+pub mod Updates
+pub mod Rounds
+pub mod Evicts

@@ -1,0 +1,31 @@
+-- The eviction of a tick, by what a node keeps of its pods. (Kubernetes, "Node-pressure Eviction".)
+use Rattle.std.specs.Prelude.{◌≡◌, ℕ, List, map, Option, Some, None}
+use Rattle.manifest.specs.declared.pod.PodSpec.{PodSpec}
+use Rattle.node_config.specs.declared.node.NodeConfig.{NodeConfig}
+use Rattle.node_signals.specs.declared.key.ThresholdKey.{ThresholdKey}
+use Rattle.pod_piece.specs.Piece.{Piece}
+use Rattle.ranking.specs.Order.{IsVictim}
+use Rattle.eviction.specs.declared.eviction.Eviction.{Eviction}
+use Rattle.eviction.specs.Replay.{IsOfVictim}
+use Rattle.node_pods.specs.Pods.{IsCandidate, IsEvictable, AreEvicted}
+
+-- the specifications of these pieces
+abbrev pub pods_in : List Piece → List PodSpec
+pods_in pieces = map (λ (piece : Piece). piece.pod) pieces
+
+-- the eviction at a moment for the threshold that is served, of these pods
+abbrev pub IsEvictionAt : NodeConfig → List Piece → ℕ → Option ThresholdKey → Option Eviction → Type 0
+IsEvictionAt config pieces at None eviction = eviction ≡ None
+IsEvictionAt config pieces at (Some key) eviction =
+    (victim : Option ℕ) × IsVictim key.signal config.has_dedicated_imagefs (IsCandidate pieces) victim
+    × IsOfVictim config (pods_in pieces) at key victim eviction
+
+-- the eviction may be carried out
+abbrev pub MayBeEvicted : List Piece → Option Eviction → Type 0
+MayBeEvicted pieces None = Unit {0}
+MayBeEvicted pieces (Some eviction) = IsEvictable pieces eviction.pod eviction.order.at
+
+-- the pods once it was
+abbrev pub AreWithout : List Piece → Option Eviction → List Piece → Type 0
+AreWithout old None new = new ≡ old
+AreWithout old (Some eviction) new = AreEvicted old eviction.pod eviction.order new

@@ -1,0 +1,47 @@
+//! The updates of all pods in a tick, by workers.
+
+ghost use Rattle.std.specs.Prelude.{◌≡◌, ◌<◌, ◌≤◌, map, IfOk};
+ghost use Rattle.pod_piece.specs.Piece.{updated};
+ghost use Rattle.event_book.specs.Limits.{most_workers};
+ghost use Rattle.pod_pool.specs.Order.{AreNumbered};
+ghost use Rattle.tick_parts.specs.Update.{MayUpdate, AreEntered};
+
+use event_book::WholeBook;
+use pod_piece::PodPiece;
+use pod_pool::{Gate, update_all};
+use std::alloc::{AllocError, Global};
+use std::sync::ledger::Ledger;
+use std::sync::{Mutex, Wait};
+use std::thread::Threads;
+
+/// All pods take the tick that was handed to them into their statuses, and are entered in the book, by so
+/// many workers, 1 to 64. The book is theirs under a lock until they have ended. An `Err` says that memory
+/// was refused.
+pub fn update_by_workers<
+    U: Ledger + Send,
+    E: Ledger + Send,
+    O: Ledger + Send,
+    R: Threads + Wait + Sync,
+    G: Gate,
+>(
+    rt: &R,
+    alloc: Global,
+    pieces: Vec<PodPiece>,
+    book: WholeBook<U, E, O>,
+    workers: usize,
+    gate: &G,
+) -> Result<(Vec<PodPiece>, WholeBook<U, E, O>), AllocError>
+    requires may { MayUpdate pieces.items book }
+    requires numbered { AreNumbered pieces.items }
+    requires some { 0 < workers }
+    requires most { workers ≤ most_workers }
+    ensures pieces { IfOk result (λ r. r.0.items ≡ map updated pieces.items) }
+    ensures book { IfOk result (λ r. AreEntered r.0.items book r.1) }
+{
+    let (events, share) = book.into_parts();
+    let events = Mutex::new(events);
+    match update_all(rt, alloc, pieces, &events, share, workers, gate) {
+        Ok((pieces, share)) => Ok((pieces, WholeBook::of_parts(events.into_inner(), share))),
+        Err(_) => Err(AllocError),
+    }
+}

@@ -1,9 +1,0 @@
-use Rattle.std.proofs.Common.{◌≡◌, ◌++◌, map, take}
-use Rattle.pod_state.specs.declared.events.PodEvent.{PodEvent}
-use Rattle.event_book.specs.declared.event.EventKind.TheVariants.{Pod}
-use Rattle.event_book.specs.Events.{event}
-use Rattle.tick_round.proofs.events.add_events_of_pod.Given as goal
-
-abbrev pub invariant-loop-event : goal.invariant-loop-event
-invariant-loop-event l = l.events.items
-    ≡ l.fn.events.items ++ map (λ (e : PodEvent). event l.at (Pod l.number e)) (take l.event-index l.made)

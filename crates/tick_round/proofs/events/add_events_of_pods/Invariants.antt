@@ -1,5 +1,0 @@
-use Rattle.tick_round.proofs.Adds.{AreAddedBelow}
-use Rattle.tick_round.proofs.events.add_events_of_pods.Given as goal
-
-abbrev pub invariant-loop-number : goal.invariant-loop-number
-invariant-loop-number l = AreAddedBelow l.at l.pieces l.number l.fn.events.items l.events.items

@@ -1,0 +1,30 @@
+use Rattle.tick_parts.proofs.Rounds.{are_numbered}
+use Rattle.tick_round.proofs.GoesOn.{updated_by}
+use Rattle.tick_round.proofs.running.Running.after.Goals as goal
+
+pub update_by_workers-requires-clause-numbered : goal.update_by_workers-requires-clause-numbered
+update_by_workers-requires-clause-numbered g c κs within =
+    are_numbered c.in_ok-pieces.begun.pods c.in_ok-pieces.pieces.items c.in_ok-pieces.ensures.awaited
+
+pub end-requires-clause-taken : goal.end-requires-clause-taken
+end-requires-clause-taken g c = (
+  c.args.self,
+  c.args.tick,
+  c.in_ok-pieces.ensures.kept,
+  record {
+    fits = c.requires.fits;
+    has_begun = c.in_ok-pieces.ensures.begun;
+    updated = updated_by c.args.self c.args.tick c.in_ok-pieces.pieces.items c.in_ok-pieces-2.pieces.items
+        c.in_ok-pieces.book c.in_ok-pieces-2.book c.in_ok-pieces.ensures.handed c.in_ok-pieces-2.ensures.pieces
+        c.in_ok-pieces.ensures.book c.in_ok-pieces-2.ensures.book;
+  },
+)
+
+pub returns-clause-taken : goal.returns-clause-taken
+returns-clause-taken g c = λ pods ticks taken. c.in_ok-next.ensures.taken c.args.self c.args.tick pods ticks (record {
+  fits = c.requires.fits;
+  has_begun = c.in_ok-pieces.ensures.begun;
+  updated = updated_by c.args.self c.args.tick c.in_ok-pieces.pieces.items c.in_ok-pieces-2.pieces.items
+      c.in_ok-pieces.book c.in_ok-pieces-2.book c.in_ok-pieces.ensures.handed c.in_ok-pieces-2.ensures.pieces
+      c.in_ok-pieces.ensures.book c.in_ok-pieces-2.ensures.book;
+}) taken
