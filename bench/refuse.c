@@ -5,10 +5,11 @@
 #include <errno.h>
 #include <fcntl.h>
 #include <unistd.h>
-static long left = -2;
+static long left;
+__attribute__((constructor)) static void begin(void) { const char *n = getenv("REFUSE"); left = n ? atol(n) : 0; }
 static int refused(void) {
-    if (left == -2) { const char *n = getenv("REFUSE"); left = n ? atol(n) : -1; }
-    if (left <= 0 || --left > 0) return 0;
+    /* threads grow memory side by side: one of them alone meets the number */
+    if (__atomic_load_n(&left, __ATOMIC_SEQ_CST) <= 0 || __atomic_sub_fetch(&left, 1, __ATOMIC_SEQ_CST) != 0) return 0;
     const char *told = getenv("REFUSED");
     if (told) close(open(told, O_CREAT | O_WRONLY, 0600));
     return 1;
