@@ -118,4 +118,18 @@ impl<U: Ledger, E: Ledger, O: Ledger> EventBook<U, E, O> {
         self.events.audit(&mut share.events);
         self.orders.audit(&mut share.orders);
     }
+
+    /// Enters one update with this entry with the whole share, whose numbers show that the book has room.
+    pub fn enter_whole(&mut self, entry: Entry, share: &mut Shares<U, E, O>)
+        requires whole { share.old.parts ≡ most_parts }
+        requires level { (U.parts ≡ most_parts) × (E.parts ≡ most_parts) × (O.parts ≡ most_parts) }
+        requires room { AreWithin (plus share.old.numbers (one_update entry)) }
+        ensures { share.new ≡ part most_parts (plus share.old.numbers (one_update entry)) }
+    {
+        self.audit(share);
+        match self.enter(entry, share) {
+            Ok(()) => {}
+            Err(_) => unreachable!(),
+        }
+    }
 }

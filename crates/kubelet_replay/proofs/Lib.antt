@@ -1,3 +1,2 @@
-pub mod NodeLemmas
 pub mod Unique
 pub mod Exists

@@ -1,4 +1,3 @@
 pub mod Fault
-pub mod Ticks
 pub mod Run
 pub mod Laws

@@ -8,7 +8,7 @@ use Rattle.trace.specs.declared.fault.FaultKind.TheVariants as kinds
 use Rattle.trace.specs.declared.fault.LineFault.{LineFault}
 use Rattle.trace.specs.Trace.{trace_of}
 use Rattle.event_list.specs.Text.{joined}
-use Rattle.node_report.specs.Report.{IsReport}
+use Rattle.trace_replay.specs.Report.{IsReportOf}
 use Rattle.kubelet_replay.specs.declared.fault.RunFault.{RunFault}
 use Rattle.kubelet_replay.specs.declared.fault.RunFault.TheVariants.{Read, TooLong, Line, OutOfMemory, Write}
 
@@ -64,7 +64,7 @@ pub record IsCheckOfText (text bytes : List ℕ) : Type 0 where
 pub record IsReportOfText (text bytes : List ℕ) : Type 0 where
   pub trace : Trace
   pub is_trace : trace_of text ≡ Ok trace
-  pub report : IsReport trace.node trace.ticks trace.pods bytes
+  pub report : IsReportOf trace bytes
 
 abbrev pub run_fault : FaultKind → LineFault → RunFault
 run_fault kinds.OutOfMemory fault = OutOfMemory

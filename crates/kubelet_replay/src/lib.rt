@@ -3,14 +3,11 @@
 
 mod fault;
 pub mod laws;
-mod replayed;
-mod report;
 mod run;
 
 pub use commands::{Job, UsageFault, job_of};
 pub use fault::{RunFault, fault_line, status_of};
-pub use node_report::report_text;
 pub use replay_stream::{Counted, MemSink, MemSource, ReadFailed, Sink, Source, Stop, WriteFailed};
 pub use round_steps::{StepsFault, read_steps, steps_fault_line, steps_status_of};
 pub use run::{check, replay, replay_play};
-pub use tick_round::{Gate, NoGate, Node, Step, Summary, TickFault, laws as round_laws};
+pub use trace_replay::{Gate, NoGate, Node, Step, Summary, TickFault, report_text, round_laws};

@@ -7,13 +7,12 @@ ghost use Rattle.kubelet_replay.specs.Run.{RefusesText, Refuses, IsWritten, faul
 ghost use Rattle.kubelet_replay.specs.Run.{IsCheckOfText, check_line};
 
 use crate::fault::RunFault;
-use crate::report;
 use replay_stream::{ReadAllFault, Sink, Source, read_all, write_all};
 use std::alloc::{AllocError, Global};
 use std::sync::Wait;
 use std::thread::Threads;
-use tick_round::{Gate, Step};
 use trace::{FaultKind, LineFault, read_trace};
+use trace_replay::{Gate, Step};
 
 /// The greatest length of an input: 64 MiB.
 const LONGEST_INPUT: usize = 67_108_864;
@@ -53,7 +52,7 @@ fn report_by_steps(
     ensures err { IfErr result (RefusesText text.now) }
 {
     match read_trace(alloc, text) {
-        Ok(trace) => match report::report_by_steps(alloc, trace, workers, steps) {
+        Ok(trace) => match trace_replay::report_by_steps(alloc, trace, workers, steps) {
             Ok(report) => Ok(report),
             Err(_) => Err(RunFault::OutOfMemory),
         },
@@ -74,7 +73,7 @@ fn report_by_workers<R: Threads + Wait + Sync, G: Gate>(
     ensures err { IfErr result (RefusesText text.now) }
 {
     match read_trace(alloc, text) {
-        Ok(trace) => match report::report_by_workers(rt, alloc, trace, workers, gate) {
+        Ok(trace) => match trace_replay::report_by_workers(rt, alloc, trace, workers, gate) {
             Ok(report) => Ok(report),
             Err(_) => Err(RunFault::OutOfMemory),
         },

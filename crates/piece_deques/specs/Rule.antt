@@ -16,6 +16,10 @@ tally parts pushed taken = record { parts = parts; pushed = pushed; taken = take
 abbrev pub number_of : Piece → ℕ
 number_of piece = piece.number
 
+-- the number of each piece is its place
+abbrev pub AreNumbered : List Piece → Type 0
+AreNumbered pieces = (n : ℕ) (piece : Piece) → slice_get pieces n ≡ Some piece → piece.number ≡ n
+
 -- the piece stands in the list under its number, and is still to be updated
 pub record IsDue (all : List Piece) (piece : Piece) : Type 0 where
   pub stands : slice_get all piece.number ≡ Some piece

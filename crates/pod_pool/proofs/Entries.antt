@@ -13,9 +13,10 @@ use Rattle.event_book.specs.declared.totals.Totals.{Totals}
 use Rattle.event_book.specs.Totals.{IsEntryOf, AreEntriesOf, plus, sums_of}
 use Rattle.event_book.specs.Shares.{Part, part}
 use Rattle.piece_deques.proofs.Lists.{sum_map}
+use Rattle.piece_deques.specs.Rule.{AreNumbered}
 use Rattle.pool_worker.specs.Done.{HaveEntries, AreSumsOf}
 use Rattle.pool_worker.proofs.Sums.{totals_same, sums_permuted}
-use Rattle.pod_pool.specs.Order.{AreNumbered, AreAdded}
+use Rattle.pod_pool.specs.Order.{AreAdded}
 
 pub no_entries : (pieces : List Piece) → pieces ≡ [] → AreEntriesOf pieces []
 no_entries pieces none =

@@ -1,4 +1,3 @@
-pub mod Order
 pub mod Rests
 pub mod Entries
 pub mod Due

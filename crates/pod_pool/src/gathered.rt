@@ -7,9 +7,8 @@ ghost use Rattle.event_book.specs.declared.totals.Entry.{Entry};
 ghost use Rattle.event_book.specs.Totals.{AreEntriesOf, plus, sums_of};
 ghost use Rattle.event_book.specs.Shares.{most_parts, part};
 ghost use Rattle.event_book.specs.Limits.{AreLow};
-ghost use Rattle.piece_deques.specs.Rule.{IsDue};
+ghost use Rattle.piece_deques.specs.Rule.{IsDue, AreNumbered};
 ghost use Rattle.pool_worker.specs.Bundles.{bundle_tag, AreLaid};
-ghost use Rattle.pod_pool.specs.Order.{AreNumbered};
 ghost use Rattle.pod_pool.specs.Rooms.{HasRoom};
 
 use crate::absorb::absorb_all;

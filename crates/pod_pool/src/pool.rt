@@ -7,7 +7,7 @@ ghost use Rattle.event_book.specs.declared.totals.Entry.{Entry};
 ghost use Rattle.event_book.specs.Totals.{AreEntriesOf, plus, sums_of};
 ghost use Rattle.event_book.specs.Shares.{most_parts, part};
 ghost use Rattle.event_book.specs.Limits.{most_workers, AreLow};
-ghost use Rattle.pod_pool.specs.Order.{AreNumbered};
+ghost use Rattle.piece_deques.specs.Rule.{AreNumbered};
 ghost use Rattle.pod_pool.specs.Faults.{GivesBack};
 
 use crate::fault::PoolFault;

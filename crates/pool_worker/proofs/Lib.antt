@@ -3,3 +3,4 @@ pub mod Numbers
 pub mod Room
 pub mod Laid
 pub mod Places
+pub mod InOrder

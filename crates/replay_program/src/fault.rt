@@ -99,7 +99,10 @@ impl Fault {
                 }
                 match printed {
                     Ok(()) => ExitCode::SUCCESS,
-                    Err(_) => ExitCode::from(status_of(&RunFault::Write)),
+                    Err(_) => {
+                        tell(rt, fault_line(alloc, &RunFault::Write));
+                        ExitCode::from(status_of(&RunFault::Write))
+                    }
                 }
             }
             Fault::Usage(UsageFault::OutOfMemory) => ExitCode::from(status_of(

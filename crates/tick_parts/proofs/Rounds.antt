@@ -7,7 +7,7 @@ use Rattle.pod_piece.specs.Piece.{Piece, updated}
 use Rattle.event_book.specs.declared.totals.Totals.{Totals}
 use Rattle.event_book.specs.declared.totals.Entry.{Entry}
 use Rattle.event_book.specs.Totals.{AreEntriesOf, sums_of, plus}
-use Rattle.pod_pool.specs.Order.{AreNumbered}
+use Rattle.piece_deques.specs.Rule.{AreNumbered}
 use Rattle.node_pods.specs.Pods.{Awaited, AreAwaited}
 use Rattle.tick_parts.specs.Update.{MayUpdate, AreEntered}
 

@@ -1,0 +1,2 @@
+pub mod NodeLemmas
+pub mod Reports

@@ -1,0 +1,40 @@
+-- Which ticks a node with these pods can take one after the other.
+use Rattle.std.specs.Prelude.{◌≡◌, ℕ, ◌+◌, ◌<◌, ◌≤◌, ◌^◌, List, length, take, slice_get, Option, Some}
+use Rattle.manifest.specs.declared.pod.PodSpec.{PodSpec}
+use Rattle.node_config.specs.declared.node.NodeConfig.{NodeConfig}
+use Rattle.observations.specs.declared.pod.PodObs.{PodObs}
+use Rattle.observations.specs.declared.tick.TickObs.{TickObs}
+use Rattle.observations.specs.Limits.{most_ticks, most_pods}
+use Rattle.observations.specs.Observations.{shown_of}
+use Rattle.pod_state.specs.Pods.{pod_tick}
+use Rattle.pod_piece.specs.Listings.{IsNextTick}
+use Rattle.eviction.specs.Replay.{pod_ticks}
+use Rattle.tick_round.specs.Node.{State, IsAfter}
+
+-- there are not too many of either; what each tick shows of a pod may come after the pod's own ticks before, at the tick's moment; the
+-- moments rise and are in range; and no tick shows fewer pods than one before it, or more than there are
+pub record AreReplayable (pods : List PodSpec) (ticks : List TickObs) : Type 0 where
+  pub next : (t n : ℕ) (tick : TickObs) (pod : PodSpec) (shown : PodObs) → slice_get ticks t ≡ Some tick
+      → slice_get pods n ≡ Some pod → shown_of tick n ≡ Some shown
+      → IsNextTick pod (pod_ticks (take t ticks) n) (pod_tick shown)
+  pub moments : (t n : ℕ) (tick : TickObs) (shown : PodObs) → slice_get ticks t ≡ Some tick
+      → shown_of tick n ≡ Some shown
+      → shown.at ≡ tick.at
+  pub rising : (t u : ℕ) (earlier later : TickObs) → t < u → slice_get ticks t ≡ Some earlier
+      → slice_get ticks u ≡ Some later
+      → earlier.at < later.at
+  pub below : (t : ℕ) (tick : TickObs) → slice_get ticks t ≡ Some tick → tick.at < 2 ^ 40
+  pub growing : (t u : ℕ) (earlier later : TickObs) → t < u → slice_get ticks t ≡ Some earlier
+      → slice_get ticks u ≡ Some later
+      → length earlier.pods ≤ length later.pods
+  pub few_ticks : length ticks ≤ most_ticks
+  pub few_pods : length pods ≤ most_pods
+  pub within : (t : ℕ) (tick : TickObs) → slice_get ticks t ≡ Some tick → length tick.pods ≤ length pods
+
+-- a node of some configuration that has taken some ticks, on which so many more pods may arrive
+pub record MayArrive (count : ℕ) (node : Option State) : Type 0 where
+  pub config : NodeConfig
+  pub arrived : List PodSpec
+  pub taken : List TickObs
+  pub after : IsAfter config arrived taken node
+  pub room : length arrived + count ≤ most_pods

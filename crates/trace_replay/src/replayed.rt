@@ -1,0 +1,111 @@
+//! The node of a trace, as its ticks leave it.
+
+ghost use Rattle.std.specs.Prelude.{◌≡◌, ◌<◌, ◌≤◌, ◌++◌, List, IfOk, OnOk, take, drop};
+ghost use Rattle.manifest.specs.declared.pod.PodSpec.{PodSpec};
+ghost use Rattle.node_config.specs.declared.node.NodeConfig.{NodeConfig};
+ghost use Rattle.observations.specs.declared.tick.TickObs.{TickObs};
+ghost use Rattle.event_book.specs.Totals.{nothing};
+ghost use Rattle.event_book.specs.Limits.{most_workers};
+ghost use Rattle.tick_round.specs.Node.{IsAfter};
+ghost use Rattle.trace_replay.specs.Ticks.{AreReplayable, MayArrive};
+
+use event_book::WholeBook;
+use manifest::PodSpec;
+use node_config::NodeConfig;
+use observations::TickObs;
+use std::alloc::Global;
+use std::sync::Wait;
+use std::sync::ledger::Ledger;
+use std::thread::Threads;
+use std::vec::IntoIter;
+use tick_round::{Gate, Node, Step, TickFault};
+
+/// The next pods arrive, so many of them.
+fn arrive<U: Ledger, E: Ledger, O: Ledger>(
+    node: &mut Node<U, E, O>,
+    arriving: &mut IntoIter<PodSpec>,
+    count: usize,
+) -> Result<(), TickFault>
+    requires { MayArrive count node.old }
+    ensures node { (config : NodeConfig) (pods : List PodSpec) (ticks : List TickObs)
+        → IsAfter config pods ticks node.old
+        → OnOk result (IsAfter config (pods ++ take count arriving.old.rest.items) ticks node.new) }
+    ensures left { OnOk result (arriving.new.rest.items ≡ drop count arriving.old.rest.items) }
+{
+    for _ in 0..count {
+        let Some(pod) = arriving.next() else {
+            return Ok(());
+        };
+        node.arrive(pod)?;
+    }
+    Ok(())
+}
+
+/// The node after these ticks, which it takes one after the other, each as a round on one thread that so many
+/// workers play by these steps. Each of these pods arrives before the first tick that shows it, those that no
+/// tick shows at the end.
+pub(crate) fn replayed_by_steps<U: Ledger, E: Ledger, O: Ledger>(
+    alloc: Global,
+    config: NodeConfig,
+    pods: Vec<PodSpec>,
+    ticks: Vec<TickObs>,
+    book: WholeBook<U, E, O>,
+    workers: usize,
+    steps: &[Step],
+) -> Result<Node<U, E, O>, TickFault>
+    requires replayable { AreReplayable pods.items ticks.items }
+    requires empty { book ≡ nothing }
+    requires some { 0 < workers }
+    requires most { workers ≤ most_workers }
+    ensures { IfOk result (IsAfter config pods.items ticks.items) }
+{
+    let mut node = Node::new(alloc, config, Vec::new(alloc), book)?;
+    let count = pods.len();
+    let mut arriving = pods.into_iter();
+    let mut arrived = 0;
+    for tick in ticks {
+        let present = tick.pods.as_slice().len();
+        arrive(&mut node, &mut arriving, present - arrived)?;
+        arrived = present;
+        node.tick_play(tick, workers, steps)?;
+    }
+    arrive(&mut node, &mut arriving, count - arrived)?;
+    Ok(node)
+}
+
+/// The same, where so many workers update the pods of each tick in threads of their own.
+pub(crate) fn replayed_by_workers<
+    U: Ledger + Send,
+    E: Ledger + Send,
+    O: Ledger + Send,
+    R: Threads + Wait + Sync,
+    G: Gate,
+>(
+    rt: &R,
+    alloc: Global,
+    config: NodeConfig,
+    pods: Vec<PodSpec>,
+    ticks: Vec<TickObs>,
+    book: WholeBook<U, E, O>,
+    workers: usize,
+    gate: &G,
+) -> Result<Node<U, E, O>, TickFault>
+    requires replayable { AreReplayable pods.items ticks.items }
+    requires empty { book ≡ nothing }
+    requires some { 0 < workers }
+    requires most { workers ≤ most_workers }
+    ensures { IfOk result (IsAfter config pods.items ticks.items) }
+{
+    let mut node = Node::new(alloc, config, Vec::new(alloc), book)?;
+    let count = pods.len();
+    let mut arriving = pods.into_iter();
+    let mut arrived = 0;
+    for tick in ticks {
+        let present = tick.pods.as_slice().len();
+        arrive(&mut node, &mut arriving, present - arrived)?;
+        arrived = present;
+        node.tick(rt, tick, workers, gate)?;
+    }
+    arrive(&mut node, &mut arriving, count - arrived)?;
+    Ok(node)
+}

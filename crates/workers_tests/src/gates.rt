@@ -1,0 +1,159 @@
+//! Gates that hold updates until others stand beside them.
+
+ghost use Rattle.std.specs.Prelude.{◌<◌};
+
+use pod_pool::Gate;
+use std::alloc::{AllocError, AllocGlobal, Global};
+use std::process::Abort;
+use std::sync::atomic::{AtomicU64, Ordering};
+use std::thread;
+use std::time::{Clock, Duration};
+
+/// An update that waits for another gives up after so many looks: some 15 seconds.
+const LOOKS: u64 = 100_000;
+
+/// Waits until so many are counted, and says whether they ever were. It gives up early where another update did.
+fn is_reached(clock: &impl Clock, count: &AtomicU64, wanted: u64, missed: &AtomicU64) -> bool {
+    let pause = Duration::from_micros(100);
+    for _ in 0..LOOKS {
+        if count.load(Ordering::SeqCst) >= wanted {
+            return true;
+        }
+        if missed.load(Ordering::SeqCst) > 0 {
+            return false;
+        }
+        thread::sleep(clock, pause);
+    }
+    false
+}
+
+/// Holds each update until as many stand in the gate at once as there are workers, and counts the calls by pod.
+#[derive(Drop)]
+pub(crate) struct Meeting<'a, C> {
+    clock: &'a C,
+    workers: u64,
+    arrivals: AtomicU64,
+    missed: AtomicU64,
+    entered: Vec<AtomicU64>,
+    left: Vec<AtomicU64>,
+    ghost some: { 0 < workers },
+}
+
+fn zeros(alloc: Global, count: usize) -> Result<Vec<AtomicU64>, AllocError> {
+    let mut counts = Vec::new(alloc);
+    for _ in 0..count {
+        counts.push(AtomicU64::new(0))?;
+    }
+    Ok(counts)
+}
+
+impl<'a, C: AllocGlobal + Clock> Meeting<'a, C> {
+    /// A gate for so many workers and pods.
+    pub(crate) fn new(
+        clock: &'a C,
+        workers: usize,
+        pods: usize,
+    ) -> Result<Meeting<'a, C>, AllocError>
+        requires { 0 < workers }
+    {
+        let alloc = clock.alloc();
+        Ok(Meeting {
+            clock,
+            workers: workers as u64,
+            arrivals: AtomicU64::new(0),
+            missed: AtomicU64::new(0),
+            entered: zeros(alloc, pods)?,
+            left: zeros(alloc, pods)?,
+        })
+    }
+
+    /// No update gave up, and each pod has entered and left so many times.
+    pub(crate) fn expect(&self, rt: &impl Abort, times: u64) {
+        let (workers, pods) = (self.workers, self.entered.len());
+        let missed = self.missed.load(Ordering::SeqCst);
+        assert_eq!(rt;
+            missed,
+            0,
+            "updates alone among {workers} workers and {pods} pods"
+        );
+        for (pod, (entered, left)) in self.entered.iter().zip(&self.left).enumerate() {
+            let calls = (entered.load(Ordering::SeqCst), left.load(Ordering::SeqCst));
+            assert_eq!(rt;
+                calls,
+                (times, times),
+                "pod {pod} of {pods}, {workers} workers"
+            );
+        }
+        let arrivals = self.arrivals.load(Ordering::SeqCst);
+        assert_eq!(rt;
+            arrivals,
+            times.saturating_mul(pods as u64),
+            "{workers} workers"
+        );
+    }
+}
+
+impl<C: Clock + Sync> Gate for Meeting<'_, C> {
+    fn enter(&self, pod: usize) {
+        if let Some(count) = self.entered.get(pod) {
+            count.fetch_add(1, Ordering::SeqCst);
+        }
+        let before = self.arrivals.fetch_add(1, Ordering::SeqCst);
+        let wanted = (before / self.workers)
+            .saturating_add(1)
+            .saturating_mul(self.workers);
+        if !is_reached(self.clock, &self.arrivals, wanted, &self.missed) {
+            self.missed.fetch_add(1, Ordering::SeqCst);
+        }
+    }
+
+    fn leave(&self, pod: usize) {
+        if let Some(count) = self.left.get(pod) {
+            count.fetch_add(1, Ordering::SeqCst);
+        }
+    }
+}
+
+/// The updates of the first and of the third pod wait for each other.
+#[derive(Drop)]
+pub(crate) struct Pair<'a, C> {
+    clock: &'a C,
+    first: AtomicU64,
+    third: AtomicU64,
+    missed: AtomicU64,
+}
+
+impl<'a, C> Pair<'a, C> {
+    pub(crate) fn new(clock: &'a C) -> Pair<'a, C> {
+        Pair {
+            clock,
+            first: AtomicU64::new(0),
+            third: AtomicU64::new(0),
+            missed: AtomicU64::new(0),
+        }
+    }
+
+    /// Both came, and neither gave up.
+    pub(crate) fn expect(&self, rt: &impl Abort) {
+        let missed = self.missed.load(Ordering::SeqCst);
+        assert_eq!(rt; missed, 0, "the first and the third pod did not meet");
+        assert_eq!(rt; self.first.load(Ordering::SeqCst), 1);
+        assert_eq!(rt; self.third.load(Ordering::SeqCst), 1);
+    }
+}
+
+impl<C: Clock + Sync> Gate for Pair<'_, C> {
+    fn enter(&self, pod: usize) {
+        let (own, other) = match pod {
+            0 => (&self.first, &self.third),
+            2 => (&self.third, &self.first),
+            _ => return,
+        };
+        own.fetch_add(1, Ordering::SeqCst);
+        if !is_reached(self.clock, other, 1, &self.missed) {
+            self.missed.fetch_add(1, Ordering::SeqCst);
+        }
+    }
+
+    fn leave(&self, _pod: usize) {}
+}
