@@ -1,1 +1,2 @@
+pub mod KeptAs
 pub mod OwnTicks

@@ -1,9 +1,8 @@
 -- The containers of a pod, followed by their differs.
-use Rattle.std.proofs.Common.{◌≡◌, ◌∙◌, inl, inr, ℕ, ◌+◌, ◌<◌, ◌≤◌, List, [], ◌∷◌, ◌++◌, length, get_or, ap, sym, subst, arith}
+use Rattle.std.proofs.Common.{◌≡◌, ◌∙◌, inl, inr, ℕ, ◌+◌, ◌<◌, List, [], ◌∷◌, ◌++◌, length, get_or, ap, sym, subst, arith}
 use Rattle.std.specs.Prelude.{slice_get, unwrap_or}
 use Rattle.std.proofs.lemmas.Bool.{cases_lt}
 use Rattle.histories.specs.Histories.{recorded}
-use Rattle.histories.proofs.Items.{any_default}
 use Rattle.histories.proofs.Places.{project-append}
 use Rattle.manifest.specs.declared.pod.PodSpec.{PodSpec}
 use Rattle.observations.specs.declared.pod.PodObs.{PodObs}
@@ -11,7 +10,7 @@ use Rattle.observations.specs.declared.container.ContainerObs.{ContainerObs}
 use Rattle.state_diff.specs.declared.differ.Differ.{Differ}
 use Rattle.state_diff.specs.Differ.{IsStateOf}
 use Rattle.state_diff.specs.Instances.{Tick}
-use Rattle.containers.specs.Ticks.{ContainerTick, listings}
+use Rattle.containers.specs.Ticks.{listings}
 use Rattle.pod_state.specs.Pods.{PodTick, pod_tick, ticks_of, unseen}
 use Rattle.pod_state.proofs.TickLemmas.{ticks_more}
 use Rattle.pod_piece.specs.Listings.{listed_in, AreListed}

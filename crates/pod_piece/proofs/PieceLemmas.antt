@@ -1,8 +1,8 @@
 -- What a piece keeps, from call to call.
-use Rattle.std.proofs.Common.{◌≡◌, ◌∙◌, inl, inr, ℕ, suc, zero, ◌+◌, ◌-◌, ◌<◌, ◌≤◌, Bool, true, false, List, [], ◌∷◌, ◌++◌, length, map, take, get_or, Option, Some, None, refl, ap, sym, subst, arith}
-use Rattle.std.specs.Prelude.{◌↔◌, ◌^◌, IsTrue, IsSome, is_some, IfSome, IsSomeAnd, MatchOption, nat_lt, not, option_map, if◌then◌else◌, slice_get, unwrap_or}
+use Rattle.std.proofs.Common.{◌≡◌, ◌∙◌, inl, inr, ℕ, suc, zero, ◌-◌, ◌<◌, ◌≤◌, Bool, true, false, List, [], ◌∷◌, ◌++◌, length, map, take, get_or, Option, Some, None, refl, ap, sym, subst, arith}
+use Rattle.std.specs.Prelude.{◌↔◌, IsTrue, IsSome, is_some, IfSome, IsSomeAnd, MatchOption, nat_lt, option_map, if◌then◌else◌, slice_get, unwrap_or}
 use Rattle.std.proofs.lemmas.Bool.{cases_lt, lt-ltb, ltb-true}
-use Rattle.std.proofs.lemmas.List.{length-map, map-append, take-map, take_all}
+use Rattle.std.proofs.lemmas.List.{get_or-take, length-map, length-take-le, map-append, take-map, take_all}
 use Rattle.std.proofs.lemmas.Option.{slice_get-get_or, slice_get-map, slice_get_past, slice_get_within}
 use Rattle.std.proofs.Math.Seq.{take-append_seam, take-suc}
 use Rattle.histories.specs.Histories.{recorded, last_moment, moment_at, EndsBefore}
@@ -11,7 +11,6 @@ use Rattle.probes.proofs.Runs.{slice_get-new}
 use Rattle.manifest.specs.declared.pod.PodSpec.{PodSpec}
 use Rattle.observations.specs.declared.pod.PodObs.{PodObs}
 use Rattle.observations.specs.declared.container.ContainerObs.{ContainerObs}
-use Rattle.observations.specs.declared.usage.Usage.{Usage}
 use Rattle.state_diff.specs.declared.differ.Differ.{Differ}
 use Rattle.state_diff.specs.Instances.{IsAcceptable}
 use Rattle.containers.specs.Ticks.{listings}
@@ -30,7 +29,7 @@ use Rattle.pod_piece.specs.declared.piece.Eviction.{Eviction}
 use Rattle.pod_piece.specs.declared.status.PodStatus.{PodStatus}
 use Rattle.pod_piece.specs.Listings.{listed_in, IsNextTick, AreListed, AllFollow}
 use Rattle.pod_piece.specs.Piece.{Piece, piece, before_last, last_of, taken, ticks, place_of, evicted_at, Lives, evicted_before, new_piece, with_tick, updated, with_eviction}
-use Rattle.pod_piece.specs.Status.{IsStatusAfter, IsStatusOf, AreEventsAfter, AreLastEvents}
+use Rattle.pod_piece.specs.Status.{IsStatusAfter, IsStatusOf, AreEventsAfter}
 use Rattle.pod_piece.specs.Kept.{MayBe, EndsAt, IsStateAfter, IsKept}
 
 -- the last of some ticks, and those before it
@@ -400,6 +399,17 @@ last_moment_of items = ap (λ m. moment_at (map pod_tick items) (m - 1)) (length
 
 pub front_is : (items : List PodObs) → before_last (map pod_tick items) ≡ map pod_tick (take (length items - 1) items)
 front_is items = ap (λ m. take (m - 1) (map pod_tick items)) (length-map items pod_tick) ∙ take-map pod_tick (length items - 1) items
+
+-- the moment before a place
+pub moment_taken : (items : List PodObs) (n : ℕ) (last : PodObs) → 0 < n → n ≤ length items → last ≡ get_or items (n - 1) last
+    → Some last.at ≡ last_moment (map pod_tick (take n items))
+moment_taken items n last some within is =
+    let long : length (take n items) ≡ n = length-take-le n items within in
+    let here : last ≡ get_or (take n items) (n - 1) last = is ∙ sym (get_or-take n items (n - 1) last (omega (arith, some))) in
+    sym (last_moment_of (take n items)
+    ∙ ap (λ m. option_map (λ (o : PodObs). o.at) (slice_get (take n items) (m - 1))) long
+    ∙ ap (option_map (λ (o : PodObs). o.at)) (slice_get-get_or (take n items) (n - 1) last (omega (arith, long, some)))
+    ∙ ap (λ (o : PodObs). Some o.at) (sym here))
 
 -- what was pushed stands last
 pub pushed_last : (items : List PodObs) (observed : PodObs) (n : ℕ) (last : PodObs) → n ≡ length (items ++ observed ∷ []) → last ≡ get_or (items ++ observed ∷ []) (n - 1) last → last ≡ observed

@@ -1,15 +1,14 @@
 -- The newest samples, after one more tick.
-use Rattle.std.proofs.Common.{◌≡◌, ◌∙◌, inl, inr, ℕ, suc, ◌<◌, Bool, true, false, List, [], ◌∷◌, ◌++◌, length, Option, Some, None, refl, ap, sym, subst, arith}
-use Rattle.std.specs.Prelude.{◌↔◌, IsTrue, IsSome, IsSomeAnd, not, option_and_then, if◌then◌else◌}
+use Rattle.std.proofs.Common.{◌≡◌, ◌∙◌, ℕ, ◌<◌, Bool, true, false, List, [], ◌∷◌, ◌++◌, length, Option, Some, None, refl, ap, sym, subst, arith}
+use Rattle.std.specs.Prelude.{◌↔◌, IsTrue, IsSome, not, option_and_then, if◌then◌else◌}
 use Rattle.std.specs.Option.{option_or}
-use Rattle.histories.specs.Histories.{entry_at, up_to}
 use Rattle.histories.proofs.Places.{kept, added, up_to-old, up_to-new}
 use Rattle.histories.proofs.Last.{IsLast-old, IsLast-new}
 use Rattle.histories.proofs.First.{none_more}
 use Rattle.histories.proofs.Growth.{grows_entry}
 use Rattle.manifest.specs.declared.pod.PodSpec.{PodSpec}
 use Rattle.observations.specs.declared.usage.Usage.{Usage}
-use Rattle.pod_state.specs.Pods.{PodEntry, PodTick, IsEnd, HasEnded, counted}
+use Rattle.pod_state.specs.Pods.{PodTick, IsEnd, HasEnded, counted}
 use Rattle.pod_state.proofs.EndLemmas.{IsEnd-unique, end_old, counted_all}
 use Rattle.pod_piece.specs.Usage.{sample_in, HasSample, IsNewestSample, AreNewestSamples, IsUsageOf, nothing, newer}
 

@@ -7,7 +7,6 @@ use Rattle.manifest.specs.declared.pod.PodSpec.{PodSpec}
 use Rattle.pod_state.specs.Pods.{PodTick, IsEnd}
 use Rattle.pod_state.specs.Lifecycles.{IsProgressOf}
 use Rattle.pod_state.specs.States.{before_of, IsStateOf}
-use Rattle.pod_piece.specs.declared.piece.Eviction.{Eviction}
 use Rattle.pod_piece.specs.declared.status.PodStatus.{PodStatus}
 use Rattle.pod_piece.specs.Piece.{Piece, before_last, last_of, ticks, evicted_at}
 use Rattle.pod_piece.specs.Listings.{IsNextTick, AreListed}

@@ -1,6 +1,5 @@
 -- A pod, all that was handed to it, and its eviction.
-use Rattle.std.specs.Prelude.{◌≡◌, ℕ, ◌-◌, Bool, true, false, List, [], ◌∷◌, ◌++◌, length, map, take, slice_get, nat_lt, Option, Some, None, IsTrue, option_map, if◌then◌else◌}
-use Rattle.histories.specs.Histories.{last_moment}
+use Rattle.std.specs.Prelude.{ℕ, ◌-◌, Bool, true, false, List, [], ◌∷◌, ◌++◌, length, map, take, slice_get, nat_lt, Option, Some, None, option_map, if◌then◌else◌}
 use Rattle.manifest.specs.declared.pod.PodSpec.{PodSpec}
 use Rattle.pod_state.specs.Pods.{PodTick, pod_tick, HasEnded}
 use Rattle.observations.specs.declared.pod.PodObs.{PodObs}

@@ -1,6 +1,6 @@
 -- What a pod's status shows, and the events of its last tick. (Kubernetes, "Pod Lifecycle"; "Pod
 -- Quality of Service Classes"; "Node-pressure Eviction".)
-use Rattle.std.specs.Prelude.{◌≡◌, ℕ, List, [], length, Option, Some, None, MatchOption, option_map}
+use Rattle.std.specs.Prelude.{◌≡◌, ℕ, List, [], length, Option, MatchOption, option_map}
 use Rattle.manifest.specs.declared.pod.PodSpec.{PodSpec}
 use Rattle.manifest.specs.declared.resources.Resource.TheVariants.{Cpu, Memory, EphemeralStorage}
 use Rattle.qos.specs.Class.{IsOfClass}

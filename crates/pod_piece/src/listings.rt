@@ -23,7 +23,7 @@ pub(crate) fn first_differs(alloc: Global, count: usize) -> Result<Vec<Differ>, 
 fn listed_in(observed: &PodObs, number: usize) -> Option<Seen>
     ensures { result ≡ listed_in observed.now.containers number }
 {
-    let shown = observed.containers.as_slice().get(number)?;
+    let shown = observed.containers.get(number)?;
     shown.seen
 }
 

@@ -1,6 +1,6 @@
 //! A pod with its history.
 
-ghost use Rattle.std.specs.Prelude.{◌≡◌, ◌↔◌, ◌^◌, ◌<◌, ℕ, [], length, map, Option, Some, None, false, IsTrue, IfOk, IfErr, OnOk, OnErr};
+ghost use Rattle.std.specs.Prelude.{◌≡◌, ◌↔◌, ◌^◌, ◌<◌, ◌≤◌, ℕ, [], length, map, take, Option, Some, None, false, IsTrue, IfOk, IfErr, OnOk, OnErr};
 ghost use Rattle.histories.specs.Histories.{last_moment};
 ghost use Rattle.pod_state.specs.Pods.{pod_tick};
 ghost use Rattle.pod_state.specs.States.{IsStateOf};
@@ -12,6 +12,7 @@ use crate::listings::{are_acceptable, first_differs, follow};
 use crate::order::EvictOrder;
 use crate::status::{EffectiveRequests, PodStatus};
 use crate::usage::{newer_while, nothing};
+use chunked_list::ChunkedList;
 use containers::ContainerStatus;
 use manifest::{MaxRestartDelay, PodSpec};
 use observations::PodObs;
@@ -37,7 +38,7 @@ pub struct PodPiece {
     number: usize,
     pod: PodSpec,
     greatest: MaxRestartDelay,
-    history: Vec<PodObs>,
+    history: ChunkedList<PodObs>,
     is_pending: bool,
     eviction: Option<Eviction>,
     differs: Vec<Differ>,
@@ -54,10 +55,10 @@ impl Model for PodPiece {
 
     ghost Value = { Piece };
 
-    ghost view = { λ p. piece p.number p.pod p.greatest p.history.items p.is_pending p.eviction };
+    ghost view = { λ p. piece p.number p.pod p.greatest p.history p.is_pending p.eviction };
 
     ghost invariant = { λ p.
-        IsKept (piece p.number p.pod p.greatest p.history.items p.is_pending p.eviction)
+        IsKept (piece p.number p.pod p.greatest p.history p.is_pending p.eviction)
         p.differs.items p.state p.status p.events.items };
 }
 
@@ -105,6 +106,17 @@ fn first_status(
     })
 }
 
+/// The moment of the observation before the place, if there is one.
+fn moment_before(history: &ChunkedList<PodObs>, place: usize) -> Option<u64>
+    requires { place ≤ length history.now }
+    ensures { result ≡ last_moment (map pod_tick (take place history.now)) }
+{
+    if place == 0 {
+        return None;
+    }
+    Some(history.at(place - 1).at)
+}
+
 impl PodPiece {
     /// The pod with this number and specification, on a node with this greatest restart delay.
     /// Nothing was handed to it yet.
@@ -124,7 +136,7 @@ impl PodPiece {
             number,
             pod,
             greatest,
-            history: Vec::new(alloc),
+            history: ChunkedList::new(alloc),
             is_pending: false,
             eviction: None,
             differs,
@@ -148,24 +160,14 @@ impl PodPiece {
         self.is_pending
     }
 
-    /// The ticks that have come into its status.
-    fn taken(&self) -> &[PodObs]
-        ensures { ticks self.now ≡ map pod_tick result.now }
-    {
-        if self.is_pending {
-            &self.history[..self.history.len() - 1]
-        } else {
-            &self.history
-        }
-    }
-
     /// The moment of the last update's tick, in seconds; none before the first.
     pub fn last_at(&self) -> Option<u64>
         ensures { result ≡ last_moment (ticks self.now) }
     {
-        match self.taken().last() {
-            Some(last) => Some(last.at),
-            None => None,
+        if self.is_pending {
+            moment_before(&self.history, self.history.len() - 1)
+        } else {
+            moment_before(&self.history, self.history.len())
         }
     }
 
@@ -175,7 +177,7 @@ impl PodPiece {
         requires { self.now.is_pending ≡ false }
         ensures { IsTrue result ↔ MayComeNext self.now.pod self.now.handed observed.now.containers }
     {
-        observed.containers.as_slice().len() == self.pod.containers.as_slice().len()
+        observed.containers.len() == self.pod.containers.as_slice().len()
             && are_acceptable(&self.differs, observed)
     }
 
@@ -188,7 +190,7 @@ impl PodPiece {
     {
         self.history.push(observed)?;
         let last = self.history.len() - 1;
-        follow(&mut self.differs, &self.history[last]);
+        follow(&mut self.differs, self.history.at(last));
         self.is_pending = true;
         Ok(())
     }
@@ -213,7 +215,7 @@ impl PodPiece {
         ensures err { OnErr result (self.new ≡ self.old) }
     {
         let last = self.history.len() - 1;
-        let observed = &self.history[last];
+        let observed = self.history.at(last);
         let had_ended = self.state.lifecycle().has_ended();
         let events = self.state.take(self.alloc, self.pod.policy, observed)?;
         self.status.usage = newer_while(!had_ended, self.status.usage, observed.usage.usage());

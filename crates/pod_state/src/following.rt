@@ -40,8 +40,8 @@ pub(crate) fn first_containers(
 fn shown_of(observed: &PodObs, number: usize) -> ContainerObs
     ensures { result ≡ unwrap_or (slice_get observed.now.containers number) unseen }
 {
-    match observed.containers.as_slice().get(number) {
-        Some(shown) => *shown,
+    match observed.containers.get(number) {
+        Some(shown) => shown,
         None => ContainerObs {
             seen: None,
             results: [None, None, None],

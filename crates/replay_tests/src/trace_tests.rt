@@ -118,10 +118,10 @@ fn results_are_shown_by_container_and_probe(rt: HostRuntime) -> Result<(), Fail>
         let trace = trace_of(alloc, text.as_str())?;
         let tick = trace.ticks.as_slice().first().ok_or("a tick")?;
         let pod = tick.pods.as_slice().first().ok_or("a pod")?;
-        let containers = pod.containers.as_slice();
-        assert_eq!(rt; containers.len(), 2, "{entries}");
-        for (container, wanted) in containers.iter().zip([c, d]) {
-            assert_eq!(rt; container.results, wanted, "{entries}");
+        assert_eq!(rt; pod.containers.len(), 2, "{entries}");
+        for (number, wanted) in [c, d].into_iter().enumerate() {
+            let shown = pod.containers.get(number).ok_or("a container")?;
+            assert_eq!(rt; shown.results, wanted, "{entries}");
         }
     }
     let places = [

@@ -24,7 +24,7 @@ use crate::placing::{
 use following::Following;
 use json_fields::field;
 use manifest::{ContainerSpec, Outcome, PodSpec, ProbeKind};
-use observations::{ContainerObs, MOST_TICKS, PodObs, TickObs, Usage, UsageSample};
+use observations::{ContainerObs, Containers, MOST_TICKS, PodObs, TickObs, Usage, UsageSample};
 use sequence::Sequence;
 use serde_json::Value;
 use state_diff::{CriState, Seen};
@@ -163,7 +163,7 @@ fn pod_observed(
     let usage = UsageSample::new(alloc, usage_of(entry))?;
     Ok(PodObs {
         at,
-        containers: Sequence::from_vec(containers),
+        containers: Containers::from_slice(alloc, &containers)?,
         usage,
     })
 }

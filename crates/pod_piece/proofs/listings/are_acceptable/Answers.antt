@@ -1,4 +1,4 @@
-use Rattle.std.proofs.Common.{◌<◌, length, Option, refl, subst, arith}
+use Rattle.std.proofs.Common.{Option, refl, subst, arith}
 use Rattle.state_diff.specs.declared.seen.Seen.{Seen}
 use Rattle.containers.specs.Ticks.{listings}
 use Rattle.state_diff.specs.Instances.{IsAcceptable}

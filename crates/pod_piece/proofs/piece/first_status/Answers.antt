@@ -1,6 +1,5 @@
-use Rattle.std.proofs.Common.{◌≡◌, ◌∙◌, ℕ, [], List, length, None, true, false, rules, SFits, w32, refl, ap, sym, subst, arith}
+use Rattle.std.proofs.Common.{◌≡◌, [], length, None, true, false, rules, SFits, w32, refl, ap, sym, subst, arith}
 use Rattle.std.proofs.lemmas.Int.{ints}
-use Rattle.manifest.specs.declared.pod.PodSpec.{PodSpec}
 use Rattle.pod_state.specs.declared.lifecycle.Lifecycle.{Lifecycle}
 use Rattle.pod_state.specs.Lifecycles.{IsLifecycleOf}
 use Rattle.observations.specs.declared.usage.Usage.{Usage}

@@ -1,5 +1,4 @@
-use Rattle.std.proofs.Common.{◌≡◌, ◌∙◌, ◌++◌, ◌∷◌, ◌-◌, [], ℕ, List, length, map, Bool, Option, Some, None, true, false, refl, ap, sym, subst, arith}
-use Rattle.std.specs.Prelude.{◌↔◌, IsTrue, IsSome}
+use Rattle.std.proofs.Common.{◌≡◌, ◌∙◌, ◌++◌, ◌∷◌, ◌-◌, [], ℕ, length, Some, true, false, refl, ap, sym, subst, arith}
 use Rattle.std.proofs.lemmas.List.{length-map}
 use Rattle.histories.specs.Histories.{recorded, last_moment}
 use Rattle.pod_state.specs.declared.lifecycle.Lifecycle.{Lifecycle}
@@ -15,7 +14,7 @@ use Rattle.pod_piece.proofs.piece.PodPiece.evict.Goals as goal
 pub evict-requires : goal.evict-requires
 evict-requires c =
     let i = c.self.inside in
-    let p = piece i.number i.pod i.greatest i.history.items i.is_pending i.eviction in
+    let p = piece i.number i.pod i.greatest i.history i.is_pending i.eviction in
     let free : i.is_pending ≡ false = ap (λ (q : Piece). q.is_pending) c.self.view_is ∙ c.requires.free in
     let lives = subst (λ (q : Piece). Lives q) (sym c.self.view_is) c.requires.lives in
     let after = state_free p i.differs.items i.state i.status i.events.items free c.self.invariant in
@@ -24,7 +23,7 @@ evict-requires c =
 pub show-requires : goal.show-requires
 show-requires c =
     let i = c.self.inside in
-    let p = piece i.number i.pod i.greatest i.history.items i.is_pending i.eviction in
+    let p = piece i.number i.pod i.greatest i.history i.is_pending i.eviction in
     let h = before_last p.handed in
     let free : i.is_pending ≡ false = ap (λ (q : Piece). q.is_pending) c.self.view_is ∙ c.requires.free in
     let lives = subst (λ (q : Piece). Lives q) (sym c.self.view_is) c.requires.lives in
@@ -36,14 +35,14 @@ show-requires c =
 pub invariant_of-self : goal.invariant_of-self
 invariant_of-self c =
     let i = c.self.inside in
-    let p = piece i.number i.pod i.greatest i.history.items i.is_pending i.eviction in
+    let p = piece i.number i.pod i.greatest i.history i.is_pending i.eviction in
     let h = before_last p.handed in
     let free : i.is_pending ≡ false = ap (λ (q : Piece). q.is_pending) c.self.view_is ∙ c.requires.free in
     let lives = subst (λ (q : Piece). Lives q) (sym c.self.view_is) c.requires.lives in
     let last = tick_at p.handed c.args.order.at (ap (λ (q : Piece). last_moment q.handed) c.self.view_is ∙ c.requires.last) in
     let x = recorded c.args.order.at last.0 in
     let k = h ++ x ∷ [] in
-    let place : length p.handed - 1 ≡ c.len-place.result - 1 = omega (arith, c.len-place.ensures, i.history.ok, length-map i.history.items pod_tick) in
+    let place : length p.handed - 1 ≡ c.len-place.result - 1 = omega (arith, c.len-place.ensures, length-map i.history pod_tick) in
     let status : PodStatus = record {
       number = i.status.number;
       phase = c.lifecycle-lifecycle.result.phase;
@@ -67,4 +66,4 @@ invariant_of-self c =
       priority = shown.priority;
       order = refl;
     }) in
-    subst (λ (n : ℕ). IsKept (piece i.number i.pod i.greatest i.history.items i.is_pending (Some (record { place = n; order = c.args.order }))) i.differs.items c.evict.new.self status i.events.items) place kept
+    subst (λ (n : ℕ). IsKept (piece i.number i.pod i.greatest i.history i.is_pending (Some (record { place = n; order = c.args.order }))) i.differs.items c.evict.new.self status i.events.items) place kept

@@ -1,10 +1,9 @@
-use Rattle.std.proofs.Common.{◌≡◌, ◌∙◌, ◌++◌, ◌∷◌, [], List, length, map, get_or, ◌-◌, Bool, true, false, ap, sym, subst, arith}
+use Rattle.std.proofs.Common.{◌≡◌, ◌∙◌, ◌++◌, ◌∷◌, [], List, length, map, get_or, ◌-◌, true, false, ap, sym, subst, arith}
 use Rattle.observations.specs.declared.pod.PodObs.{PodObs}
-use Rattle.state_diff.specs.declared.differ.Differ.{Differ}
 use Rattle.pod_state.specs.Pods.{pod_tick}
 use Rattle.pod_piece.specs.Kept.{IsKept}
 use Rattle.pod_piece.specs.Listings.{AreListed, IsNextTick, AllFollow}
-use Rattle.pod_piece.specs.Piece.{Piece, piece, with_tick}
+use Rattle.pod_piece.specs.Piece.{Piece, piece}
 use Rattle.pod_piece.proofs.PieceLemmas.{all_follow, kept_handed, piece_handed, pushed_last}
 use Rattle.pod_piece.proofs.piece.PodPiece.hand.Goals as goal
 
@@ -13,24 +12,24 @@ follow-requires c =
     let i = c.self.inside in
     let obs = c.args.observed in
     let next = subst (λ (p : Piece). IsNextTick p.pod p.handed (pod_tick obs)) (sym c.self.view_is) c.requires.next in
-    let last : c.index.result.now ≡ obs = pushed_last i.history.items obs c.len-last.result c.index.result.now
-    (omega (arith, c.len-last.ensures, c.push.new.self.ok, ap length c.in_ok-push.ensures.items))
-    (c.index.ensures ∙ ap (λ (os : List PodObs). get_or os (c.len-last.result - 1) c.index.result.now) c.in_ok-push.ensures.items) in
-    subst (λ (o : PodObs). AllFollow i.differs.items o.at o.containers) (sym last) (all_follow i.pod (map pod_tick i.history.items) i.differs.items obs c.self.invariant.listed next)
+    let last : c.at.result.now ≡ obs = pushed_last i.history obs c.len-last.result c.at.result.now
+    (omega (arith, c.len-last.ensures, ap length c.in_ok-push.ensures.ok))
+    (c.at.ensures ∙ ap (λ (os : List PodObs). get_or os (c.len-last.result - 1) c.at.result.now) c.in_ok-push.ensures.ok) in
+    subst (λ (o : PodObs). AllFollow i.differs.items o.at o.containers) (sym last) (all_follow i.pod (map pod_tick i.history) i.differs.items obs c.self.invariant.listed next)
 
 pub invariant_of-self-2 : goal.invariant_of-self-2
 invariant_of-self-2 c =
     let i = c.self.inside in
     let obs = c.args.observed in
-    let h = map pod_tick i.history.items in
-    let old : Piece = piece i.number i.pod i.greatest i.history.items i.is_pending i.eviction in
+    let h = map pod_tick i.history in
+    let old : Piece = piece i.number i.pod i.greatest i.history i.is_pending i.eviction in
     let next = subst (λ (p : Piece). IsNextTick p.pod p.handed (pod_tick obs)) (sym c.self.view_is) c.requires.next in
     let free : i.is_pending ≡ false = ap (λ (p : Piece). p.is_pending) c.self.view_is ∙ c.requires.free in
-    let last : c.index.result.now ≡ obs = pushed_last i.history.items obs c.len-last.result c.index.result.now
-    (omega (arith, c.len-last.ensures, c.push.new.self.ok, ap length c.in_ok-push.ensures.items))
-    (c.index.ensures ∙ ap (λ (os : List PodObs). get_or os (c.len-last.result - 1) c.index.result.now) c.in_ok-push.ensures.items) in
+    let last : c.at.result.now ≡ obs = pushed_last i.history obs c.len-last.result c.at.result.now
+    (omega (arith, c.len-last.ensures, ap length c.in_ok-push.ensures.ok))
+    (c.at.ensures ∙ ap (λ (os : List PodObs). get_or os (c.len-last.result - 1) c.at.result.now) c.in_ok-push.ensures.ok) in
     let listed : AreListed i.pod (h ++ pod_tick obs ∷ []) c.follow.new.differs.items =
     subst (λ (o : PodObs). AreListed i.pod (h ++ pod_tick o ∷ []) c.follow.new.differs.items) last (c.follow.ensures i.pod h c.self.invariant.listed) in
     let kept = kept_handed old (pod_tick obs) i.differs.items c.follow.new.differs.items i.state i.status i.events.items free next listed c.self.invariant in
-    subst (λ (os : List PodObs). IsKept (piece i.number i.pod i.greatest os true i.eviction) c.follow.new.differs.items i.state i.status i.events.items) (sym c.in_ok-push.ensures.items)
-    (subst (λ (p : Piece). IsKept p c.follow.new.differs.items i.state i.status i.events.items) (sym (piece_handed i.number i.pod i.greatest i.history.items i.is_pending i.eviction obs)) kept)
+    subst (λ (os : List PodObs). IsKept (piece i.number i.pod i.greatest os true i.eviction) c.follow.new.differs.items i.state i.status i.events.items) (sym c.in_ok-push.ensures.ok)
+    (subst (λ (p : Piece). IsKept p c.follow.new.differs.items i.state i.status i.events.items) (sym (piece_handed i.number i.pod i.greatest i.history i.is_pending i.eviction obs)) kept)

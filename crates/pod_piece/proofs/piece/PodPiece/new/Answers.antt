@@ -1,4 +1,4 @@
-use Rattle.std.proofs.Common.{◌≡◌, List, [], length, ap, sym, subst, None, false}
+use Rattle.std.proofs.Common.{List, [], length, ap, sym, subst, None, false}
 use Rattle.observations.specs.declared.pod.PodObs.{PodObs}
 use Rattle.pod_state.specs.declared.events.PodEvent.{PodEvent}
 use Rattle.pod_piece.specs.Kept.{IsKept}
@@ -11,6 +11,6 @@ invariant_of-result c =
     let kept = kept_new c.args.number c.args.pod c.args.greatest c.in_ok-differs.differs.items c.in_ok-state.state c.in_ok-status.status
     (c.in_ok-differs.ensures c.args.pod (ap length (sym c.as_slice.ensures.same))) c.in_ok-state.ensures.state c.in_ok-state.ensures.before c.in_ok-status.ensures in
     subst (λ (os : List PodObs). IsKept (piece c.args.number c.args.pod c.args.greatest os false None) c.in_ok-differs.differs.items c.in_ok-state.state c.in_ok-status.status c.new-3.result.items)
-    (sym c.new-2.ensures.items)
+    (sym c.new-2.ensures)
     (subst (λ (es : List PodEvent). IsKept (piece c.args.number c.args.pod c.args.greatest [] false None) c.in_ok-differs.differs.items c.in_ok-state.state c.in_ok-status.status es)
     (sym c.new-3.ensures.items) kept)

@@ -1,52 +1,50 @@
-use Rattle.std.proofs.Common.{◌≡◌, ◌∙◌, ◌++◌, ◌∷◌, [], ℕ, suc, List, length, map, Bool, Option, Some, true, false, refl, ap, sym, subst, arith}
-use Rattle.std.specs.Prelude.{◌↔◌, IsTrue, IsSome, not, if◌then◌else◌}
+use Rattle.std.proofs.Common.{◌∙◌, ◌++◌, ◌∷◌, [], length, map, Option, refl, sym, subst}
+use Rattle.std.specs.Prelude.{not, if◌then◌else◌}
 use Rattle.observations.specs.declared.usage.Usage.{Usage}
 use Rattle.pod_state.specs.declared.lifecycle.Lifecycle.{Lifecycle}
-use Rattle.pod_state.specs.Pods.{PodTick, pod_tick, HasEnded}
+use Rattle.pod_state.specs.Pods.{pod_tick}
 use Rattle.pod_state.specs.Lifecycles.{IsLifecycleOf, IsProgressOf}
-use Rattle.pod_piece.specs.Kept.{IsKept}
-use Rattle.pod_piece.specs.Listings.{IsNextTick}
 use Rattle.pod_piece.specs.Usage.{IsUsageOf, newer}
-use Rattle.pod_piece.specs.Piece.{Piece, piece, before_last, last_of, place_of}
-use Rattle.pod_piece.proofs.PieceLemmas.{observed_last, some_last, of_last, state_pending, may_self, may_take, has_containers, kept_updated, state_more, by_eviction, end_is, flag_says, at_last}
+use Rattle.pod_piece.specs.Piece.{piece, before_last, place_of}
+use Rattle.pod_piece.proofs.PieceLemmas.{may_self, may_take, has_containers, kept_updated, by_eviction, end_is, flag_says, at_last}
 use Rattle.pod_piece.proofs.UsageLemmas.{usage_more}
 use Rattle.pod_piece.proofs.piece.PodPiece.update_in_place.Goals as goal
 
 pub take-requires-clause-follows : goal.take-requires-clause-follows
 take-requires-clause-follows c =
     let i = c.self.inside in
-    let observed = c.index-observed.result.now in
-    let here = at_last c.args.self.now i.number i.pod i.greatest i.history.items i.is_pending i.eviction i.differs.items i.state i.status i.events.items c.len-last.result observed
-    c.self.view_is c.requires c.self.invariant (omega (arith, c.len-last.ensures, i.history.ok)) c.index-observed.ensures in
-    may_take i.pod i.greatest (place_of i.eviction) (before_last (map pod_tick i.history.items)) i.state observed here.now here.next
+    let observed = c.at-observed.result.now in
+    let here = at_last c.args.self.now i.number i.pod i.greatest i.history i.is_pending i.eviction i.differs.items i.state i.status i.events.items c.len-last.result observed
+    c.self.view_is c.requires c.self.invariant c.len-last.ensures c.at-observed.ensures in
+    may_take i.pod i.greatest (place_of i.eviction) (before_last (map pod_tick i.history)) i.state observed here.now here.next
 
 pub take-requires-clause-bounded : goal.take-requires-clause-bounded
 take-requires-clause-bounded c =
     let i = c.self.inside in
-    let observed = c.index-observed.result.now in
-    (at_last c.args.self.now i.number i.pod i.greatest i.history.items i.is_pending i.eviction i.differs.items i.state i.status i.events.items c.len-last.result observed
-    c.self.view_is c.requires c.self.invariant (omega (arith, c.len-last.ensures, i.history.ok)) c.index-observed.ensures).next.bounded
+    let observed = c.at-observed.result.now in
+    (at_last c.args.self.now i.number i.pod i.greatest i.history i.is_pending i.eviction i.differs.items i.state i.status i.events.items c.len-last.result observed
+    c.self.view_is c.requires c.self.invariant c.len-last.ensures c.at-observed.ensures).next.bounded
 
 pub show-requires : goal.show-requires
 show-requires c =
     let i = c.self.inside in
-    let observed = c.index-observed.result.now in
-    let h = before_last (map pod_tick i.history.items) in
-    let here = at_last c.args.self.now i.number i.pod i.greatest i.history.items i.is_pending i.eviction i.differs.items i.state i.status i.events.items c.len-last.result observed
-    c.self.view_is c.requires c.self.invariant (omega (arith, c.len-last.ensures, i.history.ok)) c.index-observed.ensures in
+    let observed = c.at-observed.result.now in
+    let h = before_last (map pod_tick i.history) in
+    let here = at_last c.args.self.now i.number i.pod i.greatest i.history i.is_pending i.eviction i.differs.items i.state i.status i.events.items c.len-last.result observed
+    c.self.view_is c.requires c.self.invariant c.len-last.ensures c.at-observed.ensures in
     let after = c.in_ok-events.ensures.ok i.pod i.greatest (place_of i.eviction) h refl here.not_now here.now in
     c.self.invariant.shown.containers.as_many ∙ has_containers i.pod i.greatest (place_of i.eviction) (h ++ pod_tick observed ∷ []) c.take.new.self after
 
 pub invariant_of-self-2 : goal.invariant_of-self-2
 invariant_of-self-2 c =
     let i = c.self.inside in
-    let observed = c.index-observed.result.now in
-    let h = before_last (map pod_tick i.history.items) in
+    let observed = c.at-observed.result.now in
+    let h = before_last (map pod_tick i.history) in
     let k = h ++ pod_tick observed ∷ [] in
     let e = place_of i.eviction in
-    let here = at_last c.args.self.now i.number i.pod i.greatest i.history.items i.is_pending i.eviction i.differs.items i.state i.status i.events.items c.len-last.result observed
-    c.self.view_is c.requires c.self.invariant (omega (arith, c.len-last.ensures, i.history.ok)) c.index-observed.ensures in
-    kept_updated (piece i.number i.pod i.greatest i.history.items i.is_pending i.eviction) (pod_tick observed) i.differs.items i.state c.take.new.self i.status _ i.events.items c.in_ok-events.events.items
+    let here = at_last c.args.self.now i.number i.pod i.greatest i.history i.is_pending i.eviction i.differs.items i.state i.status i.events.items c.len-last.result observed
+    c.self.view_is c.requires c.self.invariant c.len-last.ensures c.at-observed.ensures in
+    kept_updated (piece i.number i.pod i.greatest i.history i.is_pending i.eviction) (pod_tick observed) i.differs.items i.state c.take.new.self i.status _ i.events.items c.in_ok-events.events.items
     here.pending here.last c.self.invariant
     (λ e not is. c.in_ok-events.ensures.ok i.pod i.greatest e h refl not is)
     (λ e is. subst (λ (l : Lifecycle). IsProgressOf i.pod e h l) (sym c.in_ok-events.ensures.before) is.progress)
