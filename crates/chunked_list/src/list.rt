@@ -102,6 +102,7 @@ impl<T: Drop> ChunkedList<T> {
         ensures err { OnErr result (self.new ≡ self.old) }
     {
         let Some(length) = self.length.checked_add(1) else {
+            // no memory holds items whose number no usize holds
             return Err(AllocError);
         };
         make_room(self.alloc, &mut self.full, &mut self.last)?;
