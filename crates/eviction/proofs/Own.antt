@@ -4,7 +4,7 @@ use Rattle.std.proofs.Common.{true, false, cond, Option, Some, None, refl, sym, 
 use Rattle.std.specs.Prelude.{◌==◌, slice_get, option_map}
 use Rattle.std.proofs.lemmas.List.{take-append-le, take_all, map_push}
 use Rattle.std.proofs.lemmas.Bool.Decides.{eqb_tells}
-use Rattle.observations.specs.declared.pod.PodObs.{PodObs}
+use Rattle.observations.specs.Pods.{PodObs}
 use Rattle.observations.specs.declared.tick.TickObs.{TickObs}
 use Rattle.observations.specs.Observations.{shown_of}
 use Rattle.observations.proofs.OwnTicks.{own_more, own_rests}

@@ -11,7 +11,7 @@ use Rattle.state_diff.specs.declared.differ.Differ.{Differ}
 use Rattle.state_diff.specs.Differ.{IsStateOf}
 use Rattle.state_diff.specs.Instances.{Tick}
 use Rattle.state_diff.proofs.Steps.{is_before}
-use Rattle.observations.specs.declared.pod.PodObs.{PodObs}
+use Rattle.observations.specs.Pods.{PodObs}
 use Rattle.observations.specs.declared.tick.TickObs.{TickObs}
 use Rattle.observations.specs.Observations.{shown_of, listed_in, seen_of, own_ticks, history}
 use Rattle.observations.proofs.OwnTicks.{own_rests, history_more, history_rests}

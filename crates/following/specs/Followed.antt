@@ -8,7 +8,7 @@ use Rattle.state_diff.specs.declared.differ.Differ.{Differ}
 use Rattle.state_diff.specs.Acceptable.{is_acceptable}
 use Rattle.state_diff.specs.Differ.{IsStateOf, IsBefore}
 use Rattle.state_diff.specs.Instances.{Tick}
-use Rattle.observations.specs.declared.pod.PodObs.{PodObs}
+use Rattle.observations.specs.Pods.{PodObs}
 use Rattle.observations.specs.declared.tick.TickObs.{TickObs}
 use Rattle.observations.specs.Observations.{shown_of, seen_of, own_ticks, history}
 use Rattle.following.specs.Backwards.{is_backwards}

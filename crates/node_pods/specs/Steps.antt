@@ -1,6 +1,6 @@
 -- The pieces of a node's pods, one after the other, at one tick.
 use Rattle.std.specs.Prelude.{◌≡◌, ◌<◌, ℕ, false, List, slice_get, Option, Some, None}
-use Rattle.observations.specs.declared.pod.PodObs.{PodObs}
+use Rattle.observations.specs.Pods.{PodObs}
 use Rattle.pod_state.specs.Pods.{pod_tick}
 use Rattle.pod_piece.specs.Listings.{IsNextTick}
 use Rattle.pod_piece.specs.Piece.{Piece, with_tick}

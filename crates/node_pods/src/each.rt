@@ -47,7 +47,7 @@ fn is_next(piece: &PodPiece, observed: &PodObs, at: u64) -> bool
     requires { piece.now.is_pending ≡ false }
     ensures { IsTrue result ↔ IsNextAt at piece.now observed.now }
 {
-    observed.at == at
+    observed.at() == at
         && at < END_OF_TIME
         && is_before(piece.last_at(), at)
         && piece.accepts(observed)

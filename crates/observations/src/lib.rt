@@ -2,16 +2,15 @@
 #![tactic(auto)]
 
 mod container;
-mod containers;
 mod kept;
 mod limits;
 mod pod;
+mod shown;
 mod tick;
 mod usage;
 
 pub use container::ContainerObs;
-pub use containers::Containers;
 pub use limits::{MOST_PODS, MOST_TICKS};
 pub use pod::PodObs;
 pub use tick::{TickObs, seen_of};
-pub use usage::{Usage, UsageSample};
+pub use usage::Usage;

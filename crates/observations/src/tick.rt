@@ -25,6 +25,6 @@ pub fn seen_of(tick: &TickObs, pod: usize, container: usize) -> Option<Seen>
     ensures { result ≡ seen_of tick.now pod container }
 {
     let pod = tick.pods.as_slice().get(pod)?;
-    let observed = pod.containers.get(container)?;
+    let observed = pod.container(container)?;
     observed.seen
 }

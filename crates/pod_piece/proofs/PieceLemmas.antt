@@ -9,7 +9,7 @@ use Rattle.histories.specs.Histories.{recorded, last_moment, moment_at, EndsBefo
 use Rattle.histories.proofs.Places.{length-more, length-project, moment_at-project}
 use Rattle.probes.proofs.Runs.{slice_get-new}
 use Rattle.manifest.specs.declared.pod.PodSpec.{PodSpec}
-use Rattle.observations.specs.declared.pod.PodObs.{PodObs}
+use Rattle.observations.specs.Pods.{PodObs}
 use Rattle.observations.specs.declared.container.ContainerObs.{ContainerObs}
 use Rattle.state_diff.specs.declared.differ.Differ.{Differ}
 use Rattle.state_diff.specs.Instances.{IsAcceptable}

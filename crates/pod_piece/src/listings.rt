@@ -23,7 +23,7 @@ pub(crate) fn first_differs(alloc: Global, count: usize) -> Result<Vec<Differ>, 
 fn listed_in(observed: &PodObs, number: usize) -> Option<Seen>
     ensures { result ≡ listed_in observed.now.containers number }
 {
-    let shown = observed.containers.get(number)?;
+    let shown = observed.container(number)?;
     shown.seen
 }
 
@@ -56,8 +56,9 @@ pub(crate) fn follow(differs: &mut Vec<Differ>, observed: &PodObs)
     ensures { (pod : PodSpec) (h : List PodTick) → AreListed pod h differs.old.items
         → AreListed pod (h ++ pod_tick observed.now ∷ []) differs.new.items }
 {
+    let at = observed.at();
     for number in 0..differs.len() {
         let seen = listed_in(observed, number);
-        differs[number] = differ_after(differs[number], observed.at, seen);
+        differs[number] = differ_after(differs[number], at, seen);
     }
 }

@@ -114,7 +114,7 @@ fn moment_before(history: &ChunkedList<PodObs>, place: usize) -> Option<u64>
     if place == 0 {
         return None;
     }
-    Some(history.at(place - 1).at)
+    Some(history.at(place - 1).at())
 }
 
 impl PodPiece {
@@ -177,7 +177,7 @@ impl PodPiece {
         requires { self.now.is_pending ≡ false }
         ensures { IsTrue result ↔ MayComeNext self.now.pod self.now.handed observed.now.containers }
     {
-        observed.containers.len() == self.pod.containers.as_slice().len()
+        observed.container_count() == self.pod.containers.as_slice().len()
             && are_acceptable(&self.differs, observed)
     }
 
@@ -218,7 +218,7 @@ impl PodPiece {
         let observed = self.history.at(last);
         let had_ended = self.state.lifecycle().has_ended();
         let events = self.state.take(self.alloc, self.pod.policy, observed)?;
-        self.status.usage = newer_while(!had_ended, self.status.usage, observed.usage.usage());
+        self.status.usage = newer_while(!had_ended, self.status.usage, observed.usage());
         self.state
             .show(self.eviction.is_some(), &mut self.status.containers);
         let lifecycle = self.state.lifecycle();

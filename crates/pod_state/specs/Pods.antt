@@ -6,7 +6,7 @@ use Rattle.std.specs.Prelude.{unwrap_or, slice_get, slice_index_or}
 use Rattle.std.specs.List.{range_with_len}
 use Rattle.histories.specs.Histories.{Recorded, recorded, project, up_to, IsSo, IsFirstPlace}
 use Rattle.observations.specs.declared.container.ContainerObs.{ContainerObs}
-use Rattle.observations.specs.declared.pod.PodObs.{PodObs}
+use Rattle.observations.specs.Pods.{PodObs}
 use Rattle.observations.specs.declared.usage.Usage.{Usage}
 use Rattle.state_diff.specs.Instances.{IsSetUp}
 use Rattle.manifest.specs.declared.pod.ContainerSpec.{ContainerSpec}

@@ -40,7 +40,7 @@ pub(crate) fn first_containers(
 fn shown_of(observed: &PodObs, number: usize) -> ContainerObs
     ensures { result ≡ unwrap_or (slice_get observed.now.containers number) unseen }
 {
-    match observed.containers.get(number) {
+    match observed.container(number) {
         Some(shown) => shown,
         None => ContainerObs {
             seen: None,
@@ -100,11 +100,12 @@ pub(crate) fn next_containers(
         → pod.policy ≡ policy → AreContainersOf pod greatest h containers.now
         → AreMade pod greatest h (pod_tick observed.now) next.made.items) }
 {
+    let at = observed.at();
     let mut all = Vec::new(alloc);
     let mut made = Vec::new(alloc);
     for (number, container) in containers.iter().enumerate() {
         let shown = shown_of(observed, number);
-        let next = after_tick(container, policy, observed.at, shown);
+        let next = after_tick(container, policy, at, shown);
         all.push(next.container)?;
         made.push(next.made)?;
     }

@@ -79,7 +79,7 @@ impl PodState {
     {
         let mut lifecycle = self.lifecycle;
         if lifecycle.has_ended() {
-            lifecycle.advance(policy, observed.at, &[], false, false);
+            lifecycle.advance(policy, observed.at(), &[], false, false);
             self.before = self.lifecycle;
             self.lifecycle = lifecycle;
             return Ok(Vec::new(alloc));
@@ -87,7 +87,7 @@ impl PodState {
         let next = next_containers(alloc, &self.containers, policy, observed)?;
         let views = views_of(alloc, &next.containers)?;
         let ready = all_ready(&next.containers);
-        lifecycle.advance(policy, observed.at, &views, ready, false);
+        lifecycle.advance(policy, observed.at(), &views, ready, false);
         let change = phase_event(self.lifecycle.phase, lifecycle.phase);
         let events = events_of(alloc, &next.made, lifecycle.phase, change)?;
         self.before = self.lifecycle;

@@ -118,9 +118,9 @@ fn results_are_shown_by_container_and_probe(rt: HostRuntime) -> Result<(), Fail>
         let trace = trace_of(alloc, text.as_str())?;
         let tick = trace.ticks.as_slice().first().ok_or("a tick")?;
         let pod = tick.pods.as_slice().first().ok_or("a pod")?;
-        assert_eq!(rt; pod.containers.len(), 2, "{entries}");
+        assert_eq!(rt; pod.container_count(), 2, "{entries}");
         for (number, wanted) in [c, d].into_iter().enumerate() {
-            let shown = pod.containers.get(number).ok_or("a container")?;
+            let shown = pod.container(number).ok_or("a container")?;
             assert_eq!(rt; shown.results, wanted, "{entries}");
         }
     }

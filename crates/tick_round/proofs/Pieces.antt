@@ -8,7 +8,7 @@ use Rattle.std.proofs.lemmas.List.{length-take-le}
 use Rattle.histories.specs.Histories.{up_to, IsSo}
 use Rattle.histories.proofs.Places.{length-more}
 use Rattle.manifest.specs.declared.pod.PodSpec.{PodSpec}
-use Rattle.observations.specs.declared.pod.PodObs.{PodObs}
+use Rattle.observations.specs.Pods.{PodObs}
 use Rattle.observations.specs.declared.tick.TickObs.{TickObs}
 use Rattle.observations.specs.Observations.{shown_of, own_ticks}
 use Rattle.node_config.specs.declared.node.NodeConfig.{NodeConfig}

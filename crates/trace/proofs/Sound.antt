@@ -10,7 +10,7 @@ use Rattle.state_diff.specs.Instances.{Tick, IsAcceptableHistory}
 use Rattle.state_diff.proofs.Acceptable.{is_acceptable_is}
 use Rattle.state_diff.proofs.Order.{acceptable_more}
 use Rattle.observations.specs.declared.tick.TickObs.{TickObs}
-use Rattle.observations.specs.declared.pod.PodObs.{PodObs}
+use Rattle.observations.specs.Pods.{PodObs}
 use Rattle.observations.specs.Observations.{shown_of, listed_in, seen_of, history}
 use Rattle.observations.proofs.OwnTicks.{seen_shown, history_shown, history_rests}
 use Rattle.trace.specs.declared.fault.LineFault.{LineFault}

@@ -38,7 +38,7 @@ use Rattle.following.specs.Backwards.{is_backwards}
 use Rattle.manifest.specs.declared.fault.ManifestFault.{ManifestFault}
 use Rattle.manifest.specs.declared.fault.ManifestFault.TheVariants as manifest_faults
 use Rattle.manifest.specs.declared.pod.PodSpec.{PodSpec}
-use Rattle.observations.specs.declared.pod.PodObs.{PodObs}
+use Rattle.observations.specs.Pods.{PodObs}
 use Rattle.observations.specs.declared.tick.TickObs.{TickObs}
 use Rattle.observations.specs.declared.usage.Usage.{Usage as PodUsage}
 use Rattle.observations.specs.Observations.{seen_of, history}

@@ -2,7 +2,7 @@
 use Rattle.std.specs.Prelude.{◌≡◌, ◌↔◌, IsSomeAnd, ℕ, ◌<◌, ◌≤◌, ◌^◌, List, length, slice_get, Some}
 use Rattle.state_diff.specs.Instances.{IsAcceptableHistory}
 use Rattle.manifest.specs.declared.pod.PodSpec.{PodSpec}
-use Rattle.observations.specs.declared.pod.PodObs.{PodObs}
+use Rattle.observations.specs.Pods.{PodObs}
 use Rattle.observations.specs.declared.tick.TickObs.{TickObs}
 use Rattle.observations.specs.Observations.{history}
 use Rattle.observations.specs.Limits.{most_pods, most_ticks}

@@ -24,7 +24,7 @@ use crate::placing::{
 use following::Following;
 use json_fields::field;
 use manifest::{ContainerSpec, Outcome, PodSpec, ProbeKind};
-use observations::{ContainerObs, Containers, MOST_TICKS, PodObs, TickObs, Usage, UsageSample};
+use observations::{ContainerObs, MOST_TICKS, PodObs, TickObs, Usage};
 use sequence::Sequence;
 use serde_json::Value;
 use state_diff::{CriState, Seen};
@@ -160,12 +160,7 @@ fn pod_observed(
     let listings = listings_of(entry);
     let results = results_of(entry);
     let containers = containers_observed(alloc, listings, results, pod.containers.as_slice())?;
-    let usage = UsageSample::new(alloc, usage_of(entry))?;
-    Ok(PodObs {
-        at,
-        containers: Containers::from_slice(alloc, &containers)?,
-        usage,
-    })
+    PodObs::new(alloc, at, &containers, usage_of(entry))
 }
 
 fn pods_observed(

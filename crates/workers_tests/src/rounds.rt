@@ -31,7 +31,7 @@ fn pending_piece(
     ensures pending { IfOk result (λ piece. IsTrue piece.is_pending) }
 {
     let mut piece = PodPiece::new(alloc, number, pod, MaxRestartDelay::unset())?;
-    if observed.at >= 1 << 40 || !piece.accepts(&observed) {
+    if observed.at() >= 1 << 40 || !piece.accepts(&observed) {
         return Err(Fail::from("a first tick"));
     }
     piece.hand(observed)?;

@@ -8,7 +8,7 @@ use Rattle.state_diff.specs.Acceptable.{is_acceptable}
 use Rattle.state_diff.specs.Instances.{Tick}
 use Rattle.state_diff.proofs.Acceptable.{is_acceptable_is}
 use Rattle.observations.specs.declared.container.ContainerObs.{ContainerObs}
-use Rattle.observations.specs.declared.pod.PodObs.{PodObs}
+use Rattle.observations.specs.Pods.{PodObs}
 use Rattle.observations.specs.declared.tick.TickObs.{TickObs}
 use Rattle.observations.specs.Observations.{seen_of, history}
 use Rattle.following.specs.Backwards.{some_container_backwards, some_pod_backwards, is_backwards}

@@ -11,7 +11,7 @@ use Rattle.trace.specs.declared.placing.PlacedListing.{PlacedListing}
 use Rattle.manifest.specs.declared.pod.ContainerSpec.{ContainerSpec}
 use Rattle.manifest.specs.declared.pod.PodSpec.{PodSpec}
 use Rattle.observations.specs.declared.container.ContainerObs.{ContainerObs}
-use Rattle.observations.specs.declared.pod.PodObs.{PodObs}
+use Rattle.observations.specs.Pods.{PodObs}
 use Rattle.observations.specs.Observations.{listed_in, seen_of}
 use Rattle.trace.specs.declared.placing.PlacedEntry.{PlacedEntry}
 use Rattle.trace.specs.declared.placing.PlacedResult.{PlacedResult}

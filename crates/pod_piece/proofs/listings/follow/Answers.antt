@@ -24,7 +24,8 @@ loop-number-preserved c =
     let same : (e : Differ) → slice_index_or old i e ≡ x = λ e. any_default old i e x below ∙ sym (so_far.rest i x (omega arith)) ∙ sym c.index.ensures in
     let here : P i c.differ_after.result = λ e h is.
     subst (λ (o : Option Seen). IsStateOf (h ++ recorded c.args.observed.now.at o ∷ []) c.differ_after.result) c.listed_in-seen.ensures
-    (c.differ_after.ensures h (subst (λ (d : Differ). IsStateOf h d) (same e) is)) in
+    (subst (λ (m : ℕ). IsStateOf (h ++ recorded m c.listed_in-seen.result ∷ []) c.differ_after.result) c.at-at.ensures
+    (c.differ_after.ensures h (subst (λ (d : Differ). IsStateOf h d) (same e) is))) in
     let all = set_each P c.loop-number.differs.items c.differ_after.result i lt (λ n d below e h is. so_far.each n d e below h is) here in
     record {
       as_many = length-set c.loop-number.differs.items i c.differ_after.result ∙ so_far.as_many;

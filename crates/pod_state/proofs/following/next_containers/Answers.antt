@@ -32,14 +32,16 @@ loop-number-preserved c =
     → IsContainerOf pod greatest h k (slice_index_or c.args.containers.now k e) → IsContainerOf pod greatest (h ++ pod_tick observed ∷ []) k x in
     let here : P n next = λ e pod greatest h is.
     next_is pod greatest n h observed c.index-containers-number.result next
-    (λ spec k st. subst (λ (o : ContainerObs). IsStateOf spec greatest (k ++ recorded observed.at o ∷ []) next) c.shown_of-shown.ensures (c.after_tick-next.ensures.state spec greatest k st))
+    (λ spec k st. subst (λ (o : ContainerObs). IsStateOf spec greatest (k ++ recorded observed.at o ∷ []) next) c.shown_of-shown.ensures
+    (subst (λ (m : ℕ). IsStateOf spec greatest (k ++ recorded m c.shown_of-shown.result ∷ []) next) c.at-at.ensures (c.after_tick-next.ensures.state spec greatest k st)))
     (within (λ x. IsContainerOf pod greatest h n x) e is) in
     let M : ℕ → ContainerEvents → Type 0 = λ k x. (e : Container) (pod : PodSpec) (greatest : ℕ) (h : List PodTick)
     → pod.policy ≡ c.args.policy → IsContainerOf pod greatest h k (slice_index_or c.args.containers.now k e) → IsMadeOf pod greatest h (pod_tick observed) k x in
     let made_here : M n c.after_tick-next.result.made = λ e pod greatest h policy is.
     made_is pod greatest n h observed c.args.policy c.index-containers-number.result c.after_tick-next.result.made policy
     (λ spec k st. subst (λ (o : ContainerObs). AreEvents c.args.policy greatest spec (k ++ recorded observed.at o ∷ []) (length k) c.after_tick-next.result.made) c.shown_of-shown.ensures
-    (c.after_tick-next.ensures.made spec greatest k st))
+    (subst (λ (m : ℕ). AreEvents c.args.policy greatest spec (k ++ recorded m c.shown_of-shown.result ∷ []) (length k) c.after_tick-next.result.made) c.at-at.ensures
+    (c.after_tick-next.ensures.made spec greatest k st)))
     (within (λ x. IsContainerOf pod greatest h n x) e is) in
     let Q : List Container → Type 0 = λ xs. (k : ℕ) (d : Container) → k < n + 1 → P k (slice_index_or xs k d) in
     let R : List ContainerEvents → Type 0 = λ xs. (k : ℕ) (d : ContainerEvents) → k < n + 1 → M k (slice_index_or xs k d) in

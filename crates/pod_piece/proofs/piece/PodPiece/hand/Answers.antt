@@ -1,5 +1,5 @@
 use Rattle.std.proofs.Common.{◌≡◌, ◌∙◌, ◌++◌, ◌∷◌, [], List, length, map, get_or, ◌-◌, true, false, ap, sym, subst, arith}
-use Rattle.observations.specs.declared.pod.PodObs.{PodObs}
+use Rattle.observations.specs.Pods.{PodObs}
 use Rattle.pod_state.specs.Pods.{pod_tick}
 use Rattle.pod_piece.specs.Kept.{IsKept}
 use Rattle.pod_piece.specs.Listings.{AreListed, IsNextTick, AllFollow}

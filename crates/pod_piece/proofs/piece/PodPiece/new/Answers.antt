@@ -1,5 +1,5 @@
 use Rattle.std.proofs.Common.{List, [], length, ap, sym, subst, None, false}
-use Rattle.observations.specs.declared.pod.PodObs.{PodObs}
+use Rattle.observations.specs.Pods.{PodObs}
 use Rattle.pod_state.specs.declared.events.PodEvent.{PodEvent}
 use Rattle.pod_piece.specs.Kept.{IsKept}
 use Rattle.pod_piece.specs.Piece.{piece}

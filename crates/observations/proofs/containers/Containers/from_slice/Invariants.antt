@@ -1,6 +1,0 @@
-use Rattle.std.proofs.Common.{◌≡◌, ◌++◌, map, drop}
-use Rattle.observations.specs.Kept.{shown_as}
-use Rattle.observations.proofs.containers.Containers.from_slice.Given as goal
-
-abbrev pub invariant-loop-one : goal.invariant-loop-one
-invariant-loop-one l = map shown_as l.kept.items ++ drop l.one-index l.shown ≡ l.shown
