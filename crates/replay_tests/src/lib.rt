@@ -3,6 +3,10 @@
 #![tactic(auto)]
 
 #[cfg(test)]
+mod calls;
+#[cfg(test)]
+mod halting;
+#[cfg(test)]
 mod lists_tests;
 #[cfg(test)]
 mod replay_tests;

@@ -1,15 +1,20 @@
 //! Replays of texts that are cut, over readers and writers that stop, and refusals that no text
 //! reaches.
 
-use kubelet_replay::{MemSink, MemSource, RunFault, Stop, fault_line, replay_play, status_of};
+use crate::calls::{CALLS, Call, NOTHING, Written, expect, expect_answer, expect_of, refused};
+use crate::halting::{Front, Halting, Sheet};
+use kubelet_replay::{Counted, MemSink, MemSource, RunFault, Stop, fault_line, status_of};
 use manifest::ManifestFault;
-use std::alloc::Global;
+use std::alloc::AllocGlobal;
+use std::io::ErrorKind;
 use std::process::Abort;
+use std::sync::Wait;
 use std::test::Fail;
+use std::thread::Threads;
 use trace::{FaultKind, LineFault};
 
 /// A pod that runs from its first tick on.
-pub(crate) const FIRST_TICK: &str = r#"{"kind":"node","name":"n1"}
+const FIRST_TICK: &str = r#"{"kind":"node","name":"n1"}
 {"kind":"pod","pod":{"metadata":{"name":"a"},"spec":{"containers":[{"name":"c"}]}}}
 {"kind":"tick","at":100,"pods":[{"pod":"default/a","containers":[{"name":"c","attempt":0,"state":"CONTAINER_RUNNING"}]}]}
 "#;
@@ -32,7 +37,7 @@ totals updates=1 events=3 orders=0
 ";
 
 /// The report of its node line alone.
-pub(crate) const NODE_REPORT: &str = "node n1 pods=0 ticks=0
+const NODE_REPORT: &str = "node n1 pods=0 ticks=0
 nodecondition MemoryPressure False 0
 nodecondition DiskPressure False 0
 nodecondition PIDPressure False 0
@@ -53,30 +58,32 @@ nodecondition PIDPressure False 0
 totals updates=0 events=0 orders=0
 ";
 
-/// Replays a text from a reader into a writer of 1000 bytes, and compares the answer and what was
-/// written.
-pub(crate) fn expect(
-    rt: &impl Abort,
-    alloc: Global,
-    text: &[u8],
-    wanted: Result<(), RunFault>,
-    report: &str,
-) {
-    let mut room = [0u8; 1000];
-    let mut input = MemSource::new(text, 4096);
-    let mut output = MemSink::new(&mut room, 100);
-    let answer = replay_play(alloc, &mut input, &mut output, 1, &[]);
-    let length = text.len();
-    assert_eq!(rt; answer, wanted, "a text of {length} bytes");
-    assert_eq!(rt;
-        output.written(),
-        report.as_bytes(),
-        "a text of {length} bytes"
-    );
-}
+const FIRST: Written = Written {
+    report: FIRST_REPORT,
+    line: "ok pods=1 ticks=1\n",
+};
 
-pub(crate) fn refused(line: u64, kind: FaultKind) -> Result<(), RunFault> {
-    Err(RunFault::Line(LineFault { line, kind }))
+pub(crate) const NODE_ALONE: Written = Written {
+    report: NODE_REPORT,
+    line: "ok pods=0 ticks=0\n",
+};
+
+const PENDING: Written = Written {
+    report: PENDING_REPORT,
+    line: "ok pods=1 ticks=0\n",
+};
+
+/// What is answered to so many bytes of the beginning of `FIRST_TICK`.
+fn answer_to_first(bytes: usize) -> (Result<(), RunFault>, Written) {
+    match bytes {
+        0 => (refused(1, FaultKind::Order), NOTHING),
+        1..=26 => (refused(1, FaultKind::NotJson), NOTHING),
+        27 | 28 => (Ok(()), NODE_ALONE),
+        29..=110 => (refused(2, FaultKind::NotJson), NOTHING),
+        111 | 112 => (Ok(()), PENDING),
+        113..=232 => (refused(3, FaultKind::NotJson), NOTHING),
+        _ => (Ok(()), FIRST),
+    }
 }
 
 #[test]
@@ -84,50 +91,145 @@ fn each_beginning_of_a_text_is_answered(rt: HostRuntime) {
     let bytes = FIRST_TICK.as_bytes();
     assert_eq!(rt; bytes.len(), 234);
     for end in 0..bytes.len() {
-        let (wanted, report) = match end {
-            0 => (refused(1, FaultKind::Order), ""),
-            1..=26 => (refused(1, FaultKind::NotJson), ""),
-            27 | 28 => (Ok(()), NODE_REPORT),
-            29..=110 => (refused(2, FaultKind::NotJson), ""),
-            111 | 112 => (Ok(()), PENDING_REPORT),
-            113..=232 => (refused(3, FaultKind::NotJson), ""),
-            _ => (Ok(()), FIRST_REPORT),
-        };
-        expect(&rt, rt.alloc(), &bytes[..end], wanted, report);
+        let (wanted, written) = answer_to_first(end);
+        expect(&rt, &bytes[..end], wanted, written);
+    }
+}
+
+#[test]
+fn readers_may_give_a_byte_a_call(rt: HostRuntime) {
+    for call in CALLS {
+        let input = MemSource::new(FIRST_TICK.as_bytes(), 1);
+        expect_of(&rt, call, input, Ok(()), FIRST);
     }
 }
 
 #[test]
 fn failing_readers_leave_nothing_written(rt: HostRuntime) {
-    // five calls give the text's 234 bytes, and the sixth finds its end
-    for calls in 0..7usize {
-        let mut room = [0u8; 1000];
-        let mut input = MemSource::stopping(FIRST_TICK.as_bytes(), 50, calls, Stop::Fail);
-        let mut output = MemSink::new(&mut room, 100);
-        let answer = replay_play(rt.alloc(), &mut input, &mut output, 1, &[]);
-        let (wanted, report) = if calls < 6 {
-            (Err(RunFault::Read), "")
-        } else {
-            (Ok(()), FIRST_REPORT)
-        };
-        assert_eq!(rt; answer, wanted, "after {calls} calls");
-        assert_eq!(rt; output.written(), report.as_bytes(), "after {calls} calls");
+    let bytes = FIRST_TICK.as_bytes();
+    // a byte a call, and one call that finds the end
+    for calls in 0..=bytes.len() {
+        for call in CALLS {
+            let input = MemSource::stopping(bytes, 1, calls, Stop::Fail);
+            expect_of(&rt, call, input, Err(RunFault::Read), NOTHING);
+        }
     }
 }
 
 #[test]
-fn failing_writers_keep_the_beginning_of_the_report(rt: HostRuntime) {
-    let report = FIRST_REPORT.as_bytes();
-    // calls of ten bytes, the last of fewer
-    for calls in 0..report.len().div_ceil(10) {
-        for stop in [Stop::Fail, Stop::Nothing] {
-            let mut room = [0u8; 1000];
-            let mut input = MemSource::new(FIRST_TICK.as_bytes(), 1);
-            let mut output = MemSink::stopping(&mut room, 10, calls, stop);
-            let answer = replay_play(rt.alloc(), &mut input, &mut output, 1, &[]);
-            assert_eq!(rt; answer, Err(RunFault::Write), "{stop:?} after {calls}");
-            let end = calls.saturating_mul(10).min(report.len());
-            assert_eq!(rt; output.written(), &report[..end], "{stop:?} after {calls}");
+fn readers_that_end_early_give_a_shorter_text(rt: HostRuntime) {
+    let bytes = FIRST_TICK.as_bytes();
+    for calls in 0..bytes.len() {
+        let (wanted, written) = answer_to_first(calls);
+        for call in CALLS {
+            let input = MemSource::stopping(bytes, 1, calls, Stop::Nothing);
+            expect_of(&rt, call, input, wanted, written);
+        }
+    }
+}
+
+/// A call over a reader of std that gives ten bytes a call, and halts once, after so many calls.
+fn expect_halted_reader<H: Abort + AllocGlobal + Threads + Wait + Sync>(
+    rt: &H,
+    call: Call,
+    calls: usize,
+    fault: Option<ErrorKind>,
+) {
+    let (wanted, written) = match fault {
+        Some(_) => (Err(RunFault::Read), NOTHING),
+        None => answer_to_first(calls.saturating_mul(10)),
+    };
+    let left = FIRST_TICK.as_bytes();
+    let mut room = [0u8; 1000];
+    let mut input = Counted::new(Halting::new(Front { left }, 10, calls, fault));
+    let mut output = MemSink::new(&mut room, 100);
+    let answer = call.make(rt, &mut input, &mut output);
+    expect_answer(rt, call, answer, output.written(), wanted, written);
+}
+
+#[test]
+fn readers_of_std_may_halt_once(rt: HostRuntime) {
+    // 24 calls give the text, and one more finds its end
+    for calls in 0..25usize {
+        for call in CALLS {
+            expect_halted_reader(&rt, call, calls, Some(ErrorKind::Interrupted));
+            expect_halted_reader(&rt, call, calls, Some(ErrorKind::BrokenPipe));
+            expect_halted_reader(&rt, call, calls, None);
+        }
+    }
+}
+
+/// A call over a writer that takes ten bytes a call, and stops after so many calls.
+fn expect_stopped_writer<H: Abort + AllocGlobal + Threads + Wait + Sync>(
+    rt: &H,
+    call: Call,
+    calls: usize,
+    stop: Stop,
+) {
+    let mut room = [0u8; 1000];
+    let mut input = MemSource::new(FIRST_TICK.as_bytes(), 4096);
+    let mut output = MemSink::stopping(&mut room, 10, calls, stop);
+    let answer = call.make(rt, &mut input, &mut output);
+    assert_eq!(rt;
+        answer,
+        Err(RunFault::Write),
+        "{call:?}, {stop:?} after {calls}"
+    );
+    assert_eq!(rt;
+        output.written(),
+        front_of(FIRST.by(call), calls),
+        "{call:?}, {stop:?} after {calls}"
+    );
+}
+
+/// What a writer takes of a text in so many calls of ten bytes.
+fn front_of(text: &[u8], calls: usize) -> &[u8] {
+    &text[..calls.saturating_mul(10).min(text.len())]
+}
+
+#[test]
+fn failing_writers_keep_the_beginning_of_the_answer(rt: HostRuntime) {
+    for call in CALLS {
+        for calls in 0..FIRST.by(call).len().div_ceil(10) {
+            expect_stopped_writer(&rt, call, calls, Stop::Fail);
+            expect_stopped_writer(&rt, call, calls, Stop::Nothing);
+        }
+    }
+}
+
+/// A call over a writer of std that takes ten bytes a call, and halts once, after so many calls.
+fn expect_halted_writer<H: Abort + AllocGlobal + Threads + Wait + Sync>(
+    rt: &H,
+    call: Call,
+    calls: usize,
+    fault: Option<ErrorKind>,
+) {
+    let sheet = Sheet {
+        bytes: Vec::new(rt.alloc()),
+    };
+    let mut input = MemSource::new(FIRST_TICK.as_bytes(), 4096);
+    let mut output = Counted::new(Halting::new(sheet, 10, calls, fault));
+    let answer = call.make(rt, &mut input, &mut output);
+    assert_eq!(rt;
+        answer,
+        Err(RunFault::Write),
+        "{call:?}, {fault:?} after {calls}"
+    );
+    let halted = output.into_inner();
+    assert_eq!(rt;
+        halted.inner.bytes.as_slice(),
+        front_of(FIRST.by(call), calls),
+        "{call:?}, {fault:?} after {calls}"
+    );
+}
+
+#[test]
+fn writers_of_std_may_halt_once(rt: HostRuntime) {
+    for call in CALLS {
+        for calls in 0..FIRST.by(call).len().div_ceil(10) {
+            expect_halted_writer(&rt, call, calls, Some(ErrorKind::Interrupted));
+            expect_halted_writer(&rt, call, calls, Some(ErrorKind::BrokenPipe));
+            expect_halted_writer(&rt, call, calls, None);
         }
     }
 }

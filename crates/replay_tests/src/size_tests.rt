@@ -1,7 +1,8 @@
 //! The greatest lines, traces and inputs.
 
-use crate::replay_tests::{NODE_REPORT, expect, refused};
-use kubelet_replay::{Counted, MemSink, RunFault, replay_play};
+use crate::calls::{Call, NOTHING, Written, expect, expect_answer, expect_of, refused};
+use crate::replay_tests::NODE_ALONE;
+use kubelet_replay::{Counted, MemSink, MemSource, RunFault};
 use std::alloc::{AllocError, Global};
 use std::io;
 use std::io::Read;
@@ -31,8 +32,8 @@ fn lines_may_have_one_mebibyte(rt: HostRuntime) -> Result<(), Fail> {
         (1_048_575, "{", refused(1, FaultKind::NotJson)),
     ] {
         let text = after_spaces(rt.alloc(), spaces, end)?;
-        let report = if wanted.is_ok() { NODE_REPORT } else { "" };
-        expect(&rt, rt.alloc(), text.as_bytes(), wanted, report);
+        let written = if wanted.is_ok() { NODE_ALONE } else { NOTHING };
+        expect(&rt, text.as_bytes(), wanted, written);
     }
     Ok(())
 }
@@ -52,8 +53,9 @@ fn idle_ticks(alloc: Global, count: u64) -> Result<String, AllocError> {
     Ok(text)
 }
 
-/// The report where the last of 20,000 ticks alone lists the container.
-const LAST_TICK_REPORT: &str = "node n1 pods=1 ticks=20000
+/// What is written where the last of 20,000 ticks alone lists the container.
+const LAST_TICK: Written = Written {
+    report: "node n1 pods=1 ticks=20000
 event 19999 default/a c started 0
 event 19999 default/a c ready
 event 19999 default/a - phase Running
@@ -67,7 +69,9 @@ nodecondition MemoryPressure False 0
 nodecondition DiskPressure False 0
 nodecondition PIDPressure False 0
 totals updates=20000 events=3 orders=0
-";
+",
+    line: "ok pods=1 ticks=20000\n",
+};
 
 #[test]
 fn traces_may_have_20_000_ticks(rt: HostRuntime) -> Result<(), Fail> {
@@ -75,11 +79,13 @@ fn traces_may_have_20_000_ticks(rt: HostRuntime) -> Result<(), Fail> {
     text.push_str(
         r#"{"kind":"tick","at":19999,"pods":[{"pod":"default/a","containers":[{"name":"c","state":1}]}]}"#,
     )?;
-    expect(&rt, rt.alloc(), text.as_bytes(), Ok(()), LAST_TICK_REPORT);
+    let input = MemSource::new(text.as_bytes(), 4096);
+    expect_of(&rt, Call::Played, input, Ok(()), LAST_TICK);
     // one more tick, whose moment is faulty too
     text.push_str("\n{\"kind\":\"tick\",\"at\":0}\n")?;
     let wanted = refused(20_003, FaultKind::TooMany);
-    expect(&rt, rt.alloc(), text.as_bytes(), wanted, "");
+    let input = MemSource::new(text.as_bytes(), 4096);
+    expect_of(&rt, Call::Played, input, wanted, NOTHING);
     Ok(())
 }
 
@@ -107,8 +113,7 @@ fn inputs_may_have_64_mebibytes(rt: HostRuntime) {
         let mut room = [0u8; 10];
         let mut input = Counted::new(Spaces { left });
         let mut output = MemSink::new(&mut room, 10);
-        let answer = replay_play(rt.alloc(), &mut input, &mut output, 1, &[]);
-        assert_eq!(rt; answer, wanted, "{left} bytes");
-        assert!(rt; output.written().is_empty());
+        let answer = Call::Played.make(&rt, &mut input, &mut output);
+        expect_answer(&rt, Call::Played, answer, output.written(), wanted, NOTHING);
     }
 }
