@@ -11,7 +11,7 @@ use replay_stream::{ReadAllFault, Sink, Source, read_all, write_all};
 use std::alloc::{AllocError, Global};
 use std::sync::Wait;
 use std::thread::Threads;
-use trace::{FaultKind, LineFault, read_trace};
+use trace::{FaultKind, LineFault, read_trace, read_trace_by_workers};
 use trace_replay::{Gate, Step};
 
 /// The greatest length of an input: 64 MiB.
@@ -72,7 +72,7 @@ fn report_by_workers<R: Threads + Wait + Sync, G: Gate>(
     ensures ok { IfOk result (λ report. IsReportOfText text.now (string_bytes report)) }
     ensures err { IfErr result (RefusesText text.now) }
 {
-    match read_trace(alloc, text) {
+    match read_trace_by_workers(rt, alloc, text, workers) {
         Ok(trace) => match trace_replay::report_by_workers(rt, alloc, trace, workers, gate) {
             Ok(report) => Ok(report),
             Err(_) => Err(RunFault::OutOfMemory),
@@ -116,7 +116,8 @@ fn write_text<W: Sink>(output: &mut W, text: &str) -> Result<(), RunFault>
 }
 
 /// Replays a trace and writes its report. So many workers, 1 to 64, update the pods of each tick in threads
-/// of their own, no more than there are pods, and steal from each other; the gate is told of each update.
+/// of their own, no more than there are pods, and steal from each other; the gate is told of each update. From
+/// 64 KiB on they share the lines of the text as well, 1 MiB at a time.
 /// The report is that of the rules applied by one thread, pod after pod, whatever the workers and the
 /// threads do. It may wait for threads and for the lock of the book.
 ///

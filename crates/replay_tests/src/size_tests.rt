@@ -38,6 +38,28 @@ fn lines_may_have_one_mebibyte(rt: HostRuntime) -> Result<(), Fail> {
     Ok(())
 }
 
+/// So many lines of 39 spaces.
+fn blank_lines(alloc: Global, count: usize) -> Result<String, AllocError> {
+    let line = after_spaces(alloc, 39, "\n")?;
+    line.as_str().repeat(alloc, count)
+}
+
+#[test]
+fn the_first_of_two_faults_is_answered(rt: HostRuntime) -> Result<(), Fail> {
+    // both in one window of a mebibyte, and one in each of two
+    for (blank, faulty) in [(10_000, 10_002), (20_000, 20_002)] {
+        let lines = blank_lines(rt.alloc(), blank)?;
+        let mut text = String::from_str(rt.alloc(), NODE)?;
+        for fault in ["{\n", "[\n"] {
+            text.push_str(lines.as_str())?;
+            text.push_str(fault)?;
+        }
+        let wanted = refused(faulty, FaultKind::NotJson);
+        expect(&rt, text.as_bytes(), wanted, NOTHING);
+    }
+    Ok(())
+}
+
 /// A pod, and ticks a second apart from 0 on, which list none of its containers.
 fn idle_ticks(alloc: Global, count: u64) -> Result<String, AllocError> {
     let mut text = String::from_str(alloc, NODE)?;

@@ -32,9 +32,8 @@ use Rattle.observations.specs.declared.tick.TickObs.{TickObs}
 use Rattle.observations.specs.Limits.{most_pods, most_ticks}
 use Rattle.tick_lines.specs.declared.line.TickLine.{TickLine}
 use Rattle.trace.specs.declared.placing.PlacedEntry.{PlacedEntry}
-use Rattle.trace.specs.Lines.{lines_of, is_blank, longest_line}
+use Rattle.json_lines.specs.Lines.{lines_of, is_blank, longest_line}
 use Rattle.trace.specs.Written.{node_in, tick_line_in}
-use Rattle.serde_json.specs.Read.{read}
 use Rattle.trace.specs.Pod.{key_of_pod, has_key, pod_from}
 use Rattle.trace.specs.Placing.{placed_of}
 use Rattle.node_config.specs.declared.node.Version.{Version}

@@ -1,5 +1,3 @@
-pub mod Cutting
-pub mod Found
 pub mod InRange
 pub mod Keys
 pub mod Moments
@@ -7,6 +5,7 @@ pub mod Said
 pub mod Shape
 pub mod Shown
 pub mod Sound
+pub mod Taken
 pub mod Versions
 pub mod Whole
 pub mod LawLemmas

@@ -4,7 +4,7 @@ use Rattle.manifest.specs.declared.pod.PodSpec.{PodSpec}
 use Rattle.observations.specs.declared.tick.TickObs.{TickObs}
 use Rattle.node_config.specs.declared.node.NodeConfig.{NodeConfig}
 use Rattle.trace.specs.declared.past.Trace.{Trace}
-use Rattle.trace.specs.Lines.{lines_of}
+use Rattle.json_lines.specs.Lines.{lines_of}
 use Rattle.trace.specs.Past.{Past}
 use Rattle.trace.specs.Trace.{nothing, trace_of}
 use Rattle.trace.specs.Laws.{AreSaid, Says}

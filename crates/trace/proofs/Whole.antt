@@ -15,7 +15,7 @@ use Rattle.trace.specs.declared.fault.FaultKind.TheVariants.{TooLong, UnknownKin
 use Rattle.trace.specs.declared.fault.FaultKind.TheVariants.{Backwards, ExitCode}
 use Rattle.trace.specs.declared.past.LineKind.{LineKind}
 use Rattle.trace.specs.declared.placing.PlacedEntry.{PlacedEntry}
-use Rattle.trace.specs.Lines.{longest_line}
+use Rattle.json_lines.specs.Lines.{longest_line}
 use Rattle.trace.specs.Observed.{observed, some_code_missing}
 use Rattle.trace.specs.Past.{Past, version_in, with_pod, with_tick}
 use Rattle.trace.specs.Placing.{placed_of}

@@ -1,6 +1,6 @@
 -- The numbers and words by which a refusal names the kind of a faulty line, and the kinds of the
--- faults that JSON, a manifest, a node line and a tick line have by themselves.
-use Rattle.std.specs.Prelude.{◌≡◌, ◌⊎◌, ℕ, List, codes}
+-- faults that a manifest, a node line and a tick line have by themselves.
+use Rattle.std.specs.Prelude.{ℕ, List, codes}
 use Rattle.following.specs.declared.error.FollowError.{FollowError}
 use Rattle.following.specs.declared.error.FollowError.TheVariants as follow_errors
 use Rattle.manifest.specs.declared.fault.ManifestFault.{ManifestFault}
@@ -9,8 +9,6 @@ use Rattle.node_lines.specs.declared.fault.NodeFault.{NodeFault}
 use Rattle.node_lines.specs.declared.fault.NodeFault.TheVariants as node_faults
 use Rattle.tick_lines.specs.declared.fault.TickLineFault.{TickLineFault}
 use Rattle.tick_lines.specs.declared.fault.TickLineFault.TheVariants as tick_faults
-use Rattle.serde_json.specs.Errors.{IsMemory}
-use Rattle.serde_json.specs.declared.error.Error.{Error}
 use Rattle.trace.specs.declared.fault.FaultKind.{FaultKind}
 use Rattle.trace.specs.declared.fault.FaultKind.TheVariants.{TooLong, NotJson, UnknownKind, Order, Manifest, Config}
 use Rattle.trace.specs.declared.fault.FaultKind.TheVariants.{SoftWithoutGrace, DuplicatePod, StrangerPod}
@@ -54,11 +52,6 @@ word_of ExitCode = codes "ExitCode"
 word_of TooMany = codes "TooMany"
 word_of Usage = codes "Usage"
 word_of OutOfMemory = codes "OutOfMemory"
-
--- an error of serde_json: want of memory, or else that the text is no JSON
-abbrev pub IsKindOfError : Error → FaultKind → Type 0
-IsKindOfError error kind =
-    (IsMemory error × (kind ≡ OutOfMemory)) ⊎ ((IsMemory error → ⊥) × (kind ≡ NotJson))
 
 abbrev pub kind_of_manifest_fault : ManifestFault → FaultKind
 kind_of_manifest_fault manifest_faults.OutOfMemory = OutOfMemory

@@ -29,7 +29,7 @@ use Rattle.signals.specs.BySignal.{of}
 use Rattle.trace.specs.declared.placing.PlacedListing.{PlacedListing}
 use Rattle.trace.specs.declared.placing.PlacedResult.{PlacedResult}
 use Rattle.trace.specs.declared.placing.PlacedEntry.{PlacedEntry}
-use Rattle.trace.specs.Lines.{lines_of, is_blank, longest_line}
+use Rattle.json_lines.specs.Lines.{lines_of, is_blank, longest_line}
 use Rattle.trace.specs.Written.{node_in, tick_line_in}
 use Rattle.trace.specs.Pod.{key_of_pod, keys_of, pod_from}
 use Rattle.trace.specs.Placing.{placed_of, has_twice, are_of_one_pod, are_of_one_probe, is_doubled}

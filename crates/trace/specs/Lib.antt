@@ -1,6 +1,5 @@
 pub mod Faults
 pub mod Gives
-pub mod Lines
 pub mod Written
 pub mod Pod
 pub mod Placing
@@ -8,5 +7,6 @@ pub mod Observed
 pub mod Past
 pub mod Tick
 pub mod Trace
+pub mod Taken
 pub mod Sound
 pub mod Laws

@@ -1,9 +1,7 @@
 -- What a text says as a trace, or its first faulty line with that line's first fault.
 use Rattle.std.specs.Prelude.{ℕ, ◌+◌, ⊤, Bool, false, List, [], ◌∷◌, length, nat_lt, Option, Some, None}
 use Rattle.std.specs.Prelude.{if◌then◌else◌, Result, Ok, Err, bytes_eq, codes}
-use Rattle.std.specs.Str.{is_utf8}
 use Rattle.serde_json.specs.Data.{Data}
-use Rattle.serde_json.specs.Read.{read}
 use Rattle.json_fields.specs.Fields.{field_at, text_at}
 use Rattle.manifest.specs.declared.pod.PodSpec.{PodSpec}
 use Rattle.observations.specs.declared.tick.TickObs.{TickObs}
@@ -19,7 +17,7 @@ use Rattle.trace.specs.declared.past.LineKind.{LineKind}
 use Rattle.trace.specs.declared.past.LineKind.TheVariants as kinds
 use Rattle.trace.specs.declared.past.Turn.{Turn}
 use Rattle.trace.specs.declared.past.Turn.TheVariants as turns
-use Rattle.trace.specs.Lines.{lines_of, is_blank, longest_line}
+use Rattle.json_lines.specs.Lines.{lines_of, is_blank, json_in, longest_line}
 use Rattle.trace.specs.Written.{node_in}
 use Rattle.trace.specs.Pod.{new_key, room_for_pod, pod_from}
 use Rattle.trace.specs.Past.{Past, version_in, of_node, with_pod}
@@ -27,7 +25,7 @@ use Rattle.trace.specs.Tick.{tick_at}
 
 -- a line's JSON value
 unfoldable pub json_of : List ℕ → Result Data FaultKind
-json_of line = if is_utf8 line then some_or NotJson (read line) else Err NotJson
+json_of line = some_or NotJson (json_in line)
 
 abbrev pub kind_from : Option (List ℕ) → Option LineKind
 kind_from None = None

@@ -5,7 +5,7 @@ ghost use Rattle.trace.specs.declared.fault.FaultKind.TheVariants.{OutOfMemory};
 ghost use Rattle.json_fields.specs.Reading.{refused_if};
 ghost use Rattle.trace.specs.Gives.{GivesExactly};
 ghost use Rattle.trace.specs.Trace.{at_line};
-ghost use Rattle.trace.specs.Faults.{IsKindOfError, kind_of_follow_error, kind_of_manifest_fault};
+ghost use Rattle.trace.specs.Faults.{kind_of_follow_error, kind_of_manifest_fault};
 ghost use Rattle.trace.specs.Faults.{kind_of_node_fault, kind_of_tick_fault};
 
 use following::FollowError;
@@ -122,18 +122,6 @@ impl<T: Drop> From<AllocFailed<T>> for FaultKind {
 
     fn from(_e: AllocFailed<T>) -> FaultKind {
         FaultKind::OutOfMemory
-    }
-}
-
-impl From<serde_json::Error> for FaultKind {
-    ghost from_gives = { λ error kind. IsKindOfError error kind };
-
-    fn from(error: serde_json::Error) -> FaultKind {
-        if error.is_memory() {
-            FaultKind::OutOfMemory
-        } else {
-            FaultKind::NotJson
-        }
     }
 }
 

@@ -3,14 +3,14 @@
 
 mod fault;
 pub mod laws;
-mod lines;
 mod past;
 mod placing;
 mod pod;
 mod reading;
+mod text;
 mod tick;
 
 pub use fault::{FaultKind, LineFault};
 pub use node_config::{NodeConfig, Version};
 pub use past::Trace;
-pub use reading::read_trace;
+pub use text::{read_trace, read_trace_by_workers};

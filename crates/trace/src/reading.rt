@@ -1,40 +1,28 @@
-//! Reading a whole trace.
+//! A line, behind what the lines before it say.
 
 ghost use Rattle.std.specs.Prelude.{◌≡◌, [], option_map, None, Ok, IfOk, string_bytes};
 ghost use Rattle.serde_json.specs.View.{view};
-ghost use Rattle.trace.specs.Gives.{Gives, GivesAt, GivesExactly, GivesExactlyAt};
+ghost use Rattle.json_lines.specs.Lines.{data_of};
+ghost use Rattle.trace.specs.Gives.{Gives, GivesExactly};
 ghost use Rattle.name_list.specs.Names.{place_of};
 ghost use Rattle.trace.specs.Written.{node_in};
 ghost use Rattle.trace.specs.Past.{IsEnlisted, version_in, with_pod};
 ghost use Rattle.trace.specs.Pod.{key_of_pod, keys_of};
-ghost use Rattle.trace.specs.Sound.{AreAcceptable, AreRising, HasShape};
-ghost use Rattle.trace.specs.Trace.{json_of, kind_from, kind_of_line, with_node, with_new_pod, is_late, pod_in};
-ghost use Rattle.trace.specs.Trace.{pod_line_at, line_length, kind_and_value, line_at, trace_of, finished, turn_of};
-ghost use Rattle.trace.specs.Trace.{in_order};
+ghost use Rattle.trace.specs.Taken.{value_at, any_line_at};
+ghost use Rattle.trace.specs.Trace.{kind_from, kind_of_line, with_node, with_new_pod, is_late, pod_in};
+ghost use Rattle.trace.specs.Trace.{pod_line_at, turn_of, in_order};
 
-use crate::fault::{FaultKind, LineFault, at_line, refused_if};
-use crate::lines::{first_line, is_blank};
-use crate::past::{LineKind, Reader, Roster, Trace, Turn};
+use crate::fault::{FaultKind, refused_if};
+use crate::past::{LineKind, Reader, Roster, Turn};
 use crate::pod::{new_key, pod_from, room_for_pod};
 use crate::tick::take_tick;
-use following::Following;
 use json_fields::{field, text_at};
+use json_lines::TextLine;
 use manifest::PodSpec;
-use name_list::NameList;
 use node_config::{NodeConfig, Version};
 use node_lines::node_of;
-use sequence::Sequence;
 use serde_json::Value;
 use std::alloc::{AllocError, Global};
-
-/// The most bytes of a line, 1 MiB.
-const LONGEST_LINE: usize = 1_048_576;
-
-fn json(alloc: Global, line: &[u8]) -> Result<Value, FaultKind>
-    ensures { Gives view result (json_of line.now) }
-{
-    Ok(Value::from_slice(alloc, line)?)
-}
 
 fn kind_from(kind: Option<&str>) -> Option<LineKind>
     ensures { result ≡ kind_from (option_map (λ s. s.now) kind.entry) }
@@ -223,86 +211,23 @@ fn take_in_order(
     }
 }
 
-fn line_length(line: &[u8]) -> Result<(), FaultKind>
-    ensures { GivesExactly (λ t. t) result (line_length line.now) }
+/// Takes a line of JSON.
+#[tactic(auto, unfolding(crate::specs::Taken::value_at))]
+fn take_value(alloc: Global, reader: Reader, line: &Value) -> Result<Reader, FaultKind>
+    ensures { Gives (λ r. r) result (value_at reader (view line.now)) }
 {
-    refused_if(line.len() > LONGEST_LINE, FaultKind::TooLong)
+    let line_kind = kind_of_line(line)?;
+    take_in_order(alloc, reader, line_kind, line)
 }
 
-/// The kind of a line, and its JSON value.
-#[tactic(auto, unfolding(crate::specs::Trace::kind_and_value))]
-fn kind_and_value(alloc: Global, line: &[u8]) -> Result<(LineKind, Value), FaultKind>
-    ensures { Gives (λ p. (p.0, view p.1)) result (kind_and_value line.now) }
+/// Takes a line.
+pub(crate) fn take_line(alloc: Global, reader: Reader, line: &TextLine) -> Result<Reader, FaultKind>
+    ensures { Gives (λ r. r) result (any_line_at reader (data_of line.now)) }
 {
-    line_length(line)?;
-    let value = json(alloc, line)?;
-    let line_kind = kind_of_line(&value)?;
-    Ok((line_kind, value))
-}
-
-#[tactic(auto, unfolding(crate::specs::Trace::line_at))]
-fn take_line(alloc: Global, reader: Reader, line: &[u8]) -> Result<Reader, FaultKind>
-    ensures { Gives (λ r. r) result (line_at reader line.now) }
-{
-    let (line_kind, value) = kind_and_value(alloc, line)?;
-    take_in_order(alloc, reader, line_kind, &value)
-}
-
-fn finished(line: u64, reader: Reader) -> Result<Trace, LineFault>
-    ensures { GivesExactlyAt (λ t. t) result (finished line reader reader.node) }
-{
-    let Reader {
-        node,
-        pods,
-        arrivals,
-        ticks,
-        ..
-    } = reader;
-    match node {
-        None => Err(LineFault {
-            line,
-            kind: FaultKind::Order,
-        }),
-        Some(node) => Ok(Trace {
-            node,
-            pods,
-            arrivals,
-            ticks,
-        }),
+    match line {
+        TextLine::Blank => Ok(reader),
+        TextLine::TooLong => Err(FaultKind::TooLong),
+        TextLine::NotJson => Err(FaultKind::NotJson),
+        TextLine::Json(value) => take_value(alloc, reader, value),
     }
-}
-
-#[tactic(auto, unfolding(crate::specs::Trace::trace_of))]
-fn read_lines(alloc: Global, text: &[u8]) -> Result<Trace, LineFault>
-    ensures { GivesAt (λ t. t) result (trace_of text.now) }
-{
-    let mut reader = Reader {
-        node: None,
-        pods: Sequence::new(alloc),
-        arrivals: Sequence::new(alloc),
-        ticks: Sequence::new(alloc),
-        keys: NameList::new(alloc),
-        following: Following::new(alloc),
-    };
-    let mut rest = text;
-    let mut line = 1u64;
-    while let Some((found, after)) = first_line(rest) {
-        if !is_blank(found) {
-            reader = at_line(line, take_line(alloc, reader, found))?;
-        }
-        rest = after;
-        line += 1;
-    }
-    finished(line, reader)
-}
-
-/// The trace that a text says, or its first faulty line with that line's first fault. Where a
-/// growth of memory is refused the answer is `OutOfMemory`; of its line nothing is promised.
-pub fn read_trace(alloc: Global, text: &[u8]) -> Result<Trace, LineFault>
-    ensures gives { GivesAt (λ t. t) result (trace_of text.now) }
-    ensures acceptable { IfOk result (λ t. AreAcceptable t.ticks) }
-    ensures rising { IfOk result (λ t. AreRising t.ticks) }
-    ensures shape { IfOk result (λ t. HasShape t.pods t.arrivals t.ticks) }
-{
-    read_lines(alloc, text)
 }

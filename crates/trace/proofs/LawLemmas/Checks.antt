@@ -19,7 +19,7 @@ use Rattle.observations.specs.declared.tick.TickObs.{TickObs}
 use Rattle.observations.specs.Limits.{most_pods, most_ticks}
 use Rattle.tick_lines.specs.declared.line.TickLine.{TickLine}
 use Rattle.trace.specs.declared.placing.PlacedEntry.{PlacedEntry}
-use Rattle.trace.specs.Lines.{longest_line}
+use Rattle.json_lines.specs.Lines.{longest_line}
 use Rattle.trace.specs.Written.{node_in, tick_line_in}
 use Rattle.trace.specs.Pod.{key_of_pod, has_key, pod_from}
 use Rattle.trace.proofs.Whole.{with_kind, with_json, with_tick_seen, with_places, with_written, with_moment}

@@ -14,15 +14,13 @@ use Rattle.trace.specs.declared.fault.LineFault.{LineFault}
 use Rattle.observations.specs.declared.tick.TickObs.{TickObs}
 use Rattle.tick_lines.specs.declared.entry.Entry.{Entry}
 use Rattle.tick_lines.specs.declared.probing.ProbeResult.{ProbeResult}
-use Rattle.trace.specs.Lines.{lines_of}
+use Rattle.json_lines.specs.Lines.{lines_of, json_in}
 use Rattle.manifest.specs.declared.fault.ManifestFault.{ManifestFault}
 use Rattle.manifest.specs.declared.fault.ManifestFault.TheVariants.{Missing}
 use Rattle.manifest.specs.declared.fault.ManifestFault.TheVariants as faults
 use Rattle.manifest.specs.declared.fault.Field.TheVariants as fields
 use Rattle.manifest.specs.Containers.{names_of}
 use Rattle.name_list.specs.Names.{place_of}
-use Rattle.serde_json.specs.Read.{read}
-use Rattle.std.specs.Str.{is_utf8}
 use Rattle.tick_lines.specs.declared.listing.Listing.{Listing}
 use Rattle.trace.specs.Pod.{keys_of, of_manifest, pod_from}
 use Rattle.manifest.specs.Manifest.{pod_at}
@@ -65,10 +63,7 @@ node_in_only d = of_node_only (node_of d) (node_only d)
 
 json_only : (line : List ℕ) → Only (Is NotJson) (json_of line)
 unfolding json_of
-json_only line =
-    let P = Is NotJson in
-    only_if P (is_utf8 line) (some_or NotJson (read line)) (Err NotJson) (only_some P NotJson (read line) refl)
-    (only_err P NotJson refl)
+json_only line = only_some (Is NotJson) NotJson (json_in line) refl
 
 abbrev IsManifest : FaultKind → Type 0
 IsManifest kind = (fault : ManifestFault) × (kind ≡ Manifest fault) × IsFound fault

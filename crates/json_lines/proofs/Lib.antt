@@ -1,0 +1,4 @@
+pub mod Cutting
+pub mod Found
+pub mod Joined
+pub mod Windows

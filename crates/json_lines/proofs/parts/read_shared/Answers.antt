@@ -1,0 +1,19 @@
+use Rattle.std.proofs.Common.{◌≡◌, ℕ, ◌+◌, ◌*◌, ◌/◌, ◌%◌, ◌<◌, min, length, map, arith, rules, sym, refl}
+use Rattle.std.proofs.lemmas.Grind.{div_ceil_times}
+use Rattle.json_lines.specs.Lines.{line_data, data_of}
+use Rattle.json_lines.proofs.Joined.{shared_read}
+use Rattle.json_lines.proofs.parts.read_shared.Goals as goal
+
+pub returns : goal.returns
+returns g c =
+    let some : 0 < c.max-size.result = search rules in
+    let count : length c.in_ok-map_chunks.field-0.items
+    ≡ length c.args.lines.now / c.max-size.result + min 1 (length c.args.lines.now % c.max-size.result) =
+    search rules in
+    shared_read (λ reads. map data_of reads.items) (λ line. line_data line.now) (λ reads. map data_of reads.items)
+    c.max-size.result c.args.lines.now c.in_ok-map_chunks.field-0.items c.joined.result c.joined.ensures.reads
+    c.joined.ensures.every (λ n d lt.
+    let part = (c.in_ok-map_chunks.ensures.each n d lt).1 in
+    let here : 0 + n * c.max-size.result ≡ n * c.max-size.result = omega arith in
+    rw (here, sym part.argument_is.value) part.call
+    ) (rw count (div_ceil_times (length c.args.lines.now) c.max-size.result some).0)

@@ -1,0 +1,55 @@
+-- The lines of a text, and what each says by itself.
+use Rattle.std.specs.Prelude.{ℕ, ◌==◌, ◌||◌, Bool, List, [], ◌∷◌, length, nat_lt, Option, Some, None, if◌then◌else◌}
+use Rattle.std.specs.List.{list_all}
+use Rattle.std.specs.Str.{is_utf8}
+use Rattle.serde_json.specs.Data.{Data}
+use Rattle.serde_json.specs.Read.{read}
+use Rattle.serde_json.specs.View.{view}
+use Rattle.json_lines.specs.declared.line.TextLine.{TextLine}
+use Rattle.json_lines.specs.declared.line.TextLine.TheVariants as text_lines
+
+abbrev pub in_front : ℕ → List (List ℕ) → List (List ℕ)
+in_front b [] = (b ∷ []) ∷ []
+in_front b (l ∷ ls) = (b ∷ l) ∷ ls
+
+-- cut at each newline; a last part without one is a line if it isn't empty
+abbrev pub lines_of : List ℕ → List (List ℕ)
+lines_of [] = []
+lines_of (b ∷ bs) = if b == 10 then [] ∷ lines_of bs else in_front b (lines_of bs)
+
+abbrev pub is_blank_byte : ℕ → Bool
+is_blank_byte b = b == 32 || b == 9 || b == 13
+
+-- the most bytes of a line, 1 MiB
+abbrev pub longest_line : ℕ
+longest_line = 1048576
+
+-- spaces, tabs and carriage returns alone
+abbrev pub is_blank : List ℕ → Bool
+is_blank l = list_all is_blank_byte l
+
+-- a line's JSON value
+unfoldable pub json_in : List ℕ → Option Data
+json_in line = if is_utf8 line then read line else None
+
+-- what a line says by itself
+pub data LineData : Type 0 where
+  Blank : LineData
+  TooLong : LineData
+  NotJson : LineData
+  Json : Data → LineData
+
+abbrev pub json_or_not : Option Data → LineData
+json_or_not None = NotJson
+json_or_not (Some d) = Json d
+
+abbrev pub line_data : List ℕ → LineData
+line_data line =
+    if is_blank line then Blank
+    else (if nat_lt longest_line (length line) then TooLong else json_or_not (json_in line))
+
+abbrev pub data_of : TextLine → LineData
+data_of text_lines.Blank = Blank
+data_of text_lines.TooLong = TooLong
+data_of text_lines.NotJson = NotJson
+data_of (text_lines.Json value) = Json (view value)

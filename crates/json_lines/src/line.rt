@@ -1,0 +1,67 @@
+//! What a line says by itself.
+
+ghost use Rattle.std.specs.Prelude.{◌≡◌, IfOk, map, option_map};
+ghost use Rattle.serde_json.specs.View.{view};
+ghost use Rattle.json_lines.specs.Lines.{json_in, line_data, data_of};
+
+use crate::lines::is_blank;
+use serde_json::Value;
+use std::alloc::{AllocError, Global};
+
+/// The most bytes of a line, 1 MiB.
+const LONGEST_LINE: usize = 1_048_576;
+
+/// What a line of a text says by itself.
+#[derive(Drop)]
+pub enum TextLine {
+    /// Spaces, tabs and carriage returns alone.
+    Blank,
+    /// More than 1 MiB.
+    TooLong,
+    /// No JSON value.
+    NotJson,
+    /// A JSON value.
+    Json(Value),
+}
+
+/// The JSON value of a line, if it has one.
+fn json(alloc: Global, line: &[u8]) -> Result<Option<Value>, AllocError>
+    ensures { IfOk result (λ found. option_map view found ≡ json_in line.now) }
+{
+    match Value::from_slice(alloc, line) {
+        Ok(value) => Ok(Some(value)),
+        Err(error) => {
+            if error.is_memory() {
+                Err(AllocError)
+            } else {
+                Ok(None)
+            }
+        }
+    }
+}
+
+fn read_line(alloc: Global, line: &[u8]) -> Result<TextLine, AllocError>
+    ensures { IfOk result (λ read. data_of read ≡ line_data line.now) }
+{
+    if is_blank(line) {
+        return Ok(TextLine::Blank);
+    }
+    if line.len() > LONGEST_LINE {
+        return Ok(TextLine::TooLong);
+    }
+    match json(alloc, line)? {
+        Some(value) => Ok(TextLine::Json(value)),
+        None => Ok(TextLine::NotJson),
+    }
+}
+
+/// What each line says, in their order.
+pub(crate) fn read_each(alloc: Global, lines: &[&[u8]]) -> Result<Vec<TextLine>, AllocError>
+    ensures { IfOk result (λ reads. map data_of reads.items ≡ map (λ line. line_data line.now) lines.now) }
+{
+    let mut reads = Vec::with_capacity(alloc, lines.len())?;
+    for line in lines {
+        reads.push(read_line(alloc, line)?)?;
+    }
+    Ok(reads)
+}
