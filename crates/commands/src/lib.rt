@@ -4,8 +4,6 @@
 mod fault;
 mod job;
 mod program;
-#[cfg(test)]
-mod tests;
 
 pub use fault::UsageFault;
 pub use job::{Job, job_of};

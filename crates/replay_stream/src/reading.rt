@@ -8,6 +8,9 @@ use crate::fault::{ReadAllFault, ReadFailed};
 use crate::stream::Source;
 use std::alloc::Global;
 
+/// So many bytes are asked for in one call, 64 KiB.
+const PIECE: usize = 65_536;
+
 /// All bytes that were left, of which there may be `limit`.
 ///
 /// `Read` comes only where the reader failed in this call, and `TooLong` only where more than
@@ -36,7 +39,7 @@ pub fn read_all<S: Source>(
     ensures rest { (front : List ℕ) × Consumes (S.left source.old) (S.left source.new) front }
 {
     let mut all = Vec::new(alloc);
-    let mut buffer = [0u8; 4096];
+    let mut buffer = [0u8; PIECE];
     loop {
         let n = match source.read(&mut buffer) {
             Ok(n) => n,

@@ -1,6 +1,8 @@
+pub mod ByPod
 pub mod InRange
 pub mod Keys
 pub mod Moments
+pub mod Placed
 pub mod Said
 pub mod Shape
 pub mod Shown

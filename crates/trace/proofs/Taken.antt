@@ -1,11 +1,11 @@
 -- A text whose lines are taken by what each says by itself.
-use Rattle.std.proofs.Common.{◌≡◌, ◌∙◌, ℕ, suc, ◌+◌, Bool, true, false, List, [], ◌∷◌, ◌++◌, length, map, nat_lt}
+use Rattle.std.proofs.Common.{◌≡◌, ◌∙◌, ℕ, suc, ◌+◌, false, List, [], ◌∷◌, ◌++◌, length, map, nat_lt}
 use Rattle.std.proofs.Common.{Option, Some, None, Result, Ok, Err, refl, ap, sym, inl, inr, arith}
 use Rattle.std.proofs.lemmas.List.{length-map}
 use Rattle.std.specs.Prelude.{MatchBool}
 use Rattle.std.proofs.lemmas.Bool.{cases_Bool}
 use Rattle.serde_json.specs.Data.{Data}
-use Rattle.json_fields.specs.Reading.{◌>>=◌, GivesUnless}
+use Rattle.json_fields.specs.Reading.{◌>>=◌}
 use Rattle.json_lines.specs.Lines.{LineData, is_blank, json_in, json_or_not, line_data, lines_of, longest_line}
 use Rattle.trace.specs.declared.fault.FaultKind.{FaultKind}
 use Rattle.trace.specs.declared.fault.LineFault.{LineFault}

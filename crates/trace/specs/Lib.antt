@@ -3,6 +3,7 @@ pub mod Gives
 pub mod Written
 pub mod Pod
 pub mod Placing
+pub mod ByPod
 pub mod Observed
 pub mod Past
 pub mod Tick

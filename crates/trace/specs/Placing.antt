@@ -38,13 +38,23 @@ abbrev pub placed_result : PodSpec → ProbeResult → Result PlacedResult Fault
 placed_result pod r = container_number pod r.container
     >>= λ number. Ok (record { container = number; probe = r.probe; outcome = r.outcome })
 
-unfoldable pub placed_entry : List (List ℕ) → List PodSpec → Entry → Result PlacedEntry FaultKind
-placed_entry keys pods entry = do
-  number ← number_in keys entry
+-- an entry of the pod with this number
+unfoldable pub entry_of_pod : List PodSpec → ℕ → Entry → Result PlacedEntry FaultKind
+entry_of_pod pods number entry = do
   pod ← pod_numbered pods number
   listings ← each (placed_listing pod) entry.listings
   results ← each (placed_result pod) entry.results
   Ok (record { pod = number; listings = listings; results = results; usage = entry.usage })
+
+unfoldable pub placed_entry : List (List ℕ) → List PodSpec → Entry → Result PlacedEntry FaultKind
+placed_entry keys pods entry = number_in keys entry >>= λ number. entry_of_pod pods number entry
+
+-- the entries, each of the pod with its number
+abbrev pub entries_of_pods : List PodSpec → List ℕ → List Entry → Result (List PlacedEntry) FaultKind
+entries_of_pods pods [] es = Ok []
+entries_of_pods pods (n ∷ ns) [] = Ok []
+entries_of_pods pods (n ∷ ns) (e ∷ es) =
+    entry_of_pod pods n e >>= λ placed. entries_of_pods pods ns es >>= λ rest. Ok (placed ∷ rest)
 
 -- all entries: first every pod has to be known, then every container
 unfoldable pub placed_of : List PodSpec → List Entry → Result (List PlacedEntry) FaultKind

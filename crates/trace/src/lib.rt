@@ -1,6 +1,7 @@
 //! The trace that a text says, read line by line, or the text's first faulty line.
 #![tactic(auto)]
 
+mod by_pod;
 mod fault;
 pub mod laws;
 mod past;

@@ -1,13 +1,13 @@
 //! The entries of a tick line, with numbers in the place of names.
 
-ghost use Rattle.std.specs.Prelude.{◌≡◌, ◌==◌};
+ghost use Rattle.std.specs.Prelude.{◌≡◌, ◌==◌, length};
 ghost use Rattle.name_list.specs.Names.{place_of};
 ghost use Rattle.json_fields.specs.Reading.{each, some_or};
 ghost use Rattle.trace.specs.Gives.{Gives, GivesExactly};
 ghost use Rattle.trace.specs.Pod.{keys_of};
 ghost use Rattle.trace.specs.Placing.{number_in, container_number, placed_listing, placed_result, pod_numbered};
-ghost use Rattle.trace.specs.Placing.{placed_entry, has_twice, are_of_one_pod, are_of_one_container, is_of_probe};
-ghost use Rattle.trace.specs.Placing.{are_of_one_probe, repeats, is_doubled};
+ghost use Rattle.trace.specs.Placing.{entry_of_pod, entries_of_pods, has_twice, are_of_one_container, is_of_probe};
+ghost use Rattle.trace.specs.Placing.{are_of_one_probe, repeats};
 ghost use Rattle.std.specs.List.{list_any};
 
 use crate::fault::FaultKind;
@@ -136,16 +136,15 @@ fn pod_numbered(pods: &[PodSpec], number: usize) -> Result<&PodSpec, FaultKind>
     }
 }
 
-#[tactic(auto, unfolding(crate::specs::Placing::placed_entry))]
-fn placed_entry(
+#[tactic(auto, unfolding(crate::specs::Placing::entry_of_pod))]
+fn entry_of_pod(
     alloc: Global,
-    keys: &NameList,
     pods: &[PodSpec],
+    number: usize,
     entry: &Entry,
 ) -> Result<PlacedEntry, FaultKind>
-    ensures { Gives (λ e. e) result (placed_entry keys.now pods.now entry.now) }
+    ensures { Gives (λ e. e) result (entry_of_pod pods.now number entry.now) }
 {
-    let number = pod_number(keys, entry)?;
     let pod = pod_numbered(pods, number)?;
     let listings = placed_listings(alloc, pod, entry.listings.as_slice())?;
     let results = placed_results(alloc, pod, entry.results.as_slice())?;
@@ -157,18 +156,19 @@ fn placed_entry(
     })
 }
 
-/// All entries, with numbers in the place of names.
-pub(crate) fn placed_entries(
+/// The entries, each of the pod with its number.
+pub(crate) fn entries_of_pods(
     alloc: Global,
-    keys: &NameList,
     pods: &[PodSpec],
+    numbers: &[usize],
     entries: &[Entry],
 ) -> Result<Vec<PlacedEntry>, FaultKind>
-    ensures { Gives (λ v. v.items) result (each (placed_entry keys.now pods.now) entries.now) }
+    requires { length numbers.now ≡ length entries.now }
+    ensures { Gives (λ v. v.items) result (entries_of_pods pods.now numbers.now entries.now) }
 {
-    let mut all = Vec::new(alloc);
-    for entry in entries {
-        let placed = placed_entry(alloc, keys, pods, entry)?;
+    let mut all = Vec::with_capacity(alloc, entries.len())?;
+    for (place, entry) in entries.iter().enumerate() {
+        let placed = entry_of_pod(alloc, pods, numbers[place], entry)?;
         all.push(placed)?;
     }
     Ok(all)
@@ -186,25 +186,6 @@ fn has_container_twice(listings: &[PlacedListing]) -> bool
     let mut rest = listings;
     while let [first, others @ ..] = rest {
         if has_container(others, first.container) {
-            return true;
-        }
-        rest = others;
-    }
-    false
-}
-
-fn has_pod(entries: &[PlacedEntry], pod: usize) -> bool
-    ensures { result ≡ list_any (λ e. e.pod == pod) entries.now }
-{
-    entries.iter().any(|e| e.pod == pod)
-}
-
-fn has_pod_twice(entries: &[PlacedEntry]) -> bool
-    ensures { result ≡ has_twice are_of_one_pod entries.now }
-{
-    let mut rest = entries;
-    while let [first, others @ ..] = rest {
-        if has_pod(others, first.pod) {
             return true;
         }
         rest = others;
@@ -246,15 +227,9 @@ fn repeats(entry: &PlacedEntry) -> bool
     has_container_twice(entry.listings.as_slice()) || has_result_twice(entry.results.as_slice())
 }
 
-fn some_entry_repeats(entries: &[PlacedEntry]) -> bool
+/// Whether an entry has a container twice, or two results of one probe.
+pub(crate) fn some_entry_repeats(entries: &[PlacedEntry]) -> bool
     ensures { result ≡ list_any repeats entries.now }
 {
     entries.iter().any(|e| repeats(e))
-}
-
-/// Whether a pod is listed twice, or an entry has a container twice or two results of one probe.
-pub(crate) fn is_doubled(entries: &[PlacedEntry]) -> bool
-    ensures { result ≡ is_doubled entries.now }
-{
-    has_pod_twice(entries) || some_entry_repeats(entries)
 }

@@ -1,13 +1,14 @@
 //! Tick lines.
 
-ghost use Rattle.std.specs.Prelude.{◌≡◌, option_map, Ok, IfOk};
+ghost use Rattle.std.specs.Prelude.{◌≡◌, ◌<◌, All, length, option_map, Ok, IfOk};
 ghost use Rattle.std.specs.List.{list_any};
 ghost use Rattle.serde_json.specs.View.{view};
 ghost use Rattle.json_fields.specs.Reading.{refused_if};
 ghost use Rattle.trace.specs.Gives.{Gives, GivesExactly};
 ghost use Rattle.trace.specs.Past.{with_tick};
-ghost use Rattle.trace.specs.Placing.{placed_of};
-ghost use Rattle.trace.specs.Observed.{seen_in, outcome_in, results_in, entry_for, listings_of, results_of, usage_of};
+ghost use Rattle.trace.specs.ByPod.{AreFirst};
+ghost use Rattle.trace.specs.Placing.{placed_of, is_doubled};
+ghost use Rattle.trace.specs.Observed.{seen_in, outcome_in, results_in, listings_of, results_of, usage_of};
 ghost use Rattle.trace.specs.Observed.{seen_listed, containers_from, pod_observed, pods_from, observed, lacks_code};
 ghost use Rattle.trace.specs.Observed.{some_code_missing};
 ghost use Rattle.following.specs.Backwards.{is_backwards};
@@ -16,10 +17,12 @@ ghost use Rattle.trace.specs.Pod.{container_counts};
 ghost use Rattle.trace.specs.Tick.{moment_of, moment_in, room_for_tick, HasFollowedTo, observed_in, tick_in, tick_at};
 ghost use Rattle.trace.specs.Written.{tick_line_in};
 
+use crate::by_pod::{EntriesByPod, entries_by_pod, entry_for};
 use crate::fault::{FaultKind, refused_if};
 use crate::past::Reader;
 use crate::placing::{
-    PlacedEntry, PlacedListing, PlacedResult, is_doubled, is_of_probe, placed_entries, pod_numbers,
+    PlacedEntry, PlacedListing, PlacedResult, entries_of_pods, is_of_probe, pod_numbers,
+    some_entry_repeats,
 };
 use following::Following;
 use json_fields::field;
@@ -113,18 +116,6 @@ fn containers_observed(
     Ok(all)
 }
 
-/// The entry of the pod with the number.
-fn entry_for(entries: &[PlacedEntry], pod: usize) -> Option<&PlacedEntry>
-    ensures { option_map (λ e. e.now) result ≡ entry_for entries.now pod }
-{
-    for entry in entries {
-        if entry.pod == pod {
-            return Some(entry);
-        }
-    }
-    None
-}
-
 fn listings_of(entry: Option<&PlacedEntry>) -> &[PlacedListing]
     ensures { result.now ≡ listings_of (option_map (λ e. e.now) entry.entry) }
 {
@@ -167,13 +158,16 @@ fn pods_observed(
     alloc: Global,
     at: u64,
     entries: &[PlacedEntry],
+    first: &[Option<usize>],
     pods: &[PodSpec],
 ) -> Result<Vec<PodObs>, AllocError>
+    requires { AreFirst entries.now (length pods.now) first.now }
     ensures { IfOk result (λ v. v.items ≡ pods_from at entries.now 0 pods.now) }
 {
     let mut all = Vec::with_capacity(alloc, pods.len())?;
     for (number, pod) in pods.iter().enumerate() {
-        let observed = pod_observed(alloc, at, entry_for(entries, number), pod)?;
+        let entry = entry_for(entries, first, number);
+        let observed = pod_observed(alloc, at, entry, pod)?;
         all.push(observed)?;
     }
     Ok(all)
@@ -184,11 +178,13 @@ fn observed(
     at: u64,
     written: &TickLine,
     placed: &[PlacedEntry],
+    first: &[Option<usize>],
     pods: &[PodSpec],
 ) -> Result<TickObs, AllocError>
+    requires { AreFirst placed.now (length pods.now) first.now }
     ensures { IfOk result (λ t. t ≡ observed at written.now placed.now pods.now) }
 {
-    let pods = pods_observed(alloc, at, placed, pods)?;
+    let pods = pods_observed(alloc, at, placed, first, pods)?;
     Ok(TickObs {
         at,
         pods: Sequence::from_vec(pods),
@@ -247,11 +243,26 @@ fn placed_of(
     reader: &Reader,
     written: &TickLine,
 ) -> Result<Vec<PlacedEntry>, FaultKind>
-    ensures { Gives (λ v. v.items) result (placed_of reader.now.pods written.now.entries) }
+    ensures gives { Gives (λ v. v.items) result (placed_of reader.now.pods written.now.entries) }
+    ensures known { IfOk result (λ v. All (λ e. e.pod < length reader.now.pods) v.items) }
 {
     let entries = written.entries.as_slice();
-    pod_numbers(alloc, &reader.keys, entries)?;
-    placed_entries(alloc, &reader.keys, reader.pods.as_slice(), entries)
+    let numbers = pod_numbers(alloc, &reader.keys, entries)?;
+    entries_of_pods(alloc, reader.pods.as_slice(), &numbers, entries)
+}
+
+/// Where the entries of each pod of the reader stand.
+fn by_pod(alloc: Global, reader: &Reader, placed: &[PlacedEntry]) -> Result<EntriesByPod, FaultKind>
+    requires { All (λ e. e.pod < length reader.now.pods) placed.now }
+    ensures apart { Gives (λ _. tt) result (refused_if (is_doubled placed.now) FaultKind.Doubled) }
+    ensures first { IfOk result (λ found. AreFirst placed.now (length reader.now.pods) found.first.items) }
+{
+    let found = entries_by_pod(alloc, placed, reader.pods.as_slice().len())?;
+    refused_if(
+        found.has_pod_twice || some_entry_repeats(placed),
+        FaultKind::Doubled,
+    )?;
+    Ok(found)
 }
 
 /// What follows the containers after the tick, unless some listing of it may not come after those of
@@ -273,12 +284,14 @@ fn observed_in(
     written: &TickLine,
     placed: &[PlacedEntry],
 ) -> Result<(TickObs, Following), FaultKind>
-    requires { EndBefore reader.now.ticks at }
+    requires later { EndBefore reader.now.ticks at }
+    requires known { All (λ e. e.pod < length reader.now.pods) placed.now }
     ensures gives { Gives (λ r. r.0) result (observed_in reader.now at written.now placed.now) }
     ensures followed { IfOk result (λ r. HasFollowedTo reader.now r.0 r.1) }
 {
-    refused_if(is_doubled(placed), FaultKind::Doubled)?;
-    let tick = observed(alloc, at, written, placed, reader.pods.as_slice())?;
+    let by_pod = by_pod(alloc, reader, placed)?;
+    let pods = reader.pods.as_slice();
+    let tick = observed(alloc, at, written, placed, &by_pod.first, pods)?;
     let following = following_after(alloc, reader, &tick)?;
     refused_if(some_code_missing(placed), FaultKind::ExitCode)?;
     Ok((tick, following))

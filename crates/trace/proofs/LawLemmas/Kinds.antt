@@ -5,7 +5,6 @@ use Rattle.std.specs.Prelude.{◌&&◌, ◌-◌, ◌^◌, option_and_then, nat_l
 use Rattle.serde_json.specs.Data.{Data}
 use Rattle.serde_json.specs.Find.{as_number, as_u64}
 use Rattle.json_fields.specs.Fields.{field_at}
-use Rattle.json_fields.specs.Reading.{some_or}
 use Rattle.manifest.specs.declared.pod.PodSpec.{PodSpec}
 use Rattle.trace.specs.declared.fault.FaultKind.{FaultKind}
 use Rattle.trace.specs.declared.fault.FaultKind.TheVariants.{NotJson, Config, SoftWithoutGrace, Manifest, Moment}
@@ -24,7 +23,7 @@ use Rattle.name_list.specs.Names.{place_of}
 use Rattle.tick_lines.specs.declared.listing.Listing.{Listing}
 use Rattle.trace.specs.Pod.{keys_of, of_manifest, pod_from}
 use Rattle.manifest.specs.Manifest.{pod_at}
-use Rattle.trace.specs.Placing.{number_in, container_number, placed_listing, placed_result, placed_entry, placed_of}
+use Rattle.trace.specs.Placing.{number_in, container_number, placed_listing, placed_result, entry_of_pod, placed_entry, placed_of}
 use Rattle.trace.specs.Past.{Past}
 use Rattle.trace.specs.Tick.{is_later, moment_from}
 use Rattle.trace.specs.Trace.{json_of}
@@ -110,7 +109,7 @@ placed_result_only pod r = only_bind IsStranger _ _ (container_number_only pod r
 
 placed_entry_only : (keys : List (List ℕ)) (pods : List PodSpec) (entry : Entry)
     → Only IsStranger (placed_entry keys pods entry)
-unfolding placed_entry
+unfolding placed_entry entry_of_pod
 placed_entry_only keys pods entry =
     let P = IsStranger in
     only_bind P _ _ (number_only keys entry) (λ number.

@@ -19,8 +19,9 @@ use Rattle.trace.specs.declared.placing.PlacedResult.{PlacedResult}
 use Rattle.trace.specs.declared.placing.PlacedEntry.{PlacedEntry}
 use Rattle.trace.specs.Pod.{keys_of}
 use Rattle.trace.specs.Placing.{number_in, pod_numbered, container_number, placed_listing, placed_result}
-use Rattle.trace.specs.Placing.{placed_entry, placed_of}
+use Rattle.trace.specs.Placing.{entry_of_pod, placed_entry, placed_of}
 use Rattle.trace.specs.Laws.{HasNo, NamesOther, NamesStranger, NamesStrangerContainer, Strangers}
+use Rattle.trace.proofs.Placed.{placed, with_listings, with_pod, with_number}
 use Rattle.trace.proofs.LawLemmas.Checks.{no_fault, same_fault, bind_err, then_ok, then_err}
 
 -- the first item that gives a fault
@@ -83,20 +84,6 @@ pod_is_there (pod ∷ pods) key n e =
     let within : n < length (keys_of (pod ∷ pods)) = place_within (keys_of (pod ∷ pods)) key n e in
     let same : length (keys_of (pod ∷ pods)) ≡ length (pod ∷ pods) = simp length-map in
     (get_or (pod ∷ pods) n pod, slice_get-get_or (pod ∷ pods) n pod (omega arith))
-
--- the steps of an entry
-abbrev placed : Entry → ℕ → List PlacedListing → List PlacedResult → Result PlacedEntry FaultKind
-placed entry number listings results =
-    Ok (record { pod = number; listings = listings; results = results; usage = entry.usage })
-
-abbrev with_listings : Entry → ℕ → PodSpec → List PlacedListing → Result PlacedEntry FaultKind
-with_listings entry number pod listings = each (placed_result pod) entry.results >>= placed entry number listings
-
-abbrev with_pod : Entry → ℕ → PodSpec → Result PlacedEntry FaultKind
-with_pod entry number pod = each (placed_listing pod) entry.listings >>= with_listings entry number pod
-
-abbrev with_number : List PodSpec → Entry → ℕ → Result PlacedEntry FaultKind
-with_number pods entry number = pod_numbered pods number >>= with_pod entry number
 
 container_fault : (pod : PodSpec) (name : List ℕ) (kind : FaultKind) → container_number pod name ≡ Err kind
     → HasNo pod name × (kind ≡ StrangerContainer)
@@ -180,7 +167,7 @@ known_is entry number pod (inr other) (Err kind) e =
 entry_fault : (pods : List PodSpec) (es : List Entry) (n : ℕ) (entry : Entry) (kind : FaultKind)
     → slice_get es n ≡ Some entry → placed_entry (keys_of pods) pods entry ≡ Err kind
     → NamesStranger pods es ⊎ ((kind ≡ StrangerContainer) × NamesStrangerContainer pods es)
-unfolding placed_entry
+unfolding placed_entry entry_of_pod
 entry_fault pods es n entry kind here e =
     elim (bind_err (number_in (keys_of pods) entry) (with_number pods entry) kind e) [
       | inl unknown ↦ inl (record {
@@ -255,7 +242,7 @@ pod_is pods es is = then_err (each (number_in (keys_of pods)) es)
 
 one_entry : (pods : List PodSpec) (es : List Entry) → (is : NamesStrangerContainer pods es)
     → placed_entry (keys_of pods) pods is.entry ≡ Err StrangerContainer
-unfolding placed_entry
+unfolding placed_entry entry_of_pod
 one_entry pods es is =
     then_ok (number_in (keys_of pods) is.entry) (with_number pods is.entry) is.number
     (ap (λ (found : Option ℕ). some_or StrangerPod found) is.known)

@@ -1,4 +1,4 @@
-use Rattle.std.proofs.Common.{◌≡◌, ◌+◌, map, take, drop}
+use Rattle.std.proofs.Common.{◌≡◌, ◌+◌, map, drop}
 use Rattle.json_lines.specs.Lines.{data_of}
 use Rattle.trace.specs.Taken.{lines_at}
 use Rattle.trace.proofs.text.take_lines.Given as goal
