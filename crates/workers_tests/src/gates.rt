@@ -2,7 +2,7 @@
 
 ghost use Rattle.std.specs.Prelude.{◌<◌};
 
-use pod_pool::Gate;
+use kubelet_replay::Gate;
 use std::alloc::{AllocError, AllocGlobal, Global};
 use std::process::Abort;
 use std::sync::atomic::{AtomicU64, Ordering};

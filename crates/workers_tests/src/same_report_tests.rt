@@ -45,3 +45,9 @@ fn reports_of_many_ticks_are_the_same(rt: HostRuntime) -> Result<(), Fail> {
         "node n1 pods=20 ticks=50\nevent 0 default/p0 c started 0\n",
     )
 }
+
+#[test]
+fn reports_of_fewer_pods_than_workers_are_the_same(rt: HostRuntime) -> Result<(), Fail> {
+    expect_same_reports(&rt, 0, 2, "node n1 pods=0 ticks=2\n")?;
+    expect_same_reports(&rt, 1, 2, "node n1 pods=1 ticks=2\n")
+}

@@ -1,33 +1,13 @@
 //! A pod is stolen from the deque of another worker.
 
 use crate::gates::Pair;
-use crate::nodes::totals_of;
 use crate::replays::replayed_by;
-use crate::rounds::expect_round;
-use crate::traces::{trace_of, trace_text};
+use crate::traces::trace_text;
 use std::test::Fail;
 
 // Two workers are dealt the first and the third pod, and the second pod. The first two wait for each other.
-
-#[test]
-fn round_ends_by_a_theft(rt: HostRuntime) -> Result<(), Fail> {
-    let gate = Pair::new(&rt);
-    expect_round(&rt, rt.alloc(), 3, 2, &gate)?;
-    gate.expect(&rt);
-    Ok(())
-}
-
 #[test]
 fn tick_ends_by_a_theft(rt: HostRuntime) -> Result<(), Fail> {
-    let gate = Pair::new(&rt);
-    let trace = trace_of(rt.alloc(), 3, 1)?;
-    totals_of(&rt, rt.alloc(), trace, 2, &gate)?;
-    gate.expect(&rt);
-    Ok(())
-}
-
-#[test]
-fn replay_ends_by_a_theft(rt: HostRuntime) -> Result<(), Fail> {
     let gate = Pair::new(&rt);
     let text = trace_text(rt.alloc(), 3, 1)?;
     replayed_by(&rt, text.as_str(), 2, &gate)?;

@@ -1,8 +1,6 @@
-//! Traces, as text and read.
+//! Traces as text.
 
 use std::alloc::{AllocError, Global};
-use std::test::Fail;
-use trace::{Trace, read_trace};
 
 /// A pod's container in a tick, both by number. Of three pods, one runs on, one exits in the third tick, and one exits
 /// in every other tick and is restarted.
@@ -60,10 +58,4 @@ pub(crate) fn trace_text(alloc: Global, pods: usize, ticks: usize) -> Result<Str
         add_tick(alloc, &mut text, tick, pods)?;
     }
     Ok(text)
-}
-
-/// The same, read.
-pub(crate) fn trace_of(alloc: Global, pods: usize, ticks: usize) -> Result<Trace, Fail> {
-    let text = trace_text(alloc, pods, ticks)?;
-    Ok(read_trace(alloc, text.as_bytes()).ok().ok_or("a trace")?)
 }
