@@ -1,0 +1,211 @@
+//! A round of a pool over a book of its own.
+
+ghost use Rattle.std.specs.Prelude.{◌≡◌, ◌+◌, IfOk, OnOk};
+ghost use Rattle.event_book.specs.Limits.{AreLow};
+ghost use Rattle.event_book.specs.Shares.{most_parts};
+ghost use Rattle.refused_calls.specs.Round.{AreFirst};
+
+use crate::blanks::Blanks;
+use crate::pieces::{Stage, pending, shows};
+use crate::seen::{Line, Saw, Unprepared};
+use event_book::{EventBook, Shares, Totals};
+use pod_piece::PodPiece;
+use pod_pool::{NoGate, PoolFault, update_all};
+use std::alloc::Global;
+use std::marker::Brand;
+use std::sync::ledger::Ledger;
+use std::sync::{Mutex, Wait};
+use std::thread::Threads;
+
+/// So many workers share the two pods.
+const WORKERS: usize = 2;
+
+/// What the book has of the first tick: each pod starts, becomes ready and runs.
+const TOTALS: Totals = Totals {
+    updates: 2,
+    events: 6,
+    orders: 0,
+};
+
+/// The pod of the trace with this number, with a first tick, behind those before it.
+fn add_pending(alloc: Global, pieces: &mut Vec<PodPiece>, number: usize) -> Result<(), Unprepared>
+    requires { AreFirst number pieces.old.items }
+    ensures { OnOk result (AreFirst (number + 1) pieces.new.items) }
+{
+    let piece = pending(alloc, number)?;
+    pieces.push(piece)?;
+    Ok(())
+}
+
+/// The two pods of the trace, each with a first tick.
+fn both_pending(alloc: Global) -> Result<Vec<PodPiece>, Unprepared>
+    ensures { IfOk result (λ pieces. AreFirst 2 pieces.items) }
+{
+    let mut pieces = Vec::new(alloc);
+    add_pending(alloc, &mut pieces, 0)?;
+    add_pending(alloc, &mut pieces, 1)?;
+    Ok(pieces)
+}
+
+fn show_both(
+    alloc: Global,
+    first: &PodPiece,
+    second: &PodPiece,
+    stage: Stage,
+) -> Result<bool, Unprepared> {
+    Ok(shows(alloc, first, 0, stage)? && shows(alloc, second, 1, stage)?)
+}
+
+/// Whether these are both pods at this stage.
+fn are_both(alloc: Global, pieces: &[PodPiece], stage: Stage) -> Result<bool, Unprepared> {
+    match pieces {
+        [first, second] => show_both(alloc, first, second, stage),
+        _ => Ok(false),
+    }
+}
+
+/// How a round ended.
+#[derive(Clone, Copy)]
+enum End {
+    /// It was made.
+    Made,
+    /// A growth of memory was refused before it began, and it was made again.
+    MadeAgain,
+    /// An update in it was refused.
+    GivenUp,
+}
+
+impl End {
+    /// The line of such a round, with these totals in its book.
+    fn line(self, saw: Saw, totals: Totals) -> Line {
+        let counted = if totals == TOTALS {
+            saw
+        } else {
+            Saw::Wrong("the totals are others")
+        };
+        match self {
+            End::Made => Line {
+                name: "update_all",
+                saw: counted,
+            },
+            End::MadeAgain => Line {
+                name: "update_all, no room",
+                saw: counted,
+            },
+            End::GivenUp => Line {
+                name: "update_all, update",
+                saw,
+            },
+        }
+    }
+}
+
+/// What was seen of a round that ended so, if the pods are updated.
+fn updated(
+    alloc: Global,
+    pieces: &[PodPiece],
+    end: End,
+    saw: Saw,
+) -> Result<(End, Saw), Unprepared> {
+    if are_both(alloc, pieces, Stage::Updated)? {
+        Ok((end, saw))
+    } else {
+        Ok((end, Saw::Wrong("the pieces are others")))
+    }
+}
+
+/// What was seen of a piece that came back, since its update was refused.
+fn given_up(alloc: Global, piece: &PodPiece) -> Result<(End, Saw), Unprepared> {
+    if shows(alloc, piece, piece.status().number, Stage::Pending)? {
+        Ok((End::GivenUp, Saw::Refused("a piece comes back as it was")))
+    } else {
+        let saw = Saw::Wrong("the piece is another than it was");
+        Ok((End::GivenUp, saw))
+    }
+}
+
+/// The round with what came back of it.
+fn begun_again<U: Ledger + Send, E: Ledger + Send, O: Ledger + Send, R: Threads + Wait + Sync>(
+    rt: &R,
+    alloc: Global,
+    book: &Mutex<EventBook<U, E, O>>,
+    pieces: Vec<PodPiece>,
+    share: Shares<U, E, O>,
+) -> Result<(End, Saw), Unprepared>
+    requires first { AreFirst 2 pieces.items }
+    requires whole { share.parts ≡ most_parts }
+    requires level { (U.parts ≡ most_parts) × (E.parts ≡ most_parts) × (O.parts ≡ most_parts) }
+    requires low { AreLow share.numbers }
+{
+    let saw = Saw::Refused("pieces and share come back as they were, and are updated");
+    match update_all(rt, alloc, pieces, book, share, WORKERS, &NoGate) {
+        Ok((pieces, _share)) => updated(alloc, &pieces, End::MadeAgain, saw),
+        Err(_) => Ok((End::MadeAgain, Saw::Wrong("the second call is refused"))),
+    }
+}
+
+/// What was seen of a round that was not begun.
+fn not_begun<U: Ledger + Send, E: Ledger + Send, O: Ledger + Send, R: Threads + Wait + Sync>(
+    rt: &R,
+    alloc: Global,
+    book: &Mutex<EventBook<U, E, O>>,
+    pieces: Vec<PodPiece>,
+    share: Shares<U, E, O>,
+) -> Result<(End, Saw), Unprepared>
+    requires first { AreFirst 2 pieces.items }
+    requires whole { share.parts ≡ most_parts }
+    requires level { (U.parts ≡ most_parts) × (E.parts ≡ most_parts) × (O.parts ≡ most_parts) }
+    requires low { AreLow share.numbers }
+{
+    if are_both(alloc, &pieces, Stage::Pending)? {
+        begun_again(rt, alloc, book, pieces, share)
+    } else {
+        let saw = Saw::Wrong("the pieces are other than they were");
+        Ok((End::MadeAgain, saw))
+    }
+}
+
+/// How the round ended, and what was seen of it.
+fn played<U: Ledger + Send, E: Ledger + Send, O: Ledger + Send, R: Threads + Wait + Sync>(
+    rt: &R,
+    alloc: Global,
+    book: &Mutex<EventBook<U, E, O>>,
+    pieces: Vec<PodPiece>,
+    share: Shares<U, E, O>,
+) -> Result<(End, Saw), Unprepared>
+    requires first { AreFirst 2 pieces.items }
+    requires whole { share.parts ≡ most_parts }
+    requires level { (U.parts ≡ most_parts) × (E.parts ≡ most_parts) × (O.parts ≡ most_parts) }
+    requires low { AreLow share.numbers }
+{
+    match update_all(rt, alloc, pieces, book, share, WORKERS, &NoGate) {
+        Ok((pieces, _share)) => updated(alloc, &pieces, End::Made, Saw::Done),
+        Err(PoolFault::NoRoom(pieces, share)) => not_begun(rt, alloc, book, pieces, share),
+        Err(PoolFault::Update(piece)) => given_up(alloc, &piece),
+    }
+}
+
+/// The round, with a book over these ledgers.
+fn over_book<U: Ledger + Send, E: Ledger + Send, O: Ledger + Send, R: Threads + Wait + Sync>(
+    rt: &R,
+    alloc: Global,
+    blanks: Blanks,
+    pieces: Vec<PodPiece>,
+) -> Result<Line, Unprepared>
+    requires first { AreFirst 2 pieces.items }
+    requires names { (blanks.updates.name ≡ U.name) × (blanks.events.name ≡ E.name) × (blanks.orders.name ≡ O.name) }
+    requires parts { (blanks.updates.parts ≡ U.parts) × (blanks.events.parts ≡ E.parts)
+        × (blanks.orders.parts ≡ O.parts) }
+    requires level { (U.parts ≡ most_parts) × (E.parts ≡ most_parts) × (O.parts ≡ most_parts) }
+{
+    let (book, share) = EventBook::<U, E, O>::new(blanks.updates, blanks.events, blanks.orders);
+    let book = Mutex::new(book);
+    let (end, saw) = played(rt, alloc, &book, pieces, share)?;
+    Ok(end.line(saw, book.into_inner().totals()))
+}
+
+/// `update_all`.
+pub(crate) fn round<R: Threads + Wait + Sync>(rt: &R, alloc: Global) -> Result<Line, Unprepared> {
+    let pieces = both_pending(alloc)?;
+    over_book::<Brand, Brand, Brand, R>(rt, alloc, Blanks::new(), pieces)
+}
