@@ -1,5 +1,4 @@
-//! Tests of what no text of a case reaches: single calls, traces as values, inputs that are cut,
-//! large or stop, and writers that stop.
+//! Tests of what no text of a case reaches: inputs that are cut, large or stop, and writers that stop.
 #![tactic(auto)]
 
 #[cfg(test)]
@@ -7,10 +6,6 @@ mod calls;
 #[cfg(test)]
 mod halting;
 #[cfg(test)]
-mod lists_tests;
-#[cfg(test)]
 mod replay_tests;
 #[cfg(test)]
 mod size_tests;
-#[cfg(test)]
-mod trace_tests;
