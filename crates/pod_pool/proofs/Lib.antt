@@ -1,4 +1,2 @@
-pub mod Rests
-pub mod Entries
 pub mod Due
 pub mod Returned

@@ -1,4 +1,1 @@
-pub mod Order
-pub mod Rests
-pub mod Rooms
 pub mod Faults

@@ -1,19 +1,11 @@
 //! A pool of workers that update the pieces of a round: each has a deque of its own, and steals from the others.
-//! After them the seats go back to their deques, what is left in these is finished, and what all workers keep is put
-//! together, in order.
+//! What all of them keep is gathered in order.
 #![tactic(auto)]
 
-mod absorb;
-mod collect;
-mod drain;
 mod fault;
-mod gathered;
-mod part;
 mod pool;
-mod rest;
 mod run;
-mod settle;
 
 pub use fault::PoolFault;
 pub use pool::update_all;
-pub use pool_worker::{Gate, NoGate};
+pub use pool_harvest::{Gate, NoGate};

@@ -5,7 +5,8 @@ ghost use Rattle.pool_worker.specs.Bundles.{bundle_tag};
 
 use event_book::EventBook;
 use piece_deques::Deal;
-use pool_worker::{Bundle, Gate};
+use pool_harvest::Gate;
+use pool_worker::Bundle;
 use std::sync::ledger::Ledger;
 use std::sync::{Mutex, Wait};
 use std::thread;

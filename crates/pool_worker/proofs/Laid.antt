@@ -5,7 +5,7 @@ use Rattle.std.proofs.lemmas.List.Elements.{All-map}
 use Rattle.pod_piece.specs.Piece.{Piece}
 use Rattle.piece_deques.proofs.Lists.{all_unmap, map_map}
 use Rattle.pool_worker.specs.declared.bundle.Bundle.{Bundle}
-use Rattle.pool_worker.specs.Done.{weigh}
+use Rattle.pool_harvest.specs.Done.{weigh}
 use Rattle.pool_worker.specs.Seats.{Place, places_weigh}
 use Rattle.pool_worker.specs.Bundles.{Tag, bundle_place, bundle_tag, places_in, IsLaid, AreLaid}
 

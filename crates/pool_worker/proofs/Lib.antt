@@ -1,6 +1,3 @@
-pub mod Sums
-pub mod Numbers
 pub mod Room
 pub mod Laid
 pub mod Places
-pub mod InOrder

@@ -11,8 +11,8 @@ use Rattle.crossbeam_deque.specs.declared.handles.Worker.{Worker}
 use Rattle.pod_piece.specs.Piece.{Piece}
 use Rattle.piece_deques.specs.declared.rule.Tally.{Tally}
 use Rattle.piece_deques.proofs.Lists.{map_set, ones, sum_set}
-use Rattle.pool_worker.specs.declared.reach.Reach.{Reach}
-use Rattle.pool_worker.specs.Done.{weigh}
+use Rattle.pool_harvest.specs.declared.reach.Reach.{Reach}
+use Rattle.pool_harvest.specs.Done.{weigh}
 use Rattle.pool_worker.specs.Seats.{place, seat_place, owner_place, taken_by, pushed_to}
 use Rattle.pool_worker.specs.Bundles.{tag, tag_of}
 

@@ -1,5 +1,3 @@
-pub mod Done
 pub mod Seats
-pub mod Harvests
 pub mod Bundles
 pub mod Lanes

@@ -6,7 +6,7 @@ use Rattle.atomic_blocks.specs.Lent.{RowsId}
 use Rattle.crossbeam_deque.specs.Handles.{view, worker_deque, worker_view, stealer_deque}
 use Rattle.crossbeam_deque.specs.declared.handles.Worker.{Worker}
 use Rattle.piece_deques.specs.declared.rule.Tally.{Tally}
-use Rattle.pool_worker.specs.declared.reach.Reach.{Reach}
+use Rattle.pool_harvest.specs.declared.reach.Reach.{Reach}
 
 -- which deque, and the numbers of the pieces that were pushed to it
 pub record Place : Type 0 where

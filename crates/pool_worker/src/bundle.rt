@@ -4,12 +4,11 @@ ghost use Rattle.std.specs.Prelude.{◌≡◌, ◌≤◌, ◌+◌, ℕ, length, 
 ghost use Rattle.std.specs.List.{sum_by};
 ghost use Rattle.crossbeam_deque.specs.Handles.{worker_view};
 ghost use Rattle.piece_deques.specs.Ends.{IsOwner};
+ghost use Rattle.pool_harvest.specs.Harvests.{kept};
 ghost use Rattle.pool_worker.specs.Seats.{pushed_to, taken_by};
-ghost use Rattle.pool_worker.specs.Harvests.{kept};
 
-use crate::harvest::Harvest;
-use crate::reach::Reach;
 use piece_deques::{Deal, Owner};
+use pool_harvest::{Harvest, Reach};
 use std::sync::ledger::Ledger;
 
 /// The owner's end of a deque, a seat of each deque, and what the worker keeps: the pieces that it took, once each.

@@ -4,9 +4,9 @@ ghost use Rattle.std.specs.Prelude.{◌≡◌, ◌≤◌, ℕ, [], vec_len, vec_
 ghost use Rattle.pool_worker.specs.Seats.{taken_by};
 
 use crate::bundle::Bundle;
-use crate::reach::Reach;
 use piece_deques::{Deal, Owner, Thief};
 use pod_piece::PodPiece;
+use pool_harvest::Reach;
 use std::sync::ledger::Ledger;
 
 /// What a worker will need beside its deque: the thieves' end of each deque, and room.

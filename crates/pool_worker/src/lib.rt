@@ -6,21 +6,12 @@
 mod bundle;
 mod bundles;
 mod deal;
-mod finish;
-mod gate;
-mod harvest;
 mod lane;
-mod order;
 mod plan;
-mod reach;
 mod seats;
 mod work;
 
 pub use bundle::Bundle;
 pub use bundles::lay_out;
-pub use gate::{Gate, NoGate};
-pub use harvest::Harvest;
 pub use lane::Plan;
-pub use order::in_order;
 pub use plan::make_plan;
-pub use reach::Reach;

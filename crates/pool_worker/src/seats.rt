@@ -6,8 +6,8 @@ ghost use Rattle.pool_worker.specs.Seats.{owner_place, seat_place};
 ghost use Rattle.pool_worker.specs.Lanes.{IsHost, IsRich, IsDesk};
 
 use crate::lane::{Desk, Lane};
-use crate::reach::Reach;
 use piece_deques::{Deal, Owner, new_seat};
+use pool_harvest::Reach;
 
 /// A seat of each deque, in their order.
 fn seat_lane<D: Deal>(owners: &mut Vec<Owner<D>>, lane: Lane<D>) -> Desk<D>

@@ -9,13 +9,10 @@ ghost use Rattle.pool_worker.specs.Seats.{pushed_to, taken_by};
 ghost use Rattle.pool_worker.specs.Bundles.{tag_of, bundle_tag};
 
 use crate::bundle::Bundle;
-use crate::gate::Gate;
-use crate::harvest::Harvest;
-use crate::reach::Reach;
 use event_book::{EventBook, Shares};
 use piece_deques::{Deal, Owner, pop};
 use pod_piece::PodPiece;
-use std::marker::PhantomData;
+use pool_harvest::{Gate, Harvest, Reach};
 use std::sync::ledger::Ledger;
 use std::sync::{Mutex, Wait};
 
@@ -50,17 +47,10 @@ impl<D: Deal, U: Ledger, E: Ledger, O: Ledger> Bundle<D, U, E, O> {
         requires share { share ≡ part 1 nothing }
         ensures { bundle_tag result ≡ tag_of owner reaches.items 1 }
     {
-        let harvest = Harvest {
-            done,
-            late,
-            refused: None,
-            share,
-            of: PhantomData,
-        };
         Bundle {
             owner,
             reaches,
-            harvest,
+            harvest: Harvest::new(done, late, share),
         }
     }
 

@@ -9,8 +9,8 @@ use Rattle.pod_piece.specs.Piece.{Piece}
 use Rattle.piece_deques.specs.Rule.{IsDue}
 use Rattle.piece_deques.specs.Ends.{IsOpen, pushed_weight}
 use Rattle.piece_deques.proofs.Lists.{front, map_set, sum_set}
-use Rattle.pool_worker.specs.Done.{weigh}
-use Rattle.pool_worker.proofs.Numbers.{weigh_more}
+use Rattle.pool_harvest.specs.Done.{weigh}
+use Rattle.pool_harvest.proofs.Numbers.{weigh_more}
 use Rattle.pool_worker.proofs.deal.deal.Goals as goal
 
 weigh_none : (weight : ℕ → ℕ) (pieces : List Piece) → length pieces ≡ 0 → weigh weight pieces ≡ 0

@@ -1,0 +1,17 @@
+use Rattle.std.proofs.Common.{arith, ap, vec_capacity}
+use Rattle.crossbeam_deque.specs.Handles.{worker_view}
+use Rattle.piece_deques.proofs.Lists.{ones}
+use Rattle.pool_harvest.specs.Harvests.{kept}
+use Rattle.pool_worker.proofs.Room.{no_more}
+use Rattle.pool_gather.proofs.part.part.Goals as goal
+
+pub invariant_of-result-clause-room : goal.invariant_of-result-clause-room
+invariant_of-result-clause-room g c =
+    let b = c.args.bundle in
+    let m = b.matched (λ _. 1) in
+    let o = ones (worker_view b.owner).taken in
+    let n = no_more b.reaches.items in
+    let r = b.room in
+    let k = ap (kept (λ _. 1)) c.in_ok-harvest.ensures.ok in
+    let v = ap (λ t. vec_capacity t.done) c.in_ok-harvest.ensures.ok in
+    omega arith

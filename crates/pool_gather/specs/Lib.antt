@@ -1,0 +1,3 @@
+pub mod Order
+pub mod Rests
+pub mod Rooms

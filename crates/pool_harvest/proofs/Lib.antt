@@ -1,0 +1,3 @@
+pub mod Sums
+pub mod Numbers
+pub mod InOrder

@@ -1,0 +1,2 @@
+pub mod Done
+pub mod Harvests

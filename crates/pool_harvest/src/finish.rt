@@ -1,0 +1,147 @@
+//! How a worker updates and enters a piece, and how what two workers keep comes together.
+
+ghost use Rattle.std.specs.Prelude.{◌≡◌, ◌<◌, ◌≤◌, ◌+◌, [], ℕ, true, None, vec_len, vec_capacity};
+ghost use Rattle.std.specs.Prelude.{IfOk, IfErr, OnOk, OnErr};
+ghost use Rattle.event_book.specs.Totals.{nothing, plus};
+ghost use Rattle.event_book.specs.Shares.{part, one_update};
+ghost use Rattle.piece_deques.specs.Rule.{IsDue};
+ghost use Rattle.pool_harvest.specs.Harvests.{kept};
+
+use crate::gate::{Gate, update};
+use crate::harvest::Harvest;
+use event_book::{Entry, EventBook, Full, Shares};
+use piece_deques::Deal;
+use pod_piece::PodPiece;
+use std::marker::PhantomData;
+use std::sync::ledger::Ledger;
+use std::sync::{Mutex, Wait};
+
+/// Enters one update in the book, while no other worker does.
+fn enter<R: Wait, U: Ledger, E: Ledger, O: Ledger>(
+    rt: &R,
+    book: &Mutex<EventBook<U, E, O>>,
+    entry: Entry,
+    share: &mut Shares<U, E, O>,
+) -> Result<(), Full>
+    requires { 0 < share.old.parts }
+    ensures share { OnOk result (share.new ≡ part share.old.parts (plus share.old.numbers (one_update entry))) }
+    ensures kept { OnErr result (share.new ≡ share.old) }
+{
+    book.lock(rt).enter(entry, share)
+}
+
+impl<D: Deal, U: Ledger, E: Ledger, O: Ledger> Harvest<D, U, E, O> {
+    /// What a worker keeps that has done nothing yet, in vectors with room for all that it may keep.
+    pub fn new(
+        done: Vec<PodPiece>,
+        late: Vec<PodPiece>,
+        share: Shares<U, E, O>,
+    ) -> Harvest<D, U, E, O>
+        requires empty { done.items ≡ [] }
+        requires empty_late { late.items ≡ [] }
+        requires share { share ≡ part 1 nothing }
+        ensures done { result.done ≡ done }
+        ensures late { result.late ≡ late }
+        ensures none { result.refused ≡ None }
+        ensures share { result.share ≡ share }
+    {
+        Harvest {
+            done,
+            late,
+            refused: None,
+            share,
+            of: PhantomData,
+        }
+    }
+
+    /// Updates a piece and enters it. False where the update was refused.
+    pub fn finish<R: Wait, G: Gate>(
+        &mut self,
+        rt: &R,
+        book: &Mutex<EventBook<U, E, O>>,
+        gate: &G,
+        piece: PodPiece,
+    ) -> bool
+        requires due { IsDue D.all piece }
+        requires none { self.old.refused ≡ None }
+        requires room { vec_len self.old.done < vec_capacity self.old.done }
+        requires room_late { vec_len self.old.late < vec_capacity self.old.late }
+        ensures kept { (weight : ℕ → ℕ) → kept weight self.new ≡ kept weight self.old + weight piece.number }
+        ensures room { vec_capacity self.new.done ≡ vec_capacity self.old.done }
+        ensures room_late { vec_capacity self.new.late ≡ vec_capacity self.old.late }
+        ensures parts { self.new.share.parts ≡ self.old.share.parts }
+        ensures more { result ≡ true → self.new.refused ≡ None }
+        ensures last { self.new.refused ≡ None → result ≡ true }
+    {
+        let mut piece = piece;
+        match update(gate, &mut piece) {
+            Ok(()) => {
+                let entry = Entry::last_of(&piece);
+                let entered = enter(rt, book, entry, &mut self.share);
+                match entered {
+                    Ok(()) => self.done.push_reserved(piece),
+                    Err(Full) => self.late.push_reserved(piece),
+                }
+                true
+            }
+            Err(_) => {
+                self.refused = Some(piece);
+                false
+            }
+        }
+    }
+
+    /// The same harvest, or the piece whose update was refused.
+    pub fn complete(self) -> Result<Harvest<D, U, E, O>, PodPiece>
+        ensures ok { IfOk result (λ harvest. harvest ≡ self) }
+        ensures none { IfOk result (λ harvest. harvest.refused ≡ None) }
+        ensures err { IfErr result (IsDue D.all) }
+    {
+        if self.refused.is_none() {
+            return Ok(self);
+        }
+        let Harvest {
+            done: _,
+            late: _,
+            refused,
+            share: _,
+            of: _,
+        } = self;
+        match refused {
+            Some(piece) => Err(piece),
+            None => unreachable!(),
+        }
+    }
+
+    /// Takes in what another worker keeps.
+    pub fn merge(&mut self, other: Harvest<D, U, E, O>)
+        requires none { self.old.refused ≡ None }
+        requires other { other.refused ≡ None }
+        requires room { vec_len self.old.done + vec_len other.done ≤ vec_capacity self.old.done }
+        requires room_late { vec_len self.old.late + vec_len other.late ≤ vec_capacity self.old.late }
+        ensures kept { (weight : ℕ → ℕ) → kept weight self.new ≡ kept weight self.old + kept weight other }
+        ensures room { vec_capacity self.old.done ≤ vec_capacity self.new.done }
+        ensures room_late { vec_capacity self.old.late ≤ vec_capacity self.new.late }
+        ensures none { self.new.refused ≡ None }
+        ensures parts { self.new.share.parts ≡ self.old.share.parts + other.share.parts }
+    {
+        let Harvest {
+            done,
+            late,
+            refused: _,
+            share,
+            of: _,
+        } = other;
+        let mut done = done;
+        let mut late = late;
+        self.share.join(share);
+        match self.done.append(&mut done) {
+            Ok(()) => {}
+            Err(_) => unreachable!(),
+        }
+        match self.late.append(&mut late) {
+            Ok(()) => {}
+            Err(_) => unreachable!(),
+        }
+    }
+}
