@@ -1,8 +1,6 @@
-//! Tests of calls that no text reaches: readers and writers that stop, a full book, and quantities made of numbers.
+//! Tests of calls that no text reaches: readers and writers over memory, and quantities made of numbers.
 #![tactic(auto)]
 
-#[cfg(test)]
-mod book_tests;
 #[cfg(test)]
 mod quantity_tests;
 #[cfg(test)]
