@@ -1,7 +1,8 @@
 //! What is read of manifests, as text.
 
 use anyhow::Result;
-use manifest::{Amounts, ContainerSpec, ManifestFault, PodSpec, Probe, Resource};
+use manifest::{Amounts, ContainerSpec, PodSpec, Probe, Resource};
+use manifest_reader::{ManifestFault, read_pod};
 use qos::{effective_request, qos_class};
 use quantity::Quantity;
 use serde_json::Value;
@@ -115,7 +116,7 @@ fn fault_of(alloc: Global, fault: ManifestFault) -> Result<String, AllocError> {
 /// What is read of a manifest, in one line, or its fault.
 pub(crate) fn pod(alloc: Global, text: &str) -> Result<String> {
     let value = Value::from_str(alloc, text)?;
-    Ok(match PodSpec::from_value(alloc, &value) {
+    Ok(match read_pod(alloc, &value) {
         Ok(pod) => text_of(alloc, &pod, ";")?,
         Err(fault) => fault_of(alloc, fault)?,
     })
@@ -124,7 +125,7 @@ pub(crate) fn pod(alloc: Global, text: &str) -> Result<String> {
 /// The class and the effective requests of a manifest, or its fault.
 pub(crate) fn class(alloc: Global, text: &str) -> Result<String> {
     let value = Value::from_str(alloc, text)?;
-    Ok(match PodSpec::from_value(alloc, &value) {
+    Ok(match read_pod(alloc, &value) {
         Ok(pod) => class_of(alloc, &pod)?,
         Err(fault) => fault_of(alloc, fault)?,
     })
@@ -133,7 +134,7 @@ pub(crate) fn class(alloc: Global, text: &str) -> Result<String> {
 /// What is read of a manifest, line by line, and its class in the last line.
 pub(crate) fn whole(alloc: Global, text: &str) -> Result<String> {
     let value = Value::from_str(alloc, text)?;
-    let pod = PodSpec::from_value(alloc, &value)?;
+    let pod = read_pod(alloc, &value)?;
     let (lines, class) = (text_of(alloc, &pod, "\n")?, class_of(alloc, &pod)?);
     Ok(format!(in alloc; "{lines}\n{class}\n")?)
 }

@@ -4,8 +4,8 @@ use Rattle.std.specs.List.{list_any, list_all}
 use Rattle.manifest.specs.declared.pod.Role.{Role}
 use Rattle.manifest.specs.declared.pod.Role.TheVariants.{Init, Sidecar, App}
 use Rattle.manifest.specs.declared.pod.ContainerSpec.{ContainerSpec}
-use Rattle.manifest.specs.declared.reading.Place.{Place}
-use Rattle.manifest.specs.declared.reading.Place.TheVariants.{InitContainers, Containers}
+use Rattle.manifest.specs.declared.pod.Place.{Place}
+use Rattle.manifest.specs.declared.pod.Place.TheVariants.{InitContainers, Containers}
 use Rattle.manifest.specs.Probe.{no_probes}
 
 abbrev pub names_of : List ContainerSpec → List (List ℕ)

@@ -1,17 +1,7 @@
-pub mod Fault
-pub mod Gives
 pub mod Names
-pub mod Fields
-pub mod Grammar
 pub mod Probe
-pub mod ProbeFields
 pub mod Resources
-pub mod ResourceFields
 pub mod Containers
-pub mod Manifest
 pub mod Policy
-pub mod Found
-pub mod Table
-pub mod Laws
 pub mod ProbeKinds
 pub mod RestartDelay

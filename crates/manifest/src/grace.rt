@@ -22,7 +22,8 @@ impl Model for GracePeriod {
 }
 
 impl GracePeriod {
-    pub(crate) fn new(seconds: u64) -> GracePeriod
+    /// So many seconds.
+    pub fn new(seconds: u64) -> GracePeriod
         requires { seconds < 2 ^ 40 }
         ensures { result ≡ seconds }
     {

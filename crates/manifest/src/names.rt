@@ -56,7 +56,7 @@ pub fn is_name(text: &[u8]) -> bool
 /// Whether the text is the name of a namespace or a container: a name of at most 63 bytes with no
 /// point.
 #[tactic(auto, unfolding(crate::specs::Names::is_label))]
-pub(crate) fn is_label(text: &[u8]) -> bool
+pub fn is_label(text: &[u8]) -> bool
     ensures { result ≡ is_label text.now }
 {
     0 < text.len() && text.len() <= 63 && has_label_bytes(text) && has_ends(text)

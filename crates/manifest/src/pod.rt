@@ -1,6 +1,6 @@
 //! What a manifest says of a pod.
 
-ghost use Rattle.std.specs.Prelude.{◌≡◌, ◌<◌, ◌≤◌, List, [], ◌∷◌, false, length, map, OnOk, IfOk};
+ghost use Rattle.std.specs.Prelude.{◌≡◌, ◌<◌, ◌≤◌, List, [], ◌∷◌, false, length, map};
 ghost use Rattle.name_list.specs.Names.{place_of};
 
 use crate::grace::GracePeriod;
@@ -8,8 +8,6 @@ use crate::policy::Policy;
 use crate::probe::Probes;
 use crate::resources::Resources;
 use crate::text::Text;
-use name_list::NameList;
-use std::alloc::{AllocError, Global};
 use std::marker::Model;
 
 /// What a container is to its pod.
@@ -26,17 +24,36 @@ pub enum Role {
     App,
 }
 
+/// The two arrays of containers in a pod's `spec`.
+#[derive(Clone, Copy)]
+pub enum Place {
+    InitContainers,
+    Containers,
+}
+
 /// One container of a pod.
 #[derive(Drop)]
 pub struct ContainerSpec {
     /// At most 63 bytes, with no point.
     pub name: Text,
-    pub(crate) role: Role,
+    role: Role,
     pub resources: Resources,
     pub probes: Probes,
 }
 
 impl ContainerSpec {
+    /// A container of this name.
+    pub fn new(name: Text, role: Role, resources: Resources, probes: Probes) -> ContainerSpec
+        ensures { result ≡ record { name = name; role = role; resources = resources; probes = probes } }
+    {
+        ContainerSpec {
+            name,
+            role,
+            resources,
+            probes,
+        }
+    }
+
     /// What the container is to its pod.
     pub fn role(&self) -> Role
         ensures { result ≡ self.now.role }
@@ -51,31 +68,29 @@ impl ContainerSpec {
 #[derive(Drop)]
 pub struct ContainerList {
     items: Vec<ContainerSpec>,
-    names: NameList,
 }
 
 impl Model for ContainerList {
-    ghost use Rattle.std.specs.Prelude.{◌≡◌, List, map};
+    ghost use Rattle.std.specs.Prelude.{List};
     ghost use Rattle.manifest.specs.declared.pod.ContainerSpec.{ContainerSpec};
-    ghost use Rattle.manifest.specs.Containers.{AreContainers, names_of};
+    ghost use Rattle.manifest.specs.Containers.{AreContainers};
 
     ghost Value = { List ContainerSpec };
 
     ghost view = { λ c. c.items.items };
 
-    ghost invariant = { λ c. AreContainers c.items.items × (c.names ≡ names_of c.items.items) };
+    ghost invariant = { λ c. AreContainers c.items.items };
 }
 
 impl ContainerList {
     ghost use Rattle.manifest.specs.Containers.{AreContainers, names_of, has_only_apps};
 
     /// The containers, numbered by their places.
-    pub(crate) fn new(alloc: Global, items: Vec<ContainerSpec>) -> Result<ContainerList, AllocError>
+    pub fn new(items: Vec<ContainerSpec>) -> ContainerList
         requires { AreContainers items.items }
-        ensures { IfOk result (λ list. list ≡ items.items) }
+        ensures { result ≡ items.items }
     {
-        let names = names_of(alloc, &items)?;
-        Ok(ContainerList { items, names })
+        ContainerList { items }
     }
 
     /// The containers, by number.
@@ -97,7 +112,7 @@ impl ContainerList {
     pub fn number_of(&self, name: &str) -> Option<usize>
         ensures { result ≡ place_of (names_of self.now) name.now }
     {
-        self.names.number_of(name)
+        place_of(&self.items, name)
     }
 }
 
@@ -115,16 +130,20 @@ fn has_only_apps(containers: &[ContainerSpec]) -> bool
     containers.iter().all(|container| is_app(container.role))
 }
 
-/// The names of the containers, each with its container's number.
-fn names_of(alloc: Global, containers: &[ContainerSpec]) -> Result<NameList, AllocError>
-    requires { AreContainers containers.now }
-    ensures { IfOk result (λ names. names ≡ names_of containers.now) }
+/// The place of the first container with this name.
+fn place_of(containers: &[ContainerSpec], name: &str) -> Option<usize>
+    ensures { result ≡ place_of (names_of containers.now) name.now }
 {
-    let mut names = NameList::new(alloc);
-    for container in containers {
-        names.push(String::from_str(alloc, container.name.as_str())?)?;
+    let mut rest = containers;
+    let mut place = 0;
+    'others: while let [first, others @ ..] = rest {
+        if name == first.name.as_str() {
+            return Some(place);
+        }
+        rest = others;
+        place += 1;
     }
-    Ok(names)
+    None
 }
 
 /// The specification of one pod (Kubernetes, "Pod Lifecycle"; the fields of the manifest's

@@ -28,7 +28,8 @@ impl Model for Probe {
 }
 
 impl Probe {
-    pub(crate) fn new(
+    /// A probe with these numbers.
+    pub fn new(
         initial_delay_seconds: u32,
         period_seconds: u32,
         timeout_seconds: u32,
@@ -116,11 +117,8 @@ impl Model for Probes {
 }
 
 impl Probes {
-    pub(crate) fn new(
-        startup: Option<Probe>,
-        liveness: Option<Probe>,
-        readiness: Option<Probe>,
-    ) -> Probes
+    /// These probes.
+    pub fn new(startup: Option<Probe>, liveness: Option<Probe>, readiness: Option<Probe>) -> Probes
         requires startup_by_one { SucceedsByOne startup }
         requires liveness_by_one { SucceedsByOne liveness }
         ensures { result ≡ record { startup = startup; liveness = liveness; readiness = readiness } }
@@ -133,7 +131,7 @@ impl Probes {
     }
 
     /// A container's probes where none is written.
-    pub(crate) fn none() -> Probes
+    pub fn none() -> Probes
         ensures { result ≡ no_probes }
     {
         Probes {

@@ -40,7 +40,7 @@ fn is_above(request: Option<Quantity>, limit: Option<Quantity>) -> bool
 
 impl Amounts {
     /// No amount of any.
-    pub(crate) fn nothing() -> Amounts
+    pub fn nothing() -> Amounts
         ensures { result ≡ nothing }
     {
         Amounts {
@@ -62,7 +62,7 @@ impl Amounts {
     }
 
     /// Whether one of these requests is above its limit.
-    pub(crate) fn some_above(&self, limits: &Amounts) -> bool
+    pub fn some_above(&self, limits: &Amounts) -> bool
         ensures { result ≡ some_above self.now limits.now }
     {
         is_above(self.cpu, limits.cpu)
@@ -93,7 +93,8 @@ impl Model for Resources {
 }
 
 impl Resources {
-    pub(crate) fn new(requests: Amounts, limits: Amounts) -> Resources
+    /// These requests and limits.
+    pub fn new(requests: Amounts, limits: Amounts) -> Resources
         requires { some_above requests limits ≡ false }
         ensures { result ≡ record { requests = requests; limits = limits } }
     {
@@ -101,7 +102,7 @@ impl Resources {
     }
 
     /// A container's resources where none is written.
-    pub(crate) fn none() -> Resources
+    pub fn none() -> Resources
         ensures { result ≡ no_resources }
     {
         Resources {

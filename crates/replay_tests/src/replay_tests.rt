@@ -4,7 +4,7 @@
 use crate::calls::{CALLS, Call, NOTHING, Written, expect, expect_answer, expect_of, refused};
 use crate::halting::{Front, Halting, Sheet};
 use kubelet_replay::{Counted, MemSink, MemSource, RunFault, Stop, fault_line, status_of};
-use manifest::ManifestFault;
+use manifest_reader::ManifestFault;
 use std::alloc::AllocGlobal;
 use std::io::ErrorKind;
 use std::process::Abort;

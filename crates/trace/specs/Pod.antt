@@ -3,11 +3,11 @@ use Rattle.std.specs.Prelude.{ℕ, ⊤, nat_le, Bool, List, ◌∷◌, ◌++◌,
 use Rattle.std.specs.Prelude.{Ok, Err}
 use Rattle.observations.specs.Limits.{most_pods}
 use Rattle.serde_json.specs.Data.{Data}
-use Rattle.manifest.specs.declared.fault.ManifestFault.{ManifestFault}
-use Rattle.manifest.specs.declared.fault.ManifestFault.TheVariants.{Missing}
-use Rattle.manifest.specs.declared.fault.Field.TheVariants as fields
+use Rattle.manifest_reader.specs.declared.fault.ManifestFault.{ManifestFault}
+use Rattle.manifest_reader.specs.declared.fault.ManifestFault.TheVariants.{Missing}
+use Rattle.manifest_reader.specs.declared.fault.Field.TheVariants as fields
 use Rattle.manifest.specs.declared.pod.PodSpec.{PodSpec}
-use Rattle.manifest.specs.Manifest.{pod_at}
+use Rattle.manifest_reader.specs.Manifest.{pod_at}
 use Rattle.json_fields.specs.Reading.{◌>>=◌, refused_if, some_or}
 use Rattle.name_list.specs.Names.{place_of}
 use Rattle.trace.specs.declared.fault.FaultKind.{FaultKind}

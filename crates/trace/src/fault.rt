@@ -9,7 +9,7 @@ ghost use Rattle.trace.specs.Faults.{kind_of_follow_error, kind_of_manifest_faul
 ghost use Rattle.trace.specs.Faults.{kind_of_node_fault, kind_of_tick_fault};
 
 use following::FollowError;
-use manifest::ManifestFault;
+use manifest_reader::ManifestFault;
 use node_lines::NodeFault;
 use std::alloc::{AllocError, AllocFailed};
 use thiserror::Error;

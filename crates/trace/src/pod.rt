@@ -8,7 +8,8 @@ ghost use Rattle.trace.specs.Pod.{key_of_pod, keys_of, new_key, room_for_pod, ma
 
 use crate::fault::{FaultKind, refused_if};
 use crate::past::Reader;
-use manifest::{Field, ManifestFault, PodSpec};
+use manifest::PodSpec;
+use manifest_reader::{Field, ManifestFault, read_pod};
 use name_list::NameList;
 use observations::MOST_PODS;
 use serde_json::Value;
@@ -29,7 +30,7 @@ pub(crate) fn pod_from(alloc: Global, found: Option<&Value>) -> Result<PodSpec, 
     ensures { Gives (λ p. p) result (pod_from (option_map (λ v. view v.now) found.entry)) }
 {
     let manifest = manifest_of(found)?;
-    Ok(PodSpec::from_value(alloc, manifest)?)
+    Ok(read_pod(alloc, manifest)?)
 }
 
 /// A pod's key.

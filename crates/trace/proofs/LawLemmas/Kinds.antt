@@ -14,15 +14,15 @@ use Rattle.observations.specs.declared.tick.TickObs.{TickObs}
 use Rattle.tick_lines.specs.declared.entry.Entry.{Entry}
 use Rattle.tick_lines.specs.declared.probing.ProbeResult.{ProbeResult}
 use Rattle.json_lines.specs.Lines.{lines_of, json_in}
-use Rattle.manifest.specs.declared.fault.ManifestFault.{ManifestFault}
-use Rattle.manifest.specs.declared.fault.ManifestFault.TheVariants.{Missing}
-use Rattle.manifest.specs.declared.fault.ManifestFault.TheVariants as faults
-use Rattle.manifest.specs.declared.fault.Field.TheVariants as fields
+use Rattle.manifest_reader.specs.declared.fault.ManifestFault.{ManifestFault}
+use Rattle.manifest_reader.specs.declared.fault.ManifestFault.TheVariants.{Missing}
+use Rattle.manifest_reader.specs.declared.fault.ManifestFault.TheVariants as faults
+use Rattle.manifest_reader.specs.declared.fault.Field.TheVariants as fields
 use Rattle.manifest.specs.Containers.{names_of}
 use Rattle.name_list.specs.Names.{place_of}
 use Rattle.tick_lines.specs.declared.listing.Listing.{Listing}
 use Rattle.trace.specs.Pod.{keys_of, of_manifest, pod_from}
-use Rattle.manifest.specs.Manifest.{pod_at}
+use Rattle.manifest_reader.specs.Manifest.{pod_at}
 use Rattle.trace.specs.Placing.{number_in, container_number, placed_listing, placed_result, entry_of_pod, placed_entry, placed_of}
 use Rattle.trace.specs.Past.{Past}
 use Rattle.trace.specs.Tick.{is_later, moment_from}
@@ -41,7 +41,7 @@ use Rattle.tick_lines.specs.Line.{tick_line_of}
 use Rattle.tick_lines.proofs.OnlyUsage.{IsUsageFault, one_kind}
 use Rattle.trace.specs.Faults.{kind_of_node_fault, kind_of_tick_fault}
 use Rattle.trace.specs.Written.{of_node_line, of_tick_line, node_in, tick_line_in}
-use Rattle.manifest.proofs.NeverMemory.{IsFound, missing, pod_at_only}
+use Rattle.manifest_reader.proofs.NeverMemory.{IsFound, missing, pod_at_only}
 
 abbrev Is : FaultKind → FaultKind → Type 0
 Is given kind = kind ≡ given

@@ -1,0 +1,8 @@
+pub mod Arrays
+pub mod Placed
+pub mod EachItem
+pub mod Rows
+pub mod FoundRows
+pub mod RowLemmas
+pub mod FirstCheck
+pub mod NeverMemory

@@ -1,0 +1,24 @@
+-- The numbers of the faults of a manifest, and the faults of a quantity in it.
+use Rattle.std.specs.Prelude.{ℕ}
+use Rattle.quantity_fields.specs.declared.fault.FieldFault.{FieldFault}
+use Rattle.quantity_fields.specs.declared.fault.FieldFault.TheVariants.{WrongKind as OtherKind, Faulty}
+use Rattle.manifest_reader.specs.declared.fault.Field.TheVariants as fields
+use Rattle.manifest_reader.specs.declared.fault.ManifestFault.{ManifestFault}
+use Rattle.manifest_reader.specs.declared.fault.ManifestFault.TheVariants.{Missing, WrongKind, Quantity, ProbeRange, InitProbe, RequestAboveLimit, DuplicateContainer, Sidecar, TooMany, OutOfMemory}
+
+abbrev pub number_of : ManifestFault → ℕ
+number_of (Missing field) = 11
+number_of (WrongKind field) = 12
+number_of (Quantity fault) = 13
+number_of ProbeRange = 14
+number_of InitProbe = 15
+number_of RequestAboveLimit = 16
+number_of DuplicateContainer = 17
+number_of Sidecar = 18
+number_of TooMany = 19
+number_of OutOfMemory = 20
+
+-- a container's resources alone hold quantities
+abbrev pub resource_fault : FieldFault → ManifestFault
+resource_fault OtherKind = WrongKind fields.Resources
+resource_fault (Faulty fault) = Quantity fault

@@ -1,0 +1,17 @@
+-- What a call answers beside what the definition of a manifest gives.
+use Rattle.std.specs.Prelude.{Bool, true, false, Result}
+use Rattle.json_fields.specs.Reading.{GivesUnless}
+use Rattle.manifest_reader.specs.declared.fault.ManifestFault.{ManifestFault}
+use Rattle.manifest_reader.specs.declared.fault.ManifestFault.TheVariants.{OutOfMemory}
+
+abbrev pub is_memory : ManifestFault → Bool
+is_memory OutOfMemory = true
+is_memory fault = false
+
+-- of a call that takes memory: a fault for want of it aside
+abbrev pub Gives : {X Y : Type 0} → (X → Y) → Result X ManifestFault → Result Y ManifestFault → Type 0
+Gives view result given = GivesUnless is_memory view result given
+
+-- of a call that takes none
+abbrev pub GivesExactly : {X Y : Type 0} → (X → Y) → Result X ManifestFault → Result Y ManifestFault → Type 0
+GivesExactly view result given = GivesUnless (λ fault. false) view result given

@@ -1,0 +1,115 @@
+//! Why a manifest was refused.
+
+ghost use Rattle.std.specs.Prelude.{◌≡◌};
+ghost use Rattle.manifest_reader.specs.declared.fault.ManifestFault.TheVariants.{OutOfMemory};
+
+use quantity::QuantityFault;
+use quantity_fields::FieldFault;
+use std::alloc::{AllocError, AllocFailed};
+use thiserror::Error;
+
+/// A place in a manifest, in the order in which they are read.
+#[derive(Clone, Copy, Debug, PartialEq, Eq)]
+pub enum Field {
+    /// The manifest itself.
+    Pod,
+    Metadata,
+    /// `metadata.name`
+    Name,
+    /// `metadata.namespace`
+    Namespace,
+    Spec,
+    /// `spec.restartPolicy`
+    RestartPolicy,
+    /// `spec.priority`
+    Priority,
+    /// `spec.terminationGracePeriodSeconds`
+    GracePeriod,
+    /// `spec.initContainers`, and an item of it
+    InitContainers,
+    /// `spec.containers`, and an item of it
+    Containers,
+    /// A container's `name`.
+    ContainerName,
+    /// A container's `resources`.
+    Resources,
+    /// A container's `startupProbe`, `livenessProbe` or `readinessProbe`.
+    Probe,
+}
+
+/// The first fault of a manifest, in the order of its fields.
+#[derive(Clone, Copy, Debug, PartialEq, Eq, Error)]
+pub enum ManifestFault {
+    #[error("a required field is missing: {0:?}")]
+    Missing(Field),
+    #[error("a field has a value of another kind, or one that is out of its range: {0:?}")]
+    WrongKind(Field),
+    #[error("a quantity is faulty: {0}")]
+    Quantity(QuantityFault),
+    #[error("a number of a probe is out of its range")]
+    ProbeRange,
+    #[error("an init container that is no sidecar has a probe")]
+    InitProbe,
+    #[error("a resource's request is above its limit")]
+    RequestAboveLimit,
+    #[error("two containers have one name")]
+    DuplicateContainer,
+    #[error("a container has a restart policy of its own that doesn't make it a sidecar")]
+    Sidecar,
+    #[error("more than 16 containers")]
+    TooMany,
+    #[error("out of memory")]
+    OutOfMemory,
+}
+
+impl ManifestFault {
+    ghost use Rattle.manifest_reader.specs.Fault.{number_of};
+
+    /// The number by which a refusal names the fault.
+    pub fn number(self) -> u8
+        ensures { result ≡ number_of self }
+    {
+        match self {
+            ManifestFault::Missing(_) => 11,
+            ManifestFault::WrongKind(_) => 12,
+            ManifestFault::Quantity(_) => 13,
+            ManifestFault::ProbeRange => 14,
+            ManifestFault::InitProbe => 15,
+            ManifestFault::RequestAboveLimit => 16,
+            ManifestFault::DuplicateContainer => 17,
+            ManifestFault::Sidecar => 18,
+            ManifestFault::TooMany => 19,
+            ManifestFault::OutOfMemory => 20,
+        }
+    }
+}
+
+impl From<FieldFault> for ManifestFault {
+    ghost use Rattle.manifest_reader.specs.Fault.{resource_fault};
+
+    ghost from_gives = { λ fault e. e ≡ resource_fault fault };
+
+    /// The fault of a quantity of a container's resources.
+    fn from(fault: FieldFault) -> ManifestFault {
+        match fault {
+            FieldFault::WrongKind => ManifestFault::WrongKind(Field::Resources),
+            FieldFault::Faulty(fault) => ManifestFault::Quantity(fault),
+        }
+    }
+}
+
+impl From<AllocError> for ManifestFault {
+    ghost from_gives = { λ _ e. e ≡ OutOfMemory };
+
+    fn from(_e: AllocError) -> ManifestFault {
+        ManifestFault::OutOfMemory
+    }
+}
+
+impl<T: Drop> From<AllocFailed<T>> for ManifestFault {
+    ghost from_gives = { λ _ e. e ≡ OutOfMemory };
+
+    fn from(_e: AllocFailed<T>) -> ManifestFault {
+        ManifestFault::OutOfMemory
+    }
+}

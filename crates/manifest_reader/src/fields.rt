@@ -1,0 +1,119 @@
+//! Fields of a manifest, each read with its own fault.
+
+ghost use Rattle.std.specs.Prelude.{◌≡◌, ◌<◌, length, map, option_map, IfOk};
+ghost use Rattle.serde_json.specs.View.{view};
+ghost use Rattle.manifest_reader.specs.Gives.{Gives, GivesExactly};
+ghost use Rattle.manifest_reader.specs.Fields.{object_of, array_of, array_or_none, some_items, text_of, required_text, text_or, absent};
+ghost use Rattle.manifest_reader.specs.Grammar.{passes};
+
+use crate::fault::{Field, ManifestFault};
+use manifest::{Text, is_label, is_name};
+use serde_json::Value;
+use std::alloc::Global;
+
+pub(crate) fn object(field: Field, found: Option<&Value>) -> Result<&Value, ManifestFault>
+    ensures { GivesExactly (λ v. view v.now) result (object_of field (option_map (λ v. view v.now) found.entry)) }
+{
+    match found {
+        None => Err(ManifestFault::Missing(field)),
+        Some(value) if value.is_object() => Ok(value),
+        Some(_) => Err(ManifestFault::WrongKind(field)),
+    }
+}
+
+pub(crate) fn array(field: Field, found: Option<&Value>) -> Result<&[Value], ManifestFault>
+    ensures { GivesExactly (λ v. map view v.now) result (array_of field (option_map (λ v. view v.now) found.entry)) }
+{
+    let Some(value) = found else {
+        return Err(ManifestFault::Missing(field));
+    };
+    match value.as_array() {
+        None => Err(ManifestFault::WrongKind(field)),
+        Some(list) => Ok(list.as_slice()),
+    }
+}
+
+pub(crate) fn array_or_none(field: Field, found: Option<&Value>) -> Result<&[Value], ManifestFault>
+    ensures { GivesExactly (λ v. map view v.now) result (array_or_none field (option_map (λ v. view v.now) found.entry)) }
+{
+    if found.is_none() {
+        return Ok(&[]);
+    }
+    array(field, found)
+}
+
+pub(crate) fn some_items(field: Field, values: &[Value]) -> Result<&[Value], ManifestFault>
+    ensures gives { GivesExactly (λ v. map view v.now) result (some_items field (map view values.now)) }
+    ensures same { IfOk result (λ v. (v.now ≡ values.now) × (0 < length v.now)) }
+{
+    if values.is_empty() {
+        return Err(ManifestFault::Missing(field));
+    }
+    Ok(values)
+}
+
+/// A field that has to be absent.
+pub(crate) fn absent(fault: ManifestFault, found: Option<&Value>) -> Result<(), ManifestFault>
+    ensures { GivesExactly (λ t. t) result (absent fault (option_map (λ v. view v.now) found.entry)) }
+{
+    match found {
+        None => Ok(()),
+        Some(_) => Err(fault),
+    }
+}
+
+/// The two kinds of name.
+#[derive(Clone, Copy, PartialEq, Eq)]
+pub(crate) enum Grammar {
+    Name,
+    Label,
+}
+
+fn passes(grammar: Grammar, text: &[u8]) -> bool
+    ensures { result ≡ passes grammar text.now }
+{
+    match grammar {
+        Grammar::Name => is_name(text),
+        Grammar::Label => is_label(text),
+    }
+}
+
+fn text(alloc: Global, grammar: Grammar, field: Field, value: &Value) -> Result<Text, ManifestFault>
+    ensures { Gives (λ t. t) result (text_of (passes grammar) field (view value.now)) }
+{
+    match value.as_str() {
+        Some(text) if passes(grammar, text.as_bytes()) => {
+            Ok(Text::new(String::from_str(alloc, text)?))
+        }
+        _ => Err(ManifestFault::WrongKind(field)),
+    }
+}
+
+pub(crate) fn required_text(
+    alloc: Global,
+    grammar: Grammar,
+    field: Field,
+    found: Option<&Value>,
+) -> Result<Text, ManifestFault>
+    ensures { Gives (λ t. t) result (required_text (passes grammar) field (option_map (λ v. view v.now) found.entry)) }
+{
+    match found {
+        None => Err(ManifestFault::Missing(field)),
+        Some(value) => text(alloc, grammar, field, value),
+    }
+}
+
+pub(crate) fn text_or(
+    alloc: Global,
+    default: &str,
+    grammar: Grammar,
+    field: Field,
+    found: Option<&Value>,
+) -> Result<Text, ManifestFault>
+    ensures { Gives (λ t. t) result (text_or default.now (passes grammar) field (option_map (λ v. view v.now) found.entry)) }
+{
+    match found {
+        None => Ok(Text::new(String::from_str(alloc, default)?)),
+        Some(value) => text(alloc, grammar, field, value),
+    }
+}

@@ -1,0 +1,313 @@
+//! Reading a manifest, with the first fault in the order of the fields.
+
+ghost use Rattle.std.specs.Prelude.{◌≡◌, ◌≤◌, ◌<◌, ◌+◌, ◌++◌, false, length, map, option_map, bytes_eq, IfOk, OnOk};
+ghost use Rattle.std.specs.List.{list_any};
+ghost use Rattle.serde_json.specs.View.{view};
+ghost use Rattle.json_fields.specs.Reading.{each};
+ghost use Rattle.manifest.specs.declared.pod.Role.TheVariants.{Sidecar};
+ghost use Rattle.manifest_reader.specs.Gives.{Gives, GivesExactly};
+ghost use Rattle.manifest.specs.Containers.{has_twice, MayHave, IsOf, AllOf};
+ghost use Rattle.manifest_reader.specs.Manifest.{policy_of, priority_from, priority_of, grace_period_from, grace_period_of, field_of, sidecar_from, role_of, container_of, few, apart, containers_of, app_items_of, containers_in, metadata_of, settings_in, spec_of, pod_at};
+
+use crate::fault::{Field, ManifestFault};
+use crate::fields::{Grammar, array, array_or_none, object, required_text, some_items, text_or};
+use crate::probe_fields::probes_of;
+use crate::resource_fields::resources_of;
+use json_fields::field;
+use manifest::{ContainerList, ContainerSpec, GracePeriod, Place, PodSpec, Policy, Role, Text};
+use serde_json::Value;
+use std::alloc::{AllocError, Global};
+
+fn policy_of(found: Option<&Value>) -> Result<Policy, ManifestFault>
+    ensures { GivesExactly (λ p. p) result (policy_of (option_map (λ v. view v.now) found.entry)) }
+{
+    let Some(value) = found else {
+        return Ok(Policy::Always);
+    };
+    match value.as_str() {
+        Some("Always") => Ok(Policy::Always),
+        Some("OnFailure") => Ok(Policy::OnFailure),
+        Some("Never") => Ok(Policy::Never),
+        _ => Err(ManifestFault::WrongKind(Field::RestartPolicy)),
+    }
+}
+
+fn priority_from(number: Option<i64>) -> Result<i32, ManifestFault>
+    ensures { GivesExactly (λ n. n) result (priority_from number) }
+{
+    match number {
+        Some(number) if i32::MIN as i64 <= number && number <= i32::MAX as i64 => Ok(number as i32),
+        _ => Err(ManifestFault::WrongKind(Field::Priority)),
+    }
+}
+
+fn priority_of(found: Option<&Value>) -> Result<i32, ManifestFault>
+    ensures { GivesExactly (λ n. n) result (priority_of (option_map (λ v. view v.now) found.entry)) }
+{
+    match found {
+        None => Ok(0),
+        Some(value) => priority_from(value.as_i64()),
+    }
+}
+
+fn grace_period_from(seconds: Option<u64>) -> Result<GracePeriod, ManifestFault>
+    ensures { GivesExactly (λ n. n) result (grace_period_from seconds) }
+{
+    match seconds {
+        Some(seconds) if seconds < 1 << 40 => Ok(GracePeriod::new(seconds)),
+        _ => Err(ManifestFault::WrongKind(Field::GracePeriod)),
+    }
+}
+
+fn grace_period_of(found: Option<&Value>) -> Result<GracePeriod, ManifestFault>
+    ensures { GivesExactly (λ n. n) result (grace_period_of (option_map (λ v. view v.now) found.entry)) }
+{
+    match found {
+        None => Ok(GracePeriod::new(30)),
+        Some(value) => grace_period_from(value.as_u64()),
+    }
+}
+
+fn field_of(place: Place) -> Field
+    ensures { result ≡ field_of place }
+{
+    match place {
+        Place::InitContainers => Field::InitContainers,
+        Place::Containers => Field::Containers,
+    }
+}
+
+/// The role of an item of `initContainers` with a restart policy of its own, which has to be
+/// `Always`.
+fn sidecar_from(own_policy: Option<&str>) -> Result<Role, ManifestFault>
+    ensures gives { GivesExactly (λ r. r) result (sidecar_from (option_map (λ s. s.now) own_policy.entry)) }
+    ensures is { IfOk result (λ role. role ≡ Sidecar) }
+{
+    match own_policy {
+        Some("Always") => Ok(Role::Sidecar),
+        _ => Err(ManifestFault::Sidecar),
+    }
+}
+
+/// What a container is to its pod, by where it is written and by its own restart policy.
+fn role_of(place: Place, own_policy: Option<&Value>) -> Result<Role, ManifestFault>
+    ensures gives { GivesExactly (λ r. r) result (role_of place (option_map (λ v. view v.now) own_policy.entry)) }
+    ensures may_have { IfOk result (MayHave place) }
+{
+    match (place, own_policy) {
+        (Place::InitContainers, None) => Ok(Role::Init),
+        (Place::InitContainers, Some(policy)) => sidecar_from(policy.as_str()),
+        (Place::Containers, None) => Ok(Role::App),
+        (Place::Containers, Some(_)) => Err(ManifestFault::Sidecar),
+    }
+}
+
+#[tactic(auto, unfolding(crate::specs::Manifest::container_of))]
+fn container_of(alloc: Global, place: Place, value: &Value) -> Result<ContainerSpec, ManifestFault>
+    ensures gives { Gives (λ c. c) result (container_of place (view value.now)) }
+    ensures of { IfOk result (IsOf place) }
+{
+    let object = object(field_of(place), Some(value))?;
+    let name = required_text(
+        alloc,
+        Grammar::Label,
+        Field::ContainerName,
+        field(object, "name"),
+    )?;
+    let role = role_of(place, field(object, "restartPolicy"))?;
+    let resources = resources_of(field(object, "resources"))?;
+    let probes = probes_of(role, object)?;
+    Ok(ContainerSpec::new(name, role, resources, probes))
+}
+
+#[tactic(auto, using(crate::proofs::Placed::all_of_none))]
+fn containers(
+    alloc: Global,
+    place: Place,
+    values: &[Value],
+) -> Result<Vec<ContainerSpec>, ManifestFault>
+    ensures gives { Gives (λ cs. cs.items) result (each (container_of place) (map view values.now)) }
+    ensures as_many { IfOk result (λ cs. length cs.items ≡ length values.now) }
+    ensures of { IfOk result (λ cs. AllOf place cs.items) }
+{
+    let mut all = Vec::new(alloc);
+    for value in values {
+        let container = container_of(alloc, place, value)?;
+        all.push(container)?;
+    }
+    Ok(all)
+}
+
+fn has_name(containers: &[ContainerSpec], name: &str) -> bool
+    ensures { result ≡ list_any (λ c. bytes_eq c.name name.now) containers.now }
+{
+    containers.iter().any(|c| c.name.as_str() == name)
+}
+
+fn has_twice(containers: &[ContainerSpec]) -> bool
+    ensures { result ≡ has_twice containers.now }
+{
+    let mut rest = containers;
+    while let [first, others @ ..] = rest {
+        if has_name(others, first.name.as_str()) {
+            return true;
+        }
+        rest = others;
+    }
+    false
+}
+
+fn few(init: &[Value], apps: &[Value]) -> Result<(), ManifestFault>
+    ensures gives { GivesExactly (λ t. t) result (few (map view init.now) (map view apps.now)) }
+    ensures within { OnOk result (length init.now + length apps.now ≤ 16) }
+{
+    if init.len() + apps.len() > 16 {
+        return Err(ManifestFault::TooMany);
+    }
+    Ok(())
+}
+
+fn apart(containers: &[ContainerSpec]) -> Result<(), ManifestFault>
+    ensures gives { GivesExactly (λ t. t) result (apart containers.now) }
+    ensures apart { OnOk result (has_twice containers.now ≡ false) }
+{
+    if has_twice(containers) {
+        return Err(ManifestFault::DuplicateContainer);
+    }
+    Ok(())
+}
+
+fn joined(
+    init: Vec<ContainerSpec>,
+    apps: Vec<ContainerSpec>,
+) -> Result<Vec<ContainerSpec>, AllocError>
+    ensures { IfOk result (λ all. all.items ≡ init.items ++ apps.items) }
+{
+    let mut all = init;
+    for container in apps {
+        all.push(container)?;
+    }
+    Ok(all)
+}
+
+#[tactic(auto, unfolding(crate::specs::Manifest::containers_of))]
+fn containers_of(
+    alloc: Global,
+    init_items: &[Value],
+    items: &[Value],
+) -> Result<ContainerList, ManifestFault>
+    requires { 0 < length items.now }
+    ensures { Gives (λ cs. cs) result (containers_of (map view init_items.now) (map view items.now)) }
+{
+    few(init_items, items)?;
+    let init = containers(alloc, Place::InitContainers, init_items)?;
+    let apps = containers(alloc, Place::Containers, items)?;
+    let all = joined(init, apps)?;
+    apart(&all)?;
+    Ok(ContainerList::new(all))
+}
+
+/// The items of an array of app containers, of which there is at least one.
+#[tactic(auto, unfolding(crate::specs::Manifest::app_items_of))]
+fn app_items_of(found: Option<&Value>) -> Result<&[Value], ManifestFault>
+    ensures gives { GivesExactly (λ v. map view v.now) result (app_items_of (option_map (λ v. view v.now) found.entry)) }
+    ensures some { IfOk result (λ v. 0 < length v.now) }
+{
+    let listed = array(Field::Containers, found)?;
+    some_items(Field::Containers, listed)
+}
+
+#[tactic(auto, unfolding(crate::specs::Manifest::containers_in))]
+fn containers_in(alloc: Global, spec: &Value) -> Result<ContainerList, ManifestFault>
+    ensures { Gives (λ cs. cs) result (containers_in (view spec.now)) }
+{
+    let init_items = array_or_none(Field::InitContainers, field(spec, "initContainers"))?;
+    let items = app_items_of(field(spec, "containers"))?;
+    containers_of(alloc, init_items, items)
+}
+
+/// What is read of a pod's `metadata`.
+#[derive(Drop)]
+struct Metadata {
+    name: Text,
+    namespace: Text,
+}
+
+#[tactic(auto, unfolding(crate::specs::Manifest::metadata_of))]
+fn metadata_of(alloc: Global, found: Option<&Value>) -> Result<Metadata, ManifestFault>
+    ensures { Gives (λ m. m) result (metadata_of (option_map (λ v. view v.now) found.entry)) }
+{
+    let metadata = object(Field::Metadata, found)?;
+    let name = required_text(alloc, Grammar::Name, Field::Name, field(metadata, "name"))?;
+    let namespace = text_or(
+        alloc,
+        "default",
+        Grammar::Label,
+        Field::Namespace,
+        field(metadata, "namespace"),
+    )?;
+    Ok(Metadata { name, namespace })
+}
+
+/// What a pod's `spec` says of the pod as a whole.
+#[derive(Clone, Copy)]
+struct Settings {
+    policy: Policy,
+    priority: i32,
+    grace_period_seconds: GracePeriod,
+}
+
+#[tactic(auto, unfolding(crate::specs::Manifest::settings_in))]
+fn settings_in(spec: &Value) -> Result<Settings, ManifestFault>
+    ensures { GivesExactly (λ s. s) result (settings_in (view spec.now)) }
+{
+    let policy = policy_of(field(spec, "restartPolicy"))?;
+    let priority = priority_of(field(spec, "priority"))?;
+    let grace_period_seconds = grace_period_of(field(spec, "terminationGracePeriodSeconds"))?;
+    Ok(Settings {
+        policy,
+        priority,
+        grace_period_seconds,
+    })
+}
+
+/// What is read of a pod's `spec`.
+#[derive(Drop)]
+struct Spec {
+    settings: Settings,
+    containers: ContainerList,
+}
+
+#[tactic(auto, unfolding(crate::specs::Manifest::spec_of))]
+fn spec_of(alloc: Global, found: Option<&Value>) -> Result<Spec, ManifestFault>
+    ensures { Gives (λ s. s) result (spec_of (option_map (λ v. view v.now) found.entry)) }
+{
+    let spec = object(Field::Spec, found)?;
+    let settings = settings_in(spec)?;
+    let containers = containers_in(alloc, spec)?;
+    Ok(Spec {
+        settings,
+        containers,
+    })
+}
+
+/// The pod that a manifest describes, or the manifest's first fault in the order of its fields
+/// (`metadata`, its `name` and `namespace`, `spec`, its `restartPolicy`, `priority`,
+/// `terminationGracePeriodSeconds`, `initContainers` and `containers`; then each container).
+#[tactic(auto, unfolding(crate::specs::Manifest::pod_at))]
+pub fn read_pod(alloc: Global, value: &Value) -> Result<PodSpec, ManifestFault>
+    ensures { Gives (λ p. p) result (pod_at (view value.now)) }
+{
+    let pod = object(Field::Pod, Some(value))?;
+    let metadata = metadata_of(alloc, field(pod, "metadata"))?;
+    let spec = spec_of(alloc, field(pod, "spec"))?;
+    let settings = spec.settings;
+    Ok(PodSpec {
+        name: metadata.name,
+        namespace: metadata.namespace,
+        policy: settings.policy,
+        priority: settings.priority,
+        grace_period_seconds: settings.grace_period_seconds,
+        containers: spec.containers,
+    })
+}
