@@ -245,9 +245,17 @@ drop_drop (suc n) (suc k) (p ∷ pods) le =
     ap (λ (i : ℕ). drop i (drop n pods)) (let z : suc k - suc n ≡ k - n = omega arith in z) ∙ drop_drop n k pods (omega arith)
 
 -- no tick and no pod yet
-pub none_yet : (config : NodeConfig) (pods : List PodSpec) (ticks : List TickObs) (new : Option State)
+none_yet : (config : NodeConfig) (pods : List PodSpec) (ticks : List TickObs) (new : Option State)
     → IsAfter config [] [] new → IsSoFar config pods ticks [] ticks 0 pods new
 none_yet config pods ticks new after = record { whole = refl; left_is = refl; few = omega arith; shown = λ t tick at. omega arith; after = after }
+
+-- the same with what the code has of the ticks and of the pods
+pub none_taken : (config : NodeConfig) (pods left : List PodSpec) (ticks rest : List TickObs) (new : Option State)
+    → rest ≡ ticks → left ≡ pods → IsAfter config [] [] new → IsSoFar config pods ticks [] rest 0 left new
+none_taken config pods left ticks rest new all these after =
+    subst (λ (ts : List TickObs). IsSoFar config pods ticks [] ts 0 left new) (sym all)
+    (subst (λ (ps : List PodSpec). IsSoFar config pods ticks [] ticks 0 ps new) (sym these)
+    (none_yet config pods ticks new after))
 
 -- the pods that the next tick shows have arrived
 pub arrived_next : (config : NodeConfig) (pods : List PodSpec) (ticks before : List TickObs) (tick : TickObs)

@@ -1,5 +1,5 @@
 -- Which ticks a node with these pods can take one after the other.
-use Rattle.std.specs.Prelude.{◌≡◌, ℕ, ◌+◌, ◌<◌, ◌≤◌, ◌^◌, List, length, take, slice_get, Option, Some}
+use Rattle.std.specs.Prelude.{◌≡◌, ℕ, ◌+◌, ◌<◌, ◌≤◌, ◌^◌, List, [], length, take, slice_get, Option, Some}
 use Rattle.manifest.specs.declared.pod.PodSpec.{PodSpec}
 use Rattle.node_config.specs.declared.node.NodeConfig.{NodeConfig}
 use Rattle.observations.specs.Pods.{PodObs}
@@ -38,3 +38,8 @@ pub record MayArrive (count : ℕ) (node : Option State) : Type 0 where
   pub taken : List TickObs
   pub after : IsAfter config arrived taken node
   pub room : length arrived + count ≤ most_pods
+
+-- a node of some configuration that has taken no tick, and on which no pod has arrived
+pub record IsNew (node : Option State) : Type 0 where
+  pub config : NodeConfig
+  pub after : IsAfter config [] [] node

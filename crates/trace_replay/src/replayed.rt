@@ -1,13 +1,13 @@
 //! The node of a trace, as its ticks leave it.
 
-ghost use Rattle.std.specs.Prelude.{◌≡◌, ◌<◌, ◌≤◌, ◌++◌, List, IfOk, OnOk, take, drop};
+ghost use Rattle.std.specs.Prelude.{◌≡◌, ◌<◌, ◌≤◌, ◌++◌, List, [], IfOk, OnOk, take, drop};
 ghost use Rattle.manifest.specs.declared.pod.PodSpec.{PodSpec};
 ghost use Rattle.node_config.specs.declared.node.NodeConfig.{NodeConfig};
 ghost use Rattle.observations.specs.declared.tick.TickObs.{TickObs};
 ghost use Rattle.event_book.specs.Totals.{nothing};
 ghost use Rattle.event_book.specs.Limits.{most_workers};
 ghost use Rattle.tick_round.specs.Node.{IsAfter};
-ghost use Rattle.trace_replay.specs.Ticks.{AreReplayable, MayArrive};
+ghost use Rattle.trace_replay.specs.Ticks.{AreReplayable, IsNew, MayArrive};
 
 use event_book::WholeBook;
 use manifest::PodSpec;
@@ -41,9 +41,71 @@ fn arrive<U: Ledger, E: Ledger, O: Ledger>(
     Ok(())
 }
 
-/// The node after these ticks, which it takes one after the other, each as a round on one thread that so many
-/// workers play by these steps. Each of these pods arrives before the first tick that shows it, those that no
-/// tick shows at the end.
+/// A new node takes these ticks one after the other, each as a round on one thread that so many workers play by these
+/// steps. Each of these pods arrives before the first tick that shows it, those that no tick shows at the end.
+fn take_by_steps<U: Ledger, E: Ledger, O: Ledger>(
+    node: &mut Node<U, E, O>,
+    pods: Vec<PodSpec>,
+    ticks: Vec<TickObs>,
+    workers: usize,
+    steps: &[Step],
+) -> Result<(), TickFault>
+    requires new { IsNew node.old }
+    requires replayable { AreReplayable pods.items ticks.items }
+    requires some { 0 < workers }
+    requires most { workers ≤ most_workers }
+    ensures { (config : NodeConfig) → IsAfter config [] [] node.old
+        → OnOk result (IsAfter config pods.items ticks.items node.new) }
+{
+    let count = pods.len();
+    let mut arriving = pods.into_iter();
+    let mut arrived = 0;
+    for tick in ticks {
+        let present = tick.pods.as_slice().len();
+        arrive(node, &mut arriving, present - arrived)?;
+        arrived = present;
+        node.tick_play(tick, workers, steps)?;
+    }
+    arrive(node, &mut arriving, count - arrived)?;
+    Ok(())
+}
+
+/// The same, where so many workers update the pods of each tick in threads of their own.
+fn take_by_workers<
+    U: Ledger + Send,
+    E: Ledger + Send,
+    O: Ledger + Send,
+    R: Threads + Wait + Sync,
+    G: Gate,
+>(
+    rt: &R,
+    node: &mut Node<U, E, O>,
+    pods: Vec<PodSpec>,
+    ticks: Vec<TickObs>,
+    workers: usize,
+    gate: &G,
+) -> Result<(), TickFault>
+    requires new { IsNew node.old }
+    requires replayable { AreReplayable pods.items ticks.items }
+    requires some { 0 < workers }
+    requires most { workers ≤ most_workers }
+    ensures { (config : NodeConfig) → IsAfter config [] [] node.old
+        → OnOk result (IsAfter config pods.items ticks.items node.new) }
+{
+    let count = pods.len();
+    let mut arriving = pods.into_iter();
+    let mut arrived = 0;
+    for tick in ticks {
+        let present = tick.pods.as_slice().len();
+        arrive(node, &mut arriving, present - arrived)?;
+        arrived = present;
+        node.tick(rt, tick, workers, gate)?;
+    }
+    arrive(node, &mut arriving, count - arrived)?;
+    Ok(())
+}
+
+/// The node after these ticks, each a round on one thread that so many workers play by these steps.
 pub(crate) fn replayed_by_steps<U: Ledger, E: Ledger, O: Ledger>(
     alloc: Global,
     config: NodeConfig,
@@ -60,16 +122,7 @@ pub(crate) fn replayed_by_steps<U: Ledger, E: Ledger, O: Ledger>(
     ensures { IfOk result (IsAfter config pods.items ticks.items) }
 {
     let mut node = Node::new(alloc, config, Vec::new(alloc), book)?;
-    let count = pods.len();
-    let mut arriving = pods.into_iter();
-    let mut arrived = 0;
-    for tick in ticks {
-        let present = tick.pods.as_slice().len();
-        arrive(&mut node, &mut arriving, present - arrived)?;
-        arrived = present;
-        node.tick_play(tick, workers, steps)?;
-    }
-    arrive(&mut node, &mut arriving, count - arrived)?;
+    take_by_steps(&mut node, pods, ticks, workers, steps)?;
     Ok(node)
 }
 
@@ -97,15 +150,6 @@ pub(crate) fn replayed_by_workers<
     ensures { IfOk result (IsAfter config pods.items ticks.items) }
 {
     let mut node = Node::new(alloc, config, Vec::new(alloc), book)?;
-    let count = pods.len();
-    let mut arriving = pods.into_iter();
-    let mut arrived = 0;
-    for tick in ticks {
-        let present = tick.pods.as_slice().len();
-        arrive(&mut node, &mut arriving, present - arrived)?;
-        arrived = present;
-        node.tick(rt, tick, workers, gate)?;
-    }
-    arrive(&mut node, &mut arriving, count - arrived)?;
+    take_by_workers(rt, &mut node, pods, ticks, workers, gate)?;
     Ok(node)
 }
