@@ -1,7 +1,8 @@
 //! What the texts of a table are.
 
+use crate::manifest_text::{Telling, told};
 use crate::replays::{Answer, played_answer_of};
-use crate::{manifest_text, texts};
+use crate::texts;
 use anyhow::Result;
 use std::alloc::Global;
 
@@ -53,8 +54,8 @@ impl Kind {
             Kind::Limit => texts::limit(alloc, bytes)?,
             Kind::Name => texts::name(alloc, bytes)?,
             Kind::Steps => texts::steps(alloc, text)?,
-            Kind::Manifest => return manifest_text::pod(alloc, text),
-            Kind::Class => return manifest_text::class(alloc, text),
+            Kind::Manifest => return told(alloc, text, Telling::Pod),
+            Kind::Class => return told(alloc, text, Telling::Class),
         })
     }
 }

@@ -113,28 +113,45 @@ fn fault_of(alloc: Global, fault: ManifestFault) -> Result<String, AllocError> {
     format!(in alloc; "{number} {fault:?}")
 }
 
-/// What is read of a manifest, in one line, or its fault.
-pub(crate) fn pod(alloc: Global, text: &str) -> Result<String> {
-    let value = Value::from_str(alloc, text)?;
-    Ok(match read_pod(alloc, &value) {
-        Ok(pod) => text_of(alloc, &pod, ";")?,
-        Err(fault) => fault_of(alloc, fault)?,
-    })
+/// What is told of a manifest.
+#[derive(Clone, Copy)]
+pub(crate) enum Telling {
+    /// What is read of it, in one line.
+    Pod,
+    /// The class and the effective requests.
+    Class,
+    /// What is read of it, line by line, and its class in the last line.
+    Whole,
 }
 
-/// The class and the effective requests of a manifest, or its fault.
-pub(crate) fn class(alloc: Global, text: &str) -> Result<String> {
-    let value = Value::from_str(alloc, text)?;
-    Ok(match read_pod(alloc, &value) {
-        Ok(pod) => class_of(alloc, &pod)?,
-        Err(fault) => fault_of(alloc, fault)?,
-    })
+fn whole_of(alloc: Global, pod: &PodSpec) -> Result<String, AllocError> {
+    let (lines, class) = (text_of(alloc, pod, "\n")?, class_of(alloc, pod)?);
+    format!(in alloc; "{lines}\n{class}\n")
 }
 
-/// What is read of a manifest, line by line, and its class in the last line.
-pub(crate) fn whole(alloc: Global, text: &str) -> Result<String> {
+impl Telling {
+    fn of(
+        self,
+        alloc: Global,
+        read: &Result<PodSpec, ManifestFault>,
+    ) -> Result<String, AllocError> {
+        match read {
+            Err(fault) => fault_of(alloc, *fault),
+            Ok(pod) => match self {
+                Telling::Pod => text_of(alloc, pod, ";"),
+                Telling::Class => class_of(alloc, pod),
+                Telling::Whole => whole_of(alloc, pod),
+            },
+        }
+    }
+}
+
+/// What is told of the manifest of this text, or its fault.
+pub(crate) fn told(alloc: Global, text: &str, telling: Telling) -> Result<String> {
     let value = Value::from_str(alloc, text)?;
-    let pod = read_pod(alloc, &value)?;
-    let (lines, class) = (text_of(alloc, &pod, "\n")?, class_of(alloc, &pod)?);
-    Ok(format!(in alloc; "{lines}\n{class}\n")?)
+    let read = read_pod(alloc, &value);
+    drop(value);
+    let told = telling.of(alloc, &read);
+    drop(read);
+    Ok(told?)
 }

@@ -2,7 +2,7 @@
 
 use crate::compare::expect;
 use crate::files::{names_in, text_of};
-use crate::manifest_text::whole;
+use crate::manifest_text::{Telling, told};
 use anyhow::Result;
 use std::rt::Runtime;
 
@@ -12,7 +12,7 @@ pub(crate) fn run_all(rt: &(impl Runtime + AllocGlobal), folder: &str) -> Result
     for name in names.as_slice() {
         let path = format!(in rt.alloc(); "{folder}/{name}")?;
         let manifest = text_of(rt, path.as_str(), "json")?;
-        let found = whole(rt.alloc(), manifest.as_str())?;
+        let found = told(rt.alloc(), manifest.as_str(), Telling::Whole)?;
         let wanted = text_of(rt, path.as_str(), "read")?;
         expect(rt, path.as_str(), found.as_str(), wanted.as_str())?;
     }

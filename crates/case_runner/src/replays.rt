@@ -91,41 +91,64 @@ fn answer_of_check(alloc: Global, answer: &Answer) -> Result<Answer> {
     })
 }
 
-/// Replays the bytes of a trace on one thread. With the workers and steps of each play the answer is to be
-/// the same, and to read the trace without a replay is to fit it.
-pub(crate) fn played_answer_of(alloc: Global, trace: &[u8]) -> Result<Answer> {
-    let answer = played(alloc, trace, 1, &[])?;
-    for play in [
-        played(alloc, trace, 2, STOLEN)?,
-        played(alloc, trace, 3, MISTAKEN)?,
-        played(alloc, trace, 64, LAST_FIRST)?,
-    ] {
-        if play != answer {
-            bail!("other workers give another answer");
-        }
+/// An error where another way to replay the trace gives another answer.
+fn expect_alike(other: Result<Answer>, answer: &Answer) -> Result<()> {
+    let other = other?;
+    let is_alike = other == *answer;
+    drop(other);
+    if !is_alike {
+        bail!("another way to replay the trace gives another answer");
     }
-    if checked(alloc, trace)? != answer_of_check(alloc, &answer)? {
-        bail!("without a replay there is another answer");
-    }
-    Ok(answer)
+    Ok(())
 }
 
-/// Replays the bytes of a trace with 1, 2, 3 and 64 workers in threads, which is to give what the plays
-/// on one thread give.
+/// With the workers and steps of each play the answer is to be the same, and to read the trace without a
+/// replay is to fit it.
+fn expect_plays(alloc: Global, trace: &[u8], answer: &Answer) -> Result<()> {
+    expect_alike(played(alloc, trace, 2, STOLEN), answer)?;
+    expect_alike(played(alloc, trace, 3, MISTAKEN), answer)?;
+    expect_alike(played(alloc, trace, 64, LAST_FIRST), answer)?;
+    let wanted = answer_of_check(alloc, answer)?;
+    let done = expect_alike(checked(alloc, trace), &wanted);
+    drop(wanted);
+    done
+}
+
+/// With 1, 2, 3 and 64 workers in threads the answer is to be the same.
+fn expect_workers(
+    rt: &(impl AllocGlobal + Threads + Wait + Sync),
+    trace: &[u8],
+    answer: &Answer,
+) -> Result<()> {
+    expect_alike(replayed(rt, trace, 1), answer)?;
+    expect_alike(replayed(rt, trace, 2), answer)?;
+    expect_alike(replayed(rt, trace, 3), answer)?;
+    expect_alike(replayed(rt, trace, 64), answer)
+}
+
+/// Replays the bytes of a trace on one thread, in each way that does without other threads.
+pub(crate) fn played_answer_of(alloc: Global, trace: &[u8]) -> Result<Answer> {
+    let answer = played(alloc, trace, 1, &[])?;
+    match expect_plays(alloc, trace, &answer) {
+        Ok(()) => Ok(answer),
+        Err(error) => {
+            drop(answer);
+            Err(error)
+        }
+    }
+}
+
+/// Replays the bytes of a trace in each way, on one thread and by workers in threads.
 pub(crate) fn answer_of(
     rt: &(impl AllocGlobal + Threads + Wait + Sync),
     trace: &[u8],
 ) -> Result<Answer> {
     let answer = played_answer_of(rt.alloc(), trace)?;
-    for other in [
-        replayed(rt, trace, 1)?,
-        replayed(rt, trace, 2)?,
-        replayed(rt, trace, 3)?,
-        replayed(rt, trace, 64)?,
-    ] {
-        if other != answer {
-            bail!("workers in threads give another answer");
+    match expect_workers(rt, trace, &answer) {
+        Ok(()) => Ok(answer),
+        Err(error) => {
+            drop(answer);
+            Err(error)
         }
     }
-    Ok(answer)
 }

@@ -4,19 +4,22 @@
 
 mod fault;
 
+ghost use Rattle.std.specs.Prelude.{◌<◌, ◌≤◌, ◌^◌};
 ghost use Rattle.replay_program.specs.Jobs.{HasFewWorkers};
 
 use fault::Fault;
-use kubelet_replay::{Counted, Job, NoGate, check, job_of, read_steps, replay, replay_play};
+use kubelet_replay::{
+    Counted, Job, NoGate, Sink, Source, Step, check, job_of, read_steps, replay, replay_play,
+};
 use replay_stream::read_all;
 use std::alloc::AllocError;
+use std::env;
 use std::env::Env;
 use std::fs::File;
 use std::process::ExitCode;
 use std::rt::Files;
 use std::sync::Wait;
 use std::thread::Threads;
-use std::{env, io};
 
 /// So many workers share the pods where no word says how many.
 const WORKERS: usize = 4;
@@ -33,62 +36,124 @@ fn words_of(rt: &(impl Env + AllocGlobal)) -> Result<Vec<String>, Fault> {
     Ok(words)
 }
 
-/// Does what the words ask for, and writes the answer on standard output.
-fn work(
-    rt: &(impl Files + AllocGlobal + Threads + Wait + Sync),
-    job: Job<'_>,
-    output: impl io::Write + Drop,
+/// Replays the file of this path by so many workers.
+fn run<H: Files + AllocGlobal + Threads + Wait + Sync, W: Sink>(
+    rt: &H,
+    path: &str,
+    workers: usize,
+    output: &mut W,
 ) -> Result<(), Fault>
-    requires { HasFewWorkers job }
+    requires some { 0 < workers }
+    requires most { workers ≤ 64 }
+    requires writes { W.failures output.old < 2 ^ 63 }
 {
-    let alloc = rt.alloc();
-    let mut output = Counted::new(output);
+    let mut input = Counted::new(File::open(rt, path)?);
+    let done = replay(rt, &mut input, output, workers, &NoGate);
+    drop(input);
+    done.map_err(Fault::from)
+}
+
+/// Says whether the file of this path is a trace.
+fn look<H: Files + AllocGlobal, W: Sink>(rt: &H, path: &str, output: &mut W) -> Result<(), Fault>
+    requires { W.failures output.old < 2 ^ 63 }
+{
+    let mut input = Counted::new(File::open(rt, path)?);
+    let done = check(rt.alloc(), &mut input, output);
+    drop(input);
+    done.map_err(Fault::from)
+}
+
+/// The text of a steps file.
+fn steps_text<H: Files + AllocGlobal>(rt: &H, path: &str) -> Result<Vec<u8>, Fault> {
+    let mut input = Counted::new(File::open(rt, path)?);
+    let text = read_all(rt.alloc(), &mut input, LONGEST_STEPS);
+    drop(input);
+    Ok(text?)
+}
+
+/// Replays the file of this path by so many workers that take these steps.
+fn play<H: Files + AllocGlobal, W: Sink>(
+    rt: &H,
+    path: &str,
+    workers: usize,
+    steps: &[Step],
+    output: &mut W,
+) -> Result<(), Fault>
+    requires some { 0 < workers }
+    requires most { workers ≤ 64 }
+    requires writes { W.failures output.old < 2 ^ 63 }
+{
+    let mut input = Counted::new(File::open(rt, path)?);
+    let done = replay_play(rt.alloc(), &mut input, output, workers, steps);
+    drop(input);
+    done.map_err(Fault::from)
+}
+
+/// Does what the words ask for, and writes the answer.
+fn work<H: Files + AllocGlobal + Threads + Wait + Sync, W: Sink>(
+    rt: &H,
+    job: Job<'_>,
+    output: &mut W,
+) -> Result<(), Fault>
+    requires few { HasFewWorkers job }
+    requires writes { W.failures output.old < 2 ^ 63 }
+{
     match job {
-        Job::Run { trace, workers } => {
-            let mut input = Counted::new(File::open(rt, trace)?);
-            replay(rt, &mut input, &mut output, workers, &NoGate)?;
-        }
-        Job::Check { trace } => {
-            let mut input = Counted::new(File::open(rt, trace)?);
-            check(alloc, &mut input, &mut output)?;
-        }
+        Job::Run { trace, workers } => run(rt, trace, workers, output),
+        Job::Check { trace } => look(rt, trace, output),
         Job::Play {
             trace,
             steps,
             workers,
         } => {
-            let text = read_all(
-                alloc,
-                &mut Counted::new(File::open(rt, steps)?),
-                LONGEST_STEPS,
-            )?;
-            let steps = read_steps(alloc, &text)?;
-            let mut input = Counted::new(File::open(rt, trace)?);
-            replay_play(alloc, &mut input, &mut output, workers, steps.as_slice())?;
+            let text = steps_text(rt, steps)?;
+            let steps = read_steps(rt.alloc(), &text)?;
+            let done = play(rt, trace, workers, steps.as_slice(), output);
+            drop(steps);
+            done
         }
     }
-    Ok(())
+}
+
+/// Does what the words ask for, and writes the answer.
+fn do_asked<H: Files + AllocGlobal + Threads + Wait + Sync, W: Sink>(
+    rt: &H,
+    words: &[String],
+    output: &mut W,
+) -> Result<(), Fault>
+    requires { W.failures output.old < 2 ^ 63 }
+{
+    let job = job_of(rt.alloc(), words)?;
+    work(rt, job, output)
+}
+
+/// Does what the program's words ask for. Without any it replays what the input has.
+fn answer<H: Files + Env + AllocGlobal + Threads + Wait + Sync, R: Source, W: Sink>(
+    rt: &H,
+    input: &mut R,
+    output: &mut W,
+) -> Result<(), Fault>
+    requires reads { R.failures input.old < 2 ^ 63 }
+    requires writes { W.failures output.old < 2 ^ 63 }
+{
+    let words = words_of(rt)?;
+    if words.len() > 1 {
+        do_asked(rt, &words, output)
+    } else {
+        replay(rt, input, output, WORKERS, &NoGate).map_err(Fault::from)
+    }
 }
 
 /// Ends with status 0 where the whole answer was written, and with 1, 2 or 3 otherwise. (An entry
 /// function can have no clause.)
 fn main(rt: HostRuntime) -> ExitCode {
-    let words = match words_of(&rt) {
-        Ok(words) => words,
-        Err(fault) => return fault.told(&rt),
-    };
-    let done = if words.len() > 1 {
-        match job_of(rt.alloc(), &words) {
-            Ok(job) => work(&rt, job, rt.stdout()),
-            Err(fault) => Err(Fault::from(fault)),
-        }
-    } else {
-        let (mut input, mut output) = (Counted::new(rt.stdin()), Counted::new(rt.stdout()));
-        let replayed = replay(&rt, &mut input, &mut output, WORKERS, &NoGate);
-        replayed.map_err(Fault::from)
-    };
-    match done {
+    let (mut input, mut output) = (Counted::new(rt.stdin()), Counted::new(rt.stdout()));
+    match answer(&rt, &mut input, &mut output) {
         Ok(()) => ExitCode::SUCCESS,
-        Err(fault) => fault.told(&rt),
+        Err(fault) => {
+            let code = fault.told(&rt);
+            drop(fault);
+            code
+        }
     }
 }

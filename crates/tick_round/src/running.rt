@@ -1,4 +1,7 @@
 //! A node that is not halted.
+//!
+//! Where a function that owns the node gives it up, it says so by `drop`: what goes out of scope by itself costs
+//! its proof several times as much.
 
 ghost use Rattle.std.specs.Prelude.{◌≡◌, ◌↔◌, ◌<◌, ◌≤◌, ◌++◌, ◌∷◌, []};
 ghost use Rattle.std.specs.Prelude.{List, length, map, IsTrue, IfSome, IfOk, OnOk, OnErr};
@@ -141,22 +144,35 @@ impl<U: Ledger, E: Ledger, O: Ledger> Running<U, E, O> {
             book,
             last: _,
         } = self;
-        let news = signals.take(alloc, &config.eviction, &tick)?;
+        let news = match signals.take(alloc, &config.eviction, &tick) {
+            Ok(news) => news,
+            Err(fault) => {
+                drop((config, signals, pods, evictions, events, book, tick));
+                return Err(fault);
+            }
+        };
         let served = signals.served(&config.eviction, &tick);
         let at = tick.at;
-        let (pieces, pods) = pods.hand(tick.pods.into_vec())?;
-        let begun = Begun {
-            alloc,
-            config,
-            signals,
-            news,
-            served,
-            pods,
-            evictions,
-            events,
-            at,
-        };
-        Ok((pieces, book, begun))
+        match pods.hand(tick.pods.into_vec()) {
+            Ok((pieces, pods)) => {
+                let begun = Begun {
+                    alloc,
+                    config,
+                    signals,
+                    news,
+                    served,
+                    pods,
+                    evictions,
+                    events,
+                    at,
+                };
+                Ok((pieces, book, begun))
+            }
+            Err(fault) => {
+                drop((config, signals, news, evictions, events, book));
+                Err(fault)
+            }
+        }
     }
 
     /// The node after one more tick, on one thread. A refused growth of memory gives the node up.
@@ -167,9 +183,13 @@ impl<U: Ledger, E: Ledger, O: Ledger> Running<U, E, O> {
             → IfOk result (HasTaken pods (ticks ++ tick ∷ [])) }
     {
         let (pieces, book, begun) = self.begin(tick)?;
-        let (pieces, book) = update_alone(pieces, book)?;
-        let next = begun.end(pieces, book)?;
-        Ok(next)
+        match update_alone(pieces, book) {
+            Ok((pieces, book)) => begun.end(pieces, book),
+            Err(fault) => {
+                drop(begun);
+                Err(fault)
+            }
+        }
     }
 
     /// The node after one more tick, whose round so many workers play by these steps, and the numbers of
@@ -191,9 +211,16 @@ impl<U: Ledger, E: Ledger, O: Ledger> Running<U, E, O> {
     {
         let alloc = self.alloc;
         let (pieces, book, begun) = self.begin(tick)?;
-        let played = update_played(alloc, pieces, book, workers, steps)?;
-        let next = begun.end(played.pieces, played.book)?;
-        Ok((next, played.finished))
+        match update_played(alloc, pieces, book, workers, steps) {
+            Ok(played) => {
+                let next = begun.end(played.pieces, played.book)?;
+                Ok((next, played.finished))
+            }
+            Err(fault) => {
+                drop(begun);
+                Err(fault)
+            }
+        }
     }
 
     /// What the node has come to. It takes no memory.
@@ -232,9 +259,13 @@ impl<U: Ledger + Send, E: Ledger + Send, O: Ledger + Send> Running<U, E, O> {
     {
         let alloc = self.alloc;
         let (pieces, book, begun) = self.begin(tick)?;
-        let (pieces, book) = update_by_workers(rt, alloc, pieces, book, workers, gate)?;
-        let next = begun.end(pieces, book)?;
-        Ok(next)
+        match update_by_workers(rt, alloc, pieces, book, workers, gate) {
+            Ok((pieces, book)) => begun.end(pieces, book),
+            Err(fault) => {
+                drop(begun);
+                Err(fault)
+            }
+        }
     }
 }
 

@@ -14,17 +14,17 @@ end-requires-clause-taken g c = (
   record {
     fits = c.requires.fits;
     has_begun = c.in_ok-pieces.ensures.begun;
-    updated = updated_by c.args.self c.args.tick c.in_ok-pieces.pieces.items c.in_ok-pieces-2.pieces.items
-        c.in_ok-pieces.book c.in_ok-pieces-2.book c.in_ok-pieces.ensures.handed c.in_ok-pieces-2.ensures.pieces
-        c.in_ok-pieces.ensures.book c.in_ok-pieces-2.ensures.book;
+    updated = updated_by c.args.self c.args.tick c.in_ok-pieces.pieces.items c.in-Ok.pieces.items
+        c.in_ok-pieces.book c.in-Ok.book c.in_ok-pieces.ensures.handed c.in-Ok.ensures.pieces
+        c.in_ok-pieces.ensures.book c.in-Ok.ensures.book;
   },
 )
 
-pub returns-clause-taken : goal.returns-clause-taken
-returns-clause-taken g c = λ pods ticks taken. c.in_ok-next.ensures.taken c.args.self c.args.tick pods ticks (record {
+pub returns-in-Ok-clause-taken : goal.returns-in-Ok-clause-taken
+returns-in-Ok-clause-taken g c = λ pods ticks taken. c.end.ensures.taken c.args.self c.args.tick pods ticks (record {
   fits = c.requires.fits;
   has_begun = c.in_ok-pieces.ensures.begun;
-  updated = updated_by c.args.self c.args.tick c.in_ok-pieces.pieces.items c.in_ok-pieces-2.pieces.items
-      c.in_ok-pieces.book c.in_ok-pieces-2.book c.in_ok-pieces.ensures.handed c.in_ok-pieces-2.ensures.pieces
-      c.in_ok-pieces.ensures.book c.in_ok-pieces-2.ensures.book;
+  updated = updated_by c.args.self c.args.tick c.in_ok-pieces.pieces.items c.in-Ok.pieces.items
+      c.in_ok-pieces.book c.in-Ok.book c.in_ok-pieces.ensures.handed c.in-Ok.ensures.pieces
+      c.in_ok-pieces.ensures.book c.in-Ok.ensures.book;
 }) taken

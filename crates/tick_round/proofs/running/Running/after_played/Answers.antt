@@ -15,25 +15,26 @@ end-requires-clause-taken g c = (
   record {
     fits = c.requires.fits;
     has_begun = c.in_ok-pieces.ensures.begun;
-    updated = updated_by c.args.self c.args.tick c.in_ok-pieces.pieces.items c.in_ok-played.played.pieces.items
-        c.in_ok-pieces.book c.in_ok-played.played.book c.in_ok-pieces.ensures.handed c.in_ok-played.ensures.pieces
+    updated = updated_by c.args.self c.args.tick c.in_ok-pieces.pieces.items c.in-Ok.played.pieces.items
+        c.in_ok-pieces.book c.in-Ok.played.book c.in_ok-pieces.ensures.handed c.in-Ok.ensures.pieces
         c.in_ok-pieces.ensures.book
-        (are_entered c.in_ok-played.played.pieces.items c.in_ok-pieces.book c.in_ok-played.played.book
-        c.in_ok-played.ensures.book);
+        (are_entered c.in-Ok.played.pieces.items c.in_ok-pieces.book c.in-Ok.played.book
+        c.in-Ok.ensures.book);
   },
 )
 
-pub returns-clause-taken : goal.returns-clause-taken
-returns-clause-taken g c = λ pods ticks taken. c.in_ok-next.ensures.taken c.args.self c.args.tick pods ticks (record {
-  fits = c.requires.fits;
-  has_begun = c.in_ok-pieces.ensures.begun;
-  updated = updated_by c.args.self c.args.tick c.in_ok-pieces.pieces.items c.in_ok-played.played.pieces.items
-      c.in_ok-pieces.book c.in_ok-played.played.book c.in_ok-pieces.ensures.handed c.in_ok-played.ensures.pieces
-      c.in_ok-pieces.ensures.book
-      (are_entered c.in_ok-played.played.pieces.items c.in_ok-pieces.book c.in_ok-played.played.book
-      c.in_ok-played.ensures.book);
-}) taken
+pub returns-in_ok-next-in-Ok-clause-taken : goal.returns-in_ok-next-in-Ok-clause-taken
+returns-in_ok-next-in-Ok-clause-taken g c = λ pods ticks taken.
+    c.in_ok-next-in-Ok.ensures.taken c.args.self c.args.tick pods ticks (record {
+      fits = c.requires.fits;
+      has_begun = c.in_ok-pieces.ensures.begun;
+      updated = updated_by c.args.self c.args.tick c.in_ok-pieces.pieces.items c.in-Ok.played.pieces.items
+          c.in_ok-pieces.book c.in-Ok.played.book c.in_ok-pieces.ensures.handed c.in-Ok.ensures.pieces
+          c.in_ok-pieces.ensures.book
+          (are_entered c.in-Ok.played.pieces.items c.in_ok-pieces.book c.in-Ok.played.book
+          c.in-Ok.ensures.book);
+    }) taken
 
-pub returns-clause-finished : goal.returns-clause-finished
-returns-clause-finished g c = λ entries many.
-    c.in_ok-played.ensures.finished entries (many ∙ sym c.in_ok-pieces.ensures.handed.as_many)
+pub returns-in_ok-next-in-Ok-clause-finished : goal.returns-in_ok-next-in-Ok-clause-finished
+returns-in_ok-next-in-Ok-clause-finished g c = λ entries many.
+    c.in-Ok.ensures.finished entries (many ∙ sym c.in_ok-pieces.ensures.handed.as_many)

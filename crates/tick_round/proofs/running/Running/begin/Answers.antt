@@ -4,26 +4,26 @@ use Rattle.tick_round.specs.Round.{IsKept}
 use Rattle.tick_round.proofs.GoesOn.{begun_as, may_update}
 use Rattle.tick_round.proofs.running.Running.begin.Goals as goal
 
-pub returns-clause-kept : goal.returns-clause-kept
-returns-clause-kept g c = subst (λ (s : State). IsKept s) c.self.view_is c.self.invariant
+pub returns-in-Ok-hand-clause-kept : goal.returns-in-Ok-hand-clause-kept
+returns-in-Ok-hand-clause-kept g c = subst (λ (s : State). IsKept s) c.self.view_is c.self.invariant
 
-pub returns-clause-may_update : goal.returns-clause-may_update
-returns-clause-may_update g c =
+pub returns-in-Ok-hand-clause-may_update : goal.returns-in-Ok-hand-clause-may_update
+returns-in-Ok-hand-clause-may_update g c =
     let i = c.self.inside in
     may_update (state i.config i.signals i.pods i.evictions.items i.events.items i.book i.last) c.into_vec.result.items
-    c.in_ok-pieces.pieces.items c.self.invariant
+    c.in-Ok-hand.pieces.items c.self.invariant
     (ap length c.into_vec.ensures ∙ c.requires.pods.next.as_many
     ∙ ap (λ (s : State). length s.pods.pieces) (sym c.self.view_is))
-    c.in_ok-pieces.ensures.handed
+    c.in-Ok-hand.ensures.handed
 
-pub returns-clause-begun : goal.returns-clause-begun
-returns-clause-begun g c =
+pub returns-in-Ok-hand-clause-begun : goal.returns-in-Ok-hand-clause-begun
+returns-in-Ok-hand-clause-begun g c =
     let i = c.self.inside in
     let period = i.config.eviction_pressure_transition_period in
     begun_as (state i.config i.signals i.pods i.evictions.items i.events.items i.book i.last) c.args.self c.args.tick _
     c.self.view_is refl (record {
-      signals = λ before is. c.in_ok-news.ensures.state period before is;
-      news_are = λ before is. c.in_ok-news.ensures.events period before is;
+      signals = λ before is. c.in-Ok.ensures.state period before is;
+      news_are = λ before is. c.in-Ok.ensures.events period before is;
       serves = λ before is. c.served-served.ensures period before is;
     })
-    c.in_ok-pieces.ensures.awaited refl refl refl
+    c.in-Ok-hand.ensures.awaited refl refl refl

@@ -1,4 +1,4 @@
-use Rattle.replay_tests.proofs.book_tests.a_full_book_takes_nothing_more.Given as goal
+use Rattle.calls_tests.proofs.book_tests.a_full_book_takes_nothing_more.Given as goal
 
 abbrev pub ghosts-fill-U-Ledger : goal.ghosts-fill-U-Ledger
 ghosts-fill-U-Ledger g a = record { name = a.updates.name; parts = a.updates.parts }
