@@ -69,27 +69,24 @@ impl Scale {
             Scale::Kibi => 1 << 10,
         }
     }
-}
 
-impl fmt::Display for Scale {
-    ghost output = { λ scale. Some (scale_suffix scale) };
-
-    /// The suffix.
-    fn fmt<W: fmt::Write>(&self, f: &mut fmt::Formatter<W>) -> fmt::Result {
+    fn suffix(self) -> &'static str
+        ensures { result.now ≡ scale_suffix self }
+    {
         match self {
-            Scale::Units => write!(f, ""),
-            Scale::Exa => write!(f, "E"),
-            Scale::Peta => write!(f, "P"),
-            Scale::Tera => write!(f, "T"),
-            Scale::Giga => write!(f, "G"),
-            Scale::Mega => write!(f, "M"),
-            Scale::Kilo => write!(f, "k"),
-            Scale::Exbi => write!(f, "Ei"),
-            Scale::Pebi => write!(f, "Pi"),
-            Scale::Tebi => write!(f, "Ti"),
-            Scale::Gibi => write!(f, "Gi"),
-            Scale::Mebi => write!(f, "Mi"),
-            Scale::Kibi => write!(f, "Ki"),
+            Scale::Units => "",
+            Scale::Exa => "E",
+            Scale::Peta => "P",
+            Scale::Tera => "T",
+            Scale::Giga => "G",
+            Scale::Mega => "M",
+            Scale::Kilo => "k",
+            Scale::Exbi => "Ei",
+            Scale::Pebi => "Pi",
+            Scale::Tebi => "Ti",
+            Scale::Gibi => "Gi",
+            Scale::Mebi => "Mi",
+            Scale::Kibi => "Ki",
         }
     }
 }
@@ -115,12 +112,13 @@ impl fmt::Display for Form {
             places,
             scale,
         } = *self;
+        let suffix = scale.suffix();
         if places == 0 {
-            write!(f, "{whole}{scale}")
+            write!(f, "{whole}{suffix}")
         } else if whole == 0 {
-            write!(f, ".{fraction:0places$}{scale}")
+            write!(f, ".{fraction:0places$}{suffix}")
         } else {
-            write!(f, "{whole}.{fraction:0places$}{scale}")
+            write!(f, "{whole}.{fraction:0places$}{suffix}")
         }
     }
 }

@@ -107,9 +107,9 @@ fn exponent_factor(text: &[u8]) -> Option<Factor>
     ensures bounds { IfSome result IsScale }
 {
     match text {
-        [b'-', digits @ ..] => Some(Factor::divided_by(power(digits)?)),
-        [b'+', digits @ ..] => Some(Factor::times(power(digits)?)),
-        digits => Some(Factor::times(power(digits)?)),
+        [b'-', digits @ ..] => power(digits).map(Factor::divided_by),
+        [b'+', digits @ ..] => power(digits).map(Factor::times),
+        digits => power(digits).map(Factor::times),
     }
 }
 

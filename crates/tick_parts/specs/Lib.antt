@@ -1,2 +1,3 @@
 pub mod Update
 pub mod Evict
+pub mod Played

@@ -10,7 +10,7 @@ ghost use Rattle.event_book.specs.Totals.{nothing};
 ghost use Rattle.event_book.specs.Limits.{most_workers};
 ghost use Rattle.tick_round.specs.declared.fault.TickFault.TheVariants.{Halted};
 ghost use Rattle.tick_round.specs.Node.{IsAfter, MayTake, HasRoom};
-ghost use Rattle.tick_round.specs.Played.{AreFinished};
+ghost use Rattle.tick_parts.specs.Played.{AreFinished};
 ghost use Rattle.tick_round.specs.Summary.{IsSummary};
 
 use crate::fault::TickFault;

@@ -15,7 +15,7 @@ ghost use Rattle.event_book.specs.Limits.{most_workers};
 ghost use Rattle.node_pods.specs.Pods.{AreHanded, AreAwaited};
 ghost use Rattle.tick_parts.specs.Update.{MayUpdate};
 ghost use Rattle.tick_round.specs.Node.{HasTaken, Fits};
-ghost use Rattle.tick_round.specs.Played.{AreFinished};
+ghost use Rattle.tick_parts.specs.Played.{AreFinished};
 ghost use Rattle.tick_round.specs.Round.{IsKept, HasBegun};
 ghost use Rattle.tick_round.specs.Summary.{IsSummary};
 
@@ -29,7 +29,6 @@ use node_config::NodeConfig;
 use node_pods::NodePods;
 use node_signals::NodeSignals;
 use observations::{MOST_TICKS, TickObs};
-use played_round::update_played;
 use pod_piece::PodPiece;
 use round_steps::Step;
 use std::alloc::{AllocError, Global};
@@ -37,7 +36,7 @@ use std::marker::Model;
 use std::sync::Wait;
 use std::sync::ledger::Ledger;
 use std::thread::Threads;
-use tick_parts::{Gate, update_alone, update_by_workers};
+use tick_parts::{Gate, update_alone, update_by_steps, update_by_workers};
 
 /// A node that is not halted. Its type keeps that all in it is the state of the ticks that it took.
 #[derive(Drop)]
@@ -211,7 +210,7 @@ impl<U: Ledger, E: Ledger, O: Ledger> Running<U, E, O> {
     {
         let alloc = self.alloc;
         let (pieces, book, begun) = self.begin(tick)?;
-        match update_played(alloc, pieces, book, workers, steps) {
+        match update_by_steps(alloc, pieces, book, workers, steps) {
             Ok(played) => {
                 let next = begun.end(played.pieces, played.book)?;
                 Ok((next, played.finished))

@@ -1,6 +1,6 @@
 //! A line, behind what the lines before it say.
 
-ghost use Rattle.std.specs.Prelude.{◌≡◌, [], option_map, None, Ok, IfOk, string_bytes};
+ghost use Rattle.std.specs.Prelude.{◌≡◌, [], option_map, None, Ok, OnOk, string_bytes};
 ghost use Rattle.serde_json.specs.View.{view};
 ghost use Rattle.json_lines.specs.Lines.{data_of};
 ghost use Rattle.trace.specs.Gives.{Gives, GivesExactly};
@@ -77,23 +77,13 @@ fn take_node(alloc: Global, reader: Reader, line: &Value) -> Result<Reader, Faul
 }
 
 /// Adds a pod with its key, and the number of ticks before it.
-fn enlisted(roster: Roster, pod: PodSpec, key: String, ticks: usize) -> Result<Roster, AllocError>
-    requires { place_of roster.keys (string_bytes key) ≡ None }
-    ensures { IfOk result (IsEnlisted roster pod (string_bytes key) ticks) }
+fn enlist(roster: &mut Roster, pod: PodSpec, key: String, ticks: usize) -> Result<(), AllocError>
+    requires { place_of roster.old.keys (string_bytes key) ≡ None }
+    ensures { OnOk result (IsEnlisted roster.old pod (string_bytes key) ticks roster.new) }
 {
-    let Roster {
-        mut pods,
-        mut arrivals,
-        mut keys,
-    } = roster;
-    keys.push(key)?;
-    pods.push(pod)?;
-    arrivals.push(ticks)?;
-    Ok(Roster {
-        pods,
-        arrivals,
-        keys,
-    })
+    roster.keys.push(key)?;
+    roster.pods.push(pod)?;
+    roster.arrivals.push(ticks)
 }
 
 /// Adds a pod of a new key.
@@ -111,12 +101,12 @@ fn with_pod(alloc: Global, reader: Reader, pod: PodSpec, key: String) -> Result<
         following,
     } = reader;
     let following = following.with_pod(alloc, pod.containers.as_slice().len())?;
-    let before = Roster {
+    let mut roster = Roster {
         pods,
         arrivals,
         keys,
     };
-    let roster = enlisted(before, pod, key, ticks.as_slice().len())?;
+    enlist(&mut roster, pod, key, ticks.as_slice().len())?;
     Ok(Reader {
         node,
         pods: roster.pods,

@@ -1,11 +1,6 @@
 use Rattle.std.proofs.Common.{◌∙◌, sym}
-use Rattle.tick_parts.proofs.Rounds.{all_pending, are_entered}
 use Rattle.tick_round.proofs.GoesOn.{updated_by}
 use Rattle.tick_round.proofs.running.Running.after_played.Goals as goal
-
-pub update_played-requires-clause-pending : goal.update_played-requires-clause-pending
-update_played-requires-clause-pending g c =
-    all_pending c.in_ok-pieces.pieces.items c.in_ok-pieces.book c.in_ok-pieces.ensures.may_update
 
 pub end-requires-clause-taken : goal.end-requires-clause-taken
 end-requires-clause-taken g c = (
@@ -17,9 +12,7 @@ end-requires-clause-taken g c = (
     has_begun = c.in_ok-pieces.ensures.begun;
     updated = updated_by c.args.self c.args.tick c.in_ok-pieces.pieces.items c.in-Ok.played.pieces.items
         c.in_ok-pieces.book c.in-Ok.played.book c.in_ok-pieces.ensures.handed c.in-Ok.ensures.pieces
-        c.in_ok-pieces.ensures.book
-        (are_entered c.in-Ok.played.pieces.items c.in_ok-pieces.book c.in-Ok.played.book
-        c.in-Ok.ensures.book);
+        c.in_ok-pieces.ensures.book c.in-Ok.ensures.book;
   },
 )
 
@@ -30,9 +23,7 @@ returns-in_ok-next-in-Ok-clause-taken g c = λ pods ticks taken.
       has_begun = c.in_ok-pieces.ensures.begun;
       updated = updated_by c.args.self c.args.tick c.in_ok-pieces.pieces.items c.in-Ok.played.pieces.items
           c.in_ok-pieces.book c.in-Ok.played.book c.in_ok-pieces.ensures.handed c.in-Ok.ensures.pieces
-          c.in_ok-pieces.ensures.book
-          (are_entered c.in-Ok.played.pieces.items c.in_ok-pieces.book c.in-Ok.played.book
-          c.in-Ok.ensures.book);
+          c.in_ok-pieces.ensures.book c.in-Ok.ensures.book;
     }) taken
 
 pub returns-in_ok-next-in-Ok-clause-finished : goal.returns-in_ok-next-in-Ok-clause-finished
