@@ -1,6 +1,6 @@
 //! Tests of calls that no text of a case reaches: quantities made of numbers, readers and writers over memory, inputs
-//! that are cut, large or stop, writers that stop, a full book, and what the workers of a replay do in threads: how many
-//! updates stand side by side, that pods are stolen, and that nobody sees from the report who did what.
+//! that are cut, large or stop, writers that stop, a full book, and what the workers of a replay do in threads: how
+//! many updates stand side by side, that pods are stolen, and that nobody sees from the report who did what.
 #![tactic(auto)]
 
 #[cfg(test)]

@@ -1,5 +1,5 @@
-//! Tables of texts, a row for each: the text, a tab and its answer. A line that begins with `# ` says what the rows below
-//! it show.
+//! Tables of texts, a row for each: the text, a tab and its answer. A line that begins with `# ` says what the rows
+//! below it show.
 
 use crate::compare::expect;
 use crate::files::text_of;

@@ -1,5 +1,6 @@
 -- The events of one more tick, place by place.
-use Rattle.std.proofs.Common.{◌≡◌, ◌⊎◌, inl, inr, ℕ, suc, ℤ, pos, ◌-◌, ◌<◌, ◌≤◌, Bool, List, [], ◌∷◌, ◌++◌, length, Option, Some, None, refl, subst, sym, ◌∙◌, arith}
+use Rattle.std.proofs.Common.{◌≡◌, ◌⊎◌, inl, inr, ℕ, suc, ℤ, pos, ◌-◌, ◌<◌, ◌≤◌, Bool, List, [], ◌∷◌, ◌++◌, length}
+use Rattle.std.proofs.Common.{Option, Some, None, refl, subst, sym, ◌∙◌, arith}
 use Rattle.std.specs.Prelude.{◌↔◌, IsSomeAnd, IfSome, IsTrue}
 use Rattle.std.proofs.lemmas.Bool.{cases_lt, cases_order}
 use Rattle.std.proofs.lemmas.List.{take_all}
@@ -31,7 +32,8 @@ use Rattle.containers.proofs.ExitLemmas.{IsGoneNow, leaving, uncoded}
 use Rattle.containers.proofs.RestartLemmas.{exits_one}
 
 -- the instance that is gone
-gone_is : (k : List Tick) (d : Differ) (x : Tick) (changes : Changes) → IsDifferOf k d → AreChanges (k ++ x ∷ []) (length k) changes → (a : ℕ)
+gone_is : (k : List Tick) (d : Differ) (x : Tick) (changes : Changes) → IsDifferOf k d
+    → AreChanges (k ++ x ∷ []) (length k) changes → (a : ℕ)
     → (((changes.removed ≡ Some a) × IsTrue changes.removed_died) ↔ IsGoneNow k x a)
 gone_is k d x changes is are a = (
   (λ w.
@@ -45,9 +47,11 @@ gone_is k d x changes is are a = (
     removed : (b : ℕ) → IsGoneNow k x b → changes.removed ≡ Some b
     removed b g = (are.removed b).1 (kept (IsOf b) k x (length k - 1) (leaving k d x b is g).listed, g.1)
 
-pub gone_gives : (h : List ContainerTick) (x : ContainerTick) (d : Differ) (changes : Changes) (event : Option What) → IsDifferOf (listings h) d
+pub gone_gives : (h : List ContainerTick) (x : ContainerTick) (d : Differ) (changes : Changes) (event : Option What)
+    → IsDifferOf (listings h) d
     → AreChanges (listings (h ++ x ∷ [])) (length h) changes
-    → ((what : What) → ((event ≡ Some what) ↔ ((a : ℕ) × (what ≡ Died a (pos 137)) × (changes.removed ≡ Some a) × IsTrue changes.removed_died)))
+    → ((what : What) → ((event ≡ Some what) ↔ ((a : ℕ) × (what ≡ Died a (pos 137)) × (changes.removed ≡ Some a)
+    × IsTrue changes.removed_died)))
     → Gives (IsGone (h ++ x ∷ []) (length h)) event
 gone_gives h x d changes event is are gives what =
     let G : List Tick → ℕ → ℕ → Type 0 = λ k t a. IsExit k a t × (Listed k a t → ⊥) in
@@ -63,8 +67,10 @@ gone_gives h x d changes event is are gives what =
     )
 
 -- the listed one that died
-pub died_gives : (h : List ContainerTick) (x : ContainerTick) (changes : Changes) (event : Option What) → AreChanges (listings (h ++ x ∷ [])) (length h) changes
-    → ((what : What) → ((event ≡ Some what) ↔ ((a : ℕ) × (code : ℤ) × (what ≡ Died a code) × (changes.died ≡ Some (a, code)))))
+pub died_gives : (h : List ContainerTick) (x : ContainerTick) (changes : Changes) (event : Option What)
+    → AreChanges (listings (h ++ x ∷ [])) (length h) changes
+    → ((what : What) → ((event ≡ Some what)
+    ↔ ((a : ℕ) × (code : ℤ) × (what ≡ Died a code) × (changes.died ≡ Some (a, code)))))
     → Gives (HasDied (h ++ x ∷ []) (length h)) event
 died_gives h x changes event are gives what = (
   (λ e.
@@ -78,7 +84,8 @@ died_gives h x changes event are gives what = (
 )
 
 -- whether it was ready
-pub was_ready : (spec : ContainerSpec) (h : List ContainerTick) (x : ContainerTick) → (WasReady spec (h ++ x ∷ []) (length h) ↔ IsReady spec h)
+pub was_ready : (spec : ContainerSpec) (h : List ContainerTick) (x : ContainerTick)
+    → (WasReady spec (h ++ x ∷ []) (length h) ↔ IsReady spec h)
 was_ready spec h x = (forth, back h)
   where
     forth : WasReady spec (h ++ x ∷ []) (length h) → IsReady spec h
@@ -94,13 +101,17 @@ was_ready spec h x = (forth, back h)
       refl,
       (grows_so (IsReady spec) (y ∷ h) x).old (length h) (record {
         within = omega arith;
-        so = subst (λ (k : List ContainerTick). IsReady spec k) (sym (take_all (suc (length h)) (y ∷ h) (omega arith))) r;
+        so = subst (λ (k : List ContainerTick). IsReady spec k)
+            (sym (take_all (suc (length h)) (y ∷ h) (omega arith))) r;
       }),
     )
 
-pub readiness_gives : (spec : ContainerSpec) (h : List ContainerTick) (x : ContainerTick) (before now : Bool) (event : Option What) → (IsTrue before ↔ IsReady spec h)
+pub readiness_gives : (spec : ContainerSpec) (h : List ContainerTick) (x : ContainerTick) (before now : Bool)
+    (event : Option What) → (IsTrue before ↔ IsReady spec h)
     → (IsTrue now ↔ IsReady spec (h ++ x ∷ []))
-    → ((what : What) → ((event ≡ Some what) ↔ (((what ≡ Ready) × IsTrue now × (IsTrue before → ⊥)) ⊎ ((what ≡ Unready) × (IsTrue now → ⊥) × IsTrue before))))
+    → ((what : What) → ((event ≡ Some what)
+    ↔ (((what ≡ Ready) × IsTrue now × (IsTrue before → ⊥)) ⊎ ((what ≡ Unready) × (IsTrue now → ⊥)
+    × IsTrue before))))
     → Gives (ChangesReadiness spec (h ++ x ∷ []) (length h)) event
 readiness_gives spec h x before now event old new gives what =
     let was = was_ready spec h x in (
@@ -119,7 +130,8 @@ moment_listed : (h : List ContainerTick) (t : ℕ) → moment_at (listings h) t 
 moment_listed h t = moment_at-project (λ (observed : ContainerObs). observed.seen) h t
 
 exit_now : (h : List ContainerTick) (x : ContainerTick) (a : ℕ) → IsRising (h ++ x ∷ [])
-    → (IsFirstMoment (listings (h ++ x ∷ [])) (Ends (listings (h ++ x ∷ [])) a) (Some x.moment) ↔ IsExit (listings (h ++ x ∷ [])) a (length h))
+    → (IsFirstMoment (listings (h ++ x ∷ [])) (Ends (listings (h ++ x ∷ [])) a) (Some x.moment)
+    ↔ IsExit (listings (h ++ x ∷ [])) a (length h))
 exit_now h x a rising = (
   (λ (t, f, e).
       let at : moment_at (h ++ x ∷ []) t ≡ Some x.moment = sym (moment_listed (h ++ x ∷ []) t) ∙ e in
@@ -127,8 +139,10 @@ exit_now h x a rising = (
       let same : t ≡ length h = elim (cases_order t (length h)) [
         | inl e ↦ e
         | inr w ↦ elim w [
-          | inl lt ↦ let less : x.moment < x.moment = rising t (length h) x.moment x.moment lt at here in absurd (omega arith)
-          | inr gt ↦ let less : x.moment < x.moment = rising (length h) t x.moment x.moment gt here at in absurd (omega arith)
+          | inl lt ↦ let less : x.moment < x.moment = rising t (length h) x.moment x.moment lt at here in
+              absurd (omega arith)
+          | inr gt ↦ let less : x.moment < x.moment = rising (length h) t x.moment x.moment gt here at in
+              absurd (omega arith)
         ]
       ] in
       subst (λ (u : ℕ). IsExit (listings (h ++ x ∷ [])) a u) same f),
@@ -144,10 +158,13 @@ delay_there : (P : ℕ → Type 0) (o : Option ℕ) → IsSomeAnd o P → (d : �
 delay_there P None q = absurd q
 delay_there P (Some d) q = (d, refl, q)
 
-pub backoff_gives : (policy : Policy) (greatest : ℕ) (spec : ContainerSpec) (h : List ContainerTick) (x : ContainerTick) (backoff : RestartBackoff) (delay : Option ℕ) (puts_off : Bool) (event : Option What)
+pub backoff_gives : (policy : Policy) (greatest : ℕ) (spec : ContainerSpec) (h : List ContainerTick)
+    (x : ContainerTick) (backoff : RestartBackoff) (delay : Option ℕ) (puts_off : Bool) (event : Option What)
     → IsRising (h ++ x ∷ []) → AreCounted greatest h x backoff delay
-    → (IsTrue puts_off ↔ ((a : ℕ) × IsToRestart policy spec (h ++ x ∷ []) a × IsFirstMoment (listings (h ++ x ∷ [])) (Ends (listings (h ++ x ∷ [])) a) (Some x.moment)))
-    → ((what : What) → ((event ≡ Some what) ↔ ((d : ℕ) × (what ≡ Backoff d) × (delay ≡ Some d) × (0 < d) × IsTrue puts_off)))
+    → (IsTrue puts_off ↔ ((a : ℕ) × IsToRestart policy spec (h ++ x ∷ []) a × IsFirstMoment (listings (h ++ x ∷ []))
+    (Ends (listings (h ++ x ∷ [])) a) (Some x.moment)))
+    → ((what : What) → ((event ≡ Some what)
+    ↔ ((d : ℕ) × (what ≡ Backoff d) × (delay ≡ Some d) × (0 < d) × IsTrue puts_off)))
     → Gives (IsPutOff policy greatest spec (h ++ x ∷ []) (length h)) event
 backoff_gives policy greatest spec h x backoff delay puts_off event rising counted off gives what = (
   (λ e.
@@ -161,19 +178,28 @@ backoff_gives policy greatest spec h x backoff delay puts_off event rising count
       let same : exits ≡ counted.exits = exits_one (listings (h ++ x ∷ [])) exits counted.exits are counted.are_exits in
       let mine : IsDelay greatest counted.exits d = subst (λ (es : List Exit). IsDelay greatest es d) same is in
       let one : w.0 ≡ d = (one_delay greatest counted.exits).1 w.0 d w.2 mine in
-      (gives what).1 (d, e, subst (λ (n : ℕ). delay ≡ Some n) one w.1, lt, off.1 (a, to, (exit_now h x a rising).1 exit))),
+      (gives what).1 (
+        d,
+        e,
+        subst (λ (n : ℕ). delay ≡ Some n) one w.1,
+        lt,
+        off.1
+            (a, to, (exit_now h x a rising).1 exit),
+      )),
 )
 
 -- the first tick that is not before a moment
 first_due : (h : List ContainerTick) (x : ContainerTick) (due : ℕ) → IsRising h
-    → (((due ≤ x.moment) × IfSome (last_moment h) (λ last. last < due)) ↔ IsFirst (λ u. IsSomeAnd (moment_at (h ++ x ∷ []) u) (λ moment. due ≤ moment)) (length h))
+    → (((due ≤ x.moment) × IfSome (last_moment h) (λ last. last < due))
+    ↔ IsFirst (λ u. IsSomeAnd (moment_at (h ++ x ∷ []) u) (λ moment. due ≤ moment)) (length h))
 first_due h x due rising = (
   (λ w. record {
     holds = subst (λ (o : Option ℕ). IsSomeAnd o (λ moment. due ≤ moment)) (sym (moment_at-new h x)) w.0;
     none_before = λ u lt q.
         let m = moment_within h u lt in
         let less : m.0 < due = all_before h u m.0 due rising w.1 m.1 in
-        let le : due ≤ m.0 = subst (λ (o : Option ℕ). IsSomeAnd o (λ moment. due ≤ moment)) (moment_at-old h x u m.0 m.1) q in
+        let le : due ≤ m.0 = subst (λ (o : Option ℕ). IsSomeAnd o (λ moment. due ≤ moment))
+        (moment_at-old h x u m.0 m.1) q in
         omega arith;
   }),
   (λ f. (
@@ -183,7 +209,8 @@ first_due h x due rising = (
 )
   where
     last : (o : Option ℕ) → ((m : ℕ) → o ≡ Some m → last_moment h ≡ Some m)
-        → IsFirst (λ u. IsSomeAnd (moment_at (h ++ x ∷ []) u) (λ moment. due ≤ moment)) (length h) → IfSome o (λ last. last < due)
+        → IsFirst (λ u. IsSomeAnd (moment_at (h ++ x ∷ []) u) (λ moment. due ≤ moment)) (length h)
+        → IfSome o (λ last. last < due)
     last None is f = tt
     last (Some m) is f =
         let at : moment_at h (length h - 1) ≡ Some m = is m refl in
@@ -191,25 +218,43 @@ first_due h x due rising = (
         elim (cases_lt m due) [
           | inl less ↦ less
           | inr ge ↦ absurd (f.none_before (length h - 1) lt
-              (subst (λ (o : Option ℕ). IsSomeAnd o (λ moment. due ≤ moment)) (sym (moment_at-old h x (length h - 1) m at)) (let le : due ≤ m = omega arith in le)))
+              (subst (λ (o : Option ℕ). IsSomeAnd o (λ moment. due ≤ moment))
+              (sym (moment_at-old h x (length h - 1) m at)) (let le : due ≤ m = omega arith in le)))
         ]
 
-pub restart_gives : (policy : Policy) (greatest : ℕ) (spec : ContainerSpec) (h : List ContainerTick) (x : ContainerTick) (backoff : RestartBackoff) (delay attempt last_at : Option ℕ) (is_due : Bool) (event : Option What)
+pub restart_gives : (policy : Policy) (greatest : ℕ) (spec : ContainerSpec) (h : List ContainerTick)
+    (x : ContainerTick) (backoff : RestartBackoff) (delay attempt last_at : Option ℕ) (is_due : Bool)
+    (event : Option What)
     → IsRising h → (counted : AreCounted greatest h x backoff delay) → last_at ≡ last_moment h
     → ((a : ℕ) → ((attempt ≡ Some a) ↔ IsToRestart policy spec (h ++ x ∷ []) a))
-    → (IsTrue is_due ↔ ((due : ℕ) × IsDue greatest counted.exits (Some due) × (due ≤ x.moment) × IfSome last_at (λ last. last < due)))
+    → (IsTrue is_due ↔ ((due : ℕ) × IsDue greatest counted.exits (Some due) × (due ≤ x.moment)
+    × IfSome last_at (λ last. last < due)))
     → ((what : What) → ((event ≡ Some what) ↔ ((a : ℕ) × (what ≡ Restart a) × (attempt ≡ Some a) × IsTrue is_due)))
     → Gives (IsRestarted policy greatest spec (h ++ x ∷ []) (length h)) event
-restart_gives policy greatest spec h x backoff delay attempt last_at is_due event rising counted last to due gives what = (
-  (λ e.
-      let w = (gives what).0 e in
-      let d = due.0 w.3 in
-      let before = subst (λ (o : Option ℕ). IfSome o (λ last. last < d.0)) last d.3 in
-      (w.0, w.1, (to w.0).0 w.2, (counted.exits, d.0, counted.are_exits, d.1, (first_due h x d.0 rising).0 (d.2, before)))),
-  (λ (a, e, t, (exits, at, are, is, f)).
-      let w = (first_due h x at rising).1 f in
-      let before = subst (λ (o : Option ℕ). IfSome o (λ last. last < at)) (sym last) w.1 in
-      let same : exits ≡ counted.exits = exits_one (listings (h ++ x ∷ [])) exits counted.exits are counted.are_exits in
-      let mine : IsDue greatest counted.exits (Some at) = subst (λ (es : List Exit). IsDue greatest es (Some at)) same is in
-      (gives what).1 (a, e, (to a).1 t, due.1 (at, mine, w.0, before))),
-)
+restart_gives policy greatest spec h x backoff delay attempt last_at is_due event rising counted last to due gives
+    what = (
+      (λ e.
+          let w = (gives what).0 e in
+          let d = due.0 w.3 in
+          let before = subst (λ (o : Option ℕ). IfSome o (λ last. last < d.0)) last d.3 in (
+            w.0,
+            w.1,
+            (to w.0).0 w.2,
+            (
+              counted.exits,
+              d.0,
+              counted.are_exits,
+              d.1,
+              (first_due h x d.0 rising).0
+                  (d.2, before),
+            ),
+          )),
+      (λ (a, e, t, (exits, at, are, is, f)).
+          let w = (first_due h x at rising).1 f in
+          let before = subst (λ (o : Option ℕ). IfSome o (λ last. last < at)) (sym last) w.1 in
+          let same : exits ≡ counted.exits =
+          exits_one (listings (h ++ x ∷ [])) exits counted.exits are counted.are_exits in
+          let mine : IsDue greatest counted.exits (Some at) =
+          subst (λ (es : List Exit). IsDue greatest es (Some at)) same is in
+          (gives what).1 (a, e, (to a).1 t, due.1 (at, mine, w.0, before))),
+    )

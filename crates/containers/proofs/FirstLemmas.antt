@@ -20,13 +20,18 @@ no_exits : AreExits [] []
 no_exits = record {
   attempts = [];
   in_order = λ i j a b lt e f. cc;
-  all = λ a. ((λ c. let w : Contains [] a = c in absurd (let lt : w.0 < 0 = w.1 in omega arith)), (λ w. absurd (none_yet a w.0 w.1)));
+  all = λ a. (
+    (λ c. let w : Contains [] a = c in absurd (let lt : w.0 < 0 = w.1 in omega arith)),
+    (λ w. absurd (none_yet a w.0 w.1)),
+  );
   each = tt;
 }
 
-pub first_is : (spec : ContainerSpec) (greatest : ℕ) (role : Role) (differ : Differ) (probes : ProbeSet) (backoff : Backoff)
+pub first_is : (spec : ContainerSpec) (greatest : ℕ) (role : Role) (differ : Differ) (probes : ProbeSet)
+    (backoff : Backoff)
     → role ≡ spec.role → IsDifferOf [] differ → Follows probes spec.probes → IsBackoffOf greatest [] backoff
-    → IsStateOf spec greatest [] (record { role = role; differ = differ; probes = probes; backoff = backoff; was_started = false })
+    → IsStateOf spec greatest []
+    (record { role = role; differ = differ; probes = probes; backoff = backoff; was_started = false })
 first_is spec greatest role differ probes backoff same is follows backs = record {
   role = same;
   rising = λ t u m n lt e f. cc;
@@ -36,5 +41,9 @@ first_is spec greatest role differ probes backoff same is follows backs = record
   exits = [];
   are_exits = no_exits;
   backoff = backs;
-  was_started = ((λ e. absurd (let x : IsTrue false = e in cc)), (λ w. let lt : w.0 < 0 = w.1.within in absurd (omega arith)));
+  was_started = (
+    (λ e. absurd (let x : IsTrue false = e in cc)),
+    (λ w. let lt : w.0 < 0 = w.1.within in
+        absurd (omega arith)),
+  );
 }

@@ -1,5 +1,6 @@
 -- What one more tick makes of the instances and the probes.
-use Rattle.std.proofs.Common.{◌≡◌, inl, inr, ℕ, zero, suc, ◌-◌, ◌<◌, Bool, true, false, List, [], ◌∷◌, ◌++◌, length, take, drop, Option, Some, None, refl, subst, sym, ◌∙◌, arith}
+use Rattle.std.proofs.Common.{◌≡◌, inl, inr, ℕ, zero, suc, ◌-◌, ◌<◌, Bool, true, false, List, [], ◌∷◌, ◌++◌, length}
+use Rattle.std.proofs.Common.{take, drop, Option, Some, None, refl, subst, sym, ◌∙◌, arith}
 use Rattle.std.specs.Prelude.{◌↔◌, IsSome, IsSomeAnd, IfSome, IsTrue, is_some}
 use Rattle.std.proofs.lemmas.List.{take-append-drop}
 use Rattle.histories.specs.Histories.{IsSo}
@@ -25,29 +26,37 @@ use Rattle.containers.specs.Container.{IsFollowing}
 use Rattle.containers.specs.Step.{ticks_at, IsTaken, AreVerdictsOf}
 use Rattle.containers.proofs.ProbedLemmas.{runs_at, start_of}
 use Rattle.containers.proofs.ViewLemmas.{seen_runs}
-use Rattle.containers.proofs.TickLemmas.{listing, long, onto, onto_at, last_place, seen_now, newest_listed, newest_now, running_now, start_cases}
+use Rattle.containers.proofs.TickLemmas.{listing, long, onto, onto_at, last_place, seen_now, newest_listed}
+use Rattle.containers.proofs.TickLemmas.{newest_now, running_now, start_cases}
 
 -- an instance to which the last tick belongs is the newest
-pub belongs_newest : (h : List ContainerTick) (d : Differ) (a : ℕ) → IsDifferOf (listings h) d → BelongsTo a h → IsNewest (listings h) a
+pub belongs_newest : (h : List ContainerTick) (d : Differ) (a : ℕ) → IsDifferOf (listings h) d → BelongsTo a h
+    → IsNewest (listings h) a
 belongs_newest h d a is b =
     let P : ℕ → Type 0 = λ t. Listed (listings h) a t in
     let e : length h - 1 ≡ length (listings h) - 1 = omega (arith, long h) in
     newest_listed (listings h) d a is (subst P e b.listed)
 
-pub belongs_listed : (h : List ContainerTick) (x : ContainerTick) (a : ℕ) → BelongsTo a (h ++ x ∷ []) → IsSomeAnd x.entry.seen (IsOf a)
-belongs_listed h x a b = let P : ℕ → Type 0 = λ t. Listed (listings (h ++ x ∷ [])) a t in (seen_now (IsOf a) h x).0 (subst P (last_place h x) b.listed)
+pub belongs_listed : (h : List ContainerTick) (x : ContainerTick) (a : ℕ) → BelongsTo a (h ++ x ∷ [])
+    → IsSomeAnd x.entry.seen (IsOf a)
+belongs_listed h x a b = let P : ℕ → Type 0 = λ t. Listed (listings (h ++ x ∷ [])) a t in
+    (seen_now (IsOf a) h x).0 (subst P (last_place h x) b.listed)
 
-pub belongs_now : (h : List ContainerTick) (x : ContainerTick) (a : ℕ) → IsSomeAnd x.entry.seen (IsOf a) → IsState (listings (h ++ x ∷ [])) a Running → BelongsTo a (h ++ x ∷ [])
+pub belongs_now : (h : List ContainerTick) (x : ContainerTick) (a : ℕ) → IsSomeAnd x.entry.seen (IsOf a)
+    → IsState (listings (h ++ x ∷ [])) a Running → BelongsTo a (h ++ x ∷ [])
 belongs_now h x a q runs = record {
-  listed = let P : ℕ → Type 0 = λ t. Listed (listings (h ++ x ∷ [])) a t in subst P (sym (last_place h x)) ((seen_now (IsOf a) h x).1 q);
+  listed = let P : ℕ → Type 0 = λ t. Listed (listings (h ++ x ∷ [])) a t in subst P (sym (last_place h x))
+      ((seen_now (IsOf a) h x).1 q);
   runs = runs;
 }
 
 -- one that is listed as running belongs to the tick
-pub start_belongs : (h : List ContainerTick) (x : ContainerTick) (d : Differ) (a : ℕ) → IsDifferOf (listings h) d → DifferAccepts d x.entry.seen → IsSomeAnd x.entry.seen (IsOfAs a Running)
+pub start_belongs : (h : List ContainerTick) (x : ContainerTick) (d : Differ) (a : ℕ) → IsDifferOf (listings h) d
+    → DifferAccepts d x.entry.seen → IsSomeAnd x.entry.seen (IsOfAs a Running)
     → BelongsTo a (h ++ x ∷ [])
 start_belongs h x d a is accepts q =
-    belongs_now h x a (of_weaker a Running x.entry.seen q) (onto (λ k. IsState k a Running) h x (running_now (listings h) d (listing x) a is accepts q))
+    belongs_now h x a (of_weaker a Running x.entry.seen q)
+    (onto (λ k. IsState k a Running) h x (running_now (listings h) d (listing x) a is accepts q))
 
 pub one_listed : (o : Option Seen) (a b : ℕ) → IsSomeAnd o (IsOf a) → IsSomeAnd o (IsOf b) → a ≡ b
 one_listed None a b q r = absurd q
@@ -66,8 +75,10 @@ listed_one None e = absurd (cc)
 listed_one (Some s) e = (s.attempt, refl)
 
 -- whether the tick belongs to an instance
-pub takes_is : (h : List ContainerTick) (x : ContainerTick) (d : Differ) (o : Option Seen) (b : Bool) → IsDifferOf (listings (h ++ x ∷ [])) d → IsNewestSeen (listings (h ++ x ∷ [])) o
-    → (IsTrue b ↔ (IsSome x.entry.seen × IsSomeAnd o (λ s. s.state ≡ Running))) → (IsTrue b ↔ ((a : ℕ) × BelongsTo a (h ++ x ∷ [])))
+pub takes_is : (h : List ContainerTick) (x : ContainerTick) (d : Differ) (o : Option Seen) (b : Bool)
+    → IsDifferOf (listings (h ++ x ∷ [])) d → IsNewestSeen (listings (h ++ x ∷ [])) o
+    → (IsTrue b ↔ (IsSome x.entry.seen × IsSomeAnd o (λ s. s.state ≡ Running)))
+    → (IsTrue b ↔ ((a : ℕ) × BelongsTo a (h ++ x ∷ [])))
 takes_is h x d o b is newest iff =
     let k = listings (h ++ x ∷ []) in (
       (λ e.
@@ -84,33 +95,39 @@ takes_is h x d o b is newest iff =
     )
 
 -- what is listed stays so, whatever is recorded later
-seen_stays : (Q : Seen → Type 0) (h later : List ContainerTick) (t : ℕ) → IsSomeAnd (seen_at (listings h) t) Q → IsSomeAnd (seen_at (listings (h ++ later)) t) Q
+seen_stays : (Q : Seen → Type 0) (h later : List ContainerTick) (t : ℕ) → IsSomeAnd (seen_at (listings h) t) Q
+    → IsSomeAnd (seen_at (listings (h ++ later)) t) Q
 seen_stays Q [] later t q = absurd q
 seen_stays Q (y ∷ h) later zero q = q
 seen_stays Q (y ∷ h) later (suc t) q = seen_stays Q h later t q
 
 -- before its start no tick belongs to an instance
-pub none_before_start : (h : List ContainerTick) (a : ℕ) → ((u : ℕ) → ListedAs (listings h) a Running u → ⊥) → AreTicksOf h a []
+pub none_before_start : (h : List ContainerTick) (a : ℕ) → ((u : ℕ) → ListedAs (listings h) a Running u → ⊥)
+    → AreTicksOf h a []
 none_before_start h a none = picked_none _ _ (λ t lt s. absurd (never t s))
   where
     never : (t : ℕ) → IsSo (BelongsTo a) h t → ⊥
     never t s =
         let r = runs_at (listings (take (suc t) h)) a s.so.runs in
         let P : List ContainerTick → Type 0 = λ k. ListedAs (listings k) a Running r.0 in
-        none r.0 (subst P (take-append-drop (suc t) h) (seen_stays (IsOfAs a Running) (take (suc t) h) (drop (suc t) h) r.0 r.1))
+        none r.0 (subst P (take-append-drop (suc t) h)
+        (seen_stays (IsOfAs a Running) (take (suc t) h) (drop (suc t) h) r.0 r.1))
 
 -- the newest of all ticks was so before, if it was listed
-pub newest_before : (h : List ContainerTick) (x : ContainerTick) (a u : ℕ) → IsNewest (listings (h ++ x ∷ [])) a → Listed (listings h) a u → IsNewest (listings h) a
+pub newest_before : (h : List ContainerTick) (x : ContainerTick) (a u : ℕ) → IsNewest (listings (h ++ x ∷ [])) a
+    → Listed (listings h) a u → IsNewest (listings h) a
 newest_before h x a u n l = record {
   listed = (u, l);
-  greatest = λ b t m. n.greatest b t (onto (λ k. Listed k b t) h x ((grows_seen (IsOf b) (listings h) (listing x)).old t m));
+  greatest = λ b t m. n.greatest b t
+      (onto (λ k. Listed k b t) h x ((grows_seen (IsOf b) (listings h) (listing x)).old t m));
 }
 
 start_listed : (h : List ContainerTick) (a start : ℕ) → StartsAt h a start → (u : ℕ) × Listed (listings h) a u
 start_listed h a start s = (s.0, of_weaker a Running (seen_at (listings h) s.0) s.1.holds)
 
 -- the start that a tick's changes give is at it
-start_given : (h : List ContainerTick) (x : ContainerTick) (changes : Changes) → AreChanges (listings (h ++ x ∷ [])) (length h) changes → IsSome changes.started
+start_given : (h : List ContainerTick) (x : ContainerTick) (changes : Changes) → AreChanges (listings (h ++ x ∷ []))
+    (length h) changes → IsSome changes.started
     → (a : ℕ) × IsSomeAnd x.entry.seen (IsOfAs a Running) × IsStart (listings (h ++ x ∷ [])) a (length h)
 start_given h x changes are some =
     let w = which changes.started some in
@@ -118,7 +135,8 @@ start_given h x changes are some =
     (w.0, (seen_now (IsOfAs w.0 Running) h x).0 s.holds, s)
 
 -- an instance that had started does not start
-not_again : (h : List ContainerTick) (x : ContainerTick) (a start : ℕ) → StartsAt h a start → IsStart (listings (h ++ x ∷ [])) a (length h) → ⊥
+not_again : (h : List ContainerTick) (x : ContainerTick) (a start : ℕ) → StartsAt h a start
+    → IsStart (listings (h ++ x ∷ [])) a (length h) → ⊥
 not_again h x a start (t, f, e) s =
     let g = grows_seen (IsOfAs a Running) (listings h) (listing x) in
     let lt : t < length (listings h) = g.below t f.holds in
@@ -130,9 +148,12 @@ pub record IsBegun (spec : ContainerSpec) (x : ContainerTick) (changes : Changes
   pub idle : (IsSome changes.started → ⊥) → new ≡ old
 
 -- the instance to which the tick belongs
-pub taken : (spec : ContainerSpec) (h : List ContainerTick) (x : ContainerTick) (c : Container) (d : Differ) (set : ProbeSet) (changes : Changes) → IsFollowing spec h c
-    → IsDifferOf (listings (h ++ x ∷ [])) d → AreChanges (listings (h ++ x ∷ [])) (length h) changes → IsBegun spec x changes c.probes set
-    → (a : ℕ) → BelongsTo a (h ++ x ∷ []) → (start : ℕ) × (ticks : List ProbeTick) × IsTaken h x a start ticks × IsProbeSetOf spec.probes start ticks set
+pub taken : (spec : ContainerSpec) (h : List ContainerTick) (x : ContainerTick) (c : Container) (d : Differ)
+    (set : ProbeSet) (changes : Changes) → IsFollowing spec h c
+    → IsDifferOf (listings (h ++ x ∷ [])) d → AreChanges (listings (h ++ x ∷ [])) (length h) changes
+    → IsBegun spec x changes c.probes set
+    → (a : ℕ) → BelongsTo a (h ++ x ∷ []) → (start : ℕ) × (ticks : List ProbeTick) × IsTaken h x a start ticks
+    × IsProbeSetOf spec.probes start ticks set
 taken spec h x c d set changes is after are begun a b =
     let newest = belongs_newest (h ++ x ∷ []) d a after b in
     let s = start_of (h ++ x ∷ []) d a after newest b.runs in
@@ -142,13 +163,21 @@ taken spec h x c d set changes is after are begun a b =
           let f = is.probed a s.0 (newest_before h x a l.0 newest l.1) old in
           let none : IsSome changes.started → ⊥ = λ some.
           (let w = start_given h x changes are some in
-          let same : w.0 ≡ a = one_listed x.entry.seen w.0 a (of_weaker w.0 Running x.entry.seen w.1) (belongs_listed h x a b) in
+          let same : w.0 ≡ a = one_listed x.entry.seen w.0 a (of_weaker w.0 Running x.entry.seen w.1)
+          (belongs_listed h x a b) in
           let P : ℕ → Type 0 = λ k. IsStart (listings (h ++ x ∷ [])) k (length h) in
           not_again h x a s.0 old (subst P same w.2)) in
           let Q : ProbeSet → Type 0 = λ p. IsProbeSetOf spec.probes s.0 f.ticks p in (
             s.0,
             f.ticks,
-            record { belongs = b; starts = s.1; before = f.are_ticks; after = so_picked_in (BelongsTo a) results_of h x f.ticks f.are_ticks b; begun = inl old },
+            record {
+              belongs = b;
+              starts = s.1;
+              before = f.are_ticks;
+              after = so_picked_in (BelongsTo a) results_of h
+                  x f.ticks f.are_ticks b;
+              begun = inl old;
+            },
             subst Q (sym (begun.idle none)) f.followed,
           )
       | inr w ↦
@@ -160,22 +189,34 @@ taken spec h x c d set changes is after are begun a b =
           let none = none_before_start h a w.2 in (
             s.0,
             [],
-            record { belongs = b; starts = s.1; before = none; after = so_picked_in (BelongsTo a) results_of h x [] none b; begun = inr refl },
+            record {
+              belongs = b;
+              starts = s.1;
+              before = none;
+              after = so_picked_in (BelongsTo a) results_of h x []
+                  none b;
+              begun = inr refl;
+            },
             subst P (sym w.0) (begun.begins (rw given refl) is.follows),
           )
     ]
 
 -- where the tick belongs to none, none starts
-none_starts : (spec : ContainerSpec) (h : List ContainerTick) (x : ContainerTick) (c : Container) (changes : Changes) → IsFollowing spec h c → DifferAccepts c.differ x.entry.seen
-    → AreChanges (listings (h ++ x ∷ [])) (length h) changes → ((a : ℕ) → BelongsTo a (h ++ x ∷ []) → ⊥) → IsSome changes.started → ⊥
+none_starts : (spec : ContainerSpec) (h : List ContainerTick) (x : ContainerTick) (c : Container) (changes : Changes)
+    → IsFollowing spec h c → DifferAccepts c.differ x.entry.seen
+    → AreChanges (listings (h ++ x ∷ [])) (length h) changes → ((a : ℕ) → BelongsTo a (h ++ x ∷ []) → ⊥)
+    → IsSome changes.started → ⊥
 none_starts spec h x c changes is accepts are none some =
     let w = start_given h x changes are some in none w.0 (start_belongs h x c.differ w.0 is.differ accepts w.1)
 
 -- the container after the tick, whose results were handed on where it belongs to an instance
-pub follows_more : (spec : ContainerSpec) (h : List ContainerTick) (x : ContainerTick) (c after : Container) (set : ProbeSet) (changes : Changes) (takes : Bool) → IsFollowing spec h c
-    → DifferAccepts c.differ x.entry.seen → IsDifferOf (listings (h ++ x ∷ [])) after.differ → AreChanges (listings (h ++ x ∷ [])) (length h) changes
+pub follows_more : (spec : ContainerSpec) (h : List ContainerTick) (x : ContainerTick) (c after : Container)
+    (set : ProbeSet) (changes : Changes) (takes : Bool) → IsFollowing spec h c
+    → DifferAccepts c.differ x.entry.seen → IsDifferOf (listings (h ++ x ∷ [])) after.differ
+    → AreChanges (listings (h ++ x ∷ [])) (length h) changes
     → IsBegun spec x changes c.probes set → after.role ≡ c.role → (IsTrue takes ↔ ((a : ℕ) × BelongsTo a (h ++ x ∷ [])))
-    → ((start : ℕ) (ticks : List ProbeTick) → IsProbeSetOf spec.probes start ticks set → IsProbeSetOf spec.probes start (ticks ++ ticks_at takes x.moment x.entry.results) after.probes)
+    → ((start : ℕ) (ticks : List ProbeTick) → IsProbeSetOf spec.probes start ticks set
+    → IsProbeSetOf spec.probes start (ticks ++ ticks_at takes x.moment x.entry.results) after.probes)
     → ((IsTrue takes → ⊥) → after.probes ≡ set)
     → IsFollowing spec (h ++ x ∷ []) after
 follows_more spec h x c after set changes true is accepts differ are begun role iff state idle =
@@ -191,14 +232,16 @@ follows_more spec h x c after set changes true is accepts differ are begun role 
           let same : a ≡ e = IsNewest-unique _ a e (belongs_newest (h ++ x ∷ []) after.differ a differ b.1) n in
           let P : ℕ → Type 0 = λ k. AreTicksOf (h ++ x ∷ []) k (t.1 ++ results_of x ∷ []) in
           let S : ℕ → Type 0 = λ k. StartsAt (h ++ x ∷ []) k t.0 in
-          let one : Some t.0 ≡ Some start = IsFirstMoment-unique _ _ (Some t.0) (Some start) (subst S same t.2.starts) starts in
+          let one : Some t.0 ≡ Some start = IsFirstMoment-unique _ _ (Some t.0) (Some start) (subst S same t.2.starts)
+          starts in
           let one' : t.0 ≡ start = cc in
           let Q : ℕ → Type 0 = λ m. IsProbeSetOf spec.probes m (t.1 ++ results_of x ∷ []) after.probes in
           record { ticks = t.1 ++ results_of x ∷ []; are_ticks = subst P same t.2.after; followed = subst Q one' now };
     }
 follows_more spec h x c after set changes false is accepts differ are begun role iff state idle =
     let none : (a : ℕ) → BelongsTo a (h ++ x ∷ []) → ⊥ = λ a b. (let e : IsTrue false = iff.1 (a, b) in cc) in
-    let same : after.probes ≡ c.probes = idle (λ e. cc) ∙ begun.idle (none_starts spec h x c changes is accepts are none) in
+    let same : after.probes ≡ c.probes = idle (λ e. cc)
+    ∙ begun.idle (none_starts spec h x c changes is accepts are none) in
     let P : ProbeSet → Type 0 = λ p. Follows p spec.probes in
     record {
       role = role ∙ is.role;
@@ -209,16 +252,24 @@ follows_more spec h x c after set changes false is accepts differ are begun role
             let l = start_listed h a start old in
             let f = is.probed a start (newest_before h x a l.0 n l.1) old in
             let Q : ProbeSet → Type 0 = λ p. IsProbeSetOf spec.probes start f.ticks p in
-            record { ticks = f.ticks; are_ticks = so_picked_out (BelongsTo a) results_of h x f.ticks f.are_ticks (none a); followed = subst Q (sym same) f.followed }
+            record {
+              ticks = f.ticks;
+              are_ticks = so_picked_out (BelongsTo a) results_of h x f.ticks f.are_ticks
+                  (none a);
+              followed = subst Q (sym same) f.followed;
+            }
         | inr w ↦ absurd (none a (start_belongs h x c.differ a is.differ accepts w.1))
       ];
     }
 
 -- and the tick's verdicts
-pub verdicts_are : (spec : ContainerSpec) (h : List ContainerTick) (x : ContainerTick) (c : Container) (d : Differ) (set : ProbeSet) (changes : Changes) (takes : Bool) (o : Option Verdicts)
-    → IsFollowing spec h c → IsDifferOf (listings (h ++ x ∷ [])) d → AreChanges (listings (h ++ x ∷ [])) (length h) changes
+pub verdicts_are : (spec : ContainerSpec) (h : List ContainerTick) (x : ContainerTick) (c : Container) (d : Differ)
+    (set : ProbeSet) (changes : Changes) (takes : Bool) (o : Option Verdicts)
+    → IsFollowing spec h c → IsDifferOf (listings (h ++ x ∷ [])) d → AreChanges (listings (h ++ x ∷ [])) (length h)
+    changes
     → IsBegun spec x changes c.probes set → (IsTrue takes ↔ ((a : ℕ) × BelongsTo a (h ++ x ∷ [])))
-    → ((start : ℕ) (ticks : List ProbeTick) → IsProbeSetOf spec.probes start ticks set → IfSome o (λ v. AreVerdicts spec.probes start (ticks ++ results_of x ∷ []) (length ticks) v))
+    → ((start : ℕ) (ticks : List ProbeTick) → IsProbeSetOf spec.probes start ticks set
+    → IfSome o (λ v. AreVerdicts spec.probes start (ticks ++ results_of x ∷ []) (length ticks) v))
     → (HasBegun set → IsTrue takes → IsSome o) → ((IsTrue takes → ⊥) → o ≡ None)
     → AreVerdictsOf spec h x o
 verdicts_are spec h x c d set changes true None is differ are begun iff verdicts some none =
@@ -231,11 +282,14 @@ verdicts_are spec h x c d set changes true (Some v) is differ are begun iff verd
     (is.follows.in_range, (b.0, t.0, t.1, t.2, verdicts t.0 t.1 t.3))
 verdicts_are spec h x c d set changes false None is differ are begun iff verdicts some none =
     (is.follows.in_range, (λ a b. let e : IsTrue false = iff.1 (a, b) in cc))
-verdicts_are spec h x c d set changes false (Some v) is differ are begun iff verdicts some none = absurd (let e : Some v ≡ None = none (λ e. cc) in cc)
+verdicts_are spec h x c d set changes false (Some v) is differ are begun iff verdicts some none =
+    absurd (let e : Some v ≡ None = none (λ e. cc) in cc)
 
 -- the probe set before the results, by whether an instance starts
-pub begun_is : (spec : ContainerSpec) (x : ContainerTick) (changes : Changes) (old new : ProbeSet) (starts : Bool) → starts ≡ is_some changes.started
-    → (IsTrue starts → Follows old spec.probes → IsProbeSetOf spec.probes x.moment [] new) → ((IsTrue starts → ⊥) → new ≡ old) → IsBegun spec x changes old new
+pub begun_is : (spec : ContainerSpec) (x : ContainerTick) (changes : Changes) (old new : ProbeSet) (starts : Bool)
+    → starts ≡ is_some changes.started
+    → (IsTrue starts → Follows old spec.probes → IsProbeSetOf spec.probes x.moment [] new)
+    → ((IsTrue starts → ⊥) → new ≡ old) → IsBegun spec x changes old new
 begun_is spec x changes old new starts is begins idle = record {
   begins = λ some f. begins (is ∙ some) f;
   idle = λ none. idle (λ e. none (sym is ∙ e));

@@ -1,5 +1,6 @@
 -- The laws of a container.
-use Rattle.std.proofs.Common.{◌≡◌, inl, inr, ℕ, suc, ◌≤◌, List, ◌++◌, map, take, drop, Option, Some, None, refl, subst, sym, arith}
+use Rattle.std.proofs.Common.{◌≡◌, inl, inr, ℕ, suc, ◌≤◌, List, ◌++◌, map, take, drop, Option, Some, None, refl}
+use Rattle.std.proofs.Common.{subst, sym, arith}
 use Rattle.std.proofs.lemmas.Bool.{cases_lt}
 use Rattle.std.proofs.lemmas.List.{take-append-drop, take-take}
 use Rattle.histories.specs.Histories.{IsSo, ComesTrue}
@@ -26,7 +27,8 @@ pub one_list_of_exits : OneListOfExits
 one_list_of_exits = exits_one
 
 pub one_list_of_results : OneListOfResults
-one_list_of_results h a ticks others are are' = picked_one (IsSo (BelongsTo a) h) (map results_of h) ticks others are are'
+one_list_of_results h a ticks others are are' = picked_one (IsSo (BelongsTo a) h) (map results_of h) ticks others are
+    are'
 
 pub restarts_the_newest : RestartsTheNewest
 restarts_the_newest policy greatest spec h t a (b, e, to, due) =
@@ -35,17 +37,21 @@ restarts_the_newest policy greatest spec h t a (b, e, to, due) =
     (newest.newest, (newest.exited.0, newest.exited.1))
 
 -- a kill order stands at each later tick at which something is said of the instance
-stands : (spec : ContainerSpec) (h later : List ContainerTick) (a : ℕ) (cause other : Cause) → AreInRange spec.probes → IsKillOrdered spec cause a h
+stands : (spec : ContainerSpec) (h later : List ContainerTick) (a : ℕ) (cause other : Cause) → AreInRange spec.probes
+    → IsKillOrdered spec cause a h
     → (s : IsKillOrdered spec other a (h ++ later)) → IsOrderedBy spec.probes s.start cause s.ticks
 stands spec h later a cause other range k s =
     let begins = start_later h later a k.start k.starts in
     let one : Some k.start ≡ Some s.start = IsFirstMoment-unique _ _ (Some k.start) (Some s.start) begins s.starts in
     let same : k.start ≡ s.start = cc in
     let w = so_picked_front (BelongsTo a) results_of h later s.ticks k.ticks s.are_ticks k.are_ticks in
-    let first : IsOrderedBy spec.probes s.start cause k.ticks = subst (λ (m : ℕ). IsOrderedBy spec.probes m cause k.ticks) same k.says in
-    subst (λ (ts : List ProbeTick). IsOrderedBy spec.probes s.start cause ts) (sym w.1) ((kill_lasts spec.probes s.start cause range).more k.ticks w.0 first)
+    let first : IsOrderedBy spec.probes s.start cause k.ticks =
+    subst (λ (m : ℕ). IsOrderedBy spec.probes m cause k.ticks) same k.says in
+    subst (λ (ts : List ProbeTick). IsOrderedBy spec.probes s.start cause ts) (sym w.1)
+    ((kill_lasts spec.probes s.start cause range).more k.ticks w.0 first)
 
-causes_agree : (spec : ContainerSpec) (start : ℕ) (ticks : List ProbeTick) (cause other : Cause) → AreInRange spec.probes → IsOrderedBy spec.probes start cause ticks
+causes_agree : (spec : ContainerSpec) (start : ℕ) (ticks : List ProbeTick) (cause other : Cause)
+    → AreInRange spec.probes → IsOrderedBy spec.probes start cause ticks
     → IsOrderedBy spec.probes start other ticks → cause ≡ other
 causes_agree spec start ticks Startup Startup range k l = refl
 causes_agree spec start ticks Liveness Liveness range k l = refl
@@ -53,15 +59,20 @@ causes_agree spec start ticks Startup Liveness range k l = absurd (one_cause spe
 causes_agree spec start ticks Liveness Startup range k l = absurd (one_cause spec.probes start ticks range l k)
 
 -- of two orders the causes agree
-ordered : (spec : ContainerSpec) (h : List ContainerTick) (a t u : ℕ) (cause other : Cause) → AreInRange spec.probes → t ≤ u
+ordered : (spec : ContainerSpec) (h : List ContainerTick) (a t u : ℕ) (cause other : Cause) → AreInRange spec.probes
+    → t ≤ u
     → IsSo (IsKillOrdered spec cause a) h t → IsSo (IsKillOrdered spec other a) h u → cause ≡ other
 ordered spec h a t u cause other range le k l =
-    let whole : take (suc t) (take (suc u) h) ++ drop (suc t) (take (suc u) h) ≡ take (suc u) h = take-append-drop (suc t) (take (suc u) h) in
+    let whole : take (suc t) (take (suc u) h) ++ drop (suc t) (take (suc u) h) ≡ take (suc u) h =
+    take-append-drop (suc t) (take (suc u) h) in
     let first : take (suc t) (take (suc u) h) ≡ take (suc t) h = take-take (suc t) (suc u) h (omega arith) in
-    let early : IsKillOrdered spec cause a (take (suc t) (take (suc u) h)) = subst (λ (g : List ContainerTick). IsKillOrdered spec cause a g) (sym first) k.so in
-    let late : IsKillOrdered spec other a (take (suc t) (take (suc u) h) ++ drop (suc t) (take (suc u) h)) = subst (λ (g : List ContainerTick). IsKillOrdered spec other a g) (sym whole) l.so in
+    let early : IsKillOrdered spec cause a (take (suc t) (take (suc u) h)) =
+    subst (λ (g : List ContainerTick). IsKillOrdered spec cause a g) (sym first) k.so in
+    let late : IsKillOrdered spec other a (take (suc t) (take (suc u) h) ++ drop (suc t) (take (suc u) h)) =
+    subst (λ (g : List ContainerTick). IsKillOrdered spec other a g) (sym whole) l.so in
     causes_agree spec late.start late.ticks cause other range
-    (stands spec (take (suc t) (take (suc u) h)) (drop (suc t) (take (suc u) h)) a cause other range early late) late.says
+    (stands spec (take (suc t) (take (suc u) h)) (drop (suc t) (take (suc u) h)) a cause other range early late)
+    late.says
 
 either_way : (spec : ContainerSpec) (h : List ContainerTick) (a t u : ℕ) (cause other : Cause) → AreInRange spec.probes
     → IsSo (IsKillOrdered spec cause a) h t → IsSo (IsKillOrdered spec other a) h u → cause ≡ other
@@ -70,11 +81,13 @@ either_way spec h a t u cause other range k l = elim (cases_lt u t) [
   | inr ge ↦ ordered spec h a t u cause other range (omega arith) k l
 ]
 
-killed_of : (spec : ContainerSpec) (h : List ContainerTick) (t a : ℕ) (cause : Cause) → IsKilled spec h t (Kill a cause) → ComesTrue (IsKillOrdered spec cause a) h t
+killed_of : (spec : ContainerSpec) (h : List ContainerTick) (t a : ℕ) (cause : Cause)
+    → IsKilled spec h t (Kill a cause) → ComesTrue (IsKillOrdered spec cause a) h t
 killed_of spec h t a cause (b, other, e, f) =
     let same : a ≡ b = cc in
     let same' : cause ≡ other = cc in
-    subst (λ (d : Cause). ComesTrue (IsKillOrdered spec d a) h t) (sym same') (subst (λ (c : ℕ). ComesTrue (IsKillOrdered spec other c) h t) (sym same) f)
+    subst (λ (d : Cause). ComesTrue (IsKillOrdered spec d a) h t) (sym same')
+    (subst (λ (c : ℕ). ComesTrue (IsKillOrdered spec other c) h t) (sym same) f)
 
 pub killed_once : KilledOnce
 killed_once spec h t u a cause other range killed killed' =
@@ -90,7 +103,8 @@ event_one P None None is is' = refl
 event_one P None (Some w) is is' = (is w).1 ((is' w).0 refl)
 event_one P (Some w) p is is' = sym ((is' w).1 ((is w).0 refl))
 
-events_same : (e f : ContainerEvents) → e.gone ≡ f.gone → e.started ≡ f.started → e.died ≡ f.died → e.passed ≡ f.passed → e.kill ≡ f.kill
+events_same : (e f : ContainerEvents) → e.gone ≡ f.gone → e.started ≡ f.started → e.died ≡ f.died
+    → e.passed ≡ f.passed → e.kill ≡ f.kill
     → e.readiness ≡ f.readiness → e.backoff ≡ f.backoff → e.restart ≡ f.restart → e ≡ f
 events_same e f gone started died passed kill readiness backoff restart =
     let made : (a b c d i j k l : Option What) → ContainerEvents = λ a b c d i j k l.
@@ -103,10 +117,13 @@ events_same e f gone started died passed kill readiness backoff restart =
     let J : Option What → Type 0 = λ o. e ≡ made f.gone f.started f.died f.passed f.kill o e.backoff e.restart in
     let K : Option What → Type 0 = λ o. e ≡ made f.gone f.started f.died f.passed f.kill f.readiness o e.restart in
     let L : Option What → Type 0 = λ o. e ≡ made f.gone f.started f.died f.passed f.kill f.readiness f.backoff o in
-    subst L restart (subst K backoff (subst J readiness (subst I kill (subst D passed (subst C died (subst B started (subst A gone refl)))))))
+    subst L restart (subst K backoff
+    (subst J readiness (subst I kill (subst D passed (subst C died (subst B started (subst A gone refl)))))))
 
 pub one_list_of_events : OneListOfEvents
 one_list_of_events policy greatest spec h t e f are are' =
-    events_same e f (event_one _ _ _ are.gone are'.gone) (event_one _ _ _ are.started are'.started) (event_one _ _ _ are.died are'.died)
-    (event_one _ _ _ are.passed are'.passed) (event_one _ _ _ are.kill are'.kill) (event_one _ _ _ are.readiness are'.readiness)
+    events_same e f (event_one _ _ _ are.gone are'.gone) (event_one _ _ _ are.started are'.started)
+    (event_one _ _ _ are.died are'.died)
+    (event_one _ _ _ are.passed are'.passed) (event_one _ _ _ are.kill are'.kill)
+    (event_one _ _ _ are.readiness are'.readiness)
     (event_one _ _ _ are.backoff are'.backoff) (event_one _ _ _ are.restart are'.restart)

@@ -1,5 +1,6 @@
 -- Lists of attempts that rise, and what they contain.
-use Rattle.std.proofs.Common.{◌≡◌, ◌⊎◌, inl, inr, ℕ, zero, suc, ◌<◌, List, [], ◌∷◌, ◌++◌, Some, refl, subst, ap, ◌∙◌, arith}
+use Rattle.std.proofs.Common.{◌≡◌, ◌⊎◌, inl, inr, ℕ, zero, suc, ◌<◌, List, [], ◌∷◌, ◌++◌, Some, refl, subst, ap, ◌∙◌}
+use Rattle.std.proofs.Common.{arith}
 use Rattle.std.specs.Prelude.{◌↔◌, Contains, slice_get}
 use Rattle.std.proofs.lemmas.Bool.{cases_order}
 use Rattle.containers.specs.Exits.{IsRisingList}
@@ -37,7 +38,8 @@ contains_cases (x ∷ xs) a b c = elim (contains_split x b (xs ++ a ∷ []) c) [
 
 get_contains : (xs : List ℕ) (i b : ℕ) → slice_get xs i ≡ Some b → Contains xs b
 get_contains [] i b e = absurd (cc)
-get_contains (x ∷ xs) zero b e = let same : x ≡ b = cc in let P : ℕ → Type 0 = λ y. Contains (x ∷ xs) y in subst P same (contains_here x xs)
+get_contains (x ∷ xs) zero b e = let same : x ≡ b = cc in let P : ℕ → Type 0 = λ y. Contains (x ∷ xs) y in
+    subst P same (contains_here x xs)
 get_contains (x ∷ xs) (suc i) b e = contains_there x b xs (get_contains xs i b e)
 
 contains_get : (xs : List ℕ) (b : ℕ) → Contains xs b → (i : ℕ) × (slice_get xs i ≡ Some b)
@@ -56,12 +58,14 @@ rising_tail x xs r i j a b lt e f = r (suc i) (suc j) a b (omega arith) e f
 
 rising_made : (x : ℕ) (xs : List ℕ) → ((b : ℕ) → Contains xs b → x < b) → IsRisingList xs → IsRisingList (x ∷ xs)
 rising_made x xs above r zero zero a b lt e f = absurd (omega arith)
-rising_made x xs above r zero (suc j) a b lt e f = let same : x ≡ a = cc in let less : x < b = above b (get_contains xs j b f) in omega arith
+rising_made x xs above r zero (suc j) a b lt e f = let same : x ≡ a = cc in let less : x < b =
+    above b (get_contains xs j b f) in omega arith
 rising_made x xs above r (suc i) zero a b lt e f = absurd (omega arith)
 rising_made x xs above r (suc i) (suc j) a b lt e f = r i j a b (omega arith) e f
 
 -- a greater one at the end
-pub rising_end : (xs : List ℕ) (a : ℕ) → IsRisingList xs → ((b : ℕ) → Contains xs b → b < a) → IsRisingList (xs ++ a ∷ [])
+pub rising_end : (xs : List ℕ) (a : ℕ) → IsRisingList xs → ((b : ℕ) → Contains xs b → b < a)
+    → IsRisingList (xs ++ a ∷ [])
 rising_end [] a r below = rising_made a [] (λ b c. absurd (contains_nothing b c)) r
 rising_end (x ∷ xs) a r below =
     rising_made x (xs ++ a ∷ []) (λ b c. elim (contains_cases xs a b c) [
@@ -70,7 +74,8 @@ rising_end (x ∷ xs) a r below =
     ]) (rising_end xs a (rising_tail x xs r) (λ b c. below b (contains_there x b xs c)))
 
 -- two rising lists that contain the same are the same
-pub rising_one : (xs ys : List ℕ) → IsRisingList xs → IsRisingList ys → ((b : ℕ) → (Contains xs b ↔ Contains ys b)) → xs ≡ ys
+pub rising_one : (xs ys : List ℕ) → IsRisingList xs → IsRisingList ys → ((b : ℕ) → (Contains xs b ↔ Contains ys b))
+    → xs ≡ ys
 rising_one [] [] r s same = refl
 rising_one [] (y ∷ ys) r s same = absurd (contains_nothing y ((same y).1 (contains_here y ys)))
 rising_one (x ∷ xs) [] r s same = absurd (contains_nothing x ((same x).0 (contains_here x xs)))

@@ -1,5 +1,6 @@
 -- Whether the newest instance is to be started again, and from when on.
-use Rattle.std.proofs.Common.{◌≡◌, ℕ, ℤ, ◌<◌, ◌≤◌, Bool, List, [], ◌∷◌, Option, Some, None, refl, subst, sym, ap, ◌∙◌, arith}
+use Rattle.std.proofs.Common.{◌≡◌, ℕ, ℤ, ◌<◌, ◌≤◌, Bool, List, [], ◌∷◌, Option, Some, None, refl, subst, sym, ap, ◌∙◌}
+use Rattle.std.proofs.Common.{arith}
 use Rattle.std.specs.Prelude.{◌↔◌, IsSome, IsSomeAnd, IfSome, IsTrue}
 use Rattle.histories.specs.Histories.{IsFirstMoment, last_moment}
 use Rattle.histories.proofs.First.{IsFirstMoment-unique}
@@ -25,8 +26,10 @@ wanted_code P None q = absurd q
 wanted_code P (Some code) q = (code, refl, q)
 
 -- by the newest instance and its code
-pub restarts_by : (policy : Policy) (spec : ContainerSpec) (h : List ContainerTick) (role : Role) (o : Option Seen) → role ≡ spec.role → IsNewestSeen (listings h) o → (a : ℕ)
-    → (IsSomeAnd o (λ s. (s.attempt ≡ a) × IsSomeAnd s.code (λ code. WantsRestart policy role code)) ↔ IsToRestart policy spec h a)
+pub restarts_by : (policy : Policy) (spec : ContainerSpec) (h : List ContainerTick) (role : Role) (o : Option Seen)
+    → role ≡ spec.role → IsNewestSeen (listings h) o → (a : ℕ)
+    → (IsSomeAnd o (λ s. (s.attempt ≡ a) × IsSomeAnd s.code (λ code. WantsRestart policy role code))
+    ↔ IsToRestart policy spec h a)
 restarts_by policy spec h role None same none a = (
   (λ q. absurd q),
   (λ t. absurd (none a t.newest.listed.0 t.newest.listed.1)),
@@ -37,7 +40,12 @@ restarts_by policy spec h role (Some s) same is a = (
       let P : ℕ → Type 0 = λ b. IsNewest (listings h) b in
       let Q : ℕ → Type 0 = λ b. IsExitCode (listings h) b w.0 in
       let R : Role → Type 0 = λ r. WantsRestart policy r w.0 in
-      record { newest = subst P q.0 is.newest; code = w.0; exited = subst Q q.0 (is.code w.0 w.1); wanted = subst R same w.2 }),
+      record {
+        newest = subst P q.0 is.newest;
+        code = w.0;
+        exited = subst Q q.0 (is.code w.0 w.1);
+        wanted = subst R same w.2;
+      }),
   (λ t.
       let e : s.code ≡ Some t.code = coded (listings h) (Some s) is t.code (a, t.newest, t.exited) in
       let P : Option ℤ → Type 0 = λ o. IsSomeAnd o (λ code. WantsRestart policy role code) in
@@ -48,24 +56,29 @@ restarts_by policy spec h role (Some s) same is a = (
 -- the exits of a container are one list
 exit_same : (k : List Tick) (a : ℕ) (e f : Exit) → IsExitOf k a e → IsExitOf k a f → e ≡ f
 exit_same k a e f is is' =
-    let m : Some e.moment ≡ Some f.moment = IsFirstMoment-unique k (Ends k a) (Some e.moment) (Some f.moment) is.moment is'.moment in
+    let m : Some e.moment ≡ Some f.moment = IsFirstMoment-unique k (Ends k a) (Some e.moment) (Some f.moment)
+    is.moment is'.moment in
     let m' : e.moment ≡ f.moment = cc in
-    let x : Some is.run.exit ≡ Some is'.run.exit = IsFirstMoment-unique k (Ends k a) (Some is.run.exit) (Some is'.run.exit) is.run.exits is'.run.exits in
+    let x : Some is.run.exit ≡ Some is'.run.exit = IsFirstMoment-unique k (Ends k a) (Some is.run.exit)
+    (Some is'.run.exit) is.run.exits is'.run.exits in
     let x' : is.run.exit ≡ is'.run.exit = cc in
-    let s : is.run.start ≡ is'.run.start = IsFirstMoment-unique k (ListedAs k a Running) is.run.start is'.run.start is.run.starts is'.run.starts in
+    let s : is.run.start ≡ is'.run.start = IsFirstMoment-unique k (ListedAs k a Running) is.run.start is'.run.start
+    is.run.starts is'.run.starts in
     let same : e.entry ≡ f.entry = is.run.lasts ∙ rw (s, x') (sym is'.run.lasts) in
     let P : ℕ → Type 0 = λ m. e ≡ record { moment = m; entry = e.entry } in
     let Q : ℕ → Type 0 = λ r. e ≡ record { moment = f.moment; entry = r } in
     subst Q same (subst P m' refl)
 
-exits_same : (k : List Tick) (attempts : List ℕ) (exits others : List Exit) → AreExitsOf k attempts exits → AreExitsOf k attempts others → exits ≡ others
+exits_same : (k : List Tick) (attempts : List ℕ) (exits others : List Exit) → AreExitsOf k attempts exits
+    → AreExitsOf k attempts others → exits ≡ others
 exits_same k [] [] [] are are' = refl
 exits_same k [] [] (f ∷ others) are are' = absurd are'
 exits_same k [] (e ∷ exits) others are are' = absurd are
 exits_same k (a ∷ attempts) [] others are are' = absurd are
 exits_same k (a ∷ attempts) (e ∷ exits) [] are are' = absurd are'
 exits_same k (a ∷ attempts) (e ∷ exits) (f ∷ others) are are' =
-    ap (λ x. x ∷ exits) (exit_same k a e f are.0 are'.0) ∙ ap (λ xs. f ∷ xs) (exits_same k attempts exits others are.1 are'.1)
+    ap (λ x. x ∷ exits) (exit_same k a e f are.0 are'.0) ∙ ap (λ xs. f ∷ xs)
+    (exits_same k attempts exits others are.1 are'.1)
 
 pub exits_one : (k : List Tick) (exits others : List Exit) → AreExits k exits → AreExits k others → exits ≡ others
 exits_one k exits others are are' =
@@ -75,7 +88,8 @@ exits_one k exits others are are' =
     exits_same k are'.attempts exits others (subst P same are.each) are'.each
 
 -- and so is the moment from which on the restart is due
-pub due_one : (greatest : ℕ) (exits : List Exit) (d e : ℕ) → IsDue greatest exits (Some d) → IsDue greatest exits (Some e) → d ≡ e
+pub due_one : (greatest : ℕ) (exits : List Exit) (d e : ℕ) → IsDue greatest exits (Some d)
+    → IsDue greatest exits (Some e) → d ≡ e
 due_one greatest exits d e (last, delay, l, is, s) (last', delay', l', is', s') =
     let both : Some last ≡ Some last' = sym l ∙ l' in
     let one : last ≡ last' = cc in
@@ -106,8 +120,10 @@ some_of None e = absurd (cc)
 some_of (Some x) e = (x, refl)
 
 -- the restart of one that has exited at the moment is put off
-pub puts_off_by : (policy : Policy) (spec : ContainerSpec) (h : List ContainerTick) (attempt exited_at : Option ℕ) (at : ℕ) (b : Bool)
-    → ((a : ℕ) → ((attempt ≡ Some a) ↔ IsToRestart policy spec h a)) → IsOfNewest (listings h) (λ a. IsFirstMoment (listings h) (Ends (listings h) a)) exited_at
+pub puts_off_by : (policy : Policy) (spec : ContainerSpec) (h : List ContainerTick) (attempt exited_at : Option ℕ)
+    (at : ℕ) (b : Bool)
+    → ((a : ℕ) → ((attempt ≡ Some a) ↔ IsToRestart policy spec h a))
+    → IsOfNewest (listings h) (λ a. IsFirstMoment (listings h) (Ends (listings h) a)) exited_at
     → (IsTrue b ↔ (IsSome attempt × (exited_at ≡ Some at)))
     → (IsTrue b ↔ ((a : ℕ) × IsToRestart policy spec h a × IsFirstMoment (listings h) (Ends (listings h) a) (Some at)))
 puts_off_by policy spec h attempt exited_at at b to of iff = (
@@ -120,5 +136,9 @@ puts_off_by policy spec h attempt exited_at at b to of iff = (
   (λ w.
       let e : attempt ≡ Some w.0 = (to w.0).1 w.1 in
       let P : Option ℕ → Type 0 = λ o. IsSome o in
-      iff.1 (subst P (sym e) refl, IsFirstMoment-unique (listings h) _ exited_at (Some at) (of.some w.0 w.1.newest) w.2)),
+      iff.1 (
+        subst P (sym e) refl,
+        IsFirstMoment-unique (listings h) _ exited_at (Some at) (of.some w.0 w.1.newest)
+            w.2,
+      )),
 )

@@ -1,5 +1,6 @@
 -- A container after one more tick, and the events of the tick.
-use Rattle.std.proofs.Common.{◌≡◌, ◌⊎◌, inl, inr, ℕ, ◌-◌, ◌<◌, Bool, true, false, List, [], ◌∷◌, ◌++◌, length, Option, Some, refl, subst, sym, ap, ◌∙◌, arith}
+use Rattle.std.proofs.Common.{◌≡◌, ◌⊎◌, inl, inr, ℕ, ◌-◌, ◌<◌, Bool, true, false, List, [], ◌∷◌, ◌++◌, length, Option}
+use Rattle.std.proofs.Common.{Some, refl, subst, sym, ap, ◌∙◌, arith}
 use Rattle.std.specs.Prelude.{◌↔◌, ◌||◌, IsSomeAnd, IfSome, IsTrue}
 use Rattle.histories.specs.Histories.{Recorded, moment_at, last_moment, EndsBefore, IsSo}
 use Rattle.histories.proofs.Growth.{grows_so}
@@ -30,13 +31,17 @@ use Rattle.containers.proofs.ComesLemmas.{passes_by, kill_by}
 pub last_listed : (h : List ContainerTick) → last_moment (listings h) ≡ last_moment h
 last_listed h =
     let e : length (listings h) - 1 ≡ length h - 1 = omega (arith, long h) in
-    ap (λ (t : ℕ). moment_at (listings h) t) e ∙ moment_at-project (λ (observed : ContainerObs). observed.seen) h (length h - 1)
+    ap (λ (t : ℕ). moment_at (listings h) t) e ∙ moment_at-project (λ (observed : ContainerObs). observed.seen) h
+    (length h - 1)
 
-pub ends_before : (h : List ContainerTick) (d : Differ) (moment : ℕ) → IsDifferOf (listings h) d → IfSome d.last_at (λ last. last < moment) → EndsBefore h moment
-ends_before h d moment is before = subst (λ (o : Option ℕ). IfSome o (λ last. last < moment)) (is.last_at ∙ last_listed h) before
+pub ends_before : (h : List ContainerTick) (d : Differ) (moment : ℕ) → IsDifferOf (listings h) d
+    → IfSome d.last_at (λ last. last < moment) → EndsBefore h moment
+ends_before h d moment is before = subst (λ (o : Option ℕ). IfSome o (λ last. last < moment))
+    (is.last_at ∙ last_listed h) before
 
 -- what a container follows are its role, its instances and its probes
-pub following_same : (spec : ContainerSpec) (h : List ContainerTick) (c after : Container) → after.role ≡ c.role → after.differ ≡ c.differ → after.probes ≡ c.probes
+pub following_same : (spec : ContainerSpec) (h : List ContainerTick) (c after : Container) → after.role ≡ c.role
+    → after.differ ≡ c.differ → after.probes ≡ c.probes
     → IsFollowing spec h c → IsFollowing spec h after
 following_same spec h c after role differ probes is = record {
   role = role ∙ is.role;
@@ -44,7 +49,11 @@ following_same spec h c after role differ probes is = record {
   follows = subst (λ (p : ProbeSet). Follows p spec.probes) (sym probes) is.follows;
   probed = λ a start n starts.
       let f = is.probed a start n starts in
-      record { ticks = f.ticks; are_ticks = f.are_ticks; followed = subst (λ (p : ProbeSet). IsProbeSetOf spec.probes start f.ticks p) (sym probes) f.followed };
+      record {
+        ticks = f.ticks;
+        are_ticks = f.are_ticks;
+        followed = subst (λ (p : ProbeSet). IsProbeSetOf spec.probes start f.ticks p) (sym probes) f.followed;
+      };
 }
 
 -- once it was started it always was
@@ -52,7 +61,8 @@ or_true : (a b : Bool) → (IsTrue (a || b) ↔ (IsTrue a ⊎ IsTrue b))
 or_true true b = ((λ e. inl e), (λ w. refl))
 or_true false b = ((λ e. inr e), (λ w. elim w [ inl e ↦ absurd (let x : IsTrue false = e in cc) | inr e ↦ e ]))
 
-was_more : {A : Type 0} (P : List (Recorded A) → Type 0) (h : List (Recorded A)) (x : Recorded A) (before now : Bool) → (IsTrue before ↔ ((t : ℕ) × IsSo P h t)) → (IsTrue now ↔ P (h ++ x ∷ []))
+was_more : {A : Type 0} (P : List (Recorded A) → Type 0) (h : List (Recorded A)) (x : Recorded A) (before now : Bool)
+    → (IsTrue before ↔ ((t : ℕ) × IsSo P h t)) → (IsTrue now ↔ P (h ++ x ∷ []))
     → (IsTrue (before || now) ↔ ((t : ℕ) × IsSo P (h ++ x ∷ []) t))
 was_more P h x before now was is =
     let g = grows_so P h x in
@@ -67,24 +77,36 @@ was_more P h x before now was is =
       ])),
     )
 
-pub state_more : (spec : ContainerSpec) (greatest : ℕ) (h : List ContainerTick) (x : ContainerTick) (before c : Container) (started : Bool) (delay : Option ℕ) → IsStateOf spec greatest h before
-    → IsBefore before x.moment → IsFollowing spec (h ++ x ∷ []) c → c.was_started ≡ before.was_started → AreCounted greatest h x c.backoff delay
+pub state_more : (spec : ContainerSpec) (greatest : ℕ) (h : List ContainerTick) (x : ContainerTick)
+    (before c : Container) (started : Bool) (delay : Option ℕ) → IsStateOf spec greatest h before
+    → IsBefore before x.moment → IsFollowing spec (h ++ x ∷ []) c → c.was_started ≡ before.was_started
+    → AreCounted greatest h x c.backoff delay
     → (IsTrue started ↔ IsStarted spec (h ++ x ∷ []))
-    → IsStateOf spec greatest (h ++ x ∷ []) (record { role = c.role; differ = c.differ; probes = c.probes; backoff = c.backoff; was_started = c.was_started || started })
+    → IsStateOf spec greatest (h ++ x ∷ [])
+    (record {
+      role = c.role;
+      differ = c.differ;
+      probes = c.probes;
+      backoff = c.backoff;
+      was_started = c.was_started || started;
+    })
 state_more spec greatest h x before c started delay is later follows same counted now = record {
   role = follows.role;
   rising = IsRising-more h x is.rising (ends_before h before.differ x.moment is.differ later);
   differ = follows.differ;
   follows = follows.follows;
-  probed = λ a start n starts. let f = follows.probed a start n starts in record { ticks = f.ticks; are_ticks = f.are_ticks; followed = f.followed };
+  probed = λ a start n starts. let f = follows.probed a start n starts in
+      record { ticks = f.ticks; are_ticks = f.are_ticks; followed = f.followed };
   exits = counted.exits;
   are_exits = counted.are_exits;
   backoff = counted.counted;
-  was_started = was_more (IsStarted spec) h x c.was_started started (subst (λ (b : Bool). IsTrue b ↔ WasStarted spec h) (sym same) is.was_started) now;
+  was_started = was_more (IsStarted spec) h x c.was_started started
+      (subst (λ (b : Bool). IsTrue b ↔ WasStarted spec h) (sym same) is.was_started) now;
 }
 
 -- the place of the start
-pub started_gives : (h : List ContainerTick) (x : ContainerTick) (changes : Changes) (event : Option What) → AreChanges (listings (h ++ x ∷ [])) (length h) changes
+pub started_gives : (h : List ContainerTick) (x : ContainerTick) (changes : Changes) (event : Option What)
+    → AreChanges (listings (h ++ x ∷ [])) (length h) changes
     → ((what : What) → ((event ≡ Some what) ↔ ((a : ℕ) × (what ≡ Started a) × (changes.started ≡ Some a))))
     → Gives (HasStarted (h ++ x ∷ []) (length h)) event
 started_gives h x changes event are gives what = (
@@ -93,18 +115,23 @@ started_gives h x changes event are gives what = (
 )
 
 -- the places of the probes
-pub passed_gives : (spec : ContainerSpec) (h : List ContainerTick) (x : ContainerTick) (d : Differ) (verdicts : Option Verdicts) (event : Option What)
+pub passed_gives : (spec : ContainerSpec) (h : List ContainerTick) (x : ContainerTick) (d : Differ)
+    (verdicts : Option Verdicts) (event : Option What)
     → IsDifferOf (listings h) d → DifferAccepts d x.entry.seen → AreVerdictsOf spec h x verdicts
-    → ((what : What) → ((event ≡ Some what) ↔ ((a : ℕ) × (what ≡ StartupPassed a) × IsSomeAnd x.entry.seen (IsOf a) × IsSomeAnd verdicts (λ v. IsTrue v.passed))))
+    → ((what : What) → ((event ≡ Some what) ↔ ((a : ℕ) × (what ≡ StartupPassed a) × IsSomeAnd x.entry.seen (IsOf a)
+    × IsSomeAnd verdicts (λ v. IsTrue v.passed))))
     → Gives (Passes spec (h ++ x ∷ []) (length h)) event
 passed_gives spec h x d verdicts event is accepts are gives what = (
   (λ e. let w = (gives what).0 e in (w.0, w.1, (passes_by spec h x d verdicts is accepts are w.0).0 (w.2, w.3))),
   (λ w. let v = (passes_by spec h x d verdicts is accepts are w.0).1 w.2 in (gives what).1 (w.0, w.1, v.0, v.1)),
 )
 
-pub kill_gives : (spec : ContainerSpec) (h : List ContainerTick) (x : ContainerTick) (d : Differ) (verdicts : Option Verdicts) (event : Option What)
+pub kill_gives : (spec : ContainerSpec) (h : List ContainerTick) (x : ContainerTick) (d : Differ)
+    (verdicts : Option Verdicts) (event : Option What)
     → IsDifferOf (listings h) d → DifferAccepts d x.entry.seen → AreVerdictsOf spec h x verdicts
-    → ((what : What) → ((event ≡ Some what) ↔ ((a : ℕ) × (cause : Cause) × (what ≡ Kill a cause) × IsSomeAnd x.entry.seen (IsOf a) × IsSomeAnd verdicts (λ v. v.kill ≡ Some cause))))
+    → ((what : What) → ((event ≡ Some what)
+    ↔ ((a : ℕ) × (cause : Cause) × (what ≡ Kill a cause) × IsSomeAnd x.entry.seen (IsOf a)
+    × IsSomeAnd verdicts (λ v. v.kill ≡ Some cause))))
     → Gives (IsKilled spec (h ++ x ∷ []) (length h)) event
 kill_gives spec h x d verdicts event is accepts are gives what = (
   (λ e. let w = (gives what).0 e in (w.0, w.1, w.2, (kill_by spec h x d verdicts is accepts are w.0 w.1).0 (w.3, w.4))),

@@ -40,11 +40,13 @@ restarts_is h None none = inl (none, refl)
 restarts_is h (Some s) is = inr is.newest
 
 -- the code that it shows
-pub given : (h : List Tick) (o : Option Seen) → IsNewestSeen h o → (code : ℤ) → option_and_then (λ seen. seen.code) o ≡ Some code → HasExitedWith h code
+pub given : (h : List Tick) (o : Option Seen) → IsNewestSeen h o → (code : ℤ) → option_and_then (λ seen. seen.code)
+    o ≡ Some code → HasExitedWith h code
 given h None none code e = absurd (cc)
 given h (Some s) is code e = (s.attempt, is.newest, is.code code e)
 
-pub coded : (h : List Tick) (o : Option Seen) → IsNewestSeen h o → (code : ℤ) → HasExitedWith h code → option_and_then (λ seen. seen.code) o ≡ Some code
+pub coded : (h : List Tick) (o : Option Seen) → IsNewestSeen h o → (code : ℤ) → HasExitedWith h code
+    → option_and_then (λ seen. seen.code) o ≡ Some code
 coded h None none code (a, n, e) = absurd (none a n.listed.0 n.listed.1)
 coded h (Some s) is code (a, n, e) =
     let same : a ≡ s.attempt = IsNewest-unique h a s.attempt n is.newest in
@@ -59,28 +61,36 @@ coded h (Some s) is code (a, n, e) =
       | inr w ↦ absurd (w.0 mine.0 mine.1)
     ]
 
-pub view_code : (spec : ContainerSpec) (h : List ContainerTick) (view : ContainerView) → IsViewOf spec h view → (code : ℤ)
+pub view_code : (spec : ContainerSpec) (h : List ContainerTick) (view : ContainerView) → IsViewOf spec h view
+    → (code : ℤ)
     → ((exit_code view ≡ Some code) ↔ HasExitedWith (listings h) code)
-view_code spec h view is code = (given (listings h) view.seen is.newest code, coded (listings h) view.seen is.newest code)
+view_code spec h view is code =
+    (given (listings h) view.seen is.newest code, coded (listings h) view.seen is.newest code)
 
 -- whether its instance is running
-pub seen_runs : (h : List Tick) (o : Option Seen) → IsNewestSeen h o → (((a : ℕ) × IsNewest h a × IsState h a IsRunning) ↔ IsSomeAnd o (λ seen. seen.state ≡ IsRunning))
+pub seen_runs : (h : List Tick) (o : Option Seen) → IsNewestSeen h o
+    → (((a : ℕ) × IsNewest h a × IsState h a IsRunning) ↔ IsSomeAnd o (λ seen. seen.state ≡ IsRunning))
 seen_runs h o is = (there o is, back o is)
   where
-    there : (o : Option Seen) → IsNewestSeen h o → (a : ℕ) × IsNewest h a × IsState h a IsRunning → IsSomeAnd o (λ seen. seen.state ≡ IsRunning)
+    there : (o : Option Seen) → IsNewestSeen h o → (a : ℕ) × IsNewest h a × IsState h a IsRunning
+        → IsSomeAnd o (λ seen. seen.state ≡ IsRunning)
     there None none (a, n, e) = absurd (none a n.listed.0 n.listed.1)
     there (Some s) is (a, n, e) =
         let same : a ≡ s.attempt = IsNewest-unique h a s.attempt n is.newest in
         let P : ℕ → Type 0 = λ b. IsState h b IsRunning in
         IsState-unique h s.attempt s.state IsRunning is.state (subst P same e)
 
-    back : (o : Option Seen) → IsNewestSeen h o → IsSomeAnd o (λ seen. seen.state ≡ IsRunning) → (a : ℕ) × IsNewest h a × IsState h a IsRunning
+    back : (o : Option Seen) → IsNewestSeen h o → IsSomeAnd o (λ seen. seen.state ≡ IsRunning) → (a : ℕ)
+        × IsNewest h a × IsState h a IsRunning
     back None none q = absurd q
-    back (Some s) is q = let P : CriState → Type 0 = λ v. IsState h s.attempt v in (s.attempt, is.newest, subst P q is.state)
+    back (Some s) is q = let P : CriState → Type 0 = λ v. IsState h s.attempt v in
+        (s.attempt, is.newest, subst P q is.state)
 
 -- the container serves by its role and its newest instance
-pub serves_by : (spec : ContainerSpec) (h : List ContainerTick) (role : Role) (o : Option Seen) (b : Bool) → role ≡ spec.role → IsNewestSeen (listings h) o
-    → (IsTrue b ↔ ((role ≡ Init → ⊥) × IsSomeAnd o (λ s. s.state ≡ IsRunning))) → (IsTrue b ↔ ((a : ℕ) × Serves spec h a))
+pub serves_by : (spec : ContainerSpec) (h : List ContainerTick) (role : Role) (o : Option Seen) (b : Bool)
+    → role ≡ spec.role → IsNewestSeen (listings h) o
+    → (IsTrue b ↔ ((role ≡ Init → ⊥) × IsSomeAnd o (λ s. s.state ≡ IsRunning)))
+    → (IsTrue b ↔ ((a : ℕ) × Serves spec h a))
 serves_by spec h role o b same is up =
     let runs = seen_runs (listings h) o is in
     let P : Role → Type 0 = λ r. r ≡ Init → ⊥ in (
@@ -92,19 +102,22 @@ serves_by spec h role o b same is up =
     )
 
 -- what is shown
-pub status_is : (spec : ContainerSpec) (h : List ContainerTick) (view : ContainerView) (evicted is_ready is_started : Bool) (status : ContainerStatus) → IsViewOf spec h view
+pub status_is : (spec : ContainerSpec) (h : List ContainerTick) (view : ContainerView)
+    (evicted is_ready is_started : Bool) (status : ContainerStatus) → IsViewOf spec h view
     → status.state ≡ state_shown view.seen → status.code ≡ exit_code view → status.restarts ≡ restarts_of view.seen
     → (IsTrue is_ready ↔ IsReady spec h) → (IsTrue is_started ↔ IsStarted spec h)
     → (IsTrue status.ready ↔ ((IsTrue evicted → ⊥) × IsTrue is_ready))
     → (IsTrue status.started ↔ ((IsTrue evicted → ⊥) × IsTrue is_started))
     → IsShown spec (IsTrue evicted) h status
-status_is spec h view evicted is_ready is_started status is state code restarts ready started shows_ready shows_started =
+status_is spec h view evicted is_ready is_started status is state code restarts ready started shows_ready
+    shows_started =
     let P : ContainerState → Type 0 = λ s. IsContainerState (listings h) s in
     let Q : Option ℤ → Type 0 = λ o. (k : ℤ) → ((o ≡ Some k) ↔ HasExitedWith (listings h) k) in
     let R : ℕ → Type 0 = λ n. IsRestarts (listings h) n in
     record {
       state = subst P (sym state) (state_is (listings h) view.seen is.newest);
-      code = subst Q (sym code) (λ k. (given (listings h) view.seen is.newest k, coded (listings h) view.seen is.newest k));
+      code = subst Q (sym code)
+          (λ k. (given (listings h) view.seen is.newest k, coded (listings h) view.seen is.newest k));
       restarts = subst R (sym restarts) (restarts_is (listings h) view.seen is.newest);
       ready = ((λ e. let w = shows_ready.0 e in (w.0, ready.0 w.1)), (λ w. shows_ready.1 (w.0, ready.1 w.1)));
       started = ((λ e. let w = shows_started.0 e in (w.0, started.0 w.1)), (λ w. shows_started.1 (w.0, started.1 w.1)));

@@ -40,12 +40,14 @@ OneListOfExits = (h : List Tick) (exits others : List Exit) → AreExits h exits
 
 -- and an instance at most one list of results
 abbrev pub OneListOfResults : Type 0
-OneListOfResults = (h : List ContainerTick) (a : ℕ) (ticks others : List ProbeTick) → AreTicksOf h a ticks → AreTicksOf h a others → ticks ≡ others
+OneListOfResults = (h : List ContainerTick) (a : ℕ) (ticks others : List ProbeTick) → AreTicksOf h a ticks
+    → AreTicksOf h a others → ticks ≡ others
 
 -- what is restarted is the newest instance, and it has exited
 abbrev pub RestartsTheNewest : Type 0
 RestartsTheNewest =
-    (policy : Policy) (greatest : ℕ) (spec : ContainerSpec) (h : List ContainerTick) (t a : ℕ) → IsRestarted policy greatest spec h t (Restart a)
+    (policy : Policy) (greatest : ℕ) (spec : ContainerSpec) (h : List ContainerTick) (t a : ℕ)
+    → IsRestarted policy greatest spec h t (Restart a)
     → IsNewest (listings h) a × ((u : ℕ) × IsExit (listings h) a u)
 
 -- an instance is to be killed at one tick at most, and for one cause
@@ -64,5 +66,6 @@ SomeListOfEvents =
 -- the events of a tick are determined
 abbrev pub OneListOfEvents : Type 0
 OneListOfEvents =
-    (policy : Policy) (greatest : ℕ) (spec : ContainerSpec) (h : List ContainerTick) (t : ℕ) (events others : ContainerEvents)
+    (policy : Policy) (greatest : ℕ) (spec : ContainerSpec) (h : List ContainerTick) (t : ℕ)
+    (events others : ContainerEvents)
     → AreEvents policy greatest spec h t events → AreEvents policy greatest spec h t others → events ≡ others

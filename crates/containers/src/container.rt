@@ -1,4 +1,5 @@
-ghost use Rattle.std.specs.Prelude.{◌≡◌, ◌↔◌, ◌^◌, ◌<◌, ◌≤◌, ℕ, List, [], ◌∷◌, ◌++◌, length, Some, IsTrue, IsSomeAnd, IfSome};
+ghost use Rattle.std.specs.Prelude.{◌≡◌, ◌↔◌, ◌^◌, ◌<◌, ◌≤◌, ℕ, List, [], ◌∷◌, ◌++◌, length, Some, IsTrue, IsSomeAnd};
+ghost use Rattle.std.specs.Prelude.{IfSome};
 ghost use Rattle.histories.specs.Histories.{recorded, IsFirstMoment, last_moment};
 ghost use Rattle.manifest.specs.declared.pod.ContainerSpec.{ContainerSpec};
 ghost use Rattle.manifest.specs.declared.pod.Role.TheVariants.{Init};

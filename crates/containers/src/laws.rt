@@ -1,7 +1,8 @@
 //! Laws of a container, over the definitions alone.
 
 ghost use Rattle.containers.specs.Laws.{SomeListOfExits, SomeDelay, SomeListOfResults, SomeStatus, SomeListOfEvents};
-ghost use Rattle.containers.specs.Laws.{OneListOfExits, OneListOfResults, RestartsTheNewest, KilledOnce, OneListOfEvents};
+ghost use Rattle.containers.specs.Laws.{OneListOfExits, OneListOfResults, RestartsTheNewest, KilledOnce};
+ghost use Rattle.containers.specs.Laws.{OneListOfEvents};
 
 /// A container has a list of exits, whatever its listings are.
 pub fn some_list_of_exits()

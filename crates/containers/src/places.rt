@@ -4,7 +4,8 @@ ghost use Rattle.std.specs.Prelude.{◌≡◌, ◌⊎◌, ◌↔◌, ◌<◌, �
 ghost use Rattle.state_diff.specs.Instances.{IsOf};
 ghost use Rattle.probes.specs.declared.probe_set.Cause.{Cause};
 ghost use Rattle.containers.specs.declared.what.What.{What};
-ghost use Rattle.containers.specs.declared.what.What.TheVariants.{Died, Started, StartupPassed, Kill, Ready, Unready, Backoff, Restart};
+ghost use Rattle.containers.specs.declared.what.What.TheVariants.{Died, Started, StartupPassed, Kill, Ready, Unready};
+ghost use Rattle.containers.specs.declared.what.What.TheVariants.{Backoff, Restart};
 
 use crate::what::What;
 use probes::Verdicts;

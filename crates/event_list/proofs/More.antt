@@ -57,10 +57,13 @@ events_more config pods ticks es evs part x e many are now = record {
         elim (place_split es e eviction t is) [
           | inl older ↦ elim (place_split are.parts part p t here) [
             | inl oldest ↦
-                let P : List TickObs → Type 0 = λ h. AreTickEvents config pods h tick (take t (es ++ e ∷ [])) eviction p in
-                let Q : List (Option Eviction) → Type 0 = λ g. AreTickEvents config pods (take t ticks) tick g eviction p in
+                let P : List TickObs → Type 0 = λ h. AreTickEvents config pods h tick (take t (es ++ e ∷ [])) eviction
+                p in
+                let Q : List (Option Eviction) → Type 0 = λ g. AreTickEvents config pods (take t ticks) tick g
+                eviction p in
                 subst P (sym (take-append-le t ticks (x ∷ []) (omega arith)))
-                (subst Q (sym (take-append-le t es (e ∷ []) (omega arith))) (are.each t tick eviction p old older oldest))
+                (subst Q (sym (take-append-le t es (e ∷ []) (omega arith)))
+                (are.each t tick eviction p old older oldest))
             | inr w ↦ let same : t ≡ length are.parts = w.0 in absurd (omega arith)
           ]
           | inr w ↦ let same : t ≡ length es = w.0 in absurd (omega arith)
@@ -154,14 +157,16 @@ pub pods_alone : (at : ℕ) (made : List (List PodEvent)) (news : List NodeEvent
 pods_alone at made news e =
     let rest : pod_events (of_node at news ++ of_eviction at e) ≡ [] =
     pod_events-append (of_node at news) (of_eviction at e)
-    ∙ (ap (λ (es : List PodEvent). es ++ pod_events (of_eviction at e)) (none_of_node at news) ∙ none_of_eviction at e) in
+    ∙ (ap (λ (es : List PodEvent). es ++ pod_events (of_eviction at e)) (none_of_node at news) ∙ none_of_eviction at
+    e) in
     pod_events-append (of_pods at 0 made) (of_node at news ++ of_eviction at e)
     ∙ (ap (λ (es : List PodEvent). pod_events (of_pods at 0 made) ++ es) rest
     ∙ (append-nil (pod_events (of_pods at 0 made)) ∙ of_all at 0 made))
 
 counts : (made : List (List PodEvent)) (entries : List Entry) → entries ≡ map entry_of made
     → (length (flat_map (λ (events : List PodEvent). events) made) ≡ sum_by (λ (e : Entry). e.events) entries)
-    × (length (filter is_order (flat_map (λ (events : List PodEvent). events) made)) ≡ sum_by (λ (e : Entry). e.orders) entries)
+    × (length (filter is_order (flat_map (λ (events : List PodEvent). events) made)) ≡ sum_by
+    (λ (e : Entry). e.orders) entries)
 counts [] [] is = (refl, refl)
 counts [] (entry ∷ entries) is = absurd (cc)
 counts (events ∷ made) [] is = absurd (cc)
@@ -171,10 +176,12 @@ counts (events ∷ made) (entry ∷ entries) is =
     let rest = counts made entries others in
     let flat = flat_map (λ (es : List PodEvent). es) made in (
       length-append events flat ∙ (ap (λ (n : ℕ). length events + n) rest.0
-          ∙ (ap (λ (e : Entry). e.events + sum_by (λ (f : Entry). f.events) entries) (sym first) ∙ sym (sum_by-cons (λ (f : Entry). f.events) entry entries))),
+          ∙ (ap (λ (e : Entry). e.events + sum_by (λ (f : Entry). f.events) entries) (sym first)
+          ∙ sym (sum_by-cons (λ (f : Entry). f.events) entry entries))),
       ap length (filter-append is_order events flat) ∙ (length-append (filter is_order events) (filter is_order flat)
           ∙ (ap (λ (n : ℕ). length (filter is_order events) + n) rest.1
-          ∙ (ap (λ (e : Entry). e.orders + sum_by (λ (f : Entry). f.orders) entries) (sym first) ∙ sym (sum_by-cons (λ (f : Entry). f.orders) entry entries)))),
+          ∙ (ap (λ (e : Entry). e.orders + sum_by (λ (f : Entry). f.orders) entries) (sym first)
+          ∙ sym (sum_by-cons (λ (f : Entry). f.orders) entry entries)))),
     )
 
 abbrev made_of : ℕ → ℕ → ℕ → Totals

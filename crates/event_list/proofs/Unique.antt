@@ -32,7 +32,8 @@ pods_one config pods before tick es made others are were =
     let pod = at_place pods n (omega arith) in
     let shown = at_place tick.pods n (omega arith) in
     one_list_of_pod_events pod.0 config.max_restart_delay (place_of (own_eviction n before es)) (pod_ticks before n)
-    (pod_tick shown.0) x y (are.each n pod.0 shown.0 x pod.1 shown.1 here) (were.each n pod.0 shown.0 y pod.1 shown.1 there))
+    (pod_tick shown.0) x y (are.each n pod.0 shown.0 x pod.1 shown.1 here)
+    (were.each n pod.0 shown.0 y pod.1 shown.1 there))
 
 -- of a tick
 tick_one : (config : NodeConfig) (pods : List PodSpec) (before : List TickObs) (tick : TickObs)
@@ -46,7 +47,8 @@ tick_one config pods before tick es e events others are were =
     one_list_of_node_events config.eviction config.eviction_pressure_transition_period before tick
     are.news were.news are.are_news were.are_news in
     are.in_order
-    ∙ (ap (λ (m : List (List PodEvent)). of_pods tick.at 0 m ++ (of_node tick.at are.news ++ of_eviction tick.at e)) made
+    ∙ (ap (λ (m : List (List PodEvent)). of_pods tick.at 0 m ++ (of_node tick.at are.news ++ of_eviction tick.at e))
+    made
     ∙ (ap (λ (n : List NodeEvent). of_pods tick.at 0 were.made ++ (of_node tick.at n ++ of_eviction tick.at e)) news
     ∙ sym were.in_order))
 
@@ -60,5 +62,6 @@ one_list_of_events config pods ticks es events others many are were =
     let tick = at_place ticks t (omega arith) in
     let eviction = at_place es t (omega arith) in
     tick_one config pods (take t ticks) tick.0 (take t es) eviction.0 x y
-    (are.each t tick.0 eviction.0 x tick.1 eviction.1 here) (were.each t tick.0 eviction.0 y tick.1 eviction.1 there)) in
+    (are.each t tick.0 eviction.0 x tick.1 eviction.1 here) (were.each t tick.0 eviction.0 y tick.1 eviction.1 there))
+    in
     are.whole ∙ (ap (λ (ps : List (List Event)). flat_map (λ (p : List Event). p) ps) parts ∙ sym were.whole)

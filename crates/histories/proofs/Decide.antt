@@ -62,7 +62,11 @@ given_or_not P each (Some x) = each x
 pub all_or_not : {X : Type 0} (P : X → Type 0) → ((x : X) → OrNot (P x)) → (xs : List X) → OrNot (All P xs)
 all_or_not P each [] = inl (All-nil P)
 all_or_not P each (x ∷ xs) = elim (each x) [
-  | inl here ↦ elim (all_or_not P each xs) [ inl rest ↦ inl (All-cons P x xs here rest) | inr n ↦ inr (λ all. n (All-tail P x xs all)) ]
+  | inl here ↦ elim (all_or_not P each xs) [
+    | inl rest ↦ inl (All-cons P x xs here rest)
+    | inr n
+        ↦ inr (λ all. n (All-tail P x xs all))
+  ]
   | inr n ↦ inr (λ all. n (all 0 x (omega arith)))
 ]
 

@@ -13,7 +13,8 @@ IsLast-unique P t u f g = elim (cases_order t u) [
 ]
 
 -- a last place stays the last, where the new one doesn't have it
-pub IsLast-old : (n : ℕ) (P Q : ℕ → Type 0) (now : Type 0) → Grows n P Q now → (now → ⊥) → (t : ℕ) → IsLast P t → IsLast Q t
+pub IsLast-old : (n : ℕ) (P Q : ℕ → Type 0) (now : Type 0) → Grows n P Q now → (now → ⊥) → (t : ℕ) → IsLast P t
+    → IsLast Q t
 IsLast-old n P Q now g not t f = record {
   holds = g.old t f.holds;
   none_after = λ u lt q. elim (g.split u q) [ inl p ↦ f.none_after u lt p | inr w ↦ not w.1 ];
@@ -50,7 +51,8 @@ IsLast-moved k P Q same t f = record {
 }
 
 -- and back
-pub IsLast-moved_back : (k : ℕ) (P Q : ℕ → Type 0) → ((t : ℕ) → (P t ↔ Q (k + t))) → (t : ℕ) → IsLast Q (k + t) → IsLast P t
+pub IsLast-moved_back : (k : ℕ) (P Q : ℕ → Type 0) → ((t : ℕ) → (P t ↔ Q (k + t))) → (t : ℕ) → IsLast Q (k + t)
+    → IsLast P t
 IsLast-moved_back k P Q same t f = record {
   holds = (same t).1 f.holds;
   none_after = λ u lt p. f.none_after (k + u) (omega arith) ((same u).0 p);

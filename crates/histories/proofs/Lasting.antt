@@ -7,21 +7,26 @@ use Rattle.histories.proofs.First.{IsFirst-old, IsFirst-new, IsFirst-split, IsFi
 use Rattle.histories.proofs.Growth.{grows_so, so_last}
 
 -- what holds of the history up to some place holds of all of it
-pub Lasts-all : {A : Type 0} (P : List (Recorded A) → Type 0) (h : List (Recorded A)) (t : ℕ) → Lasts P → IsSo P h t → P h
+pub Lasts-all : {A : Type 0} (P : List (Recorded A) → Type 0) (h : List (Recorded A)) (t : ℕ) → Lasts P → IsSo P h t
+    → P h
 Lasts-all P h t lasts s = subst P (take-append-drop (suc t) h) (lasts.more (take (suc t) h) (drop (suc t) h) s.so)
 
 -- what came true stays so, at its place
-pub ComesTrue-old : {A : Type 0} (P : List (Recorded A) → Type 0) (h : List (Recorded A)) (x : Recorded A) (t : ℕ) → ComesTrue P h t → ComesTrue P (h ++ x ∷ []) t
+pub ComesTrue-old : {A : Type 0} (P : List (Recorded A) → Type 0) (h : List (Recorded A)) (x : Recorded A) (t : ℕ)
+    → ComesTrue P h t → ComesTrue P (h ++ x ∷ []) t
 ComesTrue-old P h x t f = IsFirst-old (length h) _ _ _ (grows_so P h x) t f
 
 -- so it does whatever is recorded later
-pub ComesTrue-later : {A : Type 0} (P : List (Recorded A) → Type 0) (h later : List (Recorded A)) (t : ℕ) → ComesTrue P h t → ComesTrue P (h ++ later) t
+pub ComesTrue-later : {A : Type 0} (P : List (Recorded A) → Type 0) (h later : List (Recorded A)) (t : ℕ)
+    → ComesTrue P h t → ComesTrue P (h ++ later) t
 ComesTrue-later P h [] t f = subst (λ k. ComesTrue P k t) (sym (append-nil h)) f
 ComesTrue-later P h (x ∷ later) t f =
-    subst (λ k. ComesTrue P k t) (append_assoc h (x ∷ []) later) (ComesTrue-later P (h ++ x ∷ []) later t (ComesTrue-old P h x t f))
+    subst (λ k. ComesTrue P k t) (append_assoc h (x ∷ []) later)
+    (ComesTrue-later P (h ++ x ∷ []) later t (ComesTrue-old P h x t f))
 
 -- it comes true once
-pub ComesTrue-unique : {A : Type 0} (P : List (Recorded A) → Type 0) (h : List (Recorded A)) (t u : ℕ) → ComesTrue P h t → ComesTrue P h u → t ≡ u
+pub ComesTrue-unique : {A : Type 0} (P : List (Recorded A) → Type 0) (h : List (Recorded A)) (t u : ℕ)
+    → ComesTrue P h t → ComesTrue P h u → t ≡ u
 ComesTrue-unique P h t u = IsFirst-unique (IsSo P h) t u
 
 -- it comes true by the new record exactly if it holds now and did not before

@@ -1,5 +1,6 @@
 -- A history is a list of records, oldest first. A place is a number below its length.
-use Rattle.std.specs.Prelude.{◌≡◌, ℕ, suc, zero, ◌-◌, ◌<◌, ◌≤◌, List, [], ◌∷◌, ◌++◌, length, take, Option, Some, None, IfSome}
+use Rattle.std.specs.Prelude.{◌≡◌, ℕ, suc, zero, ◌-◌, ◌<◌, ◌≤◌, List, [], ◌∷◌, ◌++◌, length, take, Option, Some, None}
+use Rattle.std.specs.Prelude.{IfSome}
 
 -- one record: its moment, and the entry
 pub record Recorded (A : Type 0) : Type 0 where

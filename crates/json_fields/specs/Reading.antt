@@ -1,5 +1,6 @@
 -- Reading step by step, where the first fault is the answer, and what a call answers beside it.
-use Rattle.std.specs.Prelude.{◌≡◌, ⊤, Bool, MatchBool, Option, Some, None, List, [], ◌∷◌, if◌then◌else◌, Result, Ok, Err}
+use Rattle.std.specs.Prelude.{◌≡◌, ⊤, Bool, MatchBool, Option, Some, None, List, [], ◌∷◌, if◌then◌else◌, Result, Ok}
+use Rattle.std.specs.Prelude.{Err}
 
 infixl 10 ◌>>=◌
 abbrev pub ◌>>=◌ : {A B E : Type 0} → Result A E → (A → Result B E) → Result B E

@@ -1,5 +1,6 @@
 -- The containers of a pod (Kubernetes, "Init Containers", "Sidecar Containers").
-use Rattle.std.specs.Prelude.{◌≡◌, ◌≢◌, ℕ, ◌<◌, ◌≤◌, ◌||◌, Bool, true, false, List, [], ◌∷◌, ◌++◌, All, length, map, bytes_eq}
+use Rattle.std.specs.Prelude.{◌≡◌, ◌≢◌, ℕ, ◌<◌, ◌≤◌, ◌||◌, Bool, true, false, List, [], ◌∷◌, ◌++◌, All, length, map}
+use Rattle.std.specs.Prelude.{bytes_eq}
 use Rattle.std.specs.List.{list_any, list_all}
 use Rattle.manifest.specs.declared.pod.Role.{Role}
 use Rattle.manifest.specs.declared.pod.Role.TheVariants.{Init, Sidecar, App}

@@ -23,7 +23,8 @@ no_resources = record { requests = nothing; limits = nothing }
 
 -- no request is above its limit where both are set; a zero counts as unset
 abbrev pub AreWithin : Resources → Type 0
-AreWithin resources = (r : Resource) (request limit : ℕ) → amount_of resources.requests r ≡ Some request → amount_of resources.limits r ≡ Some limit → 0 < request → 0 < limit → request ≤ limit
+AreWithin resources = (r : Resource) (request limit : ℕ) → amount_of resources.requests r ≡ Some request
+    → amount_of resources.limits r ≡ Some limit → 0 < request → 0 < limit → request ≤ limit
 
 -- the test of it: a request above a limit is no zero itself
 abbrev pub is_above : Option ℕ → Option ℕ → Bool
@@ -33,4 +34,5 @@ is_above (Some request) (Some limit) = nat_lt 0 limit && nat_lt limit request
 
 -- a request of the three is above its limit
 abbrev pub some_above : Amounts → Amounts → Bool
-some_above requests limits = is_above requests.cpu limits.cpu || is_above requests.memory limits.memory || is_above requests.ephemeral_storage limits.ephemeral_storage
+some_above requests limits = is_above requests.cpu limits.cpu || is_above requests.memory limits.memory || is_above
+    requests.ephemeral_storage limits.ephemeral_storage

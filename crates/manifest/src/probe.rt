@@ -20,11 +20,30 @@ impl Model for Probe {
 
     ghost Value = { Probe };
 
-    ghost view = { λ p. record { initial_delay_seconds = p.initial_delay_seconds; period_seconds = p.period_seconds; timeout_seconds = p.timeout_seconds; success_threshold = p.success_threshold; failure_threshold = p.failure_threshold } };
+    ghost view = { λ p. record {
+      initial_delay_seconds = p.initial_delay_seconds;
+      period_seconds = p.period_seconds;
+      timeout_seconds = p.timeout_seconds;
+      success_threshold = p.success_threshold;
+      failure_threshold = p.failure_threshold;
+    } };
 
-    ghost invariant = { λ p. IsInRange (record { initial_delay_seconds = p.initial_delay_seconds; period_seconds = p.period_seconds; timeout_seconds = p.timeout_seconds; success_threshold = p.success_threshold; failure_threshold = p.failure_threshold }) };
+    ghost invariant = { λ p. IsInRange
+        (record {
+          initial_delay_seconds = p.initial_delay_seconds;
+          period_seconds = p.period_seconds;
+          timeout_seconds = p.timeout_seconds;
+          success_threshold = p.success_threshold;
+          failure_threshold = p.failure_threshold;
+        }) };
 
-    ghost inverse = { λ v. record { initial_delay_seconds = v.initial_delay_seconds; period_seconds = v.period_seconds; timeout_seconds = v.timeout_seconds; success_threshold = v.success_threshold; failure_threshold = v.failure_threshold } };
+    ghost inverse = { λ v. record {
+      initial_delay_seconds = v.initial_delay_seconds;
+      period_seconds = v.period_seconds;
+      timeout_seconds = v.timeout_seconds;
+      success_threshold = v.success_threshold;
+      failure_threshold = v.failure_threshold;
+    } };
 }
 
 impl Probe {
@@ -36,8 +55,20 @@ impl Probe {
         success_threshold: u32,
         failure_threshold: u32,
     ) -> Probe
-        requires { IsInRange (record { initial_delay_seconds = initial_delay_seconds; period_seconds = period_seconds; timeout_seconds = timeout_seconds; success_threshold = success_threshold; failure_threshold = failure_threshold }) }
-        ensures { result ≡ record { initial_delay_seconds = initial_delay_seconds; period_seconds = period_seconds; timeout_seconds = timeout_seconds; success_threshold = success_threshold; failure_threshold = failure_threshold } }
+        requires { IsInRange (record {
+          initial_delay_seconds = initial_delay_seconds;
+          period_seconds = period_seconds;
+          timeout_seconds = timeout_seconds;
+          success_threshold = success_threshold;
+          failure_threshold = failure_threshold;
+        }) }
+        ensures { result ≡ record {
+          initial_delay_seconds = initial_delay_seconds;
+          period_seconds = period_seconds;
+          timeout_seconds = timeout_seconds;
+          success_threshold = success_threshold;
+          failure_threshold = failure_threshold;
+        } }
     {
         Probe {
             initial_delay_seconds,
@@ -111,7 +142,8 @@ impl Model for Probes {
 
     ghost view = { λ p. record { startup = p.startup; liveness = p.liveness; readiness = p.readiness } };
 
-    ghost invariant = { λ p. AreProbes (record { startup = p.startup; liveness = p.liveness; readiness = p.readiness }) };
+    ghost invariant = { λ p. AreProbes
+        (record { startup = p.startup; liveness = p.liveness; readiness = p.readiness }) };
 
     ghost inverse = { λ v. record { startup = v.startup; liveness = v.liveness; readiness = v.readiness } };
 }

@@ -8,5 +8,6 @@ use Rattle.manifest_reader.specs.declared.fault.Field.{Field}
 use Rattle.manifest_reader.specs.Fields.{items_or}
 
 -- it is the list of its items
-pub items_or_found : (field : Field) (vs : List Value) (found : Option Items) → Some (items_view vs) ≡ found → items_or field found ≡ Ok (map view vs)
+pub items_or_found : (field : Field) (vs : List Value) (found : Option Items) → Some (items_view vs) ≡ found
+    → items_or field found ≡ Ok (map view vs)
 items_or_found field vs found e = rw (← e) (ap Ok (items_list-items_of (map view vs)))

@@ -15,8 +15,22 @@ checks_read d = rw (answers_are d) (pod_read d)
 pub first_check : FirstCheck
 first_check d fault =
     let parts = rows.first_check (pod_at d) (fault_at d) (checks_of d) (checks_read d) fault in (
-      (λ e. let is = parts.0 e in record { earlier = is.earlier; check = is.check; later = is.later; in_order = is.in_order; passed = is.passed; failed = is.failed }),
-      (λ is. parts.1 (record { earlier = is.earlier; check = is.check; later = is.later; in_order = is.in_order; passed = is.passed; failed = is.failed })),
+      (λ e. let is = parts.0 e in record {
+        earlier = is.earlier;
+        check = is.check;
+        later = is.later;
+        in_order = is.in_order;
+        passed = is.passed;
+        failed = is.failed;
+      }),
+      (λ is. parts.1 (record {
+        earlier = is.earlier;
+        check = is.check;
+        later = is.later;
+        in_order = is.in_order;
+        passed = is.passed;
+        failed = is.failed;
+      })),
     )
 
 pub every_check : EveryCheck

@@ -6,7 +6,8 @@ use Rattle.std.proofs.lemmas.List.{map-append}
 use Rattle.serde_json.specs.Data.{Data}
 use Rattle.json_fields.specs.Fields.{field_at}
 use Rattle.manifest_reader.specs.declared.fault.Field.TheVariants as fields
-use Rattle.manifest_reader.specs.declared.fault.ManifestFault.TheVariants.{Missing, InitProbe, RequestAboveLimit, DuplicateContainer, TooMany}
+use Rattle.manifest_reader.specs.declared.fault.ManifestFault.TheVariants.{Missing, InitProbe, RequestAboveLimit}
+use Rattle.manifest_reader.specs.declared.fault.ManifestFault.TheVariants.{DuplicateContainer, TooMany}
 use Rattle.manifest.specs.declared.pod.Place.{Place}
 use Rattle.manifest.specs.declared.pod.Place.TheVariants.{InitContainers, Containers}
 use Rattle.manifest.specs.Names.{is_name, is_label}
@@ -14,7 +15,9 @@ use Rattle.manifest.specs.Resources.{some_above}
 use Rattle.manifest_reader.specs.ResourceFields.{quantity_at}
 use Rattle.manifest_reader.specs.ProbeFields.{greatest, number_of}
 use Rattle.manifest_reader.specs.Manifest.{field_of}
-use Rattle.manifest_reader.specs.Found.{fault_of, fails_if, is_so, must_be, may_be, at, is_object, is_array, is_text, is_policy, is_priority, is_grace_period, items_in, is_empty, amounts_at, own_policy_fault, has_double, name_in, init_items, app_items}
+use Rattle.manifest_reader.specs.Found.{fault_of, fails_if, is_so, must_be, may_be, at, is_object, is_array, is_text}
+use Rattle.manifest_reader.specs.Found.{is_policy, is_priority, is_grace_period, items_in, is_empty, amounts_at}
+use Rattle.manifest_reader.specs.Found.{own_policy_fault, has_double, name_in, init_items, app_items}
 use Rattle.manifest_reader.specs.Table.{fault_at, probes_checks, container_checks, checks_of}
 use Rattle.manifest_reader.proofs.Rows.{Row}
 
@@ -33,7 +36,8 @@ resource_rows found =
     may_be is_object fields.Resources found
     ∷ amount_rows (at (codes "requests") found)
     ++ amount_rows (at (codes "limits") found)
-    ++ fails_if (some_above (amounts_at (at (codes "requests") found)) (amounts_at (at (codes "limits") found))) RequestAboveLimit
+    ++ fails_if (some_above (amounts_at (at (codes "requests") found)) (amounts_at (at (codes "limits") found)))
+    RequestAboveLimit
     ∷ []
 
 -- a probe, of so many successes at most
@@ -112,19 +116,23 @@ rows_of d =
     ++ spec_rows (field_at (codes "spec") d)
 
 -- the answers of the checks
-probes_are : (d : Data) (place : Place) (own_policy : Option Data) (item : Data) → map (fault_at d) (probes_checks place own_policy item) ≡ probes_rows place own_policy item
+probes_are : (d : Data) (place : Place) (own_policy : Option Data) (item : Data)
+    → map (fault_at d) (probes_checks place own_policy item) ≡ probes_rows place own_policy item
 probes_are d InitContainers None item = refl
 probes_are d InitContainers (Some policy) item = refl
 probes_are d Containers own_policy item = refl
 
-container_are : (d : Data) (place : Place) (item : Data) → map (fault_at d) (container_checks place item) ≡ container_rows place item
+container_are : (d : Data) (place : Place) (item : Data)
+    → map (fault_at d) (container_checks place item) ≡ container_rows place item
 unfolding container_checks container_rows
 container_are d place item = rw (← probes_are d place (field_at (codes "restartPolicy") item) item) refl
 
-items_are : (d : Data) (place : Place) (items : List Data) → map (fault_at d) (flat_map (container_checks place) items) ≡ flat_map (container_rows place) items
+items_are : (d : Data) (place : Place) (items : List Data)
+    → map (fault_at d) (flat_map (container_checks place) items) ≡ flat_map (container_rows place) items
 items_are d place [] = refl
 items_are d place (item ∷ items) =
-    map-append (fault_at d) (container_checks place item) (flat_map (container_checks place) items) ∙ (rw (container_are d place item, items_are d place items) refl)
+    map-append (fault_at d) (container_checks place item) (flat_map (container_checks place) items)
+    ∙ (rw (container_are d place item, items_are d place items) refl)
 
 pub answers_are : (d : Data) → map (fault_at d) (checks_of d) ≡ rows_of d
 unfolding checks_of rows_of metadata_rows spec_rows containers_rows

@@ -1,5 +1,6 @@
 -- The faults of a manifest, none of which is for want of memory.
-use Rattle.std.proofs.Common.{◌≢◌, ℕ, ℤ, Bool, List, [], ◌∷◌, ◌+◌, ◌++◌, length, Option, Some, None, Result, Ok, Err, is_some}
+use Rattle.std.proofs.Common.{◌≢◌, ℕ, ℤ, Bool, List, [], ◌∷◌, ◌+◌, ◌++◌, length, Option, Some, None, Result, Ok, Err}
+use Rattle.std.proofs.Common.{is_some}
 use Rattle.std.specs.Prelude.{pos, option_and_then, nat_lt, codes}
 use Rattle.serde_json.specs.Data.{Data, Items}
 use Rattle.serde_json.specs.Find.{as_str, as_number, as_u64, as_i64, as_array, as_object}
@@ -9,7 +10,10 @@ use Rattle.quantity_fields.specs.declared.fault.FieldFault.{FieldFault}
 use Rattle.quantity_fields.specs.declared.fault.FieldFault.TheVariants.{WrongKind as OtherKind, Faulty}
 use Rattle.manifest.specs.Names.{is_name, is_label}
 use Rattle.manifest_reader.specs.declared.fault.ManifestFault.{ManifestFault}
-use Rattle.manifest_reader.specs.declared.fault.ManifestFault.TheVariants.{Missing, WrongKind, Quantity, ProbeRange, InitProbe, RequestAboveLimit, DuplicateContainer, Sidecar, TooMany, OutOfMemory}
+use Rattle.manifest_reader.specs.declared.fault.ManifestFault.TheVariants.{Missing, WrongKind, Quantity, ProbeRange}
+use Rattle.manifest_reader.specs.declared.fault.ManifestFault.TheVariants.{InitProbe, RequestAboveLimit}
+use Rattle.manifest_reader.specs.declared.fault.ManifestFault.TheVariants.{DuplicateContainer, Sidecar, TooMany}
+use Rattle.manifest_reader.specs.declared.fault.ManifestFault.TheVariants.{OutOfMemory}
 use Rattle.manifest_reader.specs.declared.fault.Field.{Field}
 use Rattle.manifest_reader.specs.declared.fault.Field.TheVariants as fields
 use Rattle.manifest.specs.declared.policy.Policy.TheVariants.{Always, OnFailure, Never}
@@ -17,12 +21,18 @@ use Rattle.manifest.specs.declared.pod.Place.{Place}
 use Rattle.manifest.specs.declared.pod.Place.TheVariants.{InitContainers, Containers}
 use Rattle.manifest.specs.declared.pod.Role.{Role}
 use Rattle.manifest.specs.declared.pod.Role.TheVariants.{Init, Sidecar as IsSidecar, App}
-use Rattle.manifest_reader.specs.Fields.{object_of, tested_text, required_text, text_or, items_or, array_of, array_or_none, some_items, absent}
+use Rattle.manifest_reader.specs.Fields.{object_of, tested_text, required_text, text_or, items_or, array_of}
+use Rattle.manifest_reader.specs.Fields.{array_or_none, some_items, absent}
 use Rattle.manifest.specs.Probe.{no_probes}
-use Rattle.manifest_reader.specs.ProbeFields.{not_from_0, number_from, number_of, probe_in, probe_of, some_probes, unprobed, probes_of}
+use Rattle.manifest_reader.specs.ProbeFields.{not_from_0, number_from, number_of, probe_in, probe_of, some_probes}
+use Rattle.manifest_reader.specs.ProbeFields.{unprobed, probes_of}
 use Rattle.manifest.specs.Resources.{nothing, no_resources, some_above}
-use Rattle.manifest_reader.specs.ResourceFields.{quantity_read, quantity_at, amounts_in, amounts_of, resources_in, resources_of}
-use Rattle.manifest_reader.specs.Manifest.{policy_from, policy_of, priority_from, priority_of, grace_period_from, grace_period_of, field_of, sidecar_from, role_of, container_of, containers_of, app_items_of, containers_in, metadata_of, settings_in, spec_of, pod_at}
+use Rattle.manifest_reader.specs.ResourceFields.{quantity_read, quantity_at, amounts_in, amounts_of, resources_in}
+use Rattle.manifest_reader.specs.ResourceFields.{resources_of}
+use Rattle.manifest_reader.specs.Manifest.{policy_from, policy_of, priority_from, priority_of, grace_period_from}
+use Rattle.manifest_reader.specs.Manifest.{grace_period_of, field_of, sidecar_from, role_of, container_of}
+use Rattle.manifest_reader.specs.Manifest.{containers_of, app_items_of, containers_in, metadata_of, settings_in}
+use Rattle.manifest_reader.specs.Manifest.{spec_of, pod_at}
 use Rattle.manifest.specs.Containers.{has_twice}
 use Rattle.json_fields.proofs.Only.{Only, only_ok, only_err, only_bind, only_if, only_refused, only_each}
 
@@ -37,17 +47,22 @@ wrong field is = absurd (cc)
 
 object_only : (field : Field) (found : Option Data) → Only IsFound (object_of field found)
 object_only field None = only_err IsFound (Missing field) (missing field)
-object_only field (Some d) = only_if IsFound (is_some (as_object d)) (Ok d) (Err (WrongKind field)) (only_ok IsFound d) (only_err IsFound (WrongKind field) (wrong field))
+object_only field (Some d) = only_if IsFound (is_some (as_object d)) (Ok d) (Err (WrongKind field))
+    (only_ok IsFound d) (only_err IsFound (WrongKind field) (wrong field))
 
-tested_only : (test : List ℕ → Bool) (field : Field) (found : Option (List ℕ)) → Only IsFound (tested_text test field found)
+tested_only : (test : List ℕ → Bool) (field : Field) (found : Option (List ℕ))
+    → Only IsFound (tested_text test field found)
 tested_only test field None = only_err IsFound (WrongKind field) (wrong field)
-tested_only test field (Some s) = only_if IsFound (test s) (Ok s) (Err (WrongKind field)) (only_ok IsFound s) (only_err IsFound (WrongKind field) (wrong field))
+tested_only test field (Some s) = only_if IsFound (test s) (Ok s) (Err (WrongKind field)) (only_ok IsFound s)
+    (only_err IsFound (WrongKind field) (wrong field))
 
-required_only : (test : List ℕ → Bool) (field : Field) (found : Option Data) → Only IsFound (required_text test field found)
+required_only : (test : List ℕ → Bool) (field : Field) (found : Option Data)
+    → Only IsFound (required_text test field found)
 required_only test field None = only_err IsFound (Missing field) (missing field)
 required_only test field (Some d) = tested_only test field (as_str d)
 
-text_or_only : (default : List ℕ) (test : List ℕ → Bool) (field : Field) (found : Option Data) → Only IsFound (text_or default test field found)
+text_or_only : (default : List ℕ) (test : List ℕ → Bool) (field : Field) (found : Option Data)
+    → Only IsFound (text_or default test field found)
 text_or_only default test field None = only_ok IsFound default
 text_or_only default test field (Some d) = tested_only test field (as_str d)
 
@@ -72,7 +87,8 @@ policy_from_only None = only_err IsFound (WrongKind fields.RestartPolicy) (wrong
 policy_from_only (Some text) =
     only_if IsFound _ (Ok Always) _ (only_ok IsFound Always)
     (only_if IsFound _ (Ok OnFailure) _ (only_ok IsFound OnFailure)
-    (only_if IsFound _ (Ok Never) _ (only_ok IsFound Never) (only_err IsFound (WrongKind fields.RestartPolicy) (wrong fields.RestartPolicy))))
+    (only_if IsFound _ (Ok Never) _ (only_ok IsFound Never)
+    (only_err IsFound (WrongKind fields.RestartPolicy) (wrong fields.RestartPolicy))))
 
 policy_only : (found : Option Data) → Only IsFound (policy_of found)
 policy_only None = only_ok IsFound Always
@@ -80,7 +96,8 @@ policy_only (Some d) = policy_from_only (as_str d)
 
 priority_from_only : (found : Option ℤ) → Only IsFound (priority_from found)
 priority_from_only None = only_err IsFound (WrongKind fields.Priority) (wrong fields.Priority)
-priority_from_only (Some z) = only_if IsFound _ (Ok z) _ (only_ok IsFound z) (only_err IsFound (WrongKind fields.Priority) (wrong fields.Priority))
+priority_from_only (Some z) = only_if IsFound _ (Ok z) _ (only_ok IsFound z)
+    (only_err IsFound (WrongKind fields.Priority) (wrong fields.Priority))
 
 priority_only : (found : Option Data) → Only IsFound (priority_of found)
 priority_only None = only_ok IsFound (pos 0)
@@ -88,7 +105,8 @@ priority_only (Some d) = priority_from_only (option_and_then as_i64 (as_number d
 
 grace_period_from_only : (found : Option ℕ) → Only IsFound (grace_period_from found)
 grace_period_from_only None = only_err IsFound (WrongKind fields.GracePeriod) (wrong fields.GracePeriod)
-grace_period_from_only (Some n) = only_if IsFound _ (Ok n) _ (only_ok IsFound n) (only_err IsFound (WrongKind fields.GracePeriod) (wrong fields.GracePeriod))
+grace_period_from_only (Some n) = only_if IsFound _ (Ok n) _ (only_ok IsFound n)
+    (only_err IsFound (WrongKind fields.GracePeriod) (wrong fields.GracePeriod))
 
 grace_period_only : (found : Option Data) → Only IsFound (grace_period_of found)
 grace_period_only None = only_ok IsFound 30
@@ -105,7 +123,8 @@ quantity_read_only (Err (Faulty fault)) = only_err IsFound (Quantity fault) (λ 
 
 quantity_only : (found : Option Data) → Only IsFound (quantity_at found)
 quantity_only None = only_ok IsFound None
-quantity_only (Some d) = only_bind IsFound (quantity_read (quantity_in d)) _ (quantity_read_only (quantity_in d)) (λ n. only_ok IsFound (Some n))
+quantity_only (Some d) = only_bind IsFound (quantity_read (quantity_in d)) _ (quantity_read_only (quantity_in d))
+    (λ n. only_ok IsFound (Some n))
 
 amounts_in_only : (d : Data) → Only IsFound (amounts_in d)
 unfolding amounts_in
@@ -127,7 +146,8 @@ resources_in_only d =
     only_bind P _ _ (object_only fields.Resources (Some d)) (λ resources.
     only_bind P _ _ (amounts_only (field_at (codes "requests") resources)) (λ requests.
     only_bind P _ _ (amounts_only (field_at (codes "limits") resources)) (λ limits.
-    only_bind P _ _ (only_refused P (some_above requests limits) RequestAboveLimit (λ is. absurd (cc))) (λ within. only_ok P _))))
+    only_bind P _ _ (only_refused P (some_above requests limits) RequestAboveLimit (λ is. absurd (cc)))
+    (λ within. only_ok P _))))
 
 resources_only : (found : Option Data) → Only IsFound (resources_of found)
 resources_only None = only_ok IsFound no_resources
@@ -140,7 +160,8 @@ not_from_0_only (Some z) = only_err IsFound ProbeRange (λ is. absurd (cc))
 
 number_from_only : (least most : ℕ) (d : Data) (found : Option ℕ) → Only IsFound (number_from least most d found)
 number_from_only least most d None = not_from_0_only (option_and_then as_i64 (as_number d))
-number_from_only least most d (Some n) = only_if IsFound _ (Ok n) _ (only_ok IsFound n) (only_err IsFound ProbeRange (λ is. absurd (cc)))
+number_from_only least most d (Some n) = only_if IsFound _ (Ok n) _ (only_ok IsFound n)
+    (only_err IsFound ProbeRange (λ is. absurd (cc)))
 
 number_only : (least most default : ℕ) (found : Option Data) → Only IsFound (number_of least most default found)
 number_only least most default None = only_ok IsFound default
@@ -176,7 +197,8 @@ unprobed_only d =
     let found : IsFound InitProbe = λ is. absurd (cc) in
     only_bind P _ _ (absent_only InitProbe (field_at (codes "startupProbe") d) found) (λ startup.
     only_bind P _ _ (absent_only InitProbe (field_at (codes "livenessProbe") d) found) (λ liveness.
-    only_bind P _ _ (absent_only InitProbe (field_at (codes "readinessProbe") d) found) (λ readiness. only_ok P no_probes)))
+    only_bind P _ _ (absent_only InitProbe (field_at (codes "readinessProbe") d) found)
+    (λ readiness. only_ok P no_probes)))
 
 probes_only : (role : Role) (d : Data) → Only IsFound (probes_of role d)
 probes_only Init d = unprobed_only d
@@ -186,7 +208,8 @@ probes_only App d = some_probes_only d
 -- containers
 sidecar_from_only : (found : Option (List ℕ)) → Only IsFound (sidecar_from found)
 sidecar_from_only None = only_err IsFound Sidecar (λ is. absurd (cc))
-sidecar_from_only (Some text) = only_if IsFound _ (Ok IsSidecar) _ (only_ok IsFound IsSidecar) (only_err IsFound Sidecar (λ is. absurd (cc)))
+sidecar_from_only (Some text) = only_if IsFound _ (Ok IsSidecar) _ (only_ok IsFound IsSidecar)
+    (only_err IsFound Sidecar (λ is. absurd (cc)))
 
 role_only : (place : Place) (found : Option Data) → Only IsFound (role_of place found)
 role_only InitContainers None = only_ok IsFound Init
@@ -211,11 +234,13 @@ containers_only init_items items =
     only_bind P _ _ (only_refused P (nat_lt 16 (length init_items + length items)) TooMany (λ is. absurd (cc))) (λ few.
     only_bind P _ _ (only_each P (container_of InitContainers) (container_only InitContainers) init_items) (λ init.
     only_bind P _ _ (only_each P (container_of Containers) (container_only Containers) items) (λ apps.
-    only_bind P _ _ (only_refused P (has_twice (init ++ apps)) DuplicateContainer (λ is. absurd (cc))) (λ apart. only_ok P (init ++ apps)))))
+    only_bind P _ _ (only_refused P (has_twice (init ++ apps)) DuplicateContainer (λ is. absurd (cc)))
+    (λ apart. only_ok P (init ++ apps)))))
 
 app_items_only : (found : Option Data) → Only IsFound (app_items_of found)
 unfolding app_items_of
-app_items_only found = only_bind IsFound _ _ (array_only fields.Containers found) (λ listed. some_items_only fields.Containers listed)
+app_items_only found = only_bind IsFound _ _ (array_only fields.Containers found)
+    (λ listed. some_items_only fields.Containers listed)
 
 containers_in_only : (spec : Data) → Only IsFound (containers_in spec)
 unfolding containers_in
@@ -230,7 +255,8 @@ metadata_only found =
     let P = IsFound in
     only_bind P _ _ (object_only fields.Metadata found) (λ metadata.
     only_bind P _ _ (required_only is_name fields.Name (field_at (codes "name") metadata)) (λ name.
-    only_bind P _ _ (text_or_only (codes "default") is_label fields.Namespace (field_at (codes "namespace") metadata)) (λ namespace. only_ok P _)))
+    only_bind P _ _ (text_or_only (codes "default") is_label fields.Namespace (field_at (codes "namespace") metadata))
+    (λ namespace. only_ok P _)))
 
 settings_only : (spec : Data) → Only IsFound (settings_in spec)
 unfolding settings_in

@@ -9,7 +9,8 @@ pub all_of_none : (place : Place) → AllOf place []
 unfolding AllOf
 all_of_none place = All-nil (IsOf place)
 
-pub all_of_pushed : (place : Place) (cs : List ContainerSpec) (c : ContainerSpec) → AllOf place cs → IsOf place c → AllOf place (cs ++ c ∷ [])
+pub all_of_pushed : (place : Place) (cs : List ContainerSpec) (c : ContainerSpec) → AllOf place cs → IsOf place c
+    → AllOf place (cs ++ c ∷ [])
 unfolding AllOf
 all_of_pushed place cs c all one = All-push (IsOf place) cs c all one
 

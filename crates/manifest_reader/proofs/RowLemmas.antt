@@ -1,5 +1,6 @@
 -- Each step of reading a manifest has the rows of the table that its check has.
-use Rattle.std.proofs.Common.{◌≡◌, ◌∙◌, ℕ, ℤ, ◌+◌, ◌^◌, Bool, true, false, not, ◌&&◌, ◌||◌, List, [], ◌∷◌, ◌++◌, map, length, Option, Some, None, is_some, Result, Ok, Err, refl, ap, sym, bytes_eq}
+use Rattle.std.proofs.Common.{◌≡◌, ◌∙◌, ℕ, ℤ, ◌+◌, ◌^◌, Bool, true, false, not, ◌&&◌, ◌||◌, List, [], ◌∷◌, ◌++◌, map}
+use Rattle.std.proofs.Common.{length, Option, Some, None, is_some, Result, Ok, Err, refl, ap, sym, bytes_eq}
 use Rattle.std.specs.Prelude.{pos, negsuc, int_le, if◌then◌else◌, option_and_then, unwrap_or, codes, nat_lt}
 use Rattle.std.specs.List.{flat_map, list_any}
 use Rattle.serde_json.specs.Data.{Data, Items}
@@ -10,7 +11,9 @@ use Rattle.json_fields.proofs.Steps.{bind_ok}
 use Rattle.manifest_reader.specs.declared.fault.Field.{Field}
 use Rattle.manifest_reader.specs.declared.fault.Field.TheVariants as fields
 use Rattle.manifest_reader.specs.declared.fault.ManifestFault.{ManifestFault}
-use Rattle.manifest_reader.specs.declared.fault.ManifestFault.TheVariants.{Missing, WrongKind, InitProbe, RequestAboveLimit, DuplicateContainer, TooMany}
+use Rattle.manifest_reader.specs.declared.fault.ManifestFault.TheVariants.{Missing, WrongKind, InitProbe}
+use Rattle.manifest_reader.specs.declared.fault.ManifestFault.TheVariants.{RequestAboveLimit, DuplicateContainer}
+use Rattle.manifest_reader.specs.declared.fault.ManifestFault.TheVariants.{TooMany}
 use Rattle.manifest_reader.specs.declared.fault.ManifestFault.TheVariants as faults
 use Rattle.manifest.specs.declared.policy.Policy.TheVariants.{Always, OnFailure, Never}
 use Rattle.manifest.specs.declared.pod.Role.{Role}
@@ -21,20 +24,31 @@ use Rattle.manifest.specs.declared.pod.Place.TheVariants.{InitContainers, Contai
 use Rattle.manifest.specs.declared.resources.Amounts.{Amounts}
 use Rattle.manifest.specs.Names.{is_name, is_label}
 use Rattle.manifest.specs.Containers.{names_of, has_twice}
-use Rattle.manifest_reader.specs.Fields.{object_of, tested_text, required_text, text_or, items_or, array_or_none, some_items, absent}
+use Rattle.manifest_reader.specs.Fields.{object_of, tested_text, required_text, text_or, items_or, array_or_none}
+use Rattle.manifest_reader.specs.Fields.{some_items, absent}
 use Rattle.manifest.specs.Resources.{some_above}
 use Rattle.manifest_reader.specs.ResourceFields.{quantity_at, amounts_in, amounts_of, resources_in, resources_of}
 use Rattle.manifest_reader.specs.ProbeFields.{greatest, number_of, probe_in, probe_of, some_probes, unprobed, probes_of}
-use Rattle.manifest_reader.specs.Manifest.{policy_from, policy_of, priority_from, priority_of, grace_period_from, grace_period_of, field_of, sidecar_from, role_of, container_of, containers_of, app_items_of, containers_in, metadata_of, settings_in, spec_of, pod_at}
-use Rattle.manifest_reader.specs.Found.{fault_of, fails_if, is_so, must_be, may_be, is_some_and, is_object, is_array, is_text, is_policy, is_priority, is_grace_period, items_from, items_in, is_empty, amount_read, amounts_at, own_policy_fault, name_in, has_double}
-use Rattle.manifest_reader.proofs.FoundRows.{amount_rows, resource_rows, probe_rows, some_probes_rows, unprobed_rows, probes_rows, container_rows, containers_rows, metadata_rows, spec_rows, rows_of}
-use Rattle.manifest_reader.proofs.Rows.{Row, first, Reads, read, step, step_row, last_step, fault_if, refused, each_rows}
+use Rattle.manifest_reader.specs.Manifest.{policy_from, policy_of, priority_from, priority_of, grace_period_from}
+use Rattle.manifest_reader.specs.Manifest.{grace_period_of, field_of, sidecar_from, role_of, container_of}
+use Rattle.manifest_reader.specs.Manifest.{containers_of, app_items_of, containers_in, metadata_of, settings_in}
+use Rattle.manifest_reader.specs.Manifest.{spec_of, pod_at}
+use Rattle.manifest_reader.specs.Found.{fault_of, fails_if, is_so, must_be, may_be, is_some_and, is_object, is_array}
+use Rattle.manifest_reader.specs.Found.{is_text, is_policy, is_priority, is_grace_period, items_from, items_in}
+use Rattle.manifest_reader.specs.Found.{is_empty, amount_read, amounts_at, own_policy_fault, name_in, has_double}
+use Rattle.manifest_reader.proofs.FoundRows.{amount_rows, resource_rows, probe_rows, some_probes_rows, unprobed_rows}
+use Rattle.manifest_reader.proofs.FoundRows.{probes_rows, container_rows, containers_rows, metadata_rows, spec_rows}
+use Rattle.manifest_reader.proofs.FoundRows.{rows_of}
+use Rattle.manifest_reader.proofs.Rows.{Row, first, Reads, read, step, step_row, last_step, fault_if, refused}
+use Rattle.manifest_reader.proofs.Rows.{each_rows}
 
-object_step : {B : Type 0} (field : Field) (d : Data) (f : Data → Result B ManifestFault) (rest : List Row) → Reads (f d) rest
+object_step : {B : Type 0} (field : Field) (d : Data) (f : Data → Result B ManifestFault) (rest : List Row)
+    → Reads (f d) rest
     → Reads (object_of field (Some d) >>= f) (is_so is_object field d ∷ rest)
 object_step {B = B} field d f rest later = record { same = there (is_some (as_object d)) }
   where
-    there : (b : Bool) → fault_of ((if b then Ok d else Err (WrongKind field)) >>= f) ≡ first ((if b then None else Some (WrongKind field)) ∷ rest)
+    there : (b : Bool) → fault_of ((if b then Ok d else Err (WrongKind field)) >>= f) ≡ first
+        ((if b then None else Some (WrongKind field)) ∷ rest)
     there true = later.same
     there false = refl
 
@@ -48,16 +62,19 @@ tested_row : (test : List ℕ → Bool) (field : Field) (found : Option (List �
 tested_row test field None = refl
 tested_row test field (Some s) = fault_if (test s) s (WrongKind field)
 
-required_row : (test : List ℕ → Bool) (field : Field) (found : Option Data) → fault_of (required_text test field found) ≡ must_be (is_text test) field found
+required_row : (test : List ℕ → Bool) (field : Field) (found : Option Data)
+    → fault_of (required_text test field found) ≡ must_be (is_text test) field found
 required_row test field None = refl
 required_row test field (Some d) = tested_row test field (as_str d)
 
-text_row : (default : List ℕ) (test : List ℕ → Bool) (field : Field) (found : Option Data) → fault_of (text_or default test field found) ≡ may_be (is_text test) field found
+text_row : (default : List ℕ) (test : List ℕ → Bool) (field : Field) (found : Option Data)
+    → fault_of (text_or default test field found) ≡ may_be (is_text test) field found
 text_row default test field None = refl
 text_row default test field (Some d) = tested_row test field (as_str d)
 
 -- arrays
-array_step : {B : Type 0} (field : Field) (found : Option Data) (f : List Data → Result B ManifestFault) (rest : List Row) → Reads (f (items_in found)) rest
+array_step : {B : Type 0} (field : Field) (found : Option Data) (f : List Data → Result B ManifestFault)
+    (rest : List Row) → Reads (f (items_in found)) rest
     → Reads (array_or_none field found >>= f) (may_be is_array field found ∷ rest)
 array_step field None f rest later = record { same = later.same }
 array_step {B = B} field (Some d) f rest later = record { same = there (as_array d) later.same }
@@ -67,29 +84,39 @@ array_step {B = B} field (Some d) f rest later = record { same = there (as_array
     there None given = refl
     there (Some items) given = given
 
-items_step : {B : Type 0} (found : Option Data) (f : List Data → Result B ManifestFault) (rest : List Row) → Reads (f (items_in found)) rest
-    → Reads (app_items_of found >>= f) (must_be is_array fields.Containers found ∷ fails_if (is_empty (items_in found)) (Missing fields.Containers) ∷ rest)
+items_step : {B : Type 0} (found : Option Data) (f : List Data → Result B ManifestFault) (rest : List Row)
+    → Reads (f (items_in found)) rest
+    → Reads (app_items_of found >>= f)
+    (must_be is_array fields.Containers found ∷ fails_if (is_empty (items_in found))
+    (Missing fields.Containers) ∷ rest)
 unfolding app_items_of
 items_step None f rest later = record { same = refl }
 items_step {B = B} (Some d) f rest later = record { same = there (as_array d) later.same }
   where
     some : (ds : List Data) → fault_of (f ds) ≡ first rest
-        → fault_of (some_items fields.Containers ds >>= f) ≡ first (fails_if (is_empty ds) (Missing fields.Containers) ∷ rest)
+        → fault_of (some_items fields.Containers ds >>= f) ≡ first
+        (fails_if (is_empty ds) (Missing fields.Containers) ∷ rest)
     some [] given = refl
     some (x ∷ xs) given = given
 
     there : (o : Option Items) → fault_of (f (items_from o)) ≡ first rest
         → fault_of ((items_or fields.Containers o >>= λ listed. some_items fields.Containers listed) >>= f)
-        ≡ first ((if is_some o then None else Some (WrongKind fields.Containers)) ∷ fails_if (is_empty (items_from o)) (Missing fields.Containers) ∷ rest)
+        ≡ first ((if is_some o then None else Some (WrongKind fields.Containers)) ∷ fails_if (is_empty (items_from o))
+        (Missing fields.Containers) ∷ rest)
     there None given = refl
     there (Some items) given = some (items_list items) given
 
 -- settings
-policy_from_row : (found : Option (List ℕ)) → fault_of (policy_from found) ≡ (if is_some_and is_policy found then None else Some (WrongKind fields.RestartPolicy))
+policy_from_row : (found : Option (List ℕ))
+    → fault_of (policy_from found) ≡ (if is_some_and is_policy found then None else Some
+    (WrongKind fields.RestartPolicy))
 policy_from_row None = refl
-policy_from_row (Some text) = there (bytes_eq text (codes "Always")) (bytes_eq text (codes "OnFailure")) (bytes_eq text (codes "Never"))
+policy_from_row (Some text) = there (bytes_eq text (codes "Always")) (bytes_eq text (codes "OnFailure"))
+    (bytes_eq text (codes "Never"))
   where
-    there : (a b c : Bool) → fault_of (if a then Ok Always else (if b then Ok OnFailure else (if c then Ok Never else Err (WrongKind fields.RestartPolicy))))
+    there : (a b c : Bool)
+        → fault_of (if a then Ok Always else
+        (if b then Ok OnFailure else (if c then Ok Never else Err (WrongKind fields.RestartPolicy))))
         ≡ (if a || b || c then None else Some (WrongKind fields.RestartPolicy))
     there true b c = refl
     there false true c = refl
@@ -105,15 +132,19 @@ priority_row None = refl
 priority_row (Some d) = there (option_and_then as_i64 (as_number d))
   where
     there : (o : Option ℤ) → fault_of (priority_from o)
-        ≡ (if is_some_and (λ z. int_le (negsuc 2147483647) z && int_le z (pos 2147483647)) o then None else Some (WrongKind fields.Priority))
+        ≡ (if is_some_and (λ z. int_le (negsuc 2147483647) z && int_le z (pos 2147483647)) o then None else Some
+        (WrongKind fields.Priority))
     there None = refl
     there (Some z) = fault_if (int_le (negsuc 2147483647) z && int_le z (pos 2147483647)) z (WrongKind fields.Priority)
 
-grace_period_row : (found : Option Data) → fault_of (grace_period_of found) ≡ may_be is_grace_period fields.GracePeriod found
+grace_period_row : (found : Option Data) → fault_of (grace_period_of found) ≡ may_be is_grace_period
+    fields.GracePeriod found
 grace_period_row None = refl
 grace_period_row (Some d) = there (option_and_then as_u64 (as_number d))
   where
-    there : (o : Option ℕ) → fault_of (grace_period_from o) ≡ (if is_some_and (λ n. nat_lt n (2 ^ 40)) o then None else Some (WrongKind fields.GracePeriod))
+    there : (o : Option ℕ)
+        → fault_of (grace_period_from o) ≡ (if is_some_and (λ n. nat_lt n (2 ^ 40)) o then None else Some
+        (WrongKind fields.GracePeriod))
     there None = refl
     there (Some n) = fault_if (nat_lt n (2 ^ 40)) n (WrongKind fields.GracePeriod)
 
@@ -135,7 +166,8 @@ settings_read spec =
     step_row (grace_period_of grace_period) _ _ _ (grace_period_row grace_period) (λ seconds g. read _)))
 
 -- resources
-amount_given : (found : Option Data) (amount : Option ℕ) → quantity_at found ≡ Ok amount → amount_read (quantity_at found) ≡ amount
+amount_given : (found : Option Data) (amount : Option ℕ) → quantity_at found ≡ Ok amount
+    → amount_read (quantity_at found) ≡ amount
 amount_given found amount e = ap amount_read e
 
 amounts_in_read : (d : Data) → Reads (amounts_in d) (amount_rows (Some d))
@@ -165,15 +197,18 @@ amounts_in_given d amounts e =
     let cpu = bind_ok (quantity_at (field_at (codes "cpu") object.0)) _ amounts object.2 in
     let memory = bind_ok (quantity_at (field_at (codes "memory") object.0)) _ amounts cpu.2 in
     let storage = bind_ok (quantity_at (field_at (codes "ephemeral-storage") object.0)) _ amounts memory.2 in
-    let is : record { cpu = cpu.0; memory = memory.0; ephemeral_storage = storage.0 } ≡ amounts = same_value storage.2 in
+    let is : record { cpu = cpu.0; memory = memory.0; ephemeral_storage = storage.0 } ≡ amounts =
+    same_value storage.2 in
     let read : Data → Amounts = λ x. amounts_at (Some x) in
-    sym is ∙ made (amount_given _ cpu.0 cpu.1) (amount_given _ memory.0 memory.1) (amount_given _ storage.0 storage.1) ∙ ap read same
+    sym is ∙ made (amount_given _ cpu.0 cpu.1) (amount_given _ memory.0 memory.1) (amount_given _ storage.0 storage.1)
+    ∙ ap read same
   where
     same_value : {A : Type 0} {a b : A} → ◌≡◌ {A = Result A ManifestFault} (Ok a) (Ok b) → a ≡ b
     same_value e = cc
 
     made : {a a' b b' c c' : Option ℕ} → a' ≡ a → b' ≡ b → c' ≡ c
-        → ◌≡◌ {A = Amounts} (record { cpu = a; memory = b; ephemeral_storage = c }) (record { cpu = a'; memory = b'; ephemeral_storage = c' })
+        → ◌≡◌ {A = Amounts} (record { cpu = a; memory = b; ephemeral_storage = c })
+        (record { cpu = a'; memory = b'; ephemeral_storage = c' })
     made e f g = rw (e, f, g) refl
 
 amounts_given : (found : Option Data) (amounts : Amounts) → amounts_of found ≡ Ok amounts → amounts ≡ amounts_at found
@@ -189,7 +224,8 @@ resources_in_read d =
     step (amounts_of requests) _ (amount_rows requests) _ (amounts_read requests) (λ r e.
     step (amounts_of limits) _ (amount_rows limits) _ (amounts_read limits) (λ l f.
     step_row (refused_if (some_above r l) RequestAboveLimit) _ _ _
-    (refused (some_above r l) RequestAboveLimit ∙ ap (λ (b : Bool). fails_if b RequestAboveLimit) (above r l (amounts_given requests r e) (amounts_given limits l f))) (λ u g. read _))))
+    (refused (some_above r l) RequestAboveLimit ∙ ap (λ (b : Bool). fails_if b RequestAboveLimit)
+    (above r l (amounts_given requests r e) (amounts_given limits l f))) (λ u g. read _))))
   where
     above : (r l : Amounts) {r' l' : Amounts} → r ≡ r' → l ≡ l' → some_above r l ≡ some_above r' l'
     above r l e f = rw (e, f) refl
@@ -209,9 +245,11 @@ probe_in_read most_successes d =
     step_row (number_of 1 most_successes 1 (field_at (codes "successThreshold") d)) _ _ _ refl (λ successes h.
     step_row (number_of 1 greatest 3 (field_at (codes "failureThreshold") d)) _ _ _ refl (λ failures i. read _))))))
 
-probe_read : (most_successes : ℕ) (found : Option Data) → Reads (probe_of most_successes found) (probe_rows most_successes found)
+probe_read : (most_successes : ℕ) (found : Option Data) → Reads (probe_of most_successes found)
+    (probe_rows most_successes found)
 probe_read most_successes None = record { same = refl }
-probe_read most_successes (Some d) = last_step (probe_in most_successes d) (λ p. Some p) (probe_rows most_successes (Some d)) (probe_in_read most_successes d)
+probe_read most_successes (Some d) = last_step (probe_in most_successes d) (λ p. Some p)
+    (probe_rows most_successes (Some d)) (probe_in_read most_successes d)
 
 some_probes_read : (d : Data) → Reads (some_probes d) (some_probes_rows d)
 unfolding some_probes
@@ -234,7 +272,8 @@ unprobed_read d =
     step_row (absent InitProbe readiness) _ _ _ (refused (is_some readiness) InitProbe) (λ r g. read _)))
 
 -- containers
-sidecar_row : (found : Option (List ℕ)) → fault_of (sidecar_from found) ≡ fails_if (not (is_some_and (λ text. bytes_eq text (codes "Always")) found)) faults.Sidecar
+sidecar_row : (found : Option (List ℕ)) → fault_of (sidecar_from found) ≡ fails_if
+    (not (is_some_and (λ text. bytes_eq text (codes "Always")) found)) faults.Sidecar
 sidecar_row None = refl
 sidecar_row (Some text) = there (bytes_eq text (codes "Always"))
   where
@@ -256,7 +295,8 @@ is_sidecar (Some text) role e = there (bytes_eq text (codes "Always")) e
     there true e = cc
     there false e = absurd (cc)
 
-probes_read : (place : Place) (own_policy : Option Data) (role : Role) (d : Data) → role_of place own_policy ≡ Ok role → Reads (probes_of role d) (probes_rows place own_policy d)
+probes_read : (place : Place) (own_policy : Option Data) (role : Role) (d : Data) → role_of place own_policy ≡ Ok role
+    → Reads (probes_of role d) (probes_rows place own_policy d)
 probes_read InitContainers None role d e = let is : role ≡ Init = cc in rw is (unprobed_read d)
 probes_read InitContainers (Some policy) role d e = rw (is_sidecar (as_str policy) role e) (some_probes_read d)
 probes_read Containers None role d e = let is : role ≡ App = cc in rw is (some_probes_read d)
@@ -269,13 +309,15 @@ container_read place d =
     let own_policy = field_at (codes "restartPolicy") d in
     let resources = field_at (codes "resources") d in
     object_step (field_of place) d _ _ (
-    step_row (required_text is_label fields.ContainerName name) _ _ _ (required_row is_label fields.ContainerName name) (λ n e.
+    step_row (required_text is_label fields.ContainerName name) _ _ _
+    (required_row is_label fields.ContainerName name) (λ n e.
     step_row (role_of place own_policy) _ _ _ (role_row place own_policy) (λ role f.
     step (resources_of resources) _ (resource_rows resources) _ (resources_read resources) (λ r g.
     last_step (probes_of role d) _ (probes_rows place own_policy d) (probes_read place own_policy role d f)))))
 
 -- names
-required_given : (test : List ℕ → Bool) (field : Field) (found : Option Data) (s : List ℕ) → required_text test field found ≡ Ok s → option_and_then as_str found ≡ Some s
+required_given : (test : List ℕ → Bool) (field : Field) (found : Option Data) (s : List ℕ)
+    → required_text test field found ≡ Ok s → option_and_then as_str found ≡ Some s
 required_given test field None s e = absurd (cc)
 required_given test field (Some d) s e = there (as_str d) e
   where
@@ -303,7 +345,8 @@ name_given place d c e =
     named : {a b : ContainerSpec} → ◌≡◌ {A = Result ContainerSpec ManifestFault} (Ok a) (Ok b) → a.name ≡ b.name
     named {a = a} {b = b} e = let is : a ≡ b = cc in ap (λ (x : ContainerSpec). x.name) is
 
-names_given : (place : Place) (ds : List Data) (cs : List ContainerSpec) → each (container_of place) ds ≡ Ok cs → names_of cs ≡ map name_in ds
+names_given : (place : Place) (ds : List Data) (cs : List ContainerSpec) → each (container_of place) ds ≡ Ok cs
+    → names_of cs ≡ map name_in ds
 names_given place [] cs e = let is : cs ≡ [] = cc in rw is refl
 names_given place (d ∷ ds) cs e =
     let one = bind_ok (container_of place d) _ cs e in
@@ -311,7 +354,8 @@ names_given place (d ∷ ds) cs e =
     let is : one.0 ∷ rest.0 ≡ cs = cc in
     rw (← is, name_given place d one.0 one.1, names_given place ds rest.0 rest.1) refl
 
-any_named : (name : List ℕ) (cs : List ContainerSpec) → list_any (λ (c : ContainerSpec). bytes_eq c.name name) cs ≡ list_any (λ (other : List ℕ). bytes_eq other name) (names_of cs)
+any_named : (name : List ℕ) (cs : List ContainerSpec) → list_any (λ (c : ContainerSpec). bytes_eq c.name name)
+    cs ≡ list_any (λ (other : List ℕ). bytes_eq other name) (names_of cs)
 any_named name [] = refl
 any_named name (c ∷ cs) = ap (λ (b : Bool). bytes_eq c.name name || b) (any_named name cs)
 
@@ -327,22 +371,29 @@ named_in : (xs ys : List Data) → map name_in (xs ++ ys) ≡ map name_in xs ++ 
 named_in [] ys = refl
 named_in (x ∷ xs) ys = ap (λ (names : List (List ℕ)). name_in x ∷ names) (named_in xs ys)
 
-containers_read : (init_items items : List Data) → Reads (containers_of init_items items) (containers_rows init_items items)
+containers_read : (init_items items : List Data) → Reads (containers_of init_items items)
+    (containers_rows init_items items)
 unfolding containers_of containers_rows
 containers_read init_items items =
     let many = nat_lt 16 (length init_items + length items) in
     step_row (refused_if many TooMany) _ _ _ (refused many TooMany) (λ u e.
     step (each (container_of InitContainers) init_items) _ (flat_map (container_rows InitContainers) init_items) _
-    (each_rows (container_of InitContainers) (container_rows InitContainers) (container_read InitContainers) init_items) (λ init f.
+    (each_rows (container_of InitContainers) (container_rows InitContainers) (container_read InitContainers)
+    init_items) (λ init f.
     step (each (container_of Containers) items) _ (flat_map (container_rows Containers) items) _
     (each_rows (container_of Containers) (container_rows Containers) (container_read Containers) items) (λ apps g.
     step_row (refused_if (has_twice (init ++ apps)) DuplicateContainer) _ _ _
-    (refused (has_twice (init ++ apps)) DuplicateContainer ∙ ap (λ (b : Bool). fails_if b DuplicateContainer) (doubled init apps f g)) (λ v h. read _))))
+    (refused (has_twice (init ++ apps)) DuplicateContainer ∙ ap (λ (b : Bool). fails_if b DuplicateContainer)
+    (doubled init apps f g)) (λ v h. read _))))
   where
-    doubled : (init apps : List ContainerSpec) → each (container_of InitContainers) init_items ≡ Ok init → each (container_of Containers) items ≡ Ok apps
+    doubled : (init apps : List ContainerSpec) → each (container_of InitContainers) init_items ≡ Ok init
+        → each (container_of Containers) items ≡ Ok apps
         → has_twice (init ++ apps) ≡ has_double (map name_in (init_items ++ items))
     doubled init apps f g =
-        twice_double (init ++ apps) ∙ ap has_double (names_joined init apps ∙ (rw (names_given InitContainers init_items init f, names_given Containers items apps g) refl) ∙ sym (named_in init_items items))
+        twice_double (init ++ apps)
+        ∙ ap has_double (names_joined init apps
+        ∙ (rw (names_given InitContainers init_items init f, names_given Containers items apps g) refl)
+        ∙ sym (named_in init_items items))
 
 -- a pod
 metadata_read : (found : Option Data) → Reads (metadata_of found) (metadata_rows found)
@@ -353,21 +404,24 @@ metadata_read (Some d) =
     let namespace = field_at (codes "namespace") d in
     object_step fields.Metadata d _ _ (
     step_row (required_text is_name fields.Name name) _ _ _ (required_row is_name fields.Name name) (λ n e.
-    step_row (text_or (codes "default") is_label fields.Namespace namespace) _ _ _ (text_row (codes "default") is_label fields.Namespace namespace) (λ l f. read _)))
+    step_row (text_or (codes "default") is_label fields.Namespace namespace) _ _ _
+    (text_row (codes "default") is_label fields.Namespace namespace) (λ l f. read _)))
 
 abbrev containers_in_rows : Data → List Row
 containers_in_rows spec =
     may_be is_array fields.InitContainers (field_at (codes "initContainers") spec)
     ∷ must_be is_array fields.Containers (field_at (codes "containers") spec)
     ∷ fails_if (is_empty (items_in (field_at (codes "containers") spec))) (Missing fields.Containers)
-    ∷ containers_rows (items_in (field_at (codes "initContainers") spec)) (items_in (field_at (codes "containers") spec))
+    ∷ containers_rows (items_in (field_at (codes "initContainers") spec))
+    (items_in (field_at (codes "containers") spec))
 
 containers_in_read : (spec : Data) → Reads (containers_in spec) (containers_in_rows spec)
 unfolding containers_in
 containers_in_read spec =
     let init_containers = field_at (codes "initContainers") spec in
     let containers = field_at (codes "containers") spec in
-    array_step fields.InitContainers init_containers _ _ (items_step containers _ _ (containers_read (items_in init_containers) (items_in containers)))
+    array_step fields.InitContainers init_containers _ _
+    (items_step containers _ _ (containers_read (items_in init_containers) (items_in containers)))
 
 spec_read : (found : Option Data) → Reads (spec_of found) (spec_rows found)
 unfolding spec_of spec_rows

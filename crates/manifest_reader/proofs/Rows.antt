@@ -1,6 +1,7 @@
 -- Rows of a table of checks, beside reading step by step: the first row that is failed is the first
 -- step that is refused.
-use Rattle.std.proofs.Common.{◌≡◌, ◌∙◌, Bool, true, false, List, [], ◌∷◌, ◌++◌, map, All, Option, Some, None, Result, Ok, Err, refl, ap, sym}
+use Rattle.std.proofs.Common.{◌≡◌, ◌∙◌, Bool, true, false, List, [], ◌∷◌, ◌++◌, map, All, Option, Some, None, Result}
+use Rattle.std.proofs.Common.{Ok, Err, refl, ap, sym}
 use Rattle.std.specs.Prelude.{◌↔◌, if◌then◌else◌}
 use Rattle.std.specs.List.{flat_map}
 use Rattle.std.specs.Option.{option_or}
@@ -42,17 +43,20 @@ step (Ok x) f rows rest here later = record { same = rw (first_append rows rest,
 step (Err fault) f rows rest here later = record { same = rw (first_append rows rest, ← here.same) refl }
 
 -- a step of one row
-pub step_row : {A B : Type 0} (r : Result A ManifestFault) (f : A → Result B ManifestFault) (row : Row) (rest : List Row)
+pub step_row : {A B : Type 0} (r : Result A ManifestFault) (f : A → Result B ManifestFault) (row : Row)
+    (rest : List Row)
     → fault_of r ≡ row → ((x : A) → r ≡ Ok x → Reads (f x) rest) → Reads (r >>= f) (row ∷ rest)
 step_row (Ok x) f row rest here later = record { same = rw (← here) (later x refl).same }
 step_row (Err fault) f row rest here later = record { same = rw (← here) refl }
 
 -- the last step
-pub last_step : {A B : Type 0} (r : Result A ManifestFault) (g : A → B) (rows : List Row) → Reads r rows → Reads (r >>= λ x. Ok (g x)) rows
+pub last_step : {A B : Type 0} (r : Result A ManifestFault) (g : A → B) (rows : List Row) → Reads r rows
+    → Reads (r >>= λ x. Ok (g x)) rows
 last_step (Ok x) g rows here = record { same = here.same }
 last_step (Err fault) g rows here = record { same = here.same }
 
-pub fault_if : {A : Type 0} (b : Bool) (x : A) (fault : ManifestFault) → fault_of (if b then Ok x else Err fault) ≡ (if b then None else Some fault)
+pub fault_if : {A : Type 0} (b : Bool) (x : A) (fault : ManifestFault)
+    → fault_of (if b then Ok x else Err fault) ≡ (if b then None else Some fault)
 fault_if true x fault = refl
 fault_if false x fault = refl
 
@@ -61,9 +65,11 @@ refused true fault = refl
 refused false fault = refl
 
 -- items, each with its rows
-pub each_rows : {A B : Type 0} (f : A → Result B ManifestFault) (rows : A → List Row) → ((x : A) → Reads (f x) (rows x)) → (xs : List A) → Reads (each f xs) (flat_map rows xs)
+pub each_rows : {A B : Type 0} (f : A → Result B ManifestFault) (rows : A → List Row)
+    → ((x : A) → Reads (f x) (rows x)) → (xs : List A) → Reads (each f xs) (flat_map rows xs)
 each_rows f rows one [] = read []
-each_rows f rows one (x ∷ xs) = step (f x) _ (rows x) (flat_map rows xs) (one x) (λ y e. last_step (each f xs) (λ ys. y ∷ ys) (flat_map rows xs) (each_rows f rows one xs))
+each_rows f rows one (x ∷ xs) = step (f x) _ (rows x) (flat_map rows xs) (one x)
+    (λ y e. last_step (each f xs) (λ ys. y ∷ ys) (flat_map rows xs) (each_rows f rows one xs))
 
 abbrev pub IsPassed : {C : Type 0} → (C → Row) → C → Type 0
 IsPassed answer check = answer check ≡ None
@@ -77,7 +83,8 @@ pub record Splits {C : Type 0} (answer : C → Row) (checks : List C) (fault : M
   pub passed : All (IsPassed answer) earlier
   pub failed : answer check ≡ Some fault
 
-one_more : {C : Type 0} (answer : C → Row) (c : C) (cs : List C) (fault : ManifestFault) → answer c ≡ None → Splits answer cs fault → Splits answer (c ∷ cs) fault
+one_more : {C : Type 0} (answer : C → Row) (c : C) (cs : List C) (fault : ManifestFault) → answer c ≡ None
+    → Splits answer cs fault → Splits answer (c ∷ cs) fault
 one_more answer c cs fault passes rest = record {
   earlier = c ∷ rest.earlier;
   check = rest.check;
@@ -87,15 +94,25 @@ one_more answer c cs fault passes rest = record {
   failed = rest.failed;
 }
 
-first_failed : {C : Type 0} (answer : C → Row) (checks : List C) (fault : ManifestFault) → first (map answer checks) ≡ Some fault → Splits answer checks fault
+first_failed : {C : Type 0} (answer : C → Row) (checks : List C) (fault : ManifestFault)
+    → first (map answer checks) ≡ Some fault → Splits answer checks fault
 first_failed answer [] fault e = absurd (cc)
 first_failed answer (c ∷ cs) fault e = there (answer c) refl e (first_failed answer cs fault)
   where
-    there : (row : Row) → answer c ≡ row → option_or row (first (map answer cs)) ≡ Some fault → (first (map answer cs) ≡ Some fault → Splits answer cs fault) → Splits answer (c ∷ cs) fault
+    there : (row : Row) → answer c ≡ row → option_or row (first (map answer cs)) ≡ Some fault
+        → (first (map answer cs) ≡ Some fault → Splits answer cs fault) → Splits answer (c ∷ cs) fault
     there None passes e later = one_more answer c cs fault passes (later e)
-    there (Some other) fails e later = record { earlier = []; check = c; later = cs; in_order = refl; passed = All-nil (IsPassed answer); failed = fails ∙ e }
+    there (Some other) fails e later = record {
+      earlier = [];
+      check = c;
+      later = cs;
+      in_order = refl;
+      passed = All-nil (IsPassed answer);
+      failed = fails ∙ e;
+    }
 
-first_of : {C : Type 0} (answer : C → Row) (earlier : List C) (check : C) (later : List C) (fault : ManifestFault) → All (IsPassed answer) earlier → answer check ≡ Some fault
+first_of : {C : Type 0} (answer : C → Row) (earlier : List C) (check : C) (later : List C) (fault : ManifestFault)
+    → All (IsPassed answer) earlier → answer check ≡ Some fault
     → first (map answer (earlier ++ check ∷ later)) ≡ Some fault
 first_of answer [] check later fault passed failed = rw failed refl
 first_of answer (c ∷ cs) check later fault passed failed =
@@ -103,15 +120,18 @@ first_of answer (c ∷ cs) check later fault passed failed =
     rw here (first_of answer cs check later fault (All-tail (IsPassed answer) c cs passed) failed)
 
 -- no check is failed
-all_passed : {C : Type 0} (answer : C → Row) (checks : List C) → first (map answer checks) ≡ None → All (IsPassed answer) checks
+all_passed : {C : Type 0} (answer : C → Row) (checks : List C) → first (map answer checks) ≡ None
+    → All (IsPassed answer) checks
 all_passed answer [] e = All-nil (IsPassed answer)
 all_passed answer (c ∷ cs) e = there (answer c) refl e (all_passed answer cs)
   where
-    there : (row : Row) → answer c ≡ row → option_or row (first (map answer cs)) ≡ None → (first (map answer cs) ≡ None → All (IsPassed answer) cs) → All (IsPassed answer) (c ∷ cs)
+    there : (row : Row) → answer c ≡ row → option_or row (first (map answer cs)) ≡ None
+        → (first (map answer cs) ≡ None → All (IsPassed answer) cs) → All (IsPassed answer) (c ∷ cs)
     there None passes e later = All-cons (IsPassed answer) c cs passes (later e)
     there (Some fault) fails e later = absurd (cc)
 
-passed_all : {C : Type 0} (answer : C → Row) (checks : List C) → All (IsPassed answer) checks → first (map answer checks) ≡ None
+passed_all : {C : Type 0} (answer : C → Row) (checks : List C) → All (IsPassed answer) checks
+    → first (map answer checks) ≡ None
 passed_all answer [] all = refl
 passed_all answer (c ∷ cs) all =
     let here : answer c ≡ None = All-head (IsPassed answer) c cs all in
@@ -126,14 +146,17 @@ is_read (Ok x) e = (x, refl)
 is_read (Err fault) e = absurd (cc)
 
 -- what is read with these checks is refused exactly with the first of them that is failed
-pub first_check : {A C : Type 0} (r : Result A ManifestFault) (answer : C → Row) (checks : List C) → Reads r (map answer checks) → (fault : ManifestFault) → (r ≡ Err fault ↔ Splits answer checks fault)
+pub first_check : {A C : Type 0} (r : Result A ManifestFault) (answer : C → Row) (checks : List C)
+    → Reads r (map answer checks) → (fault : ManifestFault) → (r ≡ Err fault ↔ Splits answer checks fault)
 first_check r answer checks reads fault = (
   (λ e. first_failed answer checks fault (sym reads.same ∙ ap fault_of e)),
-  (λ is. is_refused r fault (reads.same ∙ ap (λ (cs : List _). first (map answer cs)) is.in_order ∙ first_of answer is.earlier is.check is.later fault is.passed is.failed)),
+  (λ is. is_refused r fault (reads.same ∙ ap (λ (cs : List _). first (map answer cs)) is.in_order
+      ∙ first_of answer is.earlier is.check is.later fault is.passed is.failed)),
 )
 
 -- and read exactly where each is passed
-pub every_check : {A C : Type 0} (r : Result A ManifestFault) (answer : C → Row) (checks : List C) → Reads r (map answer checks)
+pub every_check : {A C : Type 0} (r : Result A ManifestFault) (answer : C → Row) (checks : List C)
+    → Reads r (map answer checks)
     → (((x : A) × (r ≡ Ok x)) ↔ All (IsPassed answer) checks)
 every_check r answer checks reads = (
   (λ w. all_passed answer checks (sym reads.same ∙ ap fault_of w.1)),

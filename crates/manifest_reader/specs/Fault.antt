@@ -4,7 +4,10 @@ use Rattle.quantity_fields.specs.declared.fault.FieldFault.{FieldFault}
 use Rattle.quantity_fields.specs.declared.fault.FieldFault.TheVariants.{WrongKind as OtherKind, Faulty}
 use Rattle.manifest_reader.specs.declared.fault.Field.TheVariants as fields
 use Rattle.manifest_reader.specs.declared.fault.ManifestFault.{ManifestFault}
-use Rattle.manifest_reader.specs.declared.fault.ManifestFault.TheVariants.{Missing, WrongKind, Quantity, ProbeRange, InitProbe, RequestAboveLimit, DuplicateContainer, Sidecar, TooMany, OutOfMemory}
+use Rattle.manifest_reader.specs.declared.fault.ManifestFault.TheVariants.{Missing, WrongKind, Quantity, ProbeRange}
+use Rattle.manifest_reader.specs.declared.fault.ManifestFault.TheVariants.{InitProbe, RequestAboveLimit}
+use Rattle.manifest_reader.specs.declared.fault.ManifestFault.TheVariants.{DuplicateContainer, Sidecar, TooMany}
+use Rattle.manifest_reader.specs.declared.fault.ManifestFault.TheVariants.{OutOfMemory}
 
 abbrev pub number_of : ManifestFault → ℕ
 number_of (Missing field) = 11

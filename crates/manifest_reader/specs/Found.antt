@@ -1,6 +1,8 @@
 -- What the checks of a manifest look at, and the faults that they answer. What stands in no object
 -- has no fields. (Kubernetes API, `Pod`.)
-use Rattle.std.specs.Prelude.{ℕ, pos, negsuc, int_le, nat_lt, ◌^◌, ◌&&◌, ◌||◌, Bool, true, false, not, List, [], ◌∷◌, Option, Some, None, is_some, unwrap_or, option_and_then, if◌then◌else◌, Result, Ok, Err, bytes_eq, codes}
+use Rattle.std.specs.Prelude.{ℕ, pos, negsuc, int_le, nat_lt, ◌^◌, ◌&&◌, ◌||◌, Bool, true, false, not, List, [], ◌∷◌}
+use Rattle.std.specs.Prelude.{Option, Some, None, is_some, unwrap_or, option_and_then, if◌then◌else◌, Result, Ok, Err}
+use Rattle.std.specs.Prelude.{bytes_eq, codes}
 use Rattle.std.specs.List.{list_any}
 use Rattle.serde_json.specs.Data.{Data, Items}
 use Rattle.serde_json.specs.Find.{as_str, as_number, as_i64, as_u64, as_array, as_object}
@@ -64,7 +66,8 @@ is_policy text = bytes_eq text (codes "Always") || bytes_eq text (codes "OnFailu
 
 -- from -2^31 to 2^31 - 1
 abbrev pub is_priority : Data → Bool
-is_priority d = is_some_and (λ z. int_le (negsuc 2147483647) z && int_le z (pos 2147483647)) (option_and_then as_i64 (as_number d))
+is_priority d = is_some_and (λ z. int_le (negsuc 2147483647) z && int_le z (pos 2147483647))
+    (option_and_then as_i64 (as_number d))
 
 -- from 0 to 2^40 - 1
 abbrev pub is_grace_period : Data → Bool

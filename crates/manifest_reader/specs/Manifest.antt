@@ -1,7 +1,8 @@
 -- What a manifest says of a pod, or its first fault: one line for each field, in the order in which
 -- they are read (Kubernetes API, `Pod`; "Pod Lifecycle", "Container restart policy"; "Pod Priority
 -- and Preemption").
-use Rattle.std.specs.Prelude.{ℕ, ℤ, pos, negsuc, int_le, ⊤, ◌^◌, ◌+◌, ◌&&◌, List, ◌++◌, length, nat_lt, Option, Some, None, option_and_then, if◌then◌else◌, Result, Ok, Err, bytes_eq, codes}
+use Rattle.std.specs.Prelude.{ℕ, ℤ, pos, negsuc, int_le, ⊤, ◌^◌, ◌+◌, ◌&&◌, List, ◌++◌, length, nat_lt, Option, Some}
+use Rattle.std.specs.Prelude.{None, option_and_then, if◌then◌else◌, Result, Ok, Err, bytes_eq, codes}
 use Rattle.serde_json.specs.Data.{Data}
 use Rattle.serde_json.specs.Find.{as_str, as_number, as_i64, as_u64}
 use Rattle.json_fields.specs.Fields.{field_at}
@@ -41,7 +42,8 @@ policy_of (Some d) = policy_from (as_str d)
 
 abbrev pub priority_from : Option ℤ → Result ℤ ManifestFault
 priority_from None = Err (WrongKind fields.Priority)
-priority_from (Some z) = if int_le (negsuc 2147483647) z && int_le z (pos 2147483647) then Ok z else Err (WrongKind fields.Priority)
+priority_from (Some z) = if int_le (negsuc 2147483647) z && int_le z (pos 2147483647) then Ok z else Err
+    (WrongKind fields.Priority)
 
 -- a whole number of 32 bits; 0 where none is written
 abbrev pub priority_of : Option Data → Result ℤ ManifestFault

@@ -1,6 +1,7 @@
 -- The probes that a manifest writes (Kubernetes, "Configure Liveness, Readiness and Startup
 -- Probes").
-use Rattle.std.specs.Prelude.{ℕ, ◌^◌, ◌-◌, ◌&&◌, ℤ, nat_le, Option, Some, None, option_and_then, if◌then◌else◌, Result, Ok, Err, codes}
+use Rattle.std.specs.Prelude.{ℕ, ◌^◌, ◌-◌, ◌&&◌, ℤ, nat_le, Option, Some, None, option_and_then, if◌then◌else◌}
+use Rattle.std.specs.Prelude.{Result, Ok, Err, codes}
 use Rattle.serde_json.specs.Data.{Data}
 use Rattle.serde_json.specs.Find.{as_number, as_i64, as_u64}
 use Rattle.json_fields.specs.Fields.{field_at}
@@ -43,7 +44,13 @@ probe_in most_successes d = do
   timeout ← number_of 1 greatest 1 (field_at (codes "timeoutSeconds") probe)
   successes ← number_of 1 most_successes 1 (field_at (codes "successThreshold") probe)
   failures ← number_of 1 greatest 3 (field_at (codes "failureThreshold") probe)
-  Ok (record { initial_delay_seconds = initial_delay; period_seconds = period; timeout_seconds = timeout; success_threshold = successes; failure_threshold = failures })
+  Ok (record {
+    initial_delay_seconds = initial_delay;
+    period_seconds = period;
+    timeout_seconds = timeout;
+    success_threshold = successes;
+    failure_threshold = failures;
+  })
 
 -- a probe that may be left out
 abbrev pub probe_of : ℕ → Option Data → Result (Option Probe) ManifestFault

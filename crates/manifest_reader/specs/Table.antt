@@ -7,7 +7,8 @@ use Rattle.serde_json.specs.Data.{Data}
 use Rattle.json_fields.specs.Fields.{field_at}
 use Rattle.manifest_reader.specs.declared.fault.Field.TheVariants as fields
 use Rattle.manifest_reader.specs.declared.fault.ManifestFault.{ManifestFault}
-use Rattle.manifest_reader.specs.declared.fault.ManifestFault.TheVariants.{Missing, InitProbe, RequestAboveLimit, DuplicateContainer, TooMany}
+use Rattle.manifest_reader.specs.declared.fault.ManifestFault.TheVariants.{Missing, InitProbe, RequestAboveLimit}
+use Rattle.manifest_reader.specs.declared.fault.ManifestFault.TheVariants.{DuplicateContainer, TooMany}
 use Rattle.manifest.specs.declared.outcome.ProbeKind.{ProbeKind}
 use Rattle.manifest.specs.declared.outcome.ProbeKind.TheVariants.{Startup, Liveness, Readiness}
 use Rattle.manifest.specs.declared.pod.Place.{Place}
@@ -18,7 +19,11 @@ use Rattle.manifest.specs.Names.{is_name, is_label}
 use Rattle.manifest_reader.specs.ResourceFields.{quantity_at}
 use Rattle.manifest_reader.specs.ProbeFields.{greatest}
 use Rattle.manifest_reader.specs.Manifest.{field_of}
-use Rattle.manifest_reader.specs.Found.{fault_of, fails_if, is_so, must_be, may_be, is_object, is_array, is_text, is_policy, is_priority, is_grace_period, is_empty, has_request_above_limit, number_fault, own_policy_fault, has_double, name_in, in_metadata, in_spec, init_items, app_items, requests_in, limits_in, amount_at, probe_at, most_successes}
+use Rattle.manifest_reader.specs.Found.{fault_of, fails_if, is_so, must_be, may_be, is_object, is_array, is_text}
+use Rattle.manifest_reader.specs.Found.{is_policy, is_priority, is_grace_period, is_empty, has_request_above_limit}
+use Rattle.manifest_reader.specs.Found.{number_fault, own_policy_fault, has_double, name_in, in_metadata, in_spec}
+use Rattle.manifest_reader.specs.Found.{init_items, app_items, requests_in, limits_in, amount_at, probe_at}
+use Rattle.manifest_reader.specs.Found.{most_successes}
 
 -- a check of the table, one constructor for each row; a row of a container has the item of
 -- `initContainers` or `containers` that it looks at
@@ -66,13 +71,15 @@ fault_at d namespace_is_valid = may_be (is_text is_label) fields.Namespace (in_m
 fault_at d spec_is_object = must_be is_object fields.Spec (field_at (codes "spec") d)
 fault_at d restart_policy_is_known = may_be (is_text is_policy) fields.RestartPolicy (in_spec (codes "restartPolicy") d)
 fault_at d priority_in_range = may_be is_priority fields.Priority (in_spec (codes "priority") d)
-fault_at d grace_period_in_range = may_be is_grace_period fields.GracePeriod (in_spec (codes "terminationGracePeriodSeconds") d)
+fault_at d grace_period_in_range = may_be is_grace_period fields.GracePeriod
+    (in_spec (codes "terminationGracePeriodSeconds") d)
 fault_at d init_containers_are_array = may_be is_array fields.InitContainers (in_spec (codes "initContainers") d)
 fault_at d containers_are_array = must_be is_array fields.Containers (in_spec (codes "containers") d)
 fault_at d containers_not_empty = fails_if (is_empty (app_items d)) (Missing fields.Containers)
 fault_at d containers_are_few = fails_if (nat_lt 16 (length (init_items d) + length (app_items d))) TooMany
 fault_at d (container_is_object place item) = is_so is_object (field_of place) item
-fault_at d (container_name_is_valid item) = must_be (is_text is_label) fields.ContainerName (field_at (codes "name") item)
+fault_at d (container_name_is_valid item) = must_be (is_text is_label) fields.ContainerName
+    (field_at (codes "name") item)
 fault_at d (own_policy_is_allowed place item) = own_policy_fault place (field_at (codes "restartPolicy") item)
 fault_at d (resources_are_object item) = may_be is_object fields.Resources (field_at (codes "resources") item)
 fault_at d (requests_are_object item) = may_be is_object fields.Resources (requests_in item)

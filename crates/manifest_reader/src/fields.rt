@@ -3,7 +3,8 @@
 ghost use Rattle.std.specs.Prelude.{◌≡◌, ◌<◌, length, map, option_map, IfOk};
 ghost use Rattle.serde_json.specs.View.{view};
 ghost use Rattle.manifest_reader.specs.Gives.{Gives, GivesExactly};
-ghost use Rattle.manifest_reader.specs.Fields.{object_of, array_of, array_or_none, some_items, text_of, required_text, text_or, absent};
+ghost use Rattle.manifest_reader.specs.Fields.{object_of, array_of, array_or_none, some_items, text_of};
+ghost use Rattle.manifest_reader.specs.Fields.{required_text, text_or, absent};
 ghost use Rattle.manifest_reader.specs.Grammar.{passes};
 
 use crate::fault::{Field, ManifestFault};
@@ -34,7 +35,8 @@ pub(crate) fn array(field: Field, found: Option<&Value>) -> Result<&[Value], Man
 }
 
 pub(crate) fn array_or_none(field: Field, found: Option<&Value>) -> Result<&[Value], ManifestFault>
-    ensures { GivesExactly (λ v. map view v.now) result (array_or_none field (option_map (λ v. view v.now) found.entry)) }
+    ensures { GivesExactly (λ v. map view v.now) result
+        (array_or_none field (option_map (λ v. view v.now) found.entry)) }
 {
     if found.is_none() {
         return Ok(&[]);
@@ -110,7 +112,8 @@ pub(crate) fn text_or(
     field: Field,
     found: Option<&Value>,
 ) -> Result<Text, ManifestFault>
-    ensures { Gives (λ t. t) result (text_or default.now (passes grammar) field (option_map (λ v. view v.now) found.entry)) }
+    ensures { Gives (λ t. t) result
+        (text_or default.now (passes grammar) field (option_map (λ v. view v.now) found.entry)) }
 {
     match found {
         None => Ok(Text::new(String::from_str(alloc, default)?)),

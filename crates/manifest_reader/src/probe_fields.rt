@@ -5,7 +5,8 @@ ghost use Rattle.serde_json.specs.View.{view};
 ghost use Rattle.manifest.specs.declared.pod.Role.TheVariants.{Init};
 ghost use Rattle.manifest_reader.specs.Gives.{GivesExactly};
 ghost use Rattle.manifest.specs.Probe.{SucceedsByOne, no_probes};
-ghost use Rattle.manifest_reader.specs.ProbeFields.{in_range, number_of, probe_in, probe_of, some_probes, unprobed, probes_of};
+ghost use Rattle.manifest_reader.specs.ProbeFields.{in_range, number_of, probe_in, probe_of, some_probes, unprobed};
+ghost use Rattle.manifest_reader.specs.ProbeFields.{probes_of};
 
 use crate::fault::{Field, ManifestFault};
 use crate::fields::{absent, object};
@@ -34,7 +35,8 @@ fn number_of(
     found: Option<&Value>,
 ) -> Result<u32, ManifestFault>
     requires { (least ≤ default) × (default ≤ most) }
-    ensures gives { GivesExactly (λ n. n) result (number_of least most default (option_map (λ v. view v.now) found.entry)) }
+    ensures gives { GivesExactly (λ n. n) result
+        (number_of least most default (option_map (λ v. view v.now) found.entry)) }
     ensures range { IfOk result (λ n. (least ≤ n) × (n ≤ most)) }
 {
     let Some(value) = found else {

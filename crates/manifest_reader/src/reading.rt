@@ -7,7 +7,10 @@ ghost use Rattle.json_fields.specs.Reading.{each};
 ghost use Rattle.manifest.specs.declared.pod.Role.TheVariants.{Sidecar};
 ghost use Rattle.manifest_reader.specs.Gives.{Gives, GivesExactly};
 ghost use Rattle.manifest.specs.Containers.{has_twice, MayHave, IsOf, AllOf};
-ghost use Rattle.manifest_reader.specs.Manifest.{policy_of, priority_from, priority_of, grace_period_from, grace_period_of, field_of, sidecar_from, role_of, container_of, few, apart, containers_of, app_items_of, containers_in, metadata_of, settings_in, spec_of, pod_at};
+ghost use Rattle.manifest_reader.specs.Manifest.{policy_of, priority_from, priority_of, grace_period_from};
+ghost use Rattle.manifest_reader.specs.Manifest.{grace_period_of, field_of, sidecar_from, role_of, container_of, few};
+ghost use Rattle.manifest_reader.specs.Manifest.{apart, containers_of, app_items_of, containers_in, metadata_of};
+ghost use Rattle.manifest_reader.specs.Manifest.{settings_in, spec_of, pod_at};
 
 use crate::fault::{Field, ManifestFault};
 use crate::fields::{Grammar, array, array_or_none, object, required_text, some_items, text_or};
@@ -210,7 +213,8 @@ fn containers_of(
 /// The items of an array of app containers, of which there is at least one.
 #[tactic(auto, unfolding(crate::specs::Manifest::app_items_of))]
 fn app_items_of(found: Option<&Value>) -> Result<&[Value], ManifestFault>
-    ensures gives { GivesExactly (λ v. map view v.now) result (app_items_of (option_map (λ v. view v.now) found.entry)) }
+    ensures gives { GivesExactly (λ v. map view v.now) result
+        (app_items_of (option_map (λ v. view v.now) found.entry)) }
     ensures some { IfOk result (λ v. 0 < length v.now) }
 {
     let listed = array(Field::Containers, found)?;

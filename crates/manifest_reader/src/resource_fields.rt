@@ -4,7 +4,8 @@ ghost use Rattle.std.specs.Prelude.{◌≡◌, false, option_map, OnOk};
 ghost use Rattle.serde_json.specs.View.{view};
 ghost use Rattle.manifest_reader.specs.Gives.{GivesExactly};
 ghost use Rattle.manifest.specs.Resources.{some_above};
-ghost use Rattle.manifest_reader.specs.ResourceFields.{quantity_at, amounts_in, amounts_of, within, resources_in, resources_of};
+ghost use Rattle.manifest_reader.specs.ResourceFields.{quantity_at, amounts_in, amounts_of, within, resources_in};
+ghost use Rattle.manifest_reader.specs.ResourceFields.{resources_of};
 
 use crate::fault::{Field, ManifestFault};
 use crate::fields::object;

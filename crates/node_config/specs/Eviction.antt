@@ -27,4 +27,5 @@ pub record HasCapacity (capacity : Option ℕ) (threshold : Threshold) : Type 0 
 
 -- each percentage among these thresholds has
 abbrev pub HaveCapacities : BySignal (Option ℕ) → BySignal (Option Threshold) → Type 0
-HaveCapacities capacity thresholds = (signal : Signal) (threshold : Threshold) → of thresholds signal ≡ Some threshold → HasCapacity (of capacity signal) threshold
+HaveCapacities capacity thresholds = (signal : Signal) (threshold : Threshold) → of thresholds signal ≡ Some threshold
+    → HasCapacity (of capacity signal) threshold

@@ -1,5 +1,6 @@
 -- The pods of a summary, by their numbers.
-use Rattle.std.proofs.Common.{◌≡◌, ◌∙◌, ℕ, suc, zero, ◌<◌, List, [], ◌∷◌, length, take, get_or, Option, Some, ap, sym, subst}
+use Rattle.std.proofs.Common.{◌≡◌, ◌∙◌, ℕ, suc, zero, ◌<◌, List, [], ◌∷◌, length, take, get_or, Option, Some, ap, sym}
+use Rattle.std.proofs.Common.{subst}
 use Rattle.std.proofs.Common.{arith}
 use Rattle.std.specs.Prelude.{slice_get, option_map}
 use Rattle.std.proofs.lemmas.List.{take_all, length-map}
@@ -23,8 +24,14 @@ pub piece_here : (config : NodeConfig) (pods : List PodSpec) (ticks : List TickO
 piece_here config pods ticks evictions pieces n piece are lt is =
     let many : length pieces ≡ length pods = are.as_many in
     let pod = at_place pods n (omega arith) in
-    let here : Some piece ≡ Some (piece_after config ticks evictions n pod.0) = sym (found pieces n piece lt is) ∙ are.each n pod.0 pod.1 in
-    (pod.0, omega arith, sym (slice_get-get_or pods n pod.0 pod.0 pod.1), let same : piece ≡ piece_after config ticks evictions n pod.0 = cc in same)
+    let here : Some piece ≡ Some (piece_after config ticks evictions n pod.0) = sym (found pieces n piece lt is)
+    ∙ are.each n pod.0 pod.1 in (
+      pod.0,
+      omega arith,
+      sym (slice_get-get_or pods n pod.0 pod.0 pod.1),
+      let same : piece ≡ piece_after config ticks
+          evictions n pod.0 = cc in same,
+    )
   where
     found : (xs : List Piece) (k : ℕ) (x : Piece) → k < length xs → x ≡ get_or xs k x → slice_get xs k ≡ Some x
     found [] k x lt e = absurd (omega arith)

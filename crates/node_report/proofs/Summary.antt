@@ -51,7 +51,8 @@ report_is config pods ticks s first with_events lines with_pods with_conditions 
     of header ps end =
         header
         ++ (flat_map (event_line ps) s.events.now
-        ++ (lines ++ (flat_map node_condition_line s.conditions ++ (flat_map (eviction_text ps) s.evictions.now ++ end))))
+        ++ (lines ++ (flat_map node_condition_line s.conditions
+        ++ (flat_map (eviction_text ps) s.evictions.now ++ end))))
 
     title : header_line s.name.now (length s.pods.now) s.ticks ≡ header_line config.name (length pods) (length ticks)
     title =

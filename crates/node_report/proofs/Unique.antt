@@ -1,5 +1,6 @@
 -- There is one report.
-use Rattle.std.proofs.Common.{◌≡◌, ◌∙◌, ℕ, suc, Bool, ◌<◌, List, [], ◌∷◌, length, get_or, Option, slice_index_or, refl, ap, sym, subst, arith}
+use Rattle.std.proofs.Common.{◌≡◌, ◌∙◌, ℕ, suc, Bool, ◌<◌, List, [], ◌∷◌, length, get_or, Option, slice_index_or}
+use Rattle.std.proofs.Common.{refl, ap, sym, subst, arith}
 use Rattle.std.specs.List.{concat}
 use Rattle.histories.proofs.Decide.{same_bool}
 use Rattle.manifest.specs.declared.pod.PodSpec.{PodSpec}
@@ -31,7 +32,8 @@ use Rattle.node_report.specs.Report.{evicting_tick, evicting_order, ArePodLines,
 use Rattle.node_report.specs.Laws.{OneReport}
 
 -- lists of one length with the same items
-same_items : {A : Type 0} (xs ys : List A) → length xs ≡ length ys → ((i : ℕ) (d : A) → i < length xs → get_or xs i d ≡ get_or ys i d) → xs ≡ ys
+same_items : {A : Type 0} (xs ys : List A) → length xs ≡ length ys
+    → ((i : ℕ) (d : A) → i < length xs → get_or xs i d ≡ get_or ys i d) → xs ≡ ys
 same_items [] [] e same = refl
 same_items [] (y ∷ ys) e same = absurd (omega arith)
 same_items (x ∷ xs) [] e same = absurd (omega arith)
@@ -46,26 +48,32 @@ lines_one ticks evictions n pod a b x y =
     let h = pod_ticks ticks n in
     let evicted = evicting_tick n ticks evictions in
     let order = evicting_order n ticks evictions in
-    let lifecycles : x.lifecycle ≡ y.lifecycle = status_one pod evicted h x.lifecycle y.lifecycle x.is_lifecycle y.is_lifecycle in
-    let containers : x.containers ≡ y.containers = same_items x.containers y.containers (x.are_statuses.as_many ∙ sym y.are_statuses.as_many)
+    let lifecycles : x.lifecycle ≡ y.lifecycle = status_one pod evicted h x.lifecycle y.lifecycle x.is_lifecycle
+    y.is_lifecycle in
+    let containers : x.containers ≡ y.containers = same_items x.containers y.containers
+    (x.are_statuses.as_many ∙ sym y.are_statuses.as_many)
     (λ c d lt. container_one pod evicted h c (slice_index_or x.containers c d) (slice_index_or y.containers c d)
-    (x.are_statuses.each c d (omega (arith, x.are_statuses.as_many))) (y.are_statuses.each c d (omega (arith, x.are_statuses.as_many)))) in
+    (x.are_statuses.each c d (omega (arith, x.are_statuses.as_many)))
+    (y.are_statuses.each c d (omega (arith, x.are_statuses.as_many)))) in
     let classes : x.qos ≡ y.qos = one_class pod.containers x.qos y.qos x.is_qos y.is_qos in
     x.text ∙ ap (λ (q : Qos). pod_text n pod q x.lifecycle.phase x.lifecycle.conditions order x.containers) classes
     ∙ ap (λ (s : Lifecycle). pod_text n pod y.qos s.phase s.conditions order x.containers) lifecycles
-    ∙ ap (λ (cs : List ContainerStatus). pod_text n pod y.qos y.lifecycle.phase y.lifecycle.conditions order cs) containers ∙ sym y.text
+    ∙ ap (λ (cs : List ContainerStatus). pod_text n pod y.qos y.lifecycle.phase y.lifecycle.conditions order cs)
+    containers ∙ sym y.text
 
 some_item : {A : Type 0} (xs : List A) (n : ℕ) → n < length xs → A
 some_item [] n lt = absurd (omega arith)
 some_item (x ∷ xs) n lt = x
 
-all_lines_one : (ticks : List TickObs) (evictions : List (Option Eviction)) (pods : List PodSpec) (a b : List ℕ) → AreLines ticks evictions pods a → AreLines ticks evictions pods b → a ≡ b
+all_lines_one : (ticks : List TickObs) (evictions : List (Option Eviction)) (pods : List PodSpec) (a b : List ℕ)
+    → AreLines ticks evictions pods a → AreLines ticks evictions pods b → a ≡ b
 all_lines_one ticks evictions pods a b x y =
     let parts : x.parts ≡ y.parts = same_items x.parts y.parts (x.as_many ∙ sym y.as_many)
     (λ n e lt.
     let within : n < length pods = omega (arith, x.as_many) in
     let d = some_item pods n within in
-    lines_one ticks evictions n (slice_index_or pods n d) (slice_index_or x.parts n e) (slice_index_or y.parts n e) (x.each n d e within) (y.each n d e within)) in
+    lines_one ticks evictions n (slice_index_or pods n d) (slice_index_or x.parts n e) (slice_index_or y.parts n e)
+    (x.each n d e within) (y.each n d e within)) in
     x.whole ∙ ap concat parts ∙ sym y.whole
 
 abbrev status : NodeCondition → Bool → ℕ → ConditionStatus

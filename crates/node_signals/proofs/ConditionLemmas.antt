@@ -29,7 +29,8 @@ same_observations (x ∷ h) (y ∷ k) len moments met =
     let moment : x.moment ≡ y.moment = cc in
     let entry : x.entry ≡ y.entry = same_bool x.entry y.entry (met 0 (omega arith)) in
     let head : recorded x.moment x.entry ≡ recorded y.moment y.entry = cc in
-    let rest : h ≡ k = same_observations h k (omega arith) (λ t lt. moments (suc t) (omega arith)) (λ t lt. met (suc t) (omega arith)) in
+    let rest : h ≡ k = same_observations h k (omega arith) (λ t lt. moments (suc t) (omega arith))
+    (λ t lt. met (suc t) (omega arith)) in
     let P : Observation → Type 0 = λ z. x ∷ h ≡ z ∷ k in
     let Q : List Observation → Type 0 = λ z. x ∷ h ≡ x ∷ z in
     subst P head (subst Q rest refl)
@@ -52,7 +53,11 @@ one_list eviction condition ticks h k a b =
     ((λ m. other.1 (one.0 m)), (λ m. one.1 (other.0 m))))
 
 pub none_observed : (eviction : Eviction) (condition : NodeCondition) → AreObservations eviction condition [] []
-none_observed eviction condition = record { as_many = refl; moments = λ t tick e. absurd (cc); met = λ t tick e. absurd (cc) }
+none_observed eviction condition = record {
+  as_many = refl;
+  moments = λ t tick e. absurd (cc);
+  met = λ t tick e. absurd (cc);
+}
 
 met_here : (h : List Observation) (at : ℕ) (b : Bool) → (IsMetAt (h ++ recorded at b ∷ []) (length h) ↔ IsTrue b)
 met_here [] at b = ((λ m. m), (λ m. m))
@@ -86,16 +91,19 @@ observed_more eviction condition before tick h met is a = record {
         let lt : t < length before = within before t x old in
         let m = met_before h tick.at met t (let many : length h ≡ length before = a.as_many in omega arith) in
         let was = a.met t x old in
-        let same : take (suc t) (before ++ tick ∷ []) ≡ take (suc t) before = take-append-le (suc t) before (tick ∷ []) (omega arith) in
+        let same : take (suc t) (before ++ tick ∷ []) ≡ take (suc t) before = take-append-le (suc t) before
+        (tick ∷ []) (omega arith) in
         let P : List TickObs → Type 0 = λ z. IsMetAt (h ++ recorded tick.at met ∷ []) t ↔ IsMet eviction condition z in
         subst P (sym same) ((λ k. was.0 (m.0 k)), (λ k. m.1 (was.1 k)))
     | inr w ↦
         let here : length h ≡ t = a.as_many ∙ sym w.0 in
         let m = met_here h tick.at met in
         let whole : take (suc t) (before ++ tick ∷ []) ≡ before ++ tick ∷ [] =
-        take_all (suc t) (before ++ tick ∷ []) (let e : t ≡ length before = w.0 in omega (arith, length-more before tick)) in
+        take_all (suc t) (before ++ tick ∷ [])
+        (let e : t ≡ length before = w.0 in omega (arith, length-more before tick)) in
         let P : List TickObs → Type 0 = λ z. IsMetAt (h ++ recorded tick.at met ∷ []) t ↔ IsMet eviction condition z in
-        let Q : ℕ → Type 0 = λ k. IsMetAt (h ++ recorded tick.at met ∷ []) k ↔ IsMet eviction condition (before ++ tick ∷ []) in
+        let Q : ℕ → Type 0 = λ k. IsMetAt (h ++ recorded tick.at met ∷ []) k
+        ↔ IsMet eviction condition (before ++ tick ∷ []) in
         subst P (sym whole) (subst Q here ((λ k. is.0 (m.0 k)), (λ k. m.1 (is.1 k))))
   ];
 }
@@ -112,7 +120,8 @@ true_after eviction period condition ticks h value a is = (
 
 -- a pressure that takes an observation more, whatever they were
 abbrev pub TakesMore : Pressure → ℕ → Bool → Pressure → Type 0
-TakesMore old at met new = (period : ℕ) (h : List Observation) → IsPressureState period h old → IsPressureState period (h ++ recorded at met ∷ []) new
+TakesMore old at met new = (period : ℕ) (h : List Observation) → IsPressureState period h old
+    → IsPressureState period (h ++ recorded at met ∷ []) new
 
 pub pressure_more : (eviction : Eviction) (period : ℕ) (condition : NodeCondition) (before : List TickObs)
     (tick : TickObs) (at : ℕ) (met : Bool) (old new : Pressure)

@@ -48,8 +48,13 @@ pub changed : (event_of : Bool → NodeEvent) (N O : Type 0) (value old : Bool) 
     → beq value old ≡ false
     → Gives (Changes event_of N O) (Some (event_of value))
 changed event_of N O value old now was apart =
-    gives_one (Changes event_of N O) (event_of value)
-    (value, refl, now, (λ is. apart_from value old apart (same_bool value old ((λ t. was.1 (is.0 t)), (λ t. is.1 (was.0 t))))))
+    gives_one (Changes event_of N O) (event_of value) (
+      value,
+      refl,
+      now,
+      (λ is. apart_from value old apart
+          (same_bool value old ((λ t. was.1 (is.0 t)), (λ t. is.1 (was.0 t))))),
+    )
     (λ e c. ap event_of (same_bool value c.0 ((λ t. c.2.1 (now.0 t)), (λ t. now.1 (c.2.0 t)))) ∙ sym c.1)
 
 pub unchanged : (event_of : Bool → NodeEvent) (N O : Type 0) (value old : Bool) → (IsTrue value ↔ N) → (IsTrue old ↔ O)
@@ -65,7 +70,8 @@ unchanged event_of N O value old now was same =
 given_more : {A : Type 0} (P : A → NodeEvent → Type 0) (xs : List A) (x : A) (events : List NodeEvent)
     (event : Option NodeEvent)
     → AreGiven P xs events → Gives (P x) event → AreGiven P (xs ++ x ∷ []) (events ++ as_list event)
-given_more P [] x events event given gives = (event, [], gives, refl, ap (λ k. k ++ as_list event) given ∙ sym (append-nil (as_list event)))
+given_more P [] x events event given gives =
+    (event, [], gives, refl, ap (λ k. k ++ as_list event) given ∙ sym (append-nil (as_list event)))
 given_more P (y ∷ xs) x events event (first, rest, g, given, is) gives = (
   first,
   rest ++ as_list event,
@@ -80,8 +86,12 @@ adds_none P old = ([], refl, sym (append-nil old))
 pub adds_more : {A : Type 0} (P : A → NodeEvent → Type 0) (xs : List A) (x : A) (old mid new : List NodeEvent)
     (event : Option NodeEvent)
     → Adds P xs old mid → Gives (P x) event → new ≡ mid ++ as_list event → Adds P (xs ++ x ∷ []) old new
-adds_more P xs x old mid new event (added, given, is) gives more =
-    (added ++ as_list event, given_more P xs x added event given gives, more ∙ ap (λ k. k ++ as_list event) is ∙ append_assoc old added (as_list event))
+adds_more P xs x old mid new event (added, given, is) gives more = (
+  added ++ as_list event,
+  given_more P xs x added event given gives,
+  more ∙ ap (λ k. k ++ as_list event) is
+      ∙ append_assoc old added (as_list event),
+)
 
 pub given_unique : {A : Type 0} (P : A → NodeEvent → Type 0) (xs : List A) (a b : List NodeEvent) → AreGiven P xs a
     → AreGiven P xs b → a ≡ b
@@ -100,12 +110,15 @@ pub adds_next : (P : ThresholdKey → NodeEvent → Type 0) (place : ℕ) (old m
 adds_next P place old mid new event lt gives more adds =
     let here = key_at serving_order place lt in
     let grown : take (place + 1) serving_order ≡ take place serving_order ++ here.0 ∷ [] =
-    subst (λ k. take k serving_order ≡ take place serving_order ++ here.0 ∷ []) (let e : suc place ≡ place + 1 = omega arith in e) (take_more serving_order place here.0 here.1) in
-    subst (λ (keys : List ThresholdKey). Adds P keys old new) (sym grown) (adds_more P (take place serving_order) here.0 old mid new event adds (gives here.0 here.1) more)
+    subst (λ k. take k serving_order ≡ take place serving_order ++ here.0 ∷ [])
+    (let e : suc place ≡ place + 1 = omega arith in e) (take_more serving_order place here.0 here.1) in
+    subst (λ (keys : List ThresholdKey). Adds P keys old new) (sym grown)
+    (adds_more P (take place serving_order) here.0 old mid new event adds (gives here.0 here.1) more)
 
 pub adds_all : (P : ThresholdKey → NodeEvent → Type 0) (place : ℕ) (old new : List NodeEvent) → 12 ≤ place
     → Adds P (take place serving_order) old new → Adds P serving_order old new
-adds_all P place old new le adds = subst (λ (keys : List ThresholdKey). Adds P keys old new) (take_all place serving_order le) adds
+adds_all P place old new le adds = subst (λ (keys : List ThresholdKey). Adds P keys old new)
+    (take_all place serving_order le) adds
 
 -- of three items one after the other
 pub adds_three : {A : Type 0} (P : A → NodeEvent → Type 0) (x y z : A) (old first second new : List NodeEvent)
@@ -115,7 +128,8 @@ pub adds_three : {A : Type 0} (P : A → NodeEvent → Type 0) (x y z : A) (old 
     → Adds P (x ∷ y ∷ z ∷ []) old new
 adds_three P x y z old first second new a b c gives_a gives_b gives_c one two three =
     adds_more P (x ∷ y ∷ []) z old second new c
-    (adds_more P (x ∷ []) y old first second b (adds_more P [] x old old first a (adds_none P old) gives_a one) gives_b two) gives_c three
+    (adds_more P (x ∷ []) y old first second b (adds_more P [] x old old first a (adds_none P old) gives_a one)
+    gives_b two) gives_c three
 
 -- the three kinds, one after the other
 pub all_events : (eviction : Eviction) (period : ℕ) (before : List TickObs) (tick : TickObs)

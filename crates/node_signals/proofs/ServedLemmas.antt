@@ -38,7 +38,8 @@ none_below_first P t lt p = absurd (omega arith)
 pub none_below_next : (P : ThresholdKey → Type 0) (place : ℕ)
     → ((key : ThresholdKey) → slice_get serving_order place ≡ Some key → P key → ⊥)
     → NoneBelow P place → NoneBelow P (place + 1)
-none_below_next P place not none = none_next (At P) place none (λ p. let here = key_of P place p in not here.0 here.1 here.2)
+none_below_next P place not none = none_next (At P) place none (λ p. let here = key_of P place p in
+    not here.0 here.1 here.2)
 
 pub none_at_all : (P : ThresholdKey → Type 0) (place : ℕ) → 12 ≤ place → NoneBelow P place → (t : ℕ) → At P t → ⊥
 none_at_all P place le none t p = none t (let lt : t < 12 = within_and P serving_order t p in omega arith) p
@@ -77,5 +78,7 @@ some_met eviction condition ticks place lt meets =
 pub none_met : (eviction : Eviction) (condition : NodeCondition) (ticks : List TickObs) (place : ℕ) → 12 ≤ place
     → NoneBelow (Meets eviction condition ticks) place
     → (IsTrue false ↔ IsMet eviction condition ticks)
-none_met eviction condition ticks place le none =
-    ((λ t. let e : false ≡ true = t in absurd (cc)), (λ met. absurd (none_at_all (Meets eviction condition ticks) place le none met.0 met.1)))
+none_met eviction condition ticks place le none = (
+  (λ t. let e : false ≡ true = t in absurd (cc)),
+  (λ met. absurd (none_at_all (Meets eviction condition ticks) place le none met.0 met.1)),
+)

@@ -69,7 +69,8 @@ pub record AreMade (eviction : Eviction) (ticks : List TickObs) (i : ℕ) (watch
 
 pub none_made : (eviction : Eviction) (ticks : List TickObs) (watches : List (Option Watch))
     → length watches ≡ length serving_order → AreMade eviction ticks 0 watches
-none_made eviction ticks watches many = record { as_many = many; each = λ place key watch lt at e. absurd (omega arith) }
+none_made eviction ticks watches many =
+    record { as_many = many; each = λ place key watch lt at e. absurd (omega arith) }
 
 pub made_more : (eviction : Eviction) (ticks : List TickObs) (i : ℕ) (watches : List (Option Watch))
     (key : ThresholdKey) (watch : Option Watch)
@@ -93,7 +94,8 @@ pub all_made : (eviction : Eviction) (ticks : List TickObs) (i : ℕ) (watches :
     → AreMade eviction ticks i watches → AreWatches eviction ticks watches
 all_made eviction ticks i watches le m = record {
   as_many = m.as_many;
-  each = λ place key w at e. m.each place key w (let lt : place < 12 = within serving_order place key at in omega arith) at e;
+  each = λ place key w at e. m.each place key w (let lt : place < 12 = within serving_order place key at in
+      omega arith) at e;
 }
 
 -- the watches, of which those below a place have taken the new sample
@@ -122,9 +124,11 @@ pub sampled_more : (eviction : Eviction) (before : List TickObs) (tick : TickObs
     → TakesSample old tick.at value new
     → AreSampled eviction before tick i watches → AreSampled eviction before tick (i + 1) (slice_set watches i new)
 sampled_more eviction before tick i watches key old new value at there is takes s =
-    let P : Option ℕ → Type 0 = λ v. IsWatchOf (threshold_at eviction key) (of eviction.capacity key.signal) (samples key.signal before ++ sample tick.at v ∷ []) new in
+    let P : Option ℕ → Type 0 = λ v. IsWatchOf (threshold_at eviction key) (of eviction.capacity key.signal)
+    (samples key.signal before ++ sample tick.at v ∷ []) new in
     let Q : List Sample → Type 0 = λ h. IsWatchOf (threshold_at eviction key) (of eviction.capacity key.signal) h new in
-    let taken = takes (threshold_at eviction key) (of eviction.capacity key.signal) (samples key.signal before) (s.left i key old (omega arith) at there) in
+    let taken = takes (threshold_at eviction key) (of eviction.capacity key.signal) (samples key.signal before)
+    (s.left i key old (omega arith) at there) in
     let now : IsWatchAt eviction (before ++ tick ∷ []) key new =
     subst Q (sym (map_more (λ (x : TickObs). sample x.at (of x.signals key.signal)) before tick)) (subst P is taken) in
     record {

@@ -22,18 +22,23 @@ one_exited attempt code code' given same =
     subst Like same (one_seen attempt Exited (Some code) given refl)
 
 -- an instance of this state and this exit code
-pub same_seen : (seen : Seen) (state : CriState) (code : Option ℤ) (given : is_some code ≡ is_exited state) → seen.state ≡ state → seen.code ≡ code
+pub same_seen : (seen : Seen) (state : CriState) (code : Option ℤ) (given : is_some code ≡ is_exited state)
+    → seen.state ≡ state → seen.code ≡ code
     → seen_with seen.attempt state code given ≡ Some seen
 same_seen seen state code given is has =
-    let Like : CriState → Option ℤ → Type 0 = λ s k. (g : is_some k ≡ is_exited s) → seen_with seen.attempt s k g ≡ Some seen in
-    subst (λ s. Like s code) is (subst (Like seen.state) has (λ g. one_seen seen.attempt seen.state seen.code g seen.code_given)) given
+    let Like : CriState → Option ℤ → Type 0 = λ s k. (g : is_some k ≡ is_exited s)
+    → seen_with seen.attempt s k g ≡ Some seen in
+    subst (λ s. Like s code) is
+    (subst (Like seen.state) has (λ g. one_seen seen.attempt seen.state seen.code g seen.code_given)) given
 
 -- one that has not exited has no exit code
-pub without_code : (state : CriState) (code : Option ℤ) → is_some code ≡ is_exited state → is_exited state ≡ false → code ≡ None
+pub without_code : (state : CriState) (code : Option ℤ) → is_some code ≡ is_exited state → is_exited state ≡ false
+    → code ≡ None
 without_code state None given alive = refl
 without_code state (Some k) given alive = let t : true ≡ false = given ∙ alive in absurd (cc)
 
 -- one that has exited has
-pub with_code : (state : CriState) (code : Option ℤ) → is_some code ≡ is_exited state → is_exited state ≡ true → code ≡ Some (unwrap_or code (pos 0))
+pub with_code : (state : CriState) (code : Option ℤ) → is_some code ≡ is_exited state → is_exited state ≡ true
+    → code ≡ Some (unwrap_or code (pos 0))
 with_code state (Some k) given gone = refl
 with_code state None given gone = let t : false ≡ true = given ∙ gone in absurd (cc)

@@ -14,10 +14,14 @@ use Rattle.observations.specs.declared.kept.KeptResult.TheVariants as kept
 -- the instance that is listed
 abbrev pub seen_as : ListedState → ℕ → ℤ → Option Seen
 seen_as listed.Unlisted attempt code = None
-seen_as listed.Created attempt code = Some (record { attempt = attempt; state = states.Created; code = None; code_given = refl })
-seen_as listed.Running attempt code = Some (record { attempt = attempt; state = states.Running; code = None; code_given = refl })
-seen_as listed.Exited attempt code = Some (record { attempt = attempt; state = states.Exited; code = Some code; code_given = refl })
-seen_as listed.Unknown attempt code = Some (record { attempt = attempt; state = states.Unknown; code = None; code_given = refl })
+seen_as listed.Created attempt code =
+    Some (record { attempt = attempt; state = states.Created; code = None; code_given = refl })
+seen_as listed.Running attempt code =
+    Some (record { attempt = attempt; state = states.Running; code = None; code_given = refl })
+seen_as listed.Exited attempt code =
+    Some (record { attempt = attempt; state = states.Exited; code = Some code; code_given = refl })
+seen_as listed.Unknown attempt code =
+    Some (record { attempt = attempt; state = states.Unknown; code = None; code_given = refl })
 
 abbrev pub outcome_of : KeptResult → Option Outcome
 outcome_of kept.Absent = None

@@ -23,7 +23,11 @@ completed_or_not view = there (exit_code view)
   where
     there : (o : Option ℤ) → OrNot (o ≡ Some (pos 0))
     there None = inr (λ e. cc)
-    there (Some code) = elim (zero_or_not code) [ inl e ↦ inl (ap (λ k. Some k) e) | inr n ↦ inr (λ e. n (let x : code ≡ pos 0 = grind arith in x)) ]
+    there (Some code) = elim (zero_or_not code) [
+      | inl e ↦ inl (ap (λ k. Some k) e)
+      | inr n
+          ↦ inr (λ e. n (let x : code ≡ pos 0 = grind arith in x))
+    ]
 
 failed_or_not : (view : ContainerView) → OrNot (HasFailed of_view view)
 failed_or_not view = there (exit_code view)
@@ -48,7 +52,8 @@ finished_or_not : (policy : Policy) (view : ContainerView) → OrNot (HasFinishe
 finished_or_not policy view = there (exit_code view) refl
   where
     there : (o : Option ℤ) → exit_code view ≡ o → OrNot (HasFinished of_view policy view)
-    there None e = inr (λ w. let x : exit_code view ≡ Some w.code = w.exited in let y : None ≡ Some w.code = sym e ∙ x in cc)
+    there None e = inr (λ w. let x : exit_code view ≡ Some w.code = w.exited in let y : None ≡ Some w.code =
+        sym e ∙ x in cc)
     there (Some code) e = elim (wants_or_not policy App code) [
       | inl wants ↦ inr (λ w.
           let x : exit_code view ≡ Some w.code = w.exited in
@@ -92,28 +97,31 @@ view_decided : (policy : Policy) (view : ContainerView) → IsDecided of_view po
 view_decided policy view = record {
   failed_init = both (init_or_not view.role) (failed_or_not view);
   awaited = either (both (init_or_not view.role) (negated (completed_or_not view)))
-      (either (both (sidecar_or_not view.role) (negated (true_or_not view.was_started))) (both (app_or_not view.role) (negated (true_or_not view.set_up))));
+      (either (both (sidecar_or_not view.role) (negated (true_or_not view.was_started)))
+      (both (app_or_not view.role) (negated (true_or_not view.set_up))));
   finishes = implied (app_or_not view.role) (finished_or_not policy view);
   completes = implied (app_or_not view.role) (completed_or_not view);
   failed_app = both (app_or_not view.role) (failed_or_not view);
 }
 
 -- the first case that holds
-pub some_raw_phase : {C : Type 0} (facts : Facts C) (policy : Policy) → ((container : C) → IsDecided facts policy container)
+pub some_raw_phase : {C : Type 0} (facts : Facts C) (policy : Policy)
+    → ((container : C) → IsDecided facts policy container)
     → (containers : List C) → (p : Phase) × IsRawPhase facts policy containers p
-some_raw_phase facts policy each containers = elim (both (never_or_not policy) (any_or_not _ (λ c. (each c).failed_init) containers)) [
-  | inl one ↦ (Failed, inl (one, refl))
-  | inr not_one ↦ elim (any_or_not _ (λ c. (each c).awaited) containers) [
-    | inl two ↦ (Pending, inr (not_one, inl (two, refl)))
-    | inr not_two ↦ elim (both finished (all_or_not _ (λ c. (each c).completes) containers)) [
-      | inl three ↦ (Succeeded, inr (not_one, inr (not_two, inl (three, refl))))
-      | inr not_three ↦ elim (both finished (any_or_not _ (λ c. (each c).failed_app) containers)) [
-        | inl four ↦ (Failed, inr (not_one, inr (not_two, inr (not_three, inl (four, refl)))))
-        | inr not_four ↦ (Running, inr (not_one, inr (not_two, inr (not_three, inr (not_four, refl)))))
+some_raw_phase facts policy each containers =
+    elim (both (never_or_not policy) (any_or_not _ (λ c. (each c).failed_init) containers)) [
+      | inl one ↦ (Failed, inl (one, refl))
+      | inr not_one ↦ elim (any_or_not _ (λ c. (each c).awaited) containers) [
+        | inl two ↦ (Pending, inr (not_one, inl (two, refl)))
+        | inr not_two ↦ elim (both finished (all_or_not _ (λ c. (each c).completes) containers)) [
+          | inl three ↦ (Succeeded, inr (not_one, inr (not_two, inl (three, refl))))
+          | inr not_three ↦ elim (both finished (any_or_not _ (λ c. (each c).failed_app) containers)) [
+            | inl four ↦ (Failed, inr (not_one, inr (not_two, inr (not_three, inl (four, refl)))))
+            | inr not_four ↦ (Running, inr (not_one, inr (not_two, inr (not_three, inr (not_four, refl)))))
+          ]
+        ]
       ]
     ]
-  ]
-]
   where
     finished : OrNot (HaveFinished facts policy containers)
     finished = all_or_not _ (λ c. (each c).finishes) containers

@@ -1,5 +1,6 @@
 -- One raw phase, and what it is of containers with the same facts.
-use Rattle.std.proofs.Common.{◌≡◌, inl, inr, ℕ, ℤ, pos, zero, suc, ◌<◌, List, [], ◌∷◌, length, get_or, sym, subst, ◌∙◌, arith}
+use Rattle.std.proofs.Common.{◌≡◌, inl, inr, ℕ, ℤ, pos, zero, suc, ◌<◌, List, [], ◌∷◌, length, get_or, sym, subst}
+use Rattle.std.proofs.Common.{◌∙◌, arith}
 use Rattle.std.specs.Prelude.{◌↔◌, All, Any}
 use Rattle.std.proofs.lemmas.List.{get_or_default}
 use Rattle.manifest.specs.declared.policy.Policy.{Policy}
@@ -58,8 +59,13 @@ pub Any-same : {C D : Type 0} (f : Facts C) (g : Facts D) (P : C → Type 0) (Q 
 Any-same {C = C} {D = D} f g P Q is cs ds same any =
     let lt : any.0 < length ds = let old : any.0 < length cs = any.2 in omega (arith, same.as_many) in
     let d : D = get_or ds any.0 (item ds any.0 lt) in
-    let R : C → Type 0 = λ c. SameFacts f g c d in
-    (any.0, d, lt, get_or_default ds any.0 d (item ds any.0 lt) lt, (is.agree any.1 d (subst R any.3 (same.each any.0 any.1 (item ds any.0 lt) any.2))).0 any.4)
+    let R : C → Type 0 = λ c. SameFacts f g c d in (
+      any.0,
+      d,
+      lt,
+      get_or_default ds any.0 d (item ds any.0 lt) lt,
+      (is.agree any.1 d (subst R any.3 (same.each any.0 any.1 (item ds any.0 lt) any.2))).0 any.4,
+    )
 
 pub flip : {P Q : Type 0} → (P ↔ Q) → (Q ↔ P)
 flip is = (is.1, is.0)
@@ -72,7 +78,8 @@ turned f g c d s = record {
   was_started = flip s.was_started;
 }
 
-pub lists_turned : {C D : Type 0} (f : Facts C) (g : Facts D) (cs : List C) (ds : List D) → AreSame f g cs ds → AreSame g f ds cs
+pub lists_turned : {C D : Type 0} (f : Facts C) (g : Facts D) (cs : List C) (ds : List D) → AreSame f g cs ds
+    → AreSame g f ds cs
 lists_turned f g cs ds same = record {
   as_many = sym same.as_many;
   each = λ k d c lt. turned f g _ _ (same.each k c d (let old : k < length ds = lt in omega (arith, same.as_many)));
@@ -82,18 +89,26 @@ where_map : (P P' H O O' : Type 0) → (P ↔ P') → (O → O') → Where P H O
 where_map P P' H O O' is more (inl w) = inl (is.0 w.0, w.1)
 where_map P P' H O O' is more (inr w) = inr ((λ p. w.0 (is.1 p)), more w.1)
 
-failed_to : {C D : Type 0} (f : Facts C) (g : Facts D) (c : C) (d : D) → SameFacts f g c d → HasFailed f c → HasFailed g d
+failed_to : {C D : Type 0} (f : Facts C) (g : Facts D) (c : C) (d : D) → SameFacts f g c d → HasFailed f c
+    → HasFailed g d
 failed_to f g c d s w = (w.0, (s.exited w.0).0 w.1, w.2)
 
-finished_to : {C D : Type 0} (f : Facts C) (g : Facts D) (policy : Policy) (c : C) (d : D) → SameFacts f g c d → HasFinished f policy c → HasFinished g policy d
-finished_to f g policy c d s w = record { code = w.code; exited = (s.exited w.code).0 w.exited; wants_none = w.wants_none }
+finished_to : {C D : Type 0} (f : Facts C) (g : Facts D) (policy : Policy) (c : C) (d : D) → SameFacts f g c d
+    → HasFinished f policy c → HasFinished g policy d
+finished_to f g policy c d s w = record {
+  code = w.code;
+  exited = (s.exited w.code).0 w.exited;
+  wants_none = w.wants_none;
+}
 
-awaited_to : {C D : Type 0} (f : Facts C) (g : Facts D) (c : C) (d : D) → SameFacts f g c d → IsAwaited f c → IsAwaited g d
+awaited_to : {C D : Type 0} (f : Facts C) (g : Facts D) (c : C) (d : D) → SameFacts f g c d → IsAwaited f c
+    → IsAwaited g d
 awaited_to f g c d s (inl w) = inl ((s.is Init).0 w.0, λ x. w.1 ((s.exited (pos 0)).1 x))
 awaited_to f g c d s (inr (inl w)) = inr (inl ((s.is Sidecar).0 w.0, λ x. w.1 (s.was_started.1 x)))
 awaited_to f g c d s (inr (inr w)) = inr (inr ((s.is App).0 w.0, λ x. w.1 (s.set_up.1 x)))
 
-initialized_to : {C D : Type 0} (f : Facts C) (g : Facts D) (c : C) (d : D) → SameFacts f g c d → HasInitialized f c → HasInitialized g d
+initialized_to : {C D : Type 0} (f : Facts C) (g : Facts D) (c : C) (d : D) → SameFacts f g c d → HasInitialized f c
+    → HasInitialized g d
 initialized_to f g c d s w = record {
   init = λ i. (s.exited (pos 0)).0 (w.init ((s.is Init).1 i));
   sidecar = λ i. s.was_started.0 (w.sidecar ((s.is Sidecar).1 i));
@@ -101,17 +116,25 @@ initialized_to f g c d s w = record {
 
 -- a step there and back
 both_ways : {C D : Type 0} (f : Facts C) (g : Facts D) (P : C → Type 0) (Q : D → Type 0)
-    → ((c : C) (d : D) → SameFacts f g c d → P c → Q d) → ((d : D) (c : C) → SameFacts g f d c → Q d → P c) → Agree f g P Q
+    → ((c : C) (d : D) → SameFacts f g c d → P c → Q d) → ((d : D) (c : C) → SameFacts g f d c → Q d → P c)
+    → Agree f g P Q
 both_ways f g P Q to from = record { agree = λ c d s. (to c d s, from d c (turned f g c d s)) }
 
 -- the raw phase of containers with the same facts is the same
-pub raw_same : {C D : Type 0} (f : Facts C) (g : Facts D) (policy : Policy) (cs : List C) (ds : List D) (phase : Phase) → AreSame f g cs ds
+pub raw_same : {C D : Type 0} (f : Facts C) (g : Facts D) (policy : Policy) (cs : List C) (ds : List D)
+    (phase : Phase) → AreSame f g cs ds
     → IsRawPhase f policy cs phase → IsRawPhase g policy ds phase
 raw_same {C = C} {D = D} f g policy cs ds phase same =
     where_map _ _ _ _ _ ((λ w. (w.0, any failed_init w.1)), (λ w. (w.0, any_back failed_init w.1)))
     (where_map _ _ _ _ _ (any awaited, any_back awaited)
-    (where_map _ _ _ _ _ ((λ w. (all finishes w.0, all completes w.1)), (λ w. (all_back finishes w.0, all_back completes w.1)))
-    (where_map _ _ _ _ _ ((λ w. (all finishes w.0, any failed_app w.1)), (λ w. (all_back finishes w.0, any_back failed_app w.1)))
+    (where_map _ _ _ _ _ (
+      (λ w. (all finishes w.0, all completes w.1)),
+      (λ w. (all_back finishes w.0, all_back completes w.1)),
+    )
+    (where_map _ _ _ _ _ (
+      (λ w. (all finishes w.0, any failed_app w.1)),
+      (λ w. (all_back finishes w.0, any_back failed_app w.1)),
+    )
     (λ e. e))))
   where
     any : {P : C → Type 0} {Q : D → Type 0} → Agree f g P Q → Any P cs → Any Q ds
@@ -130,22 +153,27 @@ raw_same {C = C} {D = D} f g policy cs ds phase same =
     all_back {P = P} {Q = Q} is = All-same g f Q P (back is) ds cs (lists_turned f g cs ds same)
 
     failed_init : Agree f g (IsFailedInit f) (IsFailedInit g)
-    failed_init = both_ways f g _ _ (λ c d s w. ((s.is Init).0 w.0, failed_to f g c d s w.1)) (λ d c s w. ((s.is Init).0 w.0, failed_to g f d c s w.1))
+    failed_init = both_ways f g _ _ (λ c d s w. ((s.is Init).0 w.0, failed_to f g c d s w.1))
+        (λ d c s w. ((s.is Init).0 w.0, failed_to g f d c s w.1))
 
     awaited : Agree f g (IsAwaited f) (IsAwaited g)
     awaited = both_ways f g _ _ (awaited_to f g) (awaited_to g f)
 
     finishes : Agree f g (λ c. f.is c App → HasFinished f policy c) (λ d. g.is d App → HasFinished g policy d)
-    finishes = both_ways f g _ _ (λ c d s w i. finished_to f g policy c d s (w ((s.is App).1 i))) (λ d c s w i. finished_to g f policy d c s (w ((s.is App).1 i)))
+    finishes = both_ways f g _ _ (λ c d s w i. finished_to f g policy c d s (w ((s.is App).1 i)))
+        (λ d c s w i. finished_to g f policy d c s (w ((s.is App).1 i)))
 
     completes : Agree f g (λ c. f.is c App → HasCompleted f c) (λ d. g.is d App → HasCompleted g d)
-    completes = both_ways f g _ _ (λ c d s w i. (s.exited (pos 0)).0 (w ((s.is App).1 i))) (λ d c s w i. (s.exited (pos 0)).0 (w ((s.is App).1 i)))
+    completes = both_ways f g _ _ (λ c d s w i. (s.exited (pos 0)).0 (w ((s.is App).1 i)))
+        (λ d c s w i. (s.exited (pos 0)).0 (w ((s.is App).1 i)))
 
     failed_app : Agree f g (λ c. f.is c App × HasFailed f c) (λ d. g.is d App × HasFailed g d)
-    failed_app = both_ways f g _ _ (λ c d s w. ((s.is App).0 w.0, failed_to f g c d s w.1)) (λ d c s w. ((s.is App).0 w.0, failed_to g f d c s w.1))
+    failed_app = both_ways f g _ _ (λ c d s w. ((s.is App).0 w.0, failed_to f g c d s w.1))
+        (λ d c s w. ((s.is App).0 w.0, failed_to g f d c s w.1))
 
 -- and so is whether they are initialized
 pub initialized_same : {C D : Type 0} (f : Facts C) (g : Facts D) (cs : List C) (ds : List D) → AreSame f g cs ds
     → AreInitialized f cs → AreInitialized g ds
 initialized_same f g cs ds same =
-    All-same f g (HasInitialized f) (HasInitialized g) (both_ways f g _ _ (initialized_to f g) (initialized_to g f)) cs ds same
+    All-same f g (HasInitialized f) (HasInitialized g) (both_ways f g _ _ (initialized_to f g) (initialized_to g f))
+    cs ds same

@@ -1,4 +1,5 @@
-ghost use Rattle.std.specs.Prelude.{◌≡◌, ◌≢◌, ◌⊎◌, ◌↔◌, List, [], ◌∷◌, ◌++◌, Bool, true, false, not, Option, None, IsTrue};
+ghost use Rattle.std.specs.Prelude.{◌≡◌, ◌≢◌, ◌⊎◌, ◌↔◌, List, [], ◌∷◌, ◌++◌, Bool, true, false, not, Option, None};
+ghost use Rattle.std.specs.Prelude.{IsTrue};
 ghost use Rattle.histories.specs.Histories.{Recorded, recorded};
 ghost use Rattle.phase.specs.Conditions.{IsConditionOf, IsStateOf};
 ghost use Rattle.phase.specs.declared.conditions.Values.{Values};

@@ -1,5 +1,6 @@
 -- The containers of a pod, followed by their differs.
-use Rattle.std.proofs.Common.{◌≡◌, ◌∙◌, inl, inr, ℕ, ◌+◌, ◌<◌, List, [], ◌∷◌, ◌++◌, length, get_or, ap, sym, subst, arith}
+use Rattle.std.proofs.Common.{◌≡◌, ◌∙◌, inl, inr, ℕ, ◌+◌, ◌<◌, List, [], ◌∷◌, ◌++◌, length, get_or, ap, sym, subst}
+use Rattle.std.proofs.Common.{arith}
 use Rattle.std.specs.Prelude.{slice_get, unwrap_or}
 use Rattle.std.proofs.lemmas.Bool.{cases_lt}
 use Rattle.histories.specs.Histories.{recorded}
@@ -23,24 +24,31 @@ all_next P i before here n lt = elim (cases_lt n i) [
 ]
 
 -- the differ at a place
-pub differ_at : (pod : PodSpec) (h : List PodTick) (differs : List Differ) (n : ℕ) (differ : Differ) → AreListed pod h differs → n < length differs
+pub differ_at : (pod : PodSpec) (h : List PodTick) (differs : List Differ) (n : ℕ) (differ : Differ)
+    → AreListed pod h differs → n < length differs
     → differ ≡ get_or differs n differ → IsStateOf (listings (ticks_of h n)) differ
-differ_at pod h differs n differ are lt is = subst (λ (d : Differ). IsStateOf (listings (ticks_of h n)) d) (sym is) (are.each n differ lt)
+differ_at pod h differs n differ are lt is = subst (λ (d : Differ). IsStateOf (listings (ticks_of h n)) d) (sym is)
+    (are.each n differ lt)
 
 -- the listings of a container, with those of one more tick
 pub listings_more : (h : List PodTick) (observed : PodObs) (n : ℕ)
-    → listings (ticks_of (h ++ pod_tick observed ∷ []) n) ≡ listings (ticks_of h n) ++ recorded observed.at (listed_in observed.containers n) ∷ []
+    → listings (ticks_of (h ++ pod_tick observed ∷ []) n) ≡ listings (ticks_of h n) ++ recorded observed.at
+    (listed_in observed.containers n) ∷ []
 listings_more h observed n =
     ap listings (ticks_more h (pod_tick observed) n)
-    ∙ project-append (λ (shown : ContainerObs). shown.seen) (ticks_of h n) (recorded observed.at (unwrap_or (slice_get observed.containers n) unseen))
+    ∙ project-append (λ (shown : ContainerObs). shown.seen) (ticks_of h n)
+    (recorded observed.at (unwrap_or (slice_get observed.containers n) unseen))
 
 -- the differs after one more tick
-pub listed_more : (pod : PodSpec) (h : List PodTick) (observed : PodObs) (old new : List Differ) → AreListed pod h old → length new ≡ length old
-    → ((n : ℕ) (d e : Differ) → n < length old → (k : List Tick) → IsStateOf k (get_or old n e) → IsStateOf (k ++ recorded observed.at (listed_in observed.containers n) ∷ []) (get_or new n d))
+pub listed_more : (pod : PodSpec) (h : List PodTick) (observed : PodObs) (old new : List Differ) → AreListed pod h old
+    → length new ≡ length old
+    → ((n : ℕ) (d e : Differ) → n < length old → (k : List Tick) → IsStateOf k (get_or old n e)
+    → IsStateOf (k ++ recorded observed.at (listed_in observed.containers n) ∷ []) (get_or new n d))
     → AreListed pod (h ++ pod_tick observed ∷ []) new
 listed_more pod h observed old new are as_many each = record {
   as_many = as_many ∙ are.as_many;
   each = λ n d lt.
       let within : n < length old = omega (arith, as_many, lt) in
-      subst (λ (k : List Tick). IsStateOf k (get_or new n d)) (sym (listings_more h observed n)) (each n d d within (listings (ticks_of h n)) (are.each n d within));
+      subst (λ (k : List Tick). IsStateOf k (get_or new n d)) (sym (listings_more h observed n))
+      (each n d d within (listings (ticks_of h n)) (are.each n d within));
 }

@@ -1,6 +1,8 @@
 -- What a piece keeps, from call to call.
-use Rattle.std.proofs.Common.{◌≡◌, ◌∙◌, inl, inr, ℕ, suc, zero, ◌-◌, ◌<◌, ◌≤◌, Bool, true, false, List, [], ◌∷◌, ◌++◌, length, map, take, get_or, Option, Some, None, refl, ap, sym, subst, arith}
-use Rattle.std.specs.Prelude.{◌↔◌, IsTrue, IsSome, is_some, IfSome, IsSomeAnd, MatchOption, nat_lt, option_map, if◌then◌else◌, slice_get, unwrap_or}
+use Rattle.std.proofs.Common.{◌≡◌, ◌∙◌, inl, inr, ℕ, suc, zero, ◌-◌, ◌<◌, ◌≤◌, Bool, true, false, List, [], ◌∷◌, ◌++◌}
+use Rattle.std.proofs.Common.{length, map, take, get_or, Option, Some, None, refl, ap, sym, subst, arith}
+use Rattle.std.specs.Prelude.{◌↔◌, IsTrue, IsSome, is_some, IfSome, IsSomeAnd, MatchOption, nat_lt, option_map}
+use Rattle.std.specs.Prelude.{if◌then◌else◌, slice_get, unwrap_or}
 use Rattle.std.proofs.lemmas.Bool.{cases_lt, lt-ltb, ltb-true}
 use Rattle.std.proofs.lemmas.List.{get_or-take, length-map, length-take-le, map-append, take-map, take_all}
 use Rattle.std.proofs.lemmas.Option.{slice_get-get_or, slice_get-map, slice_get_past, slice_get_within}
@@ -28,16 +30,19 @@ use Rattle.pod_piece.specs.declared.order.EvictOrder.{EvictOrder}
 use Rattle.pod_piece.specs.declared.piece.Eviction.{Eviction}
 use Rattle.pod_piece.specs.declared.status.PodStatus.{PodStatus}
 use Rattle.pod_piece.specs.Listings.{listed_in, IsNextTick, AreListed, AllFollow}
-use Rattle.pod_piece.specs.Piece.{Piece, piece, before_last, last_of, taken, ticks, place_of, evicted_at, Lives, evicted_before, new_piece, with_tick, updated, with_eviction}
+use Rattle.pod_piece.specs.Piece.{Piece, piece, before_last, last_of, taken, ticks, place_of, evicted_at, Lives}
+use Rattle.pod_piece.specs.Piece.{evicted_before, new_piece, with_tick, updated, with_eviction}
 use Rattle.pod_piece.specs.Status.{IsStatusAfter, IsStatusOf, AreEventsAfter}
 use Rattle.pod_piece.specs.Kept.{MayBe, EndsAt, IsStateAfter, IsKept}
 
 -- the last of some ticks, and those before it
 pub front_more : (h : List PodTick) (x : PodTick) → before_last (h ++ x ∷ []) ≡ h
-front_more h x = ap (λ n. take n (h ++ x ∷ [])) {x = length (h ++ x ∷ []) - 1} {y = length h} (omega (arith, length-more h x)) ∙ take-append_seam h (x ∷ [])
+front_more h x = ap (λ n. take n (h ++ x ∷ [])) {x = length (h ++ x ∷ []) - 1} {y = length h}
+    (omega (arith, length-more h x)) ∙ take-append_seam h (x ∷ [])
 
 pub last_more : (h : List PodTick) (x : PodTick) → last_of (h ++ x ∷ []) ≡ Some x
-last_more h x = ap (λ n. slice_get (h ++ x ∷ []) n) {x = length (h ++ x ∷ []) - 1} {y = length h} (omega (arith, length-more h x)) ∙ slice_get-new h x
+last_more h x = ap (λ n. slice_get (h ++ x ∷ []) n) {x = length (h ++ x ∷ []) - 1} {y = length h}
+    (omega (arith, length-more h x)) ∙ slice_get-new h x
 
 pub split_last : (h : List PodTick) (x : PodTick) → last_of h ≡ Some x → h ≡ before_last h ++ x ∷ []
 split_last h x is =
@@ -59,34 +64,42 @@ may_more (Some place) n m e le may = may
 
 not_now : (o : Option ℕ) (n m : ℕ) (e : Option ℕ) → n < m → IfSome o (λ place. place < n) → MayBe o m e → e ≡ Some n → ⊥
 not_now None n m None lt within may is = absurd (let w : None ≡ Some n = is in cc)
-not_now None n m (Some t) lt within may is = let same : t ≡ n = (let w : Some t ≡ Some n = is in cc) in absurd (omega (arith, lt, may))
-not_now (Some place) n m e lt within may is = let same : place ≡ n = (let w : Some place ≡ Some n = sym may ∙ is in cc) in absurd (omega (arith, within))
+not_now None n m (Some t) lt within may is = let same : t ≡ n = (let w : Some t ≡ Some n = is in cc) in
+    absurd (omega (arith, lt, may))
+not_now (Some place) n m e lt within may is = let same : place ≡ n =
+    (let w : Some place ≡ Some n = sym may ∙ is in cc) in absurd (omega (arith, within))
 
 -- the counters after one more tick
-ends_within : (pod : PodSpec) (h : List PodTick) (o : Option ℕ) → IfSome o (EndsAt pod h) → IfSome o (λ place. place < length h)
+ends_within : (pod : PodSpec) (h : List PodTick) (o : Option ℕ) → IfSome o (EndsAt pod h)
+    → IfSome o (λ place. place < length h)
 ends_within pod h None ends = tt
 ends_within pod h (Some place) ends = ends.within
 
-ends_more : (pod : PodSpec) (h : List PodTick) (x : PodTick) (o : Option ℕ) → IfSome o (EndsAt pod h) → IfSome o (EndsAt pod (h ++ x ∷ []))
+ends_more : (pod : PodSpec) (h : List PodTick) (x : PodTick) (o : Option ℕ) → IfSome o (EndsAt pod h)
+    → IfSome o (EndsAt pod (h ++ x ∷ []))
 ends_more pod h x None ends = tt
 ends_more pod h x (Some place) ends = record {
   within = let lt : place < length h = ends.within in omega (arith, length-more h x);
   is_end = end_old pod (Some place) h x place ends.is_end;
 }
 
-pub state_more : (pod : PodSpec) (greatest : ℕ) (evicted : Option ℕ) (h : List PodTick) (x : PodTick) (old new : PodState) → IsStateAfter pod greatest evicted h old
-    → ((e : Option ℕ) → (e ≡ Some (length h) → ⊥) → IsStateOf pod greatest e h old → IsStateOf pod greatest e (h ++ x ∷ []) new)
+pub state_more : (pod : PodSpec) (greatest : ℕ) (evicted : Option ℕ) (h : List PodTick) (x : PodTick)
+    (old new : PodState) → IsStateAfter pod greatest evicted h old
+    → ((e : Option ℕ) → (e ≡ Some (length h) → ⊥) → IsStateOf pod greatest e h old
+    → IsStateOf pod greatest e (h ++ x ∷ []) new)
     → ((e : Option ℕ) → IsStateOf pod greatest e h old → IsProgressOf pod e h (before_of new))
     → IsStateAfter pod greatest evicted (h ++ x ∷ []) new
 state_more pod greatest evicted h x old new after step was = record {
   ended = ends_more pod h x evicted after.ended;
   now = λ e may.
       let long = length-more h x in
-      step e (not_now evicted (length h) (length (h ++ x ∷ [])) e (omega (arith, long)) (ends_within pod h evicted after.ended) may)
+      step e (not_now evicted (length h) (length (h ++ x ∷ [])) e (omega (arith, long))
+      (ends_within pod h evicted after.ended) may)
       (after.now e (may_more evicted (length h) (length (h ++ x ∷ [])) e (omega (arith, long)) may));
   before = λ none e may.
       let front = front_more h x in
-      let may_be : MayBe evicted (length h) e = subst (λ (o : Option ℕ). MayBe o (length h) e) (sym none) (subst (λ (k : List PodTick). MayBe None (length k) e) front may) in
+      let may_be : MayBe evicted (length h) e = subst (λ (o : Option ℕ). MayBe o (length h) e) (sym none)
+      (subst (λ (k : List PodTick). MayBe None (length k) e) front may) in
       subst (λ (k : List PodTick). IsProgressOf pod e k (before_of new)) (sym front) (was e (after.now e may_be));
 }
 
@@ -99,24 +112,34 @@ not_before : (n : ℕ) (b : Bool) → nat_lt n n ≡ b → (if b then Some n els
 not_before n false e = refl
 not_before n true e = let lt : n < n = ltb-true n n e in absurd (omega (arith, lt))
 
-pub events_after : (pod : PodSpec) (greatest : ℕ) (evicted : Option ℕ) (h : List PodTick) (x : PodTick) (events : List PodEvent)
-    → AreEventsOf pod greatest (evicted_before evicted (length h)) h x events → AreEventsAfter pod greatest evicted (h ++ x ∷ []) events
+pub events_after : (pod : PodSpec) (greatest : ℕ) (evicted : Option ℕ) (h : List PodTick) (x : PodTick)
+    (events : List PodEvent)
+    → AreEventsOf pod greatest (evicted_before evicted (length h)) h x events → AreEventsAfter pod greatest evicted
+    (h ++ x ∷ []) events
 events_after pod greatest evicted h x events are =
-    let P : List PodTick → Option PodTick → Type 0 = λ k o. MatchOption o (events ≡ []) (λ tick. AreEventsOf pod greatest (evicted_before evicted (length k)) k tick events) in
-    subst (λ (k : List PodTick). P k (last_of (h ++ x ∷ []))) (sym (front_more h x)) (subst (λ (o : Option PodTick). P h o) (sym (last_more h x)) are)
+    let P : List PodTick → Option PodTick → Type 0 = λ k o. MatchOption o (events ≡ [])
+    (λ tick. AreEventsOf pod greatest (evicted_before evicted (length k)) k tick events) in
+    subst (λ (k : List PodTick). P k (last_of (h ++ x ∷ []))) (sym (front_more h x))
+    (subst (λ (o : Option PodTick). P h o) (sym (last_more h x)) are)
 
 -- they stay where the tick evicts the pod
-pub events_evicted : (pod : PodSpec) (greatest : ℕ) (h : List PodTick) (x : PodTick) (events : List PodEvent) → AreEventsAfter pod greatest None (h ++ x ∷ []) events
+pub events_evicted : (pod : PodSpec) (greatest : ℕ) (h : List PodTick) (x : PodTick) (events : List PodEvent)
+    → AreEventsAfter pod greatest None (h ++ x ∷ []) events
     → AreEventsAfter pod greatest (Some (length h)) (h ++ x ∷ []) events
 events_evicted pod greatest h x events are =
-    let P : List PodTick → Option PodTick → Type 0 = λ k o. MatchOption o (events ≡ []) (λ tick. AreEventsOf pod greatest None k tick events) in
-    let made : AreEventsOf pod greatest None h x events = subst (λ (o : Option PodTick). P h o) (last_more h x) (subst (λ (k : List PodTick). P k (last_of (h ++ x ∷ []))) (front_more h x) are) in
+    let P : List PodTick → Option PodTick → Type 0 = λ k o. MatchOption o (events ≡ [])
+    (λ tick. AreEventsOf pod greatest None k tick events) in
+    let made : AreEventsOf pod greatest None h x events = subst (λ (o : Option PodTick). P h o) (last_more h x)
+    (subst (λ (k : List PodTick). P k (last_of (h ++ x ∷ []))) (front_more h x) are) in
     events_after pod greatest (Some (length h)) h x events
-    (subst (λ (o : Option ℕ). AreEventsOf pod greatest o h x events) (sym (not_before (length h) (nat_lt (length h) (length h)) refl)) made)
+    (subst (λ (o : Option ℕ). AreEventsOf pod greatest o h x events)
+    (sym (not_before (length h) (nat_lt (length h) (length h)) refl)) made)
 
 -- a piece that nothing was handed to
-pub kept_new : (number : ℕ) (pod : PodSpec) (greatest : ℕ) (differs : List Differ) (state : PodState) (status : PodStatus) → AreListed pod [] differs
-    → ((e : Option ℕ) → IsStateOf pod greatest e [] state) → ((e : Option ℕ) → IsProgressOf pod e [] (before_of state)) → IsStatusOf (new_piece number pod greatest) status
+pub kept_new : (number : ℕ) (pod : PodSpec) (greatest : ℕ) (differs : List Differ) (state : PodState)
+    (status : PodStatus) → AreListed pod [] differs
+    → ((e : Option ℕ) → IsStateOf pod greatest e [] state)
+    → ((e : Option ℕ) → IsProgressOf pod e [] (before_of state)) → IsStatusOf (new_piece number pod greatest) status
     → IsKept (new_piece number pod greatest) differs state status []
 kept_new number pod greatest differs state status listed is was shown = record {
   listed = listed;
@@ -135,7 +158,8 @@ taken_pending true h t = refl
 taken_pending false h t = absurd (let w : false ≡ true = t in cc)
 
 -- one that a tick is handed to
-pub kept_handed : (p : Piece) (tick : PodTick) (old new : List Differ) (state : PodState) (status : PodStatus) (events : List PodEvent) → p.is_pending ≡ false
+pub kept_handed : (p : Piece) (tick : PodTick) (old new : List Differ) (state : PodState) (status : PodStatus)
+    (events : List PodEvent) → p.is_pending ≡ false
     → IsNextTick p.pod p.handed tick → AreListed p.pod (p.handed ++ tick ∷ []) new → IsKept p old state status events
     → IsKept (with_tick p tick) new state status events
 kept_handed p tick old new state status events free next listed kept =
@@ -143,7 +167,8 @@ kept_handed p tick old new state status events free next listed kept =
     let same : ticks p ≡ before_last (p.handed ++ tick ∷ []) = taken_free p.is_pending p.handed free ∙ sym front in
     record {
       listed = listed;
-      next = λ t. subst (λ (o : Option PodTick). IsSomeAnd o (IsNextTick p.pod (before_last (p.handed ++ tick ∷ [])))) (sym (last_more p.handed tick))
+      next = λ t. subst (λ (o : Option PodTick). IsSomeAnd o (IsNextTick p.pod (before_last (p.handed ++ tick ∷ []))))
+          (sym (last_more p.handed tick))
           (subst (λ (h : List PodTick). IsNextTick p.pod h tick) (sym front) next);
       after = subst (λ (h : List PodTick). IsStateAfter p.pod p.greatest (evicted_at p) h state) same kept.after;
       shown = subst (λ (h : List PodTick). IsStatusAfter p.number p.pod p.eviction h status) same kept.shown;
@@ -151,7 +176,8 @@ kept_handed p tick old new state status events free next listed kept =
     }
 
 -- whether it ended by its eviction
-pub by_eviction : (o end : Option ℕ) (b : Bool) → (IsTrue b ↔ IsSome o) → IfSome o (λ place. end ≡ Some place) → (IsTrue b ↔ EndsEvicted o end)
+pub by_eviction : (o end : Option ℕ) (b : Bool) → (IsTrue b ↔ IsSome o) → IfSome o (λ place. end ≡ Some place)
+    → (IsTrue b ↔ EndsEvicted o end)
 by_eviction None end b says ends = ((λ t. let w : false ≡ true = says.0 t in absurd (cc)), (λ w. absurd (never end w)))
   where
     never : (end : Option ℕ) → EndsEvicted None end → ⊥
@@ -161,17 +187,26 @@ by_eviction (Some place) end b says ends =
     ((λ t. subst (λ (o : Option ℕ). EndsEvicted (Some place) o) (sym ends) refl), (λ w. says.1 refl))
 
 -- it has as many containers as its specification
-pub has_containers : (pod : PodSpec) (greatest : ℕ) (e : Option ℕ) (h : List PodTick) (state : PodState) → IsStateOf pod greatest e h state → HasContainers (length pod.containers) state
+pub has_containers : (pod : PodSpec) (greatest : ℕ) (e : Option ℕ) (h : List PodTick) (state : PodState)
+    → IsStateOf pod greatest e h state → HasContainers (length pod.containers) state
 has_containers pod greatest e h state is = sym is.containers.kept.as_many
 
 -- one whose pending tick has come into its status
-pub kept_updated : (p : Piece) (x : PodTick) (differs : List Differ) (old new : PodState) (before after : PodStatus) (olds news : List PodEvent) → IsTrue p.is_pending → last_of p.handed ≡ Some x
+pub kept_updated : (p : Piece) (x : PodTick) (differs : List Differ) (old new : PodState) (before after : PodStatus)
+    (olds news : List PodEvent) → IsTrue p.is_pending → last_of p.handed ≡ Some x
     → IsKept p differs old before olds
-    → ((e : Option ℕ) → (e ≡ Some (length (before_last p.handed)) → ⊥) → IsStateOf p.pod p.greatest e (before_last p.handed) old → IsStateOf p.pod p.greatest e (before_last p.handed ++ x ∷ []) new)
-    → ((e : Option ℕ) → IsStateOf p.pod p.greatest e (before_last p.handed) old → IsProgressOf p.pod e (before_last p.handed) (before_of new))
-    → ((e : Option ℕ) → (e ≡ Some (length (before_last p.handed)) → ⊥) → IsStateOf p.pod p.greatest e (before_last p.handed) old → AreEventsOf p.pod p.greatest e (before_last p.handed) x news)
-    → (IsStatusAfter p.number p.pod p.eviction (before_last p.handed) before → IsStateAfter p.pod p.greatest (evicted_at p) (before_last p.handed) old
-    → IsStateAfter p.pod p.greatest (evicted_at p) (before_last p.handed ++ x ∷ []) new → IsStatusAfter p.number p.pod p.eviction (before_last p.handed ++ x ∷ []) after)
+    → ((e : Option ℕ) → (e ≡ Some (length (before_last p.handed)) → ⊥)
+    → IsStateOf p.pod p.greatest e (before_last p.handed) old
+    → IsStateOf p.pod p.greatest e (before_last p.handed ++ x ∷ []) new)
+    → ((e : Option ℕ) → IsStateOf p.pod p.greatest e (before_last p.handed) old
+    → IsProgressOf p.pod e (before_last p.handed) (before_of new))
+    → ((e : Option ℕ) → (e ≡ Some (length (before_last p.handed)) → ⊥)
+    → IsStateOf p.pod p.greatest e (before_last p.handed) old
+    → AreEventsOf p.pod p.greatest e (before_last p.handed) x news)
+    → (IsStatusAfter p.number p.pod p.eviction (before_last p.handed) before
+    → IsStateAfter p.pod p.greatest (evicted_at p) (before_last p.handed) old
+    → IsStateAfter p.pod p.greatest (evicted_at p) (before_last p.handed ++ x ∷ []) new
+    → IsStatusAfter p.number p.pod p.eviction (before_last p.handed ++ x ∷ []) after)
     → IsKept (updated p) differs new after news
 kept_updated p x differs old new before after olds news pending last kept step was made shown =
     let h = before_last p.handed in
@@ -181,23 +216,30 @@ kept_updated p x differs old new before after olds news pending last kept step w
     let shown_h = subst (λ (k : List PodTick). IsStatusAfter p.number p.pod p.eviction k before) same kept.shown in
     let state = state_more p.pod p.greatest (evicted_at p) h x old new after_h step was in
     let within = ends_within p.pod h (evicted_at p) after_h.ended in
-    let here = made (evicted_at p) (not_now (evicted_at p) (length h) (suc (length h)) (evicted_at p) (omega arith) within (may_self (evicted_at p) (suc (length h)))) (after_h.now (evicted_at p) (may_self (evicted_at p) (length h))) in
+    let here = made (evicted_at p) (not_now (evicted_at p) (length h) (suc (length h)) (evicted_at p) (omega arith)
+    within (may_self (evicted_at p) (suc (length h))))
+    (after_h.now (evicted_at p) (may_self (evicted_at p) (length h))) in
     record {
       listed = kept.listed;
       next = λ t. absurd (let w : false ≡ true = t in cc);
       after = subst (λ (k : List PodTick). IsStateAfter p.pod p.greatest (evicted_at p) k new) (sym whole) state;
-      shown = subst (λ (k : List PodTick). IsStatusAfter p.number p.pod p.eviction k after) (sym whole) (shown shown_h after_h state);
+      shown = subst (λ (k : List PodTick). IsStatusAfter p.number p.pod p.eviction k after) (sym whole)
+          (shown shown_h after_h state);
       made = subst (λ (k : List PodTick). AreEventsAfter p.pod p.greatest (evicted_at p) k news) (sym whole)
-          (events_after p.pod p.greatest (evicted_at p) h x news (subst (λ (o : Option ℕ). AreEventsOf p.pod p.greatest o h x news) (sym (before_is (evicted_at p) (length h) within)) here));
+          (events_after p.pod p.greatest (evicted_at p) h x news
+          (subst (λ (o : Option ℕ). AreEventsOf p.pod p.greatest o h x news)
+          (sym (before_is (evicted_at p) (length h) within)) here));
     }
 
 -- the end of a pod that was evicted
-pub end_is : (pod : PodSpec) (h : List PodTick) (o end : Option ℕ) → IfSome o (EndsAt pod h) → IsEnd pod o h end → IfSome o (λ place. end ≡ Some place)
+pub end_is : (pod : PodSpec) (h : List PodTick) (o end : Option ℕ) → IfSome o (EndsAt pod h) → IsEnd pod o h end
+    → IfSome o (λ place. end ≡ Some place)
 end_is pod h None end ends is = tt
 end_is pod h (Some place) end ends is = IsEnd-unique pod (Some place) h end (Some place) is ends.is_end
 
 -- a pod that has not ended was not evicted
-not_evicted : (pod : PodSpec) (h : List PodTick) (o : Option ℕ) → IfSome o (EndsAt pod h) → (HasEnded pod o h → ⊥) → o ≡ None
+not_evicted : (pod : PodSpec) (h : List PodTick) (o : Option ℕ) → IfSome o (EndsAt pod h) → (HasEnded pod o h → ⊥)
+    → o ≡ None
 not_evicted pod h None ends lives = refl
 not_evicted pod h (Some place) ends lives = absurd (lives (place, ends.is_end))
 
@@ -205,28 +247,37 @@ no_eviction : (o : Option Eviction) → place_of o ≡ None → o ≡ None
 no_eviction None e = refl
 no_eviction (Some eviction) e = absurd (let w : Some eviction.place ≡ None = e in cc)
 
-still_lives : (pod : PodSpec) (e : Option ℕ) (h : List PodTick) (end : Option ℕ) → (HasEnded pod e h → ⊥) → IsEnd pod e h end → IsEnd pod e h None
+still_lives : (pod : PodSpec) (e : Option ℕ) (h : List PodTick) (end : Option ℕ) → (HasEnded pod e h → ⊥)
+    → IsEnd pod e h end → IsEnd pod e h None
 still_lives pod e h None lives is = is
 still_lives pod e h (Some t) lives is = absurd (lives (t, is))
 
 -- nor has its phase come to an end
-pub goes_on : (pod : PodSpec) (greatest : ℕ) (e : Option ℕ) (h : List PodTick) (state : PodState) → IsStateOf pod greatest e h state → (HasEnded pod e h → ⊥)
+pub goes_on : (pod : PodSpec) (greatest : ℕ) (e : Option ℕ) (h : List PodTick) (state : PodState)
+    → IsStateOf pod greatest e h state → (HasEnded pod e h → ⊥)
     → IsTerminal state.lifecycle.phase → ⊥
-goes_on pod greatest e h state is lives ended = lives ((ended_is pod e h state.lifecycle.phase is.progress.so_far.phase).0 ended)
+goes_on pod greatest e h state is lives ended =
+    lives ((ended_is pod e h state.lifecycle.phase is.progress.so_far.phase).0 ended)
 
 -- the counters of a piece, while a tick is pending and while none is
-pub state_pending : (p : Piece) (differs : List Differ) (state : PodState) (status : PodStatus) (events : List PodEvent) → IsTrue p.is_pending → IsKept p differs state status events
+pub state_pending : (p : Piece) (differs : List Differ) (state : PodState) (status : PodStatus)
+    (events : List PodEvent) → IsTrue p.is_pending → IsKept p differs state status events
     → IsStateAfter p.pod p.greatest (evicted_at p) (before_last p.handed) state
 state_pending p differs state status events pending kept =
-    subst (λ (k : List PodTick). IsStateAfter p.pod p.greatest (evicted_at p) k state) (taken_pending p.is_pending p.handed pending) kept.after
+    subst (λ (k : List PodTick). IsStateAfter p.pod p.greatest (evicted_at p) k state)
+    (taken_pending p.is_pending p.handed pending) kept.after
 
-pub state_free : (p : Piece) (differs : List Differ) (state : PodState) (status : PodStatus) (events : List PodEvent) → p.is_pending ≡ false → IsKept p differs state status events
+pub state_free : (p : Piece) (differs : List Differ) (state : PodState) (status : PodStatus) (events : List PodEvent)
+    → p.is_pending ≡ false → IsKept p differs state status events
     → IsStateAfter p.pod p.greatest (evicted_at p) p.handed state
 state_free p differs state status events free kept =
-    subst (λ (k : List PodTick). IsStateAfter p.pod p.greatest (evicted_at p) k state) (taken_free p.is_pending p.handed free) kept.after
+    subst (λ (k : List PodTick). IsStateAfter p.pod p.greatest (evicted_at p) k state)
+    (taken_free p.is_pending p.handed free) kept.after
 
 pub lives_free : (p : Piece) → p.is_pending ≡ false → Lives p → HasEnded p.pod (evicted_at p) p.handed → ⊥
-lives_free p free lives ended = lives (subst (λ (k : List PodTick). HasEnded p.pod (evicted_at p) k) (sym (taken_free p.is_pending p.handed free)) ended)
+lives_free p free lives ended =
+    lives (subst (λ (k : List PodTick). HasEnded p.pod (evicted_at p) k) (sym (taken_free p.is_pending p.handed free))
+    ended)
 
 -- what an eviction by the last tick starts from: the ticks with the last one, the pod not evicted so far
 record IsEvictable (p : Piece) (x : PodTick) (old : PodState) : Type 0 where
@@ -238,7 +289,8 @@ record IsEvictable (p : Piece) (x : PodTick) (old : PodState) : Type 0 where
   pub now : IsStateOf p.pod p.greatest None (before_last p.handed ++ x ∷ []) old
   pub lives : HasEnded p.pod None (before_last p.handed ++ x ∷ []) → ⊥
 
-evictable : (p : Piece) (x : PodTick) (differs : List Differ) (old : PodState) (status : PodStatus) (events : List PodEvent) → p.is_pending ≡ false → Lives p → last_of p.handed ≡ Some x
+evictable : (p : Piece) (x : PodTick) (differs : List Differ) (old : PodState) (status : PodStatus)
+    (events : List PodEvent) → p.is_pending ≡ false → Lives p → last_of p.handed ≡ Some x
     → IsKept p differs old status events → IsEvictable p x old
 evictable p x differs old status events free lives last kept =
     let h = before_last p.handed in
@@ -247,8 +299,10 @@ evictable p x differs old status events free lives last kept =
     let front : before_last k ≡ h = front_more h x in
     let no_place : evicted_at p ≡ None = not_evicted p.pod (ticks p) (evicted_at p) kept.after.ended lives in
     let state_k : IsStateAfter p.pod p.greatest None k old =
-    subst (λ (o : Option ℕ). IsStateAfter p.pod p.greatest o k old) no_place (subst (λ (t : List PodTick). IsStateAfter p.pod p.greatest (evicted_at p) t old) same kept.after) in
-    let was = λ (e : Option ℕ) (may : MayBe None (length h) e). subst (λ (t : List PodTick). IsProgressOf p.pod e t (before_of old)) front
+    subst (λ (o : Option ℕ). IsStateAfter p.pod p.greatest o k old) no_place
+    (subst (λ (t : List PodTick). IsStateAfter p.pod p.greatest (evicted_at p) t old) same kept.after) in
+    let was = λ (e : Option ℕ) (may : MayBe None (length h) e). subst
+    (λ (t : List PodTick). IsProgressOf p.pod e t (before_of old)) front
     (state_k.before refl e (subst (λ (t : List PodTick). MayBe None (length t) e) (sym front) may)) in
     record {
       same = same;
@@ -257,12 +311,15 @@ evictable p x differs old status events free lives last kept =
       lifecycle = (was None tt).so_far;
       progress = was (Some (length h)) (omega arith);
       now = state_k.now None tt;
-      lives = λ ended. lives (subst (λ (o : Option ℕ). HasEnded p.pod o (ticks p)) (sym no_place) (subst (λ (t : List PodTick). HasEnded p.pod None t) (sym same) ended));
+      lives = λ ended. lives (subst (λ (o : Option ℕ). HasEnded p.pod o (ticks p)) (sym no_place)
+          (subst (λ (t : List PodTick). HasEnded p.pod None t) (sym same) ended));
     }
 
-pub evicted_state : (p : Piece) (x : PodTick) (differs : List Differ) (old new : PodState) (status : PodStatus) (events : List PodEvent) → p.is_pending ≡ false → Lives p → last_of p.handed ≡ Some x
+pub evicted_state : (p : Piece) (x : PodTick) (differs : List Differ) (old new : PodState) (status : PodStatus)
+    (events : List PodEvent) → p.is_pending ≡ false → Lives p → last_of p.handed ≡ Some x
     → IsKept p differs old status events
-    → (IsLifecycleOf p.pod None (before_last p.handed) (before_of old) → IsProgressOf p.pod (Some (length (before_last p.handed))) (before_last p.handed) (before_of old)
+    → (IsLifecycleOf p.pod None (before_last p.handed) (before_of old)
+    → IsProgressOf p.pod (Some (length (before_last p.handed))) (before_last p.handed) (before_of old)
     → IsStateOf p.pod p.greatest None (before_last p.handed ++ x ∷ []) old
     → IsStateOf p.pod p.greatest (Some (length (before_last p.handed))) (before_last p.handed ++ x ∷ []) new)
     → IsStateOf p.pod p.greatest (Some (length (before_last p.handed))) (before_last p.handed ++ x ∷ []) new
@@ -271,27 +328,37 @@ evicted_state p x differs old new status events free lives last kept evict =
     evict from.lifecycle from.progress from.now
 
 -- one that its last tick evicts
-pub kept_evicted : (p : Piece) (x : PodTick) (order : EvictOrder) (differs : List Differ) (old new : PodState) (before after : PodStatus) (events : List PodEvent) → p.is_pending ≡ false → Lives p
+pub kept_evicted : (p : Piece) (x : PodTick) (order : EvictOrder) (differs : List Differ) (old new : PodState)
+    (before after : PodStatus) (events : List PodEvent) → p.is_pending ≡ false → Lives p
     → last_of p.handed ≡ Some x → IsKept p differs old before events
-    → (IsLifecycleOf p.pod None (before_last p.handed) (before_of old) → IsProgressOf p.pod (Some (length (before_last p.handed))) (before_last p.handed) (before_of old)
+    → (IsLifecycleOf p.pod None (before_last p.handed) (before_of old)
+    → IsProgressOf p.pod (Some (length (before_last p.handed))) (before_last p.handed) (before_of old)
     → IsStateOf p.pod p.greatest None (before_last p.handed ++ x ∷ []) old
-    → IsStateOf p.pod p.greatest (Some (length (before_last p.handed))) (before_last p.handed ++ x ∷ []) new × IsEnd p.pod (Some (length (before_last p.handed))) (before_last p.handed ++ x ∷ []) (Some (length (before_last p.handed))))
-    → (IsStatusAfter p.number p.pod None (before_last p.handed ++ x ∷ []) before → IsEnd p.pod None (before_last p.handed ++ x ∷ []) None
     → IsStateOf p.pod p.greatest (Some (length (before_last p.handed))) (before_last p.handed ++ x ∷ []) new
-    → IsEnd p.pod (Some (length (before_last p.handed))) (before_last p.handed ++ x ∷ []) (Some (length (before_last p.handed)))
-    → IsStatusAfter p.number p.pod (Some (record { place = length (before_last p.handed); order = order })) (before_last p.handed ++ x ∷ []) after)
+    × IsEnd p.pod (Some (length (before_last p.handed))) (before_last p.handed ++ x ∷ [])
+    (Some (length (before_last p.handed))))
+    → (IsStatusAfter p.number p.pod None (before_last p.handed ++ x ∷ []) before
+    → IsEnd p.pod None (before_last p.handed ++ x ∷ []) None
+    → IsStateOf p.pod p.greatest (Some (length (before_last p.handed))) (before_last p.handed ++ x ∷ []) new
+    → IsEnd p.pod (Some (length (before_last p.handed))) (before_last p.handed ++ x ∷ [])
+    (Some (length (before_last p.handed)))
+    → IsStatusAfter p.number p.pod (Some (record { place = length (before_last p.handed); order = order }))
+    (before_last p.handed ++ x ∷ []) after)
     → IsKept (with_eviction p order) differs new after events
 kept_evicted p x order differs old new before after events free lives last kept evict shown =
     let h = before_last p.handed in
     let k = h ++ x ∷ [] in
     let from = evictable p x differs old before events free lives last kept in
-    let is_place : length p.handed - 1 ≡ length h = omega (arith, ap length (split_last p.handed x last), length-more h x) in
+    let is_place : length p.handed - 1 ≡ length h =
+    omega (arith, ap length (split_last p.handed x last), length-more h x) in
     let both = evict from.lifecycle from.progress from.now in
     let phase = from.now.progress.so_far.phase in
     let status_k : IsStatusAfter p.number p.pod None k before =
-    subst (λ (o : Option Eviction). IsStatusAfter p.number p.pod o k before) from.none (subst (λ (t : List PodTick). IsStatusAfter p.number p.pod p.eviction t before) from.same kept.shown) in
+    subst (λ (o : Option Eviction). IsStatusAfter p.number p.pod o k before) from.none
+    (subst (λ (t : List PodTick). IsStatusAfter p.number p.pod p.eviction t before) from.same kept.shown) in
     let made_k : AreEventsAfter p.pod p.greatest None k events =
-    subst (λ (o : Option ℕ). AreEventsAfter p.pod p.greatest o k events) from.no_place (subst (λ (t : List PodTick). AreEventsAfter p.pod p.greatest (evicted_at p) t events) from.same kept.made) in
+    subst (λ (o : Option ℕ). AreEventsAfter p.pod p.greatest o k events) from.no_place
+    (subst (λ (t : List PodTick). AreEventsAfter p.pod p.greatest (evicted_at p) t events) from.same kept.made) in
     let state' : IsStateAfter p.pod p.greatest (Some (length h)) k new = record {
       ended = record { within = omega (arith, length-more h x); is_end = both.1 };
       now = λ e may. subst (λ (o : Option ℕ). IsStateOf p.pod p.greatest o k new) (sym may) both.0;
@@ -300,13 +367,18 @@ kept_evicted p x order differs old new before after events free lives last kept 
     record {
       listed = kept.listed;
       next = λ t. absurd (not_free p.is_pending free t);
-      after = subst (λ (t : List PodTick). IsStateAfter p.pod p.greatest (Some (length p.handed - 1)) t new) (sym from.same)
+      after = subst (λ (t : List PodTick). IsStateAfter p.pod p.greatest (Some (length p.handed - 1)) t new)
+          (sym from.same)
           (subst (λ (n : ℕ). IsStateAfter p.pod p.greatest (Some n) k new) (sym is_place) state');
-      shown = subst (λ (t : List PodTick). IsStatusAfter p.number p.pod (Some (record { place = length p.handed - 1; order = order })) t after) (sym from.same)
-          (subst (λ (n : ℕ). IsStatusAfter p.number p.pod (Some (record { place = n; order = order })) k after) (sym is_place)
+      shown = subst (λ (t : List PodTick). IsStatusAfter p.number p.pod
+          (Some (record { place = length p.handed - 1; order = order })) t after) (sym from.same)
+          (subst (λ (n : ℕ). IsStatusAfter p.number p.pod (Some (record { place = n; order = order })) k after)
+          (sym is_place)
           (shown status_k (still_lives p.pod None k phase.0 from.lives phase.1) both.0 both.1));
-      made = subst (λ (t : List PodTick). AreEventsAfter p.pod p.greatest (Some (length p.handed - 1)) t events) (sym from.same)
-          (subst (λ (n : ℕ). AreEventsAfter p.pod p.greatest (Some n) k events) (sym is_place) (events_evicted p.pod p.greatest h x events made_k));
+      made = subst (λ (t : List PodTick). AreEventsAfter p.pod p.greatest (Some (length p.handed - 1)) t events)
+          (sym from.same)
+          (subst (λ (n : ℕ). AreEventsAfter p.pod p.greatest (Some n) k events) (sym is_place)
+          (events_evicted p.pod p.greatest h x events made_k));
     }
   where
     not_free : (b : Bool) → b ≡ false → IsTrue b → ⊥
@@ -319,7 +391,8 @@ flag_says None b e = ((λ t. sym e ∙ t), (λ w. e ∙ w))
 flag_says (Some eviction) b e = ((λ t. refl), (λ w. e))
 
 -- the last tick, by its moment
-pub tick_at : (h : List PodTick) (m : ℕ) → last_moment h ≡ Some m → (entry : PodEntry) × (last_of h ≡ Some (recorded m entry))
+pub tick_at : (h : List PodTick) (m : ℕ) → last_moment h ≡ Some m → (entry : PodEntry)
+    × (last_of h ≡ Some (recorded m entry))
 tick_at h m is = there (slice_get h (length h - 1)) refl (sym (moment_here h (length h - 1)) ∙ is)
   where
     moment_here : (h : List PodTick) (i : ℕ) → moment_at h i ≡ option_map (λ (x : PodTick). x.moment) (slice_get h i)
@@ -327,12 +400,15 @@ tick_at h m is = there (slice_get h (length h - 1)) refl (sym (moment_here h (le
     moment_here (x ∷ xs) zero = refl
     moment_here (x ∷ xs) (suc i) = moment_here xs i
 
-    there : (o : Option PodTick) → slice_get h (length h - 1) ≡ o → option_map (λ (x : PodTick). x.moment) o ≡ Some m → (entry : PodEntry) × (last_of h ≡ Some (recorded m entry))
+    there : (o : Option PodTick) → slice_get h (length h - 1) ≡ o → option_map (λ (x : PodTick). x.moment) o ≡ Some m
+        → (entry : PodEntry) × (last_of h ≡ Some (recorded m entry))
     there None e at = absurd (let w : None ≡ Some m = at in cc)
-    there (Some x) e at = let same : x.moment ≡ m = (let w : Some x.moment ≡ Some m = at in cc) in (x.entry, e ∙ ap (λ n. Some (recorded n x.entry)) same)
+    there (Some x) e at = let same : x.moment ≡ m = (let w : Some x.moment ≡ Some m = at in cc) in
+        (x.entry, e ∙ ap (λ n. Some (recorded n x.entry)) same)
 
 -- the observation that was handed last
-pub observed_last : (items : List PodObs) (n : ℕ) (observed : PodObs) → n ≡ length items → 0 < length items → observed ≡ get_or items (n - 1) observed
+pub observed_last : (items : List PodObs) (n : ℕ) (observed : PodObs) → n ≡ length items → 0 < length items
+    → observed ≡ get_or items (n - 1) observed
     → last_of (map pod_tick items) ≡ Some (pod_tick observed)
 observed_last items n observed long some is =
     let k = length items - 1 in
@@ -342,11 +418,13 @@ observed_last items n observed long some is =
     ∙ ap (option_map pod_tick) (slice_get-get_or items k observed lt ∙ ap Some (sym here))
 
 -- where something is known of the last tick, there is one
-pub some_last : (items : List PodObs) (Q : PodTick → Type 0) → IsSomeAnd (last_of (map pod_tick items)) Q → 0 < length items
+pub some_last : (items : List PodObs) (Q : PodTick → Type 0) → IsSomeAnd (last_of (map pod_tick items)) Q
+    → 0 < length items
 some_last [] Q is = absurd is
 some_last (x ∷ xs) Q is = omega arith
 
-pub of_last : (h : List PodTick) (x : PodTick) (Q : PodTick → Type 0) → last_of h ≡ Some x → IsSomeAnd (last_of h) Q → Q x
+pub of_last : (h : List PodTick) (x : PodTick) (Q : PodTick → Type 0) → last_of h ≡ Some x → IsSomeAnd (last_of h) Q
+    → Q x
 of_last h x Q last is = subst (λ (o : Option PodTick). IsSomeAnd o Q) last is
 
 -- a container's last tick is the pod's
@@ -355,94 +433,127 @@ ends_too h n at later =
     let f = λ (entry : PodEntry). unwrap_or (slice_get entry.containers n) unseen in
     let g = λ (shown : ContainerObs). shown.seen in
     let same : last_moment (listings (ticks_of h n)) ≡ last_moment h =
-    moment_at-project g (ticks_of h n) (length (listings (ticks_of h n)) - 1) ∙ moment_at-project f h (length (listings (ticks_of h n)) - 1)
+    moment_at-project g (ticks_of h n) (length (listings (ticks_of h n)) - 1) ∙ moment_at-project f h
+    (length (listings (ticks_of h n)) - 1)
     ∙ ap (λ m. moment_at h (m - 1)) (length-project g (ticks_of h n) ∙ length-project f h) in
     subst (λ (o : Option ℕ). IfSome o (λ last. last < at)) (sym same) later
 
 -- what may come next may be taken
-pub may_take : (pod : PodSpec) (greatest : ℕ) (e : Option ℕ) (h : List PodTick) (state : PodState) (observed : PodObs) → IsStateOf pod greatest e h state → IsNextTick pod h (pod_tick observed)
+pub may_take : (pod : PodSpec) (greatest : ℕ) (e : Option ℕ) (h : List PodTick) (state : PodState) (observed : PodObs)
+    → IsStateOf pod greatest e h state → IsNextTick pod h (pod_tick observed)
     → MayFollow state observed.at observed.containers
 may_take pod greatest e h state observed is next =
     may_follow pod greatest e h state observed.at observed.containers is
     (λ n. elim (cases_lt n (length pod.containers)) [
       | inl lt ↦ next.shown.acceptable n lt
       | inr ge ↦
-          let past : slice_get observed.containers n ≡ None = slice_get_past observed.containers n (omega (arith, next.shown.as_many, ge)) in
-          subst (λ (o : Option ContainerObs). IsAcceptable (listings (ticks_of h n)) (unwrap_or o unseen).seen) (sym past) tt
+          let past : slice_get observed.containers n ≡ None = slice_get_past observed.containers n
+          (omega (arith, next.shown.as_many, ge)) in
+          subst (λ (o : Option ContainerObs). IsAcceptable (listings (ticks_of h n)) (unwrap_or o unseen).seen)
+          (sym past) tt
     ])
     (λ n. ends_too h n observed.at next.later)
 
 -- each differ may follow it
-pub all_follow : (pod : PodSpec) (h : List PodTick) (differs : List Differ) (observed : PodObs) → AreListed pod h differs → IsNextTick pod h (pod_tick observed)
+pub all_follow : (pod : PodSpec) (h : List PodTick) (differs : List Differ) (observed : PodObs)
+    → AreListed pod h differs → IsNextTick pod h (pod_tick observed)
     → AllFollow differs observed.at observed.containers
 all_follow pod h differs observed are next = λ n d lt.
     let is = are.each n d lt in
     record {
-      accepted = (is.accepts (listed_in observed.containers n)).1 (next.shown.acceptable n (omega (arith, are.as_many, lt)));
-      later = is_before (listings (ticks_of h n)) (get_or differs n d) observed.at is (ends_too h n observed.at next.later);
+      accepted = (is.accepts (listed_in observed.containers n)).1
+          (next.shown.acceptable n (omega (arith, are.as_many, lt)));
+      later = is_before (listings (ticks_of h n)) (get_or differs n d) observed.at is
+          (ends_too h n observed.at next.later);
     }
 
 -- a piece that one more observation is handed to
-pub piece_handed : (number : ℕ) (pod : PodSpec) (greatest : ℕ) (items : List PodObs) (was_pending : Bool) (eviction : Option Eviction) (observed : PodObs)
-    → piece number pod greatest (items ++ observed ∷ []) true eviction ≡ with_tick (piece number pod greatest items was_pending eviction) (pod_tick observed)
+pub piece_handed : (number : ℕ) (pod : PodSpec) (greatest : ℕ) (items : List PodObs) (was_pending : Bool)
+    (eviction : Option Eviction) (observed : PodObs)
+    → piece number pod greatest (items ++ observed ∷ []) true eviction ≡ with_tick
+    (piece number pod greatest items was_pending eviction) (pod_tick observed)
 piece_handed number pod greatest items was_pending eviction observed =
-    ap (λ (h : List PodTick). record { number = number; pod = pod; greatest = greatest; handed = h; is_pending = true; eviction = eviction }) (map-append pod_tick items (observed ∷ []))
+    ap (λ (h : List PodTick). record {
+      number = number;
+      pod = pod;
+      greatest = greatest;
+      handed = h;
+      is_pending = true;
+      eviction = eviction;
+    }) (map-append pod_tick items (observed ∷ []))
 
 -- the last moment
-moment_of : (items : List PodObs) (i : ℕ) → moment_at (map pod_tick items) i ≡ option_map (λ (o : PodObs). o.at) (slice_get items i)
+moment_of : (items : List PodObs) (i : ℕ) → moment_at (map pod_tick items) i ≡ option_map (λ (o : PodObs). o.at)
+    (slice_get items i)
 moment_of [] i = refl
 moment_of (x ∷ xs) zero = refl
 moment_of (x ∷ xs) (suc i) = moment_of xs i
 
-pub last_moment_of : (items : List PodObs) → last_moment (map pod_tick items) ≡ option_map (λ (o : PodObs). o.at) (slice_get items (length items - 1))
-last_moment_of items = ap (λ m. moment_at (map pod_tick items) (m - 1)) (length-map items pod_tick) ∙ moment_of items (length items - 1)
+pub last_moment_of : (items : List PodObs) → last_moment (map pod_tick items) ≡ option_map (λ (o : PodObs). o.at)
+    (slice_get items (length items - 1))
+last_moment_of items = ap (λ m. moment_at (map pod_tick items) (m - 1)) (length-map items pod_tick)
+    ∙ moment_of items (length items - 1)
 
 pub front_is : (items : List PodObs) → before_last (map pod_tick items) ≡ map pod_tick (take (length items - 1) items)
-front_is items = ap (λ m. take (m - 1) (map pod_tick items)) (length-map items pod_tick) ∙ take-map pod_tick (length items - 1) items
+front_is items = ap (λ m. take (m - 1) (map pod_tick items)) (length-map items pod_tick) ∙ take-map pod_tick
+    (length items - 1) items
 
 -- the moment before a place
-pub moment_taken : (items : List PodObs) (n : ℕ) (last : PodObs) → 0 < n → n ≤ length items → last ≡ get_or items (n - 1) last
+pub moment_taken : (items : List PodObs) (n : ℕ) (last : PodObs) → 0 < n → n ≤ length items
+    → last ≡ get_or items (n - 1) last
     → Some last.at ≡ last_moment (map pod_tick (take n items))
 moment_taken items n last some within is =
     let long : length (take n items) ≡ n = length-take-le n items within in
-    let here : last ≡ get_or (take n items) (n - 1) last = is ∙ sym (get_or-take n items (n - 1) last (omega (arith, some))) in
+    let here : last ≡ get_or (take n items) (n - 1) last =
+    is ∙ sym (get_or-take n items (n - 1) last (omega (arith, some))) in
     sym (last_moment_of (take n items)
     ∙ ap (λ m. option_map (λ (o : PodObs). o.at) (slice_get (take n items) (m - 1))) long
     ∙ ap (option_map (λ (o : PodObs). o.at)) (slice_get-get_or (take n items) (n - 1) last (omega (arith, long, some)))
     ∙ ap (λ (o : PodObs). Some o.at) (sym here))
 
 -- what was pushed stands last
-pub pushed_last : (items : List PodObs) (observed : PodObs) (n : ℕ) (last : PodObs) → n ≡ length (items ++ observed ∷ []) → last ≡ get_or (items ++ observed ∷ []) (n - 1) last → last ≡ observed
+pub pushed_last : (items : List PodObs) (observed : PodObs) (n : ℕ) (last : PodObs)
+    → n ≡ length (items ++ observed ∷ []) → last ≡ get_or (items ++ observed ∷ []) (n - 1) last → last ≡ observed
 pushed_last items observed n last long is =
     let k = length items in
     let e : n - 1 ≡ k = omega (arith, long, length-more items observed) in
-    let here : last ≡ get_or (items ++ observed ∷ []) k last = is ∙ ap (λ m. get_or (items ++ observed ∷ []) m last) e in
+    let here : last ≡ get_or (items ++ observed ∷ []) k last = is ∙ ap (λ m. get_or (items ++ observed ∷ []) m last) e
+    in
     let same : Some last ≡ Some observed =
-    ap Some here ∙ sym (slice_get-get_or (items ++ observed ∷ []) k last (omega (arith, length-more items observed))) ∙ slice_get-new items observed in
+    ap Some here ∙ sym (slice_get-get_or (items ++ observed ∷ []) k last (omega (arith, length-more items observed)))
+    ∙ slice_get-new items observed in
     cc
 
 -- what is known of a piece whose tick is pending
-pub record IsAtLast (number : ℕ) (pod : PodSpec) (greatest : ℕ) (items : List PodObs) (is_pending : Bool) (eviction : Option Eviction) (state : PodState) (observed : PodObs) : Type 0 where
+pub record IsAtLast (number : ℕ) (pod : PodSpec) (greatest : ℕ) (items : List PodObs) (is_pending : Bool)
+    (eviction : Option Eviction) (state : PodState) (observed : PodObs) : Type 0 where
   pub pending : IsTrue is_pending
   pub last : last_of (map pod_tick items) ≡ Some (pod_tick observed)
   pub next : IsNextTick pod (before_last (map pod_tick items)) (pod_tick observed)
   pub now : IsStateOf pod greatest (place_of eviction) (before_last (map pod_tick items)) state
   pub not_now : place_of eviction ≡ Some (length (before_last (map pod_tick items))) → ⊥
 
-pub at_last : (p : Piece) (number : ℕ) (pod : PodSpec) (greatest : ℕ) (items : List PodObs) (is_pending : Bool) (eviction : Option Eviction) (differs : List Differ) (state : PodState)
-    (status : PodStatus) (events : List PodEvent) (n : ℕ) (observed : PodObs) → piece number pod greatest items is_pending eviction ≡ p → IsTrue p.is_pending
-    → IsKept (piece number pod greatest items is_pending eviction) differs state status events → n ≡ length items → observed ≡ get_or items (n - 1) observed
+pub at_last : (p : Piece) (number : ℕ) (pod : PodSpec) (greatest : ℕ) (items : List PodObs) (is_pending : Bool)
+    (eviction : Option Eviction) (differs : List Differ) (state : PodState)
+    (status : PodStatus) (events : List PodEvent) (n : ℕ) (observed : PodObs)
+    → piece number pod greatest items is_pending eviction ≡ p → IsTrue p.is_pending
+    → IsKept (piece number pod greatest items is_pending eviction) differs state status events → n ≡ length items
+    → observed ≡ get_or items (n - 1) observed
     → IsAtLast number pod greatest items is_pending eviction state observed
-at_last p number pod greatest items is_pending eviction differs state status events n observed view pending' kept long is =
+at_last p number pod greatest items is_pending eviction differs state status events n observed view pending' kept long
+    is =
     let pending : IsTrue is_pending = ap (λ (q : Piece). q.is_pending) view ∙ pending' in
     let here = kept.next pending in
-    let last = observed_last items n observed long (some_last items (IsNextTick pod (before_last (map pod_tick items))) here) is in
-    let after = state_pending (piece number pod greatest items is_pending eviction) differs state status events pending kept in
+    let last = observed_last items n observed long
+    (some_last items (IsNextTick pod (before_last (map pod_tick items))) here) is in
+    let after = state_pending (piece number pod greatest items is_pending eviction) differs state status events
+    pending kept in
     let h = before_last (map pod_tick items) in
     record {
       pending = pending;
       last = last;
       next = of_last (map pod_tick items) (pod_tick observed) (IsNextTick pod h) last here;
       now = after.now (place_of eviction) (may_self (place_of eviction) (length h));
-      not_now = not_now (place_of eviction) (length h) (suc (length h)) (place_of eviction) (omega arith) (ends_within pod h (place_of eviction) after.ended) (may_self (place_of eviction) (suc (length h)));
+      not_now = not_now (place_of eviction) (length h) (suc (length h)) (place_of eviction) (omega arith)
+          (ends_within pod h (place_of eviction) after.ended) (may_self (place_of eviction) (suc (length h)));
     }

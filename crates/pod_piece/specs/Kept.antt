@@ -25,13 +25,16 @@ pub record EndsAt (pod : PodSpec) (h : List PodTick) (place : ℕ) : Type 0 wher
   pub is_end : IsEnd pod (Some place) h (Some place)
 
 -- the counters are the state of these ticks, whatever eviction is still to come
-pub record IsStateAfter (pod : PodSpec) (greatest : ℕ) (evicted : Option ℕ) (h : List PodTick) (state : PodState) : Type 0 where
+pub record IsStateAfter (pod : PodSpec) (greatest : ℕ) (evicted : Option ℕ) (h : List PodTick)
+    (state : PodState) : Type 0 where
   pub ended : IfSome evicted (EndsAt pod h)
   pub now : (e : Option ℕ) → MayBe evicted (length h) e → IsStateOf pod greatest e h state
-  pub before : evicted ≡ None → (e : Option ℕ) → MayBe None (length (before_last h)) e → IsProgressOf pod e (before_last h) (before_of state)
+  pub before : evicted ≡ None → (e : Option ℕ) → MayBe None (length (before_last h)) e
+      → IsProgressOf pod e (before_last h) (before_of state)
 
 -- the values beside the history are those that the history leaves
-pub record IsKept (p : Piece) (differs : List Differ) (state : PodState) (status : PodStatus) (events : List PodEvent) : Type 0 where
+pub record IsKept (p : Piece) (differs : List Differ) (state : PodState) (status : PodStatus)
+    (events : List PodEvent) : Type 0 where
   pub listed : AreListed p.pod p.handed differs
   pub next : IsTrue p.is_pending → IsSomeAnd (last_of p.handed) (IsNextTick p.pod (before_last p.handed))
   pub after : IsStateAfter p.pod p.greatest (evicted_at p) (ticks p) state

@@ -43,4 +43,5 @@ pub record Follows (differ : Differ) (at : ℕ) (seen : Option Seen) : Type 0 wh
 
 abbrev pub AllFollow : List Differ → ℕ → List ContainerObs → Type 0
 AllFollow differs at shown =
-    (number : ℕ) (d : Differ) → number < length differs → Follows (slice_index_or differs number d) at (listed_in shown number)
+    (number : ℕ) (d : Differ) → number < length differs → Follows (slice_index_or differs number d) at
+    (listed_in shown number)

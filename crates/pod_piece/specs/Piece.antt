@@ -1,5 +1,6 @@
 -- A pod, all that was handed to it, and its eviction.
-use Rattle.std.specs.Prelude.{ℕ, ◌-◌, Bool, true, false, List, [], ◌∷◌, ◌++◌, length, map, take, slice_get, nat_lt, Option, Some, None, option_map, if◌then◌else◌}
+use Rattle.std.specs.Prelude.{ℕ, ◌-◌, Bool, true, false, List, [], ◌∷◌, ◌++◌, length, map, take, slice_get, nat_lt}
+use Rattle.std.specs.Prelude.{Option, Some, None, option_map, if◌then◌else◌}
 use Rattle.manifest.specs.declared.pod.PodSpec.{PodSpec}
 use Rattle.pod_state.specs.Pods.{PodTick, pod_tick, HasEnded}
 use Rattle.observations.specs.Pods.{PodObs}
@@ -62,15 +63,36 @@ Lives p = HasEnded p.pod (evicted_at p) (ticks p) → ⊥
 
 -- a pod that nothing was handed to
 abbrev pub new_piece : ℕ → PodSpec → ℕ → Piece
-new_piece number pod greatest = record { number = number; pod = pod; greatest = greatest; handed = []; is_pending = false; eviction = None }
+new_piece number pod greatest = record {
+  number = number;
+  pod = pod;
+  greatest = greatest;
+  handed = [];
+  is_pending = false;
+  eviction = None;
+}
 
 -- one tick more is handed to it
 abbrev pub with_tick : Piece → PodTick → Piece
-with_tick p tick = record { number = p.number; pod = p.pod; greatest = p.greatest; handed = p.handed ++ tick ∷ []; is_pending = true; eviction = p.eviction }
+with_tick p tick = record {
+  number = p.number;
+  pod = p.pod;
+  greatest = p.greatest;
+  handed = p.handed ++ tick ∷ [];
+  is_pending = true;
+  eviction = p.eviction;
+}
 
 -- the tick that was handed to it has come into its status
 abbrev pub updated : Piece → Piece
-updated p = record { number = p.number; pod = p.pod; greatest = p.greatest; handed = p.handed; is_pending = false; eviction = p.eviction }
+updated p = record {
+  number = p.number;
+  pod = p.pod;
+  greatest = p.greatest;
+  handed = p.handed;
+  is_pending = false;
+  eviction = p.eviction;
+}
 
 -- its last tick evicts it
 abbrev pub with_eviction : Piece → EvictOrder → Piece

@@ -25,9 +25,11 @@ requests_of pod = record {
 }
 
 -- what a status shows of a pod with a number, after these ticks of it
-pub record IsStatusAfter (number : ℕ) (pod : PodSpec) (eviction : Option Eviction) (h : List PodTick) (status : PodStatus) : Type 0 where
+pub record IsStatusAfter (number : ℕ) (pod : PodSpec) (eviction : Option Eviction) (h : List PodTick)
+    (status : PodStatus) : Type 0 where
   pub number_is : status.number ≡ number
-  pub lifecycle : IsLifecycleOf pod (place_of eviction) h (record { phase = status.phase; conditions = status.conditions })
+  pub lifecycle : IsLifecycleOf pod (place_of eviction) h
+      (record { phase = status.phase; conditions = status.conditions })
   pub containers : AreStatusesOf pod (place_of eviction) h status.containers.items
   pub class : IsOfClass pod.containers status.class
   pub requests : status.requests ≡ requests_of pod

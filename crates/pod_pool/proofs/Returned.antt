@@ -16,4 +16,5 @@ returned f was given now n from same len =
 pub still_laid : (all pieces : List Piece) (now was : List Tag) → all ≡ pieces → now ≡ was → AreLaid pieces was
     → AreLaid all now
 still_laid all pieces now was same tags laid =
-    subst (λ (ps : List Piece). AreLaid ps now) (sym same) (subst (λ (ts : List Tag). AreLaid pieces ts) (sym tags) laid)
+    subst (λ (ps : List Piece). AreLaid ps now) (sym same)
+    (subst (λ (ts : List Tag). AreLaid pieces ts) (sym tags) laid)

@@ -1,5 +1,6 @@
 -- The containers of a pod, as its ticks leave them.
-use Rattle.std.proofs.Common.{◌≡◌, inl, inr, ℕ, suc, ◌<◌, Bool, List, [], ◌∷◌, ◌++◌, length, get_or, Option, Some, None, refl, ap, subst, sym, ◌∙◌, arith}
+use Rattle.std.proofs.Common.{◌≡◌, inl, inr, ℕ, suc, ◌<◌, Bool, List, [], ◌∷◌, ◌++◌, length, get_or, Option, Some}
+use Rattle.std.proofs.Common.{None, refl, ap, subst, sym, ◌∙◌, arith}
 use Rattle.std.specs.Prelude.{◌↔◌, ◌≢◌, IsSomeAnd, IsTrue, slice_get, unwrap_or}
 use Rattle.histories.specs.Histories.{recorded}
 use Rattle.histories.proofs.Items.{any_default}
@@ -20,87 +21,112 @@ use Rattle.containers.specs.Probed as probed
 use Rattle.containers.specs.Shown as shown
 use Rattle.containers.specs.declared.status.ContainerStatus.{ContainerStatus}
 use Rattle.pod_state.specs.Events.{IsMadeOf}
-use Rattle.pod_state.specs.Pods.{PodEntry, PodTick, pod_tick, ticks_of, unseen, OfSpec, Serves, IsReady, IsViewOf, IsEnd, counted, EndsEvicted}
+use Rattle.pod_state.specs.Pods.{PodEntry, PodTick, pod_tick, ticks_of, unseen, OfSpec, Serves, IsReady, IsViewOf}
+use Rattle.pod_state.specs.Pods.{IsEnd, counted, EndsEvicted}
 use Rattle.pod_state.specs.Containers.{IsShownOf, AreShown, AreStatusesOf, IsContainerOf, AreContainersOf, AreKept}
 use Rattle.pod_state.proofs.EndLemmas.{IsEnd-unique}
 use Rattle.pod_state.proofs.TickLemmas.{ticks_more, of_spec, implies, within}
 use Rattle.pod_state.proofs.ViewLemmas.{serves_is}
 
 -- one that no tick has shown
-pub first_is : (pod : PodSpec) (greatest n : ℕ) (spec : ContainerSpec) (container : Container) → slice_get pod.containers n ≡ Some spec → IsStateOf spec greatest [] container
+pub first_is : (pod : PodSpec) (greatest n : ℕ) (spec : ContainerSpec) (container : Container)
+    → slice_get pod.containers n ≡ Some spec → IsStateOf spec greatest [] container
     → IsContainerOf pod greatest [] n container
 first_is pod greatest n spec container at is = of_spec pod n (λ s. IsStateOf s greatest [] container) spec at is
 
 -- after one more tick
 pub next_is : (pod : PodSpec) (greatest n : ℕ) (h : List PodTick) (observed : PodObs) (before after : Container)
     → ((spec : ContainerSpec) (k : List ContainerTick) → IsStateOf spec greatest k before
-    → IsStateOf spec greatest (k ++ recorded observed.at (unwrap_or (slice_get observed.containers n) unseen) ∷ []) after)
+    → IsStateOf spec greatest (k ++ recorded observed.at (unwrap_or (slice_get observed.containers n) unseen) ∷ [])
+    after)
     → IsContainerOf pod greatest h n before → IsContainerOf pod greatest (h ++ pod_tick observed ∷ []) n after
 next_is pod greatest n h observed before after step is =
     let more = sym (ticks_more h (pod_tick observed) n) in
-    implies pod n (λ spec. IsStateOf spec greatest (ticks_of h n) before) (λ spec. IsStateOf spec greatest (ticks_of (h ++ pod_tick observed ∷ []) n) after)
-    (λ spec st. subst (λ (k : List ContainerTick). IsStateOf spec greatest k after) more (step spec (ticks_of h n) st)) is
+    implies pod n (λ spec. IsStateOf spec greatest (ticks_of h n) before)
+    (λ spec. IsStateOf spec greatest (ticks_of (h ++ pod_tick observed ∷ []) n) after)
+    (λ spec st. subst (λ (k : List ContainerTick). IsStateOf spec greatest k after) more
+    (step spec (ticks_of h n) st)) is
 
 -- and what the tick makes of it
-pub made_is : (pod : PodSpec) (greatest n : ℕ) (h : List PodTick) (observed : PodObs) (policy : Policy) (before : Container) (made : ContainerEvents) → pod.policy ≡ policy
+pub made_is : (pod : PodSpec) (greatest n : ℕ) (h : List PodTick) (observed : PodObs) (policy : Policy)
+    (before : Container) (made : ContainerEvents) → pod.policy ≡ policy
     → ((spec : ContainerSpec) (k : List ContainerTick) → IsStateOf spec greatest k before
-    → AreEvents policy greatest spec (k ++ recorded observed.at (unwrap_or (slice_get observed.containers n) unseen) ∷ []) (length k) made)
+    → AreEvents policy greatest spec
+    (k ++ recorded observed.at (unwrap_or (slice_get observed.containers n) unseen) ∷ []) (length k) made)
     → IsContainerOf pod greatest h n before → IsMadeOf pod greatest h (pod_tick observed) n made
 made_is pod greatest n h observed policy before made same step is =
     let more = sym (ticks_more h (pod_tick observed) n) in
     let long = length-project (λ (entry : PodEntry). unwrap_or (slice_get entry.containers n) unseen) h in
-    let Q : ContainerSpec → Type 0 = λ spec. AreEvents pod.policy greatest spec (ticks_of (h ++ pod_tick observed ∷ []) n) (length h) made in
+    let Q : ContainerSpec → Type 0 = λ spec. AreEvents pod.policy greatest spec
+    (ticks_of (h ++ pod_tick observed ∷ []) n) (length h) made in
     implies pod n (λ spec. IsStateOf spec greatest (ticks_of h n) before) Q
     (λ spec st.
-    subst (λ (p : Policy). AreEvents p greatest spec (ticks_of (h ++ pod_tick observed ∷ []) n) (length h) made) (sym same)
+    subst (λ (p : Policy). AreEvents p greatest spec (ticks_of (h ++ pod_tick observed ∷ []) n) (length h) made)
+    (sym same)
     (subst (λ (t : ℕ). AreEvents policy greatest spec (ticks_of (h ++ pod_tick observed ∷ []) n) t made) long
-    (subst (λ (k : List ContainerTick). AreEvents policy greatest spec k (length (ticks_of h n)) made) more (step spec (ticks_of h n) st)))) is
+    (subst (λ (k : List ContainerTick). AreEvents policy greatest spec k (length (ticks_of h n)) made) more
+    (step spec (ticks_of h n) st)))) is
 
 -- as a view shows it
 pub view_is : (pod : PodSpec) (greatest n : ℕ) (h : List PodTick) (container : Container) (view : ContainerView)
-    → ((spec : ContainerSpec) (k : List ContainerTick) → IsStateOf spec greatest k container → shown.IsViewOf spec k view)
+    → ((spec : ContainerSpec) (k : List ContainerTick) → IsStateOf spec greatest k container
+    → shown.IsViewOf spec k view)
     → IsContainerOf pod greatest h n container → IsViewOf pod h n view
 view_is pod greatest n h container view shows is =
-    implies pod n (λ spec. IsStateOf spec greatest (ticks_of h n) container) (λ spec. shown.IsViewOf spec (ticks_of h n) view) (λ spec st. shows spec (ticks_of h n) st) is
+    implies pod n (λ spec. IsStateOf spec greatest (ticks_of h n) container)
+    (λ spec. shown.IsViewOf spec (ticks_of h n) view) (λ spec st. shows spec (ticks_of h n) st) is
 
 -- whether it is ready if it serves
 pub serving_ready : (pod : PodSpec) (greatest n : ℕ) (h : List PodTick) (container : Container) (ready : Bool)
-    → ((spec : ContainerSpec) (k : List ContainerTick) → IsStateOf spec greatest k container → (IsTrue ready ↔ (spec.role ≢ Init → probed.IsReady spec k)))
+    → ((spec : ContainerSpec) (k : List ContainerTick) → IsStateOf spec greatest k container
+    → (IsTrue ready ↔ (spec.role ≢ Init → probed.IsReady spec k)))
     → IsContainerOf pod greatest h n container → (IsTrue ready ↔ (Serves pod n → IsReady pod h n))
 serving_ready pod greatest n h container ready says is = there (slice_get pod.containers n) refl is
   where
-    there : (o : Option ContainerSpec) → slice_get pod.containers n ≡ o → IsSomeAnd o (λ spec. IsStateOf spec greatest (ticks_of h n) container)
+    there : (o : Option ContainerSpec) → slice_get pod.containers n ≡ o
+        → IsSomeAnd o (λ spec. IsStateOf spec greatest (ticks_of h n) container)
         → (IsTrue ready ↔ (Serves pod n → IsReady pod h n))
     there None e st = absurd st
     there (Some spec) e st =
         let w = says spec (ticks_of h n) st in
         let R : ContainerSpec → Type 0 = λ s. probed.IsReady s (ticks_of h n) in
         let N : ContainerSpec → Type 0 = λ s. s.role ≢ Init in (
-          (λ t serves. of_spec pod n R spec e (w.0 t (subst (λ (o : Option ContainerSpec). IsSomeAnd o N) e ((serves_is pod n).0 serves)))),
-          (λ f. w.1 (λ not. subst (λ (o : Option ContainerSpec). IsSomeAnd o R) e (f ((serves_is pod n).1 (of_spec pod n N spec e not))))),
+          (λ t serves. of_spec pod n R spec e
+              (w.0 t (subst (λ (o : Option ContainerSpec). IsSomeAnd o N) e ((serves_is pod n).0 serves)))),
+          (λ f. w.1 (λ not. subst (λ (o : Option ContainerSpec). IsSomeAnd o R) e
+              (f ((serves_is pod n).1 (of_spec pod n N spec e not))))),
         )
 
 -- as a status shows it
-pub shown_is : (pod : PodSpec) (greatest n : ℕ) (h : List PodTick) (container : Container) (is_evicted : Type 0) (status : ContainerStatus)
-    → ((spec : ContainerSpec) (k : List ContainerTick) → IsStateOf spec greatest k container → shown.IsShown spec is_evicted k status)
+pub shown_is : (pod : PodSpec) (greatest n : ℕ) (h : List PodTick) (container : Container) (is_evicted : Type 0)
+    (status : ContainerStatus)
+    → ((spec : ContainerSpec) (k : List ContainerTick) → IsStateOf spec greatest k container
+    → shown.IsShown spec is_evicted k status)
     → IsContainerOf pod greatest h n container → IsShownOf pod is_evicted h n status
 shown_is pod greatest n h container is_evicted status shows is =
-    implies pod n (λ spec. IsStateOf spec greatest (ticks_of h n) container) (λ spec. shown.IsShown spec is_evicted (ticks_of h n) status) (λ spec st. shows spec (ticks_of h n) st) is
+    implies pod n (λ spec. IsStateOf spec greatest (ticks_of h n) container)
+    (λ spec. shown.IsShown spec is_evicted (ticks_of h n) status) (λ spec st. shows spec (ticks_of h n) st) is
 
 -- two ways to say that the pod was evicted
-evicted_same : (E F : Type 0) (spec : ContainerSpec) (k : List ContainerTick) (status : ContainerStatus) → (E ↔ F) → shown.IsShown spec E k status → shown.IsShown spec F k status
+evicted_same : (E F : Type 0) (spec : ContainerSpec) (k : List ContainerTick) (status : ContainerStatus) → (E ↔ F)
+    → shown.IsShown spec E k status → shown.IsShown spec F k status
 evicted_same E F spec k status same is = record {
   state = is.state;
   code = is.code;
   restarts = is.restarts;
   ready = ((λ t. let w = is.ready.0 t in ((λ f. w.0 (same.1 f)), w.1)), (λ w. is.ready.1 ((λ e. w.0 (same.0 e)), w.1)));
-  started = ((λ t. let w = is.started.0 t in ((λ f. w.0 (same.1 f)), w.1)), (λ w. is.started.1 ((λ e. w.0 (same.0 e)), w.1)));
+  started = (
+    (λ t. let w = is.started.0 t in ((λ f. w.0 (same.1 f)), w.1)),
+    (λ w. is.started.1 ((λ e. w.0 (same.0 e)), w.1)),
+  );
 }
 
 -- the statuses of a pod, of its containers as they are kept
-pub statuses_are : (pod : PodSpec) (greatest : ℕ) (evicted end : Option ℕ) (h : List PodTick) (containers : List Container) (is_evicted : Type 0) (statuses : List ContainerStatus)
+pub statuses_are : (pod : PodSpec) (greatest : ℕ) (evicted end : Option ℕ) (h : List PodTick)
+    (containers : List Container) (is_evicted : Type 0) (statuses : List ContainerStatus)
     → IsEnd pod evicted h end → (is_evicted ↔ EndsEvicted evicted end) → AreKept pod greatest evicted h containers
-    → ((k : List PodTick) → AreContainersOf pod greatest k containers → AreShown pod is_evicted k statuses) → AreStatusesOf pod evicted h statuses
+    → ((k : List PodTick) → AreContainersOf pod greatest k containers → AreShown pod is_evicted k statuses)
+    → AreStatusesOf pod evicted h statuses
 statuses_are pod greatest evicted end h containers is_evicted statuses is same kept shows =
     let P : Option ℕ → Type 0 = λ o. AreContainersOf pod greatest (counted h o) containers in
     let are = shows (counted h end) (subst P (IsEnd-unique pod evicted h kept.end end kept.is_end is) kept.kept) in
@@ -109,18 +135,21 @@ statuses_are pod greatest evicted end h containers is_evicted statuses is same k
       each = λ n d lt. record {
         end = end;
         is_end = is;
-        shown = implies pod n _ _ (λ spec s. evicted_same is_evicted (EndsEvicted evicted end) spec _ _ same s) (are.each n d lt);
+        shown = implies pod n _ _ (λ spec s. evicted_same is_evicted (EndsEvicted evicted end) spec _ _ same s)
+            (are.each n d lt);
       };
     }
 
 -- the container at a place of a list
-pub item_at : (pod : PodSpec) (greatest : ℕ) (h : List PodTick) (n : ℕ) (containers : List Container) (container e : Container) → n < length containers → container ≡ get_or containers n container
+pub item_at : (pod : PodSpec) (greatest : ℕ) (h : List PodTick) (n : ℕ) (containers : List Container)
+    (container e : Container) → n < length containers → container ≡ get_or containers n container
     → IsContainerOf pod greatest h n (get_or containers n e) → IsContainerOf pod greatest h n container
 item_at pod greatest h n containers container e lt is of =
     subst (λ (x : Container). IsContainerOf pod greatest h n x) (any_default containers n e container lt ∙ sym is) of
 
 -- what holds of what stands at the place, whatever stands for an item that is missing
-pub item_at_any : (containers : List Container) (n : ℕ) (container : Container) → n < length containers → container ≡ get_or containers n container
+pub item_at_any : (containers : List Container) (n : ℕ) (container : Container) → n < length containers
+    → container ≡ get_or containers n container
     → (P : Container → Type 0) (e : Container) → P (get_or containers n e) → P container
 item_at_any containers n container lt is P e of = subst P (any_default containers n e container lt ∙ sym is) of
 
@@ -130,7 +159,8 @@ some_item [] n lt = absurd (omega arith)
 some_item (x ∷ xs) n lt = x
 
 -- lists of one length with the same items
-pub same_items : {A : Type 0} (xs ys : List A) → length xs ≡ length ys → ((i : ℕ) (d : A) → i < length xs → get_or xs i d ≡ get_or ys i d) → xs ≡ ys
+pub same_items : {A : Type 0} (xs ys : List A) → length xs ≡ length ys
+    → ((i : ℕ) (d : A) → i < length xs → get_or xs i d ≡ get_or ys i d) → xs ≡ ys
 same_items [] [] e same = refl
 same_items [] (y ∷ ys) e same = absurd (omega arith)
 same_items (x ∷ xs) [] e same = absurd (omega arith)

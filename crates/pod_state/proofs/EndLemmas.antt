@@ -1,5 +1,6 @@
 -- The end of a pod and its phase, after one more tick.
-use Rattle.std.proofs.Common.{◌≡◌, ◌⊎◌, inl, inr, ℕ, suc, ◌<◌, List, [], ◌∷◌, ◌++◌, length, Option, Some, None, refl, ap, subst, sym, ◌∙◌, arith}
+use Rattle.std.proofs.Common.{◌≡◌, ◌⊎◌, inl, inr, ℕ, suc, ◌<◌, List, [], ◌∷◌, ◌++◌, length, Option, Some, None, refl}
+use Rattle.std.proofs.Common.{ap, subst, sym, ◌∙◌, arith}
 use Rattle.std.specs.Prelude.{◌↔◌, IsSomeAnd, All}
 use Rattle.std.proofs.lemmas.List.{length-take-le}
 use Rattle.histories.specs.Histories.{up_to, IsSo}
@@ -10,22 +11,26 @@ use Rattle.phase.specs.declared.phase.Phase.{Phase}
 use Rattle.phase.specs.declared.phase.Phase.TheVariants.{Pending, Running, Succeeded, Failed}
 use Rattle.manifest.specs.declared.pod.PodSpec.{PodSpec}
 use Rattle.phase.specs.RawPhase.{IsTerminal, AreInitialized}
-use Rattle.pod_state.specs.Pods.{PodTick, facts, numbers, AllReady, IsRawPhaseAfter, EndsPod, IsEnd, counted, IsPhaseBy, IsPhase, IsInitialized, AreContainersReady, HasEnded, EndsEvicted}
+use Rattle.pod_state.specs.Pods.{PodTick, facts, numbers, AllReady, IsRawPhaseAfter, EndsPod, IsEnd, counted}
+use Rattle.pod_state.specs.Pods.{IsPhaseBy, IsPhase, IsInitialized, AreContainersReady, HasEnded, EndsEvicted}
 use Rattle.containers.specs.declared.container.Container.{Container}
 use Rattle.pod_state.specs.Containers.{AreContainersOf, AreKept}
 use Rattle.phase.proofs.PhaseLemmas.{where_same, IsRawPhase-unique}
 
-pub IsEnd-unique : (pod : PodSpec) (evicted : Option ℕ) (h : List PodTick) (o p : Option ℕ) → IsEnd pod evicted h o → IsEnd pod evicted h p → o ≡ p
+pub IsEnd-unique : (pod : PodSpec) (evicted : Option ℕ) (h : List PodTick) (o p : Option ℕ) → IsEnd pod evicted h o
+    → IsEnd pod evicted h p → o ≡ p
 IsEnd-unique pod evicted h o p = IsFirstPlace-unique (IsSo (EndsPod pod evicted) h) o p
 
 pub some_more : (h : List PodTick) (x : PodTick) → h ++ x ∷ [] ≡ [] → ⊥
 some_more h x e = let n : length (h ++ x ∷ []) ≡ 0 = ap length e in absurd (omega (arith, length-more h x))
 
-pub raw_unique : (pod : PodSpec) (h : List PodTick) (p q : Phase) → IsRawPhaseAfter pod h p → IsRawPhaseAfter pod h q → p ≡ q
+pub raw_unique : (pod : PodSpec) (h : List PodTick) (p q : Phase) → IsRawPhaseAfter pod h p → IsRawPhaseAfter pod h q
+    → p ≡ q
 raw_unique pod h p q = IsRawPhase-unique (facts pod h) pod.policy (numbers pod) p q
 
 -- there is one phase
-pub IsPhase-unique : (pod : PodSpec) (evicted : Option ℕ) (h : List PodTick) (p q : Phase) → IsPhase pod evicted h p → IsPhase pod evicted h q → p ≡ q
+pub IsPhase-unique : (pod : PodSpec) (evicted : Option ℕ) (h : List PodTick) (p q : Phase) → IsPhase pod evicted h p
+    → IsPhase pod evicted h q → p ≡ q
 IsPhase-unique pod evicted h p q (o, is, by) (o', is', by') =
     let P : Option ℕ → Type 0 = λ e. IsPhaseBy pod evicted h e p in
     where_same _ _ _ _ _ (λ a b. a ∙ sym b)
@@ -51,7 +56,8 @@ evicted_now : (evicted : Option ℕ) (n m : ℕ) → n ≡ suc m → evicted ≡
 evicted_now evicted n m e is = rw is e
 
 -- a pod of a terminal phase has ended
-pub terminal_end : (pod : PodSpec) (evicted : Option ℕ) (h : List PodTick) (p : Phase) → IsPhase pod evicted h p → IsTerminal p
+pub terminal_end : (pod : PodSpec) (evicted : Option ℕ) (h : List PodTick) (p : Phase) → IsPhase pod evicted h p
+    → IsTerminal p
     → (t : ℕ) × IsEnd pod evicted h (Some t)
 terminal_end pod evicted h p (Some t, end, by) term = (t, end)
 terminal_end pod evicted h p (None, end, inl w) term = absurd (not_pending p w.1 term)
@@ -60,43 +66,53 @@ terminal_end pod evicted h p (None, end, inr (some, inr w)) term =
     let last = so_last (EndsPod pod evicted) h some (inl (p, term, w.1)) in absurd (end last.0 last.1)
 
 -- and a pod that has ended has a terminal phase
-ended_by : (pod : PodSpec) (evicted : Option ℕ) (h : List PodTick) (p : Phase) (t : ℕ) → IsEnd pod evicted h (Some t) → IsPhaseBy pod evicted h (Some t) p → IsTerminal p
+ended_by : (pod : PodSpec) (evicted : Option ℕ) (h : List PodTick) (p : Phase) (t : ℕ) → IsEnd pod evicted h (Some t)
+    → IsPhaseBy pod evicted h (Some t) p → IsTerminal p
 ended_by pod evicted h p t end (inl w) =
     let lt : t < length h = end.holds.within in
     let n : length h ≡ 0 = ap length w.0 in absurd (omega arith)
 ended_by pod evicted h p t end (inr (some, inl w)) = inr w.1
 ended_by pod evicted h p t end (inr (some, inr w)) = elim (end.holds.so) [
   | inl q ↦ subst IsTerminal (raw_unique pod (up_to h t) q.0 p q.2 w.1) q.1
-  | inr e ↦ absurd (w.0 (evicted_at evicted (length (up_to h t)) t (length-take-le (suc t) h (let lt : t < length h = end.holds.within in omega arith)) e))
+  | inr e ↦ absurd (w.0
+      (evicted_at evicted (length (up_to h t)) t
+      (length-take-le (suc t) h (let lt : t < length h = end.holds.within in omega arith)) e))
 ]
 
-at_end : (pod : PodSpec) (evicted : Option ℕ) (h : List PodTick) (p : Phase) (t : ℕ) → IsPhase pod evicted h p → IsEnd pod evicted h (Some t) → IsPhaseBy pod evicted h (Some t) p
+at_end : (pod : PodSpec) (evicted : Option ℕ) (h : List PodTick) (p : Phase) (t : ℕ) → IsPhase pod evicted h p
+    → IsEnd pod evicted h (Some t) → IsPhaseBy pod evicted h (Some t) p
 at_end pod evicted h p t (o, end, by) e =
     let P : Option ℕ → Type 0 = λ o. IsPhaseBy pod evicted h o p in
     subst P (IsEnd-unique pod evicted h o (Some t) end e) by
 
-pub end_terminal : (pod : PodSpec) (evicted : Option ℕ) (h : List PodTick) (p : Phase) (t : ℕ) → IsPhase pod evicted h p → IsEnd pod evicted h (Some t) → IsTerminal p
+pub end_terminal : (pod : PodSpec) (evicted : Option ℕ) (h : List PodTick) (p : Phase) (t : ℕ)
+    → IsPhase pod evicted h p → IsEnd pod evicted h (Some t) → IsTerminal p
 end_terminal pod evicted h p t is e = ended_by pod evicted h p t e (at_end pod evicted h p t is e)
 
 -- a pod of another phase hasn't ended
-pub lives : (pod : PodSpec) (evicted : Option ℕ) (h : List PodTick) (p : Phase) → IsPhase pod evicted h p → (IsTerminal p → ⊥) → IsEnd pod evicted h None
+pub lives : (pod : PodSpec) (evicted : Option ℕ) (h : List PodTick) (p : Phase) → IsPhase pod evicted h p
+    → (IsTerminal p → ⊥) → IsEnd pod evicted h None
 lives pod evicted h p (None, end, by) not = end
 lives pod evicted h p (Some t, end, by) not = absurd (not (ended_by pod evicted h p t end by))
 
 -- a pod has ended exactly if its phase is terminal
-pub ended_is : (pod : PodSpec) (evicted : Option ℕ) (h : List PodTick) (p : Phase) → IsPhase pod evicted h p → (IsTerminal p ↔ HasEnded pod evicted h)
+pub ended_is : (pod : PodSpec) (evicted : Option ℕ) (h : List PodTick) (p : Phase) → IsPhase pod evicted h p
+    → (IsTerminal p ↔ HasEnded pod evicted h)
 ended_is pod evicted h p is = (terminal_end pod evicted h p is, (λ w. end_terminal pod evicted h p w.0 is w.1))
 
 -- one more tick
 grows : (pod : PodSpec) (evicted : Option ℕ) (h : List PodTick) (x : PodTick)
-    → Grows (length h) (IsSo (EndsPod pod evicted) h) (IsSo (EndsPod pod evicted) (h ++ x ∷ [])) (EndsPod pod evicted (h ++ x ∷ []))
+    → Grows (length h) (IsSo (EndsPod pod evicted) h) (IsSo (EndsPod pod evicted) (h ++ x ∷ []))
+    (EndsPod pod evicted (h ++ x ∷ []))
 grows pod evicted h x = grows_so (EndsPod pod evicted) h x
 
-pub end_old : (pod : PodSpec) (evicted : Option ℕ) (h : List PodTick) (x : PodTick) (t : ℕ) → IsEnd pod evicted h (Some t) → IsEnd pod evicted (h ++ x ∷ []) (Some t)
+pub end_old : (pod : PodSpec) (evicted : Option ℕ) (h : List PodTick) (x : PodTick) (t : ℕ)
+    → IsEnd pod evicted h (Some t) → IsEnd pod evicted (h ++ x ∷ []) (Some t)
 end_old pod evicted h x t end = IsFirst-old (length h) _ _ _ (grows pod evicted h x) t end
 
 -- a pod that has ended keeps its phase
-pub phase_ended : (pod : PodSpec) (evicted : Option ℕ) (h : List PodTick) (x : PodTick) (p : Phase) → IsPhase pod evicted h p → IsTerminal p → IsPhase pod evicted (h ++ x ∷ []) p
+pub phase_ended : (pod : PodSpec) (evicted : Option ℕ) (h : List PodTick) (x : PodTick) (p : Phase)
+    → IsPhase pod evicted h p → IsTerminal p → IsPhase pod evicted (h ++ x ∷ []) p
 phase_ended pod evicted h x p is term =
     let w = terminal_end pod evicted h p is term in
     let lt : w.0 < length h = w.1.holds.within in
@@ -116,12 +132,15 @@ phase_ended pod evicted h x p is term =
     )
 
 -- an eviction ends it
-pub end_evicted : (pod : PodSpec) (evicted : Option ℕ) (h : List PodTick) (x : PodTick) (p : Phase) → IsPhase pod evicted h p → (IsTerminal p → ⊥)
+pub end_evicted : (pod : PodSpec) (evicted : Option ℕ) (h : List PodTick) (x : PodTick) (p : Phase)
+    → IsPhase pod evicted h p → (IsTerminal p → ⊥)
     → evicted ≡ Some (length h) → IsEnd pod evicted (h ++ x ∷ []) (Some (length h))
 end_evicted pod evicted h x p is not e =
-    IsFirst-new (length h) _ _ _ (grows pod evicted h x) (lives pod evicted h p is not) (inr (evicted_now evicted _ (length h) (length-more h x) e))
+    IsFirst-new (length h) _ _ _ (grows pod evicted h x) (lives pod evicted h p is not)
+    (inr (evicted_now evicted _ (length h) (length-more h x) e))
 
-pub phase_evicted : (pod : PodSpec) (evicted : Option ℕ) (h : List PodTick) (x : PodTick) (p : Phase) → IsPhase pod evicted h p → (IsTerminal p → ⊥)
+pub phase_evicted : (pod : PodSpec) (evicted : Option ℕ) (h : List PodTick) (x : PodTick) (p : Phase)
+    → IsPhase pod evicted h p → (IsTerminal p → ⊥)
     → evicted ≡ Some (length h) → IsPhase pod evicted (h ++ x ∷ []) Failed
 phase_evicted pod evicted h x p is not e = (
   Some (length h),
@@ -130,7 +149,8 @@ phase_evicted pod evicted h x p is not e = (
 )
 
 -- else the phase is that of its containers
-pub phase_lives : (pod : PodSpec) (evicted : Option ℕ) (h : List PodTick) (x : PodTick) (p q : Phase) → IsPhase pod evicted h p → (IsTerminal p → ⊥)
+pub phase_lives : (pod : PodSpec) (evicted : Option ℕ) (h : List PodTick) (x : PodTick) (p q : Phase)
+    → IsPhase pod evicted h p → (IsTerminal p → ⊥)
     → (evicted ≡ Some (length h) → ⊥) → IsRawPhaseAfter pod (h ++ x ∷ []) q → IsPhase pod evicted (h ++ x ∷ []) q
 phase_lives pod evicted h x p q is not stays raw =
     let P : List PodTick → Type 0 = λ k. IsRawPhaseAfter pod k q in
@@ -151,7 +171,8 @@ phase_lives pod evicted h x p q is not stays raw =
     ]
 
 -- the init containers of a pod that has ended stay as they are
-pub initialized_ended : (pod : PodSpec) (evicted : Option ℕ) (h : List PodTick) (x : PodTick) (t : ℕ) → IsEnd pod evicted h (Some t)
+pub initialized_ended : (pod : PodSpec) (evicted : Option ℕ) (h : List PodTick) (x : PodTick) (t : ℕ)
+    → IsEnd pod evicted h (Some t)
     → (IsInitialized pod evicted h ↔ IsInitialized pod evicted (h ++ x ∷ []))
 initialized_ended pod evicted h x t end =
     let P : List PodTick → Type 0 = λ k. AreInitialized (facts pod k) (numbers pod) in
@@ -164,7 +185,8 @@ initialized_ended pod evicted h x t end =
     )
 
 -- all ticks count of a pod that hadn't ended before the last
-pub counted_all : (pod : PodSpec) (evicted : Option ℕ) (h : List PodTick) (x : PodTick) → IsEnd pod evicted h None → (o : Option ℕ) → IsEnd pod evicted (h ++ x ∷ []) o
+pub counted_all : (pod : PodSpec) (evicted : Option ℕ) (h : List PodTick) (x : PodTick) → IsEnd pod evicted h None
+    → (o : Option ℕ) → IsEnd pod evicted (h ++ x ∷ []) o
     → counted (h ++ x ∷ []) o ≡ h ++ x ∷ []
 counted_all pod evicted h x none None end = refl
 counted_all pod evicted h x none (Some t) end =
@@ -174,13 +196,15 @@ counted_all pod evicted h x none (Some t) end =
     ]
 
 -- the phase of a pod that hadn't ended and is not evicted is that of its containers
-pub phase_raw : (pod : PodSpec) (evicted : Option ℕ) (h : List PodTick) (x : PodTick) (p q : Phase) → IsPhase pod evicted h p → (IsTerminal p → ⊥)
+pub phase_raw : (pod : PodSpec) (evicted : Option ℕ) (h : List PodTick) (x : PodTick) (p q : Phase)
+    → IsPhase pod evicted h p → (IsTerminal p → ⊥)
     → (evicted ≡ Some (length h) → ⊥) → IsPhase pod evicted (h ++ x ∷ []) q → IsRawPhaseAfter pod (h ++ x ∷ []) q
 phase_raw pod evicted h x p q is not stays (end, is_end, by) = elim by [
   | inl w ↦ absurd (some_more h x w.0)
   | inr v ↦ elim v.1 [
     | inl w ↦ absurd (ends_elsewhere end is_end w.0)
-    | inr w ↦ subst (λ k. IsRawPhaseAfter pod k q) (counted_all pod evicted h x (lives pod evicted h p is not) end is_end) w.1
+    | inr w ↦ subst (λ k. IsRawPhaseAfter pod k q) (counted_all pod evicted h x (lives pod evicted h p is not) end
+        is_end) w.1
   ]
 ]
   where
@@ -192,7 +216,8 @@ phase_raw pod evicted h x p q is not stays (end, is_end, by) = elim by [
           | inr w ↦ stays (evicted_there ∙ ap Some w.0)
         ]
 
-pub initialized_lives : (pod : PodSpec) (evicted : Option ℕ) (h : List PodTick) (x : PodTick) (p q : Phase) → IsPhase pod evicted h p → (IsTerminal p → ⊥)
+pub initialized_lives : (pod : PodSpec) (evicted : Option ℕ) (h : List PodTick) (x : PodTick) (p q : Phase)
+    → IsPhase pod evicted h p → (IsTerminal p → ⊥)
     → IsPhase pod evicted (h ++ x ∷ []) q
     → (IsInitialized pod evicted (h ++ x ∷ []) ↔ AreInitialized (facts pod (h ++ x ∷ [])) (numbers pod))
 initialized_lives pod evicted h x p q is not next =
@@ -203,7 +228,8 @@ initialized_lives pod evicted h x p q is not next =
     )
 
 -- the containers are ready where the pod hasn't ended and each that serves is
-pub ready_is : (pod : PodSpec) (evicted : Option ℕ) (h : List PodTick) (x : PodTick) (q : Phase) → IsPhase pod evicted (h ++ x ∷ []) q
+pub ready_is : (pod : PodSpec) (evicted : Option ℕ) (h : List PodTick) (x : PodTick) (q : Phase)
+    → IsPhase pod evicted (h ++ x ∷ []) q
     → (AreContainersReady pod evicted (h ++ x ∷ []) ↔ ((IsTerminal q → ⊥) × AllReady pod (h ++ x ∷ [])))
 ready_is pod evicted h x q is = (
   (λ w. ((λ term. let e = terminal_end pod evicted (h ++ x ∷ []) q is term in w.1 e.0 e.1.holds), w.2)),
@@ -211,14 +237,16 @@ ready_is pod evicted h x q is = (
 )
 
 -- as long as the pod hasn't ended the containers that are kept are those after all ticks
-pub kept_all : (pod : PodSpec) (greatest : ℕ) (evicted : Option ℕ) (h : List PodTick) (p : Phase) (containers : List Container) → IsPhase pod evicted h p → (IsTerminal p → ⊥)
+pub kept_all : (pod : PodSpec) (greatest : ℕ) (evicted : Option ℕ) (h : List PodTick) (p : Phase)
+    (containers : List Container) → IsPhase pod evicted h p → (IsTerminal p → ⊥)
     → AreKept pod greatest evicted h containers → AreContainersOf pod greatest h containers
 kept_all pod greatest evicted h p containers is not are =
     let P : Option ℕ → Type 0 = λ o. AreContainersOf pod greatest (counted h o) containers in
     subst P (IsEnd-unique pod evicted h are.end None are.is_end (lives pod evicted h p is not)) are.kept
 
 -- once the pod has ended they stay
-pub kept_ended : (pod : PodSpec) (greatest : ℕ) (evicted : Option ℕ) (h : List PodTick) (x : PodTick) (p : Phase) (containers : List Container) → IsPhase pod evicted h p → IsTerminal p
+pub kept_ended : (pod : PodSpec) (greatest : ℕ) (evicted : Option ℕ) (h : List PodTick) (x : PodTick) (p : Phase)
+    (containers : List Container) → IsPhase pod evicted h p → IsTerminal p
     → AreKept pod greatest evicted h containers → AreKept pod greatest evicted (h ++ x ∷ []) containers
 kept_ended pod greatest evicted h x p containers is term are =
     let w = terminal_end pod evicted h p is term in
@@ -232,13 +260,21 @@ kept_ended pod greatest evicted h x p containers is term are =
     }
 
 -- and until then those after all ticks are kept
-pub kept_lives : (pod : PodSpec) (greatest : ℕ) (evicted : Option ℕ) (h : List PodTick) (x : PodTick) (p q : Phase) (containers : List Container) → IsPhase pod evicted h p → (IsTerminal p → ⊥)
-    → IsPhase pod evicted (h ++ x ∷ []) q → AreContainersOf pod greatest (h ++ x ∷ []) containers → AreKept pod greatest evicted (h ++ x ∷ []) containers
+pub kept_lives : (pod : PodSpec) (greatest : ℕ) (evicted : Option ℕ) (h : List PodTick) (x : PodTick) (p q : Phase)
+    (containers : List Container) → IsPhase pod evicted h p → (IsTerminal p → ⊥)
+    → IsPhase pod evicted (h ++ x ∷ []) q → AreContainersOf pod greatest (h ++ x ∷ []) containers
+    → AreKept pod greatest evicted (h ++ x ∷ []) containers
 kept_lives pod greatest evicted h x p q containers is not next are =
     let none = lives pod evicted h p is not in
     let Q : List PodTick → Type 0 = λ k. AreContainersOf pod greatest k containers in
     record { end = next.0; is_end = next.1; kept = subst Q (sym (counted_all pod evicted h x none next.0 next.1)) are }
 
 -- before any tick
-pub kept_none : (pod : PodSpec) (greatest : ℕ) (evicted : Option ℕ) (containers : List Container) → AreContainersOf pod greatest [] containers → AreKept pod greatest evicted [] containers
-kept_none pod greatest evicted containers are = record { end = None; is_end = λ t s. let lt : t < 0 = s.within in absurd (omega arith); kept = are }
+pub kept_none : (pod : PodSpec) (greatest : ℕ) (evicted : Option ℕ) (containers : List Container)
+    → AreContainersOf pod greatest [] containers → AreKept pod greatest evicted [] containers
+kept_none pod greatest evicted containers are = record {
+  end = None;
+  is_end = λ t s. let lt : t < 0 = s.within in
+      absurd (omega arith);
+  kept = are;
+}

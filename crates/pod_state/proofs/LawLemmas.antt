@@ -1,5 +1,6 @@
 -- The laws.
-use Rattle.std.proofs.Common.{◌≡◌, ◌⊎◌, inl, inr, ℕ, suc, zero, ◌-◌, ◌<◌, ◌≤◌, List, [], ◌∷◌, ◌++◌, length, Option, Some, refl, subst, sym, ◌∙◌, append_assoc, arith}
+use Rattle.std.proofs.Common.{◌≡◌, ◌⊎◌, inl, inr, ℕ, suc, zero, ◌-◌, ◌<◌, ◌≤◌, List, [], ◌∷◌, ◌++◌, length, Option}
+use Rattle.std.proofs.Common.{Some, refl, subst, sym, ◌∙◌, append_assoc, arith}
 use Rattle.std.specs.Prelude.{◌↔◌}
 use Rattle.std.proofs.lemmas.Bool.{cases_lt}
 use Rattle.std.proofs.lemmas.List.{append-nil}
@@ -20,31 +21,36 @@ use Rattle.pod_state.proofs.UniqueLemmas.{status_one, container_one}
 pub one_phase : OnePhase
 one_phase = IsPhase-unique
 
-stays : (pod : PodSpec) (evicted : Option ℕ) (h later : List PodTick) (p : Phase) → IsPhase pod evicted h p → IsTerminal p → IsPhase pod evicted (h ++ later) p
+stays : (pod : PodSpec) (evicted : Option ℕ) (h later : List PodTick) (p : Phase) → IsPhase pod evicted h p
+    → IsTerminal p → IsPhase pod evicted (h ++ later) p
 stays pod evicted h [] p is term = let P : List PodTick → Type 0 = λ k. IsPhase pod evicted k p in subst P (nil h) is
   where
     nil : (h : List PodTick) → h ≡ h ++ []
     nil h = sym (append-nil h)
 stays pod evicted h (x ∷ later) p is term =
     let P : List PodTick → Type 0 = λ k. IsPhase pod evicted k p in
-    subst P (append_assoc h (x ∷ []) later) (stays pod evicted (h ++ x ∷ []) later p (phase_ended pod evicted h x p is term) term)
+    subst P (append_assoc h (x ∷ []) later)
+    (stays pod evicted (h ++ x ∷ []) later p (phase_ended pod evicted h x p is term) term)
 
 pub ended_stays_ended : EndedStaysEnded
 ended_stays_ended = record {
   keeps = stays;
-  no_other = λ pod evicted h later p q is term next. IsPhase-unique pod evicted (h ++ later) q p next (stays pod evicted h later p is term);
+  no_other = λ pod evicted h later p q is term next. IsPhase-unique pod evicted (h ++ later) q p next
+      (stays pod evicted h later p is term);
 }
 
 pub one_raw_phase : OneRawPhase
 one_raw_phase = record {
-  some = λ pod h views are. let w = some_of_views pod.policy views in (w.0, raw_after pod pod.policy h views w.0 refl are w.1);
+  some = λ pod h views are. let w = some_of_views pod.policy views in
+      (w.0, raw_after pod pod.policy h views w.0 refl are w.1);
   no_other = λ pod h p q. IsRawPhase-unique (facts pod h) pod.policy (numbers pod) p q;
 }
 
 pub one_status : OneStatus
 one_status = record { of_pod = status_one; of_container = container_one }
 
-not_later : (h : List PodTick) (t m : ℕ) → moment_at h t ≡ Some m → (last : ℕ) → IsRising h → moment_at h (length h - 1) ≡ Some last → m ≤ last
+not_later : (h : List PodTick) (t m : ℕ) → moment_at h t ≡ Some m → (last : ℕ) → IsRising h
+    → moment_at h (length h - 1) ≡ Some last → m ≤ last
 not_later h t m is last rising end =
     let below : t < length h = moment_at-below h t m is in
     elim (cases_lt t (length h - 1)) [
@@ -57,10 +63,12 @@ not_later h t m is last rising end =
           omega arith
     ]
 
-changes : (C : List PodTick → Type 0) (h : List PodTick) (m : ℕ) (o : Option ℕ) → IsTransition h (IsSo C h) o → o ≡ Some m → ChangesAt h C m
+changes : (C : List PodTick → Type 0) (h : List PodTick) (m : ℕ) (o : Option ℕ) → IsTransition h (IsSo C h) o
+    → o ≡ Some m → ChangesAt h C m
 changes C h m o is e = let P : Option ℕ → Type 0 = λ o. IsTransition h (IsSo C h) o in at (subst P e is)
   where
-    before : (t : ℕ) → IsFirst (IsSteady (length h) (IsSo C h)) t → (t ≡ 0) ⊎ ((u : ℕ) × (t ≡ suc u) × ((IsSo C h u ↔ IsSo C h t) → ⊥))
+    before : (t : ℕ) → IsFirst (IsSteady (length h) (IsSo C h)) t
+        → (t ≡ 0) ⊎ ((u : ℕ) × (t ≡ suc u) × ((IsSo C h u ↔ IsSo C h t) → ⊥))
     before zero f = inl refl
     before (suc u) f = inr (u, refl, transition_differs (length h) (IsSo C h) u f)
 

@@ -1,5 +1,6 @@
 -- The status of a pod after one more tick.
-use Rattle.std.proofs.Common.{◌≡◌, inl, inr, ℕ, suc, zero, ◌<◌, Bool, true, false, List, [], ◌∷◌, ◌++◌, length, Option, Some, None, refl, ap, subst, sym, ◌∙◌, arith}
+use Rattle.std.proofs.Common.{◌≡◌, inl, inr, ℕ, suc, zero, ◌<◌, Bool, true, false, List, [], ◌∷◌, ◌++◌, length}
+use Rattle.std.proofs.Common.{Option, Some, None, refl, ap, subst, sym, ◌∙◌, arith}
 use Rattle.std.specs.Prelude.{◌↔◌, IsTrue, not}
 use Rattle.std.proofs.lemmas.Bool.{cases_lt, lt-ltb}
 use Rattle.histories.specs.Histories.{Recorded, recorded, moment_at, IsSo}
@@ -19,13 +20,16 @@ use Rattle.phase.specs.declared.view.ContainerView.{ContainerView}
 use Rattle.phase.specs.Facts.{of_view}
 use Rattle.phase.specs.RawPhase.{IsTerminal, AreInitialized}
 use Rattle.phase.specs.Conditions.{last_or, IsConditionOf, IsStateOf}
-use Rattle.pod_state.specs.Pods.{PodTick, facts, numbers, counted, AllReady, IsPhase, IsInitialized, AreContainersReady, AreViewsOf}
+use Rattle.pod_state.specs.Pods.{PodTick, facts, numbers, counted, AllReady, IsPhase, IsInitialized}
+use Rattle.pod_state.specs.Pods.{AreContainersReady, AreViewsOf}
 use Rattle.pod_state.specs.Lifecycles.{IsConditionAfter, IsLifecycleOf, AreValuesOf, IsProgressOf}
 use Rattle.phase.proofs.ConditionLemmas.{IsTrueAt, last_or-more}
-use Rattle.pod_state.proofs.EndLemmas.{IsPhase-unique, phase_ended, phase_evicted, terminal_cases, terminal_end, initialized_ended, initialized_lives, ready_is}
+use Rattle.pod_state.proofs.EndLemmas.{IsPhase-unique, phase_ended, phase_evicted, terminal_cases, terminal_end}
+use Rattle.pod_state.proofs.EndLemmas.{initialized_ended, initialized_lives, ready_is}
 use Rattle.pod_state.proofs.ViewLemmas.{initialized_after}
 
-moments_more : (vs : List (Recorded Bool)) (h : List PodTick) (v : Recorded Bool) (x : PodTick) → v.moment ≡ x.moment → length vs ≡ length h
+moments_more : (vs : List (Recorded Bool)) (h : List PodTick) (v : Recorded Bool) (x : PodTick) → v.moment ≡ x.moment
+    → length vs ≡ length h
     → ((t : ℕ) → moment_at vs t ≡ moment_at h t) → (t : ℕ) → moment_at (vs ++ v ∷ []) t ≡ moment_at (h ++ x ∷ []) t
 moments_more [] [] v x e n is zero = ap (λ m. Some m) e
 moments_more [] [] v x e n is (suc t) = refl
@@ -35,10 +39,12 @@ moments_more (y ∷ vs) (z ∷ h) v x e n is zero = is zero
 moments_more (y ∷ vs) (z ∷ h) v x e n is (suc t) = moments_more vs h v x e (omega arith) (λ t. is (suc t)) t
 
 -- the values, after one more
-values_more : (C : List PodTick → Type 0) (h : List PodTick) (x : PodTick) (vs : List (Recorded Bool)) (b : Bool) → AreValuesOf C h vs → (IsTrue b ↔ C (h ++ x ∷ []))
+values_more : (C : List PodTick → Type 0) (h : List PodTick) (x : PodTick) (vs : List (Recorded Bool)) (b : Bool)
+    → AreValuesOf C h vs → (IsTrue b ↔ C (h ++ x ∷ []))
     → AreValuesOf C (h ++ x ∷ []) (vs ++ recorded x.moment b ∷ [])
 values_more C h x vs b are is =
-    let g : Grows (length vs) (IsTrueAt vs) (IsTrueAt (vs ++ recorded x.moment b ∷ [])) (IsTrue b) = grows_entry IsTrue vs (recorded x.moment b) in
+    let g : Grows (length vs) (IsTrueAt vs) (IsTrueAt (vs ++ recorded x.moment b ∷ [])) (IsTrue b) =
+    grows_entry IsTrue vs (recorded x.moment b) in
     let k : Grows (length h) (IsSo C h) (IsSo C (h ++ x ∷ [])) (C (h ++ x ∷ [])) = grows_so C h x in
     let P : ℕ → Type 0 = IsSo C (h ++ x ∷ []) in
     let Q : ℕ → Type 0 = IsTrueAt (vs ++ recorded x.moment b ∷ []) in
@@ -58,15 +64,19 @@ values_more C h x vs b are is =
     }
 
 -- a condition after these values is that after the ticks
-condition_after : (C : List PodTick → Type 0) (h : List PodTick) (vs : List (Recorded Bool)) (initially : Bool) (c : Condition) → AreValuesOf C h vs
+condition_after : (C : List PodTick → Type 0) (h : List PodTick) (vs : List (Recorded Bool)) (initially : Bool)
+    (c : Condition) → AreValuesOf C h vs
     → (IsTrue (last_or initially vs) ↔ C h) → IsConditionOf initially vs c → IsConditionAfter C h c
 condition_after C h vs initially c are value is = record {
   value = let P : Bool → Type 0 = λ b. IsTrue b ↔ C h in subst P (sym is.value) value;
-  since = transition_same vs h (IsTrueAt vs) (IsSo C h) c.since are.count are.moments (record { old = are.same }) is.since;
+  since = transition_same vs h (IsTrueAt vs) (IsSo C h) c.since are.count are.moments (record { old = are.same })
+      is.since;
 }
 
-more_after : (C : List PodTick → Type 0) (h : List PodTick) (x : PodTick) (vs : List (Recorded Bool)) (b initially : Bool) (c : Condition) → AreValuesOf C h vs
-    → (IsTrue b ↔ C (h ++ x ∷ [])) → IsConditionOf initially (vs ++ recorded x.moment b ∷ []) c → IsConditionAfter C (h ++ x ∷ []) c
+more_after : (C : List PodTick → Type 0) (h : List PodTick) (x : PodTick) (vs : List (Recorded Bool))
+    (b initially : Bool) (c : Condition) → AreValuesOf C h vs
+    → (IsTrue b ↔ C (h ++ x ∷ [])) → IsConditionOf initially (vs ++ recorded x.moment b ∷ []) c
+    → IsConditionAfter C (h ++ x ∷ []) c
 more_after C h x vs b initially c are is of =
     let P : Bool → Type 0 = λ v. IsTrue v ↔ C (h ++ x ∷ []) in
     condition_after C (h ++ x ∷ []) (vs ++ recorded x.moment b ∷ []) initially c (values_more C h x vs b are is)
@@ -83,7 +93,8 @@ counted-none : (o : Option ℕ) → counted [] o ≡ []
 counted-none None = refl
 counted-none (Some t) = refl
 
-no_initialized : (pod : PodSpec) (evicted : Option ℕ) (views : List ContainerView) (initialized : Bool) → AreViewsOf pod [] views → (IsTrue initialized ↔ AreInitialized of_view views)
+no_initialized : (pod : PodSpec) (evicted : Option ℕ) (views : List ContainerView) (initialized : Bool)
+    → AreViewsOf pod [] views → (IsTrue initialized ↔ AreInitialized of_view views)
     → (IsTrue (not (not initialized)) ↔ IsInitialized pod evicted [])
 no_initialized pod evicted views initialized are is =
     let after = initialized_after pod [] views are in
@@ -97,14 +108,19 @@ no_initialized pod evicted views initialized are is =
     not_not true = refl
     not_not false = refl
 
-pub progress_new : (pod : PodSpec) (evicted : Option ℕ) (views : List ContainerView) (initialized : Bool) (conditions : Conditions) → AreViewsOf pod [] views
-    → (IsTrue initialized ↔ AreInitialized of_view views) → IsStateOf (not initialized) [] conditions → IsProgressOf pod evicted [] (record { phase = Pending; conditions = conditions })
+pub progress_new : (pod : PodSpec) (evicted : Option ℕ) (views : List ContainerView) (initialized : Bool)
+    (conditions : Conditions) → AreViewsOf pod [] views
+    → (IsTrue initialized ↔ AreInitialized of_view views) → IsStateOf (not initialized) [] conditions
+    → IsProgressOf pod evicted [] (record { phase = Pending; conditions = conditions })
 progress_new pod evicted views initialized conditions are tested is = record {
   so_far = record {
     phase = (None, (λ t s. let lt : t < 0 = s.within in absurd (omega arith)), inl (refl, refl));
-    pod_scheduled = condition_after (λ _. Unit {0}) [] [] true conditions.pod_scheduled (no_values _) ((λ _. tt), (λ _. refl)) is.pod_scheduled;
-    initialized = condition_after (IsInitialized pod evicted) [] [] (not (not initialized)) conditions.initialized (no_values _) (no_initialized pod evicted views initialized are tested) is.initialized;
-    containers_ready = condition_after (AreContainersReady pod evicted) [] [] false conditions.containers_ready (no_values _) (no_ready pod evicted) is.containers_ready;
+    pod_scheduled = condition_after (λ _. Unit {0}) [] [] true conditions.pod_scheduled (no_values _)
+        ((λ _. tt), (λ _. refl)) is.pod_scheduled;
+    initialized = condition_after (IsInitialized pod evicted) [] [] (not (not initialized)) conditions.initialized
+        (no_values _) (no_initialized pod evicted views initialized are tested) is.initialized;
+    containers_ready = condition_after (AreContainersReady pod evicted) [] [] false conditions.containers_ready
+        (no_values _) (no_ready pod evicted) is.containers_ready;
   };
   values = [];
   has_init = not initialized;
@@ -115,10 +131,13 @@ progress_new pod evicted views initialized conditions are tested is = record {
 }
 
 -- after one more tick
-pub progress_more : (pod : PodSpec) (evicted : Option ℕ) (h : List PodTick) (x : PodTick) (status : Lifecycle) (phase : Phase) (conditions : Conditions) (values : Values)
+pub progress_more : (pod : PodSpec) (evicted : Option ℕ) (h : List PodTick) (x : PodTick) (status : Lifecycle)
+    (phase : Phase) (conditions : Conditions) (values : Values)
     → IsProgressOf pod evicted h status → IsPhase pod evicted (h ++ x ∷ []) phase
-    → (IsTrue values.initialized ↔ IsInitialized pod evicted (h ++ x ∷ [])) → (IsTrue values.containers_ready ↔ AreContainersReady pod evicted (h ++ x ∷ []))
-    → ((has_init : Bool) (vs : List (Recorded Values)) → IsStateOf has_init vs status.conditions → IsStateOf has_init (vs ++ recorded x.moment values ∷ []) conditions)
+    → (IsTrue values.initialized ↔ IsInitialized pod evicted (h ++ x ∷ []))
+    → (IsTrue values.containers_ready ↔ AreContainersReady pod evicted (h ++ x ∷ []))
+    → ((has_init : Bool) (vs : List (Recorded Values)) → IsStateOf has_init vs status.conditions
+    → IsStateOf has_init (vs ++ recorded x.moment values ∷ []) conditions)
     → IsProgressOf pod evicted (h ++ x ∷ []) (record { phase = phase; conditions = conditions })
 progress_more pod evicted h x status phase conditions values is next initialized ready advanced =
     let vs : List (Recorded Values) = is.values in
@@ -136,21 +155,29 @@ progress_more pod evicted h x status phase conditions values is next initialized
     record {
       so_far = record {
         phase = next;
-        pod_scheduled = more_after (λ _. Unit {0}) h x _ true _ conditions.pod_scheduled is.pod_scheduled ((λ _. tt), (λ _. refl)) (subst O zero' state.pod_scheduled);
-        initialized = more_after (IsInitialized pod evicted) h x _ values.initialized _ conditions.initialized is.initialized initialized (subst P one state.initialized);
-        containers_ready = more_after (AreContainersReady pod evicted) h x _ values.containers_ready _ conditions.containers_ready is.containers_ready ready (subst Q two state.containers_ready);
+        pod_scheduled = more_after (λ _. Unit {0}) h x _ true _ conditions.pod_scheduled is.pod_scheduled
+            ((λ _. tt), (λ _. refl)) (subst O zero' state.pod_scheduled);
+        initialized = more_after (IsInitialized pod evicted) h x _ values.initialized _ conditions.initialized
+            is.initialized initialized (subst P one state.initialized);
+        containers_ready = more_after (AreContainersReady pod evicted) h x _ values.containers_ready _
+            conditions.containers_ready is.containers_ready ready (subst Q two state.containers_ready);
       };
       values = vs ++ v ∷ [];
       has_init = is.has_init;
       conditions = state;
-      pod_scheduled = subst N (sym zero') (values_more (λ _. Unit {0}) h x _ true is.pod_scheduled ((λ _. tt), (λ _. refl)));
-      initialized = subst R (sym one) (values_more (IsInitialized pod evicted) h x _ values.initialized is.initialized initialized);
-      containers_ready = subst S (sym two) (values_more (AreContainersReady pod evicted) h x _ values.containers_ready is.containers_ready ready);
+      pod_scheduled = subst N (sym zero')
+          (values_more (λ _. Unit {0}) h x _ true is.pod_scheduled ((λ _. tt), (λ _. refl)));
+      initialized = subst R (sym one) (values_more (IsInitialized pod evicted) h x _ values.initialized is.initialized
+          initialized);
+      containers_ready = subst S (sym two) (values_more (AreContainersReady pod evicted) h x _ values.containers_ready
+          is.containers_ready ready);
     }
 
 -- whether the pod is initialized
-pub initialized_more : (pod : PodSpec) (evicted : Option ℕ) (h : List PodTick) (x : PodTick) (status : Lifecycle) (views : List ContainerView) (next : Phase) (b : Bool)
-    → ((IsTerminal status.phase → ⊥) → AreViewsOf pod (h ++ x ∷ []) views) → IsLifecycleOf pod evicted h status → IsPhase pod evicted (h ++ x ∷ []) next
+pub initialized_more : (pod : PodSpec) (evicted : Option ℕ) (h : List PodTick) (x : PodTick) (status : Lifecycle)
+    (views : List ContainerView) (next : Phase) (b : Bool)
+    → ((IsTerminal status.phase → ⊥) → AreViewsOf pod (h ++ x ∷ []) views) → IsLifecycleOf pod evicted h status
+    → IsPhase pod evicted (h ++ x ∷ []) next
     → (IsTerminal status.phase → b ≡ status.conditions.initialized.value)
     → ((IsTerminal status.phase → ⊥) → (IsTrue b ↔ AreInitialized of_view views))
     → (IsTrue b ↔ IsInitialized pod evicted (h ++ x ∷ []))
@@ -158,8 +185,10 @@ initialized_more pod evicted h x status views next b are is then ended living = 
   | inl term ↦
       let w = terminal_end pod evicted h status.phase is.phase term in
       let e : b ≡ status.conditions.initialized.value = ended term in
-      let same = initialized_ended pod evicted h x w.0 w.1 in
-      ((λ t. same.0 (is.initialized.value.0 (subst IsTrue e t))), (λ i. subst IsTrue (sym e) (is.initialized.value.1 (same.1 i))))
+      let same = initialized_ended pod evicted h x w.0 w.1 in (
+        (λ t. same.0 (is.initialized.value.0 (subst IsTrue e t))),
+        (λ i. subst IsTrue (sym e) (is.initialized.value.1 (same.1 i))),
+      )
   | inr not ↦
       let l = living not in
       let c = initialized_after pod (h ++ x ∷ []) views (are not) in
@@ -168,8 +197,10 @@ initialized_more pod evicted h x status views next b are is then ended living = 
 ]
 
 -- whether its containers are ready
-pub ready_more : (pod : PodSpec) (evicted : Option ℕ) (h : List PodTick) (x : PodTick) (ready : Bool) (phase next : Phase) (b : Bool)
-    → ((IsTerminal phase → ⊥) → (IsTrue ready ↔ AllReady pod (h ++ x ∷ []))) → IsPhase pod evicted h phase → IsPhase pod evicted (h ++ x ∷ []) next
+pub ready_more : (pod : PodSpec) (evicted : Option ℕ) (h : List PodTick) (x : PodTick) (ready : Bool)
+    (phase next : Phase) (b : Bool)
+    → ((IsTerminal phase → ⊥) → (IsTrue ready ↔ AllReady pod (h ++ x ∷ []))) → IsPhase pod evicted h phase
+    → IsPhase pod evicted (h ++ x ∷ []) next
     → (IsTrue b ↔ ((IsTerminal next → ⊥) × IsTrue ready))
     → (IsTrue b ↔ AreContainersReady pod evicted (h ++ x ∷ []))
 ready_more pod evicted h x ready phase next b are now then is =
@@ -177,7 +208,8 @@ ready_more pod evicted h x ready phase next b are now then is =
     elim (terminal_cases phase) [
       | inl term ↦
           let stays : IsPhase pod evicted (h ++ x ∷ []) phase = phase_ended pod evicted h x phase now term in
-          let ended : IsTerminal next = subst IsTerminal (IsPhase-unique pod evicted (h ++ x ∷ []) phase next stays then) term in
+          let ended : IsTerminal next =
+          subst IsTerminal (IsPhase-unique pod evicted (h ++ x ∷ []) phase next stays then) term in
           ((λ t. absurd ((is.0 t).0 ended)), (λ w. absurd ((r.0 w).0 ended)))
       | inr not ↦
           let a = are not in (
@@ -187,20 +219,26 @@ ready_more pod evicted h x ready phase next b are now then is =
     ]
 
 -- of a pod that had not ended before, and that this tick evicts
-pub progress_evicted : (pod : PodSpec) (h : List PodTick) (x : PodTick) (before updated : Lifecycle) (conditions : Conditions) → (IsTerminal updated.phase → ⊥)
-    → IsLifecycleOf pod None h before → IsLifecycleOf pod None (h ++ x ∷ []) updated → IsProgressOf pod (Some (length h)) h before
+pub progress_evicted : (pod : PodSpec) (h : List PodTick) (x : PodTick) (before updated : Lifecycle)
+    (conditions : Conditions) → (IsTerminal updated.phase → ⊥)
+    → IsLifecycleOf pod None h before → IsLifecycleOf pod None (h ++ x ∷ []) updated
+    → IsProgressOf pod (Some (length h)) h before
     → ((has_init : Bool) (vs : List (Recorded Values)) → IsStateOf has_init vs before.conditions
-    → IsStateOf has_init (vs ++ recorded x.moment (record { initialized = updated.conditions.initialized.value; containers_ready = false }) ∷ []) conditions)
+    → IsStateOf has_init (vs ++ recorded x.moment
+    (record { initialized = updated.conditions.initialized.value; containers_ready = false }) ∷ []) conditions)
     → IsProgressOf pod (Some (length h)) (h ++ x ∷ []) (record { phase = Failed; conditions = conditions })
 progress_evicted pod h x before updated conditions goes_on was after progress advanced =
     let at : Option ℕ = Some (length h) in
     let lives : IsTerminal before.phase → ⊥ = λ ended.
-    goes_on (subst IsTerminal (IsPhase-unique pod None (h ++ x ∷ []) before.phase updated.phase (phase_ended pod None h x before.phase was.phase ended) after.phase) ended) in
-    let failed : IsPhase pod at (h ++ x ∷ []) Failed = phase_evicted pod at h x before.phase progress.so_far.phase lives refl in
+    goes_on (subst IsTerminal (IsPhase-unique pod None (h ++ x ∷ []) before.phase updated.phase
+    (phase_ended pod None h x before.phase was.phase ended) after.phase) ended) in
+    let failed : IsPhase pod at (h ++ x ∷ []) Failed = phase_evicted pod at h x before.phase progress.so_far.phase
+    lives refl in
     let one = initialized_lives pod None h x before.phase updated.phase was.phase lives after.phase in
     let other = initialized_lives pod at h x before.phase Failed progress.so_far.phase lives failed in
     let ready = ready_is pod at h x Failed failed in
-    progress_more pod at h x before Failed conditions (record { initialized = updated.conditions.initialized.value; containers_ready = false }) progress failed
+    progress_more pod at h x before Failed conditions
+    (record { initialized = updated.conditions.initialized.value; containers_ready = false }) progress failed
     ((λ t. other.1 (one.0 (after.initialized.value.0 t))), (λ i. after.initialized.value.1 (one.1 (other.0 i))))
     ((λ t. absurd (let t' : IsTrue false = t in cc)), (λ r. absurd ((ready.0 r).0 (inr refl))))
     advanced

@@ -1,5 +1,6 @@
 -- The events of a pod, one place and one container more.
-use Rattle.std.proofs.Common.{◌≡◌, ◌∙◌, inl, inr, ℕ, suc, zero, ◌+◌, ◌<◌, List, [], ◌∷◌, ◌++◌, length, take, get_or, Option, Some, None, refl, ap, sym, arith}
+use Rattle.std.proofs.Common.{◌≡◌, ◌∙◌, inl, inr, ℕ, suc, zero, ◌+◌, ◌<◌, List, [], ◌∷◌, ◌++◌, length, take, get_or}
+use Rattle.std.proofs.Common.{Option, Some, None, refl, ap, sym, arith}
 use Rattle.std.specs.List.{filter_map}
 use Rattle.std.specs.Prelude.{option_map}
 use Rattle.std.proofs.Math.Seq.{take-suc}
@@ -21,35 +22,46 @@ use Rattle.pod_state.proofs.ContainerLemmas.{same_items}
 use Rattle.pod_state.proofs.EndLemmas.{raw_unique}
 
 -- the items up to a place, and the item there
-taken_more : {A : Type 0} (xs : List A) (i : ℕ) (d : A) → i < length xs → take (i + 1) xs ≡ take i xs ++ get_or xs i d ∷ []
+taken_more : {A : Type 0} (xs : List A) (i : ℕ) (d : A) → i < length xs → take (i + 1) xs ≡ take i xs
+    ++ get_or xs i d ∷ []
 taken_more xs i d lt = ap (λ n. take n xs) {x = i + 1} {y = suc i} (omega arith) ∙ take-suc xs i d lt
 
-pub places_more : (container : Option ℕ) (places : List (Option What)) (i : ℕ) (d : Option What) (old new after : List PodEvent) → i < length places
+pub places_more : (container : Option ℕ) (places : List (Option What)) (i : ℕ) (d : Option What)
+    (old new after : List PodEvent) → i < length places
     → new ≡ old ++ events_at container (take i places) → after ≡ new ++ events_at container (get_or places i d ∷ [])
     → after ≡ old ++ events_at container (take (i + 1) places)
 places_more container places i d old new after lt so_far here =
     let place = get_or places i d in
     here ∙ ap (λ es. es ++ events_at container (place ∷ [])) so_far
     ∙ append_assoc old (events_at container (take i places)) (events_at container (place ∷ []))
-    ∙ ap (λ es. old ++ es) (sym (filter_map-append (option_map (λ what. record { container = container; what = what })) (take i places) (place ∷ [])))
+    ∙ ap (λ es. old ++ es)
+    (sym (filter_map-append (option_map (λ what. record { container = container; what = what })) (take i places)
+    (place ∷ [])))
     ∙ ap (λ ps. old ++ events_at container ps) (sym (taken_more places i d lt))
 
 from_more : (phase : Phase) (n : ℕ) (made : List ContainerEvents) (next : ContainerEvents)
-    → events_from phase n (made ++ next ∷ []) ≡ events_from phase n made ++ events_at (Some (n + length made)) (places_in phase next)
-from_more phase n [] next = append-nil _ ∙ ap (λ k. events_at (Some k) (places_in phase next)) {x = n} {y = n + 0} (omega arith)
+    → events_from phase n (made ++ next ∷ []) ≡ events_from phase n made ++ events_at (Some (n + length made))
+    (places_in phase next)
+from_more phase n [] next = append-nil _ ∙ ap (λ k. events_at (Some k) (places_in phase next)) {x = n} {y = n + 0}
+    (omega arith)
 from_more phase n (x ∷ xs) next =
     ap (λ es. events_at (Some n) (places_in phase x) ++ es) (from_more phase (n + 1) xs next)
-    ∙ sym (append_assoc (events_at (Some n) (places_in phase x)) (events_from phase (n + 1) xs) (events_at (Some (n + 1 + length xs)) (places_in phase next)))
-    ∙ ap (λ k. (events_at (Some n) (places_in phase x) ++ events_from phase (n + 1) xs) ++ events_at (Some k) (places_in phase next)) {x = n + 1 + length xs} {y = n + suc (length xs)} (omega arith)
+    ∙ sym (append_assoc (events_at (Some n) (places_in phase x)) (events_from phase (n + 1) xs)
+    (events_at (Some (n + 1 + length xs)) (places_in phase next)))
+    ∙ ap (λ k. (events_at (Some n) (places_in phase x) ++ events_from phase (n + 1) xs) ++ events_at (Some k)
+    (places_in phase next)) {x = n + 1 + length xs} {y = n + suc (length xs)} (omega arith)
 
-pub containers_more : (phase : Phase) (made : List ContainerEvents) (i : ℕ) (d : ContainerEvents) (places : List (Option What)) (old new : List PodEvent) → i < length made
-    → old ≡ events_from phase 0 (take i made) → places ≡ places_in phase (get_or made i d) → new ≡ old ++ events_at (Some i) places
+pub containers_more : (phase : Phase) (made : List ContainerEvents) (i : ℕ) (d : ContainerEvents)
+    (places : List (Option What)) (old new : List PodEvent) → i < length made
+    → old ≡ events_from phase 0 (take i made) → places ≡ places_in phase (get_or made i d)
+    → new ≡ old ++ events_at (Some i) places
     → new ≡ events_from phase 0 (take (i + 1) made)
 containers_more phase made i d places old new lt so_far are here =
     let next = get_or made i d in
     here ∙ ap (λ es. es ++ events_at (Some i) places) so_far
     ∙ ap (λ ps. events_from phase 0 (take i made) ++ events_at (Some i) ps) are
-    ∙ ap (λ k. events_from phase 0 (take i made) ++ events_at (Some k) (places_in phase next)) {x = i} {y = 0 + length (take i made)} (omega (arith, length-take-le i made (omega (arith, lt))))
+    ∙ ap (λ k. events_from phase 0 (take i made) ++ events_at (Some k) (places_in phase next)) {x = i}
+    {y = 0 + length (take i made)} (omega (arith, length-take-le i made (omega (arith, lt))))
     ∙ sym (from_more phase 0 (take i made) next)
     ∙ ap (λ xs. events_from phase 0 xs) (sym (taken_more made i d lt))
 
@@ -61,21 +73,28 @@ no_events_after_the_end pod greatest evicted before tick events ended is = elim 
 ]
 
 -- there is one list of them
-made_one : (pod : PodSpec) (greatest : ℕ) (before : List PodTick) (tick : PodTick) (number : ℕ) (made other : ContainerEvents) → IsMadeOf pod greatest before tick number made
+made_one : (pod : PodSpec) (greatest : ℕ) (before : List PodTick) (tick : PodTick) (number : ℕ)
+    (made other : ContainerEvents) → IsMadeOf pod greatest before tick number made
     → IsMadeOf pod greatest before tick number other → made ≡ other
 made_one pod greatest before tick number made other is was =
     let h = ticks_of (before ++ tick ∷ []) number in
-    let A : ContainerEvents → ContainerSpec → Type 0 = λ es spec. AreEvents pod.policy greatest spec h (length before) es in
+    let A : ContainerEvents → ContainerSpec → Type 0 = λ es spec. AreEvents pod.policy greatest spec h (length before)
+    es in
     whatever pod number (λ spec. made ≡ other) (made ≡ other) (λ spec e. e)
-    (together pod number (A made) (A other) (λ spec. made ≡ other) (λ spec one two. one_list_of_events pod.policy greatest spec h (length before) made other one two) is was)
+    (together pod number (A made) (A other) (λ spec. made ≡ other)
+    (λ spec one two. one_list_of_events pod.policy greatest spec h (length before) made other one two) is was)
 
-news_one : (pod : PodSpec) (greatest : ℕ) (evicted : Option ℕ) (before : List PodTick) (tick : PodTick) (events others : List PodEvent) → AreNews pod greatest evicted before tick events
+news_one : (pod : PodSpec) (greatest : ℕ) (evicted : Option ℕ) (before : List PodTick) (tick : PodTick)
+    (events others : List PodEvent) → AreNews pod greatest evicted before tick events
     → AreNews pod greatest evicted before tick others → events ≡ others
 news_one pod greatest evicted before tick events others one two =
     let made : one.made ≡ two.made = same_items one.made two.made (one.are_made.as_many ∙ sym two.are_made.as_many)
-    (λ n d lt. made_one pod greatest before tick n _ _ (one.are_made.each n d (omega (arith, one.are_made.as_many))) (two.are_made.each n d (omega (arith, one.are_made.as_many)))) in
-    let phase : one.phase ≡ two.phase = raw_unique pod (before ++ tick ∷ []) one.phase two.phase one.is_phase two.is_phase in
-    let change : one.change ≡ two.change = event_one (ChangesPhase pod evicted before tick) one.change two.change one.changes two.changes in
+    (λ n d lt. made_one pod greatest before tick n _ _ (one.are_made.each n d (omega (arith, one.are_made.as_many)))
+    (two.are_made.each n d (omega (arith, one.are_made.as_many)))) in
+    let phase : one.phase ≡ two.phase = raw_unique pod (before ++ tick ∷ []) one.phase two.phase one.is_phase
+    two.is_phase in
+    let change : one.change ≡ two.change = event_one (ChangesPhase pod evicted before tick) one.change two.change
+    one.changes two.changes in
     one.in_order ∙ ap (λ (p : Phase). events_from p 0 one.made ++ events_at None (one.change ∷ [])) phase
     ∙ ap (λ (ms : List ContainerEvents). events_from two.phase 0 ms ++ events_at None (one.change ∷ [])) made
     ∙ ap (λ (c : Option What). events_from two.phase 0 two.made ++ events_at None (c ∷ [])) change ∙ sym two.in_order

@@ -1,5 +1,6 @@
 -- A pod after one more tick.
-use Rattle.std.proofs.Common.{◌≡◌, ◌∙◌, inl, inr, ℕ, ◌<◌, List, [], ◌∷◌, ◌++◌, length, Option, Some, None, false, slice_index_or, refl, sym, subst, ap, arith}
+use Rattle.std.proofs.Common.{◌≡◌, ◌∙◌, inl, inr, ℕ, ◌<◌, List, [], ◌∷◌, ◌++◌, length, Option, Some, None, false}
+use Rattle.std.proofs.Common.{slice_index_or, refl, sym, subst, ap, arith}
 use Rattle.std.specs.Prelude.{◌↔◌, ◌≢◌, IsSomeAnd, IsTrue, slice_get, unwrap_or}
 use Rattle.histories.specs.Histories.{EndsBefore}
 use Rattle.state_diff.specs.declared.seen.Seen.{Seen}
@@ -23,24 +24,30 @@ use Rattle.pod_state.specs.declared.lifecycle.Lifecycle.{Lifecycle}
 use Rattle.containers.specs.declared.what.What.{What}
 use Rattle.containers.specs.declared.what.What.TheVariants as whats
 use Rattle.containers.specs.declared.events.ContainerEvents.{ContainerEvents}
-use Rattle.pod_state.proofs.EndLemmas.{IsPhase-unique, raw_unique, ended_is, phase_ended, phase_raw, end_evicted, kept_all, kept_ended, kept_lives}
+use Rattle.pod_state.proofs.EndLemmas.{IsPhase-unique, raw_unique, ended_is, phase_ended, phase_raw, end_evicted}
+use Rattle.pod_state.proofs.EndLemmas.{kept_all, kept_ended, kept_lives}
 
 -- the flag of a tick that doesn't evict
-pub not_evicted : (evicted : Option ℕ) (h : List PodTick) → (evicted ≡ Some (length h) → ⊥) → (IsTrue false ↔ (evicted ≡ Some (length h)))
+pub not_evicted : (evicted : Option ℕ) (h : List PodTick) → (evicted ≡ Some (length h) → ⊥)
+    → (IsTrue false ↔ (evicted ≡ Some (length h)))
 not_evicted evicted h stays = ((λ e. absurd (let t : IsTrue false = e in cc)), (λ e. absurd (stays e)))
 
 -- once it has ended
-pub after_end : (pod : PodSpec) (greatest : ℕ) (evicted : Option ℕ) (h : List PodTick) (x : PodTick) (old new : PodState) → IsStateOf pod greatest evicted h old → IsTerminal old.lifecycle.phase
-    → new.containers ≡ old.containers → IsProgressOf pod evicted (h ++ x ∷ []) new.lifecycle → IsStateOf pod greatest evicted (h ++ x ∷ []) new
+pub after_end : (pod : PodSpec) (greatest : ℕ) (evicted : Option ℕ) (h : List PodTick) (x : PodTick)
+    (old new : PodState) → IsStateOf pod greatest evicted h old → IsTerminal old.lifecycle.phase
+    → new.containers ≡ old.containers → IsProgressOf pod evicted (h ++ x ∷ []) new.lifecycle
+    → IsStateOf pod greatest evicted (h ++ x ∷ []) new
 after_end pod greatest evicted h x old new is ended same progress =
-    let kept = kept_ended pod greatest evicted h x old.lifecycle.phase old.containers.items is.progress.so_far.phase ended is.containers in
+    let kept = kept_ended pod greatest evicted h x old.lifecycle.phase old.containers.items is.progress.so_far.phase
+    ended is.containers in
     record {
       progress = progress;
       containers = subst (λ cs. AreKept pod greatest evicted (h ++ x ∷ []) cs.items) (sym same) kept;
     }
 
 -- until then, where its containers are these after the tick
-pub before_end : (pod : PodSpec) (greatest : ℕ) (evicted : Option ℕ) (h : List PodTick) (x : PodTick) (old new : PodState) (containers : List Container) → IsStateOf pod greatest evicted h old
+pub before_end : (pod : PodSpec) (greatest : ℕ) (evicted : Option ℕ) (h : List PodTick) (x : PodTick)
+    (old new : PodState) (containers : List Container) → IsStateOf pod greatest evicted h old
     → (IsTerminal old.lifecycle.phase → ⊥) → new.containers.items ≡ containers
     → (AreContainersOf pod greatest h old.containers.items → AreContainersOf pod greatest (h ++ x ∷ []) containers)
     → (AreContainersOf pod greatest (h ++ x ∷ []) containers → IsProgressOf pod evicted (h ++ x ∷ []) new.lifecycle)
@@ -50,45 +57,57 @@ before_end pod greatest evicted h x old new containers is lives same step advanc
     let before = kept_all pod greatest evicted h old.lifecycle.phase old.containers.items phase lives is.containers in
     let after = step before in
     let progress = advance after in
-    let kept = kept_lives pod greatest evicted h x old.lifecycle.phase new.lifecycle.phase containers phase lives progress.so_far.phase after in
+    let kept = kept_lives pod greatest evicted h x old.lifecycle.phase new.lifecycle.phase containers phase lives
+    progress.so_far.phase after in
     record {
       progress = progress;
       containers = subst (λ (cs : List Container). AreKept pod greatest evicted (h ++ x ∷ []) cs) (sym same) kept;
     }
 
 -- what comes next may come, where each listing may and each container's last tick is before it
-accepts_next : (o : Option ContainerSpec) (greatest : ℕ) (k : List ContainerTick) (c : Container) (seen : Option Seen) → IsSomeAnd o (λ spec. IsContainerStateOf spec greatest k c)
+accepts_next : (o : Option ContainerSpec) (greatest : ℕ) (k : List ContainerTick) (c : Container) (seen : Option Seen)
+    → IsSomeAnd o (λ spec. IsContainerStateOf spec greatest k c)
     → IsAcceptable (listings k) seen → Accepts c seen
 accepts_next None greatest k c seen is may = absurd is
 accepts_next (Some spec) greatest k c seen is may = (is.differ.accepts seen).1 may
 
-before_next : (o : Option ContainerSpec) (greatest : ℕ) (k : List ContainerTick) (c : Container) (at : ℕ) → IsSomeAnd o (λ spec. IsContainerStateOf spec greatest k c)
+before_next : (o : Option ContainerSpec) (greatest : ℕ) (k : List ContainerTick) (c : Container) (at : ℕ)
+    → IsSomeAnd o (λ spec. IsContainerStateOf spec greatest k c)
     → EndsBefore (listings k) at → IsBefore c at
 before_next None greatest k c at is ends = absurd is
 before_next (Some spec) greatest k c at is ends = is_before (listings k) c.differ at is.differ ends
 
-pub may_follow : (pod : PodSpec) (greatest : ℕ) (evicted : Option ℕ) (h : List PodTick) (state : PodState) (at : ℕ) (shown : List ContainerObs) → IsStateOf pod greatest evicted h state
-    → ((n : ℕ) → IsAcceptable (listings (ticks_of h n)) (unwrap_or (slice_get shown n) unseen).seen) → ((n : ℕ) → EndsBefore (listings (ticks_of h n)) at) → MayFollow state at shown
+pub may_follow : (pod : PodSpec) (greatest : ℕ) (evicted : Option ℕ) (h : List PodTick) (state : PodState) (at : ℕ)
+    (shown : List ContainerObs) → IsStateOf pod greatest evicted h state
+    → ((n : ℕ) → IsAcceptable (listings (ticks_of h n)) (unwrap_or (slice_get shown n) unseen).seen)
+    → ((n : ℕ) → EndsBefore (listings (ticks_of h n)) at) → MayFollow state at shown
 may_follow pod greatest evicted h state at shown is may ends =
     let all = λ (lives : IsTerminal state.lifecycle.phase → ⊥).
-    kept_all pod greatest evicted h state.lifecycle.phase state.containers.items is.progress.so_far.phase lives is.containers in
+    kept_all pod greatest evicted h state.lifecycle.phase state.containers.items is.progress.so_far.phase lives
+    is.containers in
     record {
       accepted = λ lives n d lt. let are = all lives in
-          accepts_next (slice_get pod.containers n) greatest (ticks_of h n) (slice_index_or state.containers.items n d) _ (are.each n d (omega (arith, are.as_many))) (may n);
+          accepts_next (slice_get pod.containers n) greatest (ticks_of h n)
+          (slice_index_or state.containers.items n d) _ (are.each n d (omega (arith, are.as_many))) (may n);
       later = λ lives n d lt. let are = all lives in
-          before_next (slice_get pod.containers n) greatest (ticks_of h n) (slice_index_or state.containers.items n d) at (are.each n d (omega (arith, are.as_many))) (ends n);
+          before_next (slice_get pod.containers n) greatest (ticks_of h n) (slice_index_or state.containers.items n d)
+          at (are.each n d (omega (arith, are.as_many))) (ends n);
     }
 
 -- the events of a pod that had ended before the tick, and of one that had not
-pub events_ended : (pod : PodSpec) (greatest : ℕ) (evicted : Option ℕ) (h : List PodTick) (x : PodTick) (state : PodState) (events : List PodEvent) → IsStateOf pod greatest evicted h state
+pub events_ended : (pod : PodSpec) (greatest : ℕ) (evicted : Option ℕ) (h : List PodTick) (x : PodTick)
+    (state : PodState) (events : List PodEvent) → IsStateOf pod greatest evicted h state
     → IsTerminal state.lifecycle.phase → events ≡ [] → AreEventsOf pod greatest evicted h x events
-events_ended pod greatest evicted h x state events is ended none = inl ((ended_is pod evicted h state.lifecycle.phase is.progress.so_far.phase).0 ended, none)
+events_ended pod greatest evicted h x state events is ended none =
+    inl ((ended_is pod evicted h state.lifecycle.phase is.progress.so_far.phase).0 ended, none)
 
-pub events_lives : (pod : PodSpec) (greatest : ℕ) (evicted : Option ℕ) (h : List PodTick) (x : PodTick) (state : PodState) (next : Lifecycle) (made : List ContainerEvents) (change : Option What) (events : List PodEvent)
+pub events_lives : (pod : PodSpec) (greatest : ℕ) (evicted : Option ℕ) (h : List PodTick) (x : PodTick)
+    (state : PodState) (next : Lifecycle) (made : List ContainerEvents) (change : Option What) (events : List PodEvent)
     → IsStateOf pod greatest evicted h state → (IsTerminal state.lifecycle.phase → ⊥) → (evicted ≡ Some (length h) → ⊥)
     → (AreContainersOf pod greatest h state.containers.items → AreMade pod greatest h x made)
     → (AreContainersOf pod greatest h state.containers.items → IsPhase pod evicted (h ++ x ∷ []) next.phase)
-    → ((what : What) → ((change ≡ Some what) ↔ ((what ≡ whats.Phase next.phase) × (state.lifecycle.phase ≢ next.phase))))
+    → ((what : What) → ((change ≡ Some what)
+    ↔ ((what ≡ whats.Phase next.phase) × (state.lifecycle.phase ≢ next.phase))))
     → events ≡ events_from next.phase 0 made ++ events_at None (change ∷ [])
     → AreEventsOf pod greatest evicted h x events
 events_lives pod greatest evicted h x state next made change events is lives stays made_by phase_by changes in_order =
@@ -105,10 +124,12 @@ events_lives pod greatest evicted h x state next made change events is lives sta
         is_phase = raw;
         change = change;
         changes = λ what. (
-          (λ e. let w = (changes what).0 e in (next.phase, w.0, raw, (λ same. w.1 (IsPhase-unique pod evicted h old next.phase phase same)))),
+          (λ e. let w = (changes what).0 e in
+              (next.phase, w.0, raw, (λ same. w.1 (IsPhase-unique pod evicted h old next.phase phase same)))),
           (λ w. (changes what).1 (
             w.1 ∙ ap whats.Phase (raw_unique pod (h ++ x ∷ []) w.0 next.phase w.2 raw),
-            (λ same. w.3 (subst (IsPhase pod evicted h) (same ∙ raw_unique pod (h ++ x ∷ []) next.phase w.0 raw w.2) phase)),
+            (λ same. w.3 (subst (IsPhase pod evicted h) (same ∙ raw_unique pod (h ++ x ∷ []) next.phase w.0 raw w.2)
+                phase)),
           )),
         );
         in_order = in_order;
@@ -116,24 +137,34 @@ events_lives pod greatest evicted h x state next made change events is lives sta
     )
 
 -- a pod that has not ended had not before the last tick
-lived : (pod : PodSpec) (greatest : ℕ) (h : List PodTick) (x : PodTick) (old : PodState) → (IsTerminal old.lifecycle.phase → ⊥) → IsLifecycleOf pod None h old.before
+lived : (pod : PodSpec) (greatest : ℕ) (h : List PodTick) (x : PodTick) (old : PodState)
+    → (IsTerminal old.lifecycle.phase → ⊥) → IsLifecycleOf pod None h old.before
     → IsStateOf pod greatest None (h ++ x ∷ []) old → IsTerminal old.before.phase → ⊥
 lived pod greatest h x old goes_on was is ended =
-    goes_on (subst IsTerminal (IsPhase-unique pod None (h ++ x ∷ []) old.before.phase old.lifecycle.phase (phase_ended pod None h x old.before.phase was.phase ended) is.progress.so_far.phase) ended)
+    goes_on (subst IsTerminal (IsPhase-unique pod None (h ++ x ∷ []) old.before.phase old.lifecycle.phase
+    (phase_ended pod None h x old.before.phase was.phase ended) is.progress.so_far.phase) ended)
 
 -- so an eviction ends it
-pub ends_evicted : (pod : PodSpec) (greatest : ℕ) (h : List PodTick) (x : PodTick) (old : PodState) → (IsTerminal old.lifecycle.phase → ⊥) → IsLifecycleOf pod None h old.before
-    → IsProgressOf pod (Some (length h)) h old.before → IsStateOf pod greatest None (h ++ x ∷ []) old → IsEnd pod (Some (length h)) (h ++ x ∷ []) (Some (length h))
-ends_evicted pod greatest h x old goes_on was before is = end_evicted pod (Some (length h)) h x old.before.phase before.so_far.phase (lived pod greatest h x old goes_on was is) refl
+pub ends_evicted : (pod : PodSpec) (greatest : ℕ) (h : List PodTick) (x : PodTick) (old : PodState)
+    → (IsTerminal old.lifecycle.phase → ⊥) → IsLifecycleOf pod None h old.before
+    → IsProgressOf pod (Some (length h)) h old.before → IsStateOf pod greatest None (h ++ x ∷ []) old
+    → IsEnd pod (Some (length h)) (h ++ x ∷ []) (Some (length h))
+ends_evicted pod greatest h x old goes_on was before is = end_evicted pod (Some (length h)) h x old.before.phase
+    before.so_far.phase (lived pod greatest h x old goes_on was is) refl
 
 -- where the last tick evicts the pod
-pub when_evicted : (pod : PodSpec) (greatest : ℕ) (h : List PodTick) (x : PodTick) (old new : PodState) → (IsTerminal old.lifecycle.phase → ⊥) → new.containers ≡ old.containers
-    → IsLifecycleOf pod None h old.before → IsStateOf pod greatest None (h ++ x ∷ []) old → IsProgressOf pod (Some (length h)) h old.before
-    → IsProgressOf pod (Some (length h)) (h ++ x ∷ []) new.lifecycle → IsStateOf pod greatest (Some (length h)) (h ++ x ∷ []) new
+pub when_evicted : (pod : PodSpec) (greatest : ℕ) (h : List PodTick) (x : PodTick) (old new : PodState)
+    → (IsTerminal old.lifecycle.phase → ⊥) → new.containers ≡ old.containers
+    → IsLifecycleOf pod None h old.before → IsStateOf pod greatest None (h ++ x ∷ []) old
+    → IsProgressOf pod (Some (length h)) h old.before
+    → IsProgressOf pod (Some (length h)) (h ++ x ∷ []) new.lifecycle → IsStateOf pod greatest (Some (length h))
+    (h ++ x ∷ []) new
 when_evicted pod greatest h x old new goes_on same was is before progress =
     let lives = lived pod greatest h x old goes_on was is in
-    let containers = kept_all pod greatest None (h ++ x ∷ []) old.lifecycle.phase old.containers.items is.progress.so_far.phase goes_on is.containers in
-    let kept = kept_lives pod greatest (Some (length h)) h x old.before.phase new.lifecycle.phase old.containers.items before.so_far.phase lives progress.so_far.phase containers in
+    let containers = kept_all pod greatest None (h ++ x ∷ []) old.lifecycle.phase old.containers.items
+    is.progress.so_far.phase goes_on is.containers in
+    let kept = kept_lives pod greatest (Some (length h)) h x old.before.phase new.lifecycle.phase old.containers.items
+    before.so_far.phase lives progress.so_far.phase containers in
     record {
       progress = progress;
       containers = subst (λ cs. AreKept pod greatest (Some (length h)) (h ++ x ∷ []) cs.items) (sym same) kept;

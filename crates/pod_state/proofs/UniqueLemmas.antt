@@ -29,15 +29,30 @@ condition_same c d e f =
     let Q : Bool → Type 0 = λ v. c ≡ record { value = v; since = d.since } in
     subst Q e (subst P f refl)
 
-condition_one : (C : List PodTick → Type 0) (h : List PodTick) (c d : Condition) → IsConditionAfter C h c → IsConditionAfter C h d → c ≡ d
+condition_one : (C : List PodTick → Type 0) (h : List PodTick) (c d : Condition) → IsConditionAfter C h c
+    → IsConditionAfter C h d → c ≡ d
 condition_one C h c d is is' =
-    condition_same c d (same_test c.value d.value is.value is'.value) (IsFirstMoment-unique h _ c.since d.since is.since is'.since)
+    condition_same c d (same_test c.value d.value is.value is'.value)
+    (IsFirstMoment-unique h _ c.since d.since is.since is'.since)
 
-conditions_same : (c d : Conditions) → c.pod_scheduled ≡ d.pod_scheduled → c.initialized ≡ d.initialized → c.containers_ready ≡ d.containers_ready → c ≡ d
+conditions_same : (c d : Conditions) → c.pod_scheduled ≡ d.pod_scheduled → c.initialized ≡ d.initialized
+    → c.containers_ready ≡ d.containers_ready → c ≡ d
 conditions_same c d e f g =
-    let P : Condition → Type 0 = λ x. c ≡ record { pod_scheduled = c.pod_scheduled; initialized = c.initialized; containers_ready = x } in
-    let Q : Condition → Type 0 = λ x. c ≡ record { pod_scheduled = c.pod_scheduled; initialized = x; containers_ready = d.containers_ready } in
-    let R : Condition → Type 0 = λ x. c ≡ record { pod_scheduled = x; initialized = d.initialized; containers_ready = d.containers_ready } in
+    let P : Condition → Type 0 = λ x. c ≡ record {
+      pod_scheduled = c.pod_scheduled;
+      initialized = c.initialized;
+      containers_ready = x;
+    } in
+    let Q : Condition → Type 0 = λ x. c ≡ record {
+      pod_scheduled = c.pod_scheduled;
+      initialized = x;
+      containers_ready = d.containers_ready;
+    } in
+    let R : Condition → Type 0 = λ x. c ≡ record {
+      pod_scheduled = x;
+      initialized = d.initialized;
+      containers_ready = d.containers_ready;
+    } in
     subst R e (subst Q f (subst P g refl))
 
 status_same : (s t : Lifecycle) → s.phase ≡ t.phase → s.conditions ≡ t.conditions → s ≡ t
@@ -46,7 +61,8 @@ status_same s t e f =
     let Q : Phase → Type 0 = λ x. s ≡ record { phase = x; conditions = t.conditions } in
     subst Q e (subst P f refl)
 
-pub status_one : (pod : PodSpec) (evicted : Option ℕ) (h : List PodTick) (s t : Lifecycle) → IsLifecycleOf pod evicted h s → IsLifecycleOf pod evicted h t → s ≡ t
+pub status_one : (pod : PodSpec) (evicted : Option ℕ) (h : List PodTick) (s t : Lifecycle)
+    → IsLifecycleOf pod evicted h s → IsLifecycleOf pod evicted h t → s ≡ t
 status_one pod evicted h s t is is' =
     status_same s t (IsPhase-unique pod evicted h s.phase t.phase is.phase is'.phase)
     (conditions_same s.conditions t.conditions
@@ -80,23 +96,57 @@ restarts_one h s t (inl w) (inr m) = absurd (w.0 t m.listed.0 m.listed.1)
 restarts_one h s t (inr n) (inl v) = absurd (v.0 s n.listed.0 n.listed.1)
 restarts_one h s t (inr n) (inr m) = IsNewest-unique h s t n m
 
-code_one : (P : ℤ → Type 0) (o p : Option ℤ) → ((k : ℤ) → ((o ≡ Some k) ↔ P k)) → ((k : ℤ) → ((p ≡ Some k) ↔ P k)) → o ≡ p
+code_one : (P : ℤ → Type 0) (o p : Option ℤ) → ((k : ℤ) → ((o ≡ Some k) ↔ P k)) → ((k : ℤ) → ((p ≡ Some k) ↔ P k))
+    → o ≡ p
 code_one P None None is is' = refl
 code_one P None (Some k) is is' = (is k).1 ((is' k).0 refl)
 code_one P (Some k) p is is' = sym ((is' k).1 ((is k).0 refl))
 
-shown_same : (s t : ContainerStatus) → s.state ≡ t.state → s.code ≡ t.code → s.restarts ≡ t.restarts → s.ready ≡ t.ready → s.started ≡ t.started → s ≡ t
+shown_same : (s t : ContainerStatus) → s.state ≡ t.state → s.code ≡ t.code → s.restarts ≡ t.restarts
+    → s.ready ≡ t.ready → s.started ≡ t.started → s ≡ t
 shown_same s t e f g i j =
-    let P : ContainerState → Type 0 = λ x. s ≡ record { state = x; code = t.code; restarts = t.restarts; ready = t.ready; started = t.started } in
-    let Q : Option ℤ → Type 0 = λ x. s ≡ record { state = s.state; code = x; restarts = t.restarts; ready = t.ready; started = t.started } in
-    let R : ℕ → Type 0 = λ x. s ≡ record { state = s.state; code = s.code; restarts = x; ready = t.ready; started = t.started } in
-    let S : Bool → Type 0 = λ x. s ≡ record { state = s.state; code = s.code; restarts = s.restarts; ready = x; started = t.started } in
-    let T : Bool → Type 0 = λ x. s ≡ record { state = s.state; code = s.code; restarts = s.restarts; ready = s.ready; started = x } in
+    let P : ContainerState → Type 0 = λ x. s ≡ record {
+      state = x;
+      code = t.code;
+      restarts = t.restarts;
+      ready = t.ready;
+      started = t.started;
+    } in
+    let Q : Option ℤ → Type 0 = λ x. s ≡ record {
+      state = s.state;
+      code = x;
+      restarts = t.restarts;
+      ready = t.ready;
+      started = t.started;
+    } in
+    let R : ℕ → Type 0 = λ x. s ≡ record {
+      state = s.state;
+      code = s.code;
+      restarts = x;
+      ready = t.ready;
+      started = t.started;
+    } in
+    let S : Bool → Type 0 = λ x. s ≡ record {
+      state = s.state;
+      code = s.code;
+      restarts = s.restarts;
+      ready = x;
+      started = t.started;
+    } in
+    let T : Bool → Type 0 = λ x. s ≡ record {
+      state = s.state;
+      code = s.code;
+      restarts = s.restarts;
+      ready = s.ready;
+      started = x;
+    } in
     subst P e (subst Q f (subst R g (subst S i (subst T j refl))))
 
-shown_one : (spec : ContainerSpec) (is_evicted : Type 0) (h : List ContainerTick) (s t : ContainerStatus) → IsShown spec is_evicted h s → IsShown spec is_evicted h t → s ≡ t
+shown_one : (spec : ContainerSpec) (is_evicted : Type 0) (h : List ContainerTick) (s t : ContainerStatus)
+    → IsShown spec is_evicted h s → IsShown spec is_evicted h t → s ≡ t
 shown_one spec is_evicted h s t is is' =
-    shown_same s t (state_one _ s.state t.state is.state is'.state) (code_one _ s.code t.code is.code is'.code) (restarts_one _ s.restarts t.restarts is.restarts is'.restarts)
+    shown_same s t (state_one _ s.state t.state is.state is'.state) (code_one _ s.code t.code is.code is'.code)
+    (restarts_one _ s.restarts t.restarts is.restarts is'.restarts)
     (same_test s.ready t.ready is.ready is'.ready) (same_test s.started t.started is.started is'.started)
 
 pub container_one : (pod : PodSpec) (evicted : Option ℕ) (h : List PodTick) (container : ℕ) (s t : ContainerStatus)
@@ -104,8 +154,11 @@ pub container_one : (pod : PodSpec) (evicted : Option ℕ) (h : List PodTick) (c
 container_one pod evicted h container s t is is' =
     let ticks = ticks_of (counted h is'.end) container in
     let ended : Type 0 = EndsEvicted evicted is'.end in
-    let P : Option ℕ → Type 0 = λ o. OfSpec pod container (λ spec. IsShown spec (EndsEvicted evicted o) (ticks_of (counted h o) container) s) in
-    let first : OfSpec pod container (λ spec. IsShown spec ended ticks s) = subst P (IsEnd-unique pod evicted h is.end is'.end is.is_end is'.is_end) is.shown in
+    let P : Option ℕ → Type 0 =
+    λ o. OfSpec pod container (λ spec. IsShown spec (EndsEvicted evicted o) (ticks_of (counted h o) container) s) in
+    let first : OfSpec pod container (λ spec. IsShown spec ended ticks s) =
+    subst P (IsEnd-unique pod evicted h is.end is'.end is.is_end is'.is_end) is.shown in
     let both : OfSpec pod container (λ spec. s ≡ t) =
-    together pod container (λ spec. IsShown spec ended ticks s) (λ spec. IsShown spec ended ticks t) (λ spec. s ≡ t) (λ spec a b. shown_one spec ended ticks s t a b) first is'.shown in
+    together pod container (λ spec. IsShown spec ended ticks s) (λ spec. IsShown spec ended ticks t) (λ spec. s ≡ t)
+    (λ spec a b. shown_one spec ended ticks s t a b) first is'.shown in
     whatever pod container (λ spec. s ≡ t) (s ≡ t) (λ spec e. e) both

@@ -1,5 +1,6 @@
 -- A view says of a container what its ticks say.
-use Rattle.std.proofs.Common.{◌≡◌, ◌⊎◌, inl, inr, ℕ, ℤ, ◌+◌, ◌<◌, Bool, List, [], ◌∷◌, ◌++◌, length, get_or, Option, Some, None, subst, sym, ◌∙◌, refl, arith}
+use Rattle.std.proofs.Common.{◌≡◌, ◌⊎◌, inl, inr, ℕ, ℤ, ◌+◌, ◌<◌, Bool, List, [], ◌∷◌, ◌++◌, length, get_or, Option}
+use Rattle.std.proofs.Common.{Some, None, subst, sym, ◌∙◌, refl, arith}
 use Rattle.std.specs.Prelude.{◌↔◌, ◌≢◌, IsSomeAnd, IsTrue, slice_get, slice_index_or}
 use Rattle.std.proofs.lemmas.List.FromFn.{length-range_with_len, get_or-range_with_len}
 use Rattle.manifest.specs.declared.policy.Policy.{Policy}
@@ -16,21 +17,25 @@ use Rattle.containers.specs.Ticks.{ContainerTick}
 use Rattle.containers.specs.Probed as probed
 use Rattle.containers.specs.Shown as shown
 use Rattle.containers.proofs.ViewLemmas.{view_code}
-use Rattle.pod_state.specs.Pods.{PodTick, ticks_of, OfSpec, Serves, facts, numbers, IsViewOf, AreViewsOf, IsRawPhaseAfter}
+use Rattle.pod_state.specs.Pods.{PodTick, ticks_of, OfSpec, Serves, facts, numbers, IsViewOf, AreViewsOf}
+use Rattle.pod_state.specs.Pods.{IsRawPhaseAfter}
 use Rattle.pod_state.proofs.TickLemmas.{whatever}
 
-same_role : (o : Option ContainerSpec) (ticks : List ContainerTick) (view : ContainerView) (role : Role) → IsSomeAnd o (λ spec. shown.IsViewOf spec ticks view)
+same_role : (o : Option ContainerSpec) (ticks : List ContainerTick) (view : ContainerView) (role : Role)
+    → IsSomeAnd o (λ spec. shown.IsViewOf spec ticks view)
     → (IsSomeAnd o (λ spec. spec.role ≡ role) ↔ (view.role ≡ role))
 same_role None ticks view role is = absurd is
 same_role (Some spec) ticks view role is = ((λ e. is.role ∙ e), (λ e. sym is.role ∙ e))
 
-same_start : (o : Option ContainerSpec) (ticks : List ContainerTick) (view : ContainerView) → IsSomeAnd o (λ spec. shown.IsViewOf spec ticks view)
+same_start : (o : Option ContainerSpec) (ticks : List ContainerTick) (view : ContainerView)
+    → IsSomeAnd o (λ spec. shown.IsViewOf spec ticks view)
     → (IsSomeAnd o (λ spec. probed.WasStarted spec ticks) ↔ IsTrue view.was_started)
 same_start None ticks view is = absurd is
 same_start (Some spec) ticks view is = (is.was_started.1, is.was_started.0)
 
 -- a view's facts are those of the ticks
-pub view_facts : (pod : PodSpec) (h : List PodTick) (container : ℕ) (view : ContainerView) → IsViewOf pod h container view → SameFacts (facts pod h) of_view container view
+pub view_facts : (pod : PodSpec) (h : List PodTick) (container : ℕ) (view : ContainerView)
+    → IsViewOf pod h container view → SameFacts (facts pod h) of_view container view
 view_facts pod h container view is =
     let ticks = ticks_of h container in
     let P : ContainerSpec → Type 0 = λ spec. shown.IsViewOf spec ticks view in
@@ -47,7 +52,8 @@ zero_more : (k : ℕ) → 0 + k ≡ k
 zero_more k = omega arith
 
 -- and the views' those of all
-pub views_same : (pod : PodSpec) (h : List PodTick) (views : List ContainerView) → AreViewsOf pod h views → AreSame (facts pod h) of_view (numbers pod) views
+pub views_same : (pod : PodSpec) (h : List PodTick) (views : List ContainerView) → AreViewsOf pod h views
+    → AreSame (facts pod h) of_view (numbers pod) views
 views_same pod h views are =
     let long : length (numbers pod) ≡ length pod.containers = length-range_with_len 0 (length pod.containers) in
     record {
@@ -55,23 +61,27 @@ views_same pod h views are =
       each = λ k c d lt.
           let lt' : k < length pod.containers = omega (arith, long) in
           let P : ℕ → Type 0 = λ n. SameFacts (facts pod h) of_view n (get_or views k d) in
-          let here : get_or (numbers pod) k c ≡ k = get_or-range_with_len 0 (length pod.containers) k c lt' ∙ zero_more k in
+          let here : get_or (numbers pod) k c ≡ k = get_or-range_with_len 0 (length pod.containers) k c lt'
+          ∙ zero_more k in
           subst P (sym here) (view_facts pod h k (get_or views k d) (are.each k d lt'));
     }
 
-pub raw_after : (pod : PodSpec) (policy : Policy) (h : List PodTick) (views : List ContainerView) (phase : Phase) → pod.policy ≡ policy → AreViewsOf pod h views
+pub raw_after : (pod : PodSpec) (policy : Policy) (h : List PodTick) (views : List ContainerView) (phase : Phase)
+    → pod.policy ≡ policy → AreViewsOf pod h views
     → IsRawPhase of_view policy views phase → IsRawPhaseAfter pod h phase
 raw_after pod policy h views phase same are raw =
     let P : Policy → Type 0 = λ p. IsRawPhase (facts pod h) p (numbers pod) phase in
     subst P (sym same)
-    (raw_same of_view (facts pod h) policy views (numbers pod) phase (lists_turned (facts pod h) of_view (numbers pod) views (views_same pod h views are)) raw)
+    (raw_same of_view (facts pod h) policy views (numbers pod) phase
+    (lists_turned (facts pod h) of_view (numbers pod) views (views_same pod h views are)) raw)
 
 pub initialized_after : (pod : PodSpec) (h : List PodTick) (views : List ContainerView) → AreViewsOf pod h views
     → (AreInitialized (facts pod h) (numbers pod) ↔ AreInitialized of_view views)
 initialized_after pod h views are =
     let same = views_same pod h views are in (
       initialized_same (facts pod h) of_view (numbers pod) views same,
-      initialized_same of_view (facts pod h) views (numbers pod) (lists_turned (facts pod h) of_view (numbers pod) views same),
+      initialized_same of_view (facts pod h) views (numbers pod)
+          (lists_turned (facts pod h) of_view (numbers pod) views same),
     )
 
 -- one that serves is no init container, and the other way round
@@ -84,15 +94,18 @@ serving Init not = absurd (not refl)
 serving Sidecar not = inl refl
 serving App not = inr refl
 
-no_init : (o : Option ContainerSpec) → IsSomeAnd o (λ spec. spec.role ≡ Sidecar) ⊎ IsSomeAnd o (λ spec. spec.role ≡ App) → IsSomeAnd o (λ spec. spec.role ≢ Init)
+no_init : (o : Option ContainerSpec) → IsSomeAnd o (λ spec. spec.role ≡ Sidecar) ⊎ IsSomeAnd o
+    (λ spec. spec.role ≡ App) → IsSomeAnd o (λ spec. spec.role ≢ Init)
 no_init None (inl p) = absurd p
 no_init None (inr p) = absurd p
 no_init (Some spec) (inl e) = serving_role spec.role (inl e)
 no_init (Some spec) (inr e) = serving_role spec.role (inr e)
 
-some_role : (o : Option ContainerSpec) → IsSomeAnd o (λ spec. spec.role ≢ Init) → IsSomeAnd o (λ spec. spec.role ≡ Sidecar) ⊎ IsSomeAnd o (λ spec. spec.role ≡ App)
+some_role : (o : Option ContainerSpec) → IsSomeAnd o (λ spec. spec.role ≢ Init)
+    → IsSomeAnd o (λ spec. spec.role ≡ Sidecar) ⊎ IsSomeAnd o (λ spec. spec.role ≡ App)
 some_role None p = absurd p
 some_role (Some spec) not = serving spec.role not
 
-pub serves_is : (pod : PodSpec) (container : ℕ) → (Serves pod container ↔ OfSpec pod container (λ spec. spec.role ≢ Init))
+pub serves_is : (pod : PodSpec) (container : ℕ)
+    → (Serves pod container ↔ OfSpec pod container (λ spec. spec.role ≢ Init))
 serves_is pod container = (no_init (slice_get pod.containers container), some_role (slice_get pod.containers container))

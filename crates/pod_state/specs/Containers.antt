@@ -9,7 +9,8 @@ use Rattle.pod_state.specs.Pods.{PodTick, ticks_of, OfSpec, IsEnd, counted, Ends
 
 -- what is shown of the container with the number
 abbrev pub IsShownOf : PodSpec → Type 0 → List PodTick → ℕ → ContainerStatus → Type 0
-IsShownOf pod is_evicted h number status = OfSpec pod number (λ spec. IsShown spec is_evicted (ticks_of h number) status)
+IsShownOf pod is_evicted h number status =
+    OfSpec pod number (λ spec. IsShown spec is_evicted (ticks_of h number) status)
 
 -- and of each
 pub record AreShown (pod : PodSpec) (is_evicted : Type 0) (h : List PodTick)
@@ -35,7 +36,8 @@ pub record AreStatusesOf (pod : PodSpec) (evicted : Option ℕ) (h : List PodTic
 -- the container with the number, as these ticks of its pod leave it, on a node with a greatest
 -- restart delay
 abbrev pub IsContainerOf : PodSpec → ℕ → List PodTick → ℕ → Container → Type 0
-IsContainerOf pod greatest h number container = OfSpec pod number (λ spec. IsStateOf spec greatest (ticks_of h number) container)
+IsContainerOf pod greatest h number container =
+    OfSpec pod number (λ spec. IsStateOf spec greatest (ticks_of h number) container)
 
 -- all of them
 pub record AreContainersOf (pod : PodSpec) (greatest : ℕ) (h : List PodTick)

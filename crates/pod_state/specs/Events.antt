@@ -17,7 +17,8 @@ use Rattle.pod_state.specs.Pods.{PodTick, ticks_of, OfSpec, HasEnded, IsRawPhase
 -- what the tick makes of the container with the number, by itself
 abbrev pub IsMadeOf : PodSpec → ℕ → List PodTick → PodTick → ℕ → ContainerEvents → Type 0
 IsMadeOf pod greatest before tick number made =
-    OfSpec pod number (λ spec. AreEvents pod.policy greatest spec (ticks_of (before ++ tick ∷ []) number) (length before) made)
+    OfSpec pod number (λ spec. AreEvents pod.policy greatest spec (ticks_of (before ++ tick ∷ []) number)
+    (length before) made)
 
 -- and of each container
 pub record AreMade (pod : PodSpec) (greatest : ℕ) (before : List PodTick) (tick : PodTick)

@@ -74,7 +74,8 @@ pub record OneStatus : Type 0 where
 -- a pod that has ended makes no events, whatever its containers do
 abbrev pub NoEventsAfterTheEnd : Type 0
 NoEventsAfterTheEnd =
-    (pod : PodSpec) (greatest : ℕ) (evicted : Option ℕ) (before : List PodTick) (tick : PodTick) (events : List PodEvent)
+    (pod : PodSpec) (greatest : ℕ) (evicted : Option ℕ) (before : List PodTick) (tick : PodTick)
+    (events : List PodEvent)
     → HasEnded pod evicted before → AreEventsOf pod greatest evicted before tick events → events ≡ []
 
 -- a tick makes a list of events, where the numbers of the probes of each container are in their ranges
@@ -87,6 +88,7 @@ SomeListOfEvents =
 -- the events of a tick are determined, with their order
 abbrev pub OneListOfEvents : Type 0
 OneListOfEvents =
-    (pod : PodSpec) (greatest : ℕ) (evicted : Option ℕ) (before : List PodTick) (tick : PodTick) (events others : List PodEvent)
+    (pod : PodSpec) (greatest : ℕ) (evicted : Option ℕ) (before : List PodTick) (tick : PodTick)
+    (events others : List PodEvent)
     → AreEventsOf pod greatest evicted before tick events → AreEventsOf pod greatest evicted before tick others
     → events ≡ others

@@ -1,6 +1,7 @@
 //! The containers of a pod, one tick after the other.
 
-ghost use Rattle.std.specs.Prelude.{◌≡◌, ◌≢◌, ◌↔◌, ◌^◌, ◌<◌, ℕ, List, [], ◌∷◌, ◌++◌, length, slice_get, unwrap_or, IsTrue, IfOk};
+ghost use Rattle.std.specs.Prelude.{◌≡◌, ◌≢◌, ◌↔◌, ◌^◌, ◌<◌, ℕ, List, [], ◌∷◌, ◌++◌, length, slice_get, unwrap_or};
+ghost use Rattle.std.specs.Prelude.{IsTrue, IfOk};
 ghost use Rattle.histories.specs.Histories.{recorded};
 ghost use Rattle.manifest.specs.declared.pod.ContainerSpec.{ContainerSpec};
 ghost use Rattle.manifest.specs.declared.pod.PodSpec.{PodSpec};
@@ -26,7 +27,8 @@ pub(crate) fn first_containers(
     specs: &[ContainerSpec],
     greatest: MaxRestartDelay,
 ) -> Result<Vec<Container>, AllocError>
-    ensures { IfOk result (λ v. (pod : PodSpec) → pod.containers ≡ specs.now → AreContainersOf pod greatest [] v.items) }
+    ensures { IfOk result (λ v. (pod : PodSpec) → pod.containers ≡ specs.now
+        → AreContainersOf pod greatest [] v.items) }
 {
     let mut containers = Vec::new(alloc);
     for spec in specs {

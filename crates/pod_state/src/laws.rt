@@ -1,6 +1,7 @@
 //! What the definitions of phases, conditions, container states and events imply. The functions do nothing;
 //! their contracts are the laws.
-ghost use Rattle.pod_state.specs.Laws.{OneRawPhase, OnePhase, EndedStaysEnded, TransitionsAreChanges, SomeStatus, OneStatus};
+ghost use Rattle.pod_state.specs.Laws.{OneRawPhase, OnePhase, EndedStaysEnded, TransitionsAreChanges, SomeStatus};
+ghost use Rattle.pod_state.specs.Laws.{OneStatus};
 ghost use Rattle.pod_state.specs.Laws.{NoEventsAfterTheEnd, SomeListOfEvents, OneListOfEvents};
 
 /// Of the listings of a pod there is one raw phase, and no other.

@@ -1,4 +1,5 @@
-ghost use Rattle.std.specs.Prelude.{◌≡◌, ◌↔◌, ◌^◌, ◌<◌, ℕ, List, [], ◌∷◌, ◌++◌, length, Option, Some, None, IsTrue, IfOk, OnOk, OnErr};
+ghost use Rattle.std.specs.Prelude.{◌≡◌, ◌↔◌, ◌^◌, ◌<◌, ℕ, List, [], ◌∷◌, ◌++◌, length, Option, Some, None, IsTrue};
+ghost use Rattle.std.specs.Prelude.{IfOk, OnOk, OnErr};
 ghost use Rattle.histories.specs.Histories.{recorded};
 ghost use Rattle.manifest.specs.declared.pod.PodSpec.{PodSpec};
 ghost use Rattle.phase.specs.RawPhase.{IsTerminal};
@@ -34,7 +35,8 @@ impl PodState {
         greatest: MaxRestartDelay,
     ) -> Result<PodState, AllocError>
         ensures state { IfOk result (λ state. (evicted : Option ℕ) → IsStateOf spec.now greatest evicted [] state) }
-        ensures before { IfOk result (λ state. (evicted : Option ℕ) → IsProgressOf spec.now evicted [] (before_of state)) }
+        ensures before { IfOk result (λ state. (evicted : Option ℕ)
+            → IsProgressOf spec.now evicted [] (before_of state)) }
     {
         let containers = first_containers(alloc, spec.containers.as_slice(), greatest)?;
         let views = views_of(alloc, &containers)?;

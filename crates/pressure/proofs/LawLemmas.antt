@@ -1,5 +1,6 @@
 -- The laws of conditions.
-use Rattle.std.proofs.Common.{◌≡◌, ◌⊎◌, inl, inr, ℕ, ◌-◌, ◌<◌, ◌≤◌, Bool, true, false, List, [], ◌∷◌, ◌++◌, length, Option, Some, None, refl, subst, sym, ◌∙◌, append_assoc, append-nil, arith}
+use Rattle.std.proofs.Common.{◌≡◌, ◌⊎◌, inl, inr, ℕ, ◌-◌, ◌<◌, ◌≤◌, Bool, true, false, List, [], ◌∷◌, ◌++◌, length}
+use Rattle.std.proofs.Common.{Option, Some, None, refl, subst, sym, ◌∙◌, append_assoc, append-nil, arith}
 use Rattle.std.specs.Option.{unwrap_or}
 use Rattle.std.proofs.lemmas.Bool.{cases_lt, cases_order}
 use Rattle.histories.specs.Histories.{IsSo, IsTransition, moment_at}
@@ -62,11 +63,16 @@ record Led (period : ℕ) (h : List Observation) : Type 0 where
   since : Option ℕ
   is_since : IsTransition h (IsSo (IsUnderPressure period) h) since
 
-value_after : (period : ℕ) (h : List Observation) (x : Observation) (latest : Option ℕ) (met : Bool) → x.entry ≡ met → IsLatestMet h latest
+value_after : (period : ℕ) (h : List Observation) (x : Observation) (latest : Option ℕ) (met : Bool) → x.entry ≡ met
+    → IsLatestMet h latest
     → IsUnderPressure period (h ++ x ∷ []) ⊎ (IsUnderPressure period (h ++ x ∷ []) → ⊥)
 value_after period h x latest true e is = inl ((true_by period h x latest is).0 (inl e))
 value_after period h x None false e is =
-    inr (λ u. elim ((true_by period h x None is).1 u) [ inl t ↦ let y : x.entry ≡ true = t in absurd (cc) | inr p ↦ absurd p ])
+    inr (λ u. elim ((true_by period h x None is).1 u) [
+      | inl t ↦ let y : x.entry ≡ true = t in absurd (cc)
+      | inr p
+          ↦ absurd p
+    ])
 value_after period h x (Some latest) false e is = elim (cases_lt (x.moment - latest) period) [
   | inl lt ↦ inl ((true_by period h x (Some latest) is).0 (inr lt))
   | inr ge ↦ inr (λ u. elim ((true_by period h x (Some latest) is).1 u) [
@@ -75,18 +81,26 @@ value_after period h x (Some latest) false e is = elim (cases_lt (x.moment - lat
   ])
 ]
 
-latest_after : (h : List Observation) (x : Observation) (latest : Option ℕ) (met : Bool) → x.entry ≡ met → IsLatestMet h latest → (o : Option ℕ) × IsLatestMet (h ++ x ∷ []) o
+latest_after : (h : List Observation) (x : Observation) (latest : Option ℕ) (met : Bool) → x.entry ≡ met
+    → IsLatestMet h latest → (o : Option ℕ) × IsLatestMet (h ++ x ∷ []) o
 latest_after h x latest true e is = (Some (later_of latest x.moment), latest_moved h x latest e is)
 latest_after h x latest false e is = (latest, latest_kept h x latest (λ t. let y : x.entry ≡ true = t in cc) is)
 
-since_after : (period : ℕ) (h : List Observation) (x : Observation) (since : Option ℕ) → IsTransition h (IsSo (IsUnderPressure period) h) since
-    → IsUnderPressure period h ⊎ (IsUnderPressure period h → ⊥) → IsUnderPressure period (h ++ x ∷ []) ⊎ (IsUnderPressure period (h ++ x ∷ []) → ⊥)
+since_after : (period : ℕ) (h : List Observation) (x : Observation) (since : Option ℕ)
+    → IsTransition h (IsSo (IsUnderPressure period) h) since
+    → IsUnderPressure period h ⊎ (IsUnderPressure period h → ⊥) → IsUnderPressure period (h ++ x ∷ []) ⊎
+    (IsUnderPressure period (h ++ x ∷ []) → ⊥)
     → (o : Option ℕ) × IsTransition (h ++ x ∷ []) (IsSo (IsUnderPressure period) (h ++ x ∷ [])) o
-since_after period h x None tr was is = (Some x.moment, since_new (IsUnderPressure period) h x (inl (none_recorded (IsUnderPressure period) h tr)))
-since_after period h x (Some m) tr (inl was) (inl is) = (Some m, since_stays (IsUnderPressure period) h x m ((λ _. is), (λ _. was)) tr)
-since_after period h x (Some m) tr (inr was) (inr is) = (Some m, since_stays (IsUnderPressure period) h x m ((λ u. absurd (was u)), (λ u. absurd (is u))) tr)
-since_after period h x (Some m) tr (inl was) (inr is) = (Some x.moment, since_new (IsUnderPressure period) h x (inr (λ same. is (same.0 was))))
-since_after period h x (Some m) tr (inr was) (inl is) = (Some x.moment, since_new (IsUnderPressure period) h x (inr (λ same. was (same.1 is))))
+since_after period h x None tr was is =
+    (Some x.moment, since_new (IsUnderPressure period) h x (inl (none_recorded (IsUnderPressure period) h tr)))
+since_after period h x (Some m) tr (inl was) (inl is) =
+    (Some m, since_stays (IsUnderPressure period) h x m ((λ _. is), (λ _. was)) tr)
+since_after period h x (Some m) tr (inr was) (inr is) =
+    (Some m, since_stays (IsUnderPressure period) h x m ((λ u. absurd (was u)), (λ u. absurd (is u))) tr)
+since_after period h x (Some m) tr (inl was) (inr is) =
+    (Some x.moment, since_new (IsUnderPressure period) h x (inr (λ same. is (same.0 was))))
+since_after period h x (Some m) tr (inr was) (inl is) =
+    (Some x.moment, since_new (IsUnderPressure period) h x (inr (λ same. was (same.1 is))))
 
 led_more : (period : ℕ) (h : List Observation) (x : Observation) → Led period h → Led period (h ++ x ∷ [])
 led_more period h x l =
@@ -97,7 +111,8 @@ led_more period h x l =
 
 led_after : (period : ℕ) (later h : List Observation) → Led period h → Led period (h ++ later)
 led_after period [] h l = subst (Led period) (sym (append-nil h)) l
-led_after period (x ∷ later) h l = subst (Led period) (append_assoc h (x ∷ []) later) (led_after period later (h ++ x ∷ []) (led_more period h x l))
+led_after period (x ∷ later) h l = subst (Led period) (append_assoc h (x ∷ []) later)
+    (led_after period later (h ++ x ∷ []) (led_more period h x l))
 
 led_none : (period : ℕ) → Led period []
 led_none period = record {
@@ -110,6 +125,7 @@ led_none period = record {
 
 pub one_since : OneSince
 one_since = record {
-  exists = λ period h. let l = led_after period h [] (led_none period) in (unwrap_or l.since 0, since_is period h l.since l.is_since);
+  exists = λ period h. let l = led_after period h [] (led_none period) in
+      (unwrap_or l.since 0, since_is period h l.since l.is_since);
   unique = since_unique;
 }

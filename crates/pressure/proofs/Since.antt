@@ -1,5 +1,6 @@
 -- Since when a condition has been the same, after one more observation.
-use Rattle.std.proofs.Common.{◌≡◌, ◌⊎◌, inl, inr, ℕ, suc, ◌<◌, Bool, true, false, List, [], ◌∷◌, ◌++◌, length, Option, Some, None, refl, subst, sym, ◌∙◌, arith}
+use Rattle.std.proofs.Common.{◌≡◌, ◌⊎◌, inl, inr, ℕ, suc, ◌<◌, Bool, true, false, List, [], ◌∷◌, ◌++◌, length, Option}
+use Rattle.std.proofs.Common.{Some, None, refl, subst, sym, ◌∙◌, arith}
 use Rattle.std.specs.Prelude.{◌↔◌, IsTrue}
 use Rattle.std.specs.Option.{unwrap_or}
 use Rattle.std.proofs.lemmas.List.{take_all}
@@ -11,23 +12,30 @@ use Rattle.histories.proofs.Transitions.{Extends, IsSteady-last, transition_firs
 use Rattle.pressure.specs.Pressures.{Observation, IsUnderPressure, IsSince}
 
 -- what holds of a history up to a place, over one more record
-extends : {A : Type 0} (P : List (Recorded A) → Type 0) (h : List (Recorded A)) (x : Recorded A) → Extends (length h) (IsSo P h) (IsSo P (h ++ x ∷ []))
+extends : {A : Type 0} (P : List (Recorded A) → Type 0) (h : List (Recorded A)) (x : Recorded A)
+    → Extends (length h) (IsSo P h) (IsSo P (h ++ x ∷ []))
 extends P h x = record {
   old = λ t lt. (
     (grows_so P h x).old t,
-    (λ s. elim ((grows_so P h x).split t s) [ inl old ↦ old | inr w ↦ let e : t ≡ length h = w.0 in absurd (omega arith) ]),
+    (λ s. elim ((grows_so P h x).split t s) [
+      | inl old ↦ old
+      | inr w ↦ let e : t ≡ length h = w.0 in
+          absurd (omega arith)
+    ]),
   );
 }
 
 -- at the last place it holds of the whole history
-at_last : {A : Type 0} (P : List (Recorded A) → Type 0) (y : Recorded A) (h : List (Recorded A)) → (IsSo P (y ∷ h) (length h) ↔ P (y ∷ h))
+at_last : {A : Type 0} (P : List (Recorded A) → Type 0) (y : Recorded A) (h : List (Recorded A))
+    → (IsSo P (y ∷ h) (length h) ↔ P (y ∷ h))
 at_last P y h =
     let e : up_to (y ∷ h) (length h) ≡ y ∷ h = take_all (suc (length h)) (y ∷ h) (omega arith) in (
       (λ s. subst P e s.so),
       (λ p. record { within = omega arith; so = subst P (sym e) p }),
     )
 
-at_new : {A : Type 0} (P : List (Recorded A) → Type 0) (h : List (Recorded A)) (x : Recorded A) → (IsSo P (h ++ x ∷ []) (length h) ↔ P (h ++ x ∷ []))
+at_new : {A : Type 0} (P : List (Recorded A) → Type 0) (h : List (Recorded A)) (x : Recorded A)
+    → (IsSo P (h ++ x ∷ []) (length h) ↔ P (h ++ x ∷ []))
 at_new P h x = (
   (λ s. elim ((grows_so P h x).split (length h) s) [
     | inl old ↦ let lt : length h < length h = old.within in absurd (omega arith)
@@ -38,7 +46,8 @@ at_new P h x = (
 
 -- the values at the last two places are alike exactly if those of the two histories are
 same_at : {A : Type 0} (P : List (Recorded A) → Type 0) (y : Recorded A) (h : List (Recorded A)) (x : Recorded A)
-    → ((IsSo P ((y ∷ h) ++ x ∷ []) (length h) ↔ IsSo P ((y ∷ h) ++ x ∷ []) (suc (length h))) ↔ (P (y ∷ h) ↔ P ((y ∷ h) ++ x ∷ [])))
+    → ((IsSo P ((y ∷ h) ++ x ∷ []) (length h) ↔ IsSo P ((y ∷ h) ++ x ∷ []) (suc (length h)))
+    ↔ (P (y ∷ h) ↔ P ((y ∷ h) ++ x ∷ [])))
 same_at P y h x =
     let e = (extends P (y ∷ h) x).old (length h) (omega arith) in
     let l = at_last P y h in
@@ -48,37 +57,47 @@ same_at P y h x =
     )
 
 -- a value that is another than before is a transition, and so is the first
-pub since_new : {A : Type 0} (P : List (Recorded A) → Type 0) (h : List (Recorded A)) (x : Recorded A) → (h ≡ []) ⊎ ((P h ↔ P (h ++ x ∷ [])) → ⊥)
+pub since_new : {A : Type 0} (P : List (Recorded A) → Type 0) (h : List (Recorded A)) (x : Recorded A)
+    → (h ≡ []) ⊎ ((P h ↔ P (h ++ x ∷ [])) → ⊥)
     → IsTransition (h ++ x ∷ []) (IsSo P (h ++ x ∷ [])) (Some x.moment)
 since_new P [] x why = transition_first x (IsSo P (x ∷ []))
 since_new P (y ∷ h) x (inl none) = absurd (cc)
 since_new P (y ∷ h) x (inr other) =
-    transition_new (y ∷ h) x (IsSo P (y ∷ h)) (IsSo P ((y ∷ h) ++ x ∷ [])) (length h) refl (extends P (y ∷ h) x) (λ s. other ((same_at P y h x).0 s))
+    transition_new (y ∷ h) x (IsSo P (y ∷ h)) (IsSo P ((y ∷ h) ++ x ∷ [])) (length h) refl (extends P (y ∷ h) x)
+    (λ s. other ((same_at P y h x).0 s))
 
 -- the same value again leaves the moment
-pub since_stays : {A : Type 0} (P : List (Recorded A) → Type 0) (h : List (Recorded A)) (x : Recorded A) (m : ℕ) → (P h ↔ P (h ++ x ∷ []))
+pub since_stays : {A : Type 0} (P : List (Recorded A) → Type 0) (h : List (Recorded A)) (x : Recorded A) (m : ℕ)
+    → (P h ↔ P (h ++ x ∷ []))
     → IsTransition h (IsSo P h) (Some m) → IsTransition (h ++ x ∷ []) (IsSo P (h ++ x ∷ [])) (Some m)
 since_stays P [] x m same tr = let lt : tr.0 < 0 = tr.1.holds.within in absurd (omega arith)
 since_stays P (y ∷ h) x m same tr =
-    transition_stays (y ∷ h) x (IsSo P (y ∷ h)) (IsSo P ((y ∷ h) ++ x ∷ [])) (length h) m refl (extends P (y ∷ h) x) ((same_at P y h x).1 same) tr
+    transition_stays (y ∷ h) x (IsSo P (y ∷ h)) (IsSo P ((y ∷ h) ++ x ∷ [])) (length h) m refl (extends P (y ∷ h) x)
+    ((same_at P y h x).1 same) tr
 
 -- there is no such moment only where nothing is recorded
-pub none_recorded : {A : Type 0} (P : List (Recorded A) → Type 0) (h : List (Recorded A)) → IsTransition h (IsSo P h) None → h ≡ []
+pub none_recorded : {A : Type 0} (P : List (Recorded A) → Type 0) (h : List (Recorded A))
+    → IsTransition h (IsSo P h) None → h ≡ []
 none_recorded P [] none = refl
 none_recorded P (y ∷ h) none = absurd (none (length h) (IsSteady-last (length h) (IsSo P (y ∷ h))))
 
 -- the same of two tests
-pub since_changed : {A : Type 0} (P : List (Recorded A) → Type 0) (h : List (Recorded A)) (x : Recorded A) (was is : Bool) (since : Option ℕ)
-    → (IsTrue was ↔ P h) → (IsTrue is ↔ P (h ++ x ∷ [])) → IsTransition h (IsSo P h) since → (since ≡ None) ⊎ (was ≡ is → ⊥)
+pub since_changed : {A : Type 0} (P : List (Recorded A) → Type 0) (h : List (Recorded A)) (x : Recorded A)
+    (was is : Bool) (since : Option ℕ)
+    → (IsTrue was ↔ P h) → (IsTrue is ↔ P (h ++ x ∷ [])) → IsTransition h (IsSo P h) since
+    → (since ≡ None) ⊎ (was ≡ is → ⊥)
     → IsTransition (h ++ x ∷ []) (IsSo P (h ++ x ∷ [])) (Some x.moment)
 since_changed P h x was is since old new tr (inl none) =
     let Q : Option ℕ → Type 0 = λ o. IsTransition h (IsSo P h) o in
     since_new P h x (inl (none_recorded P h (subst Q none tr)))
 since_changed P h x was is since old new tr (inr other) =
-    since_new P h x (inr (λ same. other (same_bool was is ((λ t. new.1 (same.0 (old.0 t))), (λ t. old.1 (same.1 (new.0 t)))))))
+    since_new P h x (inr (λ same. other
+    (same_bool was is ((λ t. new.1 (same.0 (old.0 t))), (λ t. old.1 (same.1 (new.0 t)))))))
 
-pub since_unchanged : {A : Type 0} (P : List (Recorded A) → Type 0) (h : List (Recorded A)) (x : Recorded A) (was is : Bool) (since : Option ℕ)
-    → (IsTrue was ↔ P h) → (IsTrue is ↔ P (h ++ x ∷ [])) → IsTransition h (IsSo P h) since → ((since ≡ None) ⊎ (was ≡ is → ⊥) → ⊥)
+pub since_unchanged : {A : Type 0} (P : List (Recorded A) → Type 0) (h : List (Recorded A)) (x : Recorded A)
+    (was is : Bool) (since : Option ℕ)
+    → (IsTrue was ↔ P h) → (IsTrue is ↔ P (h ++ x ∷ [])) → IsTransition h (IsSo P h) since
+    → ((since ≡ None) ⊎ (was ≡ is → ⊥) → ⊥)
     → IsTransition (h ++ x ∷ []) (IsSo P (h ++ x ∷ [])) since
 since_unchanged P h x was is None old new tr not = absurd (not (inl refl))
 since_unchanged P h x was is (Some m) old new tr not =
@@ -92,19 +111,23 @@ since_unchanged P h x was is (Some m) old new tr not =
     alike false true nn = absurd (nn (λ e. cc))
 
 -- the moment that is answered
-pub since_is : (period : ℕ) (h : List Observation) (o : Option ℕ) → IsTransition h (IsSo (IsUnderPressure period) h) o → IsSince period h (unwrap_or o 0)
+pub since_is : (period : ℕ) (h : List Observation) (o : Option ℕ) → IsTransition h (IsSo (IsUnderPressure period) h) o
+    → IsSince period h (unwrap_or o 0)
 since_is period h None none = inl (none_recorded (IsUnderPressure period) h none, refl)
 since_is period h (Some m) tr = inr tr
 
 -- there is one
-none_steady : (period : ℕ) (h : List Observation) (t : ℕ) → h ≡ [] → IsSteady (length h) (IsSo (IsUnderPressure period) h) t → ⊥
+none_steady : (period : ℕ) (h : List Observation) (t : ℕ) → h ≡ []
+    → IsSteady (length h) (IsSo (IsUnderPressure period) h) t → ⊥
 none_steady period [] t e s = let lt : t < 0 = s.within in absurd (omega arith)
 none_steady period (y ∷ h) t e s = absurd (cc)
 
-pub since_unique : (period : ℕ) (h : List Observation) (one other : ℕ) → IsSince period h one → IsSince period h other → one ≡ other
+pub since_unique : (period : ℕ) (h : List Observation) (one other : ℕ) → IsSince period h one → IsSince period h other
+    → one ≡ other
 since_unique period h one other (inl p) (inl q) = p.1 ∙ sym q.1
 since_unique period h one other (inl p) (inr q) = absurd (none_steady period h q.0 p.0 q.1.holds)
 since_unique period h one other (inr p) (inl q) = absurd (none_steady period h p.0 q.0 p.1.holds)
 since_unique period h one other (inr p) (inr q) =
-    let e : Some one ≡ Some other = IsFirstMoment-unique h (IsSteady (length h) (IsSo (IsUnderPressure period) h)) (Some one) (Some other) p q in
+    let e : Some one ≡ Some other = IsFirstMoment-unique h (IsSteady (length h) (IsSo (IsUnderPressure period) h))
+    (Some one) (Some other) p q in
     cc

@@ -1,5 +1,6 @@
 -- Whether a condition is true, after one more observation.
-use Rattle.std.proofs.Common.{◌≡◌, ◌⊎◌, inl, inr, ℕ, ◌-◌, ◌<◌, ◌≤◌, Bool, List, [], ◌∷◌, ◌++◌, length, Option, Some, None, subst, sym, ◌∙◌, arith}
+use Rattle.std.proofs.Common.{◌≡◌, ◌⊎◌, inl, inr, ℕ, ◌-◌, ◌<◌, ◌≤◌, Bool, List, [], ◌∷◌, ◌++◌, length, Option, Some}
+use Rattle.std.proofs.Common.{None, subst, sym, ◌∙◌, arith}
 use Rattle.std.specs.Prelude.{◌↔◌, IsTrue, IsSomeAnd}
 use Rattle.histories.specs.Histories.{recorded, moment_at}
 use Rattle.histories.proofs.Moments.{last_moment-more}
@@ -13,7 +14,8 @@ last_place : (h : List Observation) (x : Observation) → length h ≡ length (h
 last_place h x = omega (arith, length-more h x)
 
 -- it is met at the last place exactly if the new observation says so
-pub met_now : (h : List Observation) (x : Observation) → (IsMetAt (h ++ x ∷ []) (length (h ++ x ∷ []) - 1) ↔ IsTrue x.entry)
+pub met_now : (h : List Observation) (x : Observation)
+    → (IsMetAt (h ++ x ∷ []) (length (h ++ x ∷ []) - 1) ↔ IsTrue x.entry)
 met_now h x = (
   (λ m. elim (split IsTrue h x (length (h ++ x ∷ []) - 1) m) [
     | inl old ↦
@@ -36,8 +38,10 @@ lately_by period h x None none = (
       absurd (none w.place (old_met period h x w (omega arith)))),
 )
   where
-    old_met : (period : ℕ) (h : List Observation) (x : Observation) (w : WasMetLately period (h ++ x ∷ [])) → w.place < length h → IsMetAt h w.place
-    old_met period h x w lt = elim (split IsTrue h x w.place w.met) [ inl old ↦ old | inr v ↦ let e : w.place ≡ length h = v.0 in absurd (omega arith) ]
+    old_met : (period : ℕ) (h : List Observation) (x : Observation) (w : WasMetLately period (h ++ x ∷ []))
+        → w.place < length h → IsMetAt h w.place
+    old_met period h x w lt = elim (split IsTrue h x w.place w.met)
+        [ inl old ↦ old | inr v ↦ let e : w.place ≡ length h = v.0 in absurd (omega arith) ]
 lately_by period h x (Some latest) is = (
   (λ p. record {
     place = is.place;
@@ -56,8 +60,10 @@ lately_by period h x (Some latest) is = (
       let before : w.place < length (h ++ x ∷ []) - 1 = w.earlier in
       let e : length h ≡ length (h ++ x ∷ []) - 1 = last_place h x in
       let lt : w.place < length h = omega arith in
-      let old : IsMetAt h w.place = elim (split IsTrue h x w.place w.met) [ inl old ↦ old | inr v ↦ let same : w.place ≡ length h = v.0 in absurd (omega arith) ] in
-      let le : w.moment ≤ latest = is.none_later w.place w.moment old (moment_at-back h x w.place w.moment lt w.is_moment) in
+      let old : IsMetAt h w.place = elim (split IsTrue h x w.place w.met)
+      [ inl old ↦ old | inr v ↦ let same : w.place ≡ length h = v.0 in absurd (omega arith) ] in
+      let le : w.moment ≤ latest = is.none_later w.place w.moment old
+      (moment_at-back h x w.place w.moment lt w.is_moment) in
       let now : Some x.moment ≡ Some w.now = sym (last_moment-more h x) ∙ w.is_now in
       let last : x.moment ≡ w.now = cc in
       let lately : w.now - w.moment < period = w.lately in
@@ -67,7 +73,8 @@ lately_by period h x (Some latest) is = (
 
 -- so the condition is true exactly if it is met, or was met lately by that moment
 pub true_by : (period : ℕ) (h : List Observation) (x : Observation) (latest : Option ℕ) → IsLatestMet h latest
-    → ((IsTrue x.entry ⊎ IsSomeAnd latest (λ moment. x.moment - moment < period)) ↔ IsUnderPressure period (h ++ x ∷ []))
+    → ((IsTrue x.entry ⊎ IsSomeAnd latest (λ moment. x.moment - moment < period))
+    ↔ IsUnderPressure period (h ++ x ∷ []))
 true_by period h x latest is =
     let now = met_now h x in
     let lately = lately_by period h x latest is in (
@@ -76,8 +83,10 @@ true_by period h x latest is =
     )
 
 -- the same of a test
-pub true_after : (period at : ℕ) (met : Bool) (h : List Observation) (latest : Option ℕ) (kept : ℕ) (value : Bool) → kept ≡ period → IsLatestMet h latest
-    → (IsTrue value ↔ (IsTrue met ⊎ IsSomeAnd latest (λ moment. at - moment < kept))) → (IsTrue value ↔ IsUnderPressure period (h ++ recorded at met ∷ []))
+pub true_after : (period at : ℕ) (met : Bool) (h : List Observation) (latest : Option ℕ) (kept : ℕ) (value : Bool)
+    → kept ≡ period → IsLatestMet h latest
+    → (IsTrue value ↔ (IsTrue met ⊎ IsSomeAnd latest (λ moment. at - moment < kept)))
+    → (IsTrue value ↔ IsUnderPressure period (h ++ recorded at met ∷ []))
 true_after period at met h latest kept value same is test =
     let P : ℕ → Type 0 = λ p. IsTrue value ↔ (IsTrue met ⊎ IsSomeAnd latest (λ moment. at - moment < p)) in
     let moved : IsTrue value ↔ (IsTrue met ⊎ IsSomeAnd latest (λ moment. at - moment < period)) = subst P same test in

@@ -21,4 +21,5 @@ TrueForThePeriod =
 
 pub record OneSince : Type 0 where
   pub exists : (period : ℕ) (h : List Observation) → (since : ℕ) × IsSince period h since
-  pub unique : (period : ℕ) (h : List Observation) (one other : ℕ) → IsSince period h one → IsSince period h other → one ≡ other
+  pub unique : (period : ℕ) (h : List Observation) (one other : ℕ) → IsSince period h one → IsSince period h other
+      → one ≡ other

@@ -1,6 +1,7 @@
 //! One node condition of pressure.
 
-ghost use Rattle.std.specs.Prelude.{◌≡◌, ◌≢◌, ◌⊎◌, ◌↔◌, ◌<◌, ◌-◌, ℕ, List, [], ◌∷◌, ◌++◌, Option, Some, None, Bool, IsTrue, IsSomeAnd};
+ghost use Rattle.std.specs.Prelude.{◌≡◌, ◌≢◌, ◌⊎◌, ◌↔◌, ◌<◌, ◌-◌, ℕ, List, [], ◌∷◌, ◌++◌, Option, Some, None, Bool};
+ghost use Rattle.std.specs.Prelude.{IsTrue, IsSomeAnd};
 ghost use Rattle.histories.specs.Histories.{recorded, IsSo, IsTransition};
 ghost use Rattle.pressure.specs.Pressures.{Observation, IsUnderPressure, IsSince};
 ghost use Rattle.pressure.specs.State.{IsLatestMet, later_of, IsStateOf};
@@ -99,7 +100,8 @@ impl Pressure {
         ensures { (period : ℕ) (h : List Observation) (met : Bool)
             → IsStateOf period h self.now
             → (IsTrue is_true ↔ IsUnderPressure period (h ++ recorded at met ∷ []))
-            → IsTransition (h ++ recorded at met ∷ []) (IsSo (IsUnderPressure period) (h ++ recorded at met ∷ [])) result }
+            → IsTransition (h ++ recorded at met ∷ []) (IsSo (IsUnderPressure period) (h ++ recorded at met ∷ []))
+            result }
     {
         if self.changes(is_true) {
             Some(at)

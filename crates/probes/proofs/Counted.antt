@@ -1,5 +1,6 @@
 -- The ticks that count, and startup, as ticks are added.
-use Rattle.std.proofs.Common.{◌≡◌, ◌⊎◌, inl, inr, ℕ, suc, ◌-◌, ◌<◌, ◌≤◌, List, [], ◌∷◌, ◌++◌, length, drop, Option, Some, None, refl, sym, length-append, ◌∙◌, ap, arith}
+use Rattle.std.proofs.Common.{◌≡◌, ◌⊎◌, inl, inr, ℕ, suc, ◌-◌, ◌<◌, ◌≤◌, List, [], ◌∷◌, ◌++◌, length, drop, Option}
+use Rattle.std.proofs.Common.{Some, None, refl, sym, length-append, ◌∙◌, ap, arith}
 use Rattle.std.specs.Prelude.{slice_get}
 use Rattle.std.proofs.lemmas.List.{length_push, drop-append-le, drop_all}
 use Rattle.std.proofs.lemmas.List.Elements.{filter_map-append}
@@ -36,15 +37,18 @@ pub passed_lasts : (p : Probe) (start : ℕ) → Lasts (HasPassed p start)
 passed_lasts p start = record {
   none = λ (k, lt, is). cc;
   more = λ ticks later here.
-      rw (filter_map-append (λ t. belonging p (t.moment - start) t.entry.startup) ticks later) (PassesWithin-more p.failure_threshold _ _ here);
+      rw (filter_map-append (λ t. belonging p (t.moment - start) t.entry.startup) ticks later)
+      (PassesWithin-more p.failure_threshold _ _ here);
 }
 
 -- a pass tick is there only where it has passed
-pub passed_by : (p : Probe) (start : ℕ) (ticks : List Tick) (t : ℕ) → IsPassTick p start ticks t → HasPassed p start ticks
+pub passed_by : (p : Probe) (start : ℕ) (ticks : List Tick) (t : ℕ) → IsPassTick p start ticks t
+    → HasPassed p start ticks
 passed_by p start ticks t f = Lasts-all (HasPassed p start) ticks t (passed_lasts p start) f.holds
 
 -- it has passed or not, by the progress
-pub passed_or_not : (f : ℕ) (xs : List Outcome) (progress : Progress) → IsProgressOf f xs progress → PassesWithin f xs ⊎ (PassesWithin f xs → ⊥)
+pub passed_or_not : (f : ℕ) (xs : List Outcome) (progress : Progress) → IsProgressOf f xs progress
+    → PassesWithin f xs ⊎ (PassesWithin f xs → ⊥)
 passed_or_not f xs Passed st = inl st
 passed_or_not f xs Failed st = inr (λ passes. not_both f xs passes st)
 passed_or_not f xs (Waiting n) st = inr (λ (k, lt, is). waits k is)
@@ -57,17 +61,21 @@ passed_or_not f xs (Waiting n) st = inr (λ (k, lt, is). waits k is)
         cc
 
 -- the ticks that count are determined
-pub AreCounted-unique : (startup : Option Probe) (start : ℕ) (ticks c d : List Tick) → AreCounted startup start ticks c → AreCounted startup start ticks d → c ≡ d
+pub AreCounted-unique : (startup : Option Probe) (start : ℕ) (ticks c d : List Tick)
+    → AreCounted startup start ticks c → AreCounted startup start ticks d → c ≡ d
 AreCounted-unique None start ticks c d is is' = is ∙ sym is'
 AreCounted-unique (Some p) start ticks c d (inl (t, f, is)) (inl (u, g, is')) =
     let same : t ≡ u = IsFirst-unique _ t u f g in
     is ∙ ap (λ (n : ℕ). drop (suc n) ticks) same ∙ sym is'
-AreCounted-unique (Some p) start ticks c d (inl (t, f, is)) (inr (never, is')) = absurd (never (passed_by p start ticks t f))
-AreCounted-unique (Some p) start ticks c d (inr (never, is)) (inl (t, f, is')) = absurd (never (passed_by p start ticks t f))
+AreCounted-unique (Some p) start ticks c d (inl (t, f, is)) (inr (never, is')) =
+    absurd (never (passed_by p start ticks t f))
+AreCounted-unique (Some p) start ticks c d (inr (never, is)) (inl (t, f, is')) =
+    absurd (never (passed_by p start ticks t f))
 AreCounted-unique (Some p) start ticks c d (inr (never, is)) (inr (never', is')) = is ∙ sym is'
 
 -- once startup has passed, later ticks count
-pub AreCounted-more : (startup : Option Probe) (start : ℕ) (ticks later c : List Tick) → IsStarted startup start ticks → AreCounted startup start ticks c
+pub AreCounted-more : (startup : Option Probe) (start : ℕ) (ticks later c : List Tick) → IsStarted startup start ticks
+    → AreCounted startup start ticks c
     → AreCounted startup start (ticks ++ later) (c ++ later)
 AreCounted-more None start ticks later c started is = ap (λ (x : List Tick). x ++ later) is
 AreCounted-more (Some p) start ticks later c started (inr (never, is)) = absurd (never started)
@@ -80,10 +88,13 @@ AreCounted-more (Some p) start ticks later c started (inl (t, f, is)) =
     )
 
 -- before that none counts, nor does the tick in which it passes
-pub AreCounted-none : (startup : Option Probe) (start : ℕ) (ticks c : List Tick) (next : Tick) (progress : Progress) → (IsStarted startup start ticks → ⊥)
-    → IsProgressWith startup start (ticks ++ next ∷ []) progress → AreCounted startup start ticks c → AreCounted startup start (ticks ++ next ∷ []) c
+pub AreCounted-none : (startup : Option Probe) (start : ℕ) (ticks c : List Tick) (next : Tick) (progress : Progress)
+    → (IsStarted startup start ticks → ⊥)
+    → IsProgressWith startup start (ticks ++ next ∷ []) progress → AreCounted startup start ticks c
+    → AreCounted startup start (ticks ++ next ∷ []) c
 AreCounted-none None start ticks c next progress not_started st is = absurd (not_started tt)
-AreCounted-none (Some p) start ticks c next progress not_started st (inl (t, f, is)) = absurd (not_started (passed_by p start ticks t f))
+AreCounted-none (Some p) start ticks c next progress not_started st (inl (t, f, is)) =
+    absurd (not_started (passed_by p start ticks t f))
 AreCounted-none (Some p) start ticks c next progress not_started st (inr (never, is)) =
     elim (passed_or_not p.failure_threshold (startup_results p start (ticks ++ next ∷ [])) progress st) [
       | inl passes ↦ inl (

@@ -1,5 +1,6 @@
 -- The ticks that count are there for every list of ticks.
-use Rattle.std.proofs.Common.{◌≡◌, ◌⊎◌, inl, inr, ℕ, suc, zero, ◌<◌, ◌≤◌, List, [], ◌∷◌, ◌++◌, length, length-take, take, drop, Option, Some, None, refl, sym, subst, arith}
+use Rattle.std.proofs.Common.{◌≡◌, ◌⊎◌, inl, inr, ℕ, suc, zero, ◌<◌, ◌≤◌, List, [], ◌∷◌, ◌++◌, length, length-take}
+use Rattle.std.proofs.Common.{take, drop, Option, Some, None, refl, sym, subst, arith}
 use Rattle.std.specs.Prelude.{◌↔◌, slice_get}
 use Rattle.std.proofs.lemmas.List.{take_all, take-take}
 use Rattle.manifest.specs.declared.outcome.Outcome.{Outcome}
@@ -47,17 +48,20 @@ first_tick P ticks lasts decide (suc n) le here = elim (decide (take n ticks)) [
       holds = record { within = omega arith; so = here };
       none_before = λ u lt w.
           let shorter : take (suc u) (take n ticks) ≡ take (suc u) ticks = take-take (suc u) n ticks (omega arith) in
-          not_before (Lasts-all P (take n ticks) u lasts (record { within = omega (arith, length-take n ticks); so = subst P (sym shorter) w.so }));
+          not_before (Lasts-all P (take n ticks) u lasts
+          (record { within = omega (arith, length-take n ticks); so = subst P (sym shorter) w.so }));
     },
   )
 ]
 
-pub counted_of : (startup : Option Probe) (start : ℕ) (ticks : List Tick) → (counted : List Tick) × AreCounted startup start ticks counted
+pub counted_of : (startup : Option Probe) (start : ℕ) (ticks : List Tick) → (counted : List Tick)
+    × AreCounted startup start ticks counted
 counted_of None start ticks = (ticks, refl)
 counted_of (Some p) start ticks = elim (passes_or_not p.failure_threshold (startup_results p start ticks)) [
   | inl passed ↦ found (first_tick (HasPassed p start) ticks (passed_lasts p start)
       (λ some. passes_or_not p.failure_threshold (startup_results p start some)) (length ticks) (omega arith)
-      (let P : List Tick → Type 0 = HasPassed p start in subst P (sym (take_all (length ticks) ticks (omega arith))) passed))
+      (let P : List Tick → Type 0 = HasPassed p start in subst P (sym (take_all (length ticks) ticks (omega arith)))
+      passed))
   | inr never ↦ ([], inr (never, refl))
 ]
   where
@@ -65,14 +69,23 @@ counted_of (Some p) start ticks = elim (passes_or_not p.failure_threshold (start
     found (t, f) = (drop (suc t) ticks, inl (t, f, refl))
 
 -- a startup probe passes at one tick
-pub passes_once : (p : Probe) (start : ℕ) (ticks later : List Tick) (t u : ℕ) → IsPassTick p start ticks t → IsPassTick p start (ticks ++ later) u → t ≡ u
+pub passes_once : (p : Probe) (start : ℕ) (ticks later : List Tick) (t u : ℕ) → IsPassTick p start ticks t
+    → IsPassTick p start (ticks ++ later) u → t ≡ u
 passes_once p start ticks later t u f g = IsFirst-unique _ t u (ComesTrue-later (HasPassed p start) ticks later t f) g
 
 -- ready with no readiness probe
-pub ready_by_startup : (probes : Probes) (start : ℕ) (ticks : List Tick) → probes.readiness ≡ None → (IsReady probes start ticks ↔ IsStarted probes.startup start ticks)
+pub ready_by_startup : (probes : Probes) (start : ℕ) (ticks : List Tick) → probes.readiness ≡ None
+    → (IsReady probes start ticks ↔ IsStarted probes.startup start ticks)
 ready_by_startup probes start ticks none = (
   (λ ready. ready.0),
   (λ started.
-      let counted = counted_of probes.startup start ticks in
-      (started, (counted.0, counted.1, (let P : Option Probe → Type 0 = λ p. HoldsReady p start counted.0 in subst P (sym none) tt)))),
+      let counted = counted_of probes.startup start ticks in (
+        started,
+        (
+          counted.0,
+          counted.1,
+          (let P : Option Probe → Type 0 = λ p. HoldsReady p start counted.0 in
+              subst P (sym none) tt),
+        ),
+      )),
 )

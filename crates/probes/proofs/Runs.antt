@@ -1,5 +1,6 @@
 -- Runs of one outcome in a list of results, when one more result comes.
-use Rattle.std.proofs.Common.{◌≡◌, ◌⊎◌, inl, inr, ℕ, suc, zero, ◌+◌, ◌<◌, ◌≤◌, List, [], ◌∷◌, ◌++◌, length, Some, refl, sym, subst, length-append, ◌∙◌, arith}
+use Rattle.std.proofs.Common.{◌≡◌, ◌⊎◌, inl, inr, ℕ, suc, zero, ◌+◌, ◌<◌, ◌≤◌, List, [], ◌∷◌, ◌++◌, length, Some}
+use Rattle.std.proofs.Common.{refl, sym, subst, length-append, ◌∙◌, arith}
 use Rattle.std.specs.Prelude.{◌↔◌, slice_get}
 use Rattle.std.proofs.lemmas.Bool.{cases_lt}
 use Rattle.std.proofs.lemmas.List.{length_push}
@@ -14,7 +15,8 @@ slice_get-old [] ys k lt = absurd (omega arith)
 slice_get-old (x ∷ xs) ys zero lt = refl
 slice_get-old (x ∷ xs) ys (suc k) lt = slice_get-old xs ys k (omega arith)
 
-pub slice_get-kept : {X : Type 0} (xs ys : List X) (k : ℕ) (x : X) → slice_get xs k ≡ Some x → slice_get (xs ++ ys) k ≡ Some x
+pub slice_get-kept : {X : Type 0} (xs ys : List X) (k : ℕ) (x : X) → slice_get xs k ≡ Some x
+    → slice_get (xs ++ ys) k ≡ Some x
 slice_get-kept [] ys k x is = absurd (cc)
 slice_get-kept (y ∷ xs) ys zero x is = is
 slice_get-kept (y ∷ xs) ys (suc k) x is = slice_get-kept xs ys k x is
@@ -36,7 +38,8 @@ EndsRun-old o n xs ys e r = record {
 }
 
 -- a run that ends before the new result was there before
-pub EndsRun-before : (o : Outcome) (n : ℕ) (xs : List Outcome) (x : Outcome) (e : ℕ) → e ≤ length xs → EndsRun o n (xs ++ x ∷ []) e → EndsRun o n xs e
+pub EndsRun-before : (o : Outcome) (n : ℕ) (xs : List Outcome) (x : Outcome) (e : ℕ) → e ≤ length xs
+    → EndsRun o n (xs ++ x ∷ []) e → EndsRun o n xs e
 EndsRun-before o n xs x e b r = record {
   among = b;
   enough = r.enough;
@@ -68,24 +71,29 @@ EndsRun-more o m xs x is r = record {
       let reach : length xs + 1 ≤ k + suc m = omega (arith, length_push xs x) in
       elim (cases_lt k (length xs)) [
         | inl old ↦ slice_get-kept xs (x ∷ []) k o (r.all k old (omega arith))
-        | inr new ↦ let at : k ≡ length xs = omega arith in let there : slice_get (xs ++ x ∷ []) k ≡ Some x = slice_get-at xs x k at in cc
+        | inr new ↦ let at : k ≡ length xs = omega arith in let there : slice_get (xs ++ x ∷ []) k ≡ Some x =
+            slice_get-at xs x k at in cc
       ];
 }
 
 -- a run that ends with the new result was one shorter before it
-pub EndsRun-less : (o : Outcome) (m : ℕ) (xs : List Outcome) (x : Outcome) → EndsRun o (suc m) (xs ++ x ∷ []) (length (xs ++ x ∷ []))
+pub EndsRun-less : (o : Outcome) (m : ℕ) (xs : List Outcome) (x : Outcome)
+    → EndsRun o (suc m) (xs ++ x ∷ []) (length (xs ++ x ∷ []))
     → (x ≡ o) × EndsRun o m xs (length xs)
 EndsRun-less o m xs x r = (
-  same_Some x o (sym (slice_get-new xs x) ∙ r.all (length xs) (omega (arith, length_push xs x)) (omega (arith, length_push xs x))),
+  same_Some x o (sym (slice_get-new xs x) ∙ r.all (length xs) (omega (arith, length_push xs x))
+      (omega (arith, length_push xs x))),
   record {
     among = omega arith;
     enough = let b : suc m ≤ length (xs ++ x ∷ []) = r.enough in omega (arith, length_push xs x);
-    all = λ k lt le. sym (slice_get-old xs (x ∷ []) k lt) ∙ r.all k (omega (arith, length_push xs x)) (omega (arith, length_push xs x));
+    all = λ k lt le. sym (slice_get-old xs (x ∷ []) k lt) ∙ r.all k (omega (arith, length_push xs x))
+        (omega (arith, length_push xs x));
   },
 )
 
 -- the length of the run at the end, after a result of its outcome
-IsRunLength-more : (o : Outcome) (limit : ℕ) (xs : List Outcome) (x : Outcome) (n n' : ℕ) → x ≡ o → IsRunLength o limit xs n
+IsRunLength-more : (o : Outcome) (limit : ℕ) (xs : List Outcome) (x : Outcome) (n n' : ℕ) → x ≡ o
+    → IsRunLength o limit xs n
     → n' ≤ limit → ((m : ℕ) → suc m ≤ limit → ((suc m ≤ n') ↔ (m ≤ n))) → IsRunLength o limit (xs ++ x ∷ []) n'
 IsRunLength-more o limit xs x n n' is r within step = record { within = within; run = run }
   where
@@ -96,7 +104,8 @@ IsRunLength-more o limit xs x n n' is r within step = record { within = within; 
       (λ e. (step m le).1 ((r.run m (omega arith)).1 (EndsRun-less o m xs x e).1)),
     )
 
-pub IsRunLength-suc : (o : Outcome) (limit : ℕ) (xs : List Outcome) (x : Outcome) (n n' : ℕ) → x ≡ o → n < limit → n' ≡ n + 1
+pub IsRunLength-suc : (o : Outcome) (limit : ℕ) (xs : List Outcome) (x : Outcome) (n n' : ℕ) → x ≡ o → n < limit
+    → n' ≡ n + 1
     → IsRunLength o limit xs n → IsRunLength o limit (xs ++ x ∷ []) n'
 IsRunLength-suc o limit xs x n n' is lt e r =
     IsRunLength-more o limit xs x n n' is r (omega arith) (λ m le. ((λ a. omega arith), (λ a. omega arith)))
@@ -107,7 +116,8 @@ IsRunLength-full o limit xs x n is ge r =
     IsRunLength-more o limit xs x n n is r r.within (λ m le. ((λ a. omega arith), (λ a. omega arith)))
 
 -- after another result there is no run
-pub IsRunLength-end : (o : Outcome) (limit : ℕ) (xs : List Outcome) (x : Outcome) → (x ≡ o → ⊥) → IsRunLength o limit (xs ++ x ∷ []) 0
+pub IsRunLength-end : (o : Outcome) (limit : ℕ) (xs : List Outcome) (x : Outcome) → (x ≡ o → ⊥)
+    → IsRunLength o limit (xs ++ x ∷ []) 0
 IsRunLength-end o limit xs x other = record { within = omega arith; run = run }
   where
     run : (m : ℕ) → m ≤ limit → ((m ≤ 0) ↔ EndsRun o m (xs ++ x ∷ []) (length (xs ++ x ∷ [])))
@@ -130,7 +140,11 @@ FailsInARow-more f xs x = (
     | inl old ↦ inl (e, old)
     | inr at ↦ inr (let P : ℕ → Type 0 = λ k. EndsRun Failure f (xs ++ x ∷ []) k in subst P at r)
   ]),
-  (λ w. elim w [ inl old ↦ (old.0, EndsRun-old Failure f xs (x ∷ []) old.0 old.1) | inr now ↦ (length (xs ++ x ∷ []), now) ]),
+  (λ w. elim w [
+    | inl old ↦ (old.0, EndsRun-old Failure f xs (x ∷ []) old.0 old.1)
+    | inr now
+        ↦ (length (xs ++ x ∷ []), now)
+  ]),
 )
 
 -- readiness holds after one more result: enough successes end with it, or it held and not enough
@@ -142,12 +156,18 @@ HoldsAfter-more s f xs x = (
   (λ (e, r, none). elim (EndsRun-split Success s xs x e r) [
     | inl old ↦ inr (
       (e, old, (λ later lt fails. none later lt (EndsRun-old Failure f xs (x ∷ []) later fails))),
-      (λ fails. none (length (xs ++ x ∷ [])) (let b : e ≤ length xs = old.among in omega (arith, length_push xs x)) fails),
+      (λ fails. none (length (xs ++ x ∷ [])) (let b : e ≤ length xs = old.among in omega (arith, length_push xs x))
+          fails),
     )
     | inr at ↦ inl (let P : ℕ → Type 0 = λ k. EndsRun Success s (xs ++ x ∷ []) k in subst P at r)
   ]),
   (λ w. elim w [
-    | inl now ↦ (length (xs ++ x ∷ []), now, (λ later lt fails. let b : later ≤ length (xs ++ x ∷ []) = fails.among in absurd (omega arith)))
+    | inl now ↦ (
+      length (xs ++ x ∷ []),
+      now,
+      (λ later lt fails. let b : later ≤ length (xs ++ x ∷ []) = fails.among in
+          absurd (omega arith)),
+    )
     | inr old ↦ (
       old.0.0,
       EndsRun-old Success s xs (x ∷ []) old.0.0 old.0.1,

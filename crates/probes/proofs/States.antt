@@ -1,5 +1,6 @@
 -- The state of a set: what its flags say, and what one more tick makes of it.
-use Rattle.std.proofs.Common.{◌≡◌, ℕ, ◌-◌, Bool, true, false, List, [], ◌∷◌, ◌++◌, length, Option, Some, None, is_some, refl, sym, subst, ◌∙◌}
+use Rattle.std.proofs.Common.{◌≡◌, ℕ, ◌-◌, Bool, true, false, List, [], ◌∷◌, ◌++◌, length, Option, Some, None}
+use Rattle.std.proofs.Common.{is_some, refl, sym, subst, ◌∙◌}
 use Rattle.std.specs.Prelude.{◌↔◌, IsTrue, IsSomeAnd}
 use Rattle.std.proofs.lemmas.Option.{same_Some}
 use Rattle.manifest.specs.Probe.{Probe, Probes}
@@ -20,15 +21,19 @@ use Rattle.probes.proofs.Counted.{AreCounted-unique, AreCounted-more, AreCounted
 use Rattle.probes.proofs.Kills.{kill_lasts, one_cause}
 
 -- whether startup has failed
-pub failed_is : (probes : Probes) (start : ℕ) (ticks : List Tick) (set : ProbeSet) (failed : Bool) → IsStateOf probes start ticks set
-    → (IsTrue failed ↔ HasStartupFailed set.startup.probe start ticks) → (IsTrue failed ↔ IsKillOrdered probes start causes.Startup ticks)
+pub failed_is : (probes : Probes) (start : ℕ) (ticks : List Tick) (set : ProbeSet) (failed : Bool)
+    → IsStateOf probes start ticks set
+    → (IsTrue failed ↔ HasStartupFailed set.startup.probe start ticks)
+    → (IsTrue failed ↔ IsKillOrdered probes start causes.Startup ticks)
 failed_is probes start ticks set failed st reads =
     let P : Option Probe → Type 0 = λ p. IsTrue failed ↔ HasStartupFailed p start ticks in
     subst P st.follows.startup reads
 
 -- whether liveness has failed
-pub dead_is : (probes : Probes) (start : ℕ) (ticks : List Tick) (set : ProbeSet) (dead : Bool) → IsStateOf probes start ticks set
-    → ((c : List Tick) → IsLivenessOf start c set.liveness → (IsTrue dead ↔ HasLivenessFailed set.liveness.probe start c))
+pub dead_is : (probes : Probes) (start : ℕ) (ticks : List Tick) (set : ProbeSet) (dead : Bool)
+    → IsStateOf probes start ticks set
+    → ((c : List Tick) → IsLivenessOf start c set.liveness
+    → (IsTrue dead ↔ HasLivenessFailed set.liveness.probe start c))
     → (IsTrue dead ↔ IsKillOrdered probes start causes.Liveness ticks)
 dead_is probes start ticks set dead st reads = (
   (λ t. (st.counts.0, st.counts.1, here.0 t)),
@@ -42,7 +47,8 @@ dead_is probes start ticks set dead st reads = (
         subst P st.follows.liveness (reads st.counts.0 st.counts.2.liveness)
 
 -- whether the instance is ready, where startup has passed
-pub ready_is : (probes : Probes) (start : ℕ) (ticks : List Tick) (set : ProbeSet) (ready : Bool) → IsStateOf probes start ticks set
+pub ready_is : (probes : Probes) (start : ℕ) (ticks : List Tick) (set : ProbeSet) (ready : Bool)
+    → IsStateOf probes start ticks set
     → IsStarted probes.startup start ticks
     → ((c : List Tick) → IsReadinessOf start c set.readiness → (IsTrue ready ↔ HoldsReady set.readiness.probe start c))
     → (IsTrue ready ↔ IsReady probes start ticks)
@@ -65,10 +71,12 @@ ordered_is probes start ticks (Some cause) is = ((λ _. (cause, (is cause).0 ref
 ordered_is probes start ticks None is =
     ((λ t. absurd (cc)), (λ (cause, order). let e : None ≡ Some cause = (is cause).1 order in absurd (cc)))
 
-pub startup_cause : (probes : Probes) (start : ℕ) (ticks : List Tick) → AreInRange probes → IsKillOrdered probes start causes.Startup ticks
+pub startup_cause : (probes : Probes) (start : ℕ) (ticks : List Tick) → AreInRange probes
+    → IsKillOrdered probes start causes.Startup ticks
     → (cause : Cause) → ((Some causes.Startup ≡ Some cause) ↔ IsKillOrdered probes start cause ticks)
 startup_cause probes start ticks range order causes.Startup = ((λ _. order), (λ _. refl))
-startup_cause probes start ticks range order causes.Liveness = ((λ e. absurd (cc)), (λ other. absurd (one_cause probes start ticks range order other)))
+startup_cause probes start ticks range order causes.Liveness =
+    ((λ e. absurd (cc)), (λ other. absurd (one_cause probes start ticks range order other)))
 
 pub no_cause : (probes : Probes) (start : ℕ) (ticks : List Tick) (failed dead : Bool)
     → (IsTrue failed ↔ IsKillOrdered probes start causes.Startup ticks) → failed ≡ false
@@ -80,16 +88,23 @@ no_cause probes start ticks failed dead fails not_failed dies not_dead causes.Li
     ((λ e. absurd (cc)), (λ order. let t : dead ≡ true = dies.1 order in absurd (cc)))
 
 -- the age of the instance in the new tick
-pub age_is : (o : Option ℕ) (start begun at age moment : ℕ) → o ≡ Some start → o ≡ Some begun → age ≡ at - begun → moment ≡ at → moment - start ≡ age
+pub age_is : (o : Option ℕ) (start begun at age moment : ℕ) → o ≡ Some start → o ≡ Some begun → age ≡ at - begun
+    → moment ≡ at → moment - start ≡ age
 age_is o start begun at age moment is was e m = let same : start ≡ begun = same_Some start begun (sym is ∙ was) in cc
 
 -- a new instance
-pub begins : (probes : Probes) (start : ℕ) (old : ProbeSet) (s : Startup) (l : Liveness) (r : Readiness) → Follows old probes
+pub begins : (probes : Probes) (start : ℕ) (old : ProbeSet) (s : Startup) (l : Liveness) (r : Readiness)
+    → Follows old probes
     → s.probe ≡ old.startup.probe → IsStartupOf start [] s → l.probe ≡ old.liveness.probe → IsLivenessOf start [] l
     → r.probe ≡ old.readiness.probe → IsReadinessOf start [] r
     → IsStateOf probes start [] (record { start = Some start; startup = s; liveness = l; readiness = r })
 begins probes start old s l r follows s_probe s_state l_probe l_state r_probe r_state = record {
-  follows = record { startup = s_probe ∙ follows.startup; liveness = l_probe ∙ follows.liveness; readiness = r_probe ∙ follows.readiness; in_range = follows.in_range };
+  follows = record {
+    startup = s_probe ∙ follows.startup;
+    liveness = l_probe ∙ follows.liveness;
+    readiness = r_probe ∙ follows.readiness;
+    in_range = follows.in_range;
+  };
   begun = refl;
   begins = refl;
   startup = s_state;
@@ -97,21 +112,33 @@ begins probes start old s l r follows s_probe s_state l_probe l_state r_probe r_
 }
 
 -- a tick that counts
-pub counts : (probes : Probes) (start : ℕ) (ticks : List Tick) (next : Tick) (old : ProbeSet) (s : Startup) (l : Liveness) (r : Readiness)
+pub counts : (probes : Probes) (start : ℕ) (ticks : List Tick) (next : Tick) (old : ProbeSet) (s : Startup)
+    (l : Liveness) (r : Readiness)
     → IsStateOf probes start ticks old → IsStarted probes.startup start ticks
     → s.probe ≡ old.startup.probe → IsStartupOf start (ticks ++ next ∷ []) s
-    → l.probe ≡ old.liveness.probe → ((c : List Tick) → IsLivenessOf start c old.liveness → IsLivenessOf start (c ++ next ∷ []) l)
-    → r.probe ≡ old.readiness.probe → ((c : List Tick) → IsReadinessOf start c old.readiness → IsReadinessOf start (c ++ next ∷ []) r)
-    → IsStateOf probes start (ticks ++ next ∷ []) (record { start = old.start; startup = s; liveness = l; readiness = r })
+    → l.probe ≡ old.liveness.probe
+    → ((c : List Tick) → IsLivenessOf start c old.liveness → IsLivenessOf start (c ++ next ∷ []) l)
+    → r.probe ≡ old.readiness.probe
+    → ((c : List Tick) → IsReadinessOf start c old.readiness → IsReadinessOf start (c ++ next ∷ []) r)
+    → IsStateOf probes start (ticks ++ next ∷ [])
+    (record { start = old.start; startup = s; liveness = l; readiness = r })
 counts probes start ticks next old s l r st started s_probe s_state l_probe l_state r_probe r_state = record {
-  follows = record { startup = s_probe ∙ st.follows.startup; liveness = l_probe ∙ st.follows.liveness; readiness = r_probe ∙ st.follows.readiness; in_range = st.follows.in_range };
+  follows = record {
+    startup = s_probe ∙ st.follows.startup;
+    liveness = l_probe ∙ st.follows.liveness;
+    readiness = r_probe ∙ st.follows.readiness;
+    in_range = st.follows.in_range;
+  };
   begun = st.begun;
   begins = st.begins;
   startup = s_state;
   counts = (
     st.counts.0 ++ next ∷ [],
     AreCounted-more probes.startup start ticks (next ∷ []) st.counts.0 started st.counts.1,
-    record { liveness = l_state st.counts.0 st.counts.2.liveness; readiness = r_state st.counts.0 st.counts.2.readiness },
+    record {
+      liveness = l_state st.counts.0 st.counts.2.liveness;
+      readiness = r_state st.counts.0 st.counts.2.readiness;
+    },
   );
 }
 
@@ -119,18 +146,25 @@ counts probes start ticks next old s l r st started s_probe s_state l_probe l_st
 pub passes_by : (probes : Probes) (start : ℕ) (ticks : List Tick) (next : Tick) (old : ProbeSet) (s : Startup)
     → IsStateOf probes start ticks old → (IsStarted probes.startup start ticks → ⊥)
     → s.probe ≡ old.startup.probe → IsStartupOf start (ticks ++ next ∷ []) s
-    → IsStateOf probes start (ticks ++ next ∷ []) (record { start = old.start; startup = s; liveness = old.liveness; readiness = old.readiness })
+    → IsStateOf probes start (ticks ++ next ∷ [])
+    (record { start = old.start; startup = s; liveness = old.liveness; readiness = old.readiness })
 passes_by probes start ticks next old s st not_started s_probe s_state =
     let follows : s.probe ≡ probes.startup = s_probe ∙ st.follows.startup in
     let P : Option Probe → Type 0 = λ p. IsProgressWith p start (ticks ++ next ∷ []) s.progress in
     record {
-      follows = record { startup = follows; liveness = st.follows.liveness; readiness = st.follows.readiness; in_range = st.follows.in_range };
+      follows = record {
+        startup = follows;
+        liveness = st.follows.liveness;
+        readiness = st.follows.readiness;
+        in_range = st.follows.in_range;
+      };
       begun = st.begun;
       begins = st.begins;
       startup = s_state;
       counts = (
         st.counts.0,
-        AreCounted-none probes.startup start ticks st.counts.0 next s.progress not_started (subst P follows s_state) st.counts.1,
+        AreCounted-none probes.startup start ticks st.counts.0 next s.progress not_started (subst P follows s_state)
+            st.counts.1,
         record { liveness = st.counts.2.liveness; readiness = st.counts.2.readiness },
       );
     }
@@ -146,18 +180,23 @@ pass_comes (Some p) start ticks next passed now before is was comes = (
   (λ f. is.1 (comes.1 (new.0 f).0, (λ b. (new.0 f).1 (was.0 b)))),
 )
   where
-    new : IsPassTick p start (ticks ++ next ∷ []) (length ticks) ↔ (HasPassed p start (ticks ++ next ∷ []) × (HasPassed p start ticks → ⊥))
+    new : IsPassTick p start (ticks ++ next ∷ []) (length ticks)
+        ↔ (HasPassed p start (ticks ++ next ∷ []) × (HasPassed p start ticks → ⊥))
     new = ComesTrue-now (HasPassed p start) ticks next (passed_lasts p start)
 
 -- the kill order comes in the new tick
-pub kill_comes : (probes : Probes) (start : ℕ) (ticks : List Tick) (next : Tick) (kill now : Option Cause) (ordered : Bool) → AreInRange probes
+pub kill_comes : (probes : Probes) (start : ℕ) (ticks : List Tick) (next : Tick) (kill now : Option Cause)
+    (ordered : Bool) → AreInRange probes
     → ((of : Cause) → ((kill ≡ Some of) ↔ ((now ≡ Some of) × (IsTrue ordered → ⊥))))
     → (IsTrue ordered ↔ IsOrdered probes start ticks)
     → ((of : Cause) → ((now ≡ Some of) ↔ IsKillOrdered probes start of (ticks ++ next ∷ [])))
     → (cause : Cause) → ((kill ≡ Some cause) ↔ IsKillTick probes start cause (ticks ++ next ∷ []) (length ticks))
 kill_comes probes start ticks next kill now ordered range is was causes_now cause = (
   (λ e. new.1 ((causes_now cause).0 ((is cause).0 e).0, (λ before. ((is cause).0 e).1 (was.1 (cause, before))))),
-  (λ f. (is cause).1 ((causes_now cause).1 (new.0 f).0, (λ o. earlier (was.0 o).0 cause (was.0 o).1 (new.0 f).0 (new.0 f).1))),
+  (λ f. (is cause).1 (
+    (causes_now cause).1 (new.0 f).0,
+    (λ o. earlier (was.0 o).0 cause (was.0 o).1 (new.0 f).0 (new.0 f).1),
+  )),
 )
   where
     new : IsKillTick probes start cause (ticks ++ next ∷ []) (length ticks)
@@ -165,10 +204,13 @@ kill_comes probes start ticks next kill now ordered range is was causes_now caus
     new = ComesTrue-now (IsKillOrdered probes start cause) ticks next (kill_lasts probes start cause range)
 
     -- an earlier order is for the same cause, since it stands
-    earlier : (a b : Cause) → IsKillOrdered probes start a ticks → IsKillOrdered probes start b (ticks ++ next ∷ []) → (IsKillOrdered probes start b ticks → ⊥) → ⊥
+    earlier : (a b : Cause) → IsKillOrdered probes start a ticks → IsKillOrdered probes start b (ticks ++ next ∷ [])
+        → (IsKillOrdered probes start b ticks → ⊥) → ⊥
     earlier causes.Startup causes.Startup before after not_before = not_before before
     earlier causes.Liveness causes.Liveness before after not_before = not_before before
     earlier causes.Startup causes.Liveness before after not_before =
-        one_cause probes start (ticks ++ next ∷ []) range ((kill_lasts probes start causes.Startup range).more ticks (next ∷ []) before) after
+        one_cause probes start (ticks ++ next ∷ []) range
+        ((kill_lasts probes start causes.Startup range).more ticks (next ∷ []) before) after
     earlier causes.Liveness causes.Startup before after not_before =
-        one_cause probes start (ticks ++ next ∷ []) range after ((kill_lasts probes start causes.Liveness range).more ticks (next ∷ []) before)
+        one_cause probes start (ticks ++ next ∷ []) range after
+        ((kill_lasts probes start causes.Liveness range).more ticks (next ∷ []) before)

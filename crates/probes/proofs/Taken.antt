@@ -1,5 +1,6 @@
 -- What one more tick makes of the counters of each probe.
-use Rattle.std.proofs.Common.{◌≡◌, ◌⊎◌, inl, inr, ℕ, ◌-◌, Bool, nat_eq, List, [], ◌∷◌, ◌++◌, length, Option, Some, None, sym, ap, subst, ◌∙◌}
+use Rattle.std.proofs.Common.{◌≡◌, ◌⊎◌, inl, inr, ℕ, ◌-◌, Bool, nat_eq, List, [], ◌∷◌, ◌++◌, length, Option, Some}
+use Rattle.std.proofs.Common.{None, sym, ap, subst, ◌∙◌}
 use Rattle.std.specs.Prelude.{◌↔◌, ◌||◌, IsTrue}
 use Rattle.std.specs.List.{filter_map, cons_option}
 use Rattle.std.proofs.lemmas.Bool.{or_cases, or_left, or_right, eqb-true, eq-eqb}
@@ -17,49 +18,65 @@ use Rattle.probes.specs.Readiness.{CountsReadiness, CountsResults}
 use Rattle.probes.proofs.Runs.{IsRunLength-reaches, FailsInARow-more, HoldsAfter-more}
 
 -- one more element, which gives nothing or an item
-pub filter_map-nothing : {X Y : Type 0} (f : X → Option Y) (xs : List X) (x : X) → f x ≡ None → filter_map f (xs ++ x ∷ []) ≡ filter_map f xs
+pub filter_map-nothing : {X Y : Type 0} (f : X → Option Y) (xs : List X) (x : X) → f x ≡ None
+    → filter_map f (xs ++ x ∷ []) ≡ filter_map f xs
 filter_map-nothing {X} {Y} f xs x none =
-    filter_map-append f xs (x ∷ []) ∙ ap (λ (o : Option Y). filter_map f xs ++ cons_option o []) none ∙ append-nil (filter_map f xs)
+    filter_map-append f xs (x ∷ []) ∙ ap (λ (o : Option Y). filter_map f xs ++ cons_option o []) none
+    ∙ append-nil (filter_map f xs)
 
-pub filter_map-item : {X Y : Type 0} (f : X → Option Y) (xs : List X) (x : X) (y : Y) → f x ≡ Some y → filter_map f (xs ++ x ∷ []) ≡ filter_map f xs ++ y ∷ []
+pub filter_map-item : {X Y : Type 0} (f : X → Option Y) (xs : List X) (x : X) (y : Y) → f x ≡ Some y
+    → filter_map f (xs ++ x ∷ []) ≡ filter_map f xs ++ y ∷ []
 filter_map-item {X} {Y} f xs x y some =
     filter_map-append f xs (x ∷ []) ∙ ap (λ (o : Option Y). filter_map f xs ++ cons_option o []) some
 
 -- what belongs to the instance in the new tick, by the age and the result that were handed in
-pub belonging_is : (p : Probe) (start age : ℕ) (next : Tick) (given in_tick r o : Option Outcome) → next.moment - start ≡ age → in_tick ≡ given
+pub belonging_is : (p : Probe) (start age : ℕ) (next : Tick) (given in_tick r o : Option Outcome)
+    → next.moment - start ≡ age → in_tick ≡ given
     → r ≡ belonging p age given → r ≡ o → belonging p (next.moment - start) in_tick ≡ o
 belonging_is p start age next given in_tick r o at is gives e = rw (at, is) (sym gives ∙ e)
 
 -- startup: the tick has no result that belongs, or one
-pub startup_skips : (p : Probe) (start : ℕ) (ticks : List Tick) (next : Tick) (progress : Progress) → belonging p (next.moment - start) next.entry.startup ≡ None
+pub startup_skips : (p : Probe) (start : ℕ) (ticks : List Tick) (next : Tick) (progress : Progress)
+    → belonging p (next.moment - start) next.entry.startup ≡ None
     → IsProgressWith (Some p) start ticks progress → IsProgressWith (Some p) start (ticks ++ next ∷ []) progress
 startup_skips p start ticks next progress none st =
     rw (filter_map-nothing (λ t. belonging p (t.moment - start) t.entry.startup) ticks next none) st
 
-pub startup_takes : (p : Probe) (start : ℕ) (ticks : List Tick) (next : Tick) (o : Outcome) (limit : ℕ) (progress progress' : Progress)
+pub startup_takes : (p : Probe) (start : ℕ) (ticks : List Tick) (next : Tick) (o : Outcome) (limit : ℕ)
+    (progress progress' : Progress)
     → belonging p (next.moment - start) next.entry.startup ≡ Some o → limit ≡ p.failure_threshold
-    → ((results : List Outcome) → IsProgressOf limit results progress → IsProgressOf limit (results ++ o ∷ []) progress')
+    → ((results : List Outcome) → IsProgressOf limit results progress → IsProgressOf limit (results ++ o ∷ [])
+    progress')
     → IsProgressWith (Some p) start ticks progress → IsProgressWith (Some p) start (ticks ++ next ∷ []) progress'
 startup_takes p start ticks next o limit progress progress' some same step st =
-    let F : ℕ → Type 0 = λ f. (results : List Outcome) → IsProgressOf f results progress → IsProgressOf f (results ++ o ∷ []) progress' in
-    rw (filter_map-item (λ t. belonging p (t.moment - start) t.entry.startup) ticks next o some) (subst F same step _ st)
+    let F : ℕ → Type 0 = λ f. (results : List Outcome) → IsProgressOf f results progress
+    → IsProgressOf f (results ++ o ∷ []) progress' in
+    rw (filter_map-item (λ t. belonging p (t.moment - start) t.entry.startup) ticks next o some)
+    (subst F same step _ st)
 
 -- a run counted up to a limit, where the probe's number is that limit
 run_by : (o : Outcome) (limit number : ℕ) (counted : Outcome) (n n' : ℕ) → limit ≡ number
-    → ((results : List Outcome) → IsRunLength counted limit results n → IsRunLength counted limit (results ++ o ∷ []) n')
-    → (results : List Outcome) → IsRunLength counted number results n → IsRunLength counted number (results ++ o ∷ []) n'
+    → ((results : List Outcome) → IsRunLength counted limit results n → IsRunLength counted limit (results ++ o ∷ [])
+    n')
+    → (results : List Outcome) → IsRunLength counted number results n → IsRunLength counted number (results ++ o ∷ [])
+    n'
 run_by o limit number counted n n' same step =
-    let F : ℕ → Type 0 = λ f. (results : List Outcome) → IsRunLength counted f results n → IsRunLength counted f (results ++ o ∷ []) n' in
+    let F : ℕ → Type 0 = λ f. (results : List Outcome) → IsRunLength counted f results n
+    → IsRunLength counted f (results ++ o ∷ []) n' in
     subst F same step
 
 -- liveness
-pub liveness_skips : (p : Probe) (start : ℕ) (ticks : List Tick) (next : Tick) (failures : ℕ) (failed : Bool) → belonging p (next.moment - start) next.entry.liveness ≡ None
-    → CountsLiveness (Some p) start ticks failures failed → CountsLiveness (Some p) start (ticks ++ next ∷ []) failures failed
+pub liveness_skips : (p : Probe) (start : ℕ) (ticks : List Tick) (next : Tick) (failures : ℕ) (failed : Bool)
+    → belonging p (next.moment - start) next.entry.liveness ≡ None
+    → CountsLiveness (Some p) start ticks failures failed → CountsLiveness (Some p) start (ticks ++ next ∷ [])
+    failures failed
 liveness_skips p start ticks next failures failed none st =
     rw (filter_map-nothing (λ t. belonging p (t.moment - start) t.entry.liveness) ticks next none) st
 
-liveness_counts : (f : ℕ) (results : List Outcome) (o : Outcome) (failures : ℕ) (failed : Bool) → IsRunLength Failure f (results ++ o ∷ []) failures
-    → (IsTrue failed ↔ FailsInARow f results) → (IsTrue (failed || nat_eq failures f) ↔ FailsInARow f (results ++ o ∷ []))
+liveness_counts : (f : ℕ) (results : List Outcome) (o : Outcome) (failures : ℕ) (failed : Bool)
+    → IsRunLength Failure f (results ++ o ∷ []) failures
+    → (IsTrue failed ↔ FailsInARow f results)
+    → (IsTrue (failed || nat_eq failures f) ↔ FailsInARow f (results ++ o ∷ []))
 liveness_counts f results o failures failed run st = (
   (λ t. (FailsInARow-more f results o).1 (elim (or_cases failed (nat_eq failures f) t) [
     | inl was ↦ inl (st.0 was)
@@ -67,13 +84,16 @@ liveness_counts f results o failures failed run st = (
   ])),
   (λ w. elim ((FailsInARow-more f results o).0 w) [
     | inl was ↦ or_left failed (nat_eq failures f) (st.1 was)
-    | inr now ↦ or_right failed (nat_eq failures f) (eq-eqb failures f ((IsRunLength-reaches Failure f (results ++ o ∷ []) failures run).1 now))
+    | inr now ↦ or_right failed (nat_eq failures f)
+        (eq-eqb failures f ((IsRunLength-reaches Failure f (results ++ o ∷ []) failures run).1 now))
   ]),
 )
 
-pub liveness_takes : (p : Probe) (start : ℕ) (ticks : List Tick) (next : Tick) (o : Outcome) (limit failures failures' : ℕ) (failed : Bool)
+pub liveness_takes : (p : Probe) (start : ℕ) (ticks : List Tick) (next : Tick) (o : Outcome)
+    (limit failures failures' : ℕ) (failed : Bool)
     → belonging p (next.moment - start) next.entry.liveness ≡ Some o → limit ≡ p.failure_threshold
-    → ((results : List Outcome) → IsRunLength Failure limit results failures → IsRunLength Failure limit (results ++ o ∷ []) failures')
+    → ((results : List Outcome) → IsRunLength Failure limit results failures
+    → IsRunLength Failure limit (results ++ o ∷ []) failures')
     → CountsLiveness (Some p) start ticks failures failed
     → CountsLiveness (Some p) start (ticks ++ next ∷ []) failures' (failed || nat_eq failures' limit)
 liveness_takes p start ticks next o limit failures failures' failed some same step st =
@@ -82,14 +102,18 @@ liveness_takes p start ticks next o limit failures failures' failed some same st
     (rw same (run, liveness_counts p.failure_threshold _ o failures' failed run st.1))
 
 -- readiness
-pub readiness_skips : (p : Probe) (start : ℕ) (ticks : List Tick) (next : Tick) (successes failures : ℕ) (ready : Bool) → belonging p (next.moment - start) next.entry.readiness ≡ None
-    → CountsReadiness (Some p) start ticks successes failures ready → CountsReadiness (Some p) start (ticks ++ next ∷ []) successes failures ready
+pub readiness_skips : (p : Probe) (start : ℕ) (ticks : List Tick) (next : Tick) (successes failures : ℕ)
+    (ready : Bool) → belonging p (next.moment - start) next.entry.readiness ≡ None
+    → CountsReadiness (Some p) start ticks successes failures ready
+    → CountsReadiness (Some p) start (ticks ++ next ∷ []) successes failures ready
 readiness_skips p start ticks next successes failures ready none st =
     rw (filter_map-nothing (λ t. belonging p (t.moment - start) t.entry.readiness) ticks next none) st
 
 readiness_counts : (p : Probe) (results : List Outcome) (o : Outcome) (s s' f f' : ℕ) (ready ready' : Bool)
-    → (IsTrue ready' ↔ (IsTrue (nat_eq s' p.success_threshold) ⊎ (IsTrue ready × (IsTrue (nat_eq f' p.failure_threshold) → ⊥))))
-    → IsRunLength Success p.success_threshold (results ++ o ∷ []) s' → IsRunLength Failure p.failure_threshold (results ++ o ∷ []) f'
+    → (IsTrue ready' ↔ (IsTrue (nat_eq s' p.success_threshold) ⊎
+    (IsTrue ready × (IsTrue (nat_eq f' p.failure_threshold) → ⊥))))
+    → IsRunLength Success p.success_threshold (results ++ o ∷ []) s' → IsRunLength Failure p.failure_threshold
+    (results ++ o ∷ []) f'
     → CountsResults p results s f ready → CountsResults p (results ++ o ∷ []) s' f' ready'
 readiness_counts p results o s s' f f' ready ready' is succeeds fails st = record {
   succeeds = succeeds;
@@ -106,25 +130,37 @@ readiness_counts p results o s s' f f' ready ready' is succeeds fails st = recor
   );
 }
   where
-    more : HoldsAfter p.success_threshold p.failure_threshold (results ++ o ∷ []) ↔ (EndsRun Success p.success_threshold (results ++ o ∷ []) (length (results ++ o ∷ []))
-        ⊎ (HoldsAfter p.success_threshold p.failure_threshold results × (EndsRun Failure p.failure_threshold (results ++ o ∷ []) (length (results ++ o ∷ [])) → ⊥)))
+    more : HoldsAfter p.success_threshold p.failure_threshold (results ++ o ∷ [])
+        ↔ (EndsRun Success p.success_threshold (results ++ o ∷ []) (length (results ++ o ∷ []))
+        ⊎ (HoldsAfter p.success_threshold p.failure_threshold results
+        × (EndsRun Failure p.failure_threshold (results ++ o ∷ []) (length (results ++ o ∷ [])) → ⊥)))
     more = HoldsAfter-more p.success_threshold p.failure_threshold results o
 
-    reaches : (s' ≡ p.success_threshold) ↔ EndsRun Success p.success_threshold (results ++ o ∷ []) (length (results ++ o ∷ []))
+    reaches : (s' ≡ p.success_threshold) ↔ EndsRun Success p.success_threshold (results ++ o ∷ [])
+        (length (results ++ o ∷ []))
     reaches = IsRunLength-reaches Success p.success_threshold (results ++ o ∷ []) s' succeeds
 
-    fails_reach : (f' ≡ p.failure_threshold) ↔ EndsRun Failure p.failure_threshold (results ++ o ∷ []) (length (results ++ o ∷ []))
+    fails_reach : (f' ≡ p.failure_threshold) ↔ EndsRun Failure p.failure_threshold (results ++ o ∷ [])
+        (length (results ++ o ∷ []))
     fails_reach = IsRunLength-reaches Failure p.failure_threshold (results ++ o ∷ []) f' fails
 
-pub readiness_takes : (p : Probe) (start : ℕ) (ticks : List Tick) (next : Tick) (o : Outcome) (s s' f f' s_limit s_most f_limit f_most : ℕ) (ready ready' : Bool)
+pub readiness_takes : (p : Probe) (start : ℕ) (ticks : List Tick) (next : Tick) (o : Outcome)
+    (s s' f f' s_limit s_most f_limit f_most : ℕ) (ready ready' : Bool)
     → belonging p (next.moment - start) next.entry.readiness ≡ Some o
-    → s_limit ≡ p.success_threshold → s_most ≡ p.success_threshold → f_limit ≡ p.failure_threshold → f_most ≡ p.failure_threshold
-    → ((results : List Outcome) → IsRunLength Success s_limit results s → IsRunLength Success s_limit (results ++ o ∷ []) s')
-    → ((results : List Outcome) → IsRunLength Failure f_limit results f → IsRunLength Failure f_limit (results ++ o ∷ []) f')
+    → s_limit ≡ p.success_threshold → s_most ≡ p.success_threshold → f_limit ≡ p.failure_threshold
+    → f_most ≡ p.failure_threshold
+    → ((results : List Outcome) → IsRunLength Success s_limit results s
+    → IsRunLength Success s_limit (results ++ o ∷ []) s')
+    → ((results : List Outcome) → IsRunLength Failure f_limit results f
+    → IsRunLength Failure f_limit (results ++ o ∷ []) f')
     → (IsTrue ready' ↔ (IsTrue (nat_eq s' s_most) ⊎ (IsTrue ready × (IsTrue (nat_eq f' f_most) → ⊥))))
     → CountsReadiness (Some p) start ticks s f ready → CountsReadiness (Some p) start (ticks ++ next ∷ []) s' f' ready'
-readiness_takes p start ticks next o s s' f f' s_limit s_most f_limit f_most ready ready' some s_is s_most_is f_is f_most_is succeed fail is st =
-    let R : ℕ → ℕ → Type 0 = λ a b. IsTrue ready' ↔ (IsTrue (nat_eq s' a) ⊎ (IsTrue ready × (IsTrue (nat_eq f' b) → ⊥))) in
+readiness_takes p start ticks next o s s' f f' s_limit s_most f_limit f_most ready ready' some s_is s_most_is f_is
+    f_most_is succeed fail is st =
+    let R : ℕ → ℕ → Type 0 = λ a b. IsTrue ready'
+    ↔ (IsTrue (nat_eq s' a) ⊎ (IsTrue ready × (IsTrue (nat_eq f' b) → ⊥))) in
     rw (filter_map-item (λ t. belonging p (t.moment - start) t.entry.readiness) ticks next o some)
-    (readiness_counts p _ o s s' f f' ready ready' (subst (λ b. R p.success_threshold b) f_most_is (subst (λ a. R a f_most) s_most_is is))
-    (run_by o s_limit p.success_threshold Success s s' s_is succeed _ st.succeeds) (run_by o f_limit p.failure_threshold Failure f f' f_is fail _ st.fails) st)
+    (readiness_counts p _ o s s' f f' ready ready'
+    (subst (λ b. R p.success_threshold b) f_most_is (subst (λ a. R a f_most) s_most_is is))
+    (run_by o s_limit p.success_threshold Success s s' s_is succeed _ st.succeeds)
+    (run_by o f_limit p.failure_threshold Failure f f' f_is fail _ st.fails) st)

@@ -27,7 +27,8 @@ StartupPassesOnce =
 
 -- there is a list of the ticks that count, and no other
 abbrev pub SomeCounted : Type 0
-SomeCounted = (startup : Option Probe) (start : ℕ) (ticks : List Tick) → (counted : List Tick) × AreCounted startup start ticks counted
+SomeCounted = (startup : Option Probe) (start : ℕ) (ticks : List Tick) → (counted : List Tick)
+    × AreCounted startup start ticks counted
 
 abbrev pub OneCounted : Type 0
 OneCounted =

@@ -11,7 +11,8 @@ abbrev pub CountsLiveness : Option Probe → ℕ → List Tick → ℕ → Bool 
 CountsLiveness None start ticks failures failed = failed ≡ false
 CountsLiveness (Some probe) start ticks failures failed =
     let results = liveness_results probe start ticks in
-    IsRunLength Failure probe.failure_threshold results failures × (IsTrue failed ↔ FailsInARow probe.failure_threshold results)
+    IsRunLength Failure probe.failure_threshold results failures
+    × (IsTrue failed ↔ FailsInARow probe.failure_threshold results)
 
 -- the value after these ticks, which all count, of an instance with this start
 abbrev pub IsLivenessOf : ℕ → List Tick → Liveness → Type 0

@@ -24,7 +24,8 @@ FailsInARow n results = (e : ℕ) × EndsRun Failure n results e
 
 -- somewhere s successes stand next to each other, and no f failures do so later
 abbrev pub HoldsAfter : ℕ → ℕ → List Outcome → Type 0
-HoldsAfter s f results = (e : ℕ) × EndsRun Success s results e × ((later : ℕ) → e < later → EndsRun Failure f results later → ⊥)
+HoldsAfter s f results = (e : ℕ) × EndsRun Success s results e
+    × ((later : ℕ) → e < later → EndsRun Failure f results later → ⊥)
 
 -- one of the first f results is a success
 abbrev pub PassesWithin : ℕ → List Outcome → Type 0

@@ -1,7 +1,8 @@
 -- The results of the probes of one instance of a container, tick after tick, oldest first. A tick
 -- is named by its place, counted from 0. (Kubernetes, "Configure Liveness, Readiness and Startup
 -- Probes".)
-use Rattle.std.specs.Prelude.{ℕ, ◌-◌, ◌&&◌, nat_le, if◌then◌else◌, List, slice_index_or, Option, Some, None, IsSomeAnd, MatchOption}
+use Rattle.std.specs.Prelude.{ℕ, ◌-◌, ◌&&◌, nat_le, if◌then◌else◌, List, slice_index_or, Option, Some, None}
+use Rattle.std.specs.Prelude.{IsSomeAnd, MatchOption}
 use Rattle.std.specs.List.{filter_map}
 use Rattle.manifest.specs.declared.outcome.Outcome.{Outcome}
 use Rattle.manifest.specs.Probe.{Probe}
@@ -65,4 +66,5 @@ HasLivenessFailed liveness start ticks =
 -- readiness holds over these ticks: somewhere its successes came, and later no failures undid them
 abbrev pub HoldsReady : Option Probe → ℕ → List Tick → Type 0
 HoldsReady readiness start ticks =
-    MatchOption readiness (Unit {0}) (λ probe. HoldsAfter probe.success_threshold probe.failure_threshold (readiness_results probe start ticks))
+    MatchOption readiness (Unit {0}) (λ probe. HoldsAfter probe.success_threshold probe.failure_threshold
+    (readiness_results probe start ticks))

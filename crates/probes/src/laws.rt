@@ -1,6 +1,7 @@
 //! What the definitions of probes imply, for every container and every list of ticks. The functions
 //! do nothing; their contracts are the laws.
-ghost use Rattle.probes.specs.Laws.{OneCause, KillOrderStands, StartupPassesOnce, SomeCounted, OneCounted, ReadyWithoutProbe};
+ghost use Rattle.probes.specs.Laws.{OneCause, KillOrderStands, StartupPassesOnce, SomeCounted, OneCounted};
+ghost use Rattle.probes.specs.Laws.{ReadyWithoutProbe};
 
 /// No instance is to be killed for two causes.
 pub fn one_cause()

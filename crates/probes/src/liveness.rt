@@ -29,7 +29,8 @@ impl Liveness {
     }
 
     pub fn has_failed(&self) -> bool
-        ensures { (start : ℕ) (ticks : List Tick) → IsLivenessOf start ticks self.now → (IsTrue result ↔ HasLivenessFailed self.now.probe start ticks) }
+        ensures { (start : ℕ) (ticks : List Tick) → IsLivenessOf start ticks self.now
+            → (IsTrue result ↔ HasLivenessFailed self.now.probe start ticks) }
     {
         self.failed
     }
@@ -37,7 +38,9 @@ impl Liveness {
     /// Takes the liveness probe's result in a tick that counts, at this age of the instance.
     pub fn take(&mut self, age: u64, outcome: Option<Outcome>)
         ensures probe { self.new.probe ≡ self.old.probe }
-        ensures state { (start : ℕ) (ticks : List Tick) (next : Tick) → next.moment - start ≡ age → next.entry.liveness ≡ outcome → IsLivenessOf start ticks self.old → IsLivenessOf start (ticks ++ next ∷ []) self.new }
+        ensures state { (start : ℕ) (ticks : List Tick) (next : Tick) → next.moment - start ≡ age
+            → next.entry.liveness ≡ outcome → IsLivenessOf start ticks self.old
+            → IsLivenessOf start (ticks ++ next ∷ []) self.new }
     {
         let Some(probe) = self.probe.get() else {
             return;

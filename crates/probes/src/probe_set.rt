@@ -80,8 +80,10 @@ impl ProbeSet {
     pub fn take(&mut self, at: u64, results: [Option<Outcome>; 3]) -> Verdicts
         requires { HasBegun self.old }
         ensures begun { HasBegun self.new }
-        ensures state { (probes : Probes) (start : ℕ) (ticks : List Tick) → IsStateOf probes start ticks self.old → IsStateOf probes start (ticks ++ tick at results ∷ []) self.new }
-        ensures verdicts { (probes : Probes) (start : ℕ) (ticks : List Tick) → IsStateOf probes start ticks self.old → AreVerdicts probes start (ticks ++ tick at results ∷ []) (length ticks) result }
+        ensures state { (probes : Probes) (start : ℕ) (ticks : List Tick) → IsStateOf probes start ticks self.old
+            → IsStateOf probes start (ticks ++ tick at results ∷ []) self.new }
+        ensures verdicts { (probes : Probes) (start : ℕ) (ticks : List Tick) → IsStateOf probes start ticks self.old
+            → AreVerdicts probes start (ticks ++ tick at results ∷ []) (length ticks) result }
     {
         let [startup, liveness, readiness] = results;
         let started = self.started();
@@ -98,7 +100,8 @@ impl ProbeSet {
     /// Before the first instance it has not.
     pub fn started(&self) -> bool
         ensures before { HasNotBegun self.now → result ≡ false }
-        ensures state { (probes : Probes) (start : ℕ) (ticks : List Tick) → IsStateOf probes start ticks self.now → (IsTrue result ↔ IsStarted probes.startup start ticks) }
+        ensures state { (probes : Probes) (start : ℕ) (ticks : List Tick) → IsStateOf probes start ticks self.now
+            → (IsTrue result ↔ IsStarted probes.startup start ticks) }
     {
         self.start.is_some() && self.startup.has_passed()
     }
@@ -107,7 +110,8 @@ impl ProbeSet {
     /// instance it is not ready.
     pub fn ready(&self) -> bool
         ensures before { HasNotBegun self.now → result ≡ false }
-        ensures state { (probes : Probes) (start : ℕ) (ticks : List Tick) → IsStateOf probes start ticks self.now → (IsTrue result ↔ IsReady probes start ticks) }
+        ensures state { (probes : Probes) (start : ℕ) (ticks : List Tick) → IsStateOf probes start ticks self.now
+            → (IsTrue result ↔ IsReady probes start ticks) }
     {
         self.started() && self.readiness.is_ready()
     }
@@ -115,7 +119,8 @@ impl ProbeSet {
     /// Whether the instance is to be killed. Before the first instance nothing is.
     pub fn kill_ordered(&self) -> bool
         ensures before { HasNotBegun self.now → result ≡ false }
-        ensures state { (probes : Probes) (start : ℕ) (ticks : List Tick) → IsStateOf probes start ticks self.now → (IsTrue result ↔ IsOrdered probes start ticks) }
+        ensures state { (probes : Probes) (start : ℕ) (ticks : List Tick) → IsStateOf probes start ticks self.now
+            → (IsTrue result ↔ IsOrdered probes start ticks) }
     {
         self.cause().is_some()
     }
@@ -123,7 +128,8 @@ impl ProbeSet {
     /// Why the instance is to be killed, if it is.
     fn cause(&self) -> Option<Cause>
         ensures before { HasNotBegun self.now → result ≡ None }
-        ensures state { (probes : Probes) (start : ℕ) (ticks : List Tick) → IsStateOf probes start ticks self.now → (cause : Cause) → ((result ≡ Some cause) ↔ IsKillOrdered probes start cause ticks) }
+        ensures state { (probes : Probes) (start : ℕ) (ticks : List Tick) → IsStateOf probes start ticks self.now
+            → (cause : Cause) → ((result ≡ Some cause) ↔ IsKillOrdered probes start cause ticks) }
     {
         if self.start.is_none() {
             None
@@ -147,7 +153,9 @@ impl ProbeSet {
     )
         requires { HasBegun self.old }
         ensures begun { HasBegun self.new }
-        ensures state { (probes : Probes) (start : ℕ) (ticks : List Tick) (next : Tick) → next.moment ≡ at → next.entry.startup ≡ startup → next.entry.liveness ≡ liveness → next.entry.readiness ≡ readiness → IsStateOf probes start ticks self.old → IsStateOf probes start (ticks ++ next ∷ []) self.new }
+        ensures state { (probes : Probes) (start : ℕ) (ticks : List Tick) (next : Tick) → next.moment ≡ at
+            → next.entry.startup ≡ startup → next.entry.liveness ≡ liveness → next.entry.readiness ≡ readiness
+            → IsStateOf probes start ticks self.old → IsStateOf probes start (ticks ++ next ∷ []) self.new }
     {
         let age = at.saturating_sub(self.start.unwrap());
         let counts = self.started();

@@ -33,7 +33,8 @@ impl Readiness {
     }
 
     pub fn is_ready(&self) -> bool
-        ensures { (start : ℕ) (ticks : List Tick) → IsReadinessOf start ticks self.now → (IsTrue result ↔ HoldsReady self.now.probe start ticks) }
+        ensures { (start : ℕ) (ticks : List Tick) → IsReadinessOf start ticks self.now
+            → (IsTrue result ↔ HoldsReady self.now.probe start ticks) }
     {
         self.ready
     }
@@ -41,7 +42,9 @@ impl Readiness {
     /// Takes the readiness probe's result in a tick that counts, at this age of the instance.
     pub fn take(&mut self, age: u64, outcome: Option<Outcome>)
         ensures probe { self.new.probe ≡ self.old.probe }
-        ensures state { (start : ℕ) (ticks : List Tick) (next : Tick) → next.moment - start ≡ age → next.entry.readiness ≡ outcome → IsReadinessOf start ticks self.old → IsReadinessOf start (ticks ++ next ∷ []) self.new }
+        ensures state { (start : ℕ) (ticks : List Tick) (next : Tick) → next.moment - start ≡ age
+            → next.entry.readiness ≡ outcome → IsReadinessOf start ticks self.old
+            → IsReadinessOf start (ticks ++ next ∷ []) self.new }
     {
         let Some(probe) = self.probe.get() else {
             return;

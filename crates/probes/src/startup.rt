@@ -21,7 +21,8 @@ impl Progress {
     fn after(self, outcome: Outcome, limit: u32) -> Progress
         requires known { outcome ≢ Outcome.Unknown }
         requires limited { 1 ≤ limit }
-        ensures { (results : List Outcome) → IsProgressOf limit results self → IsProgressOf limit (results ++ outcome ∷ []) result }
+        ensures { (results : List Outcome) → IsProgressOf limit results self
+            → IsProgressOf limit (results ++ outcome ∷ []) result }
     {
         match self {
             Progress::Waiting(failures) => {
@@ -64,13 +65,15 @@ impl Startup {
     }
 
     pub fn has_passed(&self) -> bool
-        ensures { (start : ℕ) (ticks : List Tick) → IsStartupOf start ticks self.now → (IsTrue result ↔ IsStarted self.now.probe start ticks) }
+        ensures { (start : ℕ) (ticks : List Tick) → IsStartupOf start ticks self.now
+            → (IsTrue result ↔ IsStarted self.now.probe start ticks) }
     {
         matches!(self.progress, Progress::Passed)
     }
 
     pub fn has_failed(&self) -> bool
-        ensures { (start : ℕ) (ticks : List Tick) → IsStartupOf start ticks self.now → (IsTrue result ↔ HasStartupFailed self.now.probe start ticks) }
+        ensures { (start : ℕ) (ticks : List Tick) → IsStartupOf start ticks self.now
+            → (IsTrue result ↔ HasStartupFailed self.now.probe start ticks) }
     {
         matches!(self.progress, Progress::Failed)
     }
@@ -78,7 +81,9 @@ impl Startup {
     /// Takes the startup probe's result in a tick, at this age of the instance.
     pub fn take(&mut self, age: u64, outcome: Option<Outcome>)
         ensures probe { self.new.probe ≡ self.old.probe }
-        ensures state { (start : ℕ) (ticks : List Tick) (next : Tick) → next.moment - start ≡ age → next.entry.startup ≡ outcome → IsStartupOf start ticks self.old → IsStartupOf start (ticks ++ next ∷ []) self.new }
+        ensures state { (start : ℕ) (ticks : List Tick) (next : Tick) → next.moment - start ≡ age
+            → next.entry.startup ≡ outcome → IsStartupOf start ticks self.old → IsStartupOf start (ticks ++ next ∷ [])
+            self.new }
     {
         let Some(probe) = self.probe.get() else {
             return;

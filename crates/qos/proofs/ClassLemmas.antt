@@ -19,7 +19,8 @@ held_or_not resource container = there (limit_of container resource) (request_of
     there (Some n) None = inr (λ w. let e : None ≡ Some w.0 = w.2 in cc)
     there (Some n) (Some m) = elim (eqb_tells m n) [
       | inl same ↦ inl (n, refl, ap (λ k. Some k) same.1)
-      | inr other ↦ inr (λ w. other.1 (let e : Some n ≡ Some w.0 = w.1 in let f : Some m ≡ Some w.0 = w.2 in let g : n ≡ w.0 = cc in let h : m ≡ w.0 = cc in h ∙ sym g))
+      | inr other ↦ inr (λ w. other.1 (let e : Some n ≡ Some w.0 = w.1 in let f : Some m ≡ Some w.0 = w.2 in
+          let g : n ≡ w.0 = cc in let h : m ≡ w.0 = cc in h ∙ sym g))
     ]
 
 guaranteed_or_not : (container : ContainerSpec) → OrNot (IsGuaranteed container)
@@ -31,7 +32,8 @@ some_or_not None = inr (λ w. let e : IsSome {T = ℕ} None = w in cc)
 some_or_not (Some n) = inl refl
 
 asks_or_not : (resource : Resource) (container : ContainerSpec) → OrNot (AsksFor resource container)
-asks_or_not resource container = either (some_or_not (own_request_of container resource)) (some_or_not (limit_of container resource))
+asks_or_not resource container = either (some_or_not (own_request_of container resource))
+    (some_or_not (limit_of container resource))
 
 some_asked_or_not : (container : ContainerSpec) → OrNot (AsksForSome container)
 some_asked_or_not container = either (asks_or_not Cpu container) (asks_or_not Memory container)
@@ -45,7 +47,8 @@ some_class containers = elim (all_or_not IsGuaranteed guaranteed_or_not containe
   ]
 ]
 
-pub one_class : (containers : List ContainerSpec) (class other : Qos) → IsOfClass containers class → IsOfClass containers other → class ≡ other
+pub one_class : (containers : List ContainerSpec) (class other : Qos) → IsOfClass containers class
+    → IsOfClass containers other → class ≡ other
 one_class containers Guaranteed Guaranteed p q = refl
 one_class containers Guaranteed Burstable p q = absurd (q.0 p)
 one_class containers Guaranteed BestEffort p q = absurd (q.0 p)
@@ -65,7 +68,8 @@ guaranteed_asks container g = inl (inr (there (limit_of container Cpu) g.0.0 g.0
     there None n e = cc
     there (Some m) n e = refl
 
-pub nothing_asked : (container : ContainerSpec) (others : List ContainerSpec) → All (λ c. AsksForSome c → ⊥) (container ∷ others) → IsOfClass (container ∷ others) BestEffort
+pub nothing_asked : (container : ContainerSpec) (others : List ContainerSpec)
+    → All (λ c. AsksForSome c → ⊥) (container ∷ others) → IsOfClass (container ∷ others) BestEffort
 nothing_asked container others none = (
   (λ all. none 0 container (omega arith) (guaranteed_asks container (all 0 container (omega arith)))),
   (λ any. none any.0 any.1 any.2 (subst AsksForSome (sym any.3) any.4)),

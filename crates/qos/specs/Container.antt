@@ -32,7 +32,8 @@ requested resource container = unwrap_or (request_of container resource) 0
 
 -- the container has a limit of the resource, and its request equals it
 abbrev pub IsHeldTo : Resource → ContainerSpec → Type 0
-IsHeldTo resource container = (limit : ℕ) × (limit_of container resource ≡ Some limit) × (request_of container resource ≡ Some limit)
+IsHeldTo resource container = (limit : ℕ) × (limit_of container resource ≡ Some limit)
+    × (request_of container resource ≡ Some limit)
 
 -- so for cpu and for memory
 unfoldable pub IsGuaranteed : ContainerSpec → Type 0

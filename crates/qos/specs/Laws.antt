@@ -13,7 +13,8 @@ abbrev pub SomeClass : Type 0
 SomeClass = (containers : List ContainerSpec) → (class : Qos) × IsOfClass containers class
 
 abbrev pub OneClass : Type 0
-OneClass = (containers : List ContainerSpec) (class other : Qos) → IsOfClass containers class → IsOfClass containers other → class ≡ other
+OneClass = (containers : List ContainerSpec) (class other : Qos) → IsOfClass containers class
+    → IsOfClass containers other → class ≡ other
 
 -- a pod with a container, and none that has anything of cpu and memory, is BestEffort
 abbrev pub NothingAskedFor : Type 0

@@ -41,4 +41,5 @@ greatest_of_inits resource containers = greatest_of (map (requested_by_init reso
 
 -- the effective request: the greater of the two
 abbrev pub effective_request_of : Resource → List ContainerSpec → ℕ
-effective_request_of resource containers = max (sum_of_apps_and_sidecars resource containers) (greatest_of_inits resource containers)
+effective_request_of resource containers = max (sum_of_apps_and_sidecars resource containers)
+    (greatest_of_inits resource containers)

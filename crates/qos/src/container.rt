@@ -3,7 +3,8 @@
 ghost use Rattle.std.specs.Prelude.{◌≡◌, ◌≤◌, ◌↔◌, IfSome, IsTrue};
 ghost use Rattle.manifest.specs.declared.resources.Resource.TheVariants.{Cpu, Memory};
 ghost use Rattle.quantity.specs.Quantity.{greatest};
-ghost use Rattle.qos.specs.Container.{set_amount, limit_of, request_of, requested, IsHeldTo, IsGuaranteed, AsksFor, AsksForSome};
+ghost use Rattle.qos.specs.Container.{set_amount, limit_of, request_of, requested, IsHeldTo, IsGuaranteed, AsksFor};
+ghost use Rattle.qos.specs.Container.{AsksForSome};
 
 use manifest::{ContainerSpec, Resource};
 use quantity::Quantity;

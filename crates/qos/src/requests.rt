@@ -2,7 +2,8 @@
 
 ghost use Rattle.std.specs.Prelude.{◌≡◌, ◌≤◌, ◌*◌, length};
 ghost use Rattle.quantity.specs.Quantity.{greatest};
-ghost use Rattle.qos.specs.Requests.{requested_by_app_or_sidecar, requested_by_init, sum_of_apps_and_sidecars, greatest_of_inits, effective_request_of};
+ghost use Rattle.qos.specs.Requests.{requested_by_app_or_sidecar, requested_by_init, sum_of_apps_and_sidecars};
+ghost use Rattle.qos.specs.Requests.{greatest_of_inits, effective_request_of};
 
 use crate::container::requested;
 use manifest::{ContainerSpec, PodSpec, Resource, Role};

@@ -1,5 +1,7 @@
 -- A duration is refused for its first fault.
-use Rattle.std.proofs.Common.{◌≡◌, ◌≢◌, ◌≤◌, ◌<◌, ◌^◌, ◌+◌, ◌*◌, ◌⊎◌, ⊎_elim, inl, inr, ℕ, zero, suc, true, false, List, [], ◌∷◌, ◌++◌, length, drop, sym, ◌∙◌, ap, refl, arith, Ok, Err, Some, None, append_assoc}
+use Rattle.std.proofs.Common.{◌≡◌, ◌≢◌, ◌≤◌, ◌<◌, ◌^◌, ◌+◌, ◌*◌, ◌⊎◌, ⊎_elim, inl, inr, ℕ, zero, suc, true, false}
+use Rattle.std.proofs.Common.{List, [], ◌∷◌, ◌++◌, length, drop, sym, ◌∙◌, ap, refl, arith, Ok, Err, Some, None}
+use Rattle.std.proofs.Common.{append_assoc}
 use Rattle.std.specs.Prelude.{slice_get, ◌==◌, codes, nat_lt, nat_le, option_and_then, sum_by}
 use Rattle.std.specs.Char.{is_ascii_digit}
 use Rattle.std.specs.List.{prefix_len, flat_map}
@@ -12,7 +14,8 @@ use Rattle.std.proofs.lemmas.List.Elements.{All-nil, All-cons}
 use Rattle.std.proofs.lemmas.List.Sums.{sum_by-cons}
 use Rattle.std.proofs.lemmas.Slice.Eq.{bytes_eq-Decides}
 use Rattle.quantity.specs.Digits.{leading_digits, after_digits}
-use Rattle.quantity.specs.Duration.{Part, part_text, part_seconds, IsPart, HasUnitFault, HasPartFault, HasFaultAfter, HasDurationFault, unit_seconds, pieces_of, piece_seconds, sum_onto, duration_of}
+use Rattle.quantity.specs.Duration.{Part, part_text, part_seconds, IsPart, HasUnitFault, HasPartFault, HasFaultAfter}
+use Rattle.quantity.specs.Duration.{HasDurationFault, unit_seconds, pieces_of, piece_seconds, sum_onto, duration_of}
 use Rattle.quantity.specs.declared.fault.QuantityFault.{QuantityFault}
 use Rattle.quantity.specs.declared.fault.QuantityFault.TheVariants.{BadDigit, BadSuffix, TooManyDigits}
 use Rattle.quantity.proofs.Decimal.{leading_are_digits, length_leading}
@@ -29,7 +32,10 @@ slice_get-drop (x ∷ xs) (suc k) = slice_get-drop xs k
 
 -- the fault of the part that a text begins with, by its digits
 part_fault : (sum : ℕ) (text : List ℕ) (fault : QuantityFault) → 0 < length text →
-    ((prefix_len is_ascii_digit text ≡ 0) × (fault ≡ BadDigit)) ⊎ (((12 < prefix_len is_ascii_digit text) × (fault ≡ TooManyDigits)) ⊎ ((0 < prefix_len is_ascii_digit text) × (prefix_len is_ascii_digit text ≤ 12) × HasUnitFault sum (digits_value 10 (leading_digits text)) (after_digits text) fault)) →
+    ((prefix_len is_ascii_digit text ≡ 0) × (fault ≡ BadDigit)) ⊎
+    (((12 < prefix_len is_ascii_digit text) × (fault ≡ TooManyDigits)) ⊎ ((0 < prefix_len is_ascii_digit text)
+    × (prefix_len is_ascii_digit text ≤ 12) × HasUnitFault sum (digits_value 10 (leading_digits text))
+    (after_digits text) fault)) →
     HasPartFault sum text fault
 part_fault sum text fault some is = record {
   digits = leading_digits text;
@@ -42,7 +48,8 @@ part_fault sum text fault some is = record {
 }
 
 -- a part that is no part
-piece_fault : (sum : ℕ) (text : List ℕ) (fault : QuantityFault) → 0 < length text → piece_seconds text ≡ Err fault → HasPartFault sum text fault
+piece_fault : (sum : ℕ) (text : List ℕ) (fault : QuantityFault) → 0 < length text → piece_seconds text ≡ Err fault
+    → HasPartFault sum text fault
 piece_fault sum text fault some h =
     ⊎_elim (λ (a : ((prefix_len is_ascii_digit text == 0) ≡ true) × (fault ≡ BadDigit)).
     let t : (prefix_len is_ascii_digit text == 0) ≡ true = a.0 in
@@ -58,14 +65,17 @@ piece_fault sum text fault some h =
     let t : nat_lt 12 (prefix_len is_ascii_digit text) ≡ false = b.0 in
     let digits : 0 < prefix_len is_ascii_digit text = grind (arith, nat_tests) in
     let few : prefix_len is_ascii_digit text ≤ 12 = grind (arith, nat_tests) in
-    let l = lacked (option_and_then unit_seconds (slice_get text (prefix_len is_ascii_digit text))) BadSuffix (λ unit. digits_value 10 (leading_digits text) * unit) fault b.1 in
-    let none : option_and_then unit_seconds (slice_get (after_digits text) 0) ≡ None = rw (slice_get-drop text (prefix_len is_ascii_digit text)) l.0 in
+    let l = lacked (option_and_then unit_seconds (slice_get text (prefix_len is_ascii_digit text))) BadSuffix
+    (λ unit. digits_value 10 (leading_digits text) * unit) fault b.1 in
+    let none : option_and_then unit_seconds (slice_get (after_digits text) 0) ≡ None =
+    rw (slice_get-drop text (prefix_len is_ascii_digit text)) l.0 in
     part_fault sum text fault some (inr (inr (digits, few, inl (none, l.1)))))
     (failed (nat_lt 12 (prefix_len is_ascii_digit text)) _ _ fault a.1))
     (failed (prefix_len is_ascii_digit text == 0) _ _ fault h)
 
 -- a part that brings the sum to the limit
-large_piece : (sum seconds : ℕ) (text : List ℕ) → 0 < length text → piece_seconds text ≡ Ok seconds → 2 ^ 40 ≤ sum + seconds → HasPartFault sum text TooManyDigits
+large_piece : (sum seconds : ℕ) (text : List ℕ) → 0 < length text → piece_seconds text ≡ Ok seconds
+    → 2 ^ 40 ≤ sum + seconds → HasPartFault sum text TooManyDigits
 large_piece sum seconds text some h large =
     let a = passed (prefix_len is_ascii_digit text == 0) _ _ seconds h in
     let b = passed (nat_lt 12 (prefix_len is_ascii_digit text)) _ _ seconds a.1 in
@@ -75,20 +85,36 @@ large_piece sum seconds text some h large =
     let digits : 0 < prefix_len is_ascii_digit text = grind (arith, nat_tests) in
     let few : prefix_len is_ascii_digit text ≤ 12 = grind (arith, nat_tests) in
     let same : digits_value 10 (leading_digits text) * u.0 ≡ seconds = (let e = u.2 in cc) in
-    let unit : option_and_then unit_seconds (slice_get (after_digits text) 0) ≡ Some u.0 = rw (slice_get-drop text (prefix_len is_ascii_digit text)) u.1 in
+    let unit : option_and_then unit_seconds (slice_get (after_digits text) 0) ≡ Some u.0 =
+    rw (slice_get-drop text (prefix_len is_ascii_digit text)) u.1 in
     part_fault sum text TooManyDigits some (inr (inr (digits, few, inr (u.0, unit, rw same large, refl))))
 
-fault_here : (sum : ℕ) (text : List ℕ) (fault : QuantityFault) → sum < 2 ^ 40 → HasPartFault sum text fault → HasFaultAfter sum text fault
+fault_here : (sum : ℕ) (text : List ℕ) (fault : QuantityFault) → sum < 2 ^ 40 → HasPartFault sum text fault
+    → HasFaultAfter sum text fault
 fault_here sum text fault small h =
     let e : sum ≡ sum + 0 = omega arith in
-    record { parts = []; rest = text; text_is = refl; each_part = All-nil IsPart; below = omega (arith, small); part_fault = rw (← e) h }
+    record {
+      parts = [];
+      rest = text;
+      text_is = refl;
+      each_part = All-nil IsPart;
+      below = omega (arith, small);
+      part_fault = rw (← e) h;
+    }
 
 -- one part more before the fault
-fault_later : (sum seconds : ℕ) (text rest : List ℕ) (part : Part) (fault : QuantityFault) → text ≡ part.digits ++ part.unit ∷ rest → IsPart part → seconds ≡ part_seconds part → HasFaultAfter (sum + seconds) rest fault → HasFaultAfter sum text fault
+fault_later : (sum seconds : ℕ) (text rest : List ℕ) (part : Part) (fault : QuantityFault) → text ≡ part.digits
+    ++ part.unit ∷ rest → IsPart part → seconds ≡ part_seconds part → HasFaultAfter (sum + seconds) rest fault
+    → HasFaultAfter sum text fault
 fault_later sum seconds text rest part fault is here same h =
-    let cons : sum_by part_seconds (part ∷ h.parts) ≡ part_seconds part + sum_by part_seconds h.parts = sum_by-cons part_seconds part h.parts in
-    let e : sum + seconds + sum_by part_seconds h.parts ≡ sum + sum_by part_seconds (part ∷ h.parts) = omega (arith, cons, same) in
-    let one : part.digits ++ part.unit ∷ (flat_map part_text h.parts ++ h.rest) ≡ (part_text part ++ flat_map part_text h.parts) ++ h.rest = sym (ap (λ t. t ++ h.rest) (append_assoc part.digits (part.unit ∷ []) (flat_map part_text h.parts)) ∙ append_assoc part.digits (part.unit ∷ flat_map part_text h.parts) h.rest) in
+    let cons : sum_by part_seconds (part ∷ h.parts) ≡ part_seconds part + sum_by part_seconds h.parts =
+    sum_by-cons part_seconds part h.parts in
+    let e : sum + seconds + sum_by part_seconds h.parts ≡ sum + sum_by part_seconds (part ∷ h.parts) =
+    omega (arith, cons, same) in
+    let one : part.digits ++ part.unit ∷ (flat_map part_text h.parts ++ h.rest) ≡ (part_text part
+    ++ flat_map part_text h.parts) ++ h.rest =
+    sym (ap (λ t. t ++ h.rest) (append_assoc part.digits (part.unit ∷ []) (flat_map part_text h.parts))
+    ∙ append_assoc part.digits (part.unit ∷ flat_map part_text h.parts) h.rest) in
     record {
       parts = part ∷ h.parts;
       rest = h.rest;
@@ -98,12 +124,14 @@ fault_later sum seconds text rest part fault is here same h =
       part_fault = rw (← e) h.part_fault;
     }
 
-fault_after : (n : ℕ) (text : List ℕ) (sum : ℕ) (fault : QuantityFault) → length text ≤ n → sum < 2 ^ 40 → sum_onto sum (pieces_of text) ≡ Err fault → HasFaultAfter sum text fault
+fault_after : (n : ℕ) (text : List ℕ) (sum : ℕ) (fault : QuantityFault) → length text ≤ n → sum < 2 ^ 40
+    → sum_onto sum (pieces_of text) ≡ Err fault → HasFaultAfter sum text fault
 fault_after n [] sum fault fits small h = absurd (cc)
 fault_after zero (c ∷ text) sum fault fits small h = absurd (omega arith)
 fault_after (suc n) (c ∷ text) sum fault fits small h =
     let some : 0 < length (c ∷ text) = omega arith in
-    ⊎_elim (λ (e : piece_seconds (c ∷ text) ≡ Err fault). fault_here sum (c ∷ text) fault small (piece_fault sum (c ∷ text) fault some e))
+    ⊎_elim (λ (e : piece_seconds (c ∷ text) ≡ Err fault). fault_here sum (c ∷ text) fault small
+    (piece_fault sum (c ∷ text) fault some e))
     (λ (p : (x : ℕ) × (piece_seconds (c ∷ text) ≡ Ok x) × _).
     ⊎_elim (λ (q : (nat_le (2 ^ 40) (sum + p.0) ≡ true) × (fault ≡ TooManyDigits)).
     let t : nat_le (2 ^ 40) (sum + p.0) ≡ true = q.0 in
@@ -113,13 +141,18 @@ fault_after (suc n) (c ∷ text) sum fault fits small h =
     let t : nat_le (2 ^ 40) (sum + p.0) ≡ false = q.0 in
     let small' : sum + p.0 < 2 ^ 40 = grind (arith, nat_tests) in
     let b = piece_means (c ∷ text) p.0 p.1 in
-    let shorter : length (drop (prefix_len is_ascii_digit (c ∷ text) + 1) (c ∷ text)) ≤ n = omega (arith, length-drop (prefix_len is_ascii_digit (c ∷ text) + 1) (c ∷ text), fits) in
-    let later = fault_after n (drop (prefix_len is_ascii_digit (c ∷ text) + 1) (c ∷ text)) (sum + p.0) fault shorter small' q.1 in
-    fault_later sum p.0 (c ∷ text) (drop (prefix_len is_ascii_digit (c ∷ text) + 1) (c ∷ text)) (record { digits = leading_digits (c ∷ text); unit = b.unit }) fault b.text_is b.is_part b.seconds_are later)
+    let shorter : length (drop (prefix_len is_ascii_digit (c ∷ text) + 1) (c ∷ text)) ≤ n =
+    omega (arith, length-drop (prefix_len is_ascii_digit (c ∷ text) + 1) (c ∷ text), fits) in
+    let later = fault_after n (drop (prefix_len is_ascii_digit (c ∷ text) + 1) (c ∷ text)) (sum + p.0) fault shorter
+    small' q.1 in
+    fault_later sum p.0 (c ∷ text) (drop (prefix_len is_ascii_digit (c ∷ text) + 1) (c ∷ text))
+    (record { digits = leading_digits (c ∷ text); unit = b.unit }) fault b.text_is b.is_part b.seconds_are later)
     (failed (nat_le (2 ^ 40) (sum + p.0)) _ _ fault p.2))
-    (failed_at (piece_seconds (c ∷ text)) _ fault (rw (pieces_split (c ∷ text) some, piece_seconds-take (c ∷ text)) at h))
+    (failed_at (piece_seconds (c ∷ text)) _ fault (rw (pieces_split (c ∷ text) some, piece_seconds-take (c ∷ text)) at
+    h))
 
-pub duration_fault : (text : List ℕ) (fault : QuantityFault) → duration_of text ≡ Err fault → HasDurationFault text fault
+pub duration_fault : (text : List ℕ) (fault : QuantityFault) → duration_of text ≡ Err fault
+    → HasDurationFault text fault
 unfolding duration_of
 duration_fault [] fault h = inl (refl, cc)
 duration_fault (c ∷ text) fault h =

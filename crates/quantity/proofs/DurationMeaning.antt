@@ -1,5 +1,7 @@
 -- A duration is read as what it means.
-use Rattle.std.proofs.Common.{◌≡◌, ◌≢◌, ◌≤◌, ◌<◌, ◌^◌, ◌+◌, ◌*◌, ⊎_elim, inl, inr, ℕ, zero, suc, true, false, List, [], ◌∷◌, ◌++◌, length, drop, get_or, sym, ◌∙◌, ap, refl, arith, rules, Ok, Some, None, Option, append_assoc}
+use Rattle.std.proofs.Common.{◌≡◌, ◌≢◌, ◌≤◌, ◌<◌, ◌^◌, ◌+◌, ◌*◌, ⊎_elim, inl, inr, ℕ, zero, suc, true, false, List}
+use Rattle.std.proofs.Common.{[], ◌∷◌, ◌++◌, length, drop, get_or, sym, ◌∙◌, ap, refl, arith, rules, Ok, Some, None}
+use Rattle.std.proofs.Common.{Option, append_assoc}
 use Rattle.std.specs.Prelude.{slice_get, unwrap_or, ◌==◌, codes, nat_lt, nat_le, option_and_then, IsSome, All, sum_by}
 use Rattle.std.specs.Char.{is_ascii_digit}
 use Rattle.std.specs.List.{prefix_len, flat_map}
@@ -13,7 +15,8 @@ use Rattle.std.proofs.lemmas.List.Sums.{sum_by-cons}
 use Rattle.std.proofs.lemmas.Option.{slice_get_within, get_or_from_slice_get}
 use Rattle.std.proofs.lemmas.Slice.Eq.{bytes_eq-Decides}
 use Rattle.quantity.specs.Digits.{leading_digits, after_digits}
-use Rattle.quantity.specs.Duration.{Part, part_text, part_seconds, IsPart, IsSumOf, HasSeconds, unit_seconds, pieces_of, piece_seconds, sum_onto, duration_of}
+use Rattle.quantity.specs.Duration.{Part, part_text, part_seconds, IsPart, IsSumOf, HasSeconds, unit_seconds}
+use Rattle.quantity.specs.Duration.{pieces_of, piece_seconds, sum_onto, duration_of}
 use Rattle.quantity.proofs.Decimal.{leading_are_digits, length_leading}
 use Rattle.quantity.proofs.Durations.{pieces_split, piece_seconds-take, sum_next}
 use Rattle.quantity.proofs.Numbers.{prefix_len-digits, leading-append, whole_text}
@@ -21,7 +24,8 @@ use Rattle.quantity.proofs.StepsPassed.{passed, had, had_ok, chosen}
 
 -- From what is read to what it means.
 
-unit_read : (o : Option ℕ) (seconds : ℕ) → option_and_then unit_seconds o ≡ Some seconds → (unit : ℕ) × (o ≡ Some unit) × (unit_seconds unit ≡ Some seconds)
+unit_read : (o : Option ℕ) (seconds : ℕ) → option_and_then unit_seconds o ≡ Some seconds → (unit : ℕ)
+    × (o ≡ Some unit) × (unit_seconds unit ≡ Some seconds)
 unit_read None seconds h = absurd (cc)
 unit_read (Some unit) seconds h = (unit, refl, h)
 
@@ -32,17 +36,26 @@ pub record BeginsWith (text : List ℕ) (seconds : ℕ) : Type 0 where
   pub is_part : IsPart (record { digits = leading_digits text; unit = unit })
   pub seconds_are : seconds ≡ part_seconds (record { digits = leading_digits text; unit = unit })
 
-begins : (text : List ℕ) (unit in_unit : ℕ) → 0 < prefix_len is_ascii_digit text → prefix_len is_ascii_digit text ≤ 12 → slice_get text (prefix_len is_ascii_digit text) ≡ Some unit → unit_seconds unit ≡ Some in_unit → BeginsWith text (digits_value 10 (leading_digits text) * in_unit)
+begins : (text : List ℕ) (unit in_unit : ℕ) → 0 < prefix_len is_ascii_digit text → prefix_len is_ascii_digit text ≤ 12
+    → slice_get text (prefix_len is_ascii_digit text) ≡ Some unit → unit_seconds unit ≡ Some in_unit
+    → BeginsWith text (digits_value 10 (leading_digits text) * in_unit)
 begins text unit in_unit some few at is =
     let within : prefix_len is_ascii_digit text < length text = slice_get_within text _ unit at in
     let first : get_or text (prefix_len is_ascii_digit text) 0 ≡ unit = get_or_from_slice_get text _ unit 0 at in
-    let more : after_digits text ≡ get_or text (prefix_len is_ascii_digit text) 0 ∷ drop (prefix_len is_ascii_digit text + 1) text = drop_more text (prefix_len is_ascii_digit text) 0 within in
+    let more : after_digits text ≡ get_or text (prefix_len is_ascii_digit text) 0 ∷ drop
+    (prefix_len is_ascii_digit text + 1) text = drop_more text (prefix_len is_ascii_digit text) 0 within in
     let size = length_leading text in
     let whole = whole_text text in
     record {
       unit = unit;
-      text_is = whole ∙ ap (λ r. leading_digits text ++ r) (more ∙ ap (λ b. b ∷ drop (prefix_len is_ascii_digit text + 1) text) first);
-      is_part = record { all_digits = leading_are_digits text; some_digits = rw size some; few_digits = rw size few; known_unit = rw is (search rules) };
+      text_is = whole ∙ ap (λ r. leading_digits text ++ r)
+          (more ∙ ap (λ b. b ∷ drop (prefix_len is_ascii_digit text + 1) text) first);
+      is_part = record {
+        all_digits = leading_are_digits text;
+        some_digits = rw size some;
+        few_digits = rw size few;
+        known_unit = rw is (search rules);
+      };
       seconds_are = rw is refl;
     }
 
@@ -69,36 +82,60 @@ record IsMadeOf (text : List ℕ) (sum total : ℕ) : Type 0 where
   below : total < 2 ^ 40
 
 -- one part more
-made_more : (text rest : List ℕ) (sum seconds total : ℕ) (part : Part) → text ≡ part.digits ++ part.unit ∷ rest → IsPart part → seconds ≡ part_seconds part → IsMadeOf rest (sum + seconds) total → IsMadeOf text sum total
+made_more : (text rest : List ℕ) (sum seconds total : ℕ) (part : Part) → text ≡ part.digits ++ part.unit ∷ rest
+    → IsPart part → seconds ≡ part_seconds part → IsMadeOf rest (sum + seconds) total → IsMadeOf text sum total
 made_more text rest sum seconds total part is here same made = record {
   parts = part ∷ made.parts;
-  text_is = is ∙ ap (λ r. part.digits ++ part.unit ∷ r) made.text_is ∙ sym (append_assoc part.digits (part.unit ∷ []) (flat_map part_text made.parts));
+  text_is = is ∙ ap (λ r. part.digits ++ part.unit ∷ r) made.text_is
+      ∙ sym (append_assoc part.digits (part.unit ∷ []) (flat_map part_text made.parts));
   some_part = λ _. omega arith;
   each_part = All-cons IsPart part made.parts here made.each_part;
   total_is = (let s = sum_by-cons part_seconds part made.parts in let t = made.total_is in omega (arith, s, t, same));
   below = made.below;
 }
 
-made_of : (n : ℕ) (text : List ℕ) (sum total : ℕ) → length text ≤ n → sum < 2 ^ 40 → sum_onto sum (pieces_of text) ≡ Ok total → IsMadeOf text sum total
+made_of : (n : ℕ) (text : List ℕ) (sum total : ℕ) → length text ≤ n → sum < 2 ^ 40
+    → sum_onto sum (pieces_of text) ≡ Ok total → IsMadeOf text sum total
 made_of n [] sum total fits small h =
     let e : sum ≡ total = cc in
-    record { parts = []; text_is = refl; some_part = λ h. absurd (omega arith); each_part = All-nil IsPart; total_is = omega (arith, e); below = omega (arith, e) }
+    record {
+      parts = [];
+      text_is = refl;
+      some_part = λ h. absurd (omega arith);
+      each_part = All-nil IsPart;
+      total_is = omega (arith, e);
+      below = omega (arith, e);
+    }
 made_of zero (c ∷ text) sum total fits small h = absurd (omega arith)
 made_of (suc n) (c ∷ text) sum total fits small h =
     let some : 0 < length (c ∷ text) = omega arith in
-    let p = had_ok (piece_seconds (c ∷ text)) _ total (rw (pieces_split (c ∷ text) some, piece_seconds-take (c ∷ text)) at h) in
+    let p = had_ok (piece_seconds (c ∷ text)) _ total
+    (rw (pieces_split (c ∷ text) some, piece_seconds-take (c ∷ text)) at h) in
     let q = passed (nat_le (2 ^ 40) (sum + p.0)) _ _ total p.2 in
     let b = piece_means (c ∷ text) p.0 p.1 in
     let below : nat_le (2 ^ 40) (sum + p.0) ≡ false = q.0 in
     let small' : sum + p.0 < 2 ^ 40 = grind (arith, nat_tests) in
-    let shorter : length (drop (prefix_len is_ascii_digit (c ∷ text) + 1) (c ∷ text)) ≤ n = omega (arith, length-drop (prefix_len is_ascii_digit (c ∷ text) + 1) (c ∷ text), fits) in
-    let made = made_of n (drop (prefix_len is_ascii_digit (c ∷ text) + 1) (c ∷ text)) (sum + p.0) total shorter small' q.1 in
-    made_more (c ∷ text) (drop (prefix_len is_ascii_digit (c ∷ text) + 1) (c ∷ text)) sum p.0 total (record { digits = leading_digits (c ∷ text); unit = b.unit }) b.text_is b.is_part b.seconds_are made
+    let shorter : length (drop (prefix_len is_ascii_digit (c ∷ text) + 1) (c ∷ text)) ≤ n =
+    omega (arith, length-drop (prefix_len is_ascii_digit (c ∷ text) + 1) (c ∷ text), fits) in
+    let made = made_of n (drop (prefix_len is_ascii_digit (c ∷ text) + 1) (c ∷ text)) (sum + p.0) total shorter small'
+    q.1 in
+    made_more (c ∷ text) (drop (prefix_len is_ascii_digit (c ∷ text) + 1) (c ∷ text)) sum p.0 total
+    (record { digits = leading_digits (c ∷ text); unit = b.unit }) b.text_is b.is_part b.seconds_are made
 
-sum_means : (text : List ℕ) (total : ℕ) → 0 < length text → sum_onto 0 (pieces_of text) ≡ Ok total → HasSeconds text total
+sum_means : (text : List ℕ) (total : ℕ) → 0 < length text → sum_onto 0 (pieces_of text) ≡ Ok total
+    → HasSeconds text total
 sum_means text total some h =
     let made = made_of (length text) text 0 total (omega arith) (omega arith) h in
-    inr (made.parts, record { text_is = made.text_is; some_part = made.some_part some; each_part = made.each_part; sum_is = omega (arith, made.total_is); below = made.below })
+    inr (
+      made.parts,
+      record {
+        text_is = made.text_is;
+        some_part = made.some_part some;
+        each_part = made.each_part;
+        sum_is = omega (arith, made.total_is);
+        below = made.below;
+      },
+    )
 
 pub duration_sound : (text : List ℕ) (seconds : ℕ) → duration_of text ≡ Ok seconds → HasSeconds text seconds
 unfolding duration_of
@@ -107,8 +144,10 @@ duration_sound text seconds h =
     (λ (e : ((length text == 0) ≡ false) × _).
     let none : (length text == 0) ≡ false = e.0 in
     let some : 0 < length text = grind (arith, nat_tests) in
-    ⊎_elim (λ (z : (bytes_eq text (codes "0") ≡ true) × (Ok 0 ≡ Ok seconds)). inl ((bytes_eq-Decides text (codes "0")).0 z.0, (let s = z.1 in cc)))
-    (λ (n : (bytes_eq text (codes "0") ≡ false) × (sum_onto 0 (pieces_of text) ≡ Ok seconds)). sum_means text seconds some n.1)
+    ⊎_elim (λ (z : (bytes_eq text (codes "0") ≡ true) × (Ok 0 ≡ Ok seconds)). inl
+    ((bytes_eq-Decides text (codes "0")).0 z.0, (let s = z.1 in cc)))
+    (λ (n : (bytes_eq text (codes "0") ≡ false) × (sum_onto 0 (pieces_of text) ≡ Ok seconds)). sum_means text seconds
+    some n.1)
     (chosen (bytes_eq text (codes "0")) (Ok 0) (sum_onto 0 (pieces_of text)) (Ok seconds) e.1))
     (chosen (length text == 0) _ _ (Ok seconds) h)
 
@@ -131,14 +170,18 @@ slice_get_at [] y ys = refl
 slice_get_at (x ∷ xs) y ys = slice_get_at xs y ys
 
 -- what follows a part
-rest_is : (part : Part) (rest : List ℕ) → IsPart part → drop (prefix_len is_ascii_digit (part.digits ++ part.unit ∷ rest) + 1) (part.digits ++ part.unit ∷ rest) ≡ rest
+rest_is : (part : Part) (rest : List ℕ) → IsPart part
+    → drop (prefix_len is_ascii_digit (part.digits ++ part.unit ∷ rest) + 1) (part.digits ++ part.unit ∷ rest) ≡ rest
 rest_is part rest p =
     let front = prefix_len-digits part.digits (part.unit ∷ rest) p.all_digits (unit_no_digit part.unit p.known_unit) in
-    let assoc : (part.digits ++ part.unit ∷ []) ++ rest ≡ part.digits ++ part.unit ∷ rest = append_assoc part.digits (part.unit ∷ []) rest in
-    let size : length (part.digits ++ part.unit ∷ []) ≡ length part.digits + 1 = length-append part.digits (part.unit ∷ []) in
+    let assoc : (part.digits ++ part.unit ∷ []) ++ rest ≡ part.digits ++ part.unit ∷ rest =
+    append_assoc part.digits (part.unit ∷ []) rest in
+    let size : length (part.digits ++ part.unit ∷ []) ≡ length part.digits + 1 =
+    length-append part.digits (part.unit ∷ []) in
     rw (front, ← assoc) (drop_at (part.digits ++ part.unit ∷ []) rest (length part.digits + 1) size)
 
-part_read : (part : Part) (rest : List ℕ) → IsPart part → piece_seconds (part.digits ++ part.unit ∷ rest) ≡ Ok (part_seconds part)
+part_read : (part : Part) (rest : List ℕ) → IsPart part → piece_seconds (part.digits ++ part.unit ∷ rest) ≡ Ok
+    (part_seconds part)
 part_read part rest p =
     let stop = unit_no_digit part.unit p.known_unit in
     let front = prefix_len-digits part.digits (part.unit ∷ rest) p.all_digits stop in
@@ -152,20 +195,26 @@ part_read part rest p =
     rw (digits, front, one, two, at, known)
 
 -- the sum of parts is read, after what came before them
-sum_read : (parts : List Part) (sum : ℕ) → All IsPart parts → sum + sum_by part_seconds parts < 2 ^ 40 → sum_onto sum (pieces_of (flat_map part_text parts)) ≡ Ok (sum + sum_by part_seconds parts)
+sum_read : (parts : List Part) (sum : ℕ) → All IsPart parts → sum + sum_by part_seconds parts < 2 ^ 40
+    → sum_onto sum (pieces_of (flat_map part_text parts)) ≡ Ok (sum + sum_by part_seconds parts)
 sum_read [] sum each below = (let e : sum ≡ sum + 0 = omega arith in ap Ok e)
 sum_read (part ∷ parts) sum each below =
     let p : IsPart part = each 0 part (omega arith) in
     let rest : List ℕ = flat_map part_text parts in
-    let cons : sum_by part_seconds (part ∷ parts) ≡ part_seconds part + sum_by part_seconds parts = sum_by-cons part_seconds part parts in
-    let assoc : (part.digits ++ part.unit ∷ []) ++ flat_map part_text parts ≡ part.digits ++ part.unit ∷ flat_map part_text parts = append_assoc part.digits (part.unit ∷ []) (flat_map part_text parts) in
-    let some : 0 < length (part.digits ++ part.unit ∷ flat_map part_text parts) = omega (arith, length-append part.digits (part.unit ∷ flat_map part_text parts)) in
+    let cons : sum_by part_seconds (part ∷ parts) ≡ part_seconds part + sum_by part_seconds parts =
+    sum_by-cons part_seconds part parts in
+    let assoc : (part.digits ++ part.unit ∷ []) ++ flat_map part_text parts ≡ part.digits ++ part.unit ∷ flat_map
+    part_text parts = append_assoc part.digits (part.unit ∷ []) (flat_map part_text parts) in
+    let some : 0 < length (part.digits ++ part.unit ∷ flat_map part_text parts) =
+    omega (arith, length-append part.digits (part.unit ∷ flat_map part_text parts)) in
     let read = part_read part (flat_map part_text parts) p in
     let small : sum + part_seconds part < 2 ^ 40 = omega (arith, cons, below) in
     let next = sum_next sum (part_seconds part) (part.digits ++ part.unit ∷ flat_map part_text parts) some read small in
     let behind = rest_is part (flat_map part_text parts) p in
-    let more = sum_read parts (sum + part_seconds part) (λ k d lt. each (suc k) d (omega arith)) (omega (arith, cons, below)) in
-    let same : sum + part_seconds part + sum_by part_seconds parts ≡ sum + sum_by part_seconds (part ∷ parts) = omega (arith, cons) in
+    let more = sum_read parts (sum + part_seconds part) (λ k d lt. each (suc k) d (omega arith))
+    (omega (arith, cons, below)) in
+    let same : sum + part_seconds part + sum_by part_seconds parts ≡ sum + sum_by part_seconds (part ∷ parts) =
+    omega (arith, cons) in
     rw assoc (next ∙ (rw behind more) ∙ ap Ok same)
 
 -- parts are longer than `0`
@@ -179,9 +228,12 @@ long_text (part ∷ parts) each some =
     omega (arith, one, two, digits)
 
 pub longer_is_no_zero : (text : List ℕ) → 2 ≤ length text → bytes_eq text (codes "0") ≡ false
-longer_is_no_zero text long = false_from_ne_true (bytes_eq text (codes "0")) (λ h. let e : text ≡ codes "0" = (bytes_eq-Decides text (codes "0")).0 h in let size : length text ≡ 1 = rw e refl in omega (arith, size, long))
+longer_is_no_zero text long = false_from_ne_true (bytes_eq text (codes "0"))
+    (λ h. let e : text ≡ codes "0" = (bytes_eq-Decides text (codes "0")).0 h in let size : length text ≡ 1 =
+    rw e refl in omega (arith, size, long))
 
-duration_of_parts : (text : List ℕ) (seconds : ℕ) (parts : List Part) → IsSumOf text parts seconds → duration_of text ≡ Ok seconds
+duration_of_parts : (text : List ℕ) (seconds : ℕ) (parts : List Part) → IsSumOf text parts seconds
+    → duration_of text ≡ Ok seconds
 unfolding duration_of
 duration_of_parts text seconds parts s =
     let long' = long_text parts s.each_part s.some_part in

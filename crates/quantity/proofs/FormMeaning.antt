@@ -1,5 +1,6 @@
 -- What a form prints of a quantity is a text of that quantity.
-use Rattle.std.proofs.Common.{◌≡◌, ◌≢◌, ◌≤◌, ◌<◌, ◌^◌, ◌+◌, ◌-◌, ◌*◌, ◌/◌, ◌%◌, ◌⊎◌, ⊎_elim, inl, inr, ℕ, zero, suc, true, false, List, [], ◌++◌, length, sym, ◌∙◌, ap, refl, subst, arith, Some}
+use Rattle.std.proofs.Common.{◌≡◌, ◌≢◌, ◌≤◌, ◌<◌, ◌^◌, ◌+◌, ◌-◌, ◌*◌, ◌/◌, ◌%◌, ◌⊎◌, ⊎_elim, inl, inr, ℕ, zero, suc}
+use Rattle.std.proofs.Common.{true, false, List, [], ◌++◌, length, sym, ◌∙◌, ap, refl, subst, arith, Some}
 use Rattle.std.specs.Prelude.{◌==◌, ◌&&◌, codes, decimal, replicate, nat_lt}
 use Rattle.std.specs.Int.{div_ceil}
 use Rattle.std.specs.Char.{is_ascii_digit}
@@ -12,12 +13,14 @@ use Rattle.std.proofs.lemmas.List.Elements.{All-append, All-replicate}
 use Rattle.std.proofs.lemmas.Nat.{div-add-mod'}
 use Rattle.std.proofs.Math.Nat.{mod-lt}
 use Rattle.quantity.specs.Digits.{AllDigits}
-use Rattle.quantity.specs.Printed.{scale_suffix, scale_numerator, scale_at, exact_number, least_number, form_of, form_at, form_text, zero_padded}
+use Rattle.quantity.specs.Printed.{scale_suffix, scale_numerator, scale_at, exact_number, least_number, form_of}
+use Rattle.quantity.specs.Printed.{form_at, form_text, zero_padded}
 use Rattle.quantity.specs.Quantity.{HasThousandths, thousandths_of}
 use Rattle.quantity.specs.Suffix.{HasFactor, times}
 use Rattle.quantity.specs.declared.form.Form.{Form}
 use Rattle.quantity.specs.declared.form.Scale.{Scale}
-use Rattle.quantity.specs.declared.form.Scale.TheVariants.{Units, Exa, Peta, Tera, Giga, Mega, Kilo, Exbi, Pebi, Tebi, Gibi, Mebi, Kibi}
+use Rattle.quantity.specs.declared.form.Scale.TheVariants.{Units, Exa, Peta, Tera, Giga, Mega, Kilo, Exbi, Pebi, Tebi}
+use Rattle.quantity.specs.declared.form.Scale.TheVariants.{Gibi, Mebi, Kibi}
 use Rattle.quantity.proofs.Decimal.{product_le}
 use Rattle.quantity.proofs.Forms.{ten_some, ten_split}
 use Rattle.quantity.proofs.Numbers.{digits_value-append, div_ceil_is_least}
@@ -64,7 +67,9 @@ record IsNumber (whole point fraction : List ℕ) (places number : ℕ) : Type 0
   size : length fraction ≡ places
   value : digits_value 10 (whole ++ fraction) ≡ number
 
-number_means : (whole point fraction : List ℕ) (q places number : ℕ) (scale : Scale) → IsNumber whole point fraction places number → thousandths_of number places (times (scale_numerator scale)) ≡ q → HasThousandths (whole ++ (point ++ (fraction ++ scale_suffix scale))) q
+number_means : (whole point fraction : List ℕ) (q places number : ℕ) (scale : Scale)
+    → IsNumber whole point fraction places number → thousandths_of number places (times (scale_numerator scale)) ≡ q
+    → HasThousandths (whole ++ (point ++ (fraction ++ scale_suffix scale))) q
 number_means whole point fraction q places number scale is value =
     let some = ten_some places in
     let least = div_ceil_is_least (1000 * number * scale_numerator scale) (10 ^ places * 1) (omega (arith, some)) in
@@ -105,9 +110,12 @@ padded_is places n some few small fits =
     let joined = digits_value-append (replicate (places - length (decimal n)) 48) (decimal n) in
     let none = zeros_value (places - length (decimal n)) in
     let lengths = length-append (replicate (places - length (decimal n)) 48) (decimal n) in
-    let count : length {A = ℕ} (replicate (places - length (decimal n)) 48) ≡ places - length (decimal n) = length-replicate (places - length (decimal n)) 48 in
+    let count : length {A = ℕ} (replicate (places - length (decimal n)) 48) ≡ places - length (decimal n) =
+    length-replicate (places - length (decimal n)) 48 in
     record {
-      digits = All-append (λ byte. is_ascii_digit byte ≡ true) (replicate (places - length (decimal n)) 48) (decimal n) (All-replicate (λ byte. is_ascii_digit byte ≡ true) (places - length (decimal n)) 48 refl) p.digits;
+      digits = All-append (λ byte. is_ascii_digit byte ≡ true) (replicate (places - length (decimal n)) 48)
+          (decimal n) (All-replicate (λ byte. is_ascii_digit byte ≡ true) (places - length (decimal n)) 48 refl)
+          p.digits;
       size = omega (arith, lengths, count, short);
       value = joined ∙ (rw (none, p.value) (omega arith));
     }
@@ -125,7 +133,8 @@ without_point n small =
       value = rw append-nil p.value;
     }
 
-all_after_point : (places n : ℕ) → 0 < places → places ≤ 17 → n < 10 ^ places → n < 10 ^ 17 → IsNumber [] (codes ".") (zero_padded places n) places n
+all_after_point : (places n : ℕ) → 0 < places → places ≤ 17 → n < 10 ^ places → n < 10 ^ 17
+    → IsNumber [] (codes ".") (zero_padded places n) places n
 all_after_point places n some few small fits =
     let p = padded_is places n some few small fits in
     record {
@@ -138,24 +147,31 @@ all_after_point places n some few small fits =
       value = p.value;
     }
 
-whole_fits : (places whole number : ℕ) → places ≤ 17 → whole * 10 ^ places ≤ number → number < 10 ^ 17 → whole < 10 ^ (17 - places)
+whole_fits : (places whole number : ℕ) → places ≤ 17 → whole * 10 ^ places ≤ number → number < 10 ^ 17
+    → whole < 10 ^ (17 - places)
 whole_fits places whole number few below small =
     ⊎_elim (λ (lt : whole < 10 ^ (17 - places)). lt)
     (λ (le : 10 ^ (17 - places) ≤ whole).
-    let more : 10 ^ (17 - places) * 10 ^ places ≤ whole * 10 ^ places = product_le (10 ^ (17 - places)) (10 ^ places) whole (10 ^ places) le (omega arith) in
+    let more : 10 ^ (17 - places) * 10 ^ places ≤ whole * 10 ^ places = product_le (10 ^ (17 - places)) (10 ^ places)
+    whole (10 ^ places) le (omega arith) in
     let split = ten_split places few in
     absurd (omega (arith, more, split, below, small)))
     (cases_lt whole (10 ^ (17 - places)))
 
-both_sides : (places whole fraction number : ℕ) → 0 < places → places ≤ 17 → 0 < whole → fraction < 10 ^ places → number ≡ whole * 10 ^ places + fraction → number < 10 ^ 17 → IsNumber (decimal whole) (codes ".") (zero_padded places fraction) places number
+both_sides : (places whole fraction number : ℕ) → 0 < places → places ≤ 17 → 0 < whole → fraction < 10 ^ places
+    → number ≡ whole * 10 ^ places + fraction → number < 10 ^ 17 → IsNumber (decimal whole) (codes ".")
+    (zero_padded places fraction) places number
 both_sides places whole fraction number some few front small is fits =
     let one = ten_some places in
     let front_le : whole * 1 ≤ whole * 10 ^ places = product_le whole 1 whole (10 ^ places) (omega arith) one in
     let w = printed whole (omega (arith, front_le, is, fits)) in
     let p = padded_is places fraction some few small (omega (arith, is, fits)) in
     let room : whole < 10 ^ (17 - places) = whole_fits places whole number few (omega (arith, is)) fits in
-    let left : 0 < 17 - places = ⊎_elim (λ (lt : 0 < 17 - places). lt) (λ (le : 17 - places ≤ 0). let e : 17 - places ≡ 0 = omega (arith, le) in let r : whole < 10 ^ 0 = (rw e at room) in absurd (omega (arith, r, front))) (cases_lt 0 (17 - places)) in
-    let short : length (decimal whole) ≤ 17 - places = length-decimal-le (17 - places) whole left room (omega (arith, front_le, is, fits)) in
+    let left : 0 < 17 - places = ⊎_elim (λ (lt : 0 < 17 - places). lt)
+    (λ (le : 17 - places ≤ 0). let e : 17 - places ≡ 0 = omega (arith, le) in let r : whole < 10 ^ 0 =
+    (rw e at room) in absurd (omega (arith, r, front))) (cases_lt 0 (17 - places)) in
+    let short : length (decimal whole) ≤ 17 - places = length-decimal-le (17 - places) whole left room
+    (omega (arith, front_le, is, fits)) in
     let joined = digits_value-append (decimal whole) (zero_padded places fraction) in
     record {
       whole_digits = w.digits;
@@ -167,10 +183,13 @@ both_sides places whole fraction number some few front small is fits =
       value = joined ∙ (rw (w.value, p.size, p.value) (sym is));
     }
 
-form_means : (q places number : ℕ) (scale : Scale) → places ≤ 17 → number < 10 ^ 17 → thousandths_of number places (times (scale_numerator scale)) ≡ q → HasThousandths (form_text (form_of places scale number)) q
+form_means : (q places number : ℕ) (scale : Scale) → places ≤ 17 → number < 10 ^ 17
+    → thousandths_of number places (times (scale_numerator scale)) ≡ q
+    → HasThousandths (form_text (form_of places scale number)) q
 form_means q places number scale few small value =
     let unit = ten_some places in
-    let split : number / 10 ^ places * 10 ^ places + number % 10 ^ places ≡ number = div-add-mod' number (10 ^ places) in
+    let split : number / 10 ^ places * 10 ^ places + number % 10 ^ places ≡ number = div-add-mod' number (10 ^ places)
+    in
     let rest : number % 10 ^ places < 10 ^ places = mod-lt number unit in
     ⊎_elim (λ (none : ((places == 0) ≡ true) × (places ≡ 0)).
     let one : 10 ^ places ≡ 1 = ap (λ k. 10 ^ k) none.1 in
@@ -178,31 +197,46 @@ form_means q places number scale few small value =
     let value' : thousandths_of number 0 (times (scale_numerator scale)) ≡ q = (rw none.1 at value) in
     rw (none.0, whole) (number_means (decimal number) [] [] q 0 number scale (without_point number small) value'))
     (λ (some : ((places == 0) ≡ false) × (places ≢ 0)).
-    let more : 0 < places = (let h = some.1 in ⊎_elim (λ (lt : 0 < places). lt) (λ (le : places ≤ 0). absurd (h (omega (arith, le)))) (cases_lt 0 places)) in
+    let more : 0 < places =
+    (let h = some.1 in ⊎_elim (λ (lt : 0 < places). lt) (λ (le : places ≤ 0). absurd (h (omega (arith, le))))
+    (cases_lt 0 places)) in
     ⊎_elim (λ (none : ((number / 10 ^ places == 0) ≡ true) × (number / 10 ^ places ≡ 0)).
     let all : number % 10 ^ places ≡ number = (let s = (rw none.1 at split) in omega (arith, s)) in
     let low : number < 10 ^ places = omega (arith, all, rest) in
-    rw (some.0, none.0, all) (number_means [] (codes ".") (zero_padded places number) q places number scale (all_after_point places number more few low small) value))
+    rw (some.0, none.0, all) (number_means [] (codes ".") (zero_padded places number) q places number scale
+    (all_after_point places number more few low small) value))
     (λ (front : ((number / 10 ^ places == 0) ≡ false) × (number / 10 ^ places ≢ 0)).
-    let above : 0 < number / 10 ^ places = (let h = front.1 in ⊎_elim (λ (lt : 0 < number / 10 ^ places). lt) (λ (le : number / 10 ^ places ≤ 0). absurd (h (omega (arith, le)))) (cases_lt 0 (number / 10 ^ places))) in
-    rw (some.0, front.0) (number_means (decimal (number / 10 ^ places)) (codes ".") (zero_padded places (number % 10 ^ places)) q places number scale (both_sides places (number / 10 ^ places) (number % 10 ^ places) number more few above rest (sym split) small) value))
+    let above : 0 < number / 10 ^ places =
+    (let h = front.1 in ⊎_elim (λ (lt : 0 < number / 10 ^ places). lt)
+    (λ (le : number / 10 ^ places ≤ 0). absurd (h (omega (arith, le)))) (cases_lt 0 (number / 10 ^ places))) in
+    rw (some.0, front.0) (number_means (decimal (number / 10 ^ places)) (codes ".")
+    (zero_padded places (number % 10 ^ places)) q places number scale
+    (both_sides places (number / 10 ^ places) (number % 10 ^ places) number more few above rest (sym split) small)
+    value))
     (eqb_tells (number / 10 ^ places) 0))
     (eqb_tells places 0)
 
-exact_number_is : (q places numerator number : ℕ) → exact_number q places numerator ≡ Some number → (number < 10 ^ 17) × (thousandths_of number places (times numerator) ≡ q)
+exact_number_is : (q places numerator number : ℕ) → exact_number q places numerator ≡ Some number → (number < 10 ^ 17)
+    × (thousandths_of number places (times numerator) ≡ q)
 exact_number_is q places numerator number h =
-    let t = some_if (nat_lt (least_number q places numerator) (10 ^ 17) && (thousandths_of (least_number q places numerator) places (times numerator) == q)) (least_number q places numerator) number h in
-    let both = and_parts (nat_lt (least_number q places numerator) (10 ^ 17)) (thousandths_of (least_number q places numerator) places (times numerator) == q) t.0 in
+    let t = some_if (nat_lt (least_number q places numerator) (10 ^ 17) &&
+    (thousandths_of (least_number q places numerator) places (times numerator) == q))
+    (least_number q places numerator) number h in
+    let both = and_parts (nat_lt (least_number q places numerator) (10 ^ 17))
+    (thousandths_of (least_number q places numerator) places (times numerator) == q) t.0 in
     let a = both.0 in
     let b = both.1 in
     let low : least_number q places numerator < 10 ^ 17 = grind (arith, nat_tests) in
-    let same : thousandths_of (least_number q places numerator) places (times numerator) ≡ q = grind (arith, nat_tests) in
+    let same : thousandths_of (least_number q places numerator) places (times numerator) ≡ q =
+    grind (arith, nat_tests) in
     (rw t.1 at low, rw t.1 at same)
 
 -- the form at a place prints the quantity
-pub form_at_means : (q place : ℕ) (form : Form) → place < 234 → form_at q place ≡ Some form → HasThousandths (form_text form) q
+pub form_at_means : (q place : ℕ) (form : Form) → place < 234 → form_at q place ≡ Some form
+    → HasThousandths (form_text form) q
 form_at_means q place form below h =
-    let m = mapped (form_of (place / 13) (scale_at (place % 13))) (exact_number q (place / 13) (scale_numerator (scale_at (place % 13)))) form h in
+    let m = mapped (form_of (place / 13) (scale_at (place % 13)))
+    (exact_number q (place / 13) (scale_numerator (scale_at (place % 13)))) form h in
     let e = exact_number_is q (place / 13) (scale_numerator (scale_at (place % 13))) m.0 m.1 in
     let few : place / 13 ≤ 17 = omega (arith, below) in
     let P : Form → Type 0 = λ form. HasThousandths (form_text form) q in

@@ -6,13 +6,15 @@ use Rattle.std.proofs.lemmas.Bool.Decides.{nat_tests}
 use Rattle.std.proofs.lemmas.List.{append-nil}
 use Rattle.quantity.specs.Printed.{zero_padded}
 
-padded_zeros : (places : ℕ) (numeral : List ℕ) → padded_integral (format_spec 32 0 4 places 18446744073709551615) false [] numeral ≡ replicate (places - length numeral) 48 ++ numeral
+padded_zeros : (places : ℕ) (numeral : List ℕ) → padded_integral (format_spec 32 0 4 places 18446744073709551615)
+    false [] numeral ≡ replicate (places - length numeral) 48 ++ numeral
 unfolding padded_integral char_count
 padded_zeros places numeral =
     let e : places - length numeral - 0 - 0 ≡ places - length numeral = omega arith in
     rw (e, append-nil numeral) refl
 
-pub styled_zeros : (places n : ℕ) → places ≢ 0 → styled_decimal (format_spec 32 0 4 places 18446744073709551615) n ≡ zero_padded places n
+pub styled_zeros : (places n : ℕ) → places ≢ 0 → styled_decimal (format_spec 32 0 4 places 18446744073709551615)
+    n ≡ zero_padded places n
 styled_zeros places n some =
     let t : (places == 0) ≡ false = grind (arith, nat_tests) in
     rw t (padded_zeros places (decimal n))

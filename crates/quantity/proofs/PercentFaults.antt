@@ -1,5 +1,7 @@
 -- A percentage is refused for its first fault.
-use Rattle.std.proofs.Common.{◌≡◌, ◌≢◌, ◌≤◌, ◌<◌, ◌^◌, ◌+◌, ◌-◌, ◌*◌, ◌⊎◌, ⊎_elim, inl, inr, ℕ, zero, suc, Bool, true, false, not, ◌&&◌, ◌||◌, List, [], ◌∷◌, ◌++◌, length, drop, sym, ◌∙◌, refl, arith, Ok, Err, Result}
+use Rattle.std.proofs.Common.{◌≡◌, ◌≢◌, ◌≤◌, ◌<◌, ◌^◌, ◌+◌, ◌-◌, ◌*◌, ◌⊎◌, ⊎_elim, inl, inr, ℕ, zero, suc, Bool, true}
+use Rattle.std.proofs.Common.{false, not, ◌&&◌, ◌||◌, List, [], ◌∷◌, ◌++◌, length, drop, sym, ◌∙◌, refl, arith, Ok}
+use Rattle.std.proofs.Common.{Err, Result}
 use Rattle.std.specs.Prelude.{slice_index, ◌==◌, codes, nat_lt}
 use Rattle.std.specs.Char.{is_ascii_digit}
 use Rattle.std.specs.Str.Parse.{digits_value}
@@ -20,7 +22,8 @@ use Rattle.quantity.proofs.QuantityLaws.{after_stops}
 use Rattle.quantity.proofs.Runs.{no_point}
 use Rattle.quantity.proofs.StepsPassed.{failed}
 
-rest_stops : (text : List ℕ) (d : Bool) → has_point text ≡ d → is_ascii_digit (slice_index (after_number text) 0) ≡ false
+rest_stops : (text : List ℕ) (d : Bool) → has_point text ≡ d
+    → is_ascii_digit (slice_index (after_number text) 0) ≡ false
 rest_stops text true e = rw e (after_stops (drop 1 (after_digits text)))
 rest_stops text false e = rw e (after_stops text)
 
@@ -41,18 +44,23 @@ read_parts text split = record {
     text_is = split.text_is;
     whole_digits = leading_are_digits text;
     fraction_digits = split.fraction_digits;
-    point_is = ⊎_elim (λ (n : (split.point ≡ []) × (fraction_of text ≡ []) × (has_point text ≡ false)). inl (n.0, n.1, rest_no_point text n.2)) (λ (p : (split.point ≡ codes ".") × (has_point text ≡ true)). inr p.0) split.point_is;
+    point_is = ⊎_elim (λ (n : (split.point ≡ []) × (fraction_of text ≡ []) × (has_point text ≡ false)). inl
+        (n.0, n.1, rest_no_point text n.2)) (λ (p : (split.point ≡ codes ".") × (has_point text ≡ true)). inr p.0)
+        split.point_is;
     no_more_digits = rest_stops text (has_point text) refl;
   };
-  has = λ is. ⊎_elim (λ (n : (split.point ≡ []) × (fraction_of text ≡ []) × (has_point text ≡ false)). absurd (let e = n.0 in cc)) (λ (p : (split.point ≡ codes ".") × (has_point text ≡ true)). p.1) split.point_is;
-  had = λ is. ⊎_elim (λ (n : (split.point ≡ []) × (fraction_of text ≡ []) × (has_point text ≡ false)). absurd (false≢true (sym n.2 ∙ is))) (λ (p : (split.point ≡ codes ".") × (has_point text ≡ true)). p.0) split.point_is;
+  has = λ is. ⊎_elim (λ (n : (split.point ≡ []) × (fraction_of text ≡ []) × (has_point text ≡ false)). absurd
+      (let e = n.0 in cc)) (λ (p : (split.point ≡ codes ".") × (has_point text ≡ true)). p.1) split.point_is;
+  had = λ is. ⊎_elim (λ (n : (split.point ≡ []) × (fraction_of text ≡ []) × (has_point text ≡ false)). absurd
+      (false≢true (sym n.2 ∙ is))) (λ (p : (split.point ≡ codes ".") × (has_point text ≡ true)). p.0) split.point_is;
 }
 
 or_true : (a b : Bool) → (a || b) ≡ true → (a ≡ true) ⊎ (b ≡ true)
 or_true true b h = inl refl
 or_true false b h = inr h
 
-digit_faults : (whole fraction : ℕ) (has : Bool) → (whole == 0 || (has && fraction == 0)) ≡ true → (whole ≡ 0) ⊎ ((has ≡ true) × (fraction ≡ 0))
+digit_faults : (whole fraction : ℕ) (has : Bool) → (whole == 0 || (has && fraction == 0)) ≡ true
+    → (whole ≡ 0) ⊎ ((has ≡ true) × (fraction ≡ 0))
 digit_faults whole fraction has h =
     ⊎_elim (λ (a : (whole == 0) ≡ true). inl (grind (arith, nat_tests)))
     (λ (b : (has && fraction == 0) ≡ true).
@@ -63,9 +71,12 @@ digit_faults whole fraction has h =
 
 many_faults : (whole fraction : ℕ) → (nat_lt 3 whole || nat_lt 2 fraction) ≡ true → (3 < whole) ⊎ (2 < fraction)
 many_faults whole fraction h =
-    ⊎_elim (λ (a : nat_lt 3 whole ≡ true). inl (grind (arith, nat_tests))) (λ (a : nat_lt 2 fraction ≡ true). inr (grind (arith, nat_tests))) (or_true (nat_lt 3 whole) (nat_lt 2 fraction) h)
+    ⊎_elim (λ (a : nat_lt 3 whole ≡ true). inl (grind (arith, nat_tests)))
+    (λ (a : nat_lt 2 fraction ≡ true). inr (grind (arith, nat_tests)))
+    (or_true (nat_lt 3 whole) (nat_lt 2 fraction) h)
 
-above_hundred : (whole fraction places : ℕ) → places ≤ 2 → (places ≡ 0 → fraction ≡ 0) → 10000 < whole * 100 + fraction * 10 ^ (2 - places) → 10000 * 10 ^ places < 100 * (whole * 10 ^ places + fraction)
+above_hundred : (whole fraction places : ℕ) → places ≤ 2 → (places ≡ 0 → fraction ≡ 0)
+    → 10000 < whole * 100 + fraction * 10 ^ (2 - places) → 10000 * 10 ^ places < 100 * (whole * 10 ^ places + fraction)
 above_hundred whole fraction zero few none h = let z : fraction ≡ 0 = none refl in omega (arith, h, z)
 above_hundred whole fraction (suc zero) few none h = omega (arith, h)
 above_hundred whole fraction (suc (suc zero)) few none h = omega (arith, h)
@@ -86,7 +97,10 @@ percent_checks text = do
   value_checks text
 
 -- the checks of what follows the number, and of its value
-sign_fault : (text : List ℕ) (fault : QuantityFault) → length (fraction_of text) ≤ 2 → value_checks text ≡ Err fault → ((after_number text ≢ codes "%") × (fault ≡ BadSuffix)) ⊎ ((after_number text ≡ codes "%") × (10000 * 10 ^ length (fraction_of text) < 100 * digits_value 10 (whole_of text ++ fraction_of text)) × (fault ≡ TooManyDigits))
+sign_fault : (text : List ℕ) (fault : QuantityFault) → length (fraction_of text) ≤ 2 → value_checks text ≡ Err fault
+    → ((after_number text ≢ codes "%") × (fault ≡ BadSuffix)) ⊎ ((after_number text ≡ codes "%")
+    × (10000 * 10 ^ length (fraction_of text) < 100 * digits_value 10 (whole_of text ++ fraction_of text))
+    × (fault ≡ TooManyDigits))
 unfolding value_checks
 sign_fault text fault two h =
     ⊎_elim (λ (a : (not (bytes_eq (after_number text) (codes "%")) ≡ true) × (fault ≡ BadSuffix)).
@@ -99,7 +113,9 @@ sign_fault text fault two h =
     let large : 10000 < hundredths_of (whole_of text) (fraction_of text) = grind (arith, nat_tests) in
     inr (
       (bytes_eq-Decides (after_number text) (codes "%")).0 same,
-      rw (digits_value-append (whole_of text) (fraction_of text)) (above_hundred (digits_value 10 (whole_of text)) (digits_value 10 (fraction_of text)) (length (fraction_of text)) two (no_digits (fraction_of text)) large),
+      rw (digits_value-append (whole_of text) (fraction_of text))
+          (above_hundred (digits_value 10 (whole_of text)) (digits_value 10 (fraction_of text))
+          (length (fraction_of text)) two (no_digits (fraction_of text)) large),
       b.1,
     ))
     (λ (b : (nat_lt 10000 (hundredths_of (whole_of text) (fraction_of text)) ≡ false) × _). absurd (let e = b.1 in cc))
@@ -107,11 +123,18 @@ sign_fault text fault two h =
     (failed (not (bytes_eq (after_number text) (codes "%"))) _ _ fault h)
 
 -- the checks after the sign
-number_fault : (text : List ℕ) (fault : QuantityFault) (read : ReadParts text) → percent_checks text ≡ Err fault → HasPartsFault (whole_of text) read.point (fraction_of text) (after_number text) fault
+number_fault : (text : List ℕ) (fault : QuantityFault) (read : ReadParts text) → percent_checks text ≡ Err fault
+    → HasPartsFault (whole_of text) read.point (fraction_of text) (after_number text) fault
 unfolding percent_checks
 number_fault text fault read h =
-    ⊎_elim (λ (a : ((length (whole_of text) == 0 || (has_point text && length (fraction_of text) == 0)) ≡ true) × (fault ≡ BadDigit)).
-    inl (⊎_elim (λ (w : length (whole_of text) ≡ 0). inl w) (λ (p : (has_point text ≡ true) × (length (fraction_of text) ≡ 0)). inr (read.had p.0, p.1)) (digit_faults (length (whole_of text)) (length (fraction_of text)) (has_point text) a.0), a.1))
+    ⊎_elim (λ (a : ((length (whole_of text) == 0 || (has_point text && length (fraction_of text) == 0)) ≡ true)
+    × (fault ≡ BadDigit)).
+    inl (
+      ⊎_elim (λ (w : length (whole_of text) ≡ 0). inl w)
+          (λ (p : (has_point text ≡ true) × (length (fraction_of text) ≡ 0)). inr (read.had p.0, p.1))
+          (digit_faults (length (whole_of text)) (length (fraction_of text)) (has_point text) a.0),
+      a.1,
+    ))
     (λ (a : ((length (whole_of text) == 0 || (has_point text && length (fraction_of text) == 0)) ≡ false) × _).
     let digits : (length (whole_of text) == 0 || (has_point text && length (fraction_of text) == 0)) ≡ false = a.0 in
     let some : 0 < length (whole_of text) = grind (arith, nat_tests) in
@@ -119,7 +142,8 @@ number_fault text fault read h =
     inr (
       some,
       λ is. some' (read.has is),
-      ⊎_elim (λ (b : ((nat_lt 3 (length (whole_of text)) || nat_lt 2 (length (fraction_of text))) ≡ true) × (fault ≡ TooManyDigits)).
+      ⊎_elim (λ (b : ((nat_lt 3 (length (whole_of text)) || nat_lt 2 (length (fraction_of text))) ≡ true)
+          × (fault ≡ TooManyDigits)).
           inl (many_faults (length (whole_of text)) (length (fraction_of text)) b.0, b.1))
           (λ (b : ((nat_lt 3 (length (whole_of text)) || nat_lt 2 (length (fraction_of text))) ≡ false) × _).
           let few : (nat_lt 3 (length (whole_of text)) || nat_lt 2 (length (fraction_of text))) ≡ false = b.0 in

@@ -24,5 +24,6 @@ written_reads_back text q h =
     rw (t, e) (form_at_means q at.0 first.0 at.1 at.2))
     (cases_lt q (10 ^ 17))
 
-pub text_reads_back : (q : ℕ) → q ≤ greatest → (q < 10 ^ 17) ⊎ ((q % 1000 ≡ 0) × (q / 1000 < 10 ^ 17)) → HasThousandths (quantity_text q) q
+pub text_reads_back : (q : ℕ) → q ≤ greatest → (q < 10 ^ 17) ⊎ ((q % 1000 ≡ 0) × (q / 1000 < 10 ^ 17))
+    → HasThousandths (quantity_text q) q
 text_reads_back q most few = written_reads_back _ q (plain_reads_back q most few)

@@ -1,5 +1,6 @@
 -- What is printed of a quantity is read as that quantity.
-use Rattle.std.proofs.Common.{◌≡◌, ◌≢◌, ◌≤◌, ◌<◌, ◌^◌, ◌+◌, ◌*◌, ◌/◌, ◌%◌, ◌⊎◌, ⊎_elim, inl, inr, ℕ, true, false, List, [], ◌++◌, length, get_or, sym, ap, refl, arith, append_assoc}
+use Rattle.std.proofs.Common.{◌≡◌, ◌≢◌, ◌≤◌, ◌<◌, ◌^◌, ◌+◌, ◌*◌, ◌/◌, ◌%◌, ◌⊎◌, ⊎_elim, inl, inr, ℕ, true, false}
+use Rattle.std.proofs.Common.{List, [], ◌++◌, length, get_or, sym, ap, refl, arith, append_assoc}
 use Rattle.std.specs.Prelude.{◌==◌, codes, decimal}
 use Rattle.std.specs.Char.{is_ascii_digit}
 use Rattle.std.specs.Int.{IsInRange}
@@ -34,7 +35,12 @@ pub printed : (n : ℕ) → n < 10 ^ 17 → IsPrinted n
 printed n small =
     let fits : n < 2 ^ 64 = omega (arith, small) in
     let numeral = decimal_is_IsNumeral n fits in
-    record { digits = digits_are (decimal n) numeral.0.1; some = numeral.0.0; few = length-decimal-le 17 n (omega arith) small fits; value = numeral.1 }
+    record {
+      digits = digits_are (decimal n) numeral.0.1;
+      some = numeral.0.0;
+      few = length-decimal-le 17 n (omega arith) small fits;
+      value = numeral.1;
+    }
 
 units_mean : (m n : ℕ) → m ≤ greatest → m ≡ 1000 * n → n < 10 ^ 17 → HasThousandths (decimal n) m
 units_mean m n small is few =
@@ -84,14 +90,17 @@ thousandths_mean m small few =
       thousandths_is = omega (arith, small);
     }
 
-pub plain_reads_back : (m : ℕ) → m ≤ greatest → (m < 10 ^ 17) ⊎ ((m % 1000 ≡ 0) × (m / 1000 < 10 ^ 17)) → HasThousandths (plain_text m) m
+pub plain_reads_back : (m : ℕ) → m ≤ greatest → (m < 10 ^ 17) ⊎ ((m % 1000 ≡ 0) × (m / 1000 < 10 ^ 17))
+    → HasThousandths (plain_text m) m
 plain_reads_back m small few =
     ⊎_elim (λ (w : ((m % 1000 == 0) ≡ true) × (m % 1000 ≡ 0)).
     let is : m ≡ 1000 * (m / 1000) = omega (arith, w.1) in
-    let below : m / 1000 < 10 ^ 17 = ⊎_elim (λ (h : m < 10 ^ 17). omega (arith, h)) (λ (h : (m % 1000 ≡ 0) × (m / 1000 < 10 ^ 17)). h.1) few in
+    let below : m / 1000 < 10 ^ 17 = ⊎_elim (λ (h : m < 10 ^ 17). omega (arith, h))
+    (λ (h : (m % 1000 ≡ 0) × (m / 1000 < 10 ^ 17)). h.1) few in
     rw w.0 (units_mean m (m / 1000) small is below))
     (λ (w : ((m % 1000 == 0) ≡ false) × (m % 1000 ≢ 0)).
-    let below : m < 10 ^ 17 = ⊎_elim (λ (h : m < 10 ^ 17). h) (λ (h : (m % 1000 ≡ 0) × (m / 1000 < 10 ^ 17)). absurd (w.1 h.0)) few in
+    let below : m < 10 ^ 17 = ⊎_elim (λ (h : m < 10 ^ 17). h)
+    (λ (h : (m % 1000 ≡ 0) × (m / 1000 < 10 ^ 17)). absurd (w.1 h.0)) few in
     rw w.0 (thousandths_mean m small below))
     (eqb_tells (m % 1000) 0)
 
@@ -118,19 +127,25 @@ whole_percentage m n small is =
       at_most = small;
     }
 
-percentage_with_point : (m n tenths rest : ℕ) → m ≤ 10000 → tenths < 10 → rest < 10 → m ≡ 100 * n + 10 * tenths + rest → HasHundredths (decimal n ++ (codes "." ++ (decimal tenths ++ (decimal rest ++ codes "%")))) m
+percentage_with_point : (m n tenths rest : ℕ) → m ≤ 10000 → tenths < 10 → rest < 10 → m ≡ 100 * n + 10 * tenths + rest
+    → HasHundredths (decimal n ++ (codes "." ++ (decimal tenths ++ (decimal rest ++ codes "%")))) m
 percentage_with_point m n tenths rest small one two is =
     let p = printed n (omega (arith, is, small)) in
     let a = one_digit tenths one in
     let b = one_digit rest two in
-    let size : length (decimal tenths ++ decimal rest) ≡ 2 = omega (arith, length-append (decimal tenths) (decimal rest), a.1, b.1) in
-    let joined : digits_value 10 (decimal tenths ++ decimal rest) ≡ tenths * 10 ^ 1 + rest = (let j = digits_value-append (decimal tenths) (decimal rest) in rw (b.1, a.2, b.2) at j) in
-    let value : digits_value 10 (decimal n ++ (decimal tenths ++ decimal rest)) ≡ n * 10 ^ 2 + (tenths * 10 ^ 1 + rest) = (let j = digits_value-append (decimal n) (decimal tenths ++ decimal rest) in rw (size, p.value, joined) at j) in
+    let size : length (decimal tenths ++ decimal rest) ≡ 2 =
+    omega (arith, length-append (decimal tenths) (decimal rest), a.1, b.1) in
+    let joined : digits_value 10 (decimal tenths ++ decimal rest) ≡ tenths * 10 ^ 1 + rest =
+    (let j = digits_value-append (decimal tenths) (decimal rest) in rw (b.1, a.2, b.2) at j) in
+    let value : digits_value 10 (decimal n ++ (decimal tenths ++ decimal rest)) ≡ n * 10 ^ 2 +
+    (tenths * 10 ^ 1 + rest) = (let j = digits_value-append (decimal n) (decimal tenths ++ decimal rest) in
+    rw (size, p.value, joined) at j) in
     record {
       whole = decimal n;
       point = codes ".";
       fraction = decimal tenths ++ decimal rest;
-      text_is = ap (λ r. decimal n ++ (codes "." ++ r)) (sym (append_assoc (decimal tenths) (decimal rest) (codes "%")));
+      text_is = ap (λ r. decimal n ++ (codes "." ++ r))
+          (sym (append_assoc (decimal tenths) (decimal rest) (codes "%")));
       whole_digits = p.digits;
       fraction_digits = All-append (λ byte. is_ascii_digit byte ≡ true) (decimal tenths) (decimal rest) a.0 b.0;
       some_whole = (p.some, length-decimal-le 3 n (omega arith) (omega (arith, is, small)) (omega (arith, is, small)));

@@ -1,5 +1,6 @@
 -- The number of a text is the longest run of digits with at most one point.
-use Rattle.std.proofs.Common.{◌≡◌, ◌≢◌, ◌≤◌, ◌<◌, ◌+◌, ◌⊎◌, ⊎_elim, inl, inr, ℕ, suc, Bool, true, false, cond, List, [], ◌∷◌, ◌++◌, length, drop, get_or, sym, ◌∙◌, ap, refl, arith, append_assoc}
+use Rattle.std.proofs.Common.{◌≡◌, ◌≢◌, ◌≤◌, ◌<◌, ◌+◌, ◌⊎◌, ⊎_elim, inl, inr, ℕ, suc, Bool, true, false, cond, List}
+use Rattle.std.proofs.Common.{[], ◌∷◌, ◌++◌, length, drop, get_or, sym, ◌∙◌, ap, refl, arith, append_assoc}
 use Rattle.std.specs.Prelude.{slice_get, unwrap_or, ◌==◌, All, count_by}
 use Rattle.std.specs.Char.{is_ascii_digit}
 use Rattle.std.proofs.lemmas.Bool.{false≢true, cases_lt}
@@ -42,7 +43,8 @@ record GoesOn (front back run rest : List ℕ) : Type 0 where
   run_is : run ≡ front ++ byte ∷ more
   back_is : back ≡ byte ∷ (more ++ rest)
 
-goes_on : (front back run rest : List ℕ) → front ++ back ≡ run ++ rest → length front < length run → GoesOn front back run rest
+goes_on : (front back run rest : List ℕ) → front ++ back ≡ run ++ rest → length front < length run
+    → GoesOn front back run rest
 goes_on [] back [] rest e lt = absurd (omega arith)
 goes_on [] back (b ∷ run) rest e lt = record { byte = b; more = run; run_is = refl; back_is = e }
 goes_on (c ∷ front) back [] rest e lt = absurd (omega arith)
@@ -53,21 +55,24 @@ goes_on (c ∷ front) back (b ∷ run) rest e lt =
     record { byte = g.byte; more = g.more; run_is = (let r = g.run_is in cc); back_is = g.back_is }
 
 -- the byte after a front, in a run
-byte_of_run : (front : List ℕ) (byte : ℕ) (more : List ℕ) → IsRun (front ++ byte ∷ more) → (is_ascii_digit byte ≡ true) ⊎ (byte ≡ 46)
+byte_of_run : (front : List ℕ) (byte : ℕ) (more : List ℕ) → IsRun (front ++ byte ∷ more)
+    → (is_ascii_digit byte ≡ true) ⊎ (byte ≡ 46)
 byte_of_run front byte more run =
     let lt : length front < length (front ++ byte ∷ more) = omega (arith, length-append front (byte ∷ more)) in
     let at : get_or (front ++ byte ∷ more) (length front) 0 ≡ byte = get_or_at front byte more 0 (length front) refl in
     rw at at (run.0 (length front) 0 lt)
 
 -- no longer run: the next byte is no digit, and is a point only after another point
-no_longer : (front back run rest : List ℕ) → front ++ back ≡ run ++ rest → is_ascii_digit (get_or back 0 0) ≡ false → (get_or back 0 0 ≡ 46 → 1 ≤ points front) → IsRun run → length run ≤ length front
+no_longer : (front back run rest : List ℕ) → front ++ back ≡ run ++ rest → is_ascii_digit (get_or back 0 0) ≡ false
+    → (get_or back 0 0 ≡ 46 → 1 ≤ points front) → IsRun run → length run ≤ length front
 unfolding points
 no_longer front back run rest e stop point is =
     ⊎_elim (λ (lt : length front < length run). absurd (
     let g = goes_on front back run rest e lt in
     let at : get_or back 0 0 ≡ g.byte = ap (λ (bytes : List ℕ). get_or bytes 0 0) g.back_is in
     let here : IsRun (front ++ g.byte ∷ g.more) = rw (← g.run_is) is in
-    ⊎_elim (λ (d : is_ascii_digit g.byte ≡ true). false≢true (let s : is_ascii_digit g.byte ≡ false = rw (← at) stop in sym s ∙ d))
+    ⊎_elim (λ (d : is_ascii_digit g.byte ≡ true). false≢true (let s : is_ascii_digit g.byte ≡ false =
+    rw (← at) stop in sym s ∙ d))
     (λ (p : g.byte ≡ 46).
     let one : 1 ≤ points front = point (at ∙ p) in
     let sum = points-append front (g.byte ∷ g.more) in
@@ -89,13 +94,18 @@ no_point text e p =
     let t : has_point text ≡ true = rw v refl in
     false≢true (sym e ∙ t)
 
-pointed : (text : List ℕ) → has_point text ≡ true → text ≡ (leading_digits text ++ 46 ∷ leading_digits (drop 1 (after_digits text))) ++ after_digits (drop 1 (after_digits text))
+pointed : (text : List ℕ) → has_point text ≡ true
+    → text ≡ (leading_digits text ++ 46 ∷ leading_digits (drop 1 (after_digits text)))
+    ++ after_digits (drop 1 (after_digits text))
 pointed text e =
     let first = point_first (after_digits text) e in
     let behind = whole_text (drop 1 (after_digits text)) in
-    whole_text text ∙ ap (λ r. leading_digits text ++ r) (first ∙ ap (λ r. 46 ∷ r) behind) ∙ sym (append_assoc (leading_digits text) (46 ∷ leading_digits (drop 1 (after_digits text))) (after_digits (drop 1 (after_digits text))))
+    whole_text text ∙ ap (λ r. leading_digits text ++ r) (first ∙ ap (λ r. 46 ∷ r) behind)
+    ∙ sym (append_assoc (leading_digits text) (46 ∷ leading_digits (drop 1 (after_digits text)))
+    (after_digits (drop 1 (after_digits text))))
 
-points_of_pointed : (whole fraction : List ℕ) → AllDigits whole → AllDigits fraction → points (whole ++ 46 ∷ fraction) ≡ 1
+points_of_pointed : (whole fraction : List ℕ) → AllDigits whole → AllDigits fraction
+    → points (whole ++ 46 ∷ fraction) ≡ 1
 points_of_pointed whole fraction all more =
     let a = points-append whole (46 ∷ fraction) in
     let b : points (46 ∷ fraction) ≡ 1 + points fraction = points-cons 46 fraction in
@@ -109,19 +119,29 @@ run_by text false e =
     let all = leading_are_digits text in
     record {
       text_is = rw (e, append-nil) (whole_text text);
-      is_run = rw (e, append-nil) (digits_run (leading_digits text) all, omega (arith, points-digits (leading_digits text) all));
-      longest = λ run rest t is. rw (e, append-nil) (no_longer (leading_digits text) (after_digits text) run rest (sym (whole_text text) ∙ t) (after_stops text) (λ p. absurd (no_point text e p)) is);
+      is_run = rw (e, append-nil)
+          (digits_run (leading_digits text) all, omega (arith, points-digits (leading_digits text) all));
+      longest = λ run rest t is. rw (e, append-nil)
+          (no_longer (leading_digits text) (after_digits text) run rest (sym (whole_text text) ∙ t) (after_stops text)
+          (λ p. absurd (no_point text e p)) is);
     }
 run_by text true e =
     let all = leading_are_digits text in
     let more = leading_are_digits (drop 1 (after_digits text)) in
     let one = points_of_pointed (leading_digits text) (leading_digits (drop 1 (after_digits text))) all more in
-    let some : 1 ≤ points (leading_digits text ++ 46 ∷ leading_digits (drop 1 (after_digits text))) = omega (arith, one) in
-    let each = All-append (λ byte. (is_ascii_digit byte ≡ true) ⊎ (byte ≡ 46)) (leading_digits text) (46 ∷ leading_digits (drop 1 (after_digits text))) (digits_run _ all) (All-cons (λ byte. (is_ascii_digit byte ≡ true) ⊎ (byte ≡ 46)) 46 (leading_digits (drop 1 (after_digits text))) (inr refl) (digits_run _ more)) in
+    let some : 1 ≤ points (leading_digits text ++ 46 ∷ leading_digits (drop 1 (after_digits text))) =
+    omega (arith, one) in
+    let each = All-append (λ byte. (is_ascii_digit byte ≡ true) ⊎ (byte ≡ 46)) (leading_digits text)
+    (46 ∷ leading_digits (drop 1 (after_digits text))) (digits_run _ all)
+    (All-cons (λ byte. (is_ascii_digit byte ≡ true) ⊎ (byte ≡ 46)) 46
+    (leading_digits (drop 1 (after_digits text))) (inr refl) (digits_run _ more)) in
     record {
       text_is = rw e (pointed text e);
       is_run = rw e (each, omega (arith, one));
-      longest = λ run rest t is. rw e (no_longer (leading_digits text ++ 46 ∷ leading_digits (drop 1 (after_digits text))) (after_digits (drop 1 (after_digits text))) run rest (sym (pointed text e) ∙ t) (after_stops (drop 1 (after_digits text))) (λ p. some) is);
+      longest = λ run rest t is. rw e
+          (no_longer (leading_digits text ++ 46 ∷ leading_digits (drop 1 (after_digits text)))
+          (after_digits (drop 1 (after_digits text))) run rest (sym (pointed text e) ∙ t)
+          (after_stops (drop 1 (after_digits text))) (λ p. some) is);
     }
 
 pub number_is_run : (text : List ℕ) → NumberIsLongestRun text

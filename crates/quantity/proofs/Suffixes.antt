@@ -1,5 +1,6 @@
 -- A suffix is read as what it means.
-use Rattle.std.proofs.Common.{◌≡◌, ◌≢◌, ◌≤◌, ◌<◌, ◌^◌, ◌⊎◌, ⊎_elim, inl, inr, ℕ, suc, Bool, true, false, List, [], ◌∷◌, ◌++◌, length, get_or, sym, ◌∙◌, ap, refl, subst, arith, Some, None, Option}
+use Rattle.std.proofs.Common.{◌≡◌, ◌≢◌, ◌≤◌, ◌<◌, ◌^◌, ◌⊎◌, ⊎_elim, inl, inr, ℕ, suc, Bool, true, false, List, []}
+use Rattle.std.proofs.Common.{◌∷◌, ◌++◌, length, get_or, sym, ◌∙◌, ap, refl, subst, arith, Some, None, Option}
 use Rattle.std.specs.Prelude.{◌==◌, codes, Contains, option_map, if◌then◌else◌, nat_le, ◌&&◌, ◌||◌}
 use Rattle.std.specs.List.{AllByRecursion}
 use Rattle.std.specs.Char.{is_ascii_digit}
@@ -9,7 +10,8 @@ use Rattle.std.proofs.lemmas.List.{append-nil, nil_from_length, length-append}
 use Rattle.std.proofs.lemmas.List.Elements.{All-from_recursion}
 use Rattle.std.proofs.Math.Nat.{one-le-pow}
 use Rattle.quantity.specs.Digits.{AllDigits, after_digits, leading_digits}
-use Rattle.quantity.specs.Suffix.{HasFactor, IsExponent, IsScale, named_factors, factor_of, times, divided_by, power_of, exponent_factor, decimal_factor, binary_factor, begins_exponent}
+use Rattle.quantity.specs.Suffix.{HasFactor, IsExponent, IsScale, named_factors, factor_of, times, divided_by}
+use Rattle.quantity.specs.Suffix.{power_of, exponent_factor, decimal_factor, binary_factor, begins_exponent}
 use Rattle.quantity.specs.declared.suffix.Factor.{Factor}
 use Rattle.quantity.proofs.Decimal.{ten_mono, digit_value_is, leading_are_digits}
 use Rattle.quantity.proofs.Numbers.{after-append, whole_text}
@@ -29,11 +31,27 @@ times_scale n h = record { small = h; positive = omega arith; fine = omega arith
 divided_scale : (n : ℕ) → 0 < n → n ≤ 10 ^ 18 → IsScale (divided_by n)
 divided_scale n some h = record { small = omega arith; positive = some; fine = h }
 
-reads_times : (suffix : List ℕ) (n : ℕ) → factor_of suffix ≡ Some (times n) → is_ascii_digit (get_or suffix 0 0) ≡ false → (get_or suffix 0 0 == 46) ≡ false → nat_le n (2 ^ 60) ≡ true → Reads suffix (times n)
-reads_times suffix n read digit point small = record { read = read; no_digit = digit; no_point = grind (arith, nat_tests); scale = times_scale n (grind (arith, nat_tests)) }
+reads_times : (suffix : List ℕ) (n : ℕ) → factor_of suffix ≡ Some (times n)
+    → is_ascii_digit (get_or suffix 0 0) ≡ false → (get_or suffix 0 0 == 46) ≡ false → nat_le n (2 ^ 60) ≡ true
+    → Reads suffix (times n)
+reads_times suffix n read digit point small =
+    record {
+      read = read;
+      no_digit = digit;
+      no_point = grind (arith, nat_tests);
+      scale = times_scale n (grind (arith, nat_tests));
+    }
 
-reads_divided : (suffix : List ℕ) (n : ℕ) → factor_of suffix ≡ Some (divided_by n) → is_ascii_digit (get_or suffix 0 0) ≡ false → (get_or suffix 0 0 == 46) ≡ false → (nat_le 1 n && nat_le n (10 ^ 18)) ≡ true → Reads suffix (divided_by n)
-reads_divided suffix n read digit point bounds = record { read = read; no_digit = digit; no_point = grind (arith, nat_tests); scale = divided_scale n (grind (arith, nat_tests)) (grind (arith, nat_tests)) }
+reads_divided : (suffix : List ℕ) (n : ℕ) → factor_of suffix ≡ Some (divided_by n)
+    → is_ascii_digit (get_or suffix 0 0) ≡ false → (get_or suffix 0 0 == 46) ≡ false
+    → (nat_le 1 n && nat_le n (10 ^ 18)) ≡ true → Reads suffix (divided_by n)
+reads_divided suffix n read digit point bounds =
+    record {
+      read = read;
+      no_digit = digit;
+      no_point = grind (arith, nat_tests);
+      scale = divided_scale n (grind (arith, nat_tests)) (grind (arith, nat_tests));
+    }
 
 each_reads : AllByRecursion (λ (e : List ℕ × Factor). Reads e.0 e.1) named_factors
 unfolding factor_of
@@ -93,7 +111,8 @@ reads_named suffix factor at =
     subst P at.2 (All-from_recursion P named_factors each_reads at.0 (suffix, factor) at.1)
 
 -- one or two digits, up to 18
-power_read : (digits : List ℕ) → AllDigits digits → 1 ≤ length digits → length digits ≤ 2 → digits_value 10 digits ≤ 18 → power_of digits ≡ Some (10 ^ digits_value 10 digits)
+power_read : (digits : List ℕ) → AllDigits digits → 1 ≤ length digits → length digits ≤ 2
+    → digits_value 10 digits ≤ 18 → power_of digits ≡ Some (10 ^ digits_value 10 digits)
 power_read digits all some few small =
     let none : after_digits digits ≡ [] = (let h = after-append digits [] all refl in rw append-nil at h) in
     let size : (length digits == 1 || length digits == 2) ≡ true = grind (arith, nat_tests) in
@@ -104,18 +123,23 @@ power_bounds : (n : ℕ) → n ≤ 18 → (0 < 10 ^ n) × (10 ^ n ≤ 10 ^ 18)
 power_bounds n small = let some : 0 < 10 = omega arith in (one-le-pow n 10 some, ten_mono n 18 small)
 
 -- a letter and what follows it
-exponent_read : (letter : List ℕ) (text : List ℕ) → (letter ≡ codes "e") ⊎ (letter ≡ codes "E") → 0 < length text → get_or text 0 0 ≢ 105 → factor_of (letter ++ text) ≡ exponent_factor text
+exponent_read : (letter : List ℕ) (text : List ℕ) → (letter ≡ codes "e") ⊎ (letter ≡ codes "E") → 0 < length text
+    → get_or text 0 0 ≢ 105 → factor_of (letter ++ text) ≡ exponent_factor text
 unfolding factor_of
 exponent_read letter text is some differs =
     let zero' : (suc (length text) == 0) ≡ false = grind (arith, nat_tests) in
     let one : (suc (length text) == 1) ≡ false = grind (arith, nat_tests) in
     let two : ((suc (length text) == 2) && (get_or text 0 0 == 105)) ≡ false = grind (arith, nat_tests) in
-    ⊎_elim (λ (e : letter ≡ codes "e"). rw (e, zero', one, two)) (λ (e : letter ≡ codes "E"). rw (e, zero', one, two)) is
+    ⊎_elim (λ (e : letter ≡ codes "e"). rw (e, zero', one, two)) (λ (e : letter ≡ codes "E"). rw (e, zero', one, two))
+    is
 
-exponent_first : (letter text : List ℕ) → (letter ≡ codes "e") ⊎ (letter ≡ codes "E") → (is_ascii_digit (get_or (letter ++ text) 0 0) ≡ false) × (get_or (letter ++ text) 0 0 ≢ 46)
-exponent_first letter text is = ⊎_elim (λ (e : letter ≡ codes "e"). rw e (refl, λ h. cc)) (λ (e : letter ≡ codes "E"). rw e (refl, λ h. cc)) is
+exponent_first : (letter text : List ℕ) → (letter ≡ codes "e") ⊎ (letter ≡ codes "E")
+    → (is_ascii_digit (get_or (letter ++ text) 0 0) ≡ false) × (get_or (letter ++ text) 0 0 ≢ 46)
+exponent_first letter text is = ⊎_elim (λ (e : letter ≡ codes "e"). rw e (refl, λ h. cc))
+    (λ (e : letter ≡ codes "E"). rw e (refl, λ h. cc)) is
 
-digit_between : (digits : List ℕ) → AllDigits digits → 1 ≤ length digits → (48 ≤ get_or digits 0 0) × (get_or digits 0 0 ≤ 57)
+digit_between : (digits : List ℕ) → AllDigits digits → 1 ≤ length digits → (48 ≤ get_or digits 0 0)
+    × (get_or digits 0 0 ≤ 57)
 digit_between digits all some = let d = digit_value_is (get_or digits 0 0) (all 0 0 some) in (d.1, d.2)
 
 -- what follows the letter is read
@@ -124,7 +148,8 @@ record ReadsSigned (text : List ℕ) (factor : Factor) : Type 0 where
   differs : get_or text 0 0 ≢ 105
   scale : IsScale factor
 
-signed_read : (suffix : List ℕ) (factor : Factor) (e : IsExponent suffix factor) → ReadsSigned (e.sign ++ e.digits) factor
+signed_read : (suffix : List ℕ) (factor : Factor) (e : IsExponent suffix factor)
+    → ReadsSigned (e.sign ++ e.digits) factor
 signed_read suffix factor e =
     let power = power_read e.digits e.all_digits e.one_or_two.0 e.one_or_two.1 e.at_most in
     let bounds = power_bounds (digits_value 10 e.digits) e.at_most in
@@ -135,11 +160,26 @@ signed_read suffix factor e =
     let minus : (get_or e.digits 0 0 == 45) ≡ false = grind (arith, nat_tests) in
     let plus : (get_or e.digits 0 0 == 43) ≡ false = grind (arith, nat_tests) in
     ⊎_elim (λ (up : ((e.sign ≡ []) ⊎ (e.sign ≡ codes "+")) × (factor ≡ times (10 ^ digits_value 10 e.digits))).
-    ⊎_elim (λ (none : e.sign ≡ []). let r : ReadsSigned (e.sign ++ e.digits) factor = record { read = rw (none, up.1, minus, plus, power); differs = rw none (λ h. omega arith); scale = rw up.1 (times_scale (10 ^ digits_value 10 e.digits) high) } in r)
-    (λ (sign : e.sign ≡ codes "+"). let r : ReadsSigned (e.sign ++ e.digits) factor = record { read = rw (sign, up.1, power); differs = rw sign (λ h. cc); scale = rw up.1 (times_scale (10 ^ digits_value 10 e.digits) high) } in r)
+    ⊎_elim (λ (none : e.sign ≡ []). let r : ReadsSigned (e.sign ++ e.digits) factor =
+    record {
+      read = rw (none, up.1, minus, plus, power);
+      differs = rw none (λ h. omega arith);
+      scale = rw up.1 (times_scale (10 ^ digits_value 10 e.digits) high);
+    } in r)
+    (λ (sign : e.sign ≡ codes "+"). let r : ReadsSigned (e.sign ++ e.digits) factor =
+    record {
+      read = rw (sign, up.1, power);
+      differs = rw sign (λ h. cc);
+      scale = rw up.1 (times_scale (10 ^ digits_value 10 e.digits) high);
+    } in r)
     up.0)
     (λ (down : (e.sign ≡ codes "-") × (factor ≡ divided_by (10 ^ digits_value 10 e.digits))).
-    let r : ReadsSigned (e.sign ++ e.digits) factor = record { read = rw (down.0, down.1, power); differs = rw down.0 (λ h. cc); scale = rw down.1 (divided_scale (10 ^ digits_value 10 e.digits) bounds.0 bounds.1) } in r)
+    let r : ReadsSigned (e.sign ++ e.digits) factor =
+    record {
+      read = rw (down.0, down.1, power);
+      differs = rw down.0 (λ h. cc);
+      scale = rw down.1 (divided_scale (10 ^ digits_value 10 e.digits) bounds.0 bounds.1);
+    } in r)
     e.factor_is
 
 reads_exponent : (suffix : List ℕ) (factor : Factor) → IsExponent suffix factor → Reads suffix factor
@@ -160,40 +200,59 @@ factor_reads suffix factor h = ⊎_elim (reads_named suffix factor) (reads_expon
 
 -- From what is read to what it means.
 
-pick : (n m : ℕ) (a factor : Factor) (other : Option Factor) (P : Type 0) → (if n == m then Some a else other) ≡ Some factor → (n ≡ m → a ≡ factor → P) → (other ≡ Some factor → P) → P
+pick : (n m : ℕ) (a factor : Factor) (other : Option Factor) (P : Type 0) → (if n == m then Some a else other) ≡ Some
+    factor → (n ≡ m → a ≡ factor → P) → (other ≡ Some factor → P) → P
 pick n m a factor other P h yes' no' =
     ⊎_elim (λ (t : ((n == m) ≡ true) × (n ≡ m)). yes' t.1 (let g : Some a ≡ Some factor = (rw t.0 at h) in cc))
     (λ (t : ((n == m) ≡ false) × (n ≢ m)). no' (rw t.0 at h))
     (eqb_tells n m)
 
-decimal_named : (letter : ℕ) (factor : Factor) → decimal_factor letter ≡ Some factor → Contains named_factors (letter ∷ [], factor)
+decimal_named : (letter : ℕ) (factor : Factor) → decimal_factor letter ≡ Some factor
+    → Contains named_factors (letter ∷ [], factor)
 decimal_named letter factor h =
-    pick letter 110 (divided_by (10 ^ 9)) factor _ (Contains named_factors (letter ∷ [], factor)) h (λ e g. rw (e, ← g) (1, omega arith, refl)) (λ h.
-    pick letter 117 (divided_by (10 ^ 6)) factor _ (Contains named_factors (letter ∷ [], factor)) h (λ e g. rw (e, ← g) (2, omega arith, refl)) (λ h.
-    pick letter 109 (divided_by (10 ^ 3)) factor _ (Contains named_factors (letter ∷ [], factor)) h (λ e g. rw (e, ← g) (3, omega arith, refl)) (λ h.
-    pick letter 107 (times (10 ^ 3)) factor _ (Contains named_factors (letter ∷ [], factor)) h (λ e g. rw (e, ← g) (4, omega arith, refl)) (λ h.
-    pick letter 77 (times (10 ^ 6)) factor _ (Contains named_factors (letter ∷ [], factor)) h (λ e g. rw (e, ← g) (5, omega arith, refl)) (λ h.
-    pick letter 71 (times (10 ^ 9)) factor _ (Contains named_factors (letter ∷ [], factor)) h (λ e g. rw (e, ← g) (6, omega arith, refl)) (λ h.
-    pick letter 84 (times (10 ^ 12)) factor _ (Contains named_factors (letter ∷ [], factor)) h (λ e g. rw (e, ← g) (7, omega arith, refl)) (λ h.
-    pick letter 80 (times (10 ^ 15)) factor _ (Contains named_factors (letter ∷ [], factor)) h (λ e g. rw (e, ← g) (8, omega arith, refl)) (λ h.
-    pick letter 69 (times (10 ^ 18)) factor _ (Contains named_factors (letter ∷ [], factor)) h (λ e g. rw (e, ← g) (9, omega arith, refl)) (λ h.
+    pick letter 110 (divided_by (10 ^ 9)) factor _ (Contains named_factors (letter ∷ [], factor)) h
+    (λ e g. rw (e, ← g) (1, omega arith, refl)) (λ h.
+    pick letter 117 (divided_by (10 ^ 6)) factor _ (Contains named_factors (letter ∷ [], factor)) h
+    (λ e g. rw (e, ← g) (2, omega arith, refl)) (λ h.
+    pick letter 109 (divided_by (10 ^ 3)) factor _ (Contains named_factors (letter ∷ [], factor)) h
+    (λ e g. rw (e, ← g) (3, omega arith, refl)) (λ h.
+    pick letter 107 (times (10 ^ 3)) factor _ (Contains named_factors (letter ∷ [], factor)) h
+    (λ e g. rw (e, ← g) (4, omega arith, refl)) (λ h.
+    pick letter 77 (times (10 ^ 6)) factor _ (Contains named_factors (letter ∷ [], factor)) h
+    (λ e g. rw (e, ← g) (5, omega arith, refl)) (λ h.
+    pick letter 71 (times (10 ^ 9)) factor _ (Contains named_factors (letter ∷ [], factor)) h
+    (λ e g. rw (e, ← g) (6, omega arith, refl)) (λ h.
+    pick letter 84 (times (10 ^ 12)) factor _ (Contains named_factors (letter ∷ [], factor)) h
+    (λ e g. rw (e, ← g) (7, omega arith, refl)) (λ h.
+    pick letter 80 (times (10 ^ 15)) factor _ (Contains named_factors (letter ∷ [], factor)) h
+    (λ e g. rw (e, ← g) (8, omega arith, refl)) (λ h.
+    pick letter 69 (times (10 ^ 18)) factor _ (Contains named_factors (letter ∷ [], factor)) h
+    (λ e g. rw (e, ← g) (9, omega arith, refl)) (λ h.
     absurd (cc))))))))))
 
-binary_named : (letter : ℕ) (factor : Factor) → binary_factor letter ≡ Some factor → Contains named_factors (letter ∷ 105 ∷ [], factor)
+binary_named : (letter : ℕ) (factor : Factor) → binary_factor letter ≡ Some factor
+    → Contains named_factors (letter ∷ 105 ∷ [], factor)
 binary_named letter factor h =
-    pick letter 75 (times (2 ^ 10)) factor _ (Contains named_factors (letter ∷ 105 ∷ [], factor)) h (λ e g. rw (e, ← g) (10, omega arith, refl)) (λ h.
-    pick letter 77 (times (2 ^ 20)) factor _ (Contains named_factors (letter ∷ 105 ∷ [], factor)) h (λ e g. rw (e, ← g) (11, omega arith, refl)) (λ h.
-    pick letter 71 (times (2 ^ 30)) factor _ (Contains named_factors (letter ∷ 105 ∷ [], factor)) h (λ e g. rw (e, ← g) (12, omega arith, refl)) (λ h.
-    pick letter 84 (times (2 ^ 40)) factor _ (Contains named_factors (letter ∷ 105 ∷ [], factor)) h (λ e g. rw (e, ← g) (13, omega arith, refl)) (λ h.
-    pick letter 80 (times (2 ^ 50)) factor _ (Contains named_factors (letter ∷ 105 ∷ [], factor)) h (λ e g. rw (e, ← g) (14, omega arith, refl)) (λ h.
-    pick letter 69 (times (2 ^ 60)) factor _ (Contains named_factors (letter ∷ 105 ∷ [], factor)) h (λ e g. rw (e, ← g) (15, omega arith, refl)) (λ h.
+    pick letter 75 (times (2 ^ 10)) factor _ (Contains named_factors (letter ∷ 105 ∷ [], factor)) h
+    (λ e g. rw (e, ← g) (10, omega arith, refl)) (λ h.
+    pick letter 77 (times (2 ^ 20)) factor _ (Contains named_factors (letter ∷ 105 ∷ [], factor)) h
+    (λ e g. rw (e, ← g) (11, omega arith, refl)) (λ h.
+    pick letter 71 (times (2 ^ 30)) factor _ (Contains named_factors (letter ∷ 105 ∷ [], factor)) h
+    (λ e g. rw (e, ← g) (12, omega arith, refl)) (λ h.
+    pick letter 84 (times (2 ^ 40)) factor _ (Contains named_factors (letter ∷ 105 ∷ [], factor)) h
+    (λ e g. rw (e, ← g) (13, omega arith, refl)) (λ h.
+    pick letter 80 (times (2 ^ 50)) factor _ (Contains named_factors (letter ∷ 105 ∷ [], factor)) h
+    (λ e g. rw (e, ← g) (14, omega arith, refl)) (λ h.
+    pick letter 69 (times (2 ^ 60)) factor _ (Contains named_factors (letter ∷ 105 ∷ [], factor)) h
+    (λ e g. rw (e, ← g) (15, omega arith, refl)) (λ h.
     absurd (cc)))))))
 
 pub some_if : {A : Type 0} (test : Bool) (x y : A) → (if test then Some x else None) ≡ Some y → (test ≡ true) × (x ≡ y)
 some_if true x y h = (refl, cc)
 some_if false x y h = absurd (cc)
 
-pub mapped : {A B : Type 0} (f : A → B) (o : Option A) (y : B) → option_map f o ≡ Some y → (x : A) × (o ≡ Some x) × (f x ≡ y)
+pub mapped : {A B : Type 0} (f : A → B) (o : Option A) (y : B) → option_map f o ≡ Some y → (x : A) × (o ≡ Some x)
+    × (f x ≡ y)
 mapped f None y h = absurd (cc)
 mapped f (Some x) y h = (x, refl, cc)
 
@@ -206,10 +265,14 @@ record IsPower (digits : List ℕ) (n : ℕ) : Type 0 where
 
 power_means : (digits : List ℕ) (n : ℕ) → power_of digits ≡ Some n → IsPower digits n
 power_means digits n h =
-    let t = some_if ((length digits == 1 || length digits == 2) && (length (after_digits digits) == 0 && nat_le (digits_value 10 digits) 18)) (10 ^ digits_value 10 digits) n h in
-    let test : ((length digits == 1 || length digits == 2) && (length (after_digits digits) == 0 && nat_le (digits_value 10 digits) 18)) ≡ true = t.0 in
+    let t = some_if ((length digits == 1 || length digits == 2) &&
+    (length (after_digits digits) == 0 && nat_le (digits_value 10 digits) 18)) (10 ^ digits_value 10 digits) n h in
+    let test : ((length digits == 1 || length digits == 2) &&
+    (length (after_digits digits) == 0 && nat_le (digits_value 10 digits) 18)) ≡ true = t.0 in
     let none : length (after_digits digits) ≡ 0 = grind (arith, nat_tests) in
-    let whole : digits ≡ leading_digits digits = (let w = whole_text digits in let z = nil_from_length (after_digits digits) none in let e : digits ≡ leading_digits digits ++ [] = (rw (← z) w) in rw append-nil at e) in
+    let whole : digits ≡ leading_digits digits =
+    (let w = whole_text digits in let z = nil_from_length (after_digits digits) none in
+    let e : digits ≡ leading_digits digits ++ [] = (rw (← z) w) in rw append-nil at e) in
     record {
       all_digits = rw whole (leading_are_digits digits);
       some = grind (arith, nat_tests);
@@ -218,34 +281,72 @@ power_means digits n h =
       power = sym t.1;
     }
 
-when : {A : Type 0} (test : Bool) (o : Option A) (y : A) → (if test then o else None) ≡ Some y → (test ≡ true) × (o ≡ Some y)
+when : {A : Type 0} (test : Bool) (o : Option A) (y : A) → (if test then o else None) ≡ Some y → (test ≡ true)
+    × (o ≡ Some y)
 when true o y h = (refl, h)
 when false o y h = absurd (cc)
 
-plus_means : (letter : List ℕ) (c : ℕ) (text : List ℕ) (factor : Factor) → (letter ≡ codes "e") ⊎ (letter ≡ codes "E") → (if c == 43 then option_map times (power_of text) else option_map times (power_of (c ∷ text))) ≡ Some factor → IsExponent (letter ++ c ∷ text) factor
+plus_means : (letter : List ℕ) (c : ℕ) (text : List ℕ) (factor : Factor) → (letter ≡ codes "e") ⊎ (letter ≡ codes "E")
+    → (if c == 43 then option_map times (power_of text) else option_map times (power_of (c ∷ text))) ≡ Some factor
+    → IsExponent (letter ++ c ∷ text) factor
 plus_means letter c text factor is h =
     ⊎_elim (λ (t : ((c == 43) ≡ true) × (c ≡ 43)).
     let m = mapped times (power_of text) factor (rw t.0 at h) in
     let p = power_means text m.0 m.1 in
-    let r : IsExponent (letter ++ c ∷ text) factor = record { letter = letter; sign = codes "+"; digits = text; suffix_is = rw t.1 refl; letter_is = is; all_digits = p.all_digits; one_or_two = (p.some, p.few); at_most = p.small; factor_is = inl (inr refl, sym m.2 ∙ ap times p.power) } in r)
+    let r : IsExponent (letter ++ c ∷ text) factor =
+    record {
+      letter = letter;
+      sign = codes "+";
+      digits = text;
+      suffix_is = rw t.1 refl;
+      letter_is = is;
+      all_digits = p.all_digits;
+      one_or_two = (p.some, p.few);
+      at_most = p.small;
+      factor_is = inl (inr refl, sym m.2 ∙ ap times p.power);
+    } in r)
     (λ (f : ((c == 43) ≡ false) × (c ≢ 43)).
     let m = mapped times (power_of (c ∷ text)) factor (rw f.0 at h) in
     let p = power_means (c ∷ text) m.0 m.1 in
-    let r : IsExponent (letter ++ c ∷ text) factor = record { letter = letter; sign = []; digits = c ∷ text; suffix_is = refl; letter_is = is; all_digits = p.all_digits; one_or_two = (p.some, p.few); at_most = p.small; factor_is = inl (inl refl, sym m.2 ∙ ap times p.power) } in r)
+    let r : IsExponent (letter ++ c ∷ text) factor =
+    record {
+      letter = letter;
+      sign = [];
+      digits = c ∷ text;
+      suffix_is = refl;
+      letter_is = is;
+      all_digits = p.all_digits;
+      one_or_two = (p.some, p.few);
+      at_most = p.small;
+      factor_is = inl (inl refl, sym m.2 ∙ ap times p.power);
+    } in r)
     (eqb_tells c 43)
 
-exponent_means : (letter text : List ℕ) (factor : Factor) → (letter ≡ codes "e") ⊎ (letter ≡ codes "E") → exponent_factor text ≡ Some factor → IsExponent (letter ++ text) factor
+exponent_means : (letter text : List ℕ) (factor : Factor) → (letter ≡ codes "e") ⊎ (letter ≡ codes "E")
+    → exponent_factor text ≡ Some factor → IsExponent (letter ++ text) factor
 exponent_means letter [] factor is h = absurd (cc)
 exponent_means letter (c ∷ text) factor is h =
     ⊎_elim (λ (t : ((c == 45) ≡ true) × (c ≡ 45)).
     let m = mapped divided_by (power_of text) factor (rw t.0 at h) in
     let p = power_means text m.0 m.1 in
-    let r : IsExponent (letter ++ c ∷ text) factor = record { letter = letter; sign = codes "-"; digits = text; suffix_is = rw t.1 refl; letter_is = is; all_digits = p.all_digits; one_or_two = (p.some, p.few); at_most = p.small; factor_is = inr (refl, sym m.2 ∙ ap divided_by p.power) } in r)
+    let r : IsExponent (letter ++ c ∷ text) factor =
+    record {
+      letter = letter;
+      sign = codes "-";
+      digits = text;
+      suffix_is = rw t.1 refl;
+      letter_is = is;
+      all_digits = p.all_digits;
+      one_or_two = (p.some, p.few);
+      at_most = p.small;
+      factor_is = inr (refl, sym m.2 ∙ ap divided_by p.power);
+    } in r)
     (λ (f : ((c == 45) ≡ false) × (c ≢ 45)). plus_means letter c text factor is (rw f.0 at h))
     (eqb_tells c 45)
 
 -- a suffix that begins as an exponent
-rest_means : (c : ℕ) (text : List ℕ) (factor : Factor) → (if begins_exponent (c ∷ text) then exponent_factor text else None) ≡ Some factor → IsExponent (c ∷ text) factor
+rest_means : (c : ℕ) (text : List ℕ) (factor : Factor)
+    → (if begins_exponent (c ∷ text) then exponent_factor text else None) ≡ Some factor → IsExponent (c ∷ text) factor
 rest_means c text factor h =
     let t = when (begins_exponent (c ∷ text)) (exponent_factor text) factor h in
     ⊎_elim (λ (e : ((c == 101) ≡ true) × (c ≡ 101)). rw e.1 (exponent_means (codes "e") text factor (inl refl) t.1))

@@ -1,6 +1,8 @@
 -- Durations, as `1h`, `1m30s` and `0` (Kubernetes, "Node-pressure Eviction", "Soft eviction
 -- thresholds": `evictionSoftGracePeriod`).
-use Rattle.std.specs.Prelude.{◌≡◌, ◌≢◌, slice_index, false, ℕ, ◌+◌, ◌*◌, ◌^◌, ◌<◌, ◌≤◌, ◌⊎◌, List, [], ◌∷◌, ◌++◌, length, slice_get, Option, Some, None, option_and_then, Result, Ok, Err, nat_lt, nat_le, ◌==◌, if◌then◌else◌, IsSome, unwrap_or, All, sum_by, codes}
+use Rattle.std.specs.Prelude.{◌≡◌, ◌≢◌, slice_index, false, ℕ, ◌+◌, ◌*◌, ◌^◌, ◌<◌, ◌≤◌, ◌⊎◌, List, [], ◌∷◌, ◌++◌}
+use Rattle.std.specs.Prelude.{length, slice_get, Option, Some, None, option_and_then, Result, Ok, Err, nat_lt, nat_le}
+use Rattle.std.specs.Prelude.{◌==◌, if◌then◌else◌, IsSome, unwrap_or, All, sum_by, codes}
 use Rattle.std.specs.List.{prefix_len, flat_map}
 use Rattle.std.specs.Char.{is_ascii_digit}
 use Rattle.std.specs.Str.Parse.{digits_value}
@@ -12,7 +14,8 @@ use Rattle.quantity.specs.declared.fault.QuantityFault.TheVariants.{Empty, BadDi
 
 -- the seconds of a unit: `h` is 104, `m` 109 and `s` 115
 abbrev pub unit_seconds : ℕ → Option ℕ
-unit_seconds unit = if unit == 104 then Some 3600 else if unit == 109 then Some 60 else if unit == 115 then Some 1 else None
+unit_seconds unit = if unit == 104 then Some 3600 else if unit == 109 then Some 60 else if unit == 115 then Some 1
+    else None
 
 -- What a text means.
 
@@ -52,7 +55,8 @@ HasSeconds text seconds = ((text ≡ codes "0") × (seconds ≡ 0)) ⊎ ((parts 
 abbrev pub HasUnitFault : ℕ → ℕ → List ℕ → QuantityFault → Type 0
 HasUnitFault sum number text fault =
     ((option_and_then unit_seconds (slice_get text 0) ≡ None) × (fault ≡ BadSuffix)) ⊎
-    ((seconds : ℕ) × (option_and_then unit_seconds (slice_get text 0) ≡ Some seconds) × (2 ^ 40 ≤ sum + number * seconds) × (fault ≡ TooManyDigits))
+    ((seconds : ℕ) × (option_and_then unit_seconds (slice_get text 0) ≡ Some seconds)
+    × (2 ^ 40 ≤ sum + number * seconds) × (fault ≡ TooManyDigits))
 
 -- the digits that a text begins with are none; more than 12; or their unit has a fault
 pub record HasPartFault (sum : ℕ) (text : List ℕ) (fault : QuantityFault) : Type 0 where
@@ -78,7 +82,8 @@ pub record HasFaultAfter (sum : ℕ) (text : List ℕ) (fault : QuantityFault) :
 
 -- the text is empty, or is not `0` and has a fault in a part
 abbrev pub HasDurationFault : List ℕ → QuantityFault → Type 0
-HasDurationFault text fault = ((text ≡ []) × (fault ≡ Empty)) ⊎ ((0 < length text) × (text ≢ codes "0") × HasFaultAfter 0 text fault)
+HasDurationFault text fault = ((text ≡ []) × (fault ≡ Empty)) ⊎ ((0 < length text) × (text ≢ codes "0")
+    × HasFaultAfter 0 text fault)
 
 -- What is read of a text, and its first fault from left to right.
 
@@ -110,4 +115,5 @@ sum_onto sum (piece ∷ pieces) = do
 
 -- the seconds of a duration, or the first fault
 unfoldable pub duration_of : List ℕ → Result ℕ QuantityFault
-duration_of text = if length text == 0 then Err Empty else if bytes_eq text (codes "0") then Ok 0 else sum_onto 0 (pieces_of text)
+duration_of text = if length text == 0 then Err Empty else if bytes_eq text (codes "0") then Ok 0 else sum_onto 0
+    (pieces_of text)

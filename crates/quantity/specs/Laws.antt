@@ -20,7 +20,8 @@ DurationTextHasOneValue text m n = HasSeconds text m → HasSeconds text n → m
 
 -- `+` is 43; a text may begin with one of them alone
 abbrev pub LeadingPlusChangesNothing : List ℕ → ℕ → Type 0
-LeadingPlusChangesNothing text n = (slice_index text 0 ≢ 43 → HasThousandths text n → HasThousandths (43 ∷ text) n) × (HasThousandths (43 ∷ text) n → HasThousandths text n)
+LeadingPlusChangesNothing text n = (slice_index text 0 ≢ 43 → HasThousandths text n → HasThousandths (43 ∷ text) n)
+    × (HasThousandths (43 ∷ text) n → HasThousandths text n)
 
 -- front is digits, perhaps after a plus, so the digit that follows it stands before the point
 abbrev pub LargerDigitGivesNoLess : List ℕ → List ℕ → ℕ → ℕ → ℕ → ℕ → Type 0
@@ -36,7 +37,8 @@ SharesGrow few many low high = few ≤ many → low ≤ high → share_of few lo
 
 -- each quantity that some text writes
 abbrev pub WrittenQuantitiesReadBack : List ℕ → ℕ → Type 0
-WrittenQuantitiesReadBack text thousandths = HasThousandths text thousandths → HasThousandths (quantity_text thousandths) thousandths
+WrittenQuantitiesReadBack text thousandths = HasThousandths text thousandths
+    → HasThousandths (quantity_text thousandths) thousandths
 
 -- among them all whose units, or thousandths, have at most 17 digits
 abbrev pub PrintedQuantitiesReadBack : ℕ → Type 0

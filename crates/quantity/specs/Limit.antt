@@ -1,6 +1,7 @@
 -- A limit that is a quantity or a percentage (Kubernetes, "Node-pressure Eviction", "Eviction
 -- thresholds": "a literal value" or "a percentage").
-use Rattle.std.specs.Prelude.{ℕ, List, length, ◌-◌, slice_index, Option, Some, None, IsSome, Result, Ok, ◌==◌, if◌then◌else◌}
+use Rattle.std.specs.Prelude.{ℕ, List, length, ◌-◌, slice_index, Option, Some, None, IsSome, Result, Ok, ◌==◌}
+use Rattle.std.specs.Prelude.{if◌then◌else◌}
 use Rattle.quantity.specs.Percent.{percent_of, share_of}
 use Rattle.quantity.specs.Quantity.{quantity_of}
 use Rattle.quantity.specs.Steps.{◌>>=◌}

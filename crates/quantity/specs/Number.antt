@@ -1,6 +1,7 @@
 -- A number with a point, at the beginning of a text: the longest run of digits with at most one
 -- point.
-use Rattle.std.specs.Prelude.{◌≡◌, ℕ, List, [], ◌∷◌, ◌++◌, drop, slice_get, Bool, ◌==◌, if◌then◌else◌, unwrap_or, length, All, count_by, ◌≤◌, ◌⊎◌, true}
+use Rattle.std.specs.Prelude.{◌≡◌, ℕ, List, [], ◌∷◌, ◌++◌, drop, slice_get, Bool, ◌==◌, if◌then◌else◌, unwrap_or}
+use Rattle.std.specs.Prelude.{length, All, count_by, ◌≤◌, ◌⊎◌, true}
 use Rattle.std.specs.Char.{is_ascii_digit}
 use Rattle.quantity.specs.Digits.{leading_digits, after_digits}
 

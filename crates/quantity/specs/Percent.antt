@@ -1,5 +1,7 @@
 -- Percentages, as `10%` and `12.5%` (Kubernetes, "Node-pressure Eviction", "Eviction thresholds").
-use Rattle.std.specs.Prelude.{◌≡◌, ◌≢◌, ◌<◌, ◌∷◌, slice_index, false, ℕ, ◌+◌, ◌*◌, ◌-◌, ◌/◌, ◌^◌, ◌≤◌, ◌⊎◌, List, [], ◌++◌, length, unwrap_or, slice_get, Result, Ok, not, ◌&&◌, ◌||◌, nat_lt, ◌==◌, ◌%◌, if◌then◌else◌, codes, decimal}
+use Rattle.std.specs.Prelude.{◌≡◌, ◌≢◌, ◌<◌, ◌∷◌, slice_index, false, ℕ, ◌+◌, ◌*◌, ◌-◌, ◌/◌, ◌^◌, ◌≤◌, ◌⊎◌, List, []}
+use Rattle.std.specs.Prelude.{◌++◌, length, unwrap_or, slice_get, Result, Ok, not, ◌&&◌, ◌||◌, nat_lt, ◌==◌, ◌%◌}
+use Rattle.std.specs.Prelude.{if◌then◌else◌, codes, decimal}
 use Rattle.std.specs.Char.{is_ascii_digit}
 use Rattle.std.specs.Str.Parse.{digits_value}
 use Rattle.std.specs.Str.{bytes_eq}
@@ -19,7 +21,8 @@ pub record HasHundredths (text : List ℕ) (hundredths : ℕ) : Type 0 where
   pub whole_digits : AllDigits whole
   pub fraction_digits : AllDigits fraction
   pub some_whole : (1 ≤ length whole) × (length whole ≤ 3)
-  pub some_fraction : ((point ≡ []) × (fraction ≡ [])) ⊎ ((point ≡ codes ".") × (1 ≤ length fraction) × (length fraction ≤ 2))
+  pub some_fraction : ((point ≡ []) × (fraction ≡ [])) ⊎ ((point ≡ codes ".") × (1 ≤ length fraction)
+      × (length fraction ≤ 2))
   pub value : hundredths * 10 ^ length fraction ≡ 100 * digits_value 10 (whole ++ fraction)
   pub at_most : hundredths ≤ 10000
 
@@ -43,7 +46,8 @@ HasPartsFault whole point fraction rest fault =
     ((((3 < length whole) ⊎ (2 < length fraction)) × (fault ≡ TooManyDigits)) ⊎
     ((length whole ≤ 3) × (length fraction ≤ 2) ×
     (((rest ≢ codes "%") × (fault ≡ BadSuffix)) ⊎
-    ((rest ≡ codes "%") × (10000 * 10 ^ length fraction < 100 * digits_value 10 (whole ++ fraction)) × (fault ≡ TooManyDigits))))))
+    ((rest ≡ codes "%") × (10000 * 10 ^ length fraction < 100 * digits_value 10 (whole ++ fraction))
+    × (fault ≡ TooManyDigits))))))
 
 pub record HasNumberFault (text : List ℕ) (fault : QuantityFault) : Type 0 where
   pub whole : List ℕ
@@ -85,4 +89,5 @@ abbrev pub percent_text : ℕ → List ℕ
 percent_text hundredths =
     if hundredths % 100 == 0
     then decimal (hundredths / 100) ++ codes "%"
-    else decimal (hundredths / 100) ++ (codes "." ++ (decimal (hundredths / 10 % 10) ++ (decimal (hundredths % 10) ++ codes "%")))
+    else decimal (hundredths / 100)
+    ++ (codes "." ++ (decimal (hundredths / 10 % 10) ++ (decimal (hundredths % 10) ++ codes "%")))

@@ -1,11 +1,13 @@
 -- What is printed of a quantity.
-use Rattle.std.specs.Prelude.{ℕ, suc, zero, ◌+◌, ◌*◌, ◌-◌, ◌/◌, ◌%◌, ◌^◌, List, [], ◌++◌, length, replicate, Option, Some, None, option_map, ◌&&◌, nat_lt, ◌==◌, if◌then◌else◌, codes, decimal}
+use Rattle.std.specs.Prelude.{ℕ, suc, zero, ◌+◌, ◌*◌, ◌-◌, ◌/◌, ◌%◌, ◌^◌, List, [], ◌++◌, length, replicate, Option}
+use Rattle.std.specs.Prelude.{Some, None, option_map, ◌&&◌, nat_lt, ◌==◌, if◌then◌else◌, codes, decimal}
 use Rattle.std.specs.Option.{option_or}
 use Rattle.quantity.specs.Quantity.{thousandths_of}
 use Rattle.quantity.specs.Suffix.{times}
 use Rattle.quantity.specs.declared.form.Form.{Form}
 use Rattle.quantity.specs.declared.form.Scale.{Scale}
-use Rattle.quantity.specs.declared.form.Scale.TheVariants.{Units, Exa, Peta, Tera, Giga, Mega, Kilo, Exbi, Pebi, Tebi, Gibi, Mebi, Kibi}
+use Rattle.quantity.specs.declared.form.Scale.TheVariants.{Units, Exa, Peta, Tera, Giga, Mega, Kilo, Exbi, Pebi, Tebi}
+use Rattle.quantity.specs.declared.form.Scale.TheVariants.{Gibi, Mebi, Kibi}
 
 -- the suffix of a scale, and its factor
 abbrev pub scale_suffix : Scale → List ℕ
@@ -70,11 +72,17 @@ few_digits number = if nat_lt number (10 ^ 17) then Some number else None
 abbrev pub exact_number : ℕ → ℕ → ℕ → Option ℕ
 exact_number thousandths places numerator =
     let number = least_number thousandths places numerator in
-    if nat_lt number (10 ^ 17) && thousandths_of number places (times numerator) == thousandths then Some number else None
+    if nat_lt number (10 ^ 17) && thousandths_of number places (times numerator) == thousandths then Some number else
+    None
 
 -- its digits before and after the point
 abbrev pub form_of : ℕ → Scale → ℕ → Form
-form_of places scale number = record { whole = number / 10 ^ places; fraction = number % 10 ^ places; places = places; scale = scale }
+form_of places scale number = record {
+  whole = number / 10 ^ places;
+  fraction = number % 10 ^ places;
+  places = places;
+  scale = scale;
+}
 
 -- the form at a place: by the digits after the point, and then by the scale
 abbrev pub form_at : ℕ → ℕ → Option Form
@@ -97,7 +105,8 @@ zero_padded places n = replicate (places - length (decimal n)) 48 ++ decimal n
 abbrev pub form_text : Form → List ℕ
 form_text form =
     if form.places == 0 then decimal form.whole ++ scale_suffix form.scale
-    else (if form.whole == 0 then [] else decimal form.whole) ++ (codes "." ++ (zero_padded form.places form.fraction ++ scale_suffix form.scale))
+    else (if form.whole == 0 then [] else decimal form.whole)
+    ++ (codes "." ++ (zero_padded form.places form.fraction ++ scale_suffix form.scale))
 
 -- no form is needed below 10^17 thousandths
 abbrev pub printed_form : ℕ → Option Form
@@ -105,7 +114,8 @@ printed_form thousandths = if nat_lt thousandths (10 ^ 17) then None else first_
 
 -- the units, or the thousandths where they are no whole number of units
 abbrev pub plain_text : ℕ → List ℕ
-plain_text thousandths = if thousandths % 1000 == 0 then decimal (thousandths / 1000) else decimal thousandths ++ codes "m"
+plain_text thousandths = if thousandths % 1000 == 0 then decimal (thousandths / 1000) else decimal thousandths
+    ++ codes "m"
 
 abbrev pub text_by_form : Option Form → ℕ → List ℕ
 text_by_form None thousandths = plain_text thousandths

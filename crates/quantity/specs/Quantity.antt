@@ -1,6 +1,7 @@
 -- Quantities, as `1.5Gi`, `100m` and `1e3`, in thousandths of a unit (Kubernetes, "Resource
 -- Management for Pods and Containers", "Resource units in Kubernetes").
-use Rattle.std.specs.Prelude.{◌≡◌, ◌≢◌, ◌<◌, ◌∷◌, count_by, ℕ, ◌+◌, ◌*◌, ◌-◌, ◌^◌, ◌≤◌, ◌⊎◌, min, List, [], ◌++◌, length, drop, slice_index, Result, Ok, nat_lt, ◌==◌, if◌then◌else◌, codes}
+use Rattle.std.specs.Prelude.{◌≡◌, ◌≢◌, ◌<◌, ◌∷◌, count_by, ℕ, ◌+◌, ◌*◌, ◌-◌, ◌^◌, ◌≤◌, ◌⊎◌, min, List, [], ◌++◌}
+use Rattle.std.specs.Prelude.{length, drop, slice_index, Result, Ok, nat_lt, ◌==◌, if◌then◌else◌, codes}
 use Rattle.std.specs.Char.{is_ascii_digit}
 use Rattle.std.specs.Int.{div_ceil}
 use Rattle.std.specs.Str.Parse.{digits_value}
@@ -43,7 +44,8 @@ pub record HasThousandths (text : List ℕ) (thousandths : ℕ) : Type 0 where
   pub point_is : ((point ≡ []) × (fraction ≡ [])) ⊎ (point ≡ codes ".")
   pub scaled : HasFactor suffix factor
   pub exact : ℕ
-  pub exact_is : IsLeastNotBelow exact (1000 * digits_value 10 (whole ++ fraction) * factor.numerator) (10 ^ length fraction * factor.denominator)
+  pub exact_is : IsLeastNotBelow exact (1000 * digits_value 10 (whole ++ fraction) * factor.numerator)
+      (10 ^ length fraction * factor.denominator)
   pub thousandths_is : thousandths ≡ min exact greatest
 
 -- Why a text has no value: the first fault that holds.
@@ -61,7 +63,8 @@ pub record HasNumberFault (text : List ℕ) (fault : QuantityFault) : Type 0 whe
   pub fault_is :
       ((count_by is_ascii_digit run ≡ 0) × (fault ≡ BadDigit)) ⊎
       (((17 < count_by is_ascii_digit run) × (fault ≡ TooManyDigits)) ⊎
-      ((0 < count_by is_ascii_digit run) × (count_by is_ascii_digit run ≤ 17) × ((factor : Factor) → ¬ HasFactor rest factor) × (fault ≡ suffix_fault rest)))
+      ((0 < count_by is_ascii_digit run) × (count_by is_ascii_digit run ≤ 17)
+      × ((factor : Factor) → ¬ HasFactor rest factor) × (fault ≡ suffix_fault rest)))
 
 -- the text is empty; it begins with `-`, 45; or the fault is that of what follows the plus, if
 -- there is one
@@ -82,7 +85,8 @@ abbrev pub number_value : List ℕ → List ℕ → ℕ
 number_value whole fraction = digits_value 10 whole * 10 ^ length fraction + digits_value 10 fraction
 
 abbrev pub thousandths_of : ℕ → ℕ → Factor → ℕ
-thousandths_of number places factor = min (div_ceil (1000 * number * factor.numerator) (10 ^ places * factor.denominator)) greatest
+thousandths_of number places factor =
+    min (div_ceil (1000 * number * factor.numerator) (10 ^ places * factor.denominator)) greatest
 
 -- a number and its suffix
 unfoldable pub scaled_number_of : List ℕ → Result ℕ QuantityFault

@@ -1,6 +1,7 @@
 -- The suffix of a quantity: which texts are one, and by what factor it scales (Kubernetes,
 -- "Resource Management for Pods and Containers", "Resource units in Kubernetes").
-use Rattle.std.specs.Prelude.{◌≡◌, ℕ, ◌^◌, ◌<◌, ◌≤◌, ◌⊎◌, List, [], ◌∷◌, ◌++◌, length, drop, slice_index, Option, Some, None, option_map, Bool, ◌&&◌, ◌||◌, nat_le, ◌==◌, if◌then◌else◌, codes, Contains}
+use Rattle.std.specs.Prelude.{◌≡◌, ℕ, ◌^◌, ◌<◌, ◌≤◌, ◌⊎◌, List, [], ◌∷◌, ◌++◌, length, drop, slice_index, Option}
+use Rattle.std.specs.Prelude.{Some, None, option_map, Bool, ◌&&◌, ◌||◌, nat_le, ◌==◌, if◌then◌else◌, codes, Contains}
 use Rattle.std.specs.Str.Parse.{digits_value}
 use Rattle.quantity.specs.Digits.{AllDigits, after_digits}
 use Rattle.quantity.specs.declared.suffix.Factor.{Factor}
@@ -46,7 +47,8 @@ pub record IsExponent (suffix : List ℕ) (factor : Factor) : Type 0 where
   pub all_digits : AllDigits digits
   pub one_or_two : (1 ≤ length digits) × (length digits ≤ 2)
   pub at_most : digits_value 10 digits ≤ 18
-  pub factor_is : (((sign ≡ []) ⊎ (sign ≡ codes "+")) × (factor ≡ times (10 ^ digits_value 10 digits))) ⊎ ((sign ≡ codes "-") × (factor ≡ divided_by (10 ^ digits_value 10 digits)))
+  pub factor_is : (((sign ≡ []) ⊎ (sign ≡ codes "+")) × (factor ≡ times (10 ^ digits_value 10 digits))) ⊎
+      ((sign ≡ codes "-") × (factor ≡ divided_by (10 ^ digits_value 10 digits)))
 
 abbrev pub HasFactor : List ℕ → Factor → Type 0
 HasFactor suffix factor = Contains named_factors (suffix, factor) ⊎ IsExponent suffix factor
@@ -81,7 +83,8 @@ binary_factor letter =
 -- ten to the power that one or two digits write, up to 18
 abbrev pub power_of : List ℕ → Option ℕ
 power_of digits =
-    if (length digits == 1 || length digits == 2) && (length (after_digits digits) == 0 && nat_le (digits_value 10 digits) 18)
+    if (length digits == 1 || length digits == 2) &&
+    (length (after_digits digits) == 0 && nat_le (digits_value 10 digits) 18)
     then Some (10 ^ digits_value 10 digits)
     else None
 

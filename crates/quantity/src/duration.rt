@@ -1,9 +1,11 @@
 //! Durations, as `1m30s`.
 
-ghost use Rattle.std.specs.Prelude.{◌≡◌, ◌<◌, ◌≤◌, ◌^◌, ◌*◌, ℕ, IfOk, IfErr, OnErr, IfSome, option_and_then, slice_get, length};
+ghost use Rattle.std.specs.Prelude.{◌≡◌, ◌<◌, ◌≤◌, ◌^◌, ◌*◌, ℕ, IfOk, IfErr, OnErr, IfSome, option_and_then};
+ghost use Rattle.std.specs.Prelude.{slice_get, length};
 ghost use Rattle.std.specs.List.{prefix_len};
 ghost use Rattle.std.specs.Char.{is_ascii_digit};
-ghost use Rattle.quantity.specs.Duration.{duration_of, HasSeconds, HasDurationFault, piece_seconds, pieces_of, sum_onto, unit_seconds};
+ghost use Rattle.quantity.specs.Duration.{duration_of, HasSeconds, HasDurationFault, piece_seconds, pieces_of};
+ghost use Rattle.quantity.specs.Duration.{sum_onto, unit_seconds};
 
 use crate::digits::{count_digits, decimal};
 use crate::fault::QuantityFault;

@@ -2,7 +2,8 @@
 
 ghost use Rattle.std.specs.Prelude.{◌≡◌, ◌≤◌, ◌<◌, ◌+◌, ◌-◌, ◌*◌, ◌/◌, ◌%◌, ◌^◌, Some, IfSome};
 ghost use Rattle.quantity.specs.Quantity.{greatest};
-ghost use Rattle.quantity.specs.Printed.{scale_at, scale_suffix, scale_numerator, form_text, few_digits, least_number, exact_number, form_of, form_at, first_form, printed_form};
+ghost use Rattle.quantity.specs.Printed.{scale_at, scale_suffix, scale_numerator, form_text, few_digits};
+ghost use Rattle.quantity.specs.Printed.{least_number, exact_number, form_of, form_at, first_form, printed_form};
 
 use crate::quantity::scaled;
 use crate::suffix::Factor;

@@ -4,7 +4,10 @@
 
 ghost use Rattle.std.specs.Prelude.{ℕ, List};
 ghost use Rattle.quantity.specs.declared.fault.QuantityFault.{QuantityFault};
-ghost use Rattle.quantity.specs.Laws.{QuantityTextHasOneValue, PercentTextHasOneValue, DurationTextHasOneValue, LeadingPlusChangesNothing, LargerDigitGivesNoLess, SharesAreWithinCapacity, SharesGrow, WrittenQuantitiesReadBack, PrintedQuantitiesReadBack, PrintedPercentagesReadBack, NumberIsLongestRun, QuantityTextHasOneFault};
+ghost use Rattle.quantity.specs.Laws.{QuantityTextHasOneValue, PercentTextHasOneValue, DurationTextHasOneValue};
+ghost use Rattle.quantity.specs.Laws.{LeadingPlusChangesNothing, LargerDigitGivesNoLess, SharesAreWithinCapacity};
+ghost use Rattle.quantity.specs.Laws.{SharesGrow, WrittenQuantitiesReadBack, PrintedQuantitiesReadBack};
+ghost use Rattle.quantity.specs.Laws.{PrintedPercentagesReadBack, NumberIsLongestRun, QuantityTextHasOneFault};
 
 /// A text has at most one value as a quantity.
 pub fn quantity_text_has_one_value()

@@ -4,7 +4,8 @@ ghost use Rattle.std.specs.Prelude.{◌≡◌, ◌≤◌, ◌<◌, ◌+◌, ◌-
 ghost use Rattle.std.specs.Int.{div_ceil};
 ghost use Rattle.quantity.specs.Digits.{AllDigits};
 ghost use Rattle.quantity.specs.Suffix.{IsScale};
-ghost use Rattle.quantity.specs.Quantity.{quantity_of, HasThousandths, HasQuantityFault, scaled_number_of, number_value, thousandths_of, after_plus, greatest};
+ghost use Rattle.quantity.specs.Quantity.{quantity_of, HasThousandths, HasQuantityFault, scaled_number_of};
+ghost use Rattle.quantity.specs.Quantity.{number_value, thousandths_of, after_plus, greatest};
 
 use crate::digits::decimal;
 use crate::fault::QuantityFault;

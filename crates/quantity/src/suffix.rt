@@ -1,7 +1,8 @@
 //! The suffix of a quantity, as `Gi`, `m` and `e3`.
 
 ghost use Rattle.std.specs.Prelude.{◌≡◌, ◌≤◌, ◌<◌, ◌^◌, IfSome};
-ghost use Rattle.quantity.specs.Suffix.{factor_of, decimal_factor, binary_factor, exponent_factor, power_of, begins_exponent, suffix_fault, IsScale, times, divided_by};
+ghost use Rattle.quantity.specs.Suffix.{factor_of, decimal_factor, binary_factor, exponent_factor, power_of};
+ghost use Rattle.quantity.specs.Suffix.{begins_exponent, suffix_fault, IsScale, times, divided_by};
 
 use crate::digits::{decimal, split_digits};
 use crate::fault::QuantityFault;

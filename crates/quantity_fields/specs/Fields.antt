@@ -1,6 +1,7 @@
 -- The quantity or the limit that a value of JSON holds (Kubernetes, "Quantity" of the resource
 -- pages; "Node-pressure Eviction", "Eviction thresholds").
-use Rattle.std.specs.Prelude.{ℕ, ◌*◌, min, List, Option, Some, None, is_some, option_and_then, if◌then◌else◌, Result, Ok, Err}
+use Rattle.std.specs.Prelude.{ℕ, ◌*◌, min, List, Option, Some, None, is_some, option_and_then, if◌then◌else◌, Result}
+use Rattle.std.specs.Prelude.{Ok, Err}
 use Rattle.serde_json.specs.Data.{Data}
 use Rattle.serde_json.specs.Find.{as_str, as_number, as_i64, as_u64}
 use Rattle.json_fields.specs.Reading.{◌>>=◌}

@@ -1,5 +1,6 @@
 -- The delay of a number.
-use Rattle.std.proofs.Common.{◌<◌, ◌+◌, ◌*◌, ◌≡◌, ℕ, zero, suc, ◌^◌, ◌≤◌, List, [], ◌∷◌, min, refl, ap, ◌∙◌, sym, subst, inl, inr, arith}
+use Rattle.std.proofs.Common.{◌<◌, ◌+◌, ◌*◌, ◌≡◌, ℕ, zero, suc, ◌^◌, ◌≤◌, List, [], ◌∷◌, min, refl, ap, ◌∙◌, sym}
+use Rattle.std.proofs.Common.{subst, inl, inr, arith}
 use Rattle.std.proofs.Math.Nat.{pow-le-pow_right}
 use Rattle.std.proofs.lemmas.Bool.{cases_lt}
 use Rattle.std.proofs.lemmas.Grind.{pow_more}
@@ -18,7 +19,8 @@ delay_of-rises greatest (suc (suc m)) (suc (suc n)) le =
     let more : 2 ^ m ≤ 2 ^ n = pow-le-pow_right {n = 2} (omega arith) {i = m} {j = n} (omega arith) in omega arith
 
 -- from the second on it doubles, up to the greatest
-pub delay_of-doubles : (greatest n : ℕ) → 0 < delay_of greatest n → delay_of greatest (n + 1) ≡ min greatest (2 * delay_of greatest n)
+pub delay_of-doubles : (greatest n : ℕ) → 0 < delay_of greatest n → delay_of greatest (n + 1) ≡ min greatest
+    (2 * delay_of greatest n)
 delay_of-doubles greatest zero some = absurd (omega arith)
 delay_of-doubles greatest (suc zero) some = absurd (omega arith)
 delay_of-doubles greatest (suc (suc n)) some =
@@ -40,7 +42,8 @@ delay_of-counted greatest n few = elim (cases_lt n 7) [
   | inl lt ↦ let e : min n 7 ≡ n = omega arith in ap (delay_of greatest) e
   | inr ge ↦
       let e : min n 7 ≡ 7 = omega arith in
-      ap (delay_of greatest) e ∙ delay_of-greatest greatest 7 few (omega arith) ∙ sym (delay_of-greatest greatest n few ge)
+      ap (delay_of greatest) e ∙ delay_of-greatest greatest 7 few (omega arith)
+      ∙ sym (delay_of-greatest greatest n few ge)
 ]
 
 abbrev pub Seven : ℕ → List ℕ
@@ -65,7 +68,12 @@ delay_of-among greatest n few =
     subst P (delay_of-counted greatest n (omega arith)) (among greatest (min n 7) few (omega arith))
 
 -- the delay of the count is that of the exits, on the node with this greatest delay
-pub IsDelay-of_count : (kept greatest : ℕ) (exits : List Exit) (count delay : ℕ) → kept ≤ 300 → kept ≡ greatest → IsCountOf exits count → delay ≡ delay_of kept count
+pub IsDelay-of_count : (kept greatest : ℕ) (exits : List Exit) (count delay : ℕ) → kept ≤ 300 → kept ≡ greatest
+    → IsCountOf exits count → delay ≡ delay_of kept count
     → IsDelay greatest exits delay
-IsDelay-of_count kept greatest exits count delay few same of is =
-    (of.0, of.1, is ∙ ap (delay_of kept) of.2 ∙ delay_of-counted kept of.0 (omega arith) ∙ ap (λ g. delay_of g of.0) same)
+IsDelay-of_count kept greatest exits count delay few same of is = (
+  of.0,
+  of.1,
+  is ∙ ap (delay_of kept) of.2 ∙ delay_of-counted kept of.0 (omega arith) ∙ ap (λ g. delay_of g of.0)
+      same,
+)

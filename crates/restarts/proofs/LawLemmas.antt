@@ -1,11 +1,14 @@
 -- The laws of the delays.
-use Rattle.std.proofs.Common.{◌≡◌, ℕ, ◌+◌, ◌≤◌, List, [], ◌∷◌, ◌++◌, Option, Some, None, refl, ap, ◌∙◌, sym, min, ◌*◌, arith}
+use Rattle.std.proofs.Common.{◌≡◌, ℕ, ◌+◌, ◌≤◌, List, [], ◌∷◌, ◌++◌, Option, Some, None, refl, ap, ◌∙◌, sym, min, ◌*◌}
+use Rattle.std.proofs.Common.{arith}
 use Rattle.histories.specs.Histories.{recorded}
 use Rattle.restarts.specs.Exits.{Exit}
 use Rattle.restarts.specs.Delays.{IsDue, delay_of}
-use Rattle.restarts.specs.Laws.{EveryListHasOneDelay, DelayIsOneOfSeven, LongRunResets, DelayDoesNotFall, DelayDoubles, LongRunForgets}
+use Rattle.restarts.specs.Laws.{EveryListHasOneDelay, DelayIsOneOfSeven, LongRunResets, DelayDoesNotFall}
+use Rattle.restarts.specs.Laws.{DelayDoubles, LongRunForgets}
 use Rattle.restarts.proofs.Places.{last_moment-after}
-use Rattle.restarts.proofs.Numbers.{number_of, number_unique, number_short, number_long, number_forgets, number_remembers}
+use Rattle.restarts.proofs.Numbers.{number_of, number_unique, number_short, number_long, number_forgets}
+use Rattle.restarts.proofs.Numbers.{number_remembers}
 use Rattle.restarts.proofs.DelayLemmas.{delay_of-rises, delay_of-among, delay_of-doubles}
 
 pub one_delay : EveryListHasOneDelay
@@ -26,7 +29,8 @@ resets greatest exits moment run delay long p =
 pub does_not_fall : DelayDoesNotFall
 does_not_fall greatest exits moment run before after short p q =
     let last = recorded moment run in
-    let next : q.0 ≡ p.0 + 1 = number_unique (exits ++ last ∷ []) q.0 (p.0 + 1) q.1 (number_short exits last p.0 short p.1) in
+    let next : q.0 ≡ p.0 + 1 = number_unique (exits ++ last ∷ []) q.0 (p.0 + 1) q.1
+    (number_short exits last p.0 short p.1) in
     let rises : delay_of greatest p.0 ≤ delay_of greatest q.0 = delay_of-rises greatest p.0 q.0 (omega arith) in
     let from : before ≡ delay_of greatest p.0 = p.2 in
     let to : after ≡ delay_of greatest q.0 = q.2 in
@@ -35,10 +39,12 @@ does_not_fall greatest exits moment run before after short p q =
 pub doubles : DelayDoubles
 doubles greatest exits moment run before after short some p q =
     let last = recorded moment run in
-    let next : q.0 ≡ p.0 + 1 = number_unique (exits ++ last ∷ []) q.0 (p.0 + 1) q.1 (number_short exits last p.0 short p.1) in
+    let next : q.0 ≡ p.0 + 1 = number_unique (exits ++ last ∷ []) q.0 (p.0 + 1) q.1
+    (number_short exits last p.0 short p.1) in
     let from : before ≡ delay_of greatest p.0 = p.2 in
     let to : after ≡ delay_of greatest q.0 = q.2 in
-    let twice : delay_of greatest (p.0 + 1) ≡ min greatest (2 * delay_of greatest p.0) = delay_of-doubles greatest p.0 (omega arith) in
+    let twice : delay_of greatest (p.0 + 1) ≡ min greatest (2 * delay_of greatest p.0) = delay_of-doubles greatest p.0
+    (omega arith) in
     to ∙ ap (delay_of greatest) next ∙ twice ∙ ap (λ d. min greatest (2 * d)) (sym from)
 
 some_exit : (earlier later : List Exit) (x : Exit) → earlier ++ x ∷ later ≡ [] → ⊥
@@ -48,14 +54,25 @@ some_exit (y ∷ earlier) later x is = cc
 due_forgets : (greatest : ℕ) (earlier later : List Exit) (long : Exit) (due : Option ℕ) → 600 ≤ long.entry
     → IsDue greatest (earlier ++ long ∷ later) due → IsDue greatest (long ∷ later) due
 due_forgets greatest earlier later long None is none = absurd (some_exit earlier later long none)
-due_forgets greatest earlier later long (Some due) is (last, delay, ends, (n, num, by), so) =
-    (last, delay, sym (last_moment-after earlier long later) ∙ ends, (n, number_forgets earlier later long n is num, by), so)
+due_forgets greatest earlier later long (Some due) is (last, delay, ends, (n, num, by), so) = (
+  last,
+  delay,
+  sym (last_moment-after earlier long later)
+      ∙ ends,
+  (n, number_forgets earlier later long n is num, by),
+  so,
+)
 
 due_remembers : (greatest : ℕ) (earlier later : List Exit) (long : Exit) (due : Option ℕ) → 600 ≤ long.entry
     → IsDue greatest (long ∷ later) due → IsDue greatest (earlier ++ long ∷ later) due
 due_remembers greatest earlier later long None is none = absurd (some_exit [] later long none)
-due_remembers greatest earlier later long (Some due) is (last, delay, ends, (n, num, by), so) =
-    (last, delay, last_moment-after earlier long later ∙ ends, (n, number_remembers earlier later long n is num, by), so)
+due_remembers greatest earlier later long (Some due) is (last, delay, ends, (n, num, by), so) = (
+  last,
+  delay,
+  last_moment-after earlier long later ∙ ends,
+  (n, number_remembers earlier later long n is num, by),
+  so,
+)
 
 pub forgets : LongRunForgets
 forgets greatest earlier later moment run backoff is =

@@ -1,6 +1,7 @@
 //! Laws of the delays, for every list of exits.
 
-ghost use Rattle.restarts.specs.Laws.{EveryListHasOneDelay, DelayIsOneOfSeven, LongRunResets, DelayDoesNotFall, DelayDoubles, LongRunForgets};
+ghost use Rattle.restarts.specs.Laws.{EveryListHasOneDelay, DelayIsOneOfSeven, LongRunResets, DelayDoesNotFall};
+ghost use Rattle.restarts.specs.Laws.{DelayDoubles, LongRunForgets};
 
 /// Every list of exits has a delay, and only one.
 pub fn every_list_has_one_delay()

@@ -1,7 +1,8 @@
 -- One value for each signal.
 use Rattle.signals.specs.declared.by_signal.BySignal.{BySignal}
 use Rattle.signals.specs.declared.signal.Signal.{Signal}
-use Rattle.signals.specs.declared.signal.Signal.TheVariants.{MemoryAvailable, NodefsAvailable, ImagefsAvailable, NodefsInodesFree, ImagefsInodesFree, PidAvailable}
+use Rattle.signals.specs.declared.signal.Signal.TheVariants.{MemoryAvailable, NodefsAvailable, ImagefsAvailable}
+use Rattle.signals.specs.declared.signal.Signal.TheVariants.{NodefsInodesFree, ImagefsInodesFree, PidAvailable}
 
 -- that of this one
 abbrev pub of : {A : Type 0} → BySignal A → Signal → A

@@ -2,7 +2,8 @@
 -- of threshold on them ("Soft eviction thresholds" and "Hard eviction thresholds").
 use Rattle.std.specs.Prelude.{ℕ, Bool, true, false, List, Option, Some, None, if◌then◌else◌, bytes_eq, codes}
 use Rattle.signals.specs.declared.signal.Signal.{Signal}
-use Rattle.signals.specs.declared.signal.Signal.TheVariants.{MemoryAvailable, NodefsAvailable, ImagefsAvailable, NodefsInodesFree, ImagefsInodesFree, PidAvailable}
+use Rattle.signals.specs.declared.signal.Signal.TheVariants.{MemoryAvailable, NodefsAvailable, ImagefsAvailable}
+use Rattle.signals.specs.declared.signal.Signal.TheVariants.{NodefsInodesFree, ImagefsInodesFree, PidAvailable}
 use Rattle.signals.specs.declared.threshold.ThresholdKind.{ThresholdKind}
 use Rattle.signals.specs.declared.threshold.ThresholdKind.TheVariants.{Hard, Soft}
 

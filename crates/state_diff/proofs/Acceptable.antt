@@ -1,5 +1,6 @@
 -- The test that computes says which listings are acceptable.
-use Rattle.std.proofs.Common.{◌≡◌, ◌≢◌, ◌⊎◌, inl, inr, ℕ, suc, zero, Bool, true, false, ◌-◌, ◌<◌, ◌≤◌, List, [], ◌∷◌, length, Option, Some, None, refl, subst, sym, ◌∙◌, arith}
+use Rattle.std.proofs.Common.{◌≡◌, ◌≢◌, ◌⊎◌, inl, inr, ℕ, suc, zero, Bool, true, false, ◌-◌, ◌<◌, ◌≤◌, List, [], ◌∷◌}
+use Rattle.std.proofs.Common.{length, Option, Some, None, refl, subst, sym, ◌∙◌, arith}
 use Rattle.std.specs.Prelude.{IsSomeAnd, IsTrue, ◌↔◌, ◌||◌, ◌&&◌, not, if◌then◌else◌, ◌==◌}
 use Rattle.std.specs.Bool.{Decides}
 use Rattle.std.specs.List.{list_all, list_any}
@@ -9,8 +10,10 @@ use Rattle.state_diff.specs.States.{rank, is_known}
 use Rattle.state_diff.specs.declared.seen.Seen.{Seen}
 use Rattle.state_diff.specs.declared.seen.CriState.{CriState}
 use Rattle.state_diff.specs.declared.seen.CriState.TheVariants.{Created, Running, Exited, Unknown}
-use Rattle.state_diff.specs.Instances.{Tick, seen_at, IsOf, IsOfAs, IsOfKnown, Listed, IsLastKnown, IsEffective, IsAcceptable}
-use Rattle.state_diff.specs.Acceptable.{is_of, is_at_most, known_after, last_known, effective_state, is_not_older, is_not_gone, is_not_back, is_acceptable}
+use Rattle.state_diff.specs.Instances.{Tick, seen_at, IsOf, IsOfAs, IsOfKnown, Listed, IsLastKnown, IsEffective}
+use Rattle.state_diff.specs.Instances.{IsAcceptable}
+use Rattle.state_diff.specs.Acceptable.{is_of, is_at_most, known_after, last_known, effective_state, is_not_older}
+use Rattle.state_diff.specs.Acceptable.{is_not_gone, is_not_back, is_acceptable}
 use Rattle.state_diff.proofs.Places.{known_of}
 use Rattle.state_diff.proofs.Steps.{IsEffective-unique}
 
@@ -32,7 +35,8 @@ is_at_most_is a (Some s) = (
 )
 
 -- a test of each tick's listing, and of some tick's
-all_seen : (p : Option Seen → Bool) → p None ≡ true → (h : List Tick) → (IsTrue (list_all (λ x. p x.entry) h) ↔ ((t : ℕ) → IsTrue (p (seen_at h t))))
+all_seen : (p : Option Seen → Bool) → p None ≡ true → (h : List Tick)
+    → (IsTrue (list_all (λ x. p x.entry) h) ↔ ((t : ℕ) → IsTrue (p (seen_at h t))))
 all_seen p none [] = ((λ e t. none), (λ f. refl))
 all_seen p none (y ∷ h) = (
   (λ e. forth (and_parts (p y.entry) _ e).0 ((all_seen p none h).0 (and_parts (p y.entry) _ e).1)),
@@ -47,7 +51,8 @@ true_or : (a b : Bool) → b ≡ true → (a || b) ≡ true
 true_or true b e = refl
 true_or false b e = e
 
-any_seen : (p : Option Seen → Bool) → p None ≡ false → (h : List Tick) → (IsTrue (list_any (λ x. p x.entry) h) ↔ ((t : ℕ) × IsTrue (p (seen_at h t))))
+any_seen : (p : Option Seen → Bool) → p None ≡ false → (h : List Tick)
+    → (IsTrue (list_any (λ x. p x.entry) h) ↔ ((t : ℕ) × IsTrue (p (seen_at h t))))
 any_seen p none [] = ((λ e. absurd (let e : IsTrue false = e in cc)), (λ w. let e : p None ≡ true = w.1 in absurd (cc)))
 any_seen p none (y ∷ h) = (
   (λ e. elim (or_cases (p y.entry) _ e) [
@@ -57,7 +62,8 @@ any_seen p none (y ∷ h) = (
   (λ w. back (any_seen p none h).1 w.0 w.1),
 )
   where
-    back : ((t : ℕ) × IsTrue (p (seen_at h t)) → IsTrue (list_any (λ x. p x.entry) h)) → (t : ℕ) → IsTrue (p (seen_at (y ∷ h) t))
+    back : ((t : ℕ) × IsTrue (p (seen_at h t)) → IsTrue (list_any (λ x. p x.entry) h)) → (t : ℕ)
+        → IsTrue (p (seen_at (y ∷ h) t))
         → IsTrue (list_any (λ x. p x.entry) (y ∷ h))
     back rest zero e = let here : p y.entry ≡ true = e in rw here refl
     back rest (suc t) e = true_or (p y.entry) _ (rest (t, e))
@@ -72,7 +78,8 @@ implied : (b c : Bool) → (IsTrue (not b || c) ↔ (IsTrue b → IsTrue c))
 implied true c = ((λ e _. e), (λ f. f refl))
 implied false c = ((λ e f. absurd (let f : IsTrue false = f in cc)), (λ f. refl))
 
-not_gone_is : (h : List Tick) (a : ℕ) → (IsTrue (is_not_gone h a) ↔ ((t : ℕ) → Listed h a t → Listed h a (length h - 1)))
+not_gone_is : (h : List Tick) (a : ℕ)
+    → (IsTrue (is_not_gone h a) ↔ ((t : ℕ) → Listed h a t → Listed h a (length h - 1)))
 not_gone_is h a =
     let some = any_seen (is_of a) refl h in
     let step = implied (list_any (λ x. is_of a x.entry) h) (is_of a (seen_at h (length h - 1))) in
@@ -95,10 +102,12 @@ pub record IsTaken (a : ℕ) (o : Option Seen) (state : CriState) : Type 0 where
 pub taken_or_kept : (a : ℕ) (before : CriState) (o : Option Seen)
     → IsTaken a o (known_after a before o) ⊎ ((IsSomeAnd o (IsOfKnown a) → ⊥) × (known_after a before o ≡ before))
 taken_or_kept a before None = inr ((λ q. q), refl)
-taken_or_kept a before (Some s) = there (s.attempt == a && is_known s.state) (Decides-and _ _ (Decides-eqb s.attempt a) (is_known_is s.state))
+taken_or_kept a before (Some s) = there (s.attempt == a && is_known s.state)
+    (Decides-and _ _ (Decides-eqb s.attempt a) (is_known_is s.state))
   where
     there : (b : Bool) → Decides b ((s.attempt ≡ a) × (s.state ≢ Unknown))
-        → IsTaken a (Some s) (if b then s.state else before) ⊎ ((IsOfKnown a s → ⊥) × ((if b then s.state else before) ≡ before))
+        → IsTaken a (Some s) (if b then s.state else before) ⊎
+        ((IsOfKnown a s → ⊥) × ((if b then s.state else before) ≡ before))
     there true is = let w = is.0 refl in inl (record { here = (w.0, refl); known = w.1 })
     there false is = inr ((λ q. let e : false ≡ true = is.1 q in cc), refl)
 
@@ -111,25 +120,44 @@ IsLastFrom h a before state =
 last_from : (h : List Tick) (a : ℕ) (before : CriState) → IsLastFrom h a before (last_known a before h)
 last_from [] a before = inr ((λ t q. q), refl)
 last_from (y ∷ h) a before = elim (last_from h a (known_after a before y.entry)) [
-  | inl k ↦ inl (suc k.0, record { here = k.1.here; last = record { holds = k.1.last.holds; none_after = λ u lt q. later k.0 k.1.last.none_after u lt q } })
+  | inl k ↦ inl (
+    suc k.0,
+    record {
+      here = k.1.here;
+      last = record { holds = k.1.last.holds; none_after = λ u lt q. later k.0 k.1.last.none_after u lt q };
+    },
+  )
   | inr none ↦ elim (taken_or_kept a before y.entry) [
     | inl taken ↦
         let P : CriState → Type 0 = λ s. IsTaken a y.entry s in
         let w = subst P (sym none.1) taken in
-        inl (zero, record { here = w.here; last = record { holds = known_of a (last_known a (known_after a before y.entry) h) y.entry w.here w.known; none_after = λ u lt q. after none.0 u lt q } })
+        inl (
+          zero,
+          record {
+            here = w.here;
+            last =
+                record {
+                  holds = known_of a (last_known a (known_after a before y.entry) h) y.entry w.here w.known;
+                  none_after = λ u lt q. after none.0 u lt q;
+                };
+          },
+        )
     | inr kept ↦ inr ((λ t q. never kept.0 none.0 t q), none.1 ∙ kept.1)
   ]
 ]
   where
-    later : (t : ℕ) → ((u : ℕ) → t < u → IsSomeAnd (seen_at h u) (IsOfKnown a) → ⊥) → (u : ℕ) → suc t < u → IsSomeAnd (seen_at (y ∷ h) u) (IsOfKnown a) → ⊥
+    later : (t : ℕ) → ((u : ℕ) → t < u → IsSomeAnd (seen_at h u) (IsOfKnown a) → ⊥) → (u : ℕ) → suc t < u
+        → IsSomeAnd (seen_at (y ∷ h) u) (IsOfKnown a) → ⊥
     later t last zero lt q = absurd (omega arith)
     later t last (suc u) lt q = last u (omega arith) q
 
-    after : ((u : ℕ) → IsSomeAnd (seen_at h u) (IsOfKnown a) → ⊥) → (u : ℕ) → zero < u → IsSomeAnd (seen_at (y ∷ h) u) (IsOfKnown a) → ⊥
+    after : ((u : ℕ) → IsSomeAnd (seen_at h u) (IsOfKnown a) → ⊥) → (u : ℕ) → zero < u
+        → IsSomeAnd (seen_at (y ∷ h) u) (IsOfKnown a) → ⊥
     after none zero lt q = absurd (omega arith)
     after none (suc u) lt q = none u q
 
-    never : (IsSomeAnd y.entry (IsOfKnown a) → ⊥) → ((u : ℕ) → IsSomeAnd (seen_at h u) (IsOfKnown a) → ⊥) → (u : ℕ) → IsSomeAnd (seen_at (y ∷ h) u) (IsOfKnown a) → ⊥
+    never : (IsSomeAnd y.entry (IsOfKnown a) → ⊥) → ((u : ℕ) → IsSomeAnd (seen_at h u) (IsOfKnown a) → ⊥) → (u : ℕ)
+        → IsSomeAnd (seen_at (y ∷ h) u) (IsOfKnown a) → ⊥
     never here none zero q = here q
     never here none (suc u) q = none u q
 
@@ -137,11 +165,13 @@ last_from (y ∷ h) a before = elim (last_from h a (known_after a before y.entry
 pub effective_state_is : (h : List Tick) (a : ℕ) → IsEffective h a (effective_state h a)
 effective_state_is h a = last_from h a Created
 
-not_back_is : (h : List Tick) (a : ℕ) (s : CriState) → (IsTrue (is_not_back h a s) ↔ ((state : CriState) → IsEffective h a state → rank state ≤ rank s))
+not_back_is : (h : List Tick) (a : ℕ) (s : CriState)
+    → (IsTrue (is_not_back h a s) ↔ ((state : CriState) → IsEffective h a state → rank state ≤ rank s))
 not_back_is h a s = (
   (λ e state is.
       let P : CriState → Type 0 = λ k. rank k ≤ rank s in
-      subst P (IsEffective-unique h a (effective_state h a) state (effective_state_is h a) is) (leb-true (rank (effective_state h a)) (rank s) e)),
+      subst P (IsEffective-unique h a (effective_state h a) state (effective_state_is h a) is)
+      (leb-true (rank (effective_state h a)) (rank s) e)),
   (λ f. le-leb (rank (effective_state h a)) (rank s) (f (effective_state h a) (effective_state_is h a))),
 )
 
@@ -163,5 +193,6 @@ is_acceptable_is h (Some s) = (
       }),
   (λ m.
       both (is_not_older h s.attempt) _ ((not_older_is h s.attempt).1 m.not_older)
-      (both (is_not_gone h s.attempt) _ ((not_gone_is h s.attempt).1 m.not_gone) ((not_back_is h s.attempt s.state).1 m.not_back))),
+      (both (is_not_gone h s.attempt) _ ((not_gone_is h s.attempt).1 m.not_gone)
+      ((not_back_is h s.attempt s.state).1 m.not_back))),
 )

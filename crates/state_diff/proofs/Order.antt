@@ -1,5 +1,6 @@
 -- What an acceptable history says of the order of listings.
-use Rattle.std.proofs.Common.{◌≡◌, inl, inr, ℕ, suc, zero, ◌+◌, ◌-◌, ◌<◌, ◌≤◌, List, [], ◌∷◌, ◌++◌, length, take, Option, Some, None, refl, ap, subst, sym, ◌∙◌, append_assoc, arith}
+use Rattle.std.proofs.Common.{◌≡◌, inl, inr, ℕ, suc, zero, ◌+◌, ◌-◌, ◌<◌, ◌≤◌, List, [], ◌∷◌, ◌++◌, length, take}
+use Rattle.std.proofs.Common.{Option, Some, None, refl, ap, subst, sym, ◌∙◌, append_assoc, arith}
 use Rattle.std.specs.Prelude.{IsSomeAnd}
 use Rattle.std.proofs.lemmas.Bool.{cases_lt}
 use Rattle.std.proofs.lemmas.List.{append-nil, take-append-le, take_at, take-take, length-take, length-take-le}
@@ -8,7 +9,8 @@ use Rattle.state_diff.specs.declared.seen.Seen.{Seen}
 use Rattle.state_diff.specs.declared.seen.CriState.{CriState}
 use Rattle.state_diff.specs.declared.seen.CriState.TheVariants.{Created, Running, Exited}
 use Rattle.state_diff.specs.States.{rank}
-use Rattle.state_diff.specs.Instances.{Tick, tick, listing_of, seen_at, IsOf, IsOfAs, Listed, ListedAs, IsExit, MayFollow, IsAcceptable, IsAcceptableHistory}
+use Rattle.state_diff.specs.Instances.{Tick, tick, listing_of, seen_at, IsOf, IsOfAs, Listed, ListedAs, IsExit}
+use Rattle.state_diff.specs.Instances.{MayFollow, IsAcceptable, IsAcceptableHistory}
 use Rattle.state_diff.specs.Acceptable.{known_after, last_known, effective_state}
 use Rattle.state_diff.specs.Laws.{StartsBeforeExit, ExitedStaysExited, NewestNeverFalls, AcceptableIsNewest}
 use Rattle.state_diff.proofs.Places.{added, split, seen_at-below}
@@ -16,7 +18,8 @@ use Rattle.state_diff.proofs.Growth.{IsExit-old}
 use Rattle.state_diff.proofs.Acceptable.{taken_or_kept, effective_state_is}
 
 -- an acceptable history with one more acceptable listing is one
-pub acceptable_more : (h : List Tick) (x : Tick) → IsAcceptableHistory h → IsAcceptable h x.entry → IsAcceptableHistory (h ++ x ∷ [])
+pub acceptable_more : (h : List Tick) (x : Tick) → IsAcceptableHistory h → IsAcceptable h x.entry
+    → IsAcceptableHistory (h ++ x ∷ [])
 acceptable_more h x all is t lt =
     let P : List Tick → Type 0 = λ k. IsAcceptable k (seen_at (h ++ x ∷ []) t) in
     let within : t < length h + 1 = omega (arith, length-more h x) in
@@ -52,7 +55,8 @@ pub record IsFollowing (h : List Tick) (t : ℕ) (Q : Seen → Type 0) : Type 0 
   pub is : Q seen
   pub follows : MayFollow (take t h) seen
 
-following : (Q : Seen → Type 0) (h : List Tick) (t : ℕ) → IsAcceptableHistory h → IsSomeAnd (seen_at h t) Q → IsFollowing h t Q
+following : (Q : Seen → Type 0) (h : List Tick) (t : ℕ) → IsAcceptableHistory h → IsSomeAnd (seen_at h t) Q
+    → IsFollowing h t Q
 following Q h t all q = there (seen_at h t) (all t (seen_at-below Q h t q)) q
   where
     there : (o : Option Seen) → IsAcceptable (take t h) o → IsSomeAnd o Q → IsFollowing h t Q
@@ -60,7 +64,8 @@ following Q h t all q = there (seen_at h t) (all t (seen_at-below Q h t q)) q
     there (Some s) is q = record { seen = s; is = q; follows = is }
 
 -- an attempt that is listed, and was before, was listed one tick before
-listed_step : (h : List Tick) (a t s : ℕ) → IsAcceptableHistory h → Listed h a (suc t) → s ≤ t → Listed h a s → Listed h a t
+listed_step : (h : List Tick) (a t s : ℕ) → IsAcceptableHistory h → Listed h a (suc t) → s ≤ t → Listed h a s
+    → Listed h a t
 listed_step h a t s all l le old =
     let f = following (IsOf a) h (suc t) all l in
     let within : suc t < length h = seen_at-below (IsOf a) h (suc t) l in
@@ -68,13 +73,17 @@ listed_step h a t s all l le old =
     let last : length (take (suc t) h) - 1 ≡ t = omega (arith, long) in
     let P : Option Seen → Type 0 = λ o. IsSomeAnd o (IsOf a) in
     let Q : ℕ → Type 0 = λ b. Listed (take (suc t) h) b s → Listed (take (suc t) h) b (length (take (suc t) h) - 1) in
-    let gone : Listed (take (suc t) h) a s → Listed (take (suc t) h) a (length (take (suc t) h) - 1) = subst Q f.is (f.follows.not_gone s) in
+    let gone : Listed (take (suc t) h) a s → Listed (take (suc t) h) a (length (take (suc t) h) - 1) =
+    subst Q f.is (f.follows.not_gone s) in
     let R : ℕ → Type 0 = λ k. Listed (take (suc t) h) a k in
-    subst P (seen_at-take h (suc t) t (omega arith)) (subst R last (gone (subst P (sym (seen_at-take h (suc t) s (omega arith))) old)))
+    subst P (seen_at-take h (suc t) t (omega arith))
+    (subst R last (gone (subst P (sym (seen_at-take h (suc t) s (omega arith))) old)))
 
 -- and at each tick between
-pub listed_between : (h : List Tick) (a s u : ℕ) → IsAcceptableHistory h → Listed h a s → s ≤ u → (t : ℕ) → u ≤ t → Listed h a t → Listed h a u
-listed_between h a s u all old le zero le' l = let e : zero ≡ u = omega arith in let P : ℕ → Type 0 = λ k. Listed h a k in subst P e l
+pub listed_between : (h : List Tick) (a s u : ℕ) → IsAcceptableHistory h → Listed h a s → s ≤ u → (t : ℕ) → u ≤ t
+    → Listed h a t → Listed h a u
+listed_between h a s u all old le zero le' l = let e : zero ≡ u = omega arith in let P : ℕ → Type 0 =
+    λ k. Listed h a k in subst P e l
 listed_between h a s u all old le (suc t) le' l = elim (cases_lt u (suc t)) [
   | inl lt ↦ listed_between h a s u all old le t (omega arith) (listed_step h a t s all l (omega arith) old)
   | inr ge ↦ let e : suc t ≡ u = omega arith in let P : ℕ → Type 0 = λ k. Listed h a k in subst P e l
@@ -92,17 +101,20 @@ last_tick (y ∷ h) (suc t) lt =
     let w = last_tick h t (omega arith) in
     (w.0, record { upto = ap (λ k. y ∷ k) w.1.upto; seen = w.1.seen })
 
-last_known-append : (a : ℕ) (before : CriState) (h : List Tick) (x : Tick) → last_known a before (h ++ x ∷ []) ≡ known_after a (last_known a before h) x.entry
+last_known-append : (a : ℕ) (before : CriState) (h : List Tick) (x : Tick)
+    → last_known a before (h ++ x ∷ []) ≡ known_after a (last_known a before h) x.entry
 last_known-append a before [] x = refl
 last_known-append a before (y ∷ h) x = last_known-append a (known_after a before y.entry) h x
 
 -- the effective state doesn't fall
-rank_kept : (h : List Tick) (a : ℕ) (o : Option Seen) → IsAcceptable h o → rank (effective_state h a) ≤ rank (known_after a (effective_state h a) o)
+rank_kept : (h : List Tick) (a : ℕ) (o : Option Seen) → IsAcceptable h o
+    → rank (effective_state h a) ≤ rank (known_after a (effective_state h a) o)
 rank_kept h a None is = omega arith
 rank_kept h a (Some s) is = elim (taken_or_kept a (effective_state h a) (Some s)) [
   | inl taken ↦
       let P : ℕ → Type 0 = λ b. rank (effective_state h b) ≤ rank s.state in
-      let le : rank (effective_state h a) ≤ rank s.state = subst P taken.here.0 (is.not_back (effective_state h s.attempt) (effective_state_is h s.attempt)) in
+      let le : rank (effective_state h a) ≤ rank s.state =
+      subst P taken.here.0 (is.not_back (effective_state h s.attempt) (effective_state_is h s.attempt)) in
       let Q : CriState → Type 0 = λ k. rank (effective_state h a) ≤ rank k in
       subst Q taken.here.1 le
   | inr old ↦
@@ -110,7 +122,8 @@ rank_kept h a (Some s) is = elim (taken_or_kept a (effective_state h a) (Some s)
       subst Q (sym old.1) (omega arith)
 ]
 
-rank_step : (h : List Tick) (a t : ℕ) → IsAcceptableHistory h → t < length h → rank (effective_state (take t h) a) ≤ rank (effective_state (take (suc t) h) a)
+rank_step : (h : List Tick) (a t : ℕ) → IsAcceptableHistory h → t < length h
+    → rank (effective_state (take t h) a) ≤ rank (effective_state (take (suc t) h) a)
 rank_step h a t all lt =
     let w = last_tick h t lt in
     let P : Option Seen → Type 0 = λ o. IsAcceptable (take t h) o in
@@ -121,11 +134,14 @@ rank_step h a t all lt =
 
 rank_grows : (h : List Tick) (a m : ℕ) → IsAcceptableHistory h → (n : ℕ) → m ≤ n → n ≤ length h
     → rank (effective_state (take m h) a) ≤ rank (effective_state (take n h) a)
-rank_grows h a m all zero le lt = let e : m ≡ zero = omega arith in let P : ℕ → Type 0 = λ k. rank (effective_state (take k h) a) ≤ rank (effective_state (take zero h) a) in subst P (sym e) (omega arith)
+rank_grows h a m all zero le lt = let e : m ≡ zero = omega arith in let P : ℕ → Type 0 =
+    λ k. rank (effective_state (take k h) a) ≤ rank (effective_state (take zero h) a) in subst P (sym e) (omega arith)
 rank_grows h a m all (suc n) le lt = elim (cases_lt m (suc n)) [
   | inl old ↦
-      let one : rank (effective_state (take m h) a) ≤ rank (effective_state (take n h) a) = rank_grows h a m all n (omega arith) (omega arith) in
-      let two : rank (effective_state (take n h) a) ≤ rank (effective_state (take (suc n) h) a) = rank_step h a n all (omega arith) in
+      let one : rank (effective_state (take m h) a) ≤ rank (effective_state (take n h) a) =
+      rank_grows h a m all n (omega arith) (omega arith) in
+      let two : rank (effective_state (take n h) a) ≤ rank (effective_state (take (suc n) h) a) =
+      rank_step h a n all (omega arith) in
       chain _ _ _ one two
   | inr ge ↦
       let e : m ≡ suc n = omega arith in
@@ -141,7 +157,8 @@ exited_at : (h : List Tick) (a t : ℕ) → ListedAs h a Exited t → effective_
 exited_at h a t l =
     let w = last_tick h t (seen_at-below (IsOfAs a Exited) h t l) in
     let P : Option Seen → Type 0 = λ o. IsSomeAnd o (IsOfAs a Exited) in
-    ap (λ k. effective_state k a) w.1.upto ∙ last_known-append a Created (take t h) w.0 ∙ there w.0.entry (subst P w.1.seen l)
+    ap (λ k. effective_state k a) w.1.upto ∙ last_known-append a Created (take t h) w.0
+    ∙ there w.0.entry (subst P w.1.seen l)
   where
     there : (o : Option Seen) → IsSomeAnd o (IsOfAs a Exited) → known_after a (effective_state (take t h) a) o ≡ Exited
     there None q = absurd q
@@ -157,16 +174,19 @@ starts_before_exit h a t u all start exit = elim (cases_lt u t) [
     | inl exited ↦
         let f = following (IsOfAs a Running) h t all start.holds in
         let within : t < length h = seen_at-below (IsOfAs a Running) h t start.holds in
-        let grown : rank (effective_state (take (suc u) h) a) ≤ rank (effective_state (take t h) a) = rank_grows h a (suc u) all t (omega arith) (omega arith) in
+        let grown : rank (effective_state (take (suc u) h) a) ≤ rank (effective_state (take t h) a) =
+        rank_grows h a (suc u) all t (omega arith) (omega arith) in
         let P : CriState → Type 0 = λ k. rank k ≤ rank (effective_state (take t h) a) in
         let two : 2 ≤ rank (effective_state (take t h) a) = subst P (exited_at h a u exited) grown in
         let Q : ℕ → Type 0 = λ b. rank (effective_state (take t h) b) ≤ rank f.seen.state in
         let back : rank (effective_state (take t h) a) ≤ rank f.seen.state =
-        subst Q f.is.0 (f.follows.not_back (effective_state (take t h) f.seen.attempt) (effective_state_is (take t h) f.seen.attempt)) in
+        subst Q f.is.0 (f.follows.not_back (effective_state (take t h) f.seen.attempt)
+        (effective_state_is (take t h) f.seen.attempt)) in
         let R : CriState → Type 0 = λ k. rank (effective_state (take t h) a) ≤ rank k in
         let one : rank (effective_state (take t h) a) ≤ 1 = subst R f.is.1 back in
         no _ two one
-    | inr gone ↦ gone.1 (listed_between h a gone.2.0 u all gone.2.2 (let b : gone.2.0 < u = gone.2.1 in omega arith) t (omega arith) (weaker (seen_at h t) start.holds))
+    | inr gone ↦ gone.1 (listed_between h a gone.2.0 u all gone.2.2 (let b : gone.2.0 < u = gone.2.1 in omega arith) t
+        (omega arith) (weaker (seen_at h t) start.holds))
   ])
 ]
   where

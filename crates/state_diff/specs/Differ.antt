@@ -1,10 +1,12 @@
-use Rattle.std.specs.Prelude.{◌≡◌, ◌↔◌, ◌⊎◌, ℕ, ℤ, ◌-◌, ◌<◌, ◌≤◌, List, length, Bool, Option, Some, None, IsTrue, IsSome, IsSomeAnd, IfSome}
+use Rattle.std.specs.Prelude.{◌≡◌, ◌↔◌, ◌⊎◌, ℕ, ℤ, ◌-◌, ◌<◌, ◌≤◌, List, length, Bool, Option, Some, None, IsTrue}
+use Rattle.std.specs.Prelude.{IsSome, IsSomeAnd, IfSome}
 use Rattle.state_diff.specs.declared.seen.Seen.{Seen}
 use Rattle.state_diff.specs.declared.instance.Instance.{Instance}
 use Rattle.state_diff.specs.declared.differ.Differ.{Differ}
 use Rattle.state_diff.specs.declared.differ.Changes.{Changes}
 use Rattle.state_diff.specs.States.{rank}
-use Rattle.state_diff.specs.Instances.{Tick, seen_at, Listed, IsNewest, IsEffective, IsState, IsExit, IsExitCode, IsStart, IsSetUp, IsAcceptable, IsRun}
+use Rattle.state_diff.specs.Instances.{Tick, seen_at, Listed, IsNewest, IsEffective, IsState, IsExit, IsExitCode}
+use Rattle.state_diff.specs.Instances.{IsStart, IsSetUp, IsAcceptable, IsRun}
 use Rattle.state_diff.specs.Instance.{IsInstanceOf}
 use Rattle.histories.specs.Histories.{last_moment}
 
@@ -72,7 +74,9 @@ pub record AreChanges (h : List Tick) (t : ℕ) (changes : Changes) : Type 0 whe
   -- the attempt that starts
   pub started : (a : ℕ) → ((changes.started ≡ Some a) ↔ IsStart h a t)
   -- the listed attempt that exits, with its code
-  pub died : (a : ℕ) (code : ℤ) → ((changes.died ≡ Some (a, code)) ↔ (IsExit h a t × IsSomeAnd (seen_at h t) (λ seen. (seen.attempt ≡ a) × (seen.code ≡ Some code))))
+  pub died : (a : ℕ) (code : ℤ)
+      → ((changes.died ≡ Some (a, code))
+      ↔ (IsExit h a t × IsSomeAnd (seen_at h t) (λ seen. (seen.attempt ≡ a) × (seen.code ≡ Some code))))
 
 -- an instance starts or exits
 abbrev pub SetsUp : Changes → Type 0

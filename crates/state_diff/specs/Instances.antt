@@ -2,7 +2,8 @@
 -- `ContainerState` and `ContainerMetadata.attempt`; Kubernetes, "Pod Lifecycle", "Container
 -- states"). A record is a tick, named by its place in the list of all ticks so far, oldest first.
 -- Each definition speaks of the whole list.
-use Rattle.std.specs.Prelude.{◌≡◌, ◌≢◌, ◌⊎◌, ℕ, ℤ, pos, ◌-◌, ◌<◌, ◌≤◌, List, length, take, unwrap_or, Option, Some, None, IsSomeAnd}
+use Rattle.std.specs.Prelude.{◌≡◌, ◌≢◌, ◌⊎◌, ℕ, ℤ, pos, ◌-◌, ◌<◌, ◌≤◌, List, length, take, unwrap_or, Option, Some}
+use Rattle.std.specs.Prelude.{None, IsSomeAnd}
 use Rattle.state_diff.specs.declared.seen.CriState.{CriState}
 use Rattle.state_diff.specs.declared.seen.CriState.TheVariants.{Created, Running, Exited, Unknown}
 use Rattle.state_diff.specs.declared.seen.Seen.{Seen}

@@ -25,7 +25,8 @@ pub record OneOfEach : Type 0 where
   pub start : (h : List Tick) (a t u : ℕ) → IsStart h a t → IsStart h a u → t ≡ u
   pub exit : (h : List Tick) (a t u : ℕ) → IsExit h a t → IsExit h a u → t ≡ u
   pub code : (h : List Tick) (a : ℕ) (code code' : ℤ) → IsExitCode h a code → IsExitCode h a code' → code ≡ code'
-  pub state : (h : List Tick) (a : ℕ) (state state' : CriState) → IsState h a state → IsState h a state' → state ≡ state'
+  pub state : (h : List Tick) (a : ℕ) (state state' : CriState) → IsState h a state → IsState h a state'
+      → state ≡ state'
 
 -- where each listing was acceptable, an instance doesn't start after its exit
 abbrev pub StartsBeforeExit : Type 0
@@ -42,7 +43,8 @@ NewestNeverFalls = (h later : List Tick) (a b : ℕ) → IsNewest h a → IsNewe
 
 -- an acceptable listing is of the newest attempt from then on
 abbrev pub AcceptableIsNewest : Type 0
-AcceptableIsNewest = (h : List Tick) (at : ℕ) (seen : Seen) → IsAcceptable h (Some seen) → IsNewest (h ++ tick at (Some seen) ∷ []) seen.attempt
+AcceptableIsNewest = (h : List Tick) (at : ℕ) (seen : Seen) → IsAcceptable h (Some seen)
+    → IsNewest (h ++ tick at (Some seen) ∷ []) seen.attempt
 
 -- the test that computes says what is acceptable
 abbrev pub AcceptableComputes : Type 0

@@ -1,12 +1,15 @@
-ghost use Rattle.std.specs.Prelude.{◌≡◌, ◌↔◌, ◌<◌, ◌≤◌, ◌-◌, ℕ, ℤ, List, [], ◌∷◌, ◌++◌, length, Option, Some, None, IsSomeAnd, IsTrue, IsSome, IfSome, MatchOption};
-ghost use Rattle.state_diff.specs.Instances.{Tick, tick, IsOf, seen_at, Listed, ListedAs, IsNewest, IsState, IsExit, IsExitCode, IsStart, Ends, IsSetUp, IsAcceptable, IsEffective};
+ghost use Rattle.std.specs.Prelude.{◌≡◌, ◌↔◌, ◌<◌, ◌≤◌, ◌-◌, ℕ, ℤ, List, [], ◌∷◌, ◌++◌, length, Option, Some, None};
+ghost use Rattle.std.specs.Prelude.{IsSomeAnd, IsTrue, IsSome, IfSome, MatchOption};
+ghost use Rattle.state_diff.specs.Instances.{Tick, tick, IsOf, seen_at, Listed, ListedAs, IsNewest, IsState, IsExit};
+ghost use Rattle.state_diff.specs.Instances.{IsExitCode, IsStart, Ends, IsSetUp, IsAcceptable, IsEffective};
 ghost use Rattle.state_diff.specs.Acceptable.{is_acceptable};
 ghost use Rattle.histories.specs.Histories.{IsFirstMoment, last_moment};
 ghost use Rattle.state_diff.specs.States.{rank};
 ghost use Rattle.state_diff.specs.declared.seen.CriState.TheVariants.{Running};
 ghost use Rattle.state_diff.specs.Instance.{IsInstanceOf};
 ghost use Rattle.state_diff.specs.declared.instance.Instance.{Instance};
-ghost use Rattle.state_diff.specs.Differ.{Accepts, IsBefore, IsNewestSeen, IsOfNewest, IsNewestRun, IsStateOf, AreChanges, SetsUp, IsNewestOf, IsListedBy};
+ghost use Rattle.state_diff.specs.Differ.{Accepts, IsBefore, IsNewestSeen, IsOfNewest, IsNewestRun, IsStateOf};
+ghost use Rattle.state_diff.specs.Differ.{AreChanges, SetsUp, IsNewestOf, IsListedBy};
 
 use crate::instance::Instance;
 use crate::seen::Seen;
@@ -237,7 +240,8 @@ impl Differ {
         requires accepted { Accepts self.old seen }
         requires later { IsBefore self.old at }
         ensures state { (h : List Tick) → IsStateOf h self.old → IsStateOf (h ++ tick at seen ∷ []) self.new }
-        ensures changes { (h : List Tick) → IsStateOf h self.old → AreChanges (h ++ tick at seen ∷ []) (length h) result }
+        ensures changes { (h : List Tick) → IsStateOf h self.old → AreChanges (h ++ tick at seen ∷ []) (length h)
+            result }
     {
         let changes = self.changes(seen);
         self.newest = self.newest_after(at, seen);

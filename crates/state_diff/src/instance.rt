@@ -1,4 +1,5 @@
-ghost use Rattle.std.specs.Prelude.{◌≡◌, ◌≢◌, ◌↔◌, ◌≤◌, ◌-◌, ℕ, ℤ, List, [], ◌∷◌, ◌++◌, Option, Some, None, IsSomeAnd, IfSome, IsTrue, is_some, unwrap_or};
+ghost use Rattle.std.specs.Prelude.{◌≡◌, ◌≢◌, ◌↔◌, ◌≤◌, ◌-◌, ℕ, ℤ, List, [], ◌∷◌, ◌++◌, Option, Some, None};
+ghost use Rattle.std.specs.Prelude.{IsSomeAnd, IfSome, IsTrue, is_some, unwrap_or};
 ghost use Rattle.state_diff.specs.Instances.{Tick, tick, Listed, IsOf, IsEffective};
 ghost use Rattle.state_diff.specs.States.{is_exited as exited, rank};
 ghost use Rattle.state_diff.specs.declared.seen.Seen.{Seen};
@@ -70,7 +71,8 @@ impl Instance {
     pub fn list(&mut self, at: u64, seen: Seen)
         requires { seen.attempt ≡ self.old.attempt }
         ensures attempt { self.new.attempt ≡ self.old.attempt }
-        ensures state { (h : List Tick) → IsInstanceOf h self.old → IsInstanceOf (h ++ tick at (Some seen) ∷ []) self.new }
+        ensures state { (h : List Tick) → IsInstanceOf h self.old → IsInstanceOf (h ++ tick at (Some seen) ∷ [])
+            self.new }
         ensures effective { (h : List Tick)
             → IsInstanceOf h self.old
             → IsEffective h self.old.attempt self.old.state

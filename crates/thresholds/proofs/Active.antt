@@ -1,5 +1,6 @@
 -- Whether a threshold is active, after one more sample.
-use Rattle.std.proofs.Common.{◌≡◌, ◌⊎◌, inl, inr, ℕ, ◌+◌, ◌<◌, ◌≤◌, List, [], ◌∷◌, ◌++◌, length, Option, Some, None, refl, subst, arith}
+use Rattle.std.proofs.Common.{◌≡◌, ◌⊎◌, inl, inr, ℕ, ◌+◌, ◌<◌, ◌≤◌, List, [], ◌∷◌, ◌++◌, length, Option, Some, None}
+use Rattle.std.proofs.Common.{refl, subst, arith}
 use Rattle.std.specs.Prelude.{◌↔◌}
 use Rattle.std.proofs.lemmas.Bool.{cases_lt}
 use Rattle.histories.proofs.Places.{length-more, kept, added, split, entry_at-below}
@@ -19,36 +20,42 @@ below_or_not limit (Some v) = elim (cases_lt v limit) [
 ]
 
 -- the value at the new place is the new one
-new_at : (limit at : ℕ) (value : Option ℕ) (h : List Sample) (t : ℕ) → t ≡ length h → IsBelow limit value → IsBelowAt (h ++ sample at value ∷ []) limit t
+new_at : (limit at : ℕ) (value : Option ℕ) (h : List Sample) (t : ℕ) → t ≡ length h → IsBelow limit value
+    → IsBelowAt (h ++ sample at value ∷ []) limit t
 new_at limit at value h t is b =
     let P : ℕ → Type 0 = λ k. IsBelowAt (h ++ sample at value ∷ []) limit k in
     let e : length h ≡ t = omega arith in
     subst P e (added (IsBelow limit) h (sample at value) b)
 
-new_back : (limit at : ℕ) (value : Option ℕ) (h : List Sample) (t : ℕ) → t ≡ length h → IsBelowAt (h ++ sample at value ∷ []) limit t → IsBelow limit value
+new_back : (limit at : ℕ) (value : Option ℕ) (h : List Sample) (t : ℕ) → t ≡ length h
+    → IsBelowAt (h ++ sample at value ∷ []) limit t → IsBelow limit value
 new_back limit at value h t is b = elim (split (IsBelow limit) h (sample at value) t b) [
   | inl old ↦ let lt : t < length h = entry_at-below (IsBelow limit) h t old in absurd (omega arith)
   | inr w ↦ w.1
 ]
 
-old_back : (limit at : ℕ) (value : Option ℕ) (h : List Sample) (t : ℕ) → t < length h → IsBelowAt (h ++ sample at value ∷ []) limit t → IsBelowAt h limit t
+old_back : (limit at : ℕ) (value : Option ℕ) (h : List Sample) (t : ℕ) → t < length h
+    → IsBelowAt (h ++ sample at value ∷ []) limit t → IsBelowAt h limit t
 old_back limit at value h t lt b = elim (split (IsBelow limit) h (sample at value) t b) [
   | inl old ↦ old
   | inr w ↦ let e : t ≡ length h = w.0 in absurd (omega arith)
 ]
 
 -- a value below the limit makes it active
-pub active_by : (limit reclaim at : ℕ) (value : Option ℕ) (h : List Sample) → IsBelow limit value → IsActive limit reclaim (h ++ sample at value ∷ [])
+pub active_by : (limit reclaim at : ℕ) (value : Option ℕ) (h : List Sample) → IsBelow limit value
+    → IsActive limit reclaim (h ++ sample at value ∷ [])
 active_by limit reclaim at value h b = record {
   place = length h;
   below = new_at limit at value h (length h) refl b;
   not_cleared = λ t le lt.
       let len : t < length (h ++ sample at value ∷ []) = lt in
-      new_at (limit + reclaim) at value h t (omega (arith, length-more h (sample at value))) (below_more limit (limit + reclaim) value (omega arith) b);
+      new_at (limit + reclaim) at value h t (omega (arith, length-more h (sample at value)))
+      (below_more limit (limit + reclaim) value (omega arith) b);
 }
 
 -- a value below the limit plus the reclaim leaves it active
-pub active_still : (limit reclaim at : ℕ) (value : Option ℕ) (h : List Sample) → IsActive limit reclaim h → IsBelow (limit + reclaim) value → IsActive limit reclaim (h ++ sample at value ∷ [])
+pub active_still : (limit reclaim at : ℕ) (value : Option ℕ) (h : List Sample) → IsActive limit reclaim h
+    → IsBelow (limit + reclaim) value → IsActive limit reclaim (h ++ sample at value ∷ [])
 active_still limit reclaim at value h a b = record {
   place = a.place;
   below = kept (IsBelow limit) h (sample at value) a.place a.below;
@@ -61,10 +68,12 @@ active_still limit reclaim at value h a b = record {
 }
 
 -- and nothing else does
-pub active_from : (limit reclaim at : ℕ) (value : Option ℕ) (h : List Sample) → IsActive limit reclaim (h ++ sample at value ∷ [])
+pub active_from : (limit reclaim at : ℕ) (value : Option ℕ) (h : List Sample)
+    → IsActive limit reclaim (h ++ sample at value ∷ [])
     → IsBelow limit value ⊎ (IsActive limit reclaim h × IsBelow (limit + reclaim) value)
 active_from limit reclaim at value h a =
-    let within : a.place < length (h ++ sample at value ∷ []) = entry_at-below (IsBelow limit) (h ++ sample at value ∷ []) a.place a.below in
+    let within : a.place < length (h ++ sample at value ∷ []) = entry_at-below (IsBelow limit)
+    (h ++ sample at value ∷ []) a.place a.below in
     let len : length (h ++ sample at value ∷ []) ≡ length h + 1 = omega (arith, length-more h (sample at value)) in
     elim (cases_lt a.place (length h)) [
       | inl old ↦ inr (
@@ -79,7 +88,8 @@ active_from limit reclaim at value h a =
     ]
 
 pub active_more : (limit reclaim at : ℕ) (value : Option ℕ) (h : List Sample)
-    → (IsActive limit reclaim (h ++ sample at value ∷ []) ↔ (IsBelow limit value ⊎ (IsActive limit reclaim h × IsBelow (limit + reclaim) value)))
+    → (IsActive limit reclaim (h ++ sample at value ∷ [])
+    ↔ (IsBelow limit value ⊎ (IsActive limit reclaim h × IsBelow (limit + reclaim) value)))
 active_more limit reclaim at value h = (
   active_from limit reclaim at value h,
   (λ w. elim w [
@@ -89,7 +99,8 @@ active_more limit reclaim at value h = (
 )
 
 -- it is active, or it is not
-pub active_or_not : (limit reclaim at : ℕ) (value : Option ℕ) (h : List Sample) → IsActive limit reclaim h ⊎ (IsActive limit reclaim h → ⊥)
+pub active_or_not : (limit reclaim at : ℕ) (value : Option ℕ) (h : List Sample)
+    → IsActive limit reclaim h ⊎ (IsActive limit reclaim h → ⊥)
     → IsActive limit reclaim (h ++ sample at value ∷ []) ⊎ (IsActive limit reclaim (h ++ sample at value ∷ []) → ⊥)
 active_or_not limit reclaim at value h before = elim (below_or_not limit value) [
   | inl b ↦ inl (active_by limit reclaim at value h b)

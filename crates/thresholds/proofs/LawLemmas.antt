@@ -1,5 +1,6 @@
 -- The laws of thresholds.
-use Rattle.std.proofs.Common.{◌≡◌, ◌⊎◌, inl, inr, ℕ, ◌+◌, ◌-◌, ◌<◌, List, [], ◌∷◌, ◌++◌, length, Option, Some, None, refl, subst, sym, append_assoc, append-nil, arith}
+use Rattle.std.proofs.Common.{◌≡◌, ◌⊎◌, inl, inr, ℕ, ◌+◌, ◌-◌, ◌<◌, List, [], ◌∷◌, ◌++◌, length, Option, Some, None}
+use Rattle.std.proofs.Common.{refl, subst, sym, append_assoc, append-nil, arith}
 use Rattle.std.specs.Option.{option_or}
 use Rattle.histories.specs.Histories.{moment_at}
 use Rattle.histories.proofs.Places.{entry_at-below}
@@ -13,19 +14,24 @@ pub due_is_active : DueIsActive
 due_is_active limit reclaim grace h due = due.active
 
 -- since when, after the samples that follow
-since_after : (limit reclaim : ℕ) (later h : List Sample) (since : Option ℕ) → IsActiveSince limit reclaim h since → IsActive limit reclaim h ⊎ (IsActive limit reclaim h → ⊥)
+since_after : (limit reclaim : ℕ) (later h : List Sample) (since : Option ℕ) → IsActiveSince limit reclaim h since
+    → IsActive limit reclaim h ⊎ (IsActive limit reclaim h → ⊥)
     → (o : Option ℕ) × IsActiveSince limit reclaim (h ++ later) o
-since_after limit reclaim [] h since is or = let P : List Sample → Type 0 = λ k. IsActiveSince limit reclaim k since in (since, subst P (sym (append-nil h)) is)
+since_after limit reclaim [] h since is or = let P : List Sample → Type 0 = λ k. IsActiveSince limit reclaim k since
+    in (since, subst P (sym (append-nil h)) is)
 since_after limit reclaim (x ∷ later) h since is or =
     let P : List Sample → Type 0 = λ k. (o : Option ℕ) × IsActiveSince limit reclaim k o in
     let next = active_or_not limit reclaim x.moment x.entry h or in
     subst P (append_assoc h (x ∷ []) later) (elim next [
-      | inl on ↦ since_after limit reclaim later (h ++ x ∷ []) (option_or since (Some x.moment)) (since_goes_on limit reclaim h x since on is) (inl on)
-      | inr off ↦ since_after limit reclaim later (h ++ x ∷ []) None (since_none limit reclaim (h ++ x ∷ []) off) (inr off)
+      | inl on ↦ since_after limit reclaim later (h ++ x ∷ []) (option_or since (Some x.moment))
+          (since_goes_on limit reclaim h x since on is) (inl on)
+      | inr off ↦ since_after limit reclaim later (h ++ x ∷ []) None (since_none limit reclaim (h ++ x ∷ []) off)
+          (inr off)
     ])
 
 since_of : (limit reclaim : ℕ) (h : List Sample) → (o : Option ℕ) × IsActiveSince limit reclaim h o
-since_of limit reclaim h = since_after limit reclaim h [] None (since_none limit reclaim [] (none_active limit reclaim)) (inr (none_active limit reclaim))
+since_of limit reclaim h = since_after limit reclaim h [] None
+    (since_none limit reclaim [] (none_active limit reclaim)) (inr (none_active limit reclaim))
 
 -- a list of samples has a last moment, if it has a sample
 moment_of : (y : Sample) (h : List Sample) → (m : ℕ) × (moment_at (y ∷ h) (length h) ≡ Some m)
@@ -41,9 +47,17 @@ due_at_once limit reclaim (y ∷ h) a =
     let P : ℕ → Type 0 = λ k. moment_at (y ∷ h) k ≡ Some last.0 in
     from since.0 since.1 last.0 (subst P e last.1)
   where
-    from : (o : Option ℕ) → IsActiveSince limit reclaim (y ∷ h) o → (m : ℕ) → moment_at (y ∷ h) (length (y ∷ h) - 1) ≡ Some m → IsDue limit reclaim 0 (y ∷ h)
+    from : (o : Option ℕ) → IsActiveSince limit reclaim (y ∷ h) o → (m : ℕ)
+        → moment_at (y ∷ h) (length (y ∷ h) - 1) ≡ Some m → IsDue limit reclaim 0 (y ∷ h)
     from None is m now = absurd (let e = (since_some limit reclaim (y ∷ h) None is).1 a in cc)
-    from (Some since) is m now = record { active = a; since = since; is_since = is; now = m; is_now = now; passed = omega arith }
+    from (Some since) is m now = record {
+      active = a;
+      since = since;
+      is_since = is;
+      now = m;
+      is_now = now;
+      passed = omega arith;
+    }
 
 pub hard_is_due_when_active : HardIsDueWhenActive
 hard_is_due_when_active limit reclaim h = ((λ due. due.active), due_at_once limit reclaim h)

@@ -15,10 +15,13 @@ NoReclaimIsBelowNow = (limit : ℕ) (h : List Sample) → (IsActive limit 0 h �
 abbrev pub ActiveGoesOn : Type 0
 ActiveGoesOn =
     (limit reclaim at : ℕ) (value : Option ℕ) (h : List Sample) →
-    (IsActive limit reclaim (h ++ sample at value ∷ []) ↔ (IsBelow limit value ⊎ (IsActive limit reclaim h × IsBelow (limit + reclaim) value)))
+    (IsActive limit reclaim (h ++ sample at value ∷ [])
+    ↔ (IsBelow limit value ⊎ (IsActive limit reclaim h × IsBelow (limit + reclaim) value)))
 
 -- there is exactly one such moment or none, and there is one exactly where the threshold is active
 pub record OneActiveSince : Type 0 where
   pub exists : (limit reclaim : ℕ) (h : List Sample) → (since : Option ℕ) × IsActiveSince limit reclaim h since
-  pub unique : (limit reclaim : ℕ) (h : List Sample) (one other : Option ℕ) → IsActiveSince limit reclaim h one → IsActiveSince limit reclaim h other → one ≡ other
-  pub some : (limit reclaim : ℕ) (h : List Sample) (since : Option ℕ) → IsActiveSince limit reclaim h since → (IsSome since ↔ IsActive limit reclaim h)
+  pub unique : (limit reclaim : ℕ) (h : List Sample) (one other : Option ℕ) → IsActiveSince limit reclaim h one
+      → IsActiveSince limit reclaim h other → one ≡ other
+  pub some : (limit reclaim : ℕ) (h : List Sample) (since : Option ℕ) → IsActiveSince limit reclaim h since
+      → (IsSome since ↔ IsActive limit reclaim h)

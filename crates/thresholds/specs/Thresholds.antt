@@ -35,7 +35,9 @@ pub record IsDue (limit reclaim grace : ℕ) (h : List Sample) : Type 0 where
 
 -- the same of a threshold, on a signal of this capacity
 abbrev pub IsThresholdActive : Threshold → Option ℕ → List Sample → Type 0
-IsThresholdActive threshold capacity h = IsActive (amount_of capacity threshold.limit) (amount_of capacity threshold.reclaim) h
+IsThresholdActive threshold capacity h = IsActive (amount_of capacity threshold.limit)
+    (amount_of capacity threshold.reclaim) h
 
 abbrev pub IsThresholdDue : Threshold → Option ℕ → List Sample → Type 0
-IsThresholdDue threshold capacity h = IsDue (amount_of capacity threshold.limit) (amount_of capacity threshold.reclaim) threshold.grace h
+IsThresholdDue threshold capacity h = IsDue (amount_of capacity threshold.limit)
+    (amount_of capacity threshold.reclaim) threshold.grace h

@@ -15,5 +15,6 @@ pub record IsStateOf (threshold : Threshold) (capacity : Option ℕ) (h : List S
   pub limit : watch.limit ≡ amount_of capacity threshold.limit
   pub clears_from : watch.clears_from ≡ amount_of capacity threshold.limit + amount_of capacity threshold.reclaim
   pub grace : watch.grace ≡ threshold.grace
-  pub active_since : IsActiveSince (amount_of capacity threshold.limit) (amount_of capacity threshold.reclaim) h watch.active_since
+  pub active_since : IsActiveSince (amount_of capacity threshold.limit) (amount_of capacity threshold.reclaim) h
+      watch.active_since
   pub due : IsTrue watch.due ↔ IsThresholdDue threshold capacity h

@@ -1,7 +1,8 @@
 //! What is true of every threshold, for every list of samples. The functions do nothing; their
 //! contracts are the laws.
 
-ghost use Rattle.thresholds.specs.Laws.{DueIsActive, HardIsDueWhenActive, NoReclaimIsBelowNow, ActiveGoesOn, OneActiveSince};
+ghost use Rattle.thresholds.specs.Laws.{DueIsActive, HardIsDueWhenActive, NoReclaimIsBelowNow, ActiveGoesOn};
+ghost use Rattle.thresholds.specs.Laws.{OneActiveSince};
 
 /// A threshold that is due is active.
 pub fn due_is_active()

@@ -1,6 +1,7 @@
 //! A threshold beside the samples of its signal.
 
-ghost use Rattle.std.specs.Prelude.{◌≡◌, ◌↔◌, ◌≤◌, ◌-◌, ℕ, List, [], ◌∷◌, ◌++◌, Option, Some, None, IsTrue, IsSome, IsSomeAnd, IfSome};
+ghost use Rattle.std.specs.Prelude.{◌≡◌, ◌↔◌, ◌≤◌, ◌-◌, ℕ, List, [], ◌∷◌, ◌++◌, Option, Some, None, IsTrue, IsSome};
+ghost use Rattle.std.specs.Prelude.{IsSomeAnd, IfSome};
 ghost use Rattle.std.specs.Option.{option_or};
 ghost use Rattle.quantity.specs.Quantity.{greatest};
 ghost use Rattle.signals.specs.declared.threshold.Threshold.{Threshold};

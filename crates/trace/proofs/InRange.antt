@@ -21,7 +21,8 @@ use Rattle.manifest_reader.specs.Manifest.{field_of, role_of, container_of, few,
 use Rattle.manifest_reader.specs.Manifest.{containers_in, metadata_of, settings_in, spec_of, pod_at}
 use Rattle.manifest.specs.Names.{is_label}
 use Rattle.manifest.specs.Probe.{Probe, Probes, IsInRange, HasNumbersInRange}
-use Rattle.manifest_reader.specs.ProbeFields.{greatest, not_from_0, in_range, number_from, number_of, probe_in, probe_of}
+use Rattle.manifest_reader.specs.ProbeFields.{greatest, not_from_0, in_range, number_from, number_of, probe_in}
+use Rattle.manifest_reader.specs.ProbeFields.{probe_of}
 use Rattle.manifest_reader.specs.ProbeFields.{some_probes, unprobed, probes_of}
 use Rattle.manifest_reader.specs.ResourceFields.{resources_of}
 use Rattle.trace.specs.declared.past.Trace.{Trace}

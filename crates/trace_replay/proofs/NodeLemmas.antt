@@ -42,7 +42,8 @@ same_history : (own : List PodObs) (c : ℕ)
     → listings (ticks_of (map pod_tick own) c) ≡ map (λ (shown : PodObs). recorded shown.at (listed_in shown c)) own
 same_history [] c = refl
 same_history (o ∷ os) c =
-    ap (λ (s : Option Seen). recorded o.at s ∷ listings (ticks_of (map pod_tick os) c)) (listed (slice_get o.containers c))
+    ap (λ (s : Option Seen). recorded o.at s ∷ listings (ticks_of (map pod_tick os) c))
+    (listed (slice_get o.containers c))
     ∙ ap (λ rest. recorded o.at (listed_in o c) ∷ rest) (same_history os c)
 
 -- the pod's last tick is that of its first container
@@ -51,7 +52,8 @@ ends_so h at ends =
     let f = λ (entry : PodEntry). unwrap_or (slice_get entry.containers 0) unseen in
     let g = λ (shown : ContainerObs). shown.seen in
     let same : last_moment (listings (ticks_of h 0)) ≡ last_moment h =
-    moment_at-project g (ticks_of h 0) (length (listings (ticks_of h 0)) - 1) ∙ moment_at-project f h (length (listings (ticks_of h 0)) - 1)
+    moment_at-project g (ticks_of h 0) (length (listings (ticks_of h 0)) - 1) ∙ moment_at-project f h
+    (length (listings (ticks_of h 0)) - 1)
     ∙ ap (λ m. moment_at h (m - 1)) (length-project g (ticks_of h 0) ∙ length-project f h) in
     subst (λ (o : Option ℕ). IfSome o (λ last. last < at)) same ends
 
@@ -66,15 +68,16 @@ kept (suc i) (suc t) (x ∷ xs) tick e = let w = kept i t xs tick e in (omega (a
 grows : (pods : List PodSpec) (arrivals : List ℕ) (ticks : List TickObs) → HasShape pods arrivals ticks
     → (t u : ℕ) (earlier later : TickObs) → t < u → slice_get ticks t ≡ Some earlier → slice_get ticks u ≡ Some later
     → length earlier.pods ≤ length later.pods
-grows pods arrivals ticks shape t u earlier later lt at there = elim (cases_lt (length later.pods) (length earlier.pods)) [
-  | inl fewer ↦
-      let n = length later.pods in
-      let present = ((shape.shown t earlier at).present n).0 fewer in
-      let still = before (slice_get arrivals n) present in
-      let shown : n < length later.pods = ((shape.shown u later there).present n).1 still in
-      absurd (omega arith)
-  | inr ge ↦ ge
-]
+grows pods arrivals ticks shape t u earlier later lt at there =
+    elim (cases_lt (length later.pods) (length earlier.pods)) [
+      | inl fewer ↦
+          let n = length later.pods in
+          let present = ((shape.shown t earlier at).present n).0 fewer in
+          let still = before (slice_get arrivals n) present in
+          let shown : n < length later.pods = ((shape.shown u later there).present n).1 still in
+          absurd (omega arith)
+      | inr ge ↦ ge
+    ]
   where
     before : (o : Option ℕ) → IsSomeAnd o (λ arrival. arrival ≤ t) → IsSomeAnd o (λ arrival. arrival ≤ u)
     before None p = p
@@ -111,7 +114,8 @@ are_replayable pods arrivals ticks acceptable shape = record {
   within = no_more pods arrivals ticks shape;
 }
   where
-    next : (t n : ℕ) (tick : TickObs) (pod : PodSpec) (observed : PodObs) → slice_get ticks t ≡ Some tick → slice_get pods n ≡ Some pod → shown_of tick n ≡ Some observed
+    next : (t n : ℕ) (tick : TickObs) (pod : PodSpec) (observed : PodObs) → slice_get ticks t ≡ Some tick
+        → slice_get pods n ≡ Some pod → shown_of tick n ≡ Some observed
         → IsNextTick pod (pod_ticks (take t ticks) n) (pod_tick observed)
     next t n tick pod observed here at shown =
         let each = shape.shown t tick here in
@@ -126,12 +130,15 @@ are_replayable pods arrivals ticks acceptable shape = record {
           shown = record {
             as_many = each.containers n pod observed at shown;
             acceptable = λ c lt.
-                subst (λ (h : List Tick). IsAcceptable h (unwrap_or (slice_get observed.containers c) unseen).seen) (sym (same_history own c))
-                (subst (λ (o : Option Seen). IsAcceptable (history (take t ticks) n c) o) (sym (listed (slice_get observed.containers c)))
+                subst (λ (h : List Tick). IsAcceptable h (unwrap_or (slice_get observed.containers c) unseen).seen)
+                (sym (same_history own c))
+                (subst (λ (o : Option Seen). IsAcceptable (history (take t ticks) n c) o)
+                (sym (listed (slice_get observed.containers c)))
                 (acceptable_at ticks t n c tick observed here shown (acceptable n c)));
           };
           later = ends_so (map pod_tick own) observed.at
-              (subst (λ (h : List Tick). EndsBefore h observed.at) (sym (same_history own 0)) (history_ends_before (take t ticks) n 0 observed.at before));
+              (subst (λ (h : List Tick). EndsBefore h observed.at) (sym (same_history own 0))
+              (history_ends_before (take t ticks) n 0 observed.at before));
           bounded = subst (λ (m : ℕ). m < 2 ^ 40) (sym moment) (shape.below t tick here);
         }
 
@@ -156,7 +163,8 @@ get_behind : {A : Type 0} (xs : List A) (x : A) (ys : List A) (t : ℕ) (y : A) 
     → slice_get (xs ++ x ∷ ys) (length xs + suc t) ≡ Some y
 get_behind [] x ys t y e = ap (λ (k : ℕ). slice_get (x ∷ ys) k) (let z : 0 + suc t ≡ suc t = omega arith in z) ∙ e
 get_behind (z ∷ xs) x ys t y e =
-    ap (λ (k : ℕ). slice_get (z ∷ (xs ++ x ∷ ys)) k) (let n : suc (length xs) + suc t ≡ suc (length xs + suc t) = omega arith in n) ∙ get_behind xs x ys t y e
+    ap (λ (k : ℕ). slice_get (z ∷ (xs ++ x ∷ ys)) k) (let n : suc (length xs) + suc t ≡ suc (length xs + suc t) =
+    omega arith in n) ∙ get_behind xs x ys t y e
 
 taken_at : (n k : ℕ) (pods : List PodSpec) (pod : PodSpec) → slice_get (take k pods) n ≡ Some pod
     → slice_get pods n ≡ Some pod
@@ -169,7 +177,8 @@ last_place : (ticks : List TickObs) (m : ℕ) → last_of ticks ≡ Some m → (
     × (slice_get ticks t ≡ Some tick) × (tick.at ≡ m) × (t < length ticks)
 last_place [] m e = absurd (cc)
 last_place (x ∷ []) m e = (0, x, refl, cc, omega arith)
-last_place (x ∷ y ∷ ticks) m e = let w = last_place (y ∷ ticks) m e in let lt : w.0 < length (y ∷ ticks) = w.4 in (suc w.0, w.1, w.2, w.3, omega arith)
+last_place (x ∷ y ∷ ticks) m e = let w = last_place (y ∷ ticks) m e in let lt : w.0 < length (y ∷ ticks) = w.4 in
+    (suc w.0, w.1, w.2, w.3, omega arith)
 
 if_some : (o : Option ℕ) (P : ℕ → Type 0) → ((m : ℕ) → o ≡ Some m → P m) → IfSome o P
 if_some None P each = tt
@@ -181,9 +190,11 @@ pub fits_next : (pods : List PodSpec) (ticks before : List TickObs) (tick : Tick
     → HasTaken (take (length tick.pods) pods) before s → Fits s tick
 fits_next pods ticks before tick rest s may whole taken =
     let t = length before in
-    let at : slice_get ticks t ≡ Some tick = ap (λ (xs : List TickObs). slice_get xs t) whole ∙ middle before tick rest in
+    let at : slice_get ticks t ≡ Some tick = ap (λ (xs : List TickObs). slice_get xs t) whole ∙ middle before tick
+    rest in
     let cut : take t ticks ≡ before = ap (take t) whole ∙ front before (tick ∷ rest) in
-    let count : length (take (length tick.pods) pods) ≡ length tick.pods = length-take-le (length tick.pods) pods (may.within t tick at) in
+    let count : length (take (length tick.pods) pods) ≡ length tick.pods = length-take-le (length tick.pods) pods
+    (may.within t tick at) in
     record {
       few =
           let all : length ticks ≡ length before + suc (length rest) =
@@ -194,18 +205,22 @@ fits_next pods ticks before tick rest s may whole taken =
       later = subst (λ (o : Option ℕ). IfSome o (λ last. last < tick.at)) (sym taken.last_is)
           (if_some (last_of before) (λ m. m < tick.at) (λ m is.
           let w = last_place before m is in
-          let there : slice_get ticks w.0 ≡ Some w.1 = ap (λ (xs : List TickObs). slice_get xs w.0) whole ∙ get_before before (tick ∷ rest) w.0 w.1 w.2 in
+          let there : slice_get ticks w.0 ≡ Some w.1 = ap (λ (xs : List TickObs). slice_get xs w.0) whole
+          ∙ get_before before (tick ∷ rest) w.0 w.1 w.2 in
           let rises : w.1.at < tick.at = may.rising w.0 t w.1 tick w.4 there at in
           let same : w.1.at ≡ m = w.3 in omega arith));
       bounded = may.below t tick at;
       pods = record {
         next = record {
-          as_many = let many : length s.pods.pieces ≡ length (take (length tick.pods) pods) = taken.pieces.as_many in omega arith;
+          as_many = let many : length s.pods.pieces ≡ length (take (length tick.pods) pods) = taken.pieces.as_many in
+              omega arith;
           each = λ n piece shown is there.
-              let here = pod_at s.config (take (length tick.pods) pods) before s.evictions s.pods.pieces n piece taken.pieces is in
+              let here = pod_at s.config (take (length tick.pods) pods) before s.evictions s.pods.pieces n piece
+              taken.pieces is in
               let pod : slice_get pods n ≡ Some here.0 = taken_at n (length tick.pods) pods here.0 here.1 in
               let next : IsNextTick here.0 (pod_ticks before n) (pod_tick shown) =
-              subst (λ (h : List TickObs). IsNextTick here.0 (pod_ticks h n) (pod_tick shown)) cut (may.next t n tick here.0 shown at pod there) in
+              subst (λ (h : List TickObs). IsNextTick here.0 (pod_ticks h n) (pod_tick shown)) cut
+              (may.next t n tick here.0 shown at pod there) in
               subst (λ (p : Piece). IsNextTick p.pod p.handed (pod_tick shown)) (sym here.2) next;
         };
         at_its_moment = λ n shown is. may.moments t n tick shown at is;
@@ -242,12 +257,19 @@ drop_drop (suc n) (suc k) [] le = none (suc k - suc n)
     none zero = refl
     none (suc i) = refl
 drop_drop (suc n) (suc k) (p ∷ pods) le =
-    ap (λ (i : ℕ). drop i (drop n pods)) (let z : suc k - suc n ≡ k - n = omega arith in z) ∙ drop_drop n k pods (omega arith)
+    ap (λ (i : ℕ). drop i (drop n pods)) (let z : suc k - suc n ≡ k - n = omega arith in z) ∙ drop_drop n k pods
+    (omega arith)
 
 -- no tick and no pod yet
 none_yet : (config : NodeConfig) (pods : List PodSpec) (ticks : List TickObs) (new : Option State)
     → IsAfter config [] [] new → IsSoFar config pods ticks [] ticks 0 pods new
-none_yet config pods ticks new after = record { whole = refl; left_is = refl; few = omega arith; shown = λ t tick at. omega arith; after = after }
+none_yet config pods ticks new after = record {
+  whole = refl;
+  left_is = refl;
+  few = omega arith;
+  shown = λ t tick at. omega arith;
+  after = after;
+}
 
 -- the same with what the code has of the ticks and of the pods
 pub none_taken : (config : NodeConfig) (pods left : List PodSpec) (ticks rest : List TickObs) (new : Option State)
@@ -261,62 +283,74 @@ none_taken config pods left ticks rest new all these after =
 pub arrived_next : (config : NodeConfig) (pods : List PodSpec) (ticks before : List TickObs) (tick : TickObs)
     (rest : List TickObs) (arrived : ℕ) (left : List PodSpec) (old new : Option State)
     → IsSoFar config pods ticks before (tick ∷ rest) arrived left old
-    → ((ps : List PodSpec) (ts : List TickObs) → IsAfter config ps ts old → IsAfter config (ps ++ take (length tick.pods - arrived) left) ts new)
+    → ((ps : List PodSpec) (ts : List TickObs) → IsAfter config ps ts old
+    → IsAfter config (ps ++ take (length tick.pods - arrived) left) ts new)
     → IsAfter config (take (length tick.pods) pods) before new
 arrived_next config pods ticks before tick rest arrived left old new s arrives =
     let le : arrived ≤ length tick.pods = s.shown 0 tick refl in
     let now = arrives (take arrived pods) before s.after in
     subst (λ (ps : List PodSpec). IsAfter config ps before new)
-    (ap (λ (ps : List PodSpec). take arrived pods ++ take (length tick.pods - arrived) ps) s.left_is ∙ take_drop arrived (length tick.pods) pods le) now
+    (ap (λ (ps : List PodSpec). take arrived pods ++ take (length tick.pods - arrived) ps) s.left_is
+    ∙ take_drop arrived (length tick.pods) pods le) now
 
 may_take : (config : NodeConfig) (pods : List PodSpec) (ticks before : List TickObs) (tick : TickObs)
     (rest : List TickObs) (node : Option State)
     → AreReplayable pods ticks → ticks ≡ before ++ tick ∷ rest
     → IsAfter config (take (length tick.pods) pods) before node → MayTake node tick
 may_take config pods ticks before tick rest None may whole after = absurd after
-may_take config pods ticks before tick rest (Some s) may whole after = fits_next pods ticks before tick rest s may whole after.1
+may_take config pods ticks before tick rest (Some s) may whole after = fits_next pods ticks before tick rest s may
+    whole after.1
 
 -- so it may be taken
 pub may_take_next : (config : NodeConfig) (pods : List PodSpec) (ticks before : List TickObs) (tick : TickObs)
     (rest : List TickObs) (arrived : ℕ) (left : List PodSpec) (old new : Option State)
     → AreReplayable pods ticks → IsSoFar config pods ticks before (tick ∷ rest) arrived left old
-    → ((ps : List PodSpec) (ts : List TickObs) → IsAfter config ps ts old → IsAfter config (ps ++ take (length tick.pods - arrived) left) ts new) → MayTake new tick
+    → ((ps : List PodSpec) (ts : List TickObs) → IsAfter config ps ts old
+    → IsAfter config (ps ++ take (length tick.pods - arrived) left) ts new) → MayTake new tick
 may_take_next config pods ticks before tick rest arrived left old new may s arrives =
-    may_take config pods ticks before tick rest new may s.whole (arrived_next config pods ticks before tick rest arrived left old new s arrives)
+    may_take config pods ticks before tick rest new may s.whole
+    (arrived_next config pods ticks before tick rest arrived left old new s arrives)
 
 -- and once it was
 pub one_more : (config : NodeConfig) (pods : List PodSpec) (ticks before : List TickObs) (tick : TickObs)
     (rest : List TickObs) (arrived : ℕ) (left left' : List PodSpec) (old mid new : Option State)
     → AreReplayable pods ticks → IsSoFar config pods ticks before (tick ∷ rest) arrived left old
-    → ((ps : List PodSpec) (ts : List TickObs) → IsAfter config ps ts old → IsAfter config (ps ++ take (length tick.pods - arrived) left) ts mid)
+    → ((ps : List PodSpec) (ts : List TickObs) → IsAfter config ps ts old
+    → IsAfter config (ps ++ take (length tick.pods - arrived) left) ts mid)
     → left' ≡ drop (length tick.pods - arrived) left
     → ((ps : List PodSpec) (ts : List TickObs) → IsAfter config ps ts mid → IsAfter config ps (ts ++ tick ∷ []) new)
     → IsSoFar config pods ticks (before ++ tick ∷ []) rest (length tick.pods) left' new
 one_more config pods ticks before tick rest arrived left left' old mid new may s arrives left_is takes =
     let le : arrived ≤ length tick.pods = s.shown 0 tick refl in
-    let at : slice_get ticks (length before) ≡ Some tick = ap (λ (xs : List TickObs). slice_get xs (length before)) s.whole ∙ middle before tick rest in
+    let at : slice_get ticks (length before) ≡ Some tick = ap (λ (xs : List TickObs). slice_get xs (length before))
+    s.whole ∙ middle before tick rest in
     record {
       whole = rest_more ticks before tick rest s.whole;
-      left_is = left_is ∙ ap (drop (length tick.pods - arrived)) s.left_is ∙ drop_drop arrived (length tick.pods) pods le;
+      left_is = left_is ∙ ap (drop (length tick.pods - arrived)) s.left_is ∙ drop_drop arrived (length tick.pods) pods
+          le;
       few = may.within (length before) tick at;
       shown = λ t later there.
           let place : slice_get ticks (length before + suc t) ≡ Some later =
-          ap (λ (xs : List TickObs). slice_get xs (length before + suc t)) s.whole ∙ get_behind before tick rest t later there in
+          ap (λ (xs : List TickObs). slice_get xs (length before + suc t)) s.whole ∙ get_behind before tick rest t
+          later there in
           may.growing (length before) (length before + suc t) tick later (omega arith) at place;
-      after = takes (take (length tick.pods) pods) before (arrived_next config pods ticks before tick rest arrived left old mid s arrives);
+      after = takes (take (length tick.pods) pods) before
+          (arrived_next config pods ticks before tick rest arrived left old mid s arrives);
     }
 
 -- all ticks taken, and the other pods arrived
 pub all_taken : (config : NodeConfig) (pods : List PodSpec) (ticks before : List TickObs) (arrived count : ℕ)
     (left : List PodSpec) (old new : Option State)
     → IsSoFar config pods ticks before [] arrived left old → count ≡ length pods
-    → ((ps : List PodSpec) (ts : List TickObs) → IsAfter config ps ts old → IsAfter config (ps ++ take (count - arrived) left) ts new)
+    → ((ps : List PodSpec) (ts : List TickObs) → IsAfter config ps ts old
+    → IsAfter config (ps ++ take (count - arrived) left) ts new)
     → IsAfter config pods ticks new
 all_taken config pods ticks before arrived count left old new s many arrives =
     let few : arrived ≤ length pods = s.few in
     let now = arrives (take arrived pods) before s.after in
     let all : take arrived pods ++ take (count - arrived) left ≡ pods =
-    ap (λ (ps : List PodSpec). take arrived pods ++ take (count - arrived) ps) s.left_is ∙ take_drop arrived count pods (omega arith) ∙ take_all count pods (omega arith) in
+    ap (λ (ps : List PodSpec). take arrived pods ++ take (count - arrived) ps) s.left_is ∙ take_drop arrived count
+    pods (omega arith) ∙ take_all count pods (omega arith) in
     subst (λ (ts : List TickObs). IsAfter config pods ts new) (sym (s.whole ∙ append-nil before))
     (subst (λ (ps : List PodSpec). IsAfter config ps before new) all now)
 
@@ -327,7 +361,8 @@ pub took_more : (config : NodeConfig) (arrived : List PodSpec) (ticks : List Tic
     → ((ps : List PodSpec) (ts : List TickObs) → IsAfter config ps ts old → IsAfter config (ps ++ pod ∷ []) ts new)
     → IsAfter config (arrived ++ (taken ++ pod ∷ [])) ticks new
 took_more config arrived ticks taken pod old new after arrives =
-    subst (λ (ps : List PodSpec). IsAfter config ps ticks new) (append_assoc arrived taken (pod ∷ [])) (arrives (arrived ++ taken) ticks after)
+    subst (λ (ps : List PodSpec). IsAfter config ps ticks new) (append_assoc arrived taken (pod ∷ []))
+    (arrives (arrived ++ taken) ticks after)
 
 -- where an iterator has ended it has nothing left
 pub none_left : {A : Type 0} (o : Option A) (old new : ℕ) (Q : A → Type 0) (rest : List A)
@@ -348,20 +383,23 @@ pub record AreArriving (all : List PodSpec) (i : ℕ) (old new : Option State) (
 
 pub none_arrived : (all : List PodSpec) (old : Option State) → AreArriving all 0 old old all
 none_arrived all old = record {
-  arrived = λ config pods ticks after. subst (λ (ps : List PodSpec). IsAfter config ps ticks old) (sym (append-nil pods)) after;
+  arrived = λ config pods ticks after. subst (λ (ps : List PodSpec). IsAfter config ps ticks old)
+      (sym (append-nil pods)) after;
   left_is = refl;
 }
 
 cut : (i : ℕ) (all : List PodSpec) (pod : PodSpec) (rest : List PodSpec) → pod ∷ rest ≡ drop i all
     → (take (suc i) all ≡ take i all ++ pod ∷ []) × (rest ≡ drop (suc i) all)
 cut zero [] pod rest e = absurd (cc)
-cut zero (p ∷ all) pod rest e = let head : p ≡ pod = cc in let tail : rest ≡ all = cc in (ap (λ (q : PodSpec). q ∷ []) head, tail)
+cut zero (p ∷ all) pod rest e = let head : p ≡ pod = cc in let tail : rest ≡ all = cc in
+    (ap (λ (q : PodSpec). q ∷ []) head, tail)
 cut (suc i) [] pod rest e = absurd (cc)
 cut (suc i) (p ∷ all) pod rest e = let w = cut i all pod rest e in (ap (λ (ps : List PodSpec). p ∷ ps) w.0, w.1)
 
 pub arriving_more : (all : List PodSpec) (i : ℕ) (old mid new : Option State) (left : List PodSpec) (pod : PodSpec)
     (rest : List PodSpec) → AreArriving all i old mid left → left ≡ pod ∷ rest
-    → ((config : NodeConfig) (pods : List PodSpec) (ticks : List TickObs) → IsAfter config pods ticks mid → IsAfter config (pods ++ pod ∷ []) ticks new)
+    → ((config : NodeConfig) (pods : List PodSpec) (ticks : List TickObs) → IsAfter config pods ticks mid
+    → IsAfter config (pods ++ pod ∷ []) ticks new)
     → AreArriving all (i + 1) old new rest
 arriving_more all i old mid new left pod rest are is arrives =
     let w = cut i all pod rest (sym is ∙ are.left_is) in
@@ -369,7 +407,8 @@ arriving_more all i old mid new left pod rest are is arrives =
     subst (λ (k : ℕ). AreArriving all k old new rest) next (record {
       arrived = λ config pods ticks after.
           subst (λ (ps : List PodSpec). IsAfter config (pods ++ ps) ticks new) (sym w.0)
-          (took_more config pods ticks (take i all) pod mid new (are.arrived config pods ticks after) (λ ps ts before. arrives config ps ts before));
+          (took_more config pods ticks (take i all) pod mid new (are.arrived config pods ticks after)
+          (λ ps ts before. arrives config ps ts before));
       left_is = w.1;
     })
 
@@ -385,7 +424,8 @@ short i n [] e le = (none i ∙ sym (none n), sym (nothing n))
     nothing (suc k) = refl
 short zero n (p ∷ all) e le = absurd (let f : [] ≡ p ∷ all = e in cc)
 short (suc i) zero (p ∷ all) e le = absurd (omega arith)
-short (suc i) (suc n) (p ∷ all) e le = let w = short i n all e (omega arith) in (ap (λ (ps : List PodSpec). p ∷ ps) w.0, w.1)
+short (suc i) (suc n) (p ∷ all) e le = let w = short i n all e (omega arith) in
+    (ap (λ (ps : List PodSpec). p ∷ ps) w.0, w.1)
 
 -- where none are left all have
 pub all_arrived : (all : List PodSpec) (i count : ℕ) (old new : Option State) (left rest : List PodSpec)
@@ -393,13 +433,15 @@ pub all_arrived : (all : List PodSpec) (i count : ℕ) (old new : Option State) 
 all_arrived all i count old new left rest are none none' le =
     let w = short i count all (sym none ∙ are.left_is) le in
     record {
-      arrived = λ config pods ticks after. subst (λ (ps : List PodSpec). IsAfter config (pods ++ ps) ticks new) w.0 (are.arrived config pods ticks after);
+      arrived = λ config pods ticks after. subst (λ (ps : List PodSpec). IsAfter config (pods ++ ps) ticks new) w.0
+          (are.arrived config pods ticks after);
       left_is = none' ∙ w.1;
     }
 
 pub as_many_arrived : (all : List PodSpec) (i count : ℕ) (old new : Option State) (left : List PodSpec)
     → AreArriving all i old new left → i ≤ count → count ≤ i → AreArriving all count old new left
-as_many_arrived all i count old new left are le ge = let same : i ≡ count = omega arith in subst (λ (k : ℕ). AreArriving all k old new left) same are
+as_many_arrived all i count old new left are le ge = let same : i ≡ count = omega arith in
+    subst (λ (k : ℕ). AreArriving all k old new left) same are
 
 -- a halted node is after no ticks
 pub halted : (config : NodeConfig) (pods : List PodSpec) (ticks : List TickObs) (one : Option State) → one ≡ None
@@ -412,10 +454,12 @@ pub so_far_next : (config : NodeConfig) (pods : List PodSpec) (ticks before rest
     (left : List PodSpec) (old : Option State)
     → rest ≡ next → IsSoFar config pods ticks before rest arrived left old
     → IsSoFar config pods ticks before next arrived left old
-so_far_next config pods ticks before rest next arrived left old is s = subst (λ (ts : List TickObs). IsSoFar config pods ticks before ts arrived left old) is s
+so_far_next config pods ticks before rest next arrived left old is s =
+    subst (λ (ts : List TickObs). IsSoFar config pods ticks before ts arrived left old) is s
 
 abbrev pub Arrive : NodeConfig → Option State → Option State → List PodSpec → Type 0
-Arrive config old new arriving = (ps : List PodSpec) (ts : List TickObs) → IsAfter config ps ts old → IsAfter config (ps ++ arriving) ts new
+Arrive config old new arriving = (ps : List PodSpec) (ts : List TickObs) → IsAfter config ps ts old
+    → IsAfter config (ps ++ arriving) ts new
 
 pub may_take_shown : (config : NodeConfig) (pods : List PodSpec) (ticks before : List TickObs) (tick : TickObs)
     (rest : List TickObs) (shown : List PodObs) (arrived : ℕ) (left : List PodSpec) (old new : Option State)

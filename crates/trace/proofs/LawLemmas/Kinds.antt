@@ -23,7 +23,8 @@ use Rattle.name_list.specs.Names.{place_of}
 use Rattle.tick_lines.specs.declared.listing.Listing.{Listing}
 use Rattle.trace.specs.Pod.{keys_of, of_manifest, pod_from}
 use Rattle.manifest_reader.specs.Manifest.{pod_at}
-use Rattle.trace.specs.Placing.{number_in, container_number, placed_listing, placed_result, entry_of_pod, placed_entry, placed_of}
+use Rattle.trace.specs.Placing.{number_in, container_number, placed_listing, placed_result, entry_of_pod}
+use Rattle.trace.specs.Placing.{placed_entry, placed_of}
 use Rattle.trace.specs.Past.{Past}
 use Rattle.trace.specs.Tick.{is_later, moment_from}
 use Rattle.trace.specs.Trace.{json_of}

@@ -4,17 +4,30 @@ use Rattle.chunked_list.proofs.list.item_at.Goals as goal
 
 pub offset_bounds-last-within : goal.offset_bounds-last-within
 offset_bounds-last-within g c =
-    omega (arith, joined_length c.args.full.now c.args.last.now c.requires.full, c.requires.within, c.requires.fits, c.if-chunk-full.false)
+    omega (
+      arith,
+      joined_length c.args.full.now c.args.last.now c.requires.full,
+      c.requires.within,
+      c.requires.fits,
+      c.if-chunk-full.false,
+    )
 
 pub bounds-last-within : goal.bounds-last-within
 bounds-last-within g c =
-    omega (arith, joined_length c.args.full.now c.args.last.now c.requires.full, c.requires.within, c.requires.fits, c.if-chunk-full.false)
+    omega (
+      arith,
+      joined_length c.args.full.now c.args.last.now c.requires.full,
+      c.requires.within,
+      c.requires.fits,
+      c.if-chunk-full.false,
+    )
 
 pub returns-then-chunk-full : goal.returns-then-chunk-full
 returns-then-chunk-full g c =
     let chunk = c.index-full-chunk.result in
     c.index.ensures ∙ ap (λ f. get_or f.items (c.args.place % 64) c.index.result.now) c.index-full-chunk.is
-    ∙ sym (item_in_full c.args.full.now c.args.last.now c.args.place chunk c.index.result.now c.requires.full c.if-chunk-full.true)
+    ∙ sym (item_in_full c.args.full.now c.args.last.now c.args.place chunk c.index.result.now c.requires.full
+    c.if-chunk-full.true)
 
 pub returns-else-chunk-full : goal.returns-else-chunk-full
 returns-else-chunk-full g c =

@@ -7,9 +7,13 @@ use Rattle.manifest_reader.proofs.reading.containers.Goals as goal
 
 pub loop-value-preserved : goal.loop-value-preserved
 loop-value-preserved c =
-    let read_on = one_more view (container_of c.args.place) c.args.values.now c.loop-value.value-index c.value-item.result c.loop-value.all.items c.in_ok-container.container c.loop-value-test.true c.value-item.is c.in_ok-container.ensures.gives in
+    let read_on = one_more view (container_of c.args.place) c.args.values.now c.loop-value.value-index
+    c.value-item.result c.loop-value.all.items c.in_ok-container.container c.loop-value-test.true c.value-item.is
+    c.in_ok-container.ensures.gives in
     record {
       read = rw c.in_ok-push.ensures.items (read_on ∙ c.loop-value.invariant.read);
       as_many = search rules;
-      of = rw c.in_ok-push.ensures.items (all_of_pushed c.args.place c.loop-value.all.items c.in_ok-container.container c.loop-value.invariant.of c.in_ok-container.ensures.of);
+      of = rw c.in_ok-push.ensures.items
+          (all_of_pushed c.args.place c.loop-value.all.items c.in_ok-container.container c.loop-value.invariant.of
+          c.in_ok-container.ensures.of);
     }

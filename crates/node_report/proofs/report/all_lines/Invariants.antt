@@ -8,6 +8,7 @@ use Rattle.node_report.specs.Report.{AreLines}
 use Rattle.node_report.proofs.report.all_lines.Given as goal
 
 abbrev pub invariant-loop-number : goal.invariant-loop-number
-invariant-loop-number l = (config : NodeConfig) (ticks : List TickObs) (evictions : List (Option Eviction)) (pods : List PodSpec)
+invariant-loop-number l = (config : NodeConfig) (ticks : List TickObs) (evictions : List (Option Eviction))
+    (pods : List PodSpec)
     → ArePieces config pods ticks evictions l.pieces → AreLines ticks evictions (take l.number pods)
     (string_bytes l.report)

@@ -20,6 +20,8 @@ returns c = λ config ticks evictions pod is.
       qos = status.class;
       is_qos = shown.class;
       text = c.in_ok-text.ensures
-          ∙ ap (λ (q : PodSpec). pod_text c.args.number q status.class status.phase status.conditions status.order status.containers.items) same
-          ∙ ap (λ (o : Option EvictOrder). pod_text c.args.number pod status.class status.phase status.conditions o status.containers.items) shown.order;
+          ∙ ap (λ (q : PodSpec). pod_text c.args.number q status.class status.phase status.conditions status.order
+          status.containers.items) same
+          ∙ ap (λ (o : Option EvictOrder). pod_text c.args.number pod status.class status.phase status.conditions o
+          status.containers.items) shown.order;
     }

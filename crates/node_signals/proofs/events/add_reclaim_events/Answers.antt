@@ -7,9 +7,11 @@ loop-place-init c = λ before w. adds_none (Reclaims c.args.eviction.now before 
 
 pub loop-place-preserved : goal.loop-place-preserved
 loop-place-preserved c = λ before w.
-    adds_next (Reclaims c.args.eviction.now before c.args.tick.now) c.loop-place.place _ _ _ _ c.loop-place-test.true (λ key at. c.reclaim_event.ensures before key at w) c.in_ok-add.ensures
+    adds_next (Reclaims c.args.eviction.now before c.args.tick.now) c.loop-place.place _ _ _ _ c.loop-place-test.true
+    (λ key at. c.reclaim_event.ensures before key at w) c.in_ok-add.ensures
     (c.loop-place.invariant before w)
 
 pub returns : goal.returns
 returns c = λ before w.
-    adds_all (Reclaims c.args.eviction.now before c.args.tick.now) c.loop-place.place _ _ c.loop-place-test.false (c.loop-place.invariant before w)
+    adds_all (Reclaims c.args.eviction.now before c.args.tick.now) c.loop-place.place _ _ c.loop-place-test.false
+    (c.loop-place.invariant before w)

@@ -7,12 +7,20 @@ use Rattle.node_signals.proofs.events.condition_event.Goals as goal
 
 pub returns-then-value-is_true : goal.returns-then-value-is_true
 returns-then-value-is_true c = λ eviction period before tick old new.
-    let now = is_true_of eviction period c.args.condition (before ++ tick ∷ []) c.of.result c.is_true-value.result (c.of.ensures eviction period (before ++ tick ∷ []) new) c.is_true-value.ensures in
-    let was = is_true_of eviction period c.args.condition before c.of-2.result c.is_true.result (c.of-2.ensures eviction period before old) c.is_true.ensures in
-    unchanged (Pressure c.args.condition) (IsTrueAfter eviction period c.args.condition (before ++ tick ∷ [])) (IsTrueAfter eviction period c.args.condition before) c.is_true-value.result c.is_true.result now was c.if-value-is_true.true
+    let now = is_true_of eviction period c.args.condition (before ++ tick ∷ []) c.of.result c.is_true-value.result
+    (c.of.ensures eviction period (before ++ tick ∷ []) new) c.is_true-value.ensures in
+    let was = is_true_of eviction period c.args.condition before c.of-2.result c.is_true.result
+    (c.of-2.ensures eviction period before old) c.is_true.ensures in
+    unchanged (Pressure c.args.condition) (IsTrueAfter eviction period c.args.condition (before ++ tick ∷ []))
+    (IsTrueAfter eviction period c.args.condition before) c.is_true-value.result c.is_true.result now was
+    c.if-value-is_true.true
 
 pub returns : goal.returns
 returns c = λ eviction period before tick old new.
-    let now = is_true_of eviction period c.args.condition (before ++ tick ∷ []) c.of.result c.is_true-value.result (c.of.ensures eviction period (before ++ tick ∷ []) new) c.is_true-value.ensures in
-    let was = is_true_of eviction period c.args.condition before c.of-2.result c.is_true.result (c.of-2.ensures eviction period before old) c.is_true.ensures in
-    changed (Pressure c.args.condition) (IsTrueAfter eviction period c.args.condition (before ++ tick ∷ [])) (IsTrueAfter eviction period c.args.condition before) c.is_true-value.result c.is_true.result now was c.if-value-is_true.false
+    let now = is_true_of eviction period c.args.condition (before ++ tick ∷ []) c.of.result c.is_true-value.result
+    (c.of.ensures eviction period (before ++ tick ∷ []) new) c.is_true-value.ensures in
+    let was = is_true_of eviction period c.args.condition before c.of-2.result c.is_true.result
+    (c.of-2.ensures eviction period before old) c.is_true.ensures in
+    changed (Pressure c.args.condition) (IsTrueAfter eviction period c.args.condition (before ++ tick ∷ []))
+    (IsTrueAfter eviction period c.args.condition before) c.is_true-value.result c.is_true.result now was
+    c.if-value-is_true.false

@@ -7,7 +7,9 @@ loop-place-init c = none_made c.args.eviction.now [] _ refl
 
 pub loop-place-preserved : goal.loop-place-preserved
 loop-place-preserved c =
-    made_more c.args.eviction.now [] c.loop-place.place c.loop-place.watches c.key_at.result c.first_watch.result c.key_at.ensures c.first_watch.ensures c.loop-place.invariant
+    made_more c.args.eviction.now [] c.loop-place.place c.loop-place.watches c.key_at.result c.first_watch.result
+    c.key_at.ensures c.first_watch.ensures c.loop-place.invariant
 
 pub returns : goal.returns
-returns c = all_made c.args.eviction.now [] c.loop-place.place c.loop-place.watches c.loop-place-test.false c.loop-place.invariant
+returns c = all_made c.args.eviction.now [] c.loop-place.place c.loop-place.watches c.loop-place-test.false
+    c.loop-place.invariant

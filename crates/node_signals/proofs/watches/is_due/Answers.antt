@@ -4,8 +4,10 @@ use Rattle.node_signals.proofs.watches.is_due.Goals as goal
 
 pub returns-in-Some : goal.returns-in-Some
 returns-in-Some c = λ eviction ticks key at w.
-    watched IsThresholdDue eviction ticks key c.args.place c.args.watches.now c.watch_at.result c.in-Some.watch c.due.result at w c.watch_at.ensures c.in-Some.is c.due.ensures
+    watched IsThresholdDue eviction ticks key c.args.place c.args.watches.now c.watch_at.result c.in-Some.watch
+    c.due.result at w c.watch_at.ensures c.in-Some.is c.due.ensures
 
 pub returns-in-None : goal.returns-in-None
 returns-in-None c = λ eviction ticks key at w.
-    unwatched IsThresholdDue eviction ticks key c.args.place c.args.watches.now c.watch_at.result at w c.watch_at.ensures c.in-None.is
+    unwatched IsThresholdDue eviction ticks key c.args.place c.args.watches.now c.watch_at.result at w
+    c.watch_at.ensures c.in-None.is

@@ -12,8 +12,10 @@ returns-then-asks c = λ before w.
 
 pub loop-place-preserved : goal.loop-place-preserved
 loop-place-preserved c = λ before w.
-    none_below_next (Asks c.args.eviction.now before c.args.tick.now) c.loop-place.place (λ key at. refused (c.asks.ensures before key at w) c.if-asks.false) (c.loop-place.invariant before w)
+    none_below_next (Asks c.args.eviction.now before c.args.tick.now) c.loop-place.place
+    (λ key at. refused (c.asks.ensures before key at w) c.if-asks.false) (c.loop-place.invariant before w)
 
 pub returns : goal.returns
 returns c = λ before w.
-    none_served c.args.eviction.now before c.args.tick.now c.loop-place.place c.loop-place-test.false (c.loop-place.invariant before w)
+    none_served c.args.eviction.now before c.args.tick.now c.loop-place.place c.loop-place-test.false
+    (c.loop-place.invariant before w)

@@ -5,10 +5,12 @@ use Rattle.observations.proofs.KeptAs.{one_seen, one_exited}
 use Rattle.observations.proofs.kept.seen.Goals as goal
 
 pub returns-in-Created : goal.returns-in-Created
-returns-in-Created c = one_seen c.args.attempt _ _ _ _ ∙ ap (λ s. seen_as s c.args.attempt c.args.code) (sym c.in-Created.is)
+returns-in-Created c = one_seen c.args.attempt _ _ _ _ ∙ ap (λ s. seen_as s c.args.attempt c.args.code)
+    (sym c.in-Created.is)
 
 pub returns-in-Running : goal.returns-in-Running
-returns-in-Running c = one_seen c.args.attempt _ _ _ _ ∙ ap (λ s. seen_as s c.args.attempt c.args.code) (sym c.in-Running.is)
+returns-in-Running c = one_seen c.args.attempt _ _ _ _ ∙ ap (λ s. seen_as s c.args.attempt c.args.code)
+    (sym c.in-Running.is)
 
 pub returns-in-Exited : goal.returns-in-Exited
 returns-in-Exited c =
@@ -16,4 +18,5 @@ returns-in-Exited c =
     ∙ ap (λ s. seen_as s c.args.attempt c.args.code) (sym c.in-Exited.is)
 
 pub returns-in-Unknown : goal.returns-in-Unknown
-returns-in-Unknown c = one_seen c.args.attempt _ _ _ _ ∙ ap (λ s. seen_as s c.args.attempt c.args.code) (sym c.in-Unknown.is)
+returns-in-Unknown c = one_seen c.args.attempt _ _ _ _ ∙ ap (λ s. seen_as s c.args.attempt c.args.code)
+    (sym c.in-Unknown.is)

@@ -10,9 +10,12 @@ use Rattle.pod_piece.proofs.listings.are_acceptable.Goals as goal
 pub loop-number-preserved : goal.loop-number-preserved
 loop-number-preserved c = λ pod h are.
     let i = c.loop-number.number in
-    let is = differ_at pod h c.args.differs.now i c.index-differs-number.result are c.loop-number-test.true c.index-differs-number.is in
-    let here = subst (λ (o : Option Seen). IsAcceptable (listings (ticks_of h i)) o) c.listed_in.ensures ((c.accepts.ensures.acceptable (listings (ticks_of h i)) is).0 c.if-not-accepts.false) in
-    all_next (λ n. IsAcceptable (listings (ticks_of h n)) (listed_in c.args.observed.now.containers n)) i (c.loop-number.invariant pod h are) here
+    let is = differ_at pod h c.args.differs.now i c.index-differs-number.result are c.loop-number-test.true
+    c.index-differs-number.is in
+    let here = subst (λ (o : Option Seen). IsAcceptable (listings (ticks_of h i)) o) c.listed_in.ensures
+    ((c.accepts.ensures.acceptable (listings (ticks_of h i)) is).0 c.if-not-accepts.false) in
+    all_next (λ n. IsAcceptable (listings (ticks_of h n)) (listed_in c.args.observed.now.containers n)) i
+    (c.loop-number.invariant pod h are) here
 
 pub returns : goal.returns
 returns c = λ pod h are. (

@@ -21,20 +21,26 @@ loop-number-preserved c =
     let long : c.len-number-end.result ≡ length old = omega (arith, c.len-number-end.ensures, c.args.differs.now.ok) in
     let below : i < length old = omega (arith, long, c.loop-number-test.true) in
     let lt : i < length c.loop-number.differs.items = omega (arith, so_far.as_many, below) in
-    let same : (e : Differ) → slice_index_or old i e ≡ x = λ e. any_default old i e x below ∙ sym (so_far.rest i x (omega arith)) ∙ sym c.index.ensures in
+    let same : (e : Differ) → slice_index_or old i e ≡ x = λ e. any_default old i e x below
+    ∙ sym (so_far.rest i x (omega arith)) ∙ sym c.index.ensures in
     let here : P i c.differ_after.result = λ e h is.
-    subst (λ (o : Option Seen). IsStateOf (h ++ recorded c.args.observed.now.at o ∷ []) c.differ_after.result) c.listed_in-seen.ensures
+    subst (λ (o : Option Seen). IsStateOf (h ++ recorded c.args.observed.now.at o ∷ []) c.differ_after.result)
+    c.listed_in-seen.ensures
     (subst (λ (m : ℕ). IsStateOf (h ++ recorded m c.listed_in-seen.result ∷ []) c.differ_after.result) c.at-at.ensures
     (c.differ_after.ensures h (subst (λ (d : Differ). IsStateOf h d) (same e) is))) in
-    let all = set_each P c.loop-number.differs.items c.differ_after.result i lt (λ n d below e h is. so_far.each n d e below h is) here in
+    let all = set_each P c.loop-number.differs.items c.differ_after.result i lt
+    (λ n d below e h is. so_far.each n d e below h is) here in
     record {
       as_many = length-set c.loop-number.differs.items i c.differ_after.result ∙ so_far.as_many;
       each = λ n d e below h is. all n d below e h is;
-      rest = λ n d above. set_rest c.loop-number.differs.items c.differ_after.result i n d above ∙ so_far.rest n d (omega (arith, above));
+      rest = λ n d above. set_rest c.loop-number.differs.items c.differ_after.result i n d above
+          ∙ so_far.rest n d (omega (arith, above));
     }
 
 pub returns : goal.returns
 returns c = λ pod h are.
-    let long : c.len-number-end.result ≡ length c.args.differs.now.items = omega (arith, c.len-number-end.ensures, c.args.differs.now.ok) in
-    listed_more pod h c.args.observed.now c.args.differs.now.items c.loop-number.differs.items are c.loop-number.invariant.as_many
+    let long : c.len-number-end.result ≡ length c.args.differs.now.items =
+    omega (arith, c.len-number-end.ensures, c.args.differs.now.ok) in
+    listed_more pod h c.args.observed.now c.args.differs.now.items c.loop-number.differs.items are
+    c.loop-number.invariant.as_many
     (λ n d e lt k is. c.loop-number.invariant.each n d e (omega (arith, lt, long)) k is)

@@ -9,7 +9,10 @@ use Rattle.pod_piece.proofs.listings.follow.Given as goal
 abbrev pub invariant-loop-number : goal.invariant-loop-number
 invariant-loop-number l = record {
   as_many : length l.differs.items ≡ length l.initial.differs.items;
-  each : (n : ℕ) (d e : Differ) → n < l.number → (h : List Tick) → IsStateOf h (slice_index_or l.initial.differs.items n e)
-      → IsStateOf (h ++ recorded l.observed.at (listed_in l.observed.containers n) ∷ []) (slice_index_or l.differs.items n d);
-  rest : (n : ℕ) (d : Differ) → l.number ≤ n → slice_index_or l.differs.items n d ≡ slice_index_or l.initial.differs.items n d;
+  each : (n : ℕ) (d e : Differ) → n < l.number → (h : List Tick)
+      → IsStateOf h (slice_index_or l.initial.differs.items n e)
+      → IsStateOf (h ++ recorded l.observed.at (listed_in l.observed.containers n) ∷ [])
+      (slice_index_or l.differs.items n d);
+  rest : (n : ℕ) (d : Differ) → l.number ≤ n → slice_index_or l.differs.items n d ≡ slice_index_or
+      l.initial.differs.items n d;
 }

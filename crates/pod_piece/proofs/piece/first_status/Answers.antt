@@ -20,8 +20,11 @@ returns c =
     let phase = is.progress.so_far.phase in
     record {
       number_is = refl;
-      lifecycle = subst (λ (l : Lifecycle). IsLifecycleOf pod None [] l) (sym c.lifecycle-lifecycle.ensures) is.progress.so_far;
-      containers = c.show.ensures pod c.args.greatest None phase.0 [] phase.1 (by_eviction None phase.0 false ((λ t. let w : false ≡ true = t in absurd (cc)), (λ w. let v : false ≡ true = w in absurd (cc))) tt) is;
+      lifecycle = subst (λ (l : Lifecycle). IsLifecycleOf pod None [] l) (sym c.lifecycle-lifecycle.ensures)
+          is.progress.so_far;
+      containers = c.show.ensures pod c.args.greatest None phase.0 [] phase.1
+          (by_eviction None phase.0 false
+          ((λ t. let w : false ≡ true = t in absurd (cc)), (λ w. let v : false ≡ true = w in absurd (cc))) tt) is;
       class = c.qos_class.ensures;
       requests = c.of.ensures;
       usage = subst (λ (u : Usage). IsUsageOf pod None [] u) (sym c.nothing.ensures) (no_usage pod None);

@@ -12,8 +12,10 @@ returns-then-not-is_ready_or_init c = λ pod greatest h are.
     let n = c.loop-container.container-index in
     let e = c.container-item.result in
     let lt : n < length c.args.containers.now = c.loop-container-test.true in
-    let of : IsContainerOf pod greatest h n e = item_at pod greatest h n c.args.containers.now e e lt c.container-item.is (are.each n e (omega (arith, are.as_many))) in
-    let is = serving_ready pod greatest n h e c.is_ready_or_init.result (λ spec k st. c.is_ready_or_init.ensures spec greatest k st) of in
+    let of : IsContainerOf pod greatest h n e = item_at pod greatest h n c.args.containers.now e e lt
+    c.container-item.is (are.each n e (omega (arith, are.as_many))) in
+    let is = serving_ready pod greatest n h e c.is_ready_or_init.result
+    (λ spec k st. c.is_ready_or_init.ensures spec greatest k st) of in
     ((λ t. absurd (cc)), (λ all. absurd (iff_false is c.if-not-is_ready_or_init.true (all n))))
 
 pub loop-container-preserved : goal.loop-container-preserved
@@ -27,8 +29,10 @@ loop-container-preserved c = λ k e lt pod greatest h of serves.
           let P : ℕ → Type 0 = λ i. IsContainerOf pod greatest h i (slice_index_or c.args.containers.now i e) in
           let Q : ℕ → Type 0 = λ i. IsReady pod h i in
           let S : ℕ → Type 0 = λ i. Serves pod i in
-          let at : IsContainerOf pod greatest h n x = item_at pod greatest h n c.args.containers.now x e c.loop-container-test.true c.container-item.is (subst P (sym here) of) in
-          let is = serving_ready pod greatest n h x c.is_ready_or_init.result (λ spec k st. c.is_ready_or_init.ensures spec greatest k st) at in
+          let at : IsContainerOf pod greatest h n x = item_at pod greatest h n c.args.containers.now x e
+          c.loop-container-test.true c.container-item.is (subst P (sym here) of) in
+          let is = serving_ready pod greatest n h x c.is_ready_or_init.result
+          (λ spec k st. c.is_ready_or_init.ensures spec greatest k st) at in
           subst Q here (is.0 c.if-not-is_ready_or_init.false (subst S (sym here) serves))
     ]
 

@@ -10,14 +10,18 @@ use Rattle.pod_state.proofs.following.first_containers.Goals as goal
 pub loop-spec-preserved : goal.loop-spec-preserved
 loop-spec-preserved c =
     let n = c.loop-spec.spec-index in
-    let P : ℕ → Container → Type 0 = λ k x. (pod : PodSpec) → pod.containers ≡ c.args.specs.now → IsContainerOf pod c.args.greatest [] k x in
+    let P : ℕ → Container → Type 0 = λ k x. (pod : PodSpec) → pod.containers ≡ c.args.specs.now
+    → IsContainerOf pod c.args.greatest [] k x in
     let so_far = c.loop-spec.invariant in
     let here : P n c.new-container.result = λ pod same.
-    first_is pod c.args.greatest n c.spec-item.result c.new-container.result (spec_at pod n c.args.specs.now c.spec-item.result same c.loop-spec-test.true c.spec-item.is) c.new-container.ensures in
+    first_is pod c.args.greatest n c.spec-item.result c.new-container.result
+    (spec_at pod n c.args.specs.now c.spec-item.result same c.loop-spec-test.true c.spec-item.is)
+    c.new-container.ensures in
     let Q : List Container → Type 0 = λ xs. (k : ℕ) (d : Container) → k < n + 1 → P k (slice_index_or xs k d) in
     record {
       as_many = omega (arith, c.in_ok-push.ensures.len, so_far.as_many);
-      each = subst Q (sym c.in_ok-push.ensures.items) (pushed_each P c.loop-spec.containers.items c.new-container.result n so_far.as_many so_far.each here);
+      each = subst Q (sym c.in_ok-push.ensures.items)
+          (pushed_each P c.loop-spec.containers.items c.new-container.result n so_far.as_many so_far.each here);
     }
 
 pub returns : goal.returns

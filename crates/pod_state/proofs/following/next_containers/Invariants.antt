@@ -14,7 +14,8 @@ invariant-loop-number l = record {
   each : (n : ℕ) (d e : Container) → n < l.number → (pod : PodSpec) (greatest : ℕ) (h : List PodTick)
       → IsContainerOf pod greatest h n (slice_index_or l.containers n e)
       → IsContainerOf pod greatest (h ++ pod_tick l.observed ∷ []) n (slice_index_or l.all.items n d);
-  each_made : (n : ℕ) (d : ContainerEvents) (e : Container) → n < l.number → (pod : PodSpec) (greatest : ℕ) (h : List PodTick)
+  each_made : (n : ℕ) (d : ContainerEvents) (e : Container) → n < l.number
+      → (pod : PodSpec) (greatest : ℕ) (h : List PodTick)
       → pod.policy ≡ l.policy → IsContainerOf pod greatest h n (slice_index_or l.containers n e)
       → IsMadeOf pod greatest h (pod_tick l.observed) n (slice_index_or l.made.items n d);
 }

@@ -15,11 +15,15 @@ loop-number-preserved c =
     let n = c.loop-number.number in
     let so_far = c.loop-number.invariant in
     let P : ℕ → ContainerStatus → Type 0 = λ k s. (e : Container) (pod : PodSpec) (greatest : ℕ) (h : List PodTick)
-    → IsContainerOf pod greatest h k (slice_index_or c.args.containers.now k e) → IsShownOf pod (IsTrue c.args.is_evicted) h k s in
+    → IsContainerOf pod greatest h k (slice_index_or c.args.containers.now k e)
+    → IsShownOf pod (IsTrue c.args.is_evicted) h k s in
     let here : P n c.status.result = λ e pod greatest h is.
-    shown_is pod greatest n h c.index-containers-number.result (IsTrue c.args.is_evicted) c.status.result (λ spec k st. c.status.ensures spec greatest k st)
-    (item_at_any c.args.containers.now n c.index-containers-number.result c.loop-number-test.true c.index-containers-number.is (λ x. IsContainerOf pod greatest h n x) e is) in
-    let all = set_each P c.loop-number.statuses.items c.status.result n (omega (arith, so_far.as_many, c.loop-number-test.true)) (λ k d lt e. so_far.each k d e lt) here in
+    shown_is pod greatest n h c.index-containers-number.result (IsTrue c.args.is_evicted) c.status.result
+    (λ spec k st. c.status.ensures spec greatest k st)
+    (item_at_any c.args.containers.now n c.index-containers-number.result c.loop-number-test.true
+    c.index-containers-number.is (λ x. IsContainerOf pod greatest h n x) e is) in
+    let all = set_each P c.loop-number.statuses.items c.status.result n
+    (omega (arith, so_far.as_many, c.loop-number-test.true)) (λ k d lt e. so_far.each k d e lt) here in
     record {
       as_many = length-set c.loop-number.statuses.items n c.status.result ∙ so_far.as_many;
       each = λ k d e lt. all k d lt e;

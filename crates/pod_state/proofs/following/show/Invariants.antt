@@ -10,6 +10,8 @@ use Rattle.pod_state.proofs.following.show.Given as goal
 abbrev pub invariant-loop-number : goal.invariant-loop-number
 invariant-loop-number l = record {
   as_many : length l.statuses.items ≡ length l.containers;
-  each : (n : ℕ) (d : ContainerStatus) (e : Container) → n < l.number → (pod : PodSpec) (greatest : ℕ) (h : List PodTick)
-      → IsContainerOf pod greatest h n (slice_index_or l.containers n e) → IsShownOf pod (IsTrue l.is_evicted) h n (slice_index_or l.statuses.items n d);
+  each : (n : ℕ) (d : ContainerStatus) (e : Container) → n < l.number
+      → (pod : PodSpec) (greatest : ℕ) (h : List PodTick)
+      → IsContainerOf pod greatest h n (slice_index_or l.containers n e) → IsShownOf pod (IsTrue l.is_evicted) h n
+      (slice_index_or l.statuses.items n d);
 }

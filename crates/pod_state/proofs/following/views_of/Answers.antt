@@ -16,11 +16,13 @@ loop-container-preserved c =
     let so_far = c.loop-container.invariant in
     let here : P n c.view.result = λ e pod greatest h is.
     view_is pod greatest n h c.container-item.result c.view.result (λ spec k st. c.view.ensures spec greatest k st)
-    (item_at pod greatest h n c.args.containers.now c.container-item.result e c.loop-container-test.true c.container-item.is is) in
+    (item_at pod greatest h n c.args.containers.now c.container-item.result e c.loop-container-test.true
+    c.container-item.is is) in
     let Q : List ContainerView → Type 0 = λ xs. (k : ℕ) (d : ContainerView) → k < n + 1 → P k (slice_index_or xs k d) in
     record {
       as_many = omega (arith, c.in_ok-push.ensures.len, so_far.as_many);
-      each = subst Q (sym c.in_ok-push.ensures.items) (pushed_each P c.loop-container.views.items c.view.result n so_far.as_many so_far.each here);
+      each = subst Q (sym c.in_ok-push.ensures.items)
+          (pushed_each P c.loop-container.views.items c.view.result n so_far.as_many so_far.each here);
     }
 
 pub returns : goal.returns

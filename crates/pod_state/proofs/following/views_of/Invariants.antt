@@ -9,6 +9,8 @@ use Rattle.pod_state.proofs.following.views_of.Given as goal
 abbrev pub invariant-loop-container : goal.invariant-loop-container
 invariant-loop-container l = record {
   as_many : length l.views.items ≡ l.container-index;
-  each : (n : ℕ) (d : ContainerView) → n < l.container-index → (e : Container) (pod : PodSpec) (greatest : ℕ) (h : List PodTick)
-      → IsContainerOf pod greatest h n (slice_index_or l.containers n e) → IsViewOf pod h n (slice_index_or l.views.items n d);
+  each : (n : ℕ) (d : ContainerView) → n < l.container-index → (e : Container) (pod : PodSpec) (greatest : ℕ)
+      (h : List PodTick)
+      → IsContainerOf pod greatest h n (slice_index_or l.containers n e)
+      → IsViewOf pod h n (slice_index_or l.views.items n d);
 }

@@ -5,7 +5,9 @@ pub returns-then-all_guaranteed : goal.returns-then-all_guaranteed
 returns-then-all_guaranteed c = c.all_guaranteed.ensures.0 c.if-all_guaranteed.true
 
 pub returns-then-some_asks : goal.returns-then-some_asks
-returns-then-some_asks c = (iff_false c.all_guaranteed.ensures c.if-all_guaranteed.false, c.some_asks.ensures.0 c.if-some_asks.true)
+returns-then-some_asks c =
+    (iff_false c.all_guaranteed.ensures c.if-all_guaranteed.false, c.some_asks.ensures.0 c.if-some_asks.true)
 
 pub returns-else-some_asks : goal.returns-else-some_asks
-returns-else-some_asks c = (iff_false c.all_guaranteed.ensures c.if-all_guaranteed.false, iff_false c.some_asks.ensures c.if-some_asks.false)
+returns-else-some_asks c =
+    (iff_false c.all_guaranteed.ensures c.if-all_guaranteed.false, iff_false c.some_asks.ensures c.if-some_asks.false)

@@ -5,6 +5,7 @@ use Rattle.qos.proofs.requests.sum_of_apps_and_sidecars.Given as goal
 
 abbrev pub invariant-loop-container : goal.invariant-loop-container
 invariant-loop-container l = record {
-  total : l.sum + sum_of_apps_and_sidecars l.resource (drop l.container-index l.containers) ≡ sum_of_apps_and_sidecars l.resource l.containers;
+  total : l.sum + sum_of_apps_and_sidecars l.resource (drop l.container-index l.containers) ≡ sum_of_apps_and_sidecars
+      l.resource l.containers;
   bound : l.sum ≤ l.container-index * greatest;
 }

@@ -9,4 +9,5 @@ returns-then-not-is_ascii_digit c =
     sym (prefix_len_is is_ascii_digit c.args.text.now c.loop-i.i 0 (omega arith) c.loop-i.invariant (λ _. stops))
 
 pub returns : goal.returns
-returns c = sym (prefix_len_is is_ascii_digit c.args.text.now (length c.args.text.now) 0 (omega arith) (λ k lt. c.loop-i.invariant k (omega arith)) (λ lt. absurd (omega arith)))
+returns c = sym (prefix_len_is is_ascii_digit c.args.text.now (length c.args.text.now) 0 (omega arith)
+    (λ k lt. c.loop-i.invariant k (omega arith)) (λ lt. absurd (omega arith)))

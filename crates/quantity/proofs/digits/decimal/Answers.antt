@@ -10,4 +10,5 @@ overflow_add-value c = let few : 10 ^ c.loop-byte.byte-index ≤ 10 ^ 17 = ten_m
 
 pub loop-byte-preserved : goal.loop-byte-preserved
 loop-byte-preserved c =
-    let more = digit_more c.args.digits.now c.loop-byte.byte-index c.loop-byte.value c.requires.digits (omega arith) c.loop-byte.invariant.0 c.loop-byte.invariant.1 in rw c.from.ensures more
+    let more = digit_more c.args.digits.now c.loop-byte.byte-index c.loop-byte.value c.requires.digits (omega arith)
+    c.loop-byte.invariant.0 c.loop-byte.invariant.1 in rw c.from.ensures more

@@ -10,7 +10,8 @@ overflow_mul-result c =
     let few : length c.split_at.result.0.now ≤ 12 = omega (arith, c.split_at.ensures.front_len) in
     let most = ten_mono (length c.split_at.result.0.now) 12 few in
     let unit : c.in-Some.unit ≤ 3600 = c.in-Some.ensures.bound in
-    let product : c.decimal.result * c.in-Some.unit ≤ 10 ^ 12 * 3600 = product_le c.decimal.result c.in-Some.unit (10 ^ 12) 3600 (omega (arith, c.decimal.ensures.bound, most)) unit in
+    let product : c.decimal.result * c.in-Some.unit ≤ 10 ^ 12 * 3600 = product_le c.decimal.result c.in-Some.unit
+    (10 ^ 12) 3600 (omega (arith, c.decimal.ensures.bound, most)) unit in
     omega (arith, product)
 
 pub returns-clause-bound : goal.returns-clause-bound

@@ -10,7 +10,8 @@ returns-in_err-sum c =
     let p = err_from_is_err_and c.from_residual.result c.from_residual.ensures.1 in
     let some : 0 < length c.loop-rest.rest.now = grind (arith, nat_tests) in
     let is : piece_seconds c.loop-rest.rest.now ≡ Err c.in_err-sum.field-0.0 = search rules in
-    rw (p.1, p.2) (sym (sym c.loop-rest.invariant.0 ∙ sum_refused c.loop-rest.sum c.in_err-sum.field-0.0 c.loop-rest.rest.now some is))
+    rw (p.1, p.2) (sym (sym c.loop-rest.invariant.0 ∙ sum_refused c.loop-rest.sum c.in_err-sum.field-0.0
+    c.loop-rest.rest.now some is))
 
 pub returns-then-sum-ge-LIMIT : goal.returns-then-sum-ge-LIMIT
 returns-then-sum-ge-LIMIT c =
@@ -23,5 +24,9 @@ pub loop-rest-preserved : goal.loop-rest-preserved
 loop-rest-preserved c =
     let some : 0 < length c.loop-rest.rest.now = omega (arith, c.in_ok-sum.ensures.unit) in
     let is : piece_seconds c.loop-rest.rest.now ≡ Ok c.in_ok-sum.field-0 = search rules in
-    let small : c.loop-rest.sum + c.in_ok-sum.field-0 < 2 ^ 40 = omega arith in
-    (rw (c.split_at.ensures.back, c.count_digits-digits.ensures) (sym (sum_next c.loop-rest.sum c.in_ok-sum.field-0 c.loop-rest.rest.now some is small) ∙ c.loop-rest.invariant.0), small)
+    let small : c.loop-rest.sum + c.in_ok-sum.field-0 < 2 ^ 40 = omega arith in (
+      rw (c.split_at.ensures.back, c.count_digits-digits.ensures)
+          (sym (sum_next c.loop-rest.sum c.in_ok-sum.field-0 c.loop-rest.rest.now some is small)
+          ∙ c.loop-rest.invariant.0),
+      small,
+    )

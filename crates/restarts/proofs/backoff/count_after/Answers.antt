@@ -9,8 +9,10 @@ returns-then-is_long-clause-counts c = λ exits at of.
 
 pub returns-then-count-lt-LAST_COUNT-clause-counts : goal.returns-then-count-lt-LAST_COUNT-clause-counts
 returns-then-count-lt-LAST_COUNT-clause-counts c = λ exits at of.
-    count_short exits (recorded at c.args.run_seconds) c.args.count (λ long. let yes : c.is_long.result ≡ true = c.is_long.ensures.1 long in cc) (omega arith) of
+    count_short exits (recorded at c.args.run_seconds) c.args.count (λ long. let yes : c.is_long.result ≡ true =
+    c.is_long.ensures.1 long in cc) (omega arith) of
 
 pub returns-else-count-lt-LAST_COUNT-clause-counts : goal.returns-else-count-lt-LAST_COUNT-clause-counts
 returns-else-count-lt-LAST_COUNT-clause-counts c = λ exits at of.
-    count_full exits (recorded at c.args.run_seconds) c.args.count (λ long. let yes : c.is_long.result ≡ true = c.is_long.ensures.1 long in cc) (omega arith) of
+    count_full exits (recorded at c.args.run_seconds) c.args.count (λ long. let yes : c.is_long.result ≡ true =
+    c.is_long.ensures.1 long in cc) (omega arith) of

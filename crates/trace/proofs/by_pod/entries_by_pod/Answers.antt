@@ -1,4 +1,5 @@
-use Rattle.std.proofs.Common.{◌≡◌, ◌∙◌, ◌<◌, ◌+◌, List, Option, ℕ, sym, ap, subst, None, Some, cond, get_or, is_some, take}
+use Rattle.std.proofs.Common.{◌≡◌, ◌∙◌, ◌<◌, ◌+◌, List, Option, ℕ, sym, ap, subst, None, Some, cond, get_or, is_some}
+use Rattle.std.proofs.Common.{take}
 use Rattle.std.proofs.Math.ListN.{set}
 use Rattle.trace.specs.declared.placing.PlacedEntry.{PlacedEntry}
 use Rattle.trace.specs.ByPod.{AreFirst}

@@ -10,7 +10,8 @@ use Rattle.trace.proofs.tick.observed_in.Goals as goal
 pub following_after-requires : goal.following_after-requires
 following_after-requires c =
     let past = c.args.reader.now in
-    let same : c.as_slice-pods.result.now ≡ past.pods = c.as_slice-pods.ensures ∙ ap (λ (p : Past). p.pods) c.reader.view_is in
+    let same : c.as_slice-pods.result.now ≡ past.pods = c.as_slice-pods.ensures ∙ ap (λ (p : Past). p.pods)
+    c.reader.view_is in
     let comes = subst (λ (ps : List PodSpec). ComesNext past.ticks (container_counts past.pods)
     (observed c.args.at c.args.written.now c.args.placed.now ps)) (sym same)
     (comes_next past.ticks c.args.at c.args.written.now c.args.placed.now past.pods c.requires.later) in

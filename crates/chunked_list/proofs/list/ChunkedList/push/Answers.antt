@@ -6,8 +6,10 @@ use Rattle.chunked_list.proofs.list.ChunkedList.push.Goals as goal
 pub invariant_of-self-2 : goal.invariant_of-self-2
 invariant_of-self-2 g c =
     subst (λ items. AreChunks c.make_room.new.full.items items c.in-Some.length) (sym c.in_ok-push.ensures.items)
-    (subst (λ n. AreChunks c.make_room.new.full.items (c.make_room.new.last.items ++ c.args.item ∷ []) n) (sym c.in-Some.ensures.1)
-    (more_chunks c.make_room.new.full.items c.make_room.new.last.items c.args.item c.self.inside.length c.make_room.ensures.full c.in_ok-make_room.ensures.room
+    (subst (λ n. AreChunks c.make_room.new.full.items (c.make_room.new.last.items ++ c.args.item ∷ []) n)
+    (sym c.in-Some.ensures.1)
+    (more_chunks c.make_room.new.full.items c.make_room.new.last.items c.args.item c.self.inside.length
+    c.make_room.ensures.full c.in_ok-make_room.ensures.room
     (c.self.invariant.counted ∙ ap length (sym c.make_room.ensures.same))))
 
 pub returns-clause-ok : goal.returns-clause-ok

@@ -8,16 +8,20 @@ use Rattle.containers.specs.Container.{IsStateOf}
 use Rattle.containers.specs.Step.{AreCounted}
 use Rattle.containers.proofs.ProbedLemmas.{following}
 use Rattle.containers.proofs.EventLemmas.{gone_gives, died_gives, readiness_gives, backoff_gives, restart_gives}
-use Rattle.containers.proofs.StepLemmas.{last_listed, following_same, state_more, started_gives, passed_gives, kill_gives}
+use Rattle.containers.proofs.StepLemmas.{last_listed, following_same, state_more, started_gives, passed_gives}
+use Rattle.containers.proofs.StepLemmas.{kill_gives}
 use Rattle.containers.proofs.container.Container.step.Goals as goal
 
 -- the exits that were counted
-counted : (c : goal.After-restart) (spec : ContainerSpec) (greatest : ℕ) (h : List ContainerTick) → IsStateOf spec greatest h c.args.self.now
-    → AreCounted greatest h (recorded c.args.at c.args.observed) c.count_exits-delay.new.self.backoff c.count_exits-delay.result
+counted : (c : goal.After-restart) (spec : ContainerSpec) (greatest : ℕ) (h : List ContainerTick)
+    → IsStateOf spec greatest h c.args.self.now
+    → AreCounted greatest h (recorded c.args.at c.args.observed) c.count_exits-delay.new.self.backoff
+    c.count_exits-delay.result
 counted c spec greatest h st =
     let is = following spec greatest h c.args.self.now st in
     let after = c.follow-followed.ensures.followed spec h is in
-    c.count_exits-delay.ensures.counted greatest h c.args.observed st.exits st.differ after.differ c.requires.accepted (c.follow-followed.ensures.changes spec h is) st.are_exits
+    c.count_exits-delay.ensures.counted greatest h c.args.observed st.exits st.differ after.differ c.requires.accepted
+    (c.follow-followed.ensures.changes spec h is) st.are_exits
     (subst (λ (b : Backoff). IsBackoffOf greatest st.exits b) (sym c.follow-followed.ensures.backoff) st.backoff)
 
 pub returns-clause-state : goal.returns-clause-state
@@ -25,9 +29,12 @@ returns-clause-state c = λ spec greatest h st.
     let x = recorded c.args.at c.args.observed in
     let after = c.follow-followed.ensures.followed spec h (following spec greatest h c.args.self.now st) in
     let e = c.count_exits-delay.ensures in
-    let now = following_same spec (h ++ x ∷ []) c.follow-followed.new.self c.count_exits-delay.new.self e.role e.differ e.probes after in
-    state_more spec greatest h x c.args.self.now c.count_exits-delay.new.self c.is_started.result c.count_exits-delay.result st c.requires.later now
-    (e.was_started ∙ c.follow-followed.ensures.was_started) (counted c spec greatest h st) (c.is_started.ensures spec (h ++ x ∷ []) now)
+    let now = following_same spec (h ++ x ∷ []) c.follow-followed.new.self c.count_exits-delay.new.self e.role
+    e.differ e.probes after in
+    state_more spec greatest h x c.args.self.now c.count_exits-delay.new.self c.is_started.result
+    c.count_exits-delay.result st c.requires.later now
+    (e.was_started ∙ c.follow-followed.ensures.was_started) (counted c spec greatest h st)
+    (c.is_started.ensures spec (h ++ x ∷ []) now)
 
 pub returns-clause-events : goal.returns-clause-events
 returns-clause-events c = λ spec greatest h st.
@@ -43,10 +50,17 @@ returns-clause-events c = λ spec greatest h st.
       gone = gone_gives h x d c.follow-followed.result.changes c.gone.result st.differ changes c.gone.ensures;
       started = started_gives h x c.follow-followed.result.changes c.started.result changes c.started.ensures;
       died = died_gives h x c.follow-followed.result.changes c.died.result changes c.died.ensures;
-      passed = passed_gives spec h x d c.follow-followed.result.verdicts c.passed.result st.differ c.requires.accepted verdicts c.passed.ensures;
-      kill = kill_gives spec h x d c.follow-followed.result.verdicts c.kill.result st.differ c.requires.accepted verdicts c.kill.ensures;
-      readiness = readiness_gives spec h x c.is_ready.result c.is_ready-2.result c.readiness.result (c.is_ready.ensures spec greatest h st) (c.is_ready-2.ensures spec greatest (h ++ x ∷ []) after) c.readiness.ensures;
-      backoff = backoff_gives c.args.policy greatest spec h x _ c.count_exits-delay.result c.puts_off.result c.backoff.result after.rising exits (c.puts_off.ensures spec (h ++ x ∷ []) now) c.backoff.ensures;
-      restart = restart_gives c.args.policy greatest spec h x _ c.count_exits-delay.result c.to_restart.result c.last_at.result c.is_due-is_due.result c.restart.result st.rising exits
-          (c.last_at.ensures.moment _ st.differ ∙ last_listed h) (c.to_restart.ensures spec (h ++ x ∷ []) now) (c.is_due-is_due.ensures greatest exits.exits exits.counted) c.restart.ensures;
+      passed = passed_gives spec h x d c.follow-followed.result.verdicts c.passed.result st.differ c.requires.accepted
+          verdicts c.passed.ensures;
+      kill = kill_gives spec h x d c.follow-followed.result.verdicts c.kill.result st.differ c.requires.accepted
+          verdicts c.kill.ensures;
+      readiness = readiness_gives spec h x c.is_ready.result c.is_ready-2.result c.readiness.result
+          (c.is_ready.ensures spec greatest h st) (c.is_ready-2.ensures spec greatest (h ++ x ∷ []) after)
+          c.readiness.ensures;
+      backoff = backoff_gives c.args.policy greatest spec h x _ c.count_exits-delay.result c.puts_off.result
+          c.backoff.result after.rising exits (c.puts_off.ensures spec (h ++ x ∷ []) now) c.backoff.ensures;
+      restart = restart_gives c.args.policy greatest spec h x _ c.count_exits-delay.result c.to_restart.result
+          c.last_at.result c.is_due-is_due.result c.restart.result st.rising exits
+          (c.last_at.ensures.moment _ st.differ ∙ last_listed h) (c.to_restart.ensures spec (h ++ x ∷ []) now)
+          (c.is_due-is_due.ensures greatest exits.exits exits.counted) c.restart.ensures;
     }

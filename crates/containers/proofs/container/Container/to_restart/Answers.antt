@@ -3,5 +3,6 @@ use Rattle.containers.proofs.container.Container.to_restart.Goals as goal
 
 pub returns : goal.returns
 returns c = λ spec h is a.
-    let by = restarts_by c.args.policy spec h c.args.self.now.role c.newest.result is.role (c.newest.ensures _ is.differ) a in
+    let by = restarts_by c.args.policy spec h c.args.self.now.role c.newest.result is.role
+    (c.newest.ensures _ is.differ) a in
     ((λ e. by.0 ((c.to_restart.ensures a).0 e)), (λ t. (c.to_restart.ensures a).1 (by.1 t)))

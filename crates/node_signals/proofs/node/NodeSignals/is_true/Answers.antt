@@ -3,4 +3,5 @@ use Rattle.node_signals.proofs.node.NodeSignals.is_true.Goals as goal
 
 pub returns : goal.returns
 returns c = λ eviction period ticks s.
-    is_true_of eviction period c.args.condition ticks c.of.result c.is_true.result (c.of.ensures eviction period ticks s.pressures) c.is_true.ensures
+    is_true_of eviction period c.args.condition ticks c.of.result c.is_true.result
+    (c.of.ensures eviction period ticks s.pressures) c.is_true.ensures

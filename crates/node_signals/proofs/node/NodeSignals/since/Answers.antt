@@ -3,4 +3,5 @@ use Rattle.node_signals.proofs.node.NodeSignals.since.Goals as goal
 
 pub returns : goal.returns
 returns c = λ eviction period ticks s.
-    since_of eviction period c.args.condition ticks c.of.result c.since.result (c.of.ensures eviction period ticks s.pressures) c.since.ensures
+    since_of eviction period c.args.condition ticks c.of.result c.since.result
+    (c.of.ensures eviction period ticks s.pressures) c.since.ensures

@@ -11,8 +11,17 @@ returns-then-container_count-as_slice c =
     let pod = c.self.inside.pod in
     let h = map pod_tick c.self.inside.history in
     let shown = c.args.observed.now.containers in
-    let listed : AreListed pod h c.deref.result.now = subst (λ (ds : List Differ). AreListed pod h ds) (sym c.deref.ensures.value) c.self.invariant.listed in
+    let listed : AreListed pod h c.deref.result.now = subst (λ (ds : List Differ). AreListed pod h ds)
+    (sym c.deref.ensures.value) c.self.invariant.listed in
     let is = c.are_acceptable.ensures pod h listed in
-    let long : length shown ≡ length pod.containers = omega (arith, c.if-container_count-as_slice.true, c.container_count.ensures, ap length c.as_slice.ensures.same) in
-    let both : IsTrue c.are_acceptable.result ↔ MayComeNext pod h shown = ((λ t. record { as_many = long; acceptable = is.0 t }), (λ may. is.1 may.acceptable)) in
+    let long : length shown ≡ length pod.containers =
+    omega (
+      arith,
+      c.if-container_count-as_slice.true,
+      c.container_count.ensures,
+      ap length
+          c.as_slice.ensures.same,
+    ) in
+    let both : IsTrue c.are_acceptable.result ↔ MayComeNext pod h shown =
+    ((λ t. record { as_many = long; acceptable = is.0 t }), (λ may. is.1 may.acceptable)) in
     subst (λ (p : Piece). IsTrue c.are_acceptable.result ↔ MayComeNext p.pod p.handed shown) c.self.view_is both

@@ -7,7 +7,8 @@ use Rattle.pod_state.specs.Lifecycles.{IsLifecycleOf}
 use Rattle.pod_piece.specs.declared.status.PodStatus.{PodStatus}
 use Rattle.pod_piece.specs.Kept.{IsKept}
 use Rattle.pod_piece.specs.Piece.{Piece, piece, before_last, place_of, Lives}
-use Rattle.pod_piece.proofs.PieceLemmas.{goes_on, state_free, lives_free, may_self, has_containers, kept_evicted, evicted_state, by_eviction, tick_at}
+use Rattle.pod_piece.proofs.PieceLemmas.{goes_on, state_free, lives_free, may_self, has_containers, kept_evicted}
+use Rattle.pod_piece.proofs.PieceLemmas.{evicted_state, by_eviction, tick_at}
 use Rattle.pod_piece.proofs.UsageLemmas.{usage_evicted}
 use Rattle.pod_piece.proofs.piece.PodPiece.evict.Goals as goal
 
@@ -18,7 +19,8 @@ evict-requires c =
     let free : i.is_pending ≡ false = ap (λ (q : Piece). q.is_pending) c.self.view_is ∙ c.requires.free in
     let lives = subst (λ (q : Piece). Lives q) (sym c.self.view_is) c.requires.lives in
     let after = state_free p i.differs.items i.state i.status i.events.items free c.self.invariant in
-    goes_on i.pod i.greatest (place_of i.eviction) p.handed i.state (after.now (place_of i.eviction) (may_self (place_of i.eviction) (length p.handed))) (lives_free p free lives)
+    goes_on i.pod i.greatest (place_of i.eviction) p.handed i.state
+    (after.now (place_of i.eviction) (may_self (place_of i.eviction) (length p.handed))) (lives_free p free lives)
 
 pub show-requires : goal.show-requires
 show-requires c =
@@ -27,10 +29,13 @@ show-requires c =
     let h = before_last p.handed in
     let free : i.is_pending ≡ false = ap (λ (q : Piece). q.is_pending) c.self.view_is ∙ c.requires.free in
     let lives = subst (λ (q : Piece). Lives q) (sym c.self.view_is) c.requires.lives in
-    let last = tick_at p.handed c.args.order.at (ap (λ (q : Piece). last_moment q.handed) c.self.view_is ∙ c.requires.last) in
-    let now = evicted_state p (recorded c.args.order.at last.0) i.differs.items i.state c.evict.new.self i.status i.events.items free lives last.1 c.self.invariant
+    let last = tick_at p.handed c.args.order.at (ap (λ (q : Piece). last_moment q.handed) c.self.view_is
+    ∙ c.requires.last) in
+    let now = evicted_state p (recorded c.args.order.at last.0) i.differs.items i.state c.evict.new.self i.status
+    i.events.items free lives last.1 c.self.invariant
     (λ was before is. c.evict.ensures.state i.pod i.greatest h last.0 was before is) in
-    c.self.invariant.shown.containers.as_many ∙ has_containers i.pod i.greatest (Some (length h)) (h ++ recorded c.args.order.at last.0 ∷ []) c.evict.new.self now
+    c.self.invariant.shown.containers.as_many ∙ has_containers i.pod i.greatest (Some (length h))
+    (h ++ recorded c.args.order.at last.0 ∷ []) c.evict.new.self now
 
 pub invariant_of-self : goal.invariant_of-self
 invariant_of-self c =
@@ -39,10 +44,12 @@ invariant_of-self c =
     let h = before_last p.handed in
     let free : i.is_pending ≡ false = ap (λ (q : Piece). q.is_pending) c.self.view_is ∙ c.requires.free in
     let lives = subst (λ (q : Piece). Lives q) (sym c.self.view_is) c.requires.lives in
-    let last = tick_at p.handed c.args.order.at (ap (λ (q : Piece). last_moment q.handed) c.self.view_is ∙ c.requires.last) in
+    let last = tick_at p.handed c.args.order.at (ap (λ (q : Piece). last_moment q.handed) c.self.view_is
+    ∙ c.requires.last) in
     let x = recorded c.args.order.at last.0 in
     let k = h ++ x ∷ [] in
-    let place : length p.handed - 1 ≡ c.len-place.result - 1 = omega (arith, c.len-place.ensures, length-map i.history pod_tick) in
+    let place : length p.handed - 1 ≡ c.len-place.result - 1 =
+    omega (arith, c.len-place.ensures, length-map i.history pod_tick) in
     let status : PodStatus = record {
       number = i.status.number;
       phase = c.lifecycle-lifecycle.result.phase;
@@ -54,16 +61,25 @@ invariant_of-self c =
       priority = i.status.priority;
       order = Some c.args.order;
     } in
-    let kept = kept_evicted p x c.args.order i.differs.items i.state c.evict.new.self i.status status i.events.items free lives last.1 c.self.invariant
-    (λ was before is. (c.evict.ensures.state i.pod i.greatest h last.0 was before is, c.evict.ensures.ends i.pod i.greatest h last.0 was before is))
+    let kept = kept_evicted p x c.args.order i.differs.items i.state c.evict.new.self i.status status i.events.items
+    free lives last.1 c.self.invariant
+    (λ was before is. (
+      c.evict.ensures.state i.pod i.greatest h last.0 was before is,
+      c.evict.ensures.ends i.pod
+          i.greatest h last.0 was before is,
+    ))
     (λ shown none st end. record {
       number_is = shown.number_is;
-      lifecycle = subst (λ (l : Lifecycle). IsLifecycleOf i.pod (Some (length h)) k l) (sym c.lifecycle-lifecycle.ensures) st.progress.so_far;
-      containers = c.show.ensures i.pod i.greatest (Some (length h)) (Some (length h)) k end (by_eviction (Some (length h)) (Some (length h)) true ((λ t. refl), (λ w. refl)) refl) st;
+      lifecycle = subst (λ (l : Lifecycle). IsLifecycleOf i.pod (Some (length h)) k l)
+          (sym c.lifecycle-lifecycle.ensures) st.progress.so_far;
+      containers = c.show.ensures i.pod i.greatest (Some (length h)) (Some (length h)) k end
+          (by_eviction (Some (length h)) (Some (length h)) true ((λ t. refl), (λ w. refl)) refl) st;
       class = shown.class;
       requests = shown.requests;
       usage = usage_evicted i.pod h x i.status.usage shown.usage none end;
       priority = shown.priority;
       order = refl;
     }) in
-    subst (λ (n : ℕ). IsKept (piece i.number i.pod i.greatest i.history i.is_pending (Some (record { place = n; order = c.args.order }))) i.differs.items c.evict.new.self status i.events.items) place kept
+    subst (λ (n : ℕ). IsKept
+    (piece i.number i.pod i.greatest i.history i.is_pending (Some (record { place = n; order = c.args.order })))
+    i.differs.items c.evict.new.self status i.events.items) place kept

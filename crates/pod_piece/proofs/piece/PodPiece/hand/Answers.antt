@@ -1,4 +1,5 @@
-use Rattle.std.proofs.Common.{◌≡◌, ◌∙◌, ◌++◌, ◌∷◌, [], List, length, map, get_or, ◌-◌, true, false, ap, sym, subst, arith}
+use Rattle.std.proofs.Common.{◌≡◌, ◌∙◌, ◌++◌, ◌∷◌, [], List, length, map, get_or, ◌-◌, true, false, ap, sym, subst}
+use Rattle.std.proofs.Common.{arith}
 use Rattle.observations.specs.Pods.{PodObs}
 use Rattle.pod_state.specs.Pods.{pod_tick}
 use Rattle.pod_piece.specs.Kept.{IsKept}
@@ -14,8 +15,10 @@ follow-requires c =
     let next = subst (λ (p : Piece). IsNextTick p.pod p.handed (pod_tick obs)) (sym c.self.view_is) c.requires.next in
     let last : c.at.result.now ≡ obs = pushed_last i.history obs c.len-last.result c.at.result.now
     (omega (arith, c.len-last.ensures, ap length c.in_ok-push.ensures.ok))
-    (c.at.ensures ∙ ap (λ (os : List PodObs). get_or os (c.len-last.result - 1) c.at.result.now) c.in_ok-push.ensures.ok) in
-    subst (λ (o : PodObs). AllFollow i.differs.items o.at o.containers) (sym last) (all_follow i.pod (map pod_tick i.history) i.differs.items obs c.self.invariant.listed next)
+    (c.at.ensures ∙ ap (λ (os : List PodObs). get_or os (c.len-last.result - 1) c.at.result.now)
+    c.in_ok-push.ensures.ok) in
+    subst (λ (o : PodObs). AllFollow i.differs.items o.at o.containers) (sym last)
+    (all_follow i.pod (map pod_tick i.history) i.differs.items obs c.self.invariant.listed next)
 
 pub invariant_of-self-2 : goal.invariant_of-self-2
 invariant_of-self-2 c =
@@ -27,9 +30,14 @@ invariant_of-self-2 c =
     let free : i.is_pending ≡ false = ap (λ (p : Piece). p.is_pending) c.self.view_is ∙ c.requires.free in
     let last : c.at.result.now ≡ obs = pushed_last i.history obs c.len-last.result c.at.result.now
     (omega (arith, c.len-last.ensures, ap length c.in_ok-push.ensures.ok))
-    (c.at.ensures ∙ ap (λ (os : List PodObs). get_or os (c.len-last.result - 1) c.at.result.now) c.in_ok-push.ensures.ok) in
+    (c.at.ensures ∙ ap (λ (os : List PodObs). get_or os (c.len-last.result - 1) c.at.result.now)
+    c.in_ok-push.ensures.ok) in
     let listed : AreListed i.pod (h ++ pod_tick obs ∷ []) c.follow.new.differs.items =
-    subst (λ (o : PodObs). AreListed i.pod (h ++ pod_tick o ∷ []) c.follow.new.differs.items) last (c.follow.ensures i.pod h c.self.invariant.listed) in
-    let kept = kept_handed old (pod_tick obs) i.differs.items c.follow.new.differs.items i.state i.status i.events.items free next listed c.self.invariant in
-    subst (λ (os : List PodObs). IsKept (piece i.number i.pod i.greatest os true i.eviction) c.follow.new.differs.items i.state i.status i.events.items) (sym c.in_ok-push.ensures.ok)
-    (subst (λ (p : Piece). IsKept p c.follow.new.differs.items i.state i.status i.events.items) (sym (piece_handed i.number i.pod i.greatest i.history i.is_pending i.eviction obs)) kept)
+    subst (λ (o : PodObs). AreListed i.pod (h ++ pod_tick o ∷ []) c.follow.new.differs.items) last
+    (c.follow.ensures i.pod h c.self.invariant.listed) in
+    let kept = kept_handed old (pod_tick obs) i.differs.items c.follow.new.differs.items i.state i.status
+    i.events.items free next listed c.self.invariant in
+    subst (λ (os : List PodObs). IsKept (piece i.number i.pod i.greatest os true i.eviction)
+    c.follow.new.differs.items i.state i.status i.events.items) (sym c.in_ok-push.ensures.ok)
+    (subst (λ (p : Piece). IsKept p c.follow.new.differs.items i.state i.status i.events.items)
+    (sym (piece_handed i.number i.pod i.greatest i.history i.is_pending i.eviction obs)) kept)

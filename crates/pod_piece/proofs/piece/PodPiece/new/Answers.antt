@@ -8,9 +8,13 @@ use Rattle.pod_piece.proofs.piece.PodPiece.new.Goals as goal
 
 pub invariant_of-result : goal.invariant_of-result
 invariant_of-result c =
-    let kept = kept_new c.args.number c.args.pod c.args.greatest c.in_ok-differs.differs.items c.in_ok-state.state c.in_ok-status.status
-    (c.in_ok-differs.ensures c.args.pod (ap length (sym c.as_slice.ensures.same))) c.in_ok-state.ensures.state c.in_ok-state.ensures.before c.in_ok-status.ensures in
-    subst (λ (os : List PodObs). IsKept (piece c.args.number c.args.pod c.args.greatest os false None) c.in_ok-differs.differs.items c.in_ok-state.state c.in_ok-status.status c.new-3.result.items)
+    let kept = kept_new c.args.number c.args.pod c.args.greatest c.in_ok-differs.differs.items c.in_ok-state.state
+    c.in_ok-status.status
+    (c.in_ok-differs.ensures c.args.pod (ap length (sym c.as_slice.ensures.same))) c.in_ok-state.ensures.state
+    c.in_ok-state.ensures.before c.in_ok-status.ensures in
+    subst (λ (os : List PodObs). IsKept (piece c.args.number c.args.pod c.args.greatest os false None)
+    c.in_ok-differs.differs.items c.in_ok-state.state c.in_ok-status.status c.new-3.result.items)
     (sym c.new-2.ensures)
-    (subst (λ (es : List PodEvent). IsKept (piece c.args.number c.args.pod c.args.greatest [] false None) c.in_ok-differs.differs.items c.in_ok-state.state c.in_ok-status.status es)
+    (subst (λ (es : List PodEvent). IsKept (piece c.args.number c.args.pod c.args.greatest [] false None)
+    c.in_ok-differs.differs.items c.in_ok-state.state c.in_ok-status.status es)
     (sym c.new-3.ensures.items) kept)

@@ -6,7 +6,8 @@ use Rattle.pod_state.specs.Pods.{pod_tick}
 use Rattle.pod_state.specs.Lifecycles.{IsLifecycleOf, IsProgressOf}
 use Rattle.pod_piece.specs.Usage.{IsUsageOf, newer}
 use Rattle.pod_piece.specs.Piece.{piece, before_last, place_of}
-use Rattle.pod_piece.proofs.PieceLemmas.{may_self, may_take, has_containers, kept_updated, by_eviction, end_is, flag_says, at_last}
+use Rattle.pod_piece.proofs.PieceLemmas.{may_self, may_take, has_containers, kept_updated, by_eviction, end_is}
+use Rattle.pod_piece.proofs.PieceLemmas.{flag_says, at_last}
 use Rattle.pod_piece.proofs.UsageLemmas.{usage_more}
 use Rattle.pod_piece.proofs.piece.PodPiece.update_in_place.Goals as goal
 
@@ -14,15 +15,18 @@ pub take-requires-clause-follows : goal.take-requires-clause-follows
 take-requires-clause-follows c =
     let i = c.self.inside in
     let observed = c.at-observed.result.now in
-    let here = at_last c.args.self.now i.number i.pod i.greatest i.history i.is_pending i.eviction i.differs.items i.state i.status i.events.items c.len-last.result observed
+    let here = at_last c.args.self.now i.number i.pod i.greatest i.history i.is_pending i.eviction i.differs.items
+    i.state i.status i.events.items c.len-last.result observed
     c.self.view_is c.requires c.self.invariant c.len-last.ensures c.at-observed.ensures in
-    may_take i.pod i.greatest (place_of i.eviction) (before_last (map pod_tick i.history)) i.state observed here.now here.next
+    may_take i.pod i.greatest (place_of i.eviction) (before_last (map pod_tick i.history)) i.state observed here.now
+    here.next
 
 pub take-requires-clause-bounded : goal.take-requires-clause-bounded
 take-requires-clause-bounded c =
     let i = c.self.inside in
     let observed = c.at-observed.result.now in
-    (at_last c.args.self.now i.number i.pod i.greatest i.history i.is_pending i.eviction i.differs.items i.state i.status i.events.items c.len-last.result observed
+    (at_last c.args.self.now i.number i.pod i.greatest i.history i.is_pending i.eviction i.differs.items i.state
+    i.status i.events.items c.len-last.result observed
     c.self.view_is c.requires c.self.invariant c.len-last.ensures c.at-observed.ensures).next.bounded
 
 pub show-requires : goal.show-requires
@@ -30,10 +34,12 @@ show-requires c =
     let i = c.self.inside in
     let observed = c.at-observed.result.now in
     let h = before_last (map pod_tick i.history) in
-    let here = at_last c.args.self.now i.number i.pod i.greatest i.history i.is_pending i.eviction i.differs.items i.state i.status i.events.items c.len-last.result observed
+    let here = at_last c.args.self.now i.number i.pod i.greatest i.history i.is_pending i.eviction i.differs.items
+    i.state i.status i.events.items c.len-last.result observed
     c.self.view_is c.requires c.self.invariant c.len-last.ensures c.at-observed.ensures in
     let after = c.in_ok-events.ensures.ok i.pod i.greatest (place_of i.eviction) h refl here.not_now here.now in
-    c.self.invariant.shown.containers.as_many ∙ has_containers i.pod i.greatest (place_of i.eviction) (h ++ pod_tick observed ∷ []) c.take.new.self after
+    c.self.invariant.shown.containers.as_many ∙ has_containers i.pod i.greatest (place_of i.eviction)
+    (h ++ pod_tick observed ∷ []) c.take.new.self after
 
 pub invariant_of-self-2 : goal.invariant_of-self-2
 invariant_of-self-2 c =
@@ -42,9 +48,11 @@ invariant_of-self-2 c =
     let h = before_last (map pod_tick i.history) in
     let k = h ++ pod_tick observed ∷ [] in
     let e = place_of i.eviction in
-    let here = at_last c.args.self.now i.number i.pod i.greatest i.history i.is_pending i.eviction i.differs.items i.state i.status i.events.items c.len-last.result observed
+    let here = at_last c.args.self.now i.number i.pod i.greatest i.history i.is_pending i.eviction i.differs.items
+    i.state i.status i.events.items c.len-last.result observed
     c.self.view_is c.requires c.self.invariant c.len-last.ensures c.at-observed.ensures in
-    kept_updated (piece i.number i.pod i.greatest i.history i.is_pending i.eviction) (pod_tick observed) i.differs.items i.state c.take.new.self i.status _ i.events.items c.in_ok-events.events.items
+    kept_updated (piece i.number i.pod i.greatest i.history i.is_pending i.eviction) (pod_tick observed)
+    i.differs.items i.state c.take.new.self i.status _ i.events.items c.in_ok-events.events.items
     here.pending here.last c.self.invariant
     (λ e not is. c.in_ok-events.ensures.ok i.pod i.greatest e h refl not is)
     (λ e is. subst (λ (l : Lifecycle). IsProgressOf i.pod e h l) (sym c.in_ok-events.ensures.before) is.progress)
@@ -52,16 +60,23 @@ invariant_of-self-2 c =
     (λ shown before after.
     let st = after.now e (may_self e (length k)) in
     let phase = st.progress.so_far.phase in
-    let was : IsLifecycleOf i.pod e h c.lifecycle.result = subst (λ (l : Lifecycle). IsLifecycleOf i.pod e h l) (sym c.lifecycle.ensures) here.now.progress.so_far in
+    let was : IsLifecycleOf i.pod e h c.lifecycle.result = subst (λ (l : Lifecycle). IsLifecycleOf i.pod e h l)
+    (sym c.lifecycle.ensures) here.now.progress.so_far in
     record {
       number_is = shown.number_is;
-      lifecycle = subst (λ (l : Lifecycle). IsLifecycleOf i.pod e k l) (sym c.lifecycle-lifecycle.ensures) st.progress.so_far;
-      containers = c.show.ensures i.pod i.greatest e phase.0 k phase.1 (by_eviction e phase.0 c.is_some.result (flag_says i.eviction c.is_some.result c.is_some.ensures) (end_is i.pod k e phase.0 after.ended phase.1)) st;
+      lifecycle = subst (λ (l : Lifecycle). IsLifecycleOf i.pod e k l) (sym c.lifecycle-lifecycle.ensures)
+          st.progress.so_far;
+      containers = c.show.ensures i.pod i.greatest e phase.0 k phase.1
+          (by_eviction e phase.0 c.is_some.result (flag_says i.eviction c.is_some.result c.is_some.ensures)
+          (end_is i.pod k e phase.0 after.ended phase.1)) st;
       class = shown.class;
       requests = shown.requests;
       usage = subst (λ (u : Usage). IsUsageOf i.pod e k u) (sym c.newer_while-self-inside.ensures)
-          (subst (λ (o : Option Usage). IsUsageOf i.pod e k (if not c.has_ended-had_ended.result then newer i.status.usage o else i.status.usage)) (sym c.usage.ensures)
-          (usage_more i.pod e phase.0 h (pod_tick observed) i.status.usage c.has_ended-had_ended.result shown.usage (c.has_ended-had_ended.ensures.ended i.pod e h was) phase.1));
+          (subst (λ (o : Option Usage). IsUsageOf i.pod e k
+          (if not c.has_ended-had_ended.result then newer i.status.usage o else i.status.usage))
+          (sym c.usage.ensures)
+          (usage_more i.pod e phase.0 h (pod_tick observed) i.status.usage c.has_ended-had_ended.result shown.usage
+          (c.has_ended-had_ended.ensures.ended i.pod e h was) phase.1));
       priority = shown.priority;
       order = shown.order;
     })

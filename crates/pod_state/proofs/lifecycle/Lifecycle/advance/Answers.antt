@@ -8,8 +8,11 @@ pub returns : goal.returns
 returns c = λ pod end h entry policy are ready now is.
     let phase : IsPhase pod end (h ++ recorded c.args.at entry ∷ []) c.next_phase-phase.result =
     c.next_phase-phase.ensures pod end h c.args.at entry policy are now is.so_far.phase in
-    lemmas.progress_more pod end h (recorded c.args.at entry) c.args.self.now c.next_phase-phase.result c.advance.new.self _ is phase
-    (lemmas.initialized_more pod end h (recorded c.args.at entry) c.args.self.now c.args.containers.now c.next_phase-phase.result c.next_initialized.result are is.so_far phase
+    lemmas.progress_more pod end h (recorded c.args.at entry) c.args.self.now c.next_phase-phase.result
+    c.advance.new.self _ is phase
+    (lemmas.initialized_more pod end h (recorded c.args.at entry) c.args.self.now c.args.containers.now
+    c.next_phase-phase.result c.next_initialized.result are is.so_far phase
     c.next_initialized.ensures.ended c.next_initialized.ensures.lives)
-    (lemmas.ready_more pod end h (recorded c.args.at entry) c.args.ready c.args.self.now.phase c.next_phase-phase.result c.are_ready.result ready is.so_far.phase phase c.are_ready.ensures)
+    (lemmas.ready_more pod end h (recorded c.args.at entry) c.args.ready c.args.self.now.phase
+    c.next_phase-phase.result c.are_ready.result ready is.so_far.phase phase c.are_ready.ensures)
     c.advance.ensures

@@ -6,14 +6,18 @@ use Rattle.pod_state.proofs.lifecycle.Lifecycle.next_phase.Goals as goal
 
 pub returns-then-is_terminal : goal.returns-then-is_terminal
 returns-then-is_terminal c = λ pod end h at entry policy are now is.
-    ends.phase_ended pod end h (recorded at entry) c.args.self.now.phase is (c.is_terminal.ensures.0 c.if-is_terminal.true)
+    ends.phase_ended pod end h (recorded at entry) c.args.self.now.phase is
+    (c.is_terminal.ensures.0 c.if-is_terminal.true)
 
 pub returns-then-is_evicted : goal.returns-then-is_evicted
 returns-then-is_evicted c = λ pod end h at entry policy are now is.
-    ends.phase_evicted pod end h (recorded at entry) c.args.self.now.phase is (iff_false c.is_terminal.ensures c.if-is_terminal.false) (now.0 c.if-is_evicted.true)
+    ends.phase_evicted pod end h (recorded at entry) c.args.self.now.phase is
+    (iff_false c.is_terminal.ensures c.if-is_terminal.false) (now.0 c.if-is_evicted.true)
 
 pub returns-else-is_evicted : goal.returns-else-is_evicted
 returns-else-is_evicted c = λ pod end h at entry policy are now is.
-    ends.phase_lives pod end h (recorded at entry) c.args.self.now.phase c.raw_phase.result is (iff_false c.is_terminal.ensures c.if-is_terminal.false)
+    ends.phase_lives pod end h (recorded at entry) c.args.self.now.phase c.raw_phase.result is
+    (iff_false c.is_terminal.ensures c.if-is_terminal.false)
     (iff_false now c.if-is_evicted.false)
-    (raw_after pod c.args.policy _ c.args.containers.now c.raw_phase.result policy (are (iff_false c.is_terminal.ensures c.if-is_terminal.false)) c.raw_phase.ensures)
+    (raw_after pod c.args.policy _ c.args.containers.now c.raw_phase.result policy
+    (are (iff_false c.is_terminal.ensures c.if-is_terminal.false)) c.raw_phase.ensures)

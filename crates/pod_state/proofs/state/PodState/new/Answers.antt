@@ -10,10 +10,13 @@ pub returns-clause-state : goal.returns-clause-state
 returns-clause-state c = λ evicted.
     let spec = c.args.spec.now in
     let greatest = c.args.greatest in
-    let are : AreContainersOf spec greatest [] c.in_ok-containers.containers.items = c.in_ok-containers.ensures spec (sym c.as_slice.ensures.same) in
-    let views = c.in_ok-views.ensures spec greatest [] (subst (λ (cs : List Container). AreContainersOf spec greatest [] cs) (sym c.deref.ensures.value) are) in
+    let are : AreContainersOf spec greatest [] c.in_ok-containers.containers.items = c.in_ok-containers.ensures spec
+    (sym c.as_slice.ensures.same) in
+    let views = c.in_ok-views.ensures spec greatest []
+    (subst (λ (cs : List Container). AreContainersOf spec greatest [] cs) (sym c.deref.ensures.value) are) in
     record {
-      progress = c.new-lifecycle.ensures spec evicted (subst (λ (vs : List ContainerView). AreViewsOf spec [] vs) (sym c.deref-2.ensures.value) views);
+      progress = c.new-lifecycle.ensures spec evicted
+          (subst (λ (vs : List ContainerView). AreViewsOf spec [] vs) (sym c.deref-2.ensures.value) views);
       containers = kept_none spec greatest evicted c.in_ok-containers.containers.items are;
     }
 
@@ -21,6 +24,9 @@ pub returns-clause-before : goal.returns-clause-before
 returns-clause-before c = λ evicted.
     let spec = c.args.spec.now in
     let greatest = c.args.greatest in
-    let are : AreContainersOf spec greatest [] c.in_ok-containers.containers.items = c.in_ok-containers.ensures spec (sym c.as_slice.ensures.same) in
-    let views = c.in_ok-views.ensures spec greatest [] (subst (λ (cs : List Container). AreContainersOf spec greatest [] cs) (sym c.deref.ensures.value) are) in
-    c.new-lifecycle.ensures spec evicted (subst (λ (vs : List ContainerView). AreViewsOf spec [] vs) (sym c.deref-2.ensures.value) views)
+    let are : AreContainersOf spec greatest [] c.in_ok-containers.containers.items = c.in_ok-containers.ensures spec
+    (sym c.as_slice.ensures.same) in
+    let views = c.in_ok-views.ensures spec greatest []
+    (subst (λ (cs : List Container). AreContainersOf spec greatest [] cs) (sym c.deref.ensures.value) are) in
+    c.new-lifecycle.ensures spec evicted
+    (subst (λ (vs : List ContainerView). AreViewsOf spec [] vs) (sym c.deref-2.ensures.value) views)

@@ -6,5 +6,7 @@ use Rattle.pod_state.proofs.state.PodState.show.Goals as goal
 
 pub returns : goal.returns
 returns c = λ pod greatest evicted end h is same st.
-    statuses_are pod greatest evicted end h c.args.self.now.containers.items (IsTrue c.args.is_evicted) _ is same st.containers
-    (λ k are. c.show.ensures pod greatest k (subst (λ (cs : List Container). AreContainersOf pod greatest k cs) (sym c.deref.ensures.value) are))
+    statuses_are pod greatest evicted end h c.args.self.now.containers.items (IsTrue c.args.is_evicted) _ is same
+    st.containers
+    (λ k are. c.show.ensures pod greatest k (subst (λ (cs : List Container). AreContainersOf pod greatest k cs)
+    (sym c.deref.ensures.value) are))

@@ -13,4 +13,8 @@ returns-else-whole-eq0-clause-writes g c =
     let e = styled_zeros c.args.self.now.places c.args.self.now.fraction c.if-places-eq0.false in
     let w = c.write-else-whole-eq0.ensures.writes in
     let v = (rw (c.suffix-suffix.ensures, c.laid_out-else-whole-eq0.ensures, e) at w) in
-    rw (is_not_zero c.args.self.now.places c.if-places-eq0.false, is_not_zero c.args.self.now.whole c.if-whole-eq0.false) v
+    rw (
+      is_not_zero c.args.self.now.places c.if-places-eq0.false,
+      is_not_zero c.args.self.now.whole
+          c.if-whole-eq0.false,
+    ) v

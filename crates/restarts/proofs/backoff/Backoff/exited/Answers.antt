@@ -10,9 +10,17 @@ returns-clause-state c = λ greatest exits st.
     record {
       kept = st.kept;
       count = count;
-      due = (c.args.at, c.delay_after-delay.result, last_moment-after exits (recorded c.args.at c.args.run_seconds) [], IsDelay-of_count _ _ _ _ _ c.args.self.now.within st.kept count c.delay_after-delay.ensures, refl);
+      due = (
+        c.args.at,
+        c.delay_after-delay.result,
+        last_moment-after exits (recorded c.args.at c.args.run_seconds)
+            [],
+        IsDelay-of_count _ _ _ _ _ c.args.self.now.within st.kept count c.delay_after-delay.ensures,
+        refl,
+      );
     }
 
 pub returns-clause-delay : goal.returns-clause-delay
 returns-clause-delay c = λ greatest exits st.
-    IsDelay-of_count _ _ _ _ _ c.args.self.now.within st.kept (c.count_after-self.ensures.counts exits c.args.at st.count) c.delay_after-delay.ensures
+    IsDelay-of_count _ _ _ _ _ c.args.self.now.within st.kept
+    (c.count_after-self.ensures.counts exits c.args.at st.count) c.delay_after-delay.ensures
