@@ -366,6 +366,11 @@ pub of_some : (config : NodeConfig) (pods : List PodSpec) (ticks : List TickObs)
     → (s.config ≡ config) × HasTaken pods ticks s
 of_some config pods ticks before s is after = subst (λ (o : Option State). IsAfter config pods ticks o) is after
 
+pub to_some : (config : NodeConfig) (pods : List PodSpec) (ticks : List TickObs) (after : Option State) (s : State)
+    → after ≡ Some s → s.config ≡ config → HasTaken pods ticks s → IsAfter config pods ticks after
+to_some config pods ticks after s is same taken =
+    subst (λ (o : Option State). IsAfter config pods ticks o) (sym is) (same, taken)
+
 pub rest_next : {A : Type 0} (all front : List A) (rest : List A) (x : A) (behind : List A) → all ≡ front ++ rest
     → rest ≡ x ∷ behind → all ≡ front ++ x ∷ behind
 rest_next all front rest x behind is next = is ∙ ap (λ xs. front ++ xs) next

@@ -1,8 +1,9 @@
 //! A node in the midst of a tick.
 
-ghost use Rattle.std.specs.Prelude.{◌≡◌, ◌++◌, ◌∷◌, [], List, IfOk};
+ghost use Rattle.std.specs.Prelude.{◌≡◌, ◌++◌, ◌∷◌, [], List, IfOk, OnOk};
 ghost use Rattle.manifest.specs.declared.pod.PodSpec.{PodSpec};
 ghost use Rattle.observations.specs.declared.tick.TickObs.{TickObs};
+ghost use Rattle.event_list.specs.Tick.{AddsEvents};
 ghost use Rattle.node_pods.specs.Pods.{AreAwaited};
 ghost use Rattle.tick_round.specs.Node.{State, HasTaken};
 ghost use Rattle.tick_round.specs.Round.{IsKept, MayEnd};
@@ -34,6 +35,23 @@ pub(crate) struct Begun {
     pub(crate) at: u64,
 }
 
+/// Adds what happened in the tick, and its eviction.
+fn add_tick(
+    events: &mut Vec<Event>,
+    evictions: &mut Vec<Option<Eviction>>,
+    at: u64,
+    pieces: &[PodPiece],
+    news: &[NodeEvent],
+    eviction: Option<Eviction>,
+) -> Result<(), AllocError>
+    ensures events { OnOk result (AddsEvents at pieces.now news.now eviction events.old.items events.new.items) }
+    ensures evictions { OnOk result (evictions.new.items ≡ evictions.old.items ++ eviction ∷ []) }
+{
+    add_events(events, at, pieces, news, eviction)?;
+    evictions.push(eviction)?;
+    Ok(())
+}
+
 impl Begun {
     /// The node after the tick, with these pieces, which have taken it into their statuses, and this
     /// book, in which they were entered: one pod at most is evicted. A refused growth of memory gives
@@ -61,20 +79,39 @@ impl Begun {
             mut events,
             at,
         } = self;
-        let mut pods = pods.with(pieces)?;
+        let mut pods = match pods.with(pieces) {
+            Ok(pods) => pods,
+            Err(fault) => {
+                drop((config, signals, news, evictions, events, book));
+                return Err(fault);
+            }
+        };
         let eviction = eviction_for(&config, &pods, at, served);
-        add_events(&mut events, at, pods.pieces(), &news, eviction)?;
+        let added = add_tick(
+            &mut events,
+            &mut evictions,
+            at,
+            pods.pieces(),
+            &news,
+            eviction,
+        );
+        drop(news);
         carry_out(&mut pods, eviction);
-        evictions.push(eviction)?;
-        Ok(Running {
-            alloc,
-            config,
-            signals,
-            pods,
-            evictions,
-            events,
-            book,
-            last: Some(at),
-        })
+        match added {
+            Ok(()) => Ok(Running {
+                alloc,
+                config,
+                signals,
+                pods,
+                evictions,
+                events,
+                book,
+                last: Some(at),
+            }),
+            Err(fault) => {
+                drop((config, signals, pods, evictions, events, book));
+                Err(fault)
+            }
+        }
     }
 }

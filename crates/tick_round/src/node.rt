@@ -58,12 +58,15 @@ impl<U: Ledger, E: Ledger, O: Ledger> Node<U, E, O> {
         ensures { IfOk result (IsAfter config pods.items []) }
     {
         let mut running = Running::new(alloc, config, book);
-        for pod in pods {
-            running.arrive(pod)?;
+        match running.arrive_all(pods) {
+            Ok(()) => Ok(Node {
+                running: Some(running),
+            }),
+            Err(fault) => {
+                drop(running);
+                Err(fault)
+            }
         }
-        Ok(Node {
-            running: Some(running),
-        })
     }
 
     /// A pod arrives, with the next number, where there are fewer than 256: it is present from the next
@@ -110,7 +113,7 @@ impl<U: Ledger, E: Ledger, O: Ledger> Node<U, E, O> {
         match self.running.take() {
             Some(running) => match running.after_alone(tick) {
                 Ok(next) => {
-                    self.running = Some(next);
+                    drop(self.running.replace(next));
                     Ok(())
                 }
                 Err(_) => Err(TickFault::OutOfMemory),
@@ -145,7 +148,7 @@ impl<U: Ledger, E: Ledger, O: Ledger> Node<U, E, O> {
         match self.running.take() {
             Some(running) => match running.after_played(tick, workers, steps) {
                 Ok((next, finished)) => {
-                    self.running = Some(next);
+                    drop(self.running.replace(next));
                     Ok(finished)
                 }
                 Err(_) => Err(TickFault::OutOfMemory),
@@ -193,7 +196,7 @@ impl<U: Ledger + Send, E: Ledger + Send, O: Ledger + Send> Node<U, E, O> {
         match self.running.take() {
             Some(running) => match running.after(rt, tick, workers, gate) {
                 Ok(next) => {
-                    self.running = Some(next);
+                    drop(self.running.replace(next));
                     Ok(())
                 }
                 Err(_) => Err(TickFault::OutOfMemory),

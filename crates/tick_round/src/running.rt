@@ -108,6 +108,19 @@ impl<U: Ledger, E: Ledger, O: Ledger> Running<U, E, O> {
         Ok(())
     }
 
+    /// Pods arrive at a node without pods and ticks, at most 256, numbered in their order.
+    pub(crate) fn arrive_all(&mut self, pods: Vec<PodSpec>) -> Result<(), AllocError>
+        requires new { HasTaken [] [] self.old }
+        requires few { length pods.items ≤ most_pods }
+        ensures config { self.new.config ≡ self.old.config }
+        ensures taken { OnOk result (HasTaken pods.items [] self.new) }
+    {
+        for pod in pods {
+            self.arrive(pod)?;
+        }
+        Ok(())
+    }
+
     /// Whether the tick may come next. It takes no memory.
     pub(crate) fn fits(&self, tick: &TickObs) -> bool
         ensures { IsTrue result ↔ Fits self.now tick.now }

@@ -7,8 +7,8 @@ use Rattle.tick_round.proofs.begun.Begun.end.Goals as goal
 pub carry_out-requires : goal.carry_out-requires
 carry_out-requires g c =
     let by = c.requires.taken in
-    may_carry_out by.0 by.1 c.args.self c.args.pieces.items c.args.book c.in_ok-pods.pods
-    c.eviction_for-eviction.result by.3 c.in_ok-pods.ensures c.eviction_for-eviction.ensures
+    may_carry_out by.0 by.1 c.args.self c.args.pieces.items c.args.book c.in-Ok.pods
+    c.eviction_for-eviction.result by.3 c.in-Ok.ensures c.eviction_for-eviction.ensures
 
 pub invariant_of-result : goal.invariant_of-result
 invariant_of-result g c =
@@ -16,27 +16,29 @@ invariant_of-result g c =
     let s = by.0 in
     let kept = by.2 in
     let b = c.args.self in
-    let evs = c.add_events.new.events.items in
-    let es = c.push.new.self.items in
+    let evs = c.add_tick-added.new.events.items in
+    let es = c.add_tick-added.new.evictions.items in
     ends_kept s by.1 b c.args.pieces.items c.args.book
     (state b.config b.signals c.carry_out.new.pods es evs c.args.book (Some b.at)) kept by.3
-    (ends (pods_in s.pods.pieces) kept.ticks s by.1 b c.args.pieces.items c.args.book c.in_ok-pods.pods
-    c.carry_out.new.pods c.eviction_for-eviction.result evs es kept.taken by.3 c.in_ok-pods.ensures
+    (ends (pods_in s.pods.pieces) kept.ticks s by.1 b c.args.pieces.items c.args.book c.in-Ok.pods
+    c.carry_out.new.pods c.eviction_for-eviction.result evs es kept.taken by.3 c.in-Ok.ensures
     c.eviction_for-eviction.ensures
-    (adds_as b.at c.pieces.result.now c.in_ok-pods.pods.pieces c.deref.result.now b.news.items
+    (adds_as b.at c.pieces.result.now c.in-Ok.pods.pieces c.deref.result.now b.news.items
     c.eviction_for-eviction.result b.events.items evs c.pieces.ensures.same c.deref.ensures.value
-    c.in_ok-add_events.ensures)
-    c.carry_out.ensures.pieces c.carry_out.ensures.greatest c.carry_out.ensures.dedicated c.in_ok-push.ensures.items)
+    c.in-Ok-added.ensures.events)
+    c.carry_out.ensures.pieces c.carry_out.ensures.greatest c.carry_out.ensures.dedicated
+    c.in-Ok-added.ensures.evictions)
     refl
 
-pub returns-clause-taken : goal.returns-clause-taken
-returns-clause-taken g c = λ s tick pods ticks may taken.
+pub returns-in-Ok-added-clause-taken : goal.returns-in-Ok-added-clause-taken
+returns-in-Ok-added-clause-taken g c = λ s tick pods ticks may taken.
     let b = c.args.self in
-    let evs = c.add_events.new.events.items in
-    let es = c.push.new.self.items in
-    ends pods ticks s tick b c.args.pieces.items c.args.book c.in_ok-pods.pods c.carry_out.new.pods
-    c.eviction_for-eviction.result evs es taken may c.in_ok-pods.ensures c.eviction_for-eviction.ensures
-    (adds_as b.at c.pieces.result.now c.in_ok-pods.pods.pieces c.deref.result.now b.news.items
+    let evs = c.add_tick-added.new.events.items in
+    let es = c.add_tick-added.new.evictions.items in
+    ends pods ticks s tick b c.args.pieces.items c.args.book c.in-Ok.pods c.carry_out.new.pods
+    c.eviction_for-eviction.result evs es taken may c.in-Ok.ensures c.eviction_for-eviction.ensures
+    (adds_as b.at c.pieces.result.now c.in-Ok.pods.pieces c.deref.result.now b.news.items
     c.eviction_for-eviction.result b.events.items evs c.pieces.ensures.same c.deref.ensures.value
-    c.in_ok-add_events.ensures)
-    c.carry_out.ensures.pieces c.carry_out.ensures.greatest c.carry_out.ensures.dedicated c.in_ok-push.ensures.items
+    c.in-Ok-added.ensures.events)
+    c.carry_out.ensures.pieces c.carry_out.ensures.greatest c.carry_out.ensures.dedicated
+    c.in-Ok-added.ensures.evictions

@@ -1,10 +1,10 @@
 use Rattle.std.proofs.Common.{◌≡◌, ◌++◌, []}
 use Rattle.tick_round.specs.Node.{HasTaken}
-use Rattle.tick_round.proofs.node.Node.new.Given as goal
+use Rattle.tick_round.proofs.running.Running.arrive_all.Given as goal
 
 abbrev pub invariant-loop-pod : goal.invariant-loop-pod
 invariant-loop-pod g l = record {
-  config : l.running.config ≡ l.fn.config;
-  taken : HasTaken l.yielded [] l.running;
+  config : l.self.config ≡ l.fn.self.config;
+  taken : HasTaken l.yielded [] l.self;
   rest : l.fn.pods.items ≡ l.yielded ++ l.pod-iterator.rest.items;
 }

@@ -1,10 +1,10 @@
 use Rattle.std.proofs.Common.{◌∙◌, []}
 use Rattle.tick_round.proofs.GoesOn.{rest_next, rest_more, room_left}
-use Rattle.tick_round.proofs.node.Node.new.Goals as goal
+use Rattle.tick_round.proofs.running.Running.arrive_all.Goals as goal
 
 pub arrive-requires : goal.arrive-requires
 arrive-requires g c =
-    room_left c.args.pods.items c.loop-pod.yielded c.in-Some.pod _ c.loop-pod.running c.loop-pod.invariant.taken
+    room_left c.args.pods.items c.loop-pod.yielded c.in-Some.pod _ c.loop-pod.self c.loop-pod.invariant.taken
     (rest_next c.args.pods.items c.loop-pod.yielded c.loop-pod.pod-iterator.rest.items c.in-Some.pod _
     c.loop-pod.invariant.rest c.in-Some.ensures.steps.0)
     c.requires.few
