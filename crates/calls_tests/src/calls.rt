@@ -79,10 +79,10 @@ pub(crate) fn expect_answer(
     answer: Result<(), RunFault>,
     output: &[u8],
     wanted: Result<(), RunFault>,
-    written: Written,
+    written: &[u8],
 ) {
     assert_eq!(rt; answer, wanted, "{call:?}");
-    assert_eq!(rt; output, written.by(call), "{call:?}");
+    assert_eq!(rt; output, written, "{call:?}");
 }
 
 /// Makes a call over a reader, and compares the answer and what was written.
@@ -99,6 +99,7 @@ pub(crate) fn expect_of<H: Abort + AllocGlobal + Threads + Wait + Sync>(
     let mut input = input;
     let mut output = MemSink::new(&mut room, 100);
     let answer = call.make(rt, &mut input, &mut output);
+    let written = written.by(call);
     expect_answer(rt, call, answer, output.written(), wanted, written);
 }
 

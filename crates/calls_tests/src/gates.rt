@@ -47,6 +47,12 @@ fn zeros(alloc: Global, count: usize) -> Result<Vec<AtomicU64>, AllocError> {
     Ok(counts)
 }
 
+fn are_all(counts: &[AtomicU64], wanted: u64) -> bool {
+    counts
+        .iter()
+        .all(|count| count.load(Ordering::SeqCst) == wanted)
+}
+
 impl<'a, C: AllocGlobal + Clock> Meeting<'a, C> {
     /// A gate for so many workers and pods.
     pub(crate) fn new(
@@ -67,28 +73,24 @@ impl<'a, C: AllocGlobal + Clock> Meeting<'a, C> {
         })
     }
 
+    /// Whether each pod has entered and left so many times, and no other has.
+    fn has_counted(&self, times: u64) -> bool {
+        let all = times.saturating_mul(self.entered.len() as u64);
+        are_all(&self.entered, times)
+            && are_all(&self.left, times)
+            && self.arrivals.load(Ordering::SeqCst) == all
+    }
+
     /// No update gave up, and each pod has entered and left so many times.
     pub(crate) fn expect(&self, rt: &impl Abort, times: u64) {
-        let (workers, pods) = (self.workers, self.entered.len());
-        let missed = self.missed.load(Ordering::SeqCst);
-        assert_eq!(rt;
-            missed,
-            0,
-            "updates alone among {workers} workers and {pods} pods"
+        let workers = self.workers;
+        assert!(rt;
+            self.missed.load(Ordering::SeqCst) == 0,
+            "an update stood alone, with {workers} workers"
         );
-        for (pod, (entered, left)) in self.entered.iter().zip(&self.left).enumerate() {
-            let calls = (entered.load(Ordering::SeqCst), left.load(Ordering::SeqCst));
-            assert_eq!(rt;
-                calls,
-                (times, times),
-                "pod {pod} of {pods}, {workers} workers"
-            );
-        }
-        let arrivals = self.arrivals.load(Ordering::SeqCst);
-        assert_eq!(rt;
-            arrivals,
-            times.saturating_mul(pods as u64),
-            "{workers} workers"
+        assert!(rt;
+            self.has_counted(times),
+            "a pod did not pass the gate {times} times, with {workers} workers"
         );
     }
 }

@@ -1,6 +1,6 @@
 //! Tests of calls that no text of a case reaches: quantities made of numbers, readers and writers over memory, inputs
 //! that are cut, large or stop, writers that stop, a full book, and what the workers of a replay do in threads: how
-//! many updates stand side by side, that pods are stolen, and that nobody sees from the report who did what.
+//! many updates stand side by side, and that pods are stolen.
 #![tactic(auto)]
 
 #[cfg(test)]
@@ -21,8 +21,6 @@ mod replay_stream_tests;
 mod replay_tests;
 #[cfg(test)]
 mod replays;
-#[cfg(test)]
-mod same_report_tests;
 #[cfg(test)]
 mod size_tests;
 #[cfg(test)]

@@ -144,6 +144,7 @@ fn expect_halted_reader<H: Abort + AllocGlobal + Threads + Wait + Sync>(
     let mut input = Counted::new(Halting::new(Front { left }, 10, calls, fault));
     let mut output = MemSink::new(&mut room, 100);
     let answer = call.make(rt, &mut input, &mut output);
+    let written = written.by(call);
     expect_answer(rt, call, answer, output.written(), wanted, written);
 }
 
@@ -170,16 +171,8 @@ fn expect_stopped_writer<H: Abort + AllocGlobal + Threads + Wait + Sync>(
     let mut input = MemSource::new(FIRST_TICK.as_bytes(), 4096);
     let mut output = MemSink::stopping(&mut room, 10, calls, stop);
     let answer = call.make(rt, &mut input, &mut output);
-    assert_eq!(rt;
-        answer,
-        Err(RunFault::Write),
-        "{call:?}, {stop:?} after {calls}"
-    );
-    assert_eq!(rt;
-        output.written(),
-        front_of(FIRST.by(call), calls),
-        "{call:?}, {stop:?} after {calls}"
-    );
+    let (wanted, front) = (Err(RunFault::Write), front_of(FIRST.by(call), calls));
+    expect_answer(rt, call, answer, output.written(), wanted, front);
 }
 
 /// What a writer takes of a text in so many calls of ten bytes.
@@ -210,16 +203,15 @@ fn expect_halted_writer<H: Abort + AllocGlobal + Threads + Wait + Sync>(
     let mut input = MemSource::new(FIRST_TICK.as_bytes(), 4096);
     let mut output = Counted::new(Halting::new(sheet, 10, calls, fault));
     let answer = call.make(rt, &mut input, &mut output);
-    assert_eq!(rt;
-        answer,
-        Err(RunFault::Write),
-        "{call:?}, {fault:?} after {calls}"
-    );
     let halted = output.into_inner();
-    assert_eq!(rt;
+    let (wanted, front) = (Err(RunFault::Write), front_of(FIRST.by(call), calls));
+    expect_answer(
+        rt,
+        call,
+        answer,
         halted.inner.bytes.as_slice(),
-        front_of(FIRST.by(call), calls),
-        "{call:?}, {fault:?} after {calls}"
+        wanted,
+        front,
     );
 }
 

@@ -136,6 +136,6 @@ fn inputs_may_have_64_mebibytes(rt: HostRuntime) {
         let mut input = Counted::new(Spaces { left });
         let mut output = MemSink::new(&mut room, 10);
         let answer = Call::Played.make(&rt, &mut input, &mut output);
-        expect_answer(&rt, Call::Played, answer, output.written(), wanted, NOTHING);
+        expect_answer(&rt, Call::Played, answer, output.written(), wanted, b"");
     }
 }

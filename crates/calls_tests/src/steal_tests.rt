@@ -1,7 +1,7 @@
 //! A pod is stolen from the deque of another worker.
 
 use crate::gates::Pair;
-use crate::replays::replayed_by;
+use crate::replays::replay_text;
 use crate::traces::trace_text;
 use std::test::Fail;
 
@@ -10,7 +10,7 @@ use std::test::Fail;
 fn tick_ends_by_a_theft(rt: HostRuntime) -> Result<(), Fail> {
     let gate = Pair::new(&rt);
     let text = trace_text(rt.alloc(), 3, 1)?;
-    replayed_by(&rt, text.as_str(), 2, &gate)?;
+    replay_text(&rt, text.as_str(), 2, &gate)?;
     gate.expect(&rt);
     Ok(())
 }
