@@ -11,9 +11,9 @@ use Rattle.pod_piece.specs.Listings.{IsNextTick}
 use Rattle.eviction.specs.Replay.{pod_ticks}
 use Rattle.tick_round.specs.Node.{State, IsAfter}
 
--- there are not too many of either; what each tick shows of a pod may come after the pod's own ticks before, at the
--- tick's moment; the
--- moments rise and are in range; and no tick shows fewer pods than one before it, or more than there are
+-- there are not too many of either; what each tick shows of a pod may come after the pod's own ticks before, at
+-- the tick's moment; the moments rise and are in range; and no tick shows fewer pods than one before it, or more
+-- than there are
 pub record AreReplayable (pods : List PodSpec) (ticks : List TickObs) : Type 0 where
   pub next : (t n : ℕ) (tick : TickObs) (pod : PodSpec) (shown : PodObs) → slice_get ticks t ≡ Some tick
       → slice_get pods n ≡ Some pod → shown_of tick n ≡ Some shown

@@ -1,19 +1,16 @@
 //! The node of a trace, as its ticks leave it.
 
-ghost use Rattle.std.specs.Prelude.{◌≡◌, ◌<◌, ◌≤◌, ◌++◌, List, [], IfOk, OnOk, take, drop};
+ghost use Rattle.std.specs.Prelude.{◌≡◌, ◌<◌, ◌≤◌, ◌++◌, List, [], OnOk, take, drop};
 ghost use Rattle.manifest.specs.declared.pod.PodSpec.{PodSpec};
 ghost use Rattle.node_config.specs.declared.node.NodeConfig.{NodeConfig};
 ghost use Rattle.observations.specs.declared.tick.TickObs.{TickObs};
-ghost use Rattle.event_book.specs.Totals.{nothing};
 ghost use Rattle.event_book.specs.Limits.{most_workers};
 ghost use Rattle.tick_round.specs.Node.{IsAfter};
 ghost use Rattle.trace_replay.specs.Ticks.{AreReplayable, IsNew, MayArrive};
 
-use event_book::WholeBook;
 use manifest::PodSpec;
 use node_config::NodeConfig;
 use observations::TickObs;
-use std::alloc::Global;
 use std::sync::Wait;
 use std::sync::ledger::Ledger;
 use std::thread::Threads;
@@ -43,7 +40,7 @@ fn arrive<U: Ledger, E: Ledger, O: Ledger>(
 
 /// A new node takes these ticks one after the other, each as a round on one thread that so many workers play by these
 /// steps. Each of these pods arrives before the first tick that shows it, those that no tick shows at the end.
-fn take_by_steps<U: Ledger, E: Ledger, O: Ledger>(
+pub(crate) fn take_by_steps<U: Ledger, E: Ledger, O: Ledger>(
     node: &mut Node<U, E, O>,
     pods: Vec<PodSpec>,
     ticks: Vec<TickObs>,
@@ -71,7 +68,7 @@ fn take_by_steps<U: Ledger, E: Ledger, O: Ledger>(
 }
 
 /// The same, where so many workers update the pods of each tick in threads of their own.
-fn take_by_workers<
+pub(crate) fn take_by_workers<
     U: Ledger + Send,
     E: Ledger + Send,
     O: Ledger + Send,
@@ -103,53 +100,4 @@ fn take_by_workers<
     }
     arrive(node, &mut arriving, count - arrived)?;
     Ok(())
-}
-
-/// The node after these ticks, each a round on one thread that so many workers play by these steps.
-pub(crate) fn replayed_by_steps<U: Ledger, E: Ledger, O: Ledger>(
-    alloc: Global,
-    config: NodeConfig,
-    pods: Vec<PodSpec>,
-    ticks: Vec<TickObs>,
-    book: WholeBook<U, E, O>,
-    workers: usize,
-    steps: &[Step],
-) -> Result<Node<U, E, O>, TickFault>
-    requires replayable { AreReplayable pods.items ticks.items }
-    requires empty { book ≡ nothing }
-    requires some { 0 < workers }
-    requires most { workers ≤ most_workers }
-    ensures { IfOk result (IsAfter config pods.items ticks.items) }
-{
-    let mut node = Node::new(alloc, config, Vec::new(alloc), book)?;
-    take_by_steps(&mut node, pods, ticks, workers, steps)?;
-    Ok(node)
-}
-
-/// The same, where so many workers update the pods of each tick in threads of their own.
-pub(crate) fn replayed_by_workers<
-    U: Ledger + Send,
-    E: Ledger + Send,
-    O: Ledger + Send,
-    R: Threads + Wait + Sync,
-    G: Gate,
->(
-    rt: &R,
-    alloc: Global,
-    config: NodeConfig,
-    pods: Vec<PodSpec>,
-    ticks: Vec<TickObs>,
-    book: WholeBook<U, E, O>,
-    workers: usize,
-    gate: &G,
-) -> Result<Node<U, E, O>, TickFault>
-    requires replayable { AreReplayable pods.items ticks.items }
-    requires empty { book ≡ nothing }
-    requires some { 0 < workers }
-    requires most { workers ≤ most_workers }
-    ensures { IfOk result (IsAfter config pods.items ticks.items) }
-{
-    let mut node = Node::new(alloc, config, Vec::new(alloc), book)?;
-    take_by_workers(rt, &mut node, pods, ticks, workers, gate)?;
-    Ok(node)
 }

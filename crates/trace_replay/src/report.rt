@@ -1,6 +1,6 @@
 //! The report of a trace.
 
-ghost use Rattle.std.specs.Prelude.{◌≡◌, ◌<◌, ◌≤◌, List, IfOk, string_bytes};
+ghost use Rattle.std.specs.Prelude.{◌≡◌, ◌<◌, ◌≤◌, List, IfOk, OnOk, string_bytes};
 ghost use Rattle.manifest.specs.declared.pod.PodSpec.{PodSpec};
 ghost use Rattle.node_config.specs.declared.node.NodeConfig.{NodeConfig};
 ghost use Rattle.observations.specs.declared.tick.TickObs.{TickObs};
@@ -11,7 +11,7 @@ ghost use Rattle.tick_round.specs.Node.{IsAfter};
 ghost use Rattle.node_report.specs.Report.{IsReport};
 ghost use Rattle.trace_replay.specs.Report.{IsReportOf};
 
-use crate::replayed::{replayed_by_steps, replayed_by_workers};
+use crate::replayed::{take_by_steps, take_by_workers};
 use event_book::WholeBook;
 use node_report::report_text;
 use std::alloc::{AllocError, Global};
@@ -19,7 +19,7 @@ use std::marker::Brand;
 use std::sync::Wait;
 use std::sync::ledger::{Blank, Ledger};
 use std::thread::Threads;
-use tick_round::{Gate, Node, Step};
+use tick_round::{Gate, Node, Step, TickFault};
 use trace::Trace;
 
 /// Into so many parts the shares of a book can be cut: one for each of 64 workers, and one that stays.
@@ -62,6 +62,22 @@ fn report_of<U: Ledger, E: Ledger, O: Ledger>(
     Ok(report)
 }
 
+/// The report of a node, where it has taken all its ticks.
+fn report_after<U: Ledger, E: Ledger, O: Ledger>(
+    alloc: Global,
+    taken: Result<(), TickFault>,
+    node: &Node<U, E, O>,
+) -> Result<String, AllocError>
+    ensures { (config : NodeConfig) (pods : List PodSpec) (ticks : List TickObs)
+        → OnOk taken (IsAfter config pods ticks node.now)
+        → IfOk result (λ s. IsReport config ticks pods (string_bytes s)) }
+{
+    match taken {
+        Ok(()) => report_of(alloc, node),
+        Err(_) => Err(AllocError),
+    }
+}
+
 /// The report of a trace, on a node with a book over these ledgers, each of whose ticks is a round that so
 /// many workers play by these steps.
 fn played<U: Ledger, E: Ledger, O: Ledger>(
@@ -89,10 +105,17 @@ fn played<U: Ledger, E: Ledger, O: Ledger>(
     } = trace;
     let book = WholeBook::<U, E, O>::new(blanks.updates, blanks.events, blanks.orders);
     let (pods, ticks) = (pods.into_vec(), ticks.into_vec());
-    let Ok(node) = replayed_by_steps(alloc, node, pods, ticks, book, workers, steps) else {
-        return Err(AllocError);
+    let mut node = match Node::new(alloc, node, Vec::new(alloc), book) {
+        Ok(node) => node,
+        Err(fault) => {
+            drop((pods, ticks));
+            return Err(fault);
+        }
     };
-    report_of(alloc, &node)
+    let taken = take_by_steps(&mut node, pods, ticks, workers, steps);
+    let report = report_after(alloc, taken, &node);
+    drop(node);
+    report
 }
 
 /// The same, where so many workers update the pods of each tick in threads of their own.
@@ -122,10 +145,17 @@ fn shared<U: Ledger + Send, E: Ledger + Send, O: Ledger + Send, R: Threads + Wai
     } = trace;
     let book = WholeBook::<U, E, O>::new(blanks.updates, blanks.events, blanks.orders);
     let (pods, ticks) = (pods.into_vec(), ticks.into_vec());
-    let Ok(node) = replayed_by_workers(rt, alloc, node, pods, ticks, book, workers, gate) else {
-        return Err(AllocError);
+    let mut node = match Node::new(alloc, node, Vec::new(alloc), book) {
+        Ok(node) => node,
+        Err(fault) => {
+            drop((pods, ticks));
+            return Err(fault);
+        }
     };
-    report_of(alloc, &node)
+    let taken = take_by_workers(rt, &mut node, pods, ticks, workers, gate);
+    let report = report_after(alloc, taken, &node);
+    drop(node);
+    report
 }
 
 /// The report of a trace, each of whose ticks is a round that so many workers play by these steps.
