@@ -57,7 +57,13 @@ fn node_in(alloc: Global, line: &Value) -> Result<NodeConfig, FaultKind>
 fn take_node(alloc: Global, reader: Reader, line: &Value) -> Result<Reader, FaultKind>
     ensures { Gives (λ r. r) result (with_node reader (view line.now)) }
 {
-    let node = node_in(alloc, line)?;
+    let node = match node_in(alloc, line) {
+        Ok(node) => node,
+        Err(kind) => {
+            drop(reader);
+            return Err(kind);
+        }
+    };
     let Reader {
         pods,
         arrivals,
@@ -100,29 +106,45 @@ fn with_pod(alloc: Global, reader: Reader, pod: PodSpec, key: String) -> Result<
         keys,
         following,
     } = reader;
-    let following = following.with_pod(alloc, pod.containers.as_slice().len())?;
+    let following = match following.with_pod(alloc, pod.containers.as_slice().len()) {
+        Ok(following) => following,
+        Err(error) => {
+            drop((node, pods, arrivals, ticks, keys, pod, key));
+            return Err(FaultKind::from(error));
+        }
+    };
     let mut roster = Roster {
         pods,
         arrivals,
         keys,
     };
-    enlist(&mut roster, pod, key, ticks.as_slice().len())?;
-    Ok(Reader {
-        node,
-        pods: roster.pods,
-        arrivals: roster.arrivals,
-        ticks,
-        keys: roster.keys,
-        following,
-    })
+    match enlist(&mut roster, pod, key, ticks.as_slice().len()) {
+        Ok(()) => Ok(Reader {
+            node,
+            pods: roster.pods,
+            arrivals: roster.arrivals,
+            ticks,
+            keys: roster.keys,
+            following,
+        }),
+        Err(error) => {
+            drop((node, ticks, roster, following));
+            Err(FaultKind::from(error))
+        }
+    }
 }
 
 /// Adds a pod, if its key is new.
 fn with_new_pod(alloc: Global, reader: Reader, pod: PodSpec) -> Result<Reader, FaultKind>
     ensures { Gives (λ r. r) result (with_new_pod reader pod) }
 {
-    let key = new_key(alloc, &reader, &pod)?;
-    with_pod(alloc, reader, pod, key)
+    match new_key(alloc, &reader, &pod) {
+        Ok(key) => with_pod(alloc, reader, pod, key),
+        Err(kind) => {
+            drop((reader, pod));
+            Err(kind)
+        }
+    }
 }
 
 /// Whether a pod line comes too late behind the ticks so far.
@@ -160,8 +182,13 @@ fn take_pod(
 ) -> Result<Reader, FaultKind>
     ensures { Gives (λ r. r) result (pod_line_at version reader (view line.now)) }
 {
-    let pod = pod_in(alloc, version, &reader, line)?;
-    with_new_pod(alloc, reader, pod)
+    match pod_in(alloc, version, &reader, line) {
+        Ok(pod) => with_new_pod(alloc, reader, pod),
+        Err(kind) => {
+            drop(reader);
+            Err(kind)
+        }
+    }
 }
 
 /// The version of the format, once there is a node.
@@ -194,10 +221,14 @@ fn take_in_order(
 ) -> Result<Reader, FaultKind>
     ensures { Gives (λ r. r) result (in_order (version_in reader) reader line_kind (view line.now)) }
 {
-    match turn_of(version_in(&reader), line_kind)? {
-        Turn::Node => take_node(alloc, reader, line),
-        Turn::Pod(version) => take_pod(alloc, version, reader, line),
-        Turn::Tick => take_tick(alloc, reader, line),
+    match turn_of(version_in(&reader), line_kind) {
+        Ok(Turn::Node) => take_node(alloc, reader, line),
+        Ok(Turn::Pod(version)) => take_pod(alloc, version, reader, line),
+        Ok(Turn::Tick) => take_tick(alloc, reader, line),
+        Err(kind) => {
+            drop(reader);
+            Err(kind)
+        }
     }
 }
 
@@ -206,18 +237,25 @@ fn take_in_order(
 fn take_value(alloc: Global, reader: Reader, line: &Value) -> Result<Reader, FaultKind>
     ensures { Gives (λ r. r) result (value_at reader (view line.now)) }
 {
-    let line_kind = kind_of_line(line)?;
-    take_in_order(alloc, reader, line_kind, line)
+    match kind_of_line(line) {
+        Ok(line_kind) => take_in_order(alloc, reader, line_kind, line),
+        Err(kind) => {
+            drop(reader);
+            Err(kind)
+        }
+    }
 }
 
 /// Takes a line.
 pub(crate) fn take_line(alloc: Global, reader: Reader, line: &TextLine) -> Result<Reader, FaultKind>
     ensures { Gives (λ r. r) result (any_line_at reader (data_of line.now)) }
 {
-    match line {
-        TextLine::Blank => Ok(reader),
-        TextLine::TooLong => Err(FaultKind::TooLong),
-        TextLine::NotJson => Err(FaultKind::NotJson),
-        TextLine::Json(value) => take_value(alloc, reader, value),
-    }
+    let kind = match line {
+        TextLine::Blank => return Ok(reader),
+        TextLine::Json(value) => return take_value(alloc, reader, value),
+        TextLine::TooLong => FaultKind::TooLong,
+        TextLine::NotJson => FaultKind::NotJson,
+    };
+    drop(reader);
+    Err(kind)
 }

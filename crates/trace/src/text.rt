@@ -71,10 +71,13 @@ fn finished(line: u64, reader: Reader) -> Result<Trace, LineFault>
         ..
     } = reader;
     match node {
-        None => Err(LineFault {
-            line,
-            kind: FaultKind::Order,
-        }),
+        None => {
+            drop((pods, arrivals, ticks));
+            Err(LineFault {
+                line,
+                kind: FaultKind::Order,
+            })
+        }
         Some(node) => Ok(Trace {
             node,
             pods,
@@ -92,6 +95,7 @@ fn read_alone(alloc: Global, text: &[u8]) -> Result<Trace, LineFault>
     let mut number = 1u64;
     while !rest.is_empty() {
         let Ok(window) = window_alone(alloc, rest) else {
+            drop(reader);
             return Err(no_memory(number));
         };
         let count = window.lines.len() as u64;
@@ -127,6 +131,7 @@ fn read_by_workers<R: Threads + Sync>(
     let mut number = 1u64;
     while !rest.is_empty() {
         let Ok(window) = window_by_workers(rt, alloc, rest, workers) else {
+            drop(reader);
             return Err(no_memory(number));
         };
         let count = window.lines.len() as u64;

@@ -309,15 +309,20 @@ fn with_tick(reader: Reader, tick: TickObs, following: Following) -> Result<Read
         keys,
         ..
     } = reader;
-    ticks.push(tick)?;
-    Ok(Reader {
-        node,
-        pods,
-        arrivals,
-        ticks,
-        keys,
-        following,
-    })
+    match ticks.push(tick) {
+        Ok(()) => Ok(Reader {
+            node,
+            pods,
+            arrivals,
+            ticks,
+            keys,
+            following,
+        }),
+        Err(error) => {
+            drop((node, pods, arrivals, ticks, keys, following));
+            Err(FaultKind::from(error))
+        }
+    }
 }
 
 /// The tick that a tick line says, and what follows the containers after it.
@@ -338,6 +343,11 @@ fn tick_in(alloc: Global, reader: &Reader, line: &Value) -> Result<(TickObs, Fol
 pub(crate) fn take_tick(alloc: Global, reader: Reader, line: &Value) -> Result<Reader, FaultKind>
     ensures { Gives (λ r. r) result (tick_at reader (view line.now)) }
 {
-    let (tick, following) = tick_in(alloc, &reader, line)?;
-    with_tick(reader, tick, following)
+    match tick_in(alloc, &reader, line) {
+        Ok((tick, following)) => with_tick(reader, tick, following),
+        Err(kind) => {
+            drop(reader);
+            Err(kind)
+        }
+    }
 }
