@@ -1,7 +1,7 @@
 -- The status with which the program ends, and the line on standard error.
 use Rattle.std.specs.Prelude.{ℕ, List, [], ◌∷◌, Option, Some, None, codes}
 use Rattle.std.specs.Fmt.{decimal}
-use Rattle.manifest_reader.specs.Fault.{number_of as manifest_number}
+use Rattle.manifest_fields.specs.Fault.{number_of as manifest_number}
 use Rattle.trace.specs.declared.fault.FaultKind.{FaultKind}
 use Rattle.trace.specs.declared.fault.FaultKind.TheVariants.{Manifest}
 use Rattle.trace.specs.Faults.{number_of, word_of}

@@ -5,15 +5,15 @@ use Rattle.std.specs.List.{flat_map}
 use Rattle.std.proofs.lemmas.List.{map-append}
 use Rattle.serde_json.specs.Data.{Data}
 use Rattle.json_fields.specs.Fields.{field_at}
-use Rattle.manifest_reader.specs.declared.fault.Field.TheVariants as fields
-use Rattle.manifest_reader.specs.declared.fault.ManifestFault.TheVariants.{Missing, InitProbe, RequestAboveLimit}
-use Rattle.manifest_reader.specs.declared.fault.ManifestFault.TheVariants.{DuplicateContainer, TooMany}
+use Rattle.manifest_fields.specs.declared.fault.Field.TheVariants as fields
+use Rattle.manifest_fields.specs.declared.fault.ManifestFault.TheVariants.{Missing, InitProbe, RequestAboveLimit}
+use Rattle.manifest_fields.specs.declared.fault.ManifestFault.TheVariants.{DuplicateContainer, TooMany}
 use Rattle.manifest.specs.declared.pod.Place.{Place}
 use Rattle.manifest.specs.declared.pod.Place.TheVariants.{InitContainers, Containers}
 use Rattle.manifest.specs.Names.{is_name, is_label}
 use Rattle.manifest.specs.Resources.{some_above}
-use Rattle.manifest_reader.specs.ResourceFields.{quantity_at}
-use Rattle.manifest_reader.specs.ProbeFields.{greatest, number_of}
+use Rattle.manifest_fields.specs.ResourceFields.{quantity_at}
+use Rattle.manifest_fields.specs.ProbeFields.{greatest, number_of}
 use Rattle.manifest_reader.specs.Manifest.{field_of}
 use Rattle.manifest_reader.specs.Found.{fault_of, fails_if, is_so, must_be, may_be, at, is_object, is_array, is_text}
 use Rattle.manifest_reader.specs.Found.{is_policy, is_priority, is_grace_period, items_in, is_empty, amounts_at}

@@ -1,4 +1,3 @@
-pub mod Arrays
 pub mod Placed
 pub mod EachItem
 pub mod Rows

@@ -9,26 +9,26 @@ use Rattle.quantity_fields.specs.Fields.{quantity_in}
 use Rattle.quantity_fields.specs.declared.fault.FieldFault.{FieldFault}
 use Rattle.quantity_fields.specs.declared.fault.FieldFault.TheVariants.{WrongKind as OtherKind, Faulty}
 use Rattle.manifest.specs.Names.{is_name, is_label}
-use Rattle.manifest_reader.specs.declared.fault.ManifestFault.{ManifestFault}
-use Rattle.manifest_reader.specs.declared.fault.ManifestFault.TheVariants.{Missing, WrongKind, Quantity, ProbeRange}
-use Rattle.manifest_reader.specs.declared.fault.ManifestFault.TheVariants.{InitProbe, RequestAboveLimit}
-use Rattle.manifest_reader.specs.declared.fault.ManifestFault.TheVariants.{DuplicateContainer, Sidecar, TooMany}
-use Rattle.manifest_reader.specs.declared.fault.ManifestFault.TheVariants.{OutOfMemory}
-use Rattle.manifest_reader.specs.declared.fault.Field.{Field}
-use Rattle.manifest_reader.specs.declared.fault.Field.TheVariants as fields
+use Rattle.manifest_fields.specs.declared.fault.ManifestFault.{ManifestFault}
+use Rattle.manifest_fields.specs.declared.fault.ManifestFault.TheVariants.{Missing, WrongKind, Quantity, ProbeRange}
+use Rattle.manifest_fields.specs.declared.fault.ManifestFault.TheVariants.{InitProbe, RequestAboveLimit}
+use Rattle.manifest_fields.specs.declared.fault.ManifestFault.TheVariants.{DuplicateContainer, Sidecar, TooMany}
+use Rattle.manifest_fields.specs.declared.fault.ManifestFault.TheVariants.{OutOfMemory}
+use Rattle.manifest_fields.specs.declared.fault.Field.{Field}
+use Rattle.manifest_fields.specs.declared.fault.Field.TheVariants as fields
 use Rattle.manifest.specs.declared.policy.Policy.TheVariants.{Always, OnFailure, Never}
 use Rattle.manifest.specs.declared.pod.Place.{Place}
 use Rattle.manifest.specs.declared.pod.Place.TheVariants.{InitContainers, Containers}
 use Rattle.manifest.specs.declared.pod.Role.{Role}
 use Rattle.manifest.specs.declared.pod.Role.TheVariants.{Init, Sidecar as IsSidecar, App}
-use Rattle.manifest_reader.specs.Fields.{object_of, tested_text, required_text, text_or, items_or, array_of}
-use Rattle.manifest_reader.specs.Fields.{array_or_none, some_items, absent}
+use Rattle.manifest_fields.specs.Fields.{object_of, tested_text, required_text, text_or, items_or, array_of}
+use Rattle.manifest_fields.specs.Fields.{array_or_none, some_items, absent}
 use Rattle.manifest.specs.Probe.{no_probes}
-use Rattle.manifest_reader.specs.ProbeFields.{not_from_0, number_from, number_of, probe_in, probe_of, some_probes}
-use Rattle.manifest_reader.specs.ProbeFields.{unprobed, probes_of}
+use Rattle.manifest_fields.specs.ProbeFields.{not_from_0, number_from, number_of, probe_in, probe_of, some_probes}
+use Rattle.manifest_fields.specs.ProbeFields.{unprobed, probes_of}
 use Rattle.manifest.specs.Resources.{nothing, no_resources, some_above}
-use Rattle.manifest_reader.specs.ResourceFields.{quantity_read, quantity_at, amounts_in, amounts_of, resources_in}
-use Rattle.manifest_reader.specs.ResourceFields.{resources_of}
+use Rattle.manifest_fields.specs.ResourceFields.{quantity_read, quantity_at, amounts_in, amounts_of, resources_in}
+use Rattle.manifest_fields.specs.ResourceFields.{resources_of}
 use Rattle.manifest_reader.specs.Manifest.{policy_from, policy_of, priority_from, priority_of, grace_period_from}
 use Rattle.manifest_reader.specs.Manifest.{grace_period_of, field_of, sidecar_from, role_of, container_of}
 use Rattle.manifest_reader.specs.Manifest.{containers_of, app_items_of, containers_in, metadata_of, settings_in}

@@ -8,13 +8,13 @@ use Rattle.serde_json.specs.Find.{as_str, as_number, as_i64, as_u64, as_array, a
 use Rattle.json_fields.specs.Fields.{field_at, items_list}
 use Rattle.json_fields.specs.Reading.{◌>>=◌, refused_if, each}
 use Rattle.json_fields.proofs.Steps.{bind_ok}
-use Rattle.manifest_reader.specs.declared.fault.Field.{Field}
-use Rattle.manifest_reader.specs.declared.fault.Field.TheVariants as fields
-use Rattle.manifest_reader.specs.declared.fault.ManifestFault.{ManifestFault}
-use Rattle.manifest_reader.specs.declared.fault.ManifestFault.TheVariants.{Missing, WrongKind, InitProbe}
-use Rattle.manifest_reader.specs.declared.fault.ManifestFault.TheVariants.{RequestAboveLimit, DuplicateContainer}
-use Rattle.manifest_reader.specs.declared.fault.ManifestFault.TheVariants.{TooMany}
-use Rattle.manifest_reader.specs.declared.fault.ManifestFault.TheVariants as faults
+use Rattle.manifest_fields.specs.declared.fault.Field.{Field}
+use Rattle.manifest_fields.specs.declared.fault.Field.TheVariants as fields
+use Rattle.manifest_fields.specs.declared.fault.ManifestFault.{ManifestFault}
+use Rattle.manifest_fields.specs.declared.fault.ManifestFault.TheVariants.{Missing, WrongKind, InitProbe}
+use Rattle.manifest_fields.specs.declared.fault.ManifestFault.TheVariants.{RequestAboveLimit, DuplicateContainer}
+use Rattle.manifest_fields.specs.declared.fault.ManifestFault.TheVariants.{TooMany}
+use Rattle.manifest_fields.specs.declared.fault.ManifestFault.TheVariants as faults
 use Rattle.manifest.specs.declared.policy.Policy.TheVariants.{Always, OnFailure, Never}
 use Rattle.manifest.specs.declared.pod.Role.{Role}
 use Rattle.manifest.specs.declared.pod.Role.TheVariants.{Init, Sidecar, App}
@@ -24,11 +24,11 @@ use Rattle.manifest.specs.declared.pod.Place.TheVariants.{InitContainers, Contai
 use Rattle.manifest.specs.declared.resources.Amounts.{Amounts}
 use Rattle.manifest.specs.Names.{is_name, is_label}
 use Rattle.manifest.specs.Containers.{names_of, has_twice}
-use Rattle.manifest_reader.specs.Fields.{object_of, tested_text, required_text, text_or, items_or, array_or_none}
-use Rattle.manifest_reader.specs.Fields.{some_items, absent}
+use Rattle.manifest_fields.specs.Fields.{object_of, tested_text, required_text, text_or, items_or, array_or_none}
+use Rattle.manifest_fields.specs.Fields.{some_items, absent}
 use Rattle.manifest.specs.Resources.{some_above}
-use Rattle.manifest_reader.specs.ResourceFields.{quantity_at, amounts_in, amounts_of, resources_in, resources_of}
-use Rattle.manifest_reader.specs.ProbeFields.{greatest, number_of, probe_in, probe_of, some_probes, unprobed, probes_of}
+use Rattle.manifest_fields.specs.ResourceFields.{quantity_at, amounts_in, amounts_of, resources_in, resources_of}
+use Rattle.manifest_fields.specs.ProbeFields.{greatest, number_of, probe_in, probe_of, some_probes, unprobed, probes_of}
 use Rattle.manifest_reader.specs.Manifest.{policy_from, policy_of, priority_from, priority_of, grace_period_from}
 use Rattle.manifest_reader.specs.Manifest.{grace_period_of, field_of, sidecar_from, role_of, container_of}
 use Rattle.manifest_reader.specs.Manifest.{containers_of, app_items_of, containers_in, metadata_of, settings_in}

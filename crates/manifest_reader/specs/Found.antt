@@ -7,9 +7,9 @@ use Rattle.std.specs.List.{list_any}
 use Rattle.serde_json.specs.Data.{Data, Items}
 use Rattle.serde_json.specs.Find.{as_str, as_number, as_i64, as_u64, as_array, as_object}
 use Rattle.json_fields.specs.Fields.{field_at, text_at, items_list}
-use Rattle.manifest_reader.specs.declared.fault.Field.{Field}
-use Rattle.manifest_reader.specs.declared.fault.ManifestFault.{ManifestFault}
-use Rattle.manifest_reader.specs.declared.fault.ManifestFault.TheVariants.{Missing, WrongKind, Sidecar}
+use Rattle.manifest_fields.specs.declared.fault.Field.{Field}
+use Rattle.manifest_fields.specs.declared.fault.ManifestFault.{ManifestFault}
+use Rattle.manifest_fields.specs.declared.fault.ManifestFault.TheVariants.{Missing, WrongKind, Sidecar}
 use Rattle.manifest.specs.declared.outcome.ProbeKind.{ProbeKind}
 use Rattle.manifest.specs.declared.outcome.ProbeKind.TheVariants.{Startup, Liveness, Readiness}
 use Rattle.manifest.specs.declared.pod.Place.{Place}
@@ -18,8 +18,8 @@ use Rattle.manifest.specs.declared.resources.Amounts.{Amounts}
 use Rattle.manifest.specs.declared.resources.Resource.{Resource}
 use Rattle.manifest.specs.declared.resources.Resource.TheVariants.{Cpu, Memory, EphemeralStorage}
 use Rattle.manifest.specs.Resources.{some_above}
-use Rattle.manifest_reader.specs.ResourceFields.{quantity_at}
-use Rattle.manifest_reader.specs.ProbeFields.{greatest, number_of}
+use Rattle.manifest_fields.specs.ResourceFields.{quantity_at}
+use Rattle.manifest_fields.specs.ProbeFields.{greatest, number_of}
 
 -- the fault of what was refused
 abbrev pub fault_of : {A : Type 0} → Result A ManifestFault → Option ManifestFault

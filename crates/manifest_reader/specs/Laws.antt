@@ -1,8 +1,8 @@
 -- What the definition of a manifest implies, in the words of the table of its checks.
 use Rattle.std.specs.Prelude.{◌≡◌, ◌≢◌, ◌↔◌, List, ◌∷◌, ◌++◌, All, Some, None, Ok, Err}
 use Rattle.serde_json.specs.Data.{Data}
-use Rattle.manifest_reader.specs.declared.fault.ManifestFault.{ManifestFault}
-use Rattle.manifest_reader.specs.declared.fault.ManifestFault.TheVariants.{OutOfMemory}
+use Rattle.manifest_fields.specs.declared.fault.ManifestFault.{ManifestFault}
+use Rattle.manifest_fields.specs.declared.fault.ManifestFault.TheVariants.{OutOfMemory}
 use Rattle.manifest.specs.declared.pod.PodSpec.{PodSpec}
 use Rattle.manifest_reader.specs.Manifest.{pod_at}
 use Rattle.manifest_reader.specs.Table.{Check, fault_at, checks_of}

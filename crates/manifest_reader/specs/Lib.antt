@@ -1,9 +1,3 @@
-pub mod Fault
-pub mod Gives
-pub mod Fields
-pub mod Grammar
-pub mod ProbeFields
-pub mod ResourceFields
 pub mod Manifest
 pub mod Found
 pub mod Table

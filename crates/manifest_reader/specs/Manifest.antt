@@ -7,11 +7,11 @@ use Rattle.serde_json.specs.Data.{Data}
 use Rattle.serde_json.specs.Find.{as_str, as_number, as_i64, as_u64}
 use Rattle.json_fields.specs.Fields.{field_at}
 use Rattle.json_fields.specs.Reading.{◌>>=◌, refused_if, each}
-use Rattle.manifest_reader.specs.declared.fault.Field.{Field}
-use Rattle.manifest_reader.specs.declared.fault.Field.TheVariants as fields
-use Rattle.manifest_reader.specs.declared.fault.ManifestFault.{ManifestFault}
-use Rattle.manifest_reader.specs.declared.fault.ManifestFault.TheVariants.{WrongKind, TooMany, DuplicateContainer}
-use Rattle.manifest_reader.specs.declared.fault.ManifestFault.TheVariants as faults
+use Rattle.manifest_fields.specs.declared.fault.Field.{Field}
+use Rattle.manifest_fields.specs.declared.fault.Field.TheVariants as fields
+use Rattle.manifest_fields.specs.declared.fault.ManifestFault.{ManifestFault}
+use Rattle.manifest_fields.specs.declared.fault.ManifestFault.TheVariants.{WrongKind, TooMany, DuplicateContainer}
+use Rattle.manifest_fields.specs.declared.fault.ManifestFault.TheVariants as faults
 use Rattle.manifest.specs.declared.policy.Policy.{Policy}
 use Rattle.manifest.specs.declared.policy.Policy.TheVariants.{Always, OnFailure, Never}
 use Rattle.manifest.specs.declared.pod.Role.{Role}
@@ -24,9 +24,9 @@ use Rattle.manifest_reader.specs.declared.reading.Metadata.{Metadata}
 use Rattle.manifest_reader.specs.declared.reading.Settings.{Settings}
 use Rattle.manifest_reader.specs.declared.reading.Spec.{Spec}
 use Rattle.manifest.specs.Names.{is_name, is_label}
-use Rattle.manifest_reader.specs.Fields.{object_of, array_of, array_or_none, some_items, required_text, text_or}
-use Rattle.manifest_reader.specs.ProbeFields.{probes_of}
-use Rattle.manifest_reader.specs.ResourceFields.{resources_of}
+use Rattle.manifest_fields.specs.Fields.{object_of, array_of, array_or_none, some_items, required_text, text_or}
+use Rattle.manifest_fields.specs.ProbeFields.{probes_of}
+use Rattle.manifest_fields.specs.ResourceFields.{resources_of}
 use Rattle.manifest.specs.Containers.{has_twice}
 
 abbrev pub policy_from : Option (List ℕ) → Result Policy ManifestFault

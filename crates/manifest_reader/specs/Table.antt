@@ -5,10 +5,10 @@ use Rattle.std.specs.Prelude.{nat_lt, ◌+◌, List, [], ◌∷◌, ◌++◌, le
 use Rattle.std.specs.List.{flat_map}
 use Rattle.serde_json.specs.Data.{Data}
 use Rattle.json_fields.specs.Fields.{field_at}
-use Rattle.manifest_reader.specs.declared.fault.Field.TheVariants as fields
-use Rattle.manifest_reader.specs.declared.fault.ManifestFault.{ManifestFault}
-use Rattle.manifest_reader.specs.declared.fault.ManifestFault.TheVariants.{Missing, InitProbe, RequestAboveLimit}
-use Rattle.manifest_reader.specs.declared.fault.ManifestFault.TheVariants.{DuplicateContainer, TooMany}
+use Rattle.manifest_fields.specs.declared.fault.Field.TheVariants as fields
+use Rattle.manifest_fields.specs.declared.fault.ManifestFault.{ManifestFault}
+use Rattle.manifest_fields.specs.declared.fault.ManifestFault.TheVariants.{Missing, InitProbe, RequestAboveLimit}
+use Rattle.manifest_fields.specs.declared.fault.ManifestFault.TheVariants.{DuplicateContainer, TooMany}
 use Rattle.manifest.specs.declared.outcome.ProbeKind.{ProbeKind}
 use Rattle.manifest.specs.declared.outcome.ProbeKind.TheVariants.{Startup, Liveness, Readiness}
 use Rattle.manifest.specs.declared.pod.Place.{Place}
@@ -16,8 +16,8 @@ use Rattle.manifest.specs.declared.pod.Place.TheVariants.{InitContainers, Contai
 use Rattle.manifest.specs.declared.resources.Resource.{Resource}
 use Rattle.manifest.specs.declared.resources.Resource.TheVariants.{Cpu, Memory, EphemeralStorage}
 use Rattle.manifest.specs.Names.{is_name, is_label}
-use Rattle.manifest_reader.specs.ResourceFields.{quantity_at}
-use Rattle.manifest_reader.specs.ProbeFields.{greatest}
+use Rattle.manifest_fields.specs.ResourceFields.{quantity_at}
+use Rattle.manifest_fields.specs.ProbeFields.{greatest}
 use Rattle.manifest_reader.specs.Manifest.{field_of}
 use Rattle.manifest_reader.specs.Found.{fault_of, fails_if, is_so, must_be, may_be, is_object, is_array, is_text}
 use Rattle.manifest_reader.specs.Found.{is_policy, is_priority, is_grace_period, is_empty, has_request_above_limit}

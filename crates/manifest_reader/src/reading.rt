@@ -5,19 +5,19 @@ ghost use Rattle.std.specs.List.{list_any};
 ghost use Rattle.serde_json.specs.View.{view};
 ghost use Rattle.json_fields.specs.Reading.{each};
 ghost use Rattle.manifest.specs.declared.pod.Role.TheVariants.{Sidecar};
-ghost use Rattle.manifest_reader.specs.Gives.{Gives, GivesExactly};
+ghost use Rattle.manifest_fields.specs.Gives.{Gives, GivesExactly};
 ghost use Rattle.manifest.specs.Containers.{has_twice, MayHave, IsOf, AllOf};
 ghost use Rattle.manifest_reader.specs.Manifest.{policy_of, priority_from, priority_of, grace_period_from};
 ghost use Rattle.manifest_reader.specs.Manifest.{grace_period_of, field_of, sidecar_from, role_of, container_of, few};
 ghost use Rattle.manifest_reader.specs.Manifest.{apart, containers_of, app_items_of, containers_in, metadata_of};
 ghost use Rattle.manifest_reader.specs.Manifest.{settings_in, spec_of, pod_at};
 
-use crate::fault::{Field, ManifestFault};
-use crate::fields::{Grammar, array, array_or_none, object, required_text, some_items, text_or};
-use crate::probe_fields::probes_of;
-use crate::resource_fields::resources_of;
 use json_fields::field;
 use manifest::{ContainerList, ContainerSpec, GracePeriod, Place, PodSpec, Policy, Role, Text};
+use manifest_fields::{
+    Field, Grammar, ManifestFault, array, array_or_none, object, probes_of, required_text,
+    resources_of, some_items, text_or,
+};
 use serde_json::Value;
 use std::alloc::{AllocError, Global};
 

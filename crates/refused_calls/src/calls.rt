@@ -60,8 +60,13 @@ fn over_book<U: Ledger + Send, E: Ledger + Send, O: Ledger + Send, R: Threads + 
         × (blanks.orders.parts ≡ O.parts) }
     requires level { (U.parts ≡ most_parts) × (E.parts ≡ most_parts) × (O.parts ≡ most_parts) }
 {
-    let mut node = node_of::<U, E, O>(alloc, blanks, call.has_all())?;
-    on(rt, alloc, &mut node, call)
+    let mut node = match node_of::<U, E, O>(alloc, blanks, call.has_all()) {
+        Ok(node) => node,
+        Err(unprepared) => return Err(unprepared),
+    };
+    let saw = on(rt, alloc, &mut node, call);
+    drop(node);
+    saw
 }
 
 /// The call, on a node of its own.

@@ -139,8 +139,16 @@ fn begun_again<U: Ledger + Send, E: Ledger + Send, O: Ledger + Send, R: Threads 
 {
     let saw = Saw::Refused("pieces and share come back as they were, and are updated");
     match update_all(rt, alloc, pieces, book, share, WORKERS, &NoGate) {
-        Ok((pieces, _share)) => updated(alloc, &pieces, End::MadeAgain, saw),
-        Err(_) => Ok((End::MadeAgain, Saw::Wrong("the second call is refused"))),
+        Ok((pieces, share)) => {
+            let saw = updated(alloc, &pieces, End::MadeAgain, saw);
+            drop((pieces, share));
+            saw
+        }
+        Err(fault) => {
+            drop(fault);
+            let saw = Saw::Wrong("the second call is refused");
+            Ok((End::MadeAgain, saw))
+        }
     }
 }
 
@@ -157,11 +165,17 @@ fn not_begun<U: Ledger + Send, E: Ledger + Send, O: Ledger + Send, R: Threads + 
     requires level { (U.parts ≡ most_parts) × (E.parts ≡ most_parts) × (O.parts ≡ most_parts) }
     requires low { AreLow share.numbers }
 {
-    if are_both(alloc, &pieces, Stage::Pending)? {
-        begun_again(rt, alloc, book, pieces, share)
-    } else {
-        let saw = Saw::Wrong("the pieces are other than they were");
-        Ok((End::MadeAgain, saw))
+    match are_both(alloc, &pieces, Stage::Pending) {
+        Ok(true) => begun_again(rt, alloc, book, pieces, share),
+        Ok(false) => {
+            drop((pieces, share));
+            let saw = Saw::Wrong("the pieces are other than they were");
+            Ok((End::MadeAgain, saw))
+        }
+        Err(unprepared) => {
+            drop((pieces, share));
+            Err(unprepared)
+        }
     }
 }
 
@@ -179,9 +193,17 @@ fn played<U: Ledger + Send, E: Ledger + Send, O: Ledger + Send, R: Threads + Wai
     requires low { AreLow share.numbers }
 {
     match update_all(rt, alloc, pieces, book, share, WORKERS, &NoGate) {
-        Ok((pieces, _share)) => updated(alloc, &pieces, End::Made, Saw::Done),
+        Ok((pieces, share)) => {
+            let saw = updated(alloc, &pieces, End::Made, Saw::Done);
+            drop((pieces, share));
+            saw
+        }
         Err(PoolFault::NoRoom(pieces, share)) => not_begun(rt, alloc, book, pieces, share),
-        Err(PoolFault::Update(piece)) => given_up(alloc, &piece),
+        Err(PoolFault::Update(piece)) => {
+            let saw = given_up(alloc, &piece);
+            drop(piece);
+            saw
+        }
     }
 }
 

@@ -9,22 +9,22 @@ use Rattle.serde_json.specs.Find.{as_number, as_i64, as_u64}
 use Rattle.json_fields.specs.Fields.{field_at}
 use Rattle.json_fields.specs.Reading.{each}
 use Rattle.json_fields.proofs.Steps.{bind_ok}
-use Rattle.manifest_reader.specs.declared.fault.Field.TheVariants as fields
-use Rattle.manifest_reader.specs.declared.fault.ManifestFault.{ManifestFault}
-use Rattle.manifest_reader.specs.declared.fault.ManifestFault.TheVariants.{ProbeRange, InitProbe}
+use Rattle.manifest_fields.specs.declared.fault.Field.TheVariants as fields
+use Rattle.manifest_fields.specs.declared.fault.ManifestFault.{ManifestFault}
+use Rattle.manifest_fields.specs.declared.fault.ManifestFault.TheVariants.{ProbeRange, InitProbe}
 use Rattle.manifest.specs.declared.pod.ContainerSpec.{ContainerSpec}
 use Rattle.manifest.specs.declared.pod.PodSpec.{PodSpec}
 use Rattle.manifest.specs.declared.pod.Role.{Role}
 use Rattle.manifest.specs.declared.pod.Role.TheVariants.{Init, Sidecar, App}
-use Rattle.manifest_reader.specs.Fields.{object_of, array_or_none, required_text, absent}
+use Rattle.manifest_fields.specs.Fields.{object_of, array_or_none, required_text, absent}
 use Rattle.manifest_reader.specs.Manifest.{field_of, role_of, container_of, few, apart, containers_of, app_items_of}
 use Rattle.manifest_reader.specs.Manifest.{containers_in, metadata_of, settings_in, spec_of, pod_at}
 use Rattle.manifest.specs.Names.{is_label}
 use Rattle.manifest.specs.Probe.{Probe, Probes, IsInRange, HasNumbersInRange}
-use Rattle.manifest_reader.specs.ProbeFields.{greatest, not_from_0, in_range, number_from, number_of, probe_in}
-use Rattle.manifest_reader.specs.ProbeFields.{probe_of}
-use Rattle.manifest_reader.specs.ProbeFields.{some_probes, unprobed, probes_of}
-use Rattle.manifest_reader.specs.ResourceFields.{resources_of}
+use Rattle.manifest_fields.specs.ProbeFields.{greatest, not_from_0, in_range, number_from, number_of, probe_in}
+use Rattle.manifest_fields.specs.ProbeFields.{probe_of}
+use Rattle.manifest_fields.specs.ProbeFields.{some_probes, unprobed, probes_of}
+use Rattle.manifest_fields.specs.ResourceFields.{resources_of}
 use Rattle.trace.specs.declared.past.Trace.{Trace}
 use Rattle.trace.specs.Laws.{Says, says_node, says_pod, says_tick}
 use Rattle.trace.specs.Past.{Past}

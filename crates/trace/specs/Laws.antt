@@ -35,8 +35,8 @@ use Rattle.trace.specs.Pod.{key_of_pod, keys_of, pod_from}
 use Rattle.trace.specs.Placing.{placed_of, has_twice, are_of_one_pod, are_of_one_probe, is_doubled}
 use Rattle.trace.specs.Observed.{seen_listed, outcome_in, observed, some_code_missing}
 use Rattle.following.specs.Backwards.{is_backwards}
-use Rattle.manifest_reader.specs.declared.fault.ManifestFault.{ManifestFault}
-use Rattle.manifest_reader.specs.declared.fault.ManifestFault.TheVariants as manifest_faults
+use Rattle.manifest_fields.specs.declared.fault.ManifestFault.{ManifestFault}
+use Rattle.manifest_fields.specs.declared.fault.ManifestFault.TheVariants as manifest_faults
 use Rattle.manifest.specs.declared.pod.PodSpec.{PodSpec}
 use Rattle.observations.specs.Pods.{PodObs}
 use Rattle.observations.specs.declared.tick.TickObs.{TickObs}

@@ -3,9 +3,9 @@ use Rattle.std.specs.Prelude.{ℕ, ⊤, nat_le, Bool, List, ◌∷◌, ◌++◌,
 use Rattle.std.specs.Prelude.{Ok, Err}
 use Rattle.observations.specs.Limits.{most_pods}
 use Rattle.serde_json.specs.Data.{Data}
-use Rattle.manifest_reader.specs.declared.fault.ManifestFault.{ManifestFault}
-use Rattle.manifest_reader.specs.declared.fault.ManifestFault.TheVariants.{Missing}
-use Rattle.manifest_reader.specs.declared.fault.Field.TheVariants as fields
+use Rattle.manifest_fields.specs.declared.fault.ManifestFault.{ManifestFault}
+use Rattle.manifest_fields.specs.declared.fault.ManifestFault.TheVariants.{Missing}
+use Rattle.manifest_fields.specs.declared.fault.Field.TheVariants as fields
 use Rattle.manifest.specs.declared.pod.PodSpec.{PodSpec}
 use Rattle.manifest_reader.specs.Manifest.{pod_at}
 use Rattle.json_fields.specs.Reading.{◌>>=◌, refused_if, some_or}

@@ -14,10 +14,10 @@ use Rattle.observations.specs.declared.tick.TickObs.{TickObs}
 use Rattle.tick_lines.specs.declared.entry.Entry.{Entry}
 use Rattle.tick_lines.specs.declared.probing.ProbeResult.{ProbeResult}
 use Rattle.json_lines.specs.Lines.{lines_of, json_in}
-use Rattle.manifest_reader.specs.declared.fault.ManifestFault.{ManifestFault}
-use Rattle.manifest_reader.specs.declared.fault.ManifestFault.TheVariants.{Missing}
-use Rattle.manifest_reader.specs.declared.fault.ManifestFault.TheVariants as faults
-use Rattle.manifest_reader.specs.declared.fault.Field.TheVariants as fields
+use Rattle.manifest_fields.specs.declared.fault.ManifestFault.{ManifestFault}
+use Rattle.manifest_fields.specs.declared.fault.ManifestFault.TheVariants.{Missing}
+use Rattle.manifest_fields.specs.declared.fault.ManifestFault.TheVariants as faults
+use Rattle.manifest_fields.specs.declared.fault.Field.TheVariants as fields
 use Rattle.manifest.specs.Containers.{names_of}
 use Rattle.name_list.specs.Names.{place_of}
 use Rattle.tick_lines.specs.declared.listing.Listing.{Listing}

@@ -2,12 +2,12 @@
 use Rattle.std.specs.Prelude.{ℕ}
 use Rattle.quantity_fields.specs.declared.fault.FieldFault.{FieldFault}
 use Rattle.quantity_fields.specs.declared.fault.FieldFault.TheVariants.{WrongKind as OtherKind, Faulty}
-use Rattle.manifest_reader.specs.declared.fault.Field.TheVariants as fields
-use Rattle.manifest_reader.specs.declared.fault.ManifestFault.{ManifestFault}
-use Rattle.manifest_reader.specs.declared.fault.ManifestFault.TheVariants.{Missing, WrongKind, Quantity, ProbeRange}
-use Rattle.manifest_reader.specs.declared.fault.ManifestFault.TheVariants.{InitProbe, RequestAboveLimit}
-use Rattle.manifest_reader.specs.declared.fault.ManifestFault.TheVariants.{DuplicateContainer, Sidecar, TooMany}
-use Rattle.manifest_reader.specs.declared.fault.ManifestFault.TheVariants.{OutOfMemory}
+use Rattle.manifest_fields.specs.declared.fault.Field.TheVariants as fields
+use Rattle.manifest_fields.specs.declared.fault.ManifestFault.{ManifestFault}
+use Rattle.manifest_fields.specs.declared.fault.ManifestFault.TheVariants.{Missing, WrongKind, Quantity, ProbeRange}
+use Rattle.manifest_fields.specs.declared.fault.ManifestFault.TheVariants.{InitProbe, RequestAboveLimit}
+use Rattle.manifest_fields.specs.declared.fault.ManifestFault.TheVariants.{DuplicateContainer, Sidecar, TooMany}
+use Rattle.manifest_fields.specs.declared.fault.ManifestFault.TheVariants.{OutOfMemory}
 
 abbrev pub number_of : ManifestFault → ℕ
 number_of (Missing field) = 11

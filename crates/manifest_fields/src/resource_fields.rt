@@ -2,10 +2,10 @@
 
 ghost use Rattle.std.specs.Prelude.{◌≡◌, false, option_map, OnOk};
 ghost use Rattle.serde_json.specs.View.{view};
-ghost use Rattle.manifest_reader.specs.Gives.{GivesExactly};
+ghost use Rattle.manifest_fields.specs.Gives.{GivesExactly};
 ghost use Rattle.manifest.specs.Resources.{some_above};
-ghost use Rattle.manifest_reader.specs.ResourceFields.{quantity_at, amounts_in, amounts_of, within, resources_in};
-ghost use Rattle.manifest_reader.specs.ResourceFields.{resources_of};
+ghost use Rattle.manifest_fields.specs.ResourceFields.{quantity_at, amounts_in, amounts_of, within, resources_in};
+ghost use Rattle.manifest_fields.specs.ResourceFields.{resources_of};
 
 use crate::fault::{Field, ManifestFault};
 use crate::fields::object;
@@ -69,7 +69,9 @@ fn resources_in(value: &Value) -> Result<Resources, ManifestFault>
     Ok(Resources::new(requests, limits))
 }
 
-pub(crate) fn resources_of(found: Option<&Value>) -> Result<Resources, ManifestFault>
+/// The resources of a container: its requests, then its limits, each quantity in its order, then that no request is
+/// above its limit, else `RequestAboveLimit`. (Kubernetes, "Resource Management for Pods and Containers".)
+pub fn resources_of(found: Option<&Value>) -> Result<Resources, ManifestFault>
     ensures { GivesExactly (λ r. r) result (resources_of (option_map (λ v. view v.now) found.entry)) }
 {
     match found {

@@ -2,17 +2,18 @@
 
 ghost use Rattle.std.specs.Prelude.{◌≡◌, ◌<◌, length, map, option_map, IfOk};
 ghost use Rattle.serde_json.specs.View.{view};
-ghost use Rattle.manifest_reader.specs.Gives.{Gives, GivesExactly};
-ghost use Rattle.manifest_reader.specs.Fields.{object_of, array_of, array_or_none, some_items, text_of};
-ghost use Rattle.manifest_reader.specs.Fields.{required_text, text_or, absent};
-ghost use Rattle.manifest_reader.specs.Grammar.{passes};
+ghost use Rattle.manifest_fields.specs.Gives.{Gives, GivesExactly};
+ghost use Rattle.manifest_fields.specs.Fields.{object_of, array_of, array_or_none, some_items, text_of};
+ghost use Rattle.manifest_fields.specs.Fields.{required_text, text_or, absent};
+ghost use Rattle.manifest_fields.specs.Grammar.{passes};
 
 use crate::fault::{Field, ManifestFault};
 use manifest::{Text, is_label, is_name};
 use serde_json::Value;
 use std::alloc::Global;
 
-pub(crate) fn object(field: Field, found: Option<&Value>) -> Result<&Value, ManifestFault>
+/// An object. `Missing` where there is none, `WrongKind` where it is another value; both name the field.
+pub fn object(field: Field, found: Option<&Value>) -> Result<&Value, ManifestFault>
     ensures { GivesExactly (λ v. view v.now) result (object_of field (option_map (λ v. view v.now) found.entry)) }
 {
     match found {
@@ -22,7 +23,8 @@ pub(crate) fn object(field: Field, found: Option<&Value>) -> Result<&Value, Mani
     }
 }
 
-pub(crate) fn array(field: Field, found: Option<&Value>) -> Result<&[Value], ManifestFault>
+/// An array's items. `Missing` where there is none, `WrongKind` where it is another value.
+pub fn array(field: Field, found: Option<&Value>) -> Result<&[Value], ManifestFault>
     ensures { GivesExactly (λ v. map view v.now) result (array_of field (option_map (λ v. view v.now) found.entry)) }
 {
     let Some(value) = found else {
@@ -34,7 +36,8 @@ pub(crate) fn array(field: Field, found: Option<&Value>) -> Result<&[Value], Man
     }
 }
 
-pub(crate) fn array_or_none(field: Field, found: Option<&Value>) -> Result<&[Value], ManifestFault>
+/// An array's items, none where it is left out. `WrongKind` where it is another value.
+pub fn array_or_none(field: Field, found: Option<&Value>) -> Result<&[Value], ManifestFault>
     ensures { GivesExactly (λ v. map view v.now) result
         (array_or_none field (option_map (λ v. view v.now) found.entry)) }
 {
@@ -44,7 +47,8 @@ pub(crate) fn array_or_none(field: Field, found: Option<&Value>) -> Result<&[Val
     array(field, found)
 }
 
-pub(crate) fn some_items(field: Field, values: &[Value]) -> Result<&[Value], ManifestFault>
+/// Items of which there has to be one at least; else they are `Missing`.
+pub fn some_items(field: Field, values: &[Value]) -> Result<&[Value], ManifestFault>
     ensures gives { GivesExactly (λ v. map view v.now) result (some_items field (map view values.now)) }
     ensures same { IfOk result (λ v. (v.now ≡ values.now) × (0 < length v.now)) }
 {
@@ -55,7 +59,7 @@ pub(crate) fn some_items(field: Field, values: &[Value]) -> Result<&[Value], Man
 }
 
 /// A field that has to be absent.
-pub(crate) fn absent(fault: ManifestFault, found: Option<&Value>) -> Result<(), ManifestFault>
+pub fn absent(fault: ManifestFault, found: Option<&Value>) -> Result<(), ManifestFault>
     ensures { GivesExactly (λ t. t) result (absent fault (option_map (λ v. view v.now) found.entry)) }
 {
     match found {
@@ -66,7 +70,7 @@ pub(crate) fn absent(fault: ManifestFault, found: Option<&Value>) -> Result<(), 
 
 /// The two kinds of name.
 #[derive(Clone, Copy, PartialEq, Eq)]
-pub(crate) enum Grammar {
+pub enum Grammar {
     Name,
     Label,
 }
@@ -91,7 +95,8 @@ fn text(alloc: Global, grammar: Grammar, field: Field, value: &Value) -> Result<
     }
 }
 
-pub(crate) fn required_text(
+/// A text of this grammar. `Missing` where there is none, `WrongKind` where it is another value or no such name.
+pub fn required_text(
     alloc: Global,
     grammar: Grammar,
     field: Field,
@@ -105,7 +110,8 @@ pub(crate) fn required_text(
     }
 }
 
-pub(crate) fn text_or(
+/// A text of this grammar, the default where it is left out. `WrongKind` where it is another value or no such name.
+pub fn text_or(
     alloc: Global,
     default: &str,
     grammar: Grammar,

@@ -5,13 +5,13 @@ use Rattle.json_fields.specs.Fields.{field_at}
 use Rattle.json_fields.specs.Reading.{◌>>=◌, refused_if}
 use Rattle.quantity_fields.specs.Fields.{quantity_in}
 use Rattle.quantity_fields.specs.declared.fault.FieldFault.{FieldFault}
-use Rattle.manifest_reader.specs.declared.fault.Field.TheVariants as fields
-use Rattle.manifest_reader.specs.declared.fault.ManifestFault.{ManifestFault}
-use Rattle.manifest_reader.specs.declared.fault.ManifestFault.TheVariants.{RequestAboveLimit}
+use Rattle.manifest_fields.specs.declared.fault.Field.TheVariants as fields
+use Rattle.manifest_fields.specs.declared.fault.ManifestFault.{ManifestFault}
+use Rattle.manifest_fields.specs.declared.fault.ManifestFault.TheVariants.{RequestAboveLimit}
 use Rattle.manifest.specs.declared.resources.Amounts.{Amounts}
-use Rattle.manifest_reader.specs.Fault.{resource_fault}
+use Rattle.manifest_fields.specs.Fault.{resource_fault}
 use Rattle.manifest.specs.Resources.{Resources, nothing, no_resources, some_above}
-use Rattle.manifest_reader.specs.Fields.{object_of}
+use Rattle.manifest_fields.specs.Fields.{object_of}
 
 abbrev pub quantity_read : Result ℕ FieldFault → Result ℕ ManifestFault
 quantity_read (Ok thousandths) = Ok thousandths

@@ -1,5 +1,5 @@
-use Rattle.manifest_reader.proofs.Arrays.{items_or_found}
-use Rattle.manifest_reader.proofs.fields.array.Goals as goal
+use Rattle.manifest_fields.proofs.Arrays.{items_or_found}
+use Rattle.manifest_fields.proofs.fields.array.Goals as goal
 
 pub returns-in-Some-as_array : goal.returns-in-Some-as_array
 returns-in-Some-as_array c = rw (c.in-Some.is, c.as_slice.ensures.value)

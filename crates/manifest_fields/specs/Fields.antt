@@ -4,9 +4,9 @@ use Rattle.serde_json.specs.Data.{Data, Items}
 use Rattle.serde_json.specs.Find.{as_object, as_array, as_str}
 use Rattle.json_fields.specs.Fields.{items_list}
 use Rattle.json_fields.specs.Reading.{refused_if}
-use Rattle.manifest_reader.specs.declared.fault.Field.{Field}
-use Rattle.manifest_reader.specs.declared.fault.ManifestFault.{ManifestFault}
-use Rattle.manifest_reader.specs.declared.fault.ManifestFault.TheVariants.{Missing, WrongKind}
+use Rattle.manifest_fields.specs.declared.fault.Field.{Field}
+use Rattle.manifest_fields.specs.declared.fault.ManifestFault.{ManifestFault}
+use Rattle.manifest_fields.specs.declared.fault.ManifestFault.TheVariants.{Missing, WrongKind}
 
 -- an object that must stand there
 abbrev pub object_of : Field → Option Data → Result Data ManifestFault

@@ -3,10 +3,10 @@
 ghost use Rattle.std.specs.Prelude.{◌≡◌, ◌≤◌, ◌<◌, ◌^◌, option_map, IfOk};
 ghost use Rattle.serde_json.specs.View.{view};
 ghost use Rattle.manifest.specs.declared.pod.Role.TheVariants.{Init};
-ghost use Rattle.manifest_reader.specs.Gives.{GivesExactly};
+ghost use Rattle.manifest_fields.specs.Gives.{GivesExactly};
 ghost use Rattle.manifest.specs.Probe.{SucceedsByOne, no_probes};
-ghost use Rattle.manifest_reader.specs.ProbeFields.{in_range, number_of, probe_in, probe_of, some_probes, unprobed};
-ghost use Rattle.manifest_reader.specs.ProbeFields.{probes_of};
+ghost use Rattle.manifest_fields.specs.ProbeFields.{in_range, number_of, probe_in, probe_of, some_probes, unprobed};
+ghost use Rattle.manifest_fields.specs.ProbeFields.{probes_of};
 
 use crate::fault::{Field, ManifestFault};
 use crate::fields::{absent, object};
@@ -97,7 +97,10 @@ fn unprobed(container: &Value) -> Result<Probes, ManifestFault>
     Ok(Probes::none())
 }
 
-pub(crate) fn probes_of(role: Role, container: &Value) -> Result<Probes, ManifestFault>
+/// The probes of a container, field by field. An init container has none: `InitProbe` where one is written. A number
+/// outside of its range is `ProbeRange`, and another value `WrongKind`. (Kubernetes, "Configure Liveness, Readiness and
+/// Startup Probes".)
+pub fn probes_of(role: Role, container: &Value) -> Result<Probes, ManifestFault>
     ensures gives { GivesExactly (λ p. p) result (probes_of role (view container.now)) }
     ensures unprobed { role ≡ Init → IfOk result (λ p. p ≡ no_probes) }
 {

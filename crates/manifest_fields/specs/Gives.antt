@@ -1,8 +1,8 @@
 -- What a call answers beside what the definition of a manifest gives.
 use Rattle.std.specs.Prelude.{Bool, true, false, Result}
 use Rattle.json_fields.specs.Reading.{GivesUnless}
-use Rattle.manifest_reader.specs.declared.fault.ManifestFault.{ManifestFault}
-use Rattle.manifest_reader.specs.declared.fault.ManifestFault.TheVariants.{OutOfMemory}
+use Rattle.manifest_fields.specs.declared.fault.ManifestFault.{ManifestFault}
+use Rattle.manifest_fields.specs.declared.fault.ManifestFault.TheVariants.{OutOfMemory}
 
 abbrev pub is_memory : ManifestFault → Bool
 is_memory OutOfMemory = true

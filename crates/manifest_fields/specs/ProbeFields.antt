@@ -6,13 +6,13 @@ use Rattle.serde_json.specs.Data.{Data}
 use Rattle.serde_json.specs.Find.{as_number, as_i64, as_u64}
 use Rattle.json_fields.specs.Fields.{field_at}
 use Rattle.json_fields.specs.Reading.{◌>>=◌}
-use Rattle.manifest_reader.specs.declared.fault.Field.TheVariants as fields
-use Rattle.manifest_reader.specs.declared.fault.ManifestFault.{ManifestFault}
-use Rattle.manifest_reader.specs.declared.fault.ManifestFault.TheVariants.{WrongKind, ProbeRange, InitProbe}
+use Rattle.manifest_fields.specs.declared.fault.Field.TheVariants as fields
+use Rattle.manifest_fields.specs.declared.fault.ManifestFault.{ManifestFault}
+use Rattle.manifest_fields.specs.declared.fault.ManifestFault.TheVariants.{WrongKind, ProbeRange, InitProbe}
 use Rattle.manifest.specs.declared.pod.Role.{Role}
 use Rattle.manifest.specs.declared.pod.Role.TheVariants.{Init, Sidecar, App}
 use Rattle.manifest.specs.Probe.{Probe, Probes, no_probes}
-use Rattle.manifest_reader.specs.Fields.{object_of, absent}
+use Rattle.manifest_fields.specs.Fields.{object_of, absent}
 
 -- no number of a probe is greater
 abbrev pub greatest : ℕ

@@ -1,7 +1,7 @@
 //! Why a manifest was refused.
 
 ghost use Rattle.std.specs.Prelude.{◌≡◌};
-ghost use Rattle.manifest_reader.specs.declared.fault.ManifestFault.TheVariants.{OutOfMemory};
+ghost use Rattle.manifest_fields.specs.declared.fault.ManifestFault.TheVariants.{OutOfMemory};
 
 use quantity::QuantityFault;
 use quantity_fields::FieldFault;
@@ -63,7 +63,7 @@ pub enum ManifestFault {
 }
 
 impl ManifestFault {
-    ghost use Rattle.manifest_reader.specs.Fault.{number_of};
+    ghost use Rattle.manifest_fields.specs.Fault.{number_of};
 
     /// The number by which a refusal names the fault.
     pub fn number(self) -> u8
@@ -85,7 +85,7 @@ impl ManifestFault {
 }
 
 impl From<FieldFault> for ManifestFault {
-    ghost use Rattle.manifest_reader.specs.Fault.{resource_fault};
+    ghost use Rattle.manifest_fields.specs.Fault.{resource_fault};
 
     ghost from_gives = { λ fault e. e ≡ resource_fault fault };
 
