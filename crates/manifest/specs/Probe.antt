@@ -9,6 +9,16 @@ pub record Probe : Type 0 where
   pub success_threshold : ℕ
   pub failure_threshold : ℕ
 
+-- a probe of these numbers
+abbrev pub probe : ℕ → ℕ → ℕ → ℕ → ℕ → Probe
+probe delay period timeout successes failures = record {
+  initial_delay_seconds = delay;
+  period_seconds = period;
+  timeout_seconds = timeout;
+  success_threshold = successes;
+  failure_threshold = failures;
+}
+
 -- each number in its range
 pub record IsInRange (p : Probe) : Type 0 where
   pub initial_delay : p.initial_delay_seconds < 2 ^ 31

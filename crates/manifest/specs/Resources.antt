@@ -34,5 +34,6 @@ is_above (Some request) (Some limit) = nat_lt 0 limit && nat_lt limit request
 
 -- a request of the three is above its limit
 abbrev pub some_above : Amounts → Amounts → Bool
-some_above requests limits = is_above requests.cpu limits.cpu || is_above requests.memory limits.memory || is_above
-    requests.ephemeral_storage limits.ephemeral_storage
+some_above requests limits =
+    is_above requests.cpu limits.cpu || is_above requests.memory limits.memory
+    || is_above requests.ephemeral_storage limits.ephemeral_storage

@@ -1,7 +1,7 @@
 //! Probes of a container (Kubernetes, "Configure Liveness, Readiness and Startup Probes").
 
 ghost use Rattle.std.specs.Prelude.{◌≡◌, ◌≤◌, ◌<◌, ◌^◌};
-ghost use Rattle.manifest.specs.Probe.{IsInRange, HasNumbersInRange, SucceedsByOne, no_probes};
+ghost use Rattle.manifest.specs.Probe.{probe, IsInRange, HasNumbersInRange, SucceedsByOne, no_probes};
 
 use std::marker::Model;
 
@@ -16,26 +16,15 @@ pub struct Probe {
 }
 
 impl Model for Probe {
-    ghost use Rattle.manifest.specs.Probe.{Probe, IsInRange};
+    ghost use Rattle.manifest.specs.Probe.{Probe, probe, IsInRange};
 
     ghost Value = { Probe };
 
-    ghost view = { λ p. record {
-      initial_delay_seconds = p.initial_delay_seconds;
-      period_seconds = p.period_seconds;
-      timeout_seconds = p.timeout_seconds;
-      success_threshold = p.success_threshold;
-      failure_threshold = p.failure_threshold;
-    } };
+    ghost view = { λ p. probe p.initial_delay_seconds p.period_seconds p.timeout_seconds p.success_threshold
+        p.failure_threshold };
 
     ghost invariant = { λ p. IsInRange
-        (record {
-          initial_delay_seconds = p.initial_delay_seconds;
-          period_seconds = p.period_seconds;
-          timeout_seconds = p.timeout_seconds;
-          success_threshold = p.success_threshold;
-          failure_threshold = p.failure_threshold;
-        }) };
+        (probe p.initial_delay_seconds p.period_seconds p.timeout_seconds p.success_threshold p.failure_threshold) };
 
     ghost inverse = { λ v. record {
       initial_delay_seconds = v.initial_delay_seconds;
@@ -55,20 +44,10 @@ impl Probe {
         success_threshold: u32,
         failure_threshold: u32,
     ) -> Probe
-        requires { IsInRange (record {
-          initial_delay_seconds = initial_delay_seconds;
-          period_seconds = period_seconds;
-          timeout_seconds = timeout_seconds;
-          success_threshold = success_threshold;
-          failure_threshold = failure_threshold;
-        }) }
-        ensures { result ≡ record {
-          initial_delay_seconds = initial_delay_seconds;
-          period_seconds = period_seconds;
-          timeout_seconds = timeout_seconds;
-          success_threshold = success_threshold;
-          failure_threshold = failure_threshold;
-        } }
+        requires { IsInRange
+            (probe initial_delay_seconds period_seconds timeout_seconds success_threshold failure_threshold) }
+        ensures { result ≡
+            probe initial_delay_seconds period_seconds timeout_seconds success_threshold failure_threshold }
     {
         Probe {
             initial_delay_seconds,

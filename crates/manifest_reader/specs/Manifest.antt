@@ -42,8 +42,8 @@ policy_of (Some d) = policy_from (as_str d)
 
 abbrev pub priority_from : Option ℤ → Result ℤ ManifestFault
 priority_from None = Err (WrongKind fields.Priority)
-priority_from (Some z) = if int_le (negsuc 2147483647) z && int_le z (pos 2147483647) then Ok z else Err
-    (WrongKind fields.Priority)
+priority_from (Some z) =
+    if int_le (negsuc 2147483647) z && int_le z (pos 2147483647) then Ok z else Err (WrongKind fields.Priority)
 
 -- a whole number of 32 bits; 0 where none is written
 abbrev pub priority_of : Option Data → Result ℤ ManifestFault

@@ -42,8 +42,8 @@ HaveFinished facts policy containers = AllApps facts (HasFinished facts policy) 
 
 -- and each has completed
 abbrev pub HaveSucceeded : {C : Type 0} → Facts C → Policy → List C → Type 0
-HaveSucceeded facts policy containers = HaveFinished facts policy containers × AllApps facts (HasCompleted facts)
-    containers
+HaveSucceeded facts policy containers =
+    HaveFinished facts policy containers × AllApps facts (HasCompleted facts) containers
 
 -- and some has failed
 abbrev pub HaveFailed : {C : Type 0} → Facts C → Policy → List C → Type 0

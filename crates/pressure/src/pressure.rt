@@ -100,8 +100,8 @@ impl Pressure {
         ensures { (period : ℕ) (h : List Observation) (met : Bool)
             → IsStateOf period h self.now
             → (IsTrue is_true ↔ IsUnderPressure period (h ++ recorded at met ∷ []))
-            → IsTransition (h ++ recorded at met ∷ []) (IsSo (IsUnderPressure period) (h ++ recorded at met ∷ []))
-            result }
+            → IsTransition (h ++ recorded at met ∷ [])
+            (IsSo (IsUnderPressure period) (h ++ recorded at met ∷ [])) result }
     {
         if self.changes(is_true) {
             Some(at)

@@ -31,8 +31,8 @@ AreCounted (Some probe) start ticks counted =
 abbrev pub IsKillOrdered : Probes → ℕ → Cause → List Tick → Type 0
 IsKillOrdered probes start Startup ticks = HasStartupFailed probes.startup start ticks
 IsKillOrdered probes start Liveness ticks =
-    (counted : List Tick) × AreCounted probes.startup start ticks counted × HasLivenessFailed probes.liveness start
-    counted
+    (counted : List Tick) × AreCounted probes.startup start ticks counted
+    × HasLivenessFailed probes.liveness start counted
 
 -- a kill is ordered
 abbrev pub IsOrdered : Probes → ℕ → List Tick → Type 0

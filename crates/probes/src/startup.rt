@@ -82,8 +82,8 @@ impl Startup {
     pub fn take(&mut self, age: u64, outcome: Option<Outcome>)
         ensures probe { self.new.probe ≡ self.old.probe }
         ensures state { (start : ℕ) (ticks : List Tick) (next : Tick) → next.moment - start ≡ age
-            → next.entry.startup ≡ outcome → IsStartupOf start ticks self.old → IsStartupOf start (ticks ++ next ∷ [])
-            self.new }
+            → next.entry.startup ≡ outcome → IsStartupOf start ticks self.old
+            → IsStartupOf start (ticks ++ next ∷ []) self.new }
     {
         let Some(probe) = self.probe.get() else {
             return;

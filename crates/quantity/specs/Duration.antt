@@ -14,8 +14,8 @@ use Rattle.quantity.specs.declared.fault.QuantityFault.TheVariants.{Empty, BadDi
 
 -- the seconds of a unit: `h` is 104, `m` 109 and `s` 115
 abbrev pub unit_seconds : ℕ → Option ℕ
-unit_seconds unit = if unit == 104 then Some 3600 else if unit == 109 then Some 60 else if unit == 115 then Some 1
-    else None
+unit_seconds unit =
+    if unit == 104 then Some 3600 else if unit == 109 then Some 60 else if unit == 115 then Some 1 else None
 
 -- What a text means.
 
@@ -115,5 +115,5 @@ sum_onto sum (piece ∷ pieces) = do
 
 -- the seconds of a duration, or the first fault
 unfoldable pub duration_of : List ℕ → Result ℕ QuantityFault
-duration_of text = if length text == 0 then Err Empty else if bytes_eq text (codes "0") then Ok 0 else sum_onto 0
-    (pieces_of text)
+duration_of text =
+    if length text == 0 then Err Empty else if bytes_eq text (codes "0") then Ok 0 else sum_onto 0 (pieces_of text)

@@ -72,8 +72,8 @@ few_digits number = if nat_lt number (10 ^ 17) then Some number else None
 abbrev pub exact_number : ℕ → ℕ → ℕ → Option ℕ
 exact_number thousandths places numerator =
     let number = least_number thousandths places numerator in
-    if nat_lt number (10 ^ 17) && thousandths_of number places (times numerator) == thousandths then Some number else
-    None
+    if nat_lt number (10 ^ 17) && thousandths_of number places (times numerator) == thousandths
+    then Some number else None
 
 -- its digits before and after the point
 abbrev pub form_of : ℕ → Scale → ℕ → Form
@@ -114,8 +114,8 @@ printed_form thousandths = if nat_lt thousandths (10 ^ 17) then None else first_
 
 -- the units, or the thousandths where they are no whole number of units
 abbrev pub plain_text : ℕ → List ℕ
-plain_text thousandths = if thousandths % 1000 == 0 then decimal (thousandths / 1000) else decimal thousandths
-    ++ codes "m"
+plain_text thousandths =
+    if thousandths % 1000 == 0 then decimal (thousandths / 1000) else decimal thousandths ++ codes "m"
 
 abbrev pub text_by_form : Option Form → ℕ → List ℕ
 text_by_form None thousandths = plain_text thousandths

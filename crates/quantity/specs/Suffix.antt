@@ -47,8 +47,8 @@ pub record IsExponent (suffix : List ℕ) (factor : Factor) : Type 0 where
   pub all_digits : AllDigits digits
   pub one_or_two : (1 ≤ length digits) × (length digits ≤ 2)
   pub at_most : digits_value 10 digits ≤ 18
-  pub factor_is : (((sign ≡ []) ⊎ (sign ≡ codes "+")) × (factor ≡ times (10 ^ digits_value 10 digits))) ⊎
-      ((sign ≡ codes "-") × (factor ≡ divided_by (10 ^ digits_value 10 digits)))
+  pub factor_is : (((sign ≡ []) ⊎ (sign ≡ codes "+")) × (factor ≡ times (10 ^ digits_value 10 digits)))
+      ⊎ ((sign ≡ codes "-") × (factor ≡ divided_by (10 ^ digits_value 10 digits)))
 
 abbrev pub HasFactor : List ℕ → Factor → Type 0
 HasFactor suffix factor = Contains named_factors (suffix, factor) ⊎ IsExponent suffix factor

@@ -240,8 +240,8 @@ impl Differ {
         requires accepted { Accepts self.old seen }
         requires later { IsBefore self.old at }
         ensures state { (h : List Tick) → IsStateOf h self.old → IsStateOf (h ++ tick at seen ∷ []) self.new }
-        ensures changes { (h : List Tick) → IsStateOf h self.old → AreChanges (h ++ tick at seen ∷ []) (length h)
-            result }
+        ensures changes { (h : List Tick) → IsStateOf h self.old
+            → AreChanges (h ++ tick at seen ∷ []) (length h) result }
     {
         let changes = self.changes(seen);
         self.newest = self.newest_after(at, seen);

@@ -71,8 +71,8 @@ impl Instance {
     pub fn list(&mut self, at: u64, seen: Seen)
         requires { seen.attempt ≡ self.old.attempt }
         ensures attempt { self.new.attempt ≡ self.old.attempt }
-        ensures state { (h : List Tick) → IsInstanceOf h self.old → IsInstanceOf (h ++ tick at (Some seen) ∷ [])
-            self.new }
+        ensures state { (h : List Tick) → IsInstanceOf h self.old
+            → IsInstanceOf (h ++ tick at (Some seen) ∷ []) self.new }
         ensures effective { (h : List Tick)
             → IsInstanceOf h self.old
             → IsEffective h self.old.attempt self.old.state
