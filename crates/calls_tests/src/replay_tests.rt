@@ -16,7 +16,7 @@ use trace::{FaultKind, LineFault};
 /// A pod that runs from its first tick on.
 const FIRST_TICK: &str = r#"{"kind":"node","name":"n1"}
 {"kind":"pod","pod":{"metadata":{"name":"a"},"spec":{"containers":[{"name":"c"}]}}}
-{"kind":"tick","at":100,"pods":[{"pod":"default/a","containers":[{"name":"c","attempt":0,"state":"CONTAINER_RUNNING"}]}]}
+{"kind":"tick","at":100,"pods":[{"pod":"default/a","containers":[{"name":"c","attempt":0,"state":1}]}]}
 "#;
 
 /// The report of `FIRST_TICK`.

@@ -14,6 +14,7 @@ use Rattle.manifest.specs.declared.pod.ContainerSpec.{ContainerSpec}
 use Rattle.state_diff.specs.declared.differ.Differ.{Differ}
 use Rattle.state_diff.specs.Instances.{IsOf}
 use Rattle.state_diff.specs.Differ.{IsStateOf as IsDifferOf, Accepts as DifferAccepts}
+use Rattle.state_diff.proofs.Listings.{one_listed}
 use Rattle.probes.specs.declared.probe_set.Cause.{Cause}
 use Rattle.probes.specs.declared.probe_set.Verdicts.{Verdicts}
 use Rattle.probes.specs.Ticks.{Tick as ProbeTick, HasPassed as PassesBy}
@@ -26,7 +27,7 @@ use Rattle.containers.specs.Probed.{HasPassed, IsKillOrdered}
 use Rattle.containers.specs.Step.{IsTaken, AreVerdictsOf}
 use Rattle.containers.proofs.ProbedLemmas.{said}
 use Rattle.containers.proofs.TickLemmas.{start_kept, start_cases}
-use Rattle.containers.proofs.FollowLemmas.{belongs_listed, start_belongs, one_listed}
+use Rattle.containers.proofs.FollowLemmas.{belongs_listed, start_belongs}
 
 -- a start is there in no empty history
 none_of_none : (a start : ℕ) (h : List ContainerTick) → StartsAt h a start → h ≡ [] → ⊥

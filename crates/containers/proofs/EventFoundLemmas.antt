@@ -15,7 +15,7 @@ use Rattle.manifest.specs.declared.policy.Policy.{Policy}
 use Rattle.manifest.specs.declared.pod.ContainerSpec.{ContainerSpec}
 use Rattle.state_diff.specs.declared.seen.CriState.TheVariants.{Running}
 use Rattle.state_diff.specs.Instances.{Tick, seen_at, IsOf, Listed, IsNewest, IsStart, IsExit, IsCodeAt}
-use Rattle.state_diff.proofs.Listings.{of_weaker}
+use Rattle.state_diff.proofs.Listings.{of_weaker, one_listed}
 use Rattle.state_diff.proofs.Found.{listed_or_not, start_or_not, exit_or_not, exit_or_none, ended_listed}
 use Rattle.state_diff.proofs.Found.{newest_or_none}
 use Rattle.state_diff.proofs.Found.{attempt_or_none, gone_before, code_at}
@@ -41,7 +41,7 @@ use Rattle.containers.specs.Events.{IsGone, HasStarted, HasDied, Passes, IsKille
 use Rattle.containers.specs.Events.{IsPutOff, IsRestarted, Gives}
 use Rattle.containers.specs.Laws.{SomeListOfEvents}
 use Rattle.containers.proofs.TickLemmas.{seen_now, start_cases}
-use Rattle.containers.proofs.FollowLemmas.{belongs_listed, none_before_start, one_listed}
+use Rattle.containers.proofs.FollowLemmas.{belongs_listed, none_before_start}
 use Rattle.containers.proofs.ComesLemmas.{said_before, said_now}
 use Rattle.containers.proofs.RestartLemmas.{exits_one, due_one}
 use Rattle.containers.proofs.LawLemmas.{killed_once}

@@ -16,6 +16,7 @@ use Rattle.state_diff.specs.declared.differ.Changes.{Changes}
 use Rattle.state_diff.specs.Instances.{Tick, seen_at, IsOf, Listed, IsExit, Ends}
 use Rattle.state_diff.specs.Differ.{IsStateOf as IsDifferOf, AreChanges}
 use Rattle.state_diff.proofs.Places.{kept}
+use Rattle.state_diff.proofs.Unique.{of_coded}
 use Rattle.restarts.specs.declared.backoff.Backoff.{Backoff as RestartBackoff}
 use Rattle.restarts.specs.Exits.{Exit}
 use Rattle.restarts.specs.Delays.{IsDelay, IsDue}
@@ -28,7 +29,7 @@ use Rattle.containers.specs.Exits.{IsToRestart}
 use Rattle.containers.specs.Events.{IsGone, HasDied, WasReady, ChangesReadiness, IsPutOff, IsRestarted, Gives}
 use Rattle.containers.specs.Step.{AreCounted}
 use Rattle.containers.proofs.TickLemmas.{listing, onto_at, from_at}
-use Rattle.containers.proofs.ExitLemmas.{IsGoneNow, leaving, uncoded}
+use Rattle.containers.proofs.ExitLemmas.{IsGoneNow, leaving}
 use Rattle.containers.proofs.RestartLemmas.{exits_one}
 
 -- the instance that is gone
@@ -76,7 +77,7 @@ died_gives h x changes event are gives what = (
   (λ e.
       let w = (gives what).0 e in
       let q = (are.died w.0 w.1).0 w.3 in
-      (w.0, w.1, w.2, q.0, uncoded w.0 w.1 (seen_at (listings (h ++ x ∷ [])) (length h)) q.1, inl q.1)),
+      (w.0, w.1, w.2, q.0, of_coded w.0 w.1 (seen_at (listings (h ++ x ∷ [])) (length h)) q.1, inl q.1)),
   (λ (a, code, e, exit, listed, at). elim at [
     | inl q ↦ (gives what).1 (a, code, e, (are.died a code).1 (exit, q))
     | inr w ↦ absurd (w.0 listed)

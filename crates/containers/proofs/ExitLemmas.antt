@@ -15,10 +15,10 @@ use Rattle.state_diff.specs.Instances.{IsRun}
 use Rattle.state_diff.specs.Differ.{IsOfNewest, IsNewestRun, IsStateOf as IsDifferOf, Accepts as DifferAccepts}
 use Rattle.state_diff.proofs.Places.{added}
 use Rattle.state_diff.proofs.Growth.{grows_seen, grows_ends, IsExit-old}
-use Rattle.state_diff.proofs.Listings.{of_weaker, start_unlisted}
+use Rattle.state_diff.proofs.Listings.{of_weaker, start_unlisted, one_listed}
 use Rattle.state_diff.proofs.Events.{coded, now, first_now, live_listed}
 use Rattle.state_diff.proofs.Found.{ended_listed}
-use Rattle.state_diff.proofs.Unique.{IsNewest-unique}
+use Rattle.state_diff.proofs.Unique.{IsNewest-unique, of_coded}
 use Rattle.restarts.specs.Exits.{Exit}
 use Rattle.restarts.specs.Delays.{IsDelay}
 use Rattle.containers.specs.Exits.{IsExitOf, AreExitsOf, IsRisingList, AreExits}
@@ -213,15 +213,6 @@ abbrev pub DiesWith : List Tick → Tick → ℕ → ℤ → Type 0
 DiesWith k x a code = IsExit (k ++ x ∷ []) a (length k) × IsSomeAnd (seen_at (k ++ x ∷ []) (length k))
     (λ seen. (seen.attempt ≡ a) × (seen.code ≡ Some code))
 
-pub uncoded : (a : ℕ) (code : ℤ) (o : Option Seen)
-    → IsSomeAnd o (λ seen. (seen.attempt ≡ a) × (seen.code ≡ Some code)) → IsSomeAnd o (IsOf a)
-uncoded a code None q = q
-uncoded a code (Some s) q = q.0
-
-one_listed : (o : Option Seen) (a b : ℕ) → IsSomeAnd o (IsOf a) → IsSomeAnd o (IsOf b) → a ≡ b
-one_listed None a b q r = absurd q
-one_listed (Some s) a b q r = sym q ∙ r
-
 -- an exit was there before, or is at the new tick: of one that is gone, or of the listed one
 pub exit_cases : (k : List Tick) (x : Tick) (a : ℕ) → HasExit (k ++ x ∷ []) a
     → OrGone k x a ⊎ ((code : ℤ) × DiesWith k x a code)
@@ -243,7 +234,7 @@ exit_back k x a (inr g) = (length k, g.0)
 -- the listed one is the newest
 dies_listed : (k : List Tick) (x : Tick) (a : ℕ) (code : ℤ) → DiesWith k x a code → IsSomeAnd x.entry (IsOf a)
 dies_listed k x a code died =
-    uncoded a code x.entry (now (λ seen. (seen.attempt ≡ a) × (seen.code ≡ Some code)) k x died.1)
+    of_coded a code x.entry (now (λ seen. (seen.attempt ≡ a) × (seen.code ≡ Some code)) k x died.1)
 
 pub dies_newest : (k : List Tick) (d : Differ) (x : Tick) (a : ℕ) (code : ℤ) → IsDifferOf (k ++ x ∷ []) d
     → DiesWith k x a code → IsNewest (k ++ x ∷ []) a
@@ -292,7 +283,7 @@ died_more k d x exits (Some (a, code)) run is iff runs are = there run runs
           (λ q. elim (exit_cases k x c q) [
             | inl p ↦ inl p
             | inr w ↦ inr (one_listed x.entry a c listed
-                (uncoded c w.0 x.entry (now (λ seen. (seen.attempt ≡ c) × (seen.code ≡ Some w.0)) k x w.1.1)))
+                (of_coded c w.0 x.entry (now (λ seen. (seen.attempt ≡ c) × (seen.code ≡ Some w.0)) k x w.1.1)))
           ]),
           (λ p. elim p [
             | inl p ↦ exit_back k x c p

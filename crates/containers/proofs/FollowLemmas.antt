@@ -6,6 +6,7 @@ use Rattle.std.proofs.lemmas.List.{take-append-drop}
 use Rattle.histories.specs.Histories.{IsSo}
 use Rattle.histories.proofs.First.{IsFirst-new, IsFirstMoment-unique}
 use Rattle.histories.proofs.Picked.{picked_none, so_picked_in, so_picked_out}
+use Rattle.histories.proofs.Lists.{some_given}
 use Rattle.manifest.specs.declared.pod.ContainerSpec.{ContainerSpec}
 use Rattle.state_diff.specs.declared.seen.Seen.{Seen}
 use Rattle.state_diff.specs.declared.seen.CriState.TheVariants.{Running}
@@ -14,7 +15,7 @@ use Rattle.state_diff.specs.declared.differ.Changes.{Changes}
 use Rattle.state_diff.specs.Instances.{seen_at, IsOf, IsOfAs, Listed, ListedAs, IsNewest, IsState, IsStart}
 use Rattle.state_diff.specs.Differ.{IsStateOf as IsDifferOf, Accepts as DifferAccepts, AreChanges, IsNewestSeen}
 use Rattle.state_diff.proofs.Growth.{grows_seen}
-use Rattle.state_diff.proofs.Listings.{of_weaker}
+use Rattle.state_diff.proofs.Listings.{of_weaker, one_listed}
 use Rattle.state_diff.proofs.Unique.{IsNewest-unique}
 use Rattle.probes.specs.declared.probe_set.ProbeSet.{ProbeSet}
 use Rattle.probes.specs.declared.probe_set.Verdicts.{Verdicts}
@@ -58,17 +59,9 @@ start_belongs h x d a is accepts q =
     belongs_now h x a (of_weaker a Running x.entry.seen q)
     (onto (λ k. IsState k a Running) h x (running_now (listings h) d (listing x) a is accepts q))
 
-pub one_listed : (o : Option Seen) (a b : ℕ) → IsSomeAnd o (IsOf a) → IsSomeAnd o (IsOf b) → a ≡ b
-one_listed None a b q r = absurd q
-one_listed (Some s) a b q r = sym q ∙ r
-
 is_there : {A : Type 0} (o : Option A) (Q : A → Type 0) → IsSomeAnd o Q → IsSome o
 is_there None Q q = absurd q
 is_there (Some x) Q q = refl
-
-which : {A : Type 0} (o : Option A) → IsSome o → (x : A) × (o ≡ Some x)
-which None e = absurd (cc)
-which (Some x) e = (x, refl)
 
 listed_one : (o : Option Seen) → IsSome o → (a : ℕ) × IsSomeAnd o (IsOf a)
 listed_one None e = absurd (cc)
@@ -130,7 +123,7 @@ start_given : (h : List ContainerTick) (x : ContainerTick) (changes : Changes) �
     (length h) changes → IsSome changes.started
     → (a : ℕ) × IsSomeAnd x.entry.seen (IsOfAs a Running) × IsStart (listings (h ++ x ∷ [])) a (length h)
 start_given h x changes are some =
-    let w = which changes.started some in
+    let w = some_given changes.started some in
     let s = (are.started w.0).0 w.1 in
     (w.0, (seen_now (IsOfAs w.0 Running) h x).0 s.holds, s)
 

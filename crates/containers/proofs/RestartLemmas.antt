@@ -4,6 +4,7 @@ use Rattle.std.proofs.Common.{arith}
 use Rattle.std.specs.Prelude.{◌↔◌, IsSome, IsSomeAnd, IfSome, IsTrue}
 use Rattle.histories.specs.Histories.{IsFirstMoment, last_moment}
 use Rattle.histories.proofs.First.{IsFirstMoment-unique}
+use Rattle.histories.proofs.Lists.{some_given}
 use Rattle.manifest.specs.Policy.{WantsRestart}
 use Rattle.manifest.specs.declared.policy.Policy.{Policy}
 use Rattle.manifest.specs.declared.pod.Role.{Role}
@@ -115,10 +116,6 @@ due_by greatest exits (Some d) last_at at b is iff = (
       iff.1 (subst P same (w.2, w.3))),
 )
 
-some_of : {A : Type 0} (o : Option A) → IsSome o → (x : A) × (o ≡ Some x)
-some_of None e = absurd (cc)
-some_of (Some x) e = (x, refl)
-
 -- the restart of one that has exited at the moment is put off
 pub puts_off_by : (policy : Policy) (spec : ContainerSpec) (h : List ContainerTick) (attempt exited_at : Option ℕ)
     (at : ℕ) (b : Bool)
@@ -129,7 +126,7 @@ pub puts_off_by : (policy : Policy) (spec : ContainerSpec) (h : List ContainerTi
 puts_off_by policy spec h attempt exited_at at b to of iff = (
   (λ e.
       let w = iff.0 e in
-      let a = some_of attempt w.0 in
+      let a = some_given attempt w.0 in
       let t = (to a.0).0 a.1 in
       let P : Option ℕ → Type 0 = λ o. IsFirstMoment (listings h) (Ends (listings h) a.0) o in
       (a.0, t, subst P w.1 (of.some a.0 t.newest))),

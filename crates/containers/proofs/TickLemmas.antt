@@ -16,10 +16,11 @@ use Rattle.state_diff.specs.declared.differ.Differ.{Differ}
 use Rattle.state_diff.specs.Instances.{Tick, tick, seen_at, IsOf, IsOfAs, Listed, ListedAs, IsNewest, IsState, IsExit}
 use Rattle.state_diff.specs.Instances.{Ends}
 use Rattle.state_diff.specs.Differ.{IsNewestOf, IsListedBy, Follows, IsStateOf as IsDifferOf, Accepts as DifferAccepts}
-use Rattle.state_diff.proofs.Places.{added, split, seen_at-below}
+use Rattle.state_diff.proofs.Places.{added, split}
 use Rattle.state_diff.proofs.Growth.{grows_seen, grows_ends, IsEffective-new}
 use Rattle.state_diff.proofs.Listings.{of_weaker, exited_of}
 use Rattle.state_diff.proofs.Found.{ended_listed}
+use Rattle.state_diff.proofs.Events.{now}
 use Rattle.containers.specs.Ticks.{ContainerTick, listings, StartsAt}
 
 -- a tick as its listing
@@ -56,18 +57,10 @@ from_at P h x p = let Q : ℕ → Type 0 = λ t. P (listings (h ++ x ∷ [])) t 
 pub last_place : (h : List ContainerTick) (x : ContainerTick) → length (h ++ x ∷ []) - 1 ≡ length h
 last_place h x = omega (arith, length-more h x)
 
--- what is listed at the new tick
-now_grows : (Q : Seen → Type 0) (k : List Tick) (x : Tick) → IsSomeAnd (seen_at (k ++ x ∷ []) (length k)) Q
-    → IsSomeAnd x.entry Q
-now_grows Q k x q = elim (split Q k x (length k) q) [
-  | inl old ↦ let b : length k < length k = seen_at-below Q k (length k) old in absurd (omega arith)
-  | inr w ↦ w.1
-]
-
 pub seen_now : (Q : Seen → Type 0) (h : List ContainerTick) (x : ContainerTick)
     → (IsSomeAnd (seen_at (listings (h ++ x ∷ [])) (length h)) Q ↔ IsSomeAnd x.entry.seen Q)
 seen_now Q h x = (
-  (λ q. now_grows Q (listings h) (listing x) (from_at (λ k t. IsSomeAnd (seen_at k t) Q) h x q)),
+  (λ q. now Q (listings h) (listing x) (from_at (λ k t. IsSomeAnd (seen_at k t) Q) h x q)),
   (λ q. onto_at (λ k t. IsSomeAnd (seen_at k t) Q) h x (added Q (listings h) (listing x) q)),
 )
 

@@ -1,2 +1,2 @@
 pub mod Low
-pub mod Places
+pub mod Numbers

@@ -3,7 +3,7 @@ use Rattle.std.proofs.Common.{◌≡◌, ◌∙◌, inl, inr, ℕ, suc, ◌+◌,
 use Rattle.std.proofs.Common.{append-nil, append_assoc, Some, refl, sym, ap, subst, arith}
 use Rattle.std.specs.Prelude.{slice_get}
 use Rattle.histories.proofs.Places.{length-more}
-use Rattle.node_signals.proofs.PlaceLemmas.{place_split, take_more, map_more}
+use Rattle.histories.proofs.Lists.{place_split, take_more, map_more}
 use Rattle.pod_state.specs.declared.events.PodEvent.{PodEvent}
 use Rattle.pod_piece.specs.Piece.{Piece}
 use Rattle.pod_piece.specs.Status.{AreLastEvents}

@@ -4,8 +4,9 @@ use Rattle.std.proofs.Common.{append_assoc, append-nil, arith}
 use Rattle.std.specs.Prelude.{All, slice_get}
 use Rattle.std.proofs.lemmas.List.Elements.{All-head, All-tail}
 use Rattle.std.proofs.lemmas.Option.{get_or_from_slice_get, same_Some, slice_get_within}
-use Rattle.histories.proofs.Found.{given_at, list_of}
+use Rattle.histories.proofs.Found.{list_of}
 use Rattle.histories.proofs.Places.{length-more}
+use Rattle.histories.proofs.Lists.{given_at}
 use Rattle.manifest.specs.declared.pod.PodSpec.{PodSpec}
 use Rattle.node_config.specs.declared.node.NodeConfig.{NodeConfig}
 use Rattle.observations.specs.Pods.{PodObs}

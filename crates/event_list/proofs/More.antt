@@ -2,16 +2,17 @@
 use Rattle.std.proofs.Common.{◌≡◌, ◌∙◌, inl, inr, ℕ, ◌+◌, ◌<◌, ◌≤◌, List, [], ◌∷◌, ◌++◌, length, map, take, Option}
 use Rattle.std.proofs.Common.{Some, None, refl, ap, sym, subst, arith, append-nil}
 use Rattle.std.specs.List.{filter, flat_map, sum_by}
-use Rattle.std.proofs.lemmas.List.{take-append-le, take_all, length-append, length-map}
+use Rattle.std.proofs.lemmas.List.{take-append-le, length-append, length-map}
 use Rattle.std.proofs.lemmas.Grind.{flat_map-append}
 use Rattle.std.proofs.lemmas.List.Elements.{filter-append, filter_map-append}
 use Rattle.std.proofs.lemmas.List.Sums.{sum_by-cons, sum_by-append}
+use Rattle.std.proofs.lemmas.Option.{slice_get_within}
 use Rattle.histories.proofs.Places.{length-more}
+use Rattle.histories.proofs.Lists.{place_split, take_old}
 use Rattle.manifest.specs.declared.pod.PodSpec.{PodSpec}
 use Rattle.node_config.specs.declared.node.NodeConfig.{NodeConfig}
 use Rattle.observations.specs.declared.tick.TickObs.{TickObs}
 use Rattle.node_signals.specs.declared.event.NodeEvent.{NodeEvent}
-use Rattle.node_signals.proofs.PlaceLemmas.{within, place_split}
 use Rattle.pod_state.specs.declared.events.PodEvent.{PodEvent}
 use Rattle.eviction.specs.declared.eviction.Eviction.{Eviction}
 use Rattle.event_book.specs.declared.totals.Totals.{Totals}
@@ -37,9 +38,6 @@ flat_more parts part =
     flat_map-append (λ (p : List Event). p) parts (part ∷ [])
     ∙ ap (λ (xs : List Event). flat_map (λ (p : List Event). p) parts ++ xs) (append-nil part)
 
-whole : {A : Type 0} (xs : List A) (x : A) (t : ℕ) → t ≡ length xs → take t (xs ++ x ∷ []) ≡ xs
-whole xs x t e = take-append-le t xs (x ∷ []) (omega arith) ∙ take_all t xs (omega arith)
-
 -- one tick more
 pub events_more : (config : NodeConfig) (pods : List PodSpec) (ticks : List TickObs) (es : List (Option Eviction))
     (evs part : List Event) (x : TickObs) (e : Option Eviction)
@@ -52,7 +50,7 @@ events_more config pods ticks es evs part x e many are now = record {
       omega (arith, length-more are.parts part, length-more ticks x);
   each = λ t tick eviction p at is here. elim (place_split ticks x tick t at) [
     | inl old ↦
-        let lt : t < length ticks = within ticks t tick old in
+        let lt : t < length ticks = slice_get_within ticks t tick old in
         let count : length are.parts ≡ length ticks = are.as_many in
         elim (place_split es e eviction t is) [
           | inl older ↦ elim (place_split are.parts part p t here) [
@@ -72,9 +70,9 @@ events_more config pods ticks es evs part x e many are now = record {
         let last : t ≡ length ticks = v.0 in
         let count : length are.parts ≡ length ticks = are.as_many in
         elim (place_split es e eviction t is) [
-          | inl older ↦ let lt : t < length es = within es t eviction older in absurd (omega arith)
+          | inl older ↦ let lt : t < length es = slice_get_within es t eviction older in absurd (omega arith)
           | inr w ↦ elim (place_split are.parts part p t here) [
-            | inl oldest ↦ let lt : t < length are.parts = within are.parts t p oldest in absurd (omega arith)
+            | inl oldest ↦ let lt : t < length are.parts = slice_get_within are.parts t p oldest in absurd (omega arith)
             | inr u ↦ this t tick eviction p last w.0 v.1 w.1 u.1
           ]
         ]
@@ -91,7 +89,7 @@ events_more config pods ticks es evs part x e many are now = record {
         let R : TickObs → Type 0 = λ y. AreTickEvents config pods ticks y es eviction p in
         let S : Option Eviction → Type 0 = λ f. AreTickEvents config pods ticks x es f p in
         let T : List Event → Type 0 = λ q. AreTickEvents config pods ticks x es e q in
-        subst P (sym (whole ticks x t last)) (subst Q (sym (whole es e t evicted))
+        subst P (sym (take_old ticks x t last)) (subst Q (sym (take_old es e t evicted))
         (subst R same (subst S same' (subst T same'' now))))
 
 -- one pod more, that no tick shows yet
@@ -111,7 +109,7 @@ events_arrived config pods pod ticks es evs are = record {
           as_many = now.are_made.as_many;
           each = λ n p o events found seen made.
               let few : length tick.pods ≤ length pods = now.are_made.known in
-              let lt : n < length tick.pods = within tick.pods n o seen in
+              let lt : n < length tick.pods = slice_get_within tick.pods n o seen in
               elim (place_split pods pod p n found) [
                 | inl old ↦ now.are_made.each n p o events old seen made
                 | inr v ↦ let same : n ≡ length pods = v.0 in absurd (omega arith)

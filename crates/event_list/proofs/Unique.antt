@@ -1,21 +1,20 @@
 -- There is one list of events.
-use Rattle.std.proofs.Common.{◌≡◌, ◌∙◌, ◌<◌, ◌≤◌, List, [], ◌++◌, length, take, Option, refl}
+use Rattle.std.proofs.Common.{◌≡◌, ◌∙◌, ◌<◌, ◌≤◌, List, ◌++◌, length, take, Option}
 use Rattle.std.proofs.Common.{ap, sym, arith}
 use Rattle.std.specs.List.{flat_map}
+use Rattle.std.proofs.lemmas.Option.{slice_get_within}
+use Rattle.histories.proofs.Lists.{same_places, given_at}
 use Rattle.manifest.specs.declared.pod.PodSpec.{PodSpec}
 use Rattle.node_config.specs.declared.node.NodeConfig.{NodeConfig}
 use Rattle.observations.specs.declared.tick.TickObs.{TickObs}
 use Rattle.node_signals.specs.declared.event.NodeEvent.{NodeEvent}
 use Rattle.node_signals.proofs.LawLemmas.{one_list_of_node_events}
-use Rattle.node_signals.proofs.PlaceLemmas.{within}
 use Rattle.pod_state.specs.declared.events.PodEvent.{PodEvent}
 use Rattle.pod_state.specs.Pods.{pod_tick}
 use Rattle.pod_state.proofs.PodEventLemmas.{one_list_of_pod_events}
 use Rattle.pod_piece.specs.Piece.{place_of}
 use Rattle.eviction.specs.declared.eviction.Eviction.{Eviction}
 use Rattle.eviction.specs.Replay.{pod_ticks, own_eviction}
-use Rattle.eviction.proofs.Unique.{at_place}
-use Rattle.event_book.proofs.Places.{same_places}
 use Rattle.event_list.specs.declared.event.Event.{Event}
 use Rattle.event_list.specs.Events.{ArePodEvents, of_pods, of_node, of_eviction, AreTickEvents}
 use Rattle.event_list.specs.Laws.{OneListOfEvents}
@@ -26,11 +25,11 @@ pods_one : (config : NodeConfig) (pods : List PodSpec) (before : List TickObs) (
     → ArePodEvents config pods before tick es made → ArePodEvents config pods before tick es others → made ≡ others
 pods_one config pods before tick es made others are were =
     same_places made others (are.as_many ∙ sym were.as_many) (λ n x y here there.
-    let lt : n < length made = within made n x here in
+    let lt : n < length made = slice_get_within made n x here in
     let many : length made ≡ length tick.pods = are.as_many in
     let few : length tick.pods ≤ length pods = are.known in
-    let pod = at_place pods n (omega arith) in
-    let shown = at_place tick.pods n (omega arith) in
+    let pod = given_at pods n (omega arith) in
+    let shown = given_at tick.pods n (omega arith) in
     one_list_of_pod_events pod.0 config.max_restart_delay (place_of (own_eviction n before es)) (pod_ticks before n)
     (pod_tick shown.0) x y (are.each n pod.0 shown.0 x pod.1 shown.1 here)
     (were.each n pod.0 shown.0 y pod.1 shown.1 there))
@@ -57,10 +56,10 @@ pub one_list_of_events : OneListOfEvents
 one_list_of_events config pods ticks es events others many are were =
     let parts : are.parts ≡ were.parts =
     same_places are.parts were.parts (are.as_many ∙ sym were.as_many) (λ t x y here there.
-    let lt : t < length are.parts = within are.parts t x here in
+    let lt : t < length are.parts = slice_get_within are.parts t x here in
     let count : length are.parts ≡ length ticks = are.as_many in
-    let tick = at_place ticks t (omega arith) in
-    let eviction = at_place es t (omega arith) in
+    let tick = given_at ticks t (omega arith) in
+    let eviction = given_at es t (omega arith) in
     tick_one config pods (take t ticks) tick.0 (take t es) eviction.0 x y
     (are.each t tick.0 eviction.0 x tick.1 eviction.1 here) (were.each t tick.0 eviction.0 y tick.1 eviction.1 there))
     in

@@ -1,11 +1,7 @@
 -- The pods that names are of.
-use Rattle.std.specs.Prelude.{ℕ, List, map, slice_get, Option}
+use Rattle.std.specs.Prelude.{ℕ, List, slice_get, Option}
 use Rattle.manifest.specs.declared.pod.PodSpec.{PodSpec}
-use Rattle.pod_piece.specs.Piece.{Piece}
-
--- the pods of these pieces
-abbrev pub pods_in : List Piece → List PodSpec
-pods_in pieces = map (λ (piece : Piece). piece.pod) pieces
+use Rattle.pod_piece.specs.Piece.{Piece, pods_in}
 
 -- the pod of the piece with the number
 abbrev pub pod_in : List Piece → ℕ → Option PodSpec

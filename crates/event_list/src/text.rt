@@ -4,7 +4,8 @@ ghost use Rattle.std.specs.Prelude.{◌≡◌, IfOk, string_bytes, Option};
 ghost use Rattle.event_list.specs.Text.{container_of, what_words, pod_event_words, node_event_words};
 ghost use Rattle.event_list.specs.Text.{event_words, event_line, of_attempt, threshold_words};
 ghost use Rattle.event_list.specs.declared.event.EventKind.TheVariants.{Evicted};
-ghost use Rattle.event_list.specs.Names.{pods_in, pod_in};
+ghost use Rattle.pod_piece.specs.Piece.{pods_in};
+ghost use Rattle.event_list.specs.Names.{pod_in};
 
 use crate::event::{Event, EventKind};
 use crate::names::Names;

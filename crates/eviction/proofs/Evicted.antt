@@ -1,20 +1,19 @@
 -- What is true of a tick that evicts a pod, and of that pod.
 use Rattle.std.proofs.Common.{◌≡◌, inl, inr, ℕ, zero, suc, ◌+◌, ◌<◌, ◌≤◌, List, [], ◌∷◌, ◌++◌, length, map, take}
 use Rattle.std.proofs.Common.{drop, Option, Some, None, refl, sym, ap, subst, ◌∙◌, arith}
-use Rattle.std.specs.Prelude.{slice_get, IsSome, IsSomeAnd, option_map}
+use Rattle.std.specs.Prelude.{slice_get, IsSomeAnd, option_map}
 use Rattle.std.proofs.lemmas.Bool.{cases_order}
 use Rattle.std.proofs.lemmas.List.{length-append, length-take-le, map-append, take-append-drop}
 use Rattle.std.proofs.lemmas.List.Elements.{filter_map-append}
-use Rattle.histories.proofs.Found.{given_at}
+use Rattle.std.proofs.lemmas.Option.{slice_get_within}
 use Rattle.histories.proofs.Places.{length-more}
+use Rattle.histories.proofs.Lists.{given_at, some_given}
 use Rattle.manifest.specs.declared.pod.PodSpec.{PodSpec}
-use Rattle.observations.specs.Pods.{PodObs}
 use Rattle.observations.specs.declared.tick.TickObs.{TickObs}
 use Rattle.observations.specs.Observations.{shown_of, own_ticks}
 use Rattle.node_config.specs.declared.node.NodeConfig.{NodeConfig}
 use Rattle.node_signals.specs.declared.key.ThresholdKey.{ThresholdKey}
 use Rattle.node_signals.specs.Thresholds.{Asks, IsServed}
-use Rattle.node_signals.proofs.PlaceLemmas.{within}
 use Rattle.pod_state.specs.Pods.{PodTick, pod_tick, IsEnd, HasEnded}
 use Rattle.pod_state.proofs.EndLemmas.{ended_is}
 use Rattle.pod_state.proofs.FoundLemmas.{some_end}
@@ -133,10 +132,6 @@ few_ticks ticks n k =
     ap length (ap (map pod_tick) own ∙ map-append pod_tick a b) ∙ length-append (map pod_tick a) (map pod_tick b) in
     omega arith
 
-some_shown : (o : Option PodObs) → IsSome o → (shown : PodObs) × (o ≡ Some shown)
-some_shown None some = absurd (let e : IsSome {T = PodObs} None = some in cc)
-some_shown (Some shown) some = (shown, refl)
-
 -- a candidate has no eviction yet
 never_before : (pods : List PodSpec) (before : List TickObs) (tick : TickObs) (evictions : List (Option Eviction))
     (n : ℕ) (status : PodStatus)
@@ -148,7 +143,7 @@ never_before pods before tick evictions n status many c = by (evicted_at n evict
     by None e = refl
     by (Some found) e =
         let place : ℕ = length (pod_ticks (take found.tick before) n) in
-        let shown = some_shown (shown_of tick n) c.present in
+        let shown = some_given (shown_of tick n) c.present in
         let h = pod_ticks (before ++ tick ∷ []) n in
         let more : length h ≡ suc (length (pod_ticks before n)) =
         ap length (pod_ticks-more before tick n shown.0 shown.1)
@@ -174,7 +169,7 @@ not_twice : (config : NodeConfig) (pods : List PodSpec) (ticks : List TickObs) (
     → slice_get evictions u ≡ Some (Some other)
     → one.pod ≡ other.pod → t < u → ⊥
 not_twice config pods ticks evictions t u one other replay e f same lt =
-    let below : u < length evictions = within evictions u (Some other) f in
+    let below : u < length evictions = slice_get_within evictions u (Some other) f in
     let many : length evictions ≡ length ticks = replay.as_many in
     let tick = given_at ticks u (omega arith) in
     let reason = reason_at config pods ticks evictions u tick.0 other replay tick.1 f in

@@ -3,8 +3,10 @@ use Rattle.std.proofs.Common.{◌≡◌, ◌⊎◌, inl, inr, ℕ, ◌<◌, ◌�
 use Rattle.std.proofs.Common.{None}
 use Rattle.std.proofs.Common.{refl, sym, subst, ◌∙◌, arith, append_assoc, append-nil}
 use Rattle.std.specs.Prelude.{◌^◌, slice_get, is_some, IsSome, option_and_then}
+use Rattle.std.proofs.lemmas.Option.{slice_get_within}
 use Rattle.histories.proofs.Decide.{OrNot, negated, both, true_or_not, less_or_not, given_or_not}
 use Rattle.histories.proofs.Found.{first_place}
+use Rattle.histories.proofs.Lists.{within_and}
 use Rattle.manifest.specs.declared.pod.PodSpec.{PodSpec}
 use Rattle.observations.specs.declared.tick.TickObs.{TickObs}
 use Rattle.observations.specs.Observations.{shown_of}
@@ -14,14 +16,15 @@ use Rattle.node_signals.specs.declared.key.ThresholdKey.{ThresholdKey}
 use Rattle.node_signals.specs.Keys.{serving_order}
 use Rattle.node_signals.specs.Thresholds.{Asks, AsksAt, IsServed}
 use Rattle.node_signals.proofs.Decide.{due_or_not, reclaimed_or_not}
-use Rattle.node_signals.proofs.PlaceLemmas.{within, within_and}
 use Rattle.phase.specs.RawPhase.{IsTerminal}
+use Rattle.phase.proofs.DecideLemmas.{terminal_cases}
 use Rattle.pod_state.specs.Pods.{PodTick}
-use Rattle.pod_state.proofs.EndLemmas.{IsPhase-unique, terminal_cases}
+use Rattle.pod_state.proofs.EndLemmas.{IsPhase-unique}
 use Rattle.pod_piece.specs.declared.piece.Eviction.{Eviction as EvictionOfPod}
 use Rattle.pod_piece.specs.declared.status.PodStatus.{PodStatus}
 use Rattle.pod_piece.specs.Piece.{place_of}
 use Rattle.pod_piece.specs.Status.{IsStatusAfter}
+use Rattle.pod_piece.proofs.UsageLemmas.{one_usage}
 use Rattle.ranking.specs.Order.{IsVictim}
 use Rattle.ranking.proofs.LawLemmas.{RankAlike}
 use Rattle.ranking.proofs.Victims.{AreCandidates, victim_among}
@@ -29,7 +32,7 @@ use Rattle.eviction.specs.declared.eviction.Eviction.{Eviction}
 use Rattle.eviction.specs.Replay.{pod_ticks, own_eviction, IsCandidate, order_of, IsRound, IsReplay}
 use Rattle.eviction.specs.Laws.{SomeReplay}
 use Rattle.eviction.proofs.More.{no_replay, replay_more}
-use Rattle.eviction.proofs.Statuses.{some_status, one_usage}
+use Rattle.eviction.proofs.Statuses.{some_status}
 
 -- a threshold asks for an eviction, or it doesn't
 asks_or_not : (eviction : EvictionConfig) (before : List TickObs) (tick : TickObs) (key : ThresholdKey)
@@ -130,7 +133,7 @@ candidates : (pods : List PodSpec) (before : List TickObs) (tick : TickObs) (evi
     → AreCandidates (IsCandidate pods before tick evictions) (length pods)
 candidates pods before tick evictions = record {
   known = candidate_or_not pods before tick evictions;
-  below = λ n p c. within pods n c.pod c.at;
+  below = λ n p c. slice_get_within pods n c.pod c.at;
   numbered = λ n p c. c.is_status.number_is;
   alike = λ n p q c d.
       let eviction = own_eviction n (before ++ tick ∷ []) evictions in

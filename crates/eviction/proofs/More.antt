@@ -1,17 +1,15 @@
 -- One more tick with its eviction.
-use Rattle.std.proofs.Common.{◌≡◌, inl, inr, ℕ, ◌<◌, List, [], ◌∷◌, ◌++◌, length, take, Option, refl, sym, subst}
-use Rattle.std.proofs.Common.{◌∙◌, arith}
-use Rattle.std.proofs.lemmas.List.{take-append-le, take_all}
+use Rattle.std.proofs.Common.{◌≡◌, inl, inr, ◌<◌, List, [], ◌∷◌, ◌++◌, length, take, Option, refl, sym, subst}
+use Rattle.std.proofs.Common.{arith}
+use Rattle.std.proofs.lemmas.List.{take-append-le}
+use Rattle.std.proofs.lemmas.Option.{slice_get_within}
 use Rattle.histories.proofs.Places.{length-more}
+use Rattle.histories.proofs.Lists.{place_split, take_old}
 use Rattle.manifest.specs.declared.pod.PodSpec.{PodSpec}
 use Rattle.observations.specs.declared.tick.TickObs.{TickObs}
 use Rattle.node_config.specs.declared.node.NodeConfig.{NodeConfig}
-use Rattle.node_signals.proofs.PlaceLemmas.{within, place_split}
 use Rattle.eviction.specs.declared.eviction.Eviction.{Eviction}
 use Rattle.eviction.specs.Replay.{IsRound, IsReplay}
-
-whole : {A : Type 0} (xs : List A) (x : A) (t : ℕ) → t ≡ length xs → take t (xs ++ x ∷ []) ≡ xs
-whole xs x t e = take-append-le t xs (x ∷ []) (omega arith) ∙ take_all t xs (omega arith)
 
 pub no_replay : (config : NodeConfig) (pods : List PodSpec) → IsReplay config pods [] []
 no_replay config pods = record { as_many = refl; each = λ t tick eviction at is. absurd (cc) }
@@ -25,7 +23,7 @@ replay_more config pods ticks es x e replay now = record {
       let many : length es ≡ length ticks = replay.as_many in omega (arith, length-more es e, length-more ticks x);
   each = λ t tick eviction at is. elim (place_split ticks x tick t at) [
     | inl old ↦
-        let lt : t < length ticks = within ticks t tick old in
+        let lt : t < length ticks = slice_get_within ticks t tick old in
         let many : length es ≡ length ticks = replay.as_many in
         elim (place_split es e eviction t is) [
           | inl older ↦
@@ -39,13 +37,14 @@ replay_more config pods ticks es x e replay now = record {
         let here : t ≡ length ticks = v.0 in
         let many : length es ≡ length ticks = replay.as_many in
         elim (place_split es e eviction t is) [
-          | inl older ↦ let lt : t < length es = within es t eviction older in absurd (omega arith)
+          | inl older ↦ let lt : t < length es = slice_get_within es t eviction older in absurd (omega arith)
           | inr w ↦
               let P : List TickObs → Type 0 = λ h. IsRound config pods h tick (take t (es ++ e ∷ [])) eviction in
               let Q : List (Option Eviction) → Type 0 = λ g. IsRound config pods ticks tick g eviction in
               let R : TickObs → Type 0 = λ y. IsRound config pods ticks y es eviction in
               let S : Option Eviction → Type 0 = λ f. IsRound config pods ticks x es f in
-              subst P (sym (whole ticks x t here)) (subst Q (sym (whole es e t w.0)) (subst R v.1 (subst S w.1 now)))
+              subst P (sym (take_old ticks x t here))
+              (subst Q (sym (take_old es e t w.0)) (subst R v.1 (subst S w.1 now)))
         ]
   ];
 }

@@ -2,25 +2,21 @@
 use Rattle.std.proofs.Common.{◌≡◌, ℕ, zero, suc, ◌<◌, List, [], ◌∷◌, length, take, Option, Some, None, refl, sym}
 use Rattle.std.proofs.Common.{ap, subst, ◌∙◌, arith}
 use Rattle.std.specs.Prelude.{slice_get, option_and_then}
+use Rattle.std.proofs.lemmas.Option.{slice_get_within}
 use Rattle.histories.proofs.First.{IsFirstPlace-unique}
+use Rattle.histories.proofs.Lists.{given_at}
 use Rattle.manifest.specs.declared.pod.PodSpec.{PodSpec}
 use Rattle.observations.specs.declared.tick.TickObs.{TickObs}
 use Rattle.node_config.specs.declared.node.NodeConfig.{NodeConfig}
 use Rattle.node_signals.specs.declared.key.ThresholdKey.{ThresholdKey}
 use Rattle.node_signals.specs.Keys.{serving_order}
 use Rattle.node_signals.specs.Thresholds.{AsksAt, IsServed}
-use Rattle.node_signals.proofs.PlaceLemmas.{within}
 use Rattle.pod_piece.specs.declared.order.EvictOrder.{EvictOrder}
 use Rattle.pod_piece.specs.declared.status.PodStatus.{PodStatus}
 use Rattle.ranking.proofs.LawLemmas.{victim_unique}
 use Rattle.eviction.specs.declared.eviction.Eviction.{Eviction}
 use Rattle.eviction.specs.Replay.{IsCandidate, order_of, Evicts, IsOfVictim, IsEvictionFor, IsRound}
 use Rattle.eviction.specs.Laws.{OneReplay}
-
-pub at_place : {A : Type 0} (xs : List A) (t : ℕ) → t < length xs → (x : A) × (slice_get xs t ≡ Some x)
-at_place [] t lt = absurd (omega arith)
-at_place (y ∷ xs) zero lt = (y, refl)
-at_place (y ∷ xs) (suc t) lt = at_place xs t (omega arith)
 
 -- two lists of which each place is determined by the places before it are one
 same_lists : {A : Type 0} (xs ys : List A) → length xs ≡ length ys
@@ -86,9 +82,9 @@ round_unique config pods before tick evictions one other v w =
 
 pub one_replay : OneReplay
 one_replay config pods ticks one other v w = same_lists one other (v.as_many ∙ sym w.as_many) (λ t before x y e f.
-    let lt : t < length one = within one t x e in
+    let lt : t < length one = slice_get_within one t x e in
     let many : length one ≡ length ticks = v.as_many in
-    let tick = at_place ticks t (omega arith) in
+    let tick = given_at ticks t (omega arith) in
     let P : List (Option Eviction) → Type 0 = λ evictions. IsRound config pods (take t ticks) tick.0 evictions y in
     round_unique config pods (take t ticks) tick.0 (take t one) x y (v.each t tick.0 x tick.1 e)
     (subst P (sym before) (w.each t tick.0 y tick.1 f)))

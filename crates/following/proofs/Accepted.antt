@@ -2,7 +2,7 @@
 use Rattle.std.proofs.Common.{◌≡◌, ◌∙◌, ℕ, zero, suc, ◌+◌, ◌<◌, ◌≤◌, ◌||◌, not, Bool, true, false, List, [], ◌∷◌}
 use Rattle.std.proofs.Common.{length, map, get_or, Some, None, refl, sym, subst, inl, inr, arith}
 use Rattle.std.specs.Prelude.{slice_get, option_and_then}
-use Rattle.std.proofs.lemmas.Bool.{cases_Bool, cases_lt}
+use Rattle.std.proofs.lemmas.Bool.{cases_Bool, cases_lt, or_from}
 use Rattle.state_diff.specs.declared.differ.Differ.{Differ}
 use Rattle.state_diff.specs.Acceptable.{is_acceptable}
 use Rattle.observations.specs.declared.container.ContainerObs.{ContainerObs}
@@ -44,10 +44,6 @@ goes_on : (a rest : Bool) → a ≡ true → rest ≡ false → (not a || rest) 
 goes_on true rest e f = f
 goes_on false rest e f = absurd (cc)
 
-nowhere : (a rest : Bool) → a ≡ false → rest ≡ false → (a || rest) ≡ false
-nowhere false rest e f = f
-nowhere true rest e f = absurd (cc)
-
 containers_accept : (ticks : List TickObs) (pod n : ℕ) (os : List ContainerObs)
     → ((c : ℕ) → is_acceptable (history ticks pod (n + c))
     (option_and_then (λ (o : ContainerObs). o.seen) (slice_get os c)) ≡ true)
@@ -76,7 +72,7 @@ pods_accept ticks n (q ∷ qs) f =
     let rest = pods_accept ticks (n + 1) qs (λ p c.
     let next : n + suc p ≡ n + 1 + p = omega arith in
     subst (λ (k : ℕ). is_acceptable (history ticks k c) (seen_in_pod (slice_get qs p) c) ≡ true) next (f (suc p) c)) in
-    nowhere (some_container_backwards ticks n 0 q.containers) (some_pod_backwards ticks (n + 1) qs) here rest
+    or_from (some_container_backwards ticks n 0 q.containers) (some_pod_backwards ticks (n + 1) qs) here rest
 
 -- where every differ took the tick, it doesn't go back
 pub forwards : (ticks : List TickObs) (tick : TickObs) (counts : List ℕ) (old new : List (List Differ))

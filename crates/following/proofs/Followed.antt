@@ -1,9 +1,10 @@
 -- The differs after one pod more, or one tick more.
-use Rattle.std.proofs.Common.{◌≡◌, ◌∙◌, ℕ, zero, suc, ◌-◌, ◌<◌, ◌≤◌, List, [], ◌∷◌, ◌++◌, length, map, get_or}
+use Rattle.std.proofs.Common.{◌≡◌, ◌∙◌, ℕ, zero, suc, ◌-◌, ◌<◌, List, [], ◌∷◌, ◌++◌, length, map, get_or}
 use Rattle.std.proofs.Common.{slice_get, Option, Some, None, refl, ap, sym, subst, arith}
 use Rattle.std.specs.Prelude.{IfSome}
 use Rattle.std.specs.List.{All}
 use Rattle.std.proofs.lemmas.List.{map_push, length-append, length-map}
+use Rattle.std.proofs.lemmas.Option.{slice_get_past}
 use Rattle.histories.specs.Histories.{recorded, last_moment, EndsBefore}
 use Rattle.histories.proofs.Items.{pushed_each}
 use Rattle.histories.proofs.Moments.{last_moment-more}
@@ -30,11 +31,6 @@ shown_within [] p lt = absurd (omega arith)
 shown_within (q ∷ qs) zero lt = (q, refl)
 shown_within (q ∷ qs) (suc p) lt = shown_within qs p (omega arith)
 
-none_behind : (qs : List PodObs) (p : ℕ) → length qs ≤ p → slice_get qs p ≡ None
-none_behind [] p le = refl
-none_behind (q ∷ qs) zero le = absurd (omega arith)
-none_behind (q ∷ qs) (suc p) le = none_behind qs p (omega arith)
-
 -- the last of the ticks with one more is that one
 last_is : (ticks : List TickObs) (tick : TickObs) → slice_get (ticks ++ tick ∷ []) (length (ticks ++ tick ∷ []) - 1)
     ≡ Some tick
@@ -54,7 +50,8 @@ sooner (Some last) m n lt before = let less : last < m = before in omega arith
 of_pods_more : (ticks : List TickObs) (counts : List ℕ) (tick : TickObs) → AreOfPods ticks (length counts)
     → ComesNext ticks counts tick → AreOfPods (ticks ++ tick ∷ []) (length counts)
 of_pods_more ticks counts tick all comes = record {
-  others = λ pod le. own_rests ticks tick pod (none_behind tick.pods pod (omega (arith, as_many))) ∙ all.others pod le;
+  others = λ pod le. own_rests ticks tick pod (slice_get_past tick.pods pod (omega (arith, as_many)))
+      ∙ all.others pod le;
   in_time = λ pod c moment before. here pod c moment (shown_of tick pod) refl
       (subst (λ (o : Option TickObs). IfSome o (λ last. last.at < moment)) (last_is ticks tick) before);
 }

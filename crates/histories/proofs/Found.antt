@@ -1,7 +1,6 @@
 -- What is found by going through the places of a history, each of which has it or has not.
 use Rattle.std.proofs.Common.{◌≡◌, ◌⊎◌, inl, inr, ℕ, zero, suc, ◌<◌, ◌≤◌, List, [], ◌∷◌, ◌++◌, length, get_or, Option}
 use Rattle.std.proofs.Common.{Some, None, refl, arith}
-use Rattle.std.specs.Prelude.{slice_get}
 use Rattle.std.proofs.lemmas.Bool.{cases_lt, cases_eq}
 use Rattle.histories.specs.Histories.{Recorded, up_to, IsSo, IsFirst, IsFirstPlace, IsFirstMoment, ComesTrue}
 use Rattle.histories.specs.Histories.{IsSteady, IsTransition}
@@ -124,12 +123,6 @@ picked_of P each (x ∷ xs) =
       | inl here ↦ (x ∷ rest.0, inl (here, (rest.0, rest.1, refl)))
       | inr not ↦ (rest.0, inr (not, rest.1))
     ]
-
--- what stands at a place of a list
-pub given_at : {A : Type 0} (xs : List A) (k : ℕ) → k < length xs → (x : A) × (slice_get xs k ≡ Some x)
-given_at [] k lt = absurd (omega arith)
-given_at (x ∷ xs) zero lt = (x, refl)
-given_at (x ∷ xs) (suc k) lt = given_at xs k (omega arith)
 
 -- where each place below a number has an item there is a list of them
 pub list_of : {A : Type 0} (P : ℕ → A → Type 0) (n : ℕ) → ((k : ℕ) → k < n → (x : A) × P k x)

@@ -1,3 +1,4 @@
+pub mod Lists
 pub mod Places
 pub mod Moments
 pub mod First

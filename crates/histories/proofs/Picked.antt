@@ -2,10 +2,11 @@
 use Rattle.std.proofs.Common.{◌≡◌, inl, inr, ℕ, suc, ◌<◌, List, [], ◌∷◌, ◌++◌, length, length-append, refl, sym, ap}
 use Rattle.std.proofs.Common.{subst, ◌∙◌, arith}
 use Rattle.std.specs.Prelude.{◌↔◌, map}
-use Rattle.std.proofs.lemmas.List.{take-append-le}
+use Rattle.std.proofs.lemmas.List.{take-append-le, map-append}
 use Rattle.histories.specs.Histories.{Recorded, up_to, IsSo}
 use Rattle.histories.specs.Picked.{ArePicked}
 use Rattle.histories.proofs.Growth.{grows_so}
+use Rattle.histories.proofs.Lists.{map_more}
 
 -- there is at most one list of what is picked
 pub picked_one : {A : Type 0} (P : ℕ → Type 0) (xs picked others : List A) → ArePicked P xs picked
@@ -74,15 +75,6 @@ picked_back P (y ∷ xs) picked x (inl (first, (rest, p, e))) none =
     inl (first, (rest, picked_back (λ t. P (suc t)) xs rest x p none, e))
 picked_back P (y ∷ xs) picked x (inr (not, p)) none = inr (not, picked_back (λ t. P (suc t)) xs picked x p none)
 
--- of the records of a history, those up to which it holds
-map_more : {A B : Type 0} (f : A → B) (h : List A) (x : A) → map f (h ++ x ∷ []) ≡ map f h ++ f x ∷ []
-map_more f [] x = refl
-map_more f (y ∷ h) x = ap (λ zs. f y ∷ zs) (map_more f h x)
-
-map_both : {A B : Type 0} (f : A → B) (h later : List A) → map f (h ++ later) ≡ map f h ++ map f later
-map_both f [] later = refl
-map_both f (y ∷ h) later = ap (λ zs. f y ∷ zs) (map_both f h later)
-
 map_long : {A B : Type 0} (f : A → B) (h : List A) → length (map f h) ≡ length h
 map_long f [] = refl
 map_long f (y ∷ h) = ap suc (map_long f h)
@@ -95,8 +87,8 @@ so_same Q h later t lt =
       (λ s. record { within = omega (arith, length-append h later); so = subst Q (sym e) s.so }),
     )
 
-turned : {P Q : Type 0} → (P ↔ Q) → (Q ↔ P)
-turned w = (w.1, w.0)
+pub flip : {P Q : Type 0} → (P ↔ Q) → (Q ↔ P)
+flip w = (w.1, w.0)
 
 pub so_picked_in : {A B : Type 0} (Q : List (Recorded A) → Type 0) (f : Recorded A → B) (h : List (Recorded A))
     (x : Recorded A) (picked : List B)
@@ -106,7 +98,7 @@ so_picked_in {A} {B} Q f h x picked p here =
     let P : ℕ → Type 0 = IsSo Q (h ++ x ∷ []) in
     let long : length (map f h) ≡ length h = map_long f h in
     let old : ArePicked P (map f h) picked = picked_same (IsSo Q h) P (map f h) picked
-    (λ t lt. turned (so_same Q h (x ∷ []) t (omega (arith, long)))) p in
+    (λ t lt. flip (so_same Q h (x ∷ []) t (omega (arith, long)))) p in
     let new : P (length (map f h)) = subst P (sym long) ((grows_so Q h x).new here) in
     subst (λ (xs : List B). ArePicked P xs (picked ++ f x ∷ [])) (sym (map_more f h x))
     (picked_in P (map f h) picked (f x) old new)
@@ -126,7 +118,7 @@ so_picked_out {A} {B} Q f h x picked p none =
     let P : ℕ → Type 0 = IsSo Q (h ++ x ∷ []) in
     let long : length (map f h) ≡ length h = map_long f h in
     let old : ArePicked P (map f h) picked = picked_same (IsSo Q h) P (map f h) picked
-    (λ t lt. turned (so_same Q h (x ∷ []) t (omega (arith, long)))) p in
+    (λ t lt. flip (so_same Q h (x ∷ []) t (omega (arith, long)))) p in
     subst (λ (xs : List B). ArePicked P xs picked) (sym (map_more f h x))
     (picked_out P (map f h) picked (f x) old (λ s. not_new Q h x none (subst P long s)))
 
@@ -150,7 +142,7 @@ so_picked_front {A} {B} Q f h later picked front p q =
     let P : ℕ → Type 0 = IsSo Q (h ++ later) in
     let long : length (map f h) ≡ length h = map_long f h in
     let all : ArePicked P (map f h ++ map f later) picked = subst (λ (xs : List B). ArePicked P xs picked)
-    (map_both f h later) p in
+    (map-append f h later) p in
     let w = picked_front P (map f h) (map f later) picked all in
     let mine : ArePicked (IsSo Q h) (map f h) w.0 = picked_same P (IsSo Q h) (map f h) w.0
     (λ t lt. so_same Q h later t (omega (arith, long))) w.3 in

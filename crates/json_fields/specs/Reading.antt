@@ -1,6 +1,6 @@
 -- Reading step by step, where the first fault is the answer, and what a call answers beside it.
-use Rattle.std.specs.Prelude.{◌≡◌, ⊤, Bool, MatchBool, Option, Some, None, List, [], ◌∷◌, if◌then◌else◌, Result, Ok}
-use Rattle.std.specs.Prelude.{Err}
+use Rattle.std.specs.Prelude.{◌≡◌, ⊤, Bool, false, MatchBool, Option, Some, None, List, [], ◌∷◌}
+use Rattle.std.specs.Prelude.{if◌then◌else◌, Result, Ok, Err}
 
 infixl 10 ◌>>=◌
 abbrev pub ◌>>=◌ : {A B E : Type 0} → Result A E → (A → Result B E) → Result B E
@@ -26,3 +26,7 @@ each f (x ∷ xs) = f x >>= λ y. each f xs >>= λ ys. Ok (y ∷ ys)
 abbrev pub GivesUnless : {X Y E : Type 0} → (E → Bool) → (X → Y) → Result X E → Result Y E → Type 0
 GivesUnless is_memory view (Ok x) given = given ≡ Ok (view x)
 GivesUnless is_memory view (Err e) given = MatchBool (is_memory e) (Unit {0}) (given ≡ Err e)
+
+-- of a call that takes no memory
+abbrev pub GivesExactly : {X Y E : Type 0} → (X → Y) → Result X E → Result Y E → Type 0
+GivesExactly view result given = GivesUnless (λ fault. false) view result given

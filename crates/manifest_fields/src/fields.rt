@@ -2,7 +2,8 @@
 
 ghost use Rattle.std.specs.Prelude.{◌≡◌, ◌<◌, length, map, option_map, IfOk};
 ghost use Rattle.serde_json.specs.View.{view};
-ghost use Rattle.manifest_fields.specs.Gives.{Gives, GivesExactly};
+ghost use Rattle.json_fields.specs.Reading.{GivesExactly};
+ghost use Rattle.manifest_fields.specs.Gives.{Gives};
 ghost use Rattle.manifest_fields.specs.Fields.{object_of, array_of, array_or_none, some_items, text_of};
 ghost use Rattle.manifest_fields.specs.Fields.{required_text, text_or, absent};
 ghost use Rattle.manifest_fields.specs.Grammar.{passes};

@@ -2,8 +2,8 @@
 
 ghost use Rattle.std.specs.Prelude.{◌≡◌, ◌≤◌, ◌<◌, ◌^◌, option_map, IfOk};
 ghost use Rattle.serde_json.specs.View.{view};
+ghost use Rattle.json_fields.specs.Reading.{GivesExactly};
 ghost use Rattle.manifest.specs.declared.pod.Role.TheVariants.{Init};
-ghost use Rattle.manifest_fields.specs.Gives.{GivesExactly};
 ghost use Rattle.manifest.specs.Probe.{SucceedsByOne, no_probes};
 ghost use Rattle.manifest_fields.specs.ProbeFields.{in_range, number_of, probe_in, probe_of, some_probes, unprobed};
 ghost use Rattle.manifest_fields.specs.ProbeFields.{probes_of};

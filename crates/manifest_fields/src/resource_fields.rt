@@ -2,7 +2,7 @@
 
 ghost use Rattle.std.specs.Prelude.{◌≡◌, false, option_map, OnOk};
 ghost use Rattle.serde_json.specs.View.{view};
-ghost use Rattle.manifest_fields.specs.Gives.{GivesExactly};
+ghost use Rattle.json_fields.specs.Reading.{GivesExactly};
 ghost use Rattle.manifest.specs.Resources.{some_above};
 ghost use Rattle.manifest_fields.specs.ResourceFields.{quantity_at, amounts_in, amounts_of, within, resources_in};
 ghost use Rattle.manifest_fields.specs.ResourceFields.{resources_of};

@@ -3,9 +3,9 @@
 ghost use Rattle.std.specs.Prelude.{◌≡◌, ◌≤◌, ◌<◌, ◌+◌, ◌++◌, false, length, map, option_map, bytes_eq, IfOk, OnOk};
 ghost use Rattle.std.specs.List.{list_any};
 ghost use Rattle.serde_json.specs.View.{view};
-ghost use Rattle.json_fields.specs.Reading.{each};
+ghost use Rattle.json_fields.specs.Reading.{each, GivesExactly};
 ghost use Rattle.manifest.specs.declared.pod.Role.TheVariants.{Sidecar};
-ghost use Rattle.manifest_fields.specs.Gives.{Gives, GivesExactly};
+ghost use Rattle.manifest_fields.specs.Gives.{Gives};
 ghost use Rattle.manifest.specs.Containers.{has_twice, MayHave, IsOf, AllOf};
 ghost use Rattle.manifest_reader.specs.Manifest.{policy_of, priority_from, priority_of, grace_period_from};
 ghost use Rattle.manifest_reader.specs.Manifest.{grace_period_of, field_of, sidecar_from, role_of, container_of, few};

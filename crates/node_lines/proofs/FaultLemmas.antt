@@ -6,6 +6,7 @@ use Rattle.serde_json.specs.Find.{as_bool, as_str}
 use Rattle.json_fields.specs.Fields.{field_at, text_at}
 use Rattle.json_fields.specs.Reading.{◌>>=◌, some_or}
 use Rattle.json_fields.proofs.Only.{Only, only_ok, only_err, only_bind, only_if, only_some}
+use Rattle.json_fields.proofs.Steps.{bind_err}
 use Rattle.manifest.specs.Names.{is_name}
 use Rattle.manifest.specs.RestartDelay.{most_max_delay, max_delay_of}
 use Rattle.quantity.specs.Duration.{duration_of}
@@ -25,7 +26,7 @@ use Rattle.node_lines.specs.Limits.{has_capacity, is_off, with_capacity, limit_a
 use Rattle.node_lines.specs.Limits.{hard_limits}
 use Rattle.node_lines.specs.Maps.{map_of, or_config, duration_from, duration_at, quantity_at}
 use Rattle.signal_maps.specs.declared.scope.Scope.TheVariants.{Node}
-use Rattle.signal_maps.proofs.Refused.{each_only, map_only, bind_err, each_err}
+use Rattle.signal_maps.proofs.Refused.{each_only, map_only, each_err}
 use Rattle.node_lines.specs.Node.{whole_number, version_named, version_of, name_from, restart_delay_of, flag_of}
 use Rattle.node_lines.specs.Node.{few_seconds, seconds_of, or_default, settings_in, node_of}
 use Rattle.node_lines.specs.Thresholds.{soft_threshold, written_over, written_in, soft_thresholds, eviction_from}

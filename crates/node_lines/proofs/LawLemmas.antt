@@ -7,6 +7,7 @@ use Rattle.serde_json.specs.Find.{as_str}
 use Rattle.json_fields.specs.Fields.{field_at, text_at}
 use Rattle.json_fields.specs.Reading.{◌>>=◌}
 use Rattle.json_fields.proofs.Steps.{bind_ok}
+use Rattle.json_fields.proofs.Only.{same_value}
 use Rattle.quantity.specs.Duration.{duration_of}
 use Rattle.quantity.specs.declared.fault.QuantityFault.{QuantityFault}
 use Rattle.quantity.specs.declared.limit.Limit.{Limit}
@@ -35,9 +36,6 @@ use Rattle.signal_maps.proofs.EachSignal.{each_read, map_read as read_from_map}
 use Rattle.node_lines.specs.Node.{name_from, settings_in, node_of}
 use Rattle.node_lines.specs.Thresholds.{hard_threshold, soft_threshold, written_over, written_in, hard_thresholds}
 use Rattle.node_lines.specs.Thresholds.{soft_thresholds, eviction_from}
-
-ok_same : {A E : Type 0} (x y : A) → ◌≡◌ {A = Result A E} (Ok x) (Ok y) → x ≡ y
-ok_same x y e = cc
 
 pub map_read : {A : Type 0} (read : Signal → Option Data → Result A NodeFault) (found : Option Data) (all : BySignal A)
     → map_of read found ≡ Ok all → (signal : Signal) → read signal (in_map found signal) ≡ Ok (of all signal)
@@ -141,7 +139,7 @@ over_read capacity d written e =
     let c = bind_ok (map_of (λ signal. duration_at) (field_at (codes "evictionSoftGracePeriod") d)) _ written b.2 in
     let f = bind_ok (map_of (λ signal. reclaim_at (of capacity signal)) (field_at (codes "evictionMinimumReclaim") d))
     _ written c.2 in
-    subst (IsWritten d) (ok_same {E = NodeFault} _ written f.2)
+    subst (IsWritten d) (same_value {E = NodeFault} _ written f.2)
     (record { hard = a.1; soft = b.1; graces = c.1; reclaims = f.1 })
 
 pub in_read : (d : Data) (written : Written) → written_in d ≡ Ok written → IsWritten d written
@@ -158,7 +156,8 @@ pub record IsSet (written : Written) (eviction : Eviction) : Type 0 where
 set_read : (written : Written) (eviction : Eviction) → eviction_from written ≡ Ok eviction → IsSet written eviction
 set_read written eviction e =
     let a = bind_ok (soft_thresholds written) _ eviction e in
-    subst (IsSet written) (ok_same {E = NodeFault} _ eviction a.2) (record { capacity = refl; hard = refl; soft = a.1 })
+    subst (IsSet written) (same_value {E = NodeFault} _ eviction a.2)
+    (record { capacity = refl; hard = refl; soft = a.1 })
 
 pub node_read : (d : Data) (node : NodeConfig) → node_of d ≡ Ok node → (written : Written) × IsWritten d written
     × IsSet written node.eviction
@@ -169,7 +168,7 @@ node_read d node e =
     let c = bind_ok (written_in d) _ node b.2 in
     let f = bind_ok (eviction_from c.0) _ node c.2 in
     let P : NodeConfig → Type 0 = λ n. IsSet c.0 n.eviction in
-    (c.0, in_read d c.0 c.1, subst P (ok_same {E = NodeFault} _ node f.2) (set_read c.0 f.0 f.1))
+    (c.0, in_read d c.0 c.1, subst P (same_value {E = NodeFault} _ node f.2) (set_read c.0 f.0 f.1))
 
 -- what a threshold is made of
 pub record IsMadeOf (limit : Option Limit) (reclaim : Limit) (grace : Option ℕ) (threshold : Threshold) : Type 0 where
@@ -247,7 +246,7 @@ hard_found capacity (Some d) map all is e = e
 
 hard_default : (capacity : BySignal (Option ℕ)) (found : Option Data) (all : BySignal (Option Limit)) → found ≡ None
     → hard_limits capacity found ≡ Ok all → default_limits capacity ≡ all
-hard_default capacity None all is e = ok_same {E = NodeFault} _ all e
+hard_default capacity None all is e = same_value {E = NodeFault} _ all e
 hard_default capacity (Some d) all is e = absurd (cc)
 
 pub hard_limit_of : (d map : Data) (written : Written) (signal : Signal) → IsWritten d written

@@ -3,6 +3,7 @@ use Rattle.std.proofs.Common.{◌≡◌, ◌∙◌, ◌⊎◌, inl, inr, ℕ, Bo
 use Rattle.std.proofs.Common.{refl, ap, sym, subst}
 use Rattle.std.specs.Prelude.{◌==◌, ◌||◌, option_and_then, if◌then◌else◌, codes}
 use Rattle.std.proofs.lemmas.Bool.{cases_Bool, or_cases, eqb-true}
+use Rattle.std.proofs.lemmas.Option.{same_Some}
 use Rattle.serde_json.specs.Data.{Data}
 use Rattle.json_fields.specs.Fields.{field_at}
 use Rattle.json_fields.specs.Reading.{◌>>=◌}
@@ -140,9 +141,6 @@ built threshold reclaim grace reclaim_is grace_is =
     ap (λ (r : Limit). record { limit = threshold.limit; reclaim = r; grace = threshold.grace }) (sym reclaim_is)
     ∙ ap (λ (g : ℕ). record { limit = threshold.limit; reclaim = reclaim; grace = g }) (sym grace_is)
 
-same_some : {A : Type 0} (x y : A) → Some x ≡ Some y → x ≡ y
-same_some x y e = cc
-
 hard_on : (d map : Data) (node : NodeConfig) (signal : Signal) (threshold : Threshold) → node_of d ≡ Ok node
     → field_at (codes "evictionHard") d ≡ Some map → threshold_of node.eviction Hard signal ≡ Some threshold
     → SwitchesOff threshold.limit → ⊥
@@ -169,12 +167,12 @@ hard_from : (d : Data) (node : NodeConfig) (signal : Signal) (threshold : Thresh
 hard_from d node signal threshold None none e is =
     let made = hard_made _ _ threshold (sym (defaults d node signal e none) ∙ is) in (
       inr (record { none_written = none; limit_is = made.limit_is }),
-      built threshold _ 0 made.reclaim_is (same_some 0 threshold.grace made.grace_is),
+      built threshold _ 0 made.reclaim_is (same_Some 0 threshold.grace made.grace_is),
     )
 hard_from d node signal threshold (Some map) found e is =
     let written = hard_as_written d map node signal threshold e found is in (
       inl (record { is_written = written.has_limit; on = hard_on d map node signal threshold e found is }),
-      built threshold _ 0 written.has_reclaim (same_some 0 threshold.grace written.has_grace),
+      built threshold _ 0 written.has_reclaim (same_Some 0 threshold.grace written.has_grace),
     )
 
 soft_from : (d : Data) (node : NodeConfig) (signal : Signal) (threshold : Threshold) → node_of d ≡ Ok node

@@ -11,7 +11,3 @@ is_memory fault = false
 -- of a call that takes memory: a fault for want of it aside
 abbrev pub Gives : {X Y : Type 0} → (X → Y) → Result X NodeFault → Result Y NodeFault → Type 0
 Gives view result given = GivesUnless is_memory view result given
-
--- of a call that takes none
-abbrev pub GivesExactly : {X Y : Type 0} → (X → Y) → Result X NodeFault → Result Y NodeFault → Type 0
-GivesExactly view result given = GivesUnless (λ fault. false) view result given

@@ -2,7 +2,8 @@
 
 ghost use Rattle.std.specs.Prelude.{◌≡◌, option_map};
 ghost use Rattle.serde_json.specs.View.{view};
-ghost use Rattle.node_lines.specs.Gives.{Gives, GivesExactly};
+ghost use Rattle.json_fields.specs.Reading.{GivesExactly};
+ghost use Rattle.node_lines.specs.Gives.{Gives};
 ghost use Rattle.node_lines.specs.Node.{version_of, name_from, restart_delay_of, flag_of, seconds_of};
 ghost use Rattle.node_lines.specs.Node.{transition_period_of, settings_in, node_of};
 

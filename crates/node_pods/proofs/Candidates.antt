@@ -1,12 +1,13 @@
 -- The candidates that are held, and their victim.
-use Rattle.std.proofs.Common.{◌≡◌, ◌∙◌, inl, inr, ℕ, ◌+◌, ◌<◌, ◌≤◌, Bool, true, false, List, [], length, Option}
+use Rattle.std.proofs.Common.{◌≡◌, ◌∙◌, inl, inr, ℕ, ◌+◌, ◌<◌, ◌≤◌, Bool, List, [], length, Option}
 use Rattle.std.proofs.Common.{Some, None, refl, sym, subst, arith}
 use Rattle.std.specs.Prelude.{◌≢◌, IsSome, slice_get}
 use Rattle.std.proofs.lemmas.Bool.{cases_eq, cases_lt}
 use Rattle.std.proofs.lemmas.Option.{slice_get_within}
+use Rattle.histories.proofs.Lists.{some_given}
 use Rattle.signals.specs.declared.signal.Signal.{Signal}
 use Rattle.phase.specs.RawPhase.{IsTerminal}
-use Rattle.pod_state.proofs.EndLemmas.{terminal_cases}
+use Rattle.phase.proofs.DecideLemmas.{terminal_cases}
 use Rattle.pod_piece.specs.declared.status.PodStatus.{PodStatus}
 use Rattle.pod_piece.specs.Piece.{Piece, with_eviction}
 use Rattle.pod_piece.specs.Status.{IsStatusOf}
@@ -36,21 +37,17 @@ pub candidates_rank_alike : (pieces : List Piece) (n : ℕ) (p q : PodStatus) �
     → IsCandidate pieces n q → RankAlike p q
 candidates_rank_alike pieces n p q c d = rank_alike c.piece p q c.is_status (status_at pieces n c.piece q c.at d)
 
-some_of : {A : Type 0} (o : Option A) → IsSome o → (x : A) × (o ≡ Some x)
-some_of None t = absurd (let w : false ≡ true = t in cc)
-some_of (Some x) t = (x, refl)
-
 -- the victim of those that are held is that of the candidates
 pub victim_of_held : (signal : Signal) (dedicated : Bool) (pieces : List Piece) (held : ℕ → Option PodStatus)
     → AreHeld pieces held → (victim : Option ℕ) → IsVictim signal dedicated (λ n p. held n ≡ Some p) victim
     → IsVictim signal dedicated (IsCandidate pieces) victim
 victim_of_held signal dedicated pieces held are None none =
-    λ n p c. let w = some_of (held n) ((are n).complete p c) in none n w.0 w.1
+    λ n p c. let w = some_given (held n) ((are n).complete p c) in none n w.0 w.1
 victim_of_held signal dedicated pieces held are (Some n) (p, e, before) = (
   p,
   (are n).sound p e,
   λ m q c apart.
-      let w = some_of (held m) ((are m).complete q c) in
+      let w = some_given (held m) ((are m).complete q c) in
       before_alike signal dedicated p w.0 q (candidates_rank_alike pieces m w.0 q ((are m).sound w.0 w.1) c)
       (before m w.0 w.1 apart),
 )

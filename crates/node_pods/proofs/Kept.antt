@@ -4,10 +4,10 @@ use Rattle.std.proofs.Common.{Option, Some, None, refl, ap, sym, subst, arith}
 use Rattle.std.specs.Prelude.{◌≢◌, slice_get, Result, Ok, Err, OnErr}
 use Rattle.std.proofs.lemmas.Bool.{cases_eq, cases_order}
 use Rattle.std.proofs.lemmas.Option.{slice_get_within, slice_get_past}
-use Rattle.probes.proofs.Runs.{slice_get-old, slice_get-new}
 use Rattle.histories.specs.Histories.{last_moment}
 use Rattle.histories.proofs.Moments.{last_moment-more}
 use Rattle.histories.proofs.Places.{length-more}
+use Rattle.histories.proofs.Lists.{slice_get-old, slice_get-new, given_at}
 use Rattle.manifest.specs.declared.pod.PodSpec.{PodSpec}
 use Rattle.observations.specs.Pods.{PodObs}
 use Rattle.pod_state.specs.Pods.{pod_tick}
@@ -26,7 +26,7 @@ use Rattle.node_pods.specs.Ranked.{AreHeldBelow, AreRankings, AreRankingsBut, Ar
 use Rattle.node_pods.proofs.Candidates.{same_piece, held_after, held_without, all_below, none_past}
 use Rattle.node_pods.proofs.Candidates.{evicted_is_no_candidate}
 use Rattle.node_pods.proofs.Indexes.{but}
-use Rattle.node_pods.proofs.Steps.{item_at, after_handed}
+use Rattle.node_pods.proofs.Steps.{after_handed}
 
 -- where each pod has its number
 pub free_all : (pieces : List Piece) (greatest : ℕ) (dedicated : Bool)
@@ -101,8 +101,8 @@ pub placed_after : (old : List Piece) (greatest : ℕ) (dedicated : Bool) (shown
     → ArePlaced (pods_of new greatest dedicated)
 placed_after old greatest dedicated shown new placed next are n piece at =
     let lt = slice_get_within new n piece at in
-    let p = item_at old n (omega (arith, lt, are.as_many)) in
-    let o = item_at shown n (omega (arith, lt, are.as_many, next.as_many)) in
+    let p = given_at old n (omega (arith, lt, are.as_many)) in
+    let o = given_at shown n (omega (arith, lt, are.as_many, next.as_many)) in
     let was = placed n p.0 p.1 in
     subst (λ (q : Piece). IsPlaced greatest n q)
     (same_piece new n (updated (with_tick p.0 (pod_tick o.0))) piece (are.each n p.0 o.0 p.1 o.1) at)
@@ -151,7 +151,7 @@ placed_evicted : (old : List Piece) (greatest : ℕ) (dedicated : Bool) (number 
 placed_evicted old greatest dedicated number order new placed are n piece at = elim (cases_eq n number) [
   | inl same ↦
       let lt = slice_get_within new n piece at in
-      let p = item_at old n (omega (arith, lt, are.as_many)) in
+      let p = given_at old n (omega (arith, lt, are.as_many)) in
       let was = placed n p.0 p.1 in
       let there = subst (λ (k : ℕ). slice_get old k ≡ Some p.0) same p.1 in
       let here = subst (λ (k : ℕ). slice_get new k ≡ Some (with_eviction p.0 order)) (sym same) (are.here p.0 there) in
@@ -196,8 +196,8 @@ ranked_by new pieces dedicated was r same (held, are, below) =
 pub candidate_is_evictable : CandidateIsEvictable
 candidate_is_evictable pods tick new n status fits are c =
     let lt = slice_get_within new n c.piece c.at in
-    let p = item_at pods.pieces n (omega (arith, lt, are.as_many)) in
-    let o = item_at tick.pods n (omega (arith, lt, are.as_many, fits.next.as_many)) in
+    let p = given_at pods.pieces n (omega (arith, lt, are.as_many)) in
+    let o = given_at tick.pods n (omega (arith, lt, are.as_many, fits.next.as_many)) in
     let here = are.each n p.0 o.0 p.1 o.1 in
     let P : Piece → Type 0 = λ q. last_moment q.handed ≡ Some tick.at in
     let last = last_moment-more (p.0).handed (pod_tick o.0) ∙ ap Some (fits.at_its_moment n o.0 o.1) in

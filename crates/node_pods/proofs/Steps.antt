@@ -1,11 +1,12 @@
 -- The pods of a node, one after the other: which tick may come, and what it makes of them.
-use Rattle.std.proofs.Common.{◌≡◌, ◌∙◌, inl, inr, ℕ, zero, suc, ◌+◌, ◌<◌, Bool, List, [], ◌∷◌, ◌++◌, length, map}
+use Rattle.std.proofs.Common.{◌≡◌, ◌∙◌, inl, inr, ℕ, zero, suc, ◌+◌, Bool, List, [], ◌∷◌, ◌++◌, length, map}
 use Rattle.std.proofs.Common.{Option, Some, None, refl, ap, sym, subst, arith}
 use Rattle.std.specs.Prelude.{◌≢◌, ◌↔◌, IsTrue, MatchOption, option_map, slice_get, slice_set}
 use Rattle.std.specs.Option.{option_to_list}
 use Rattle.std.proofs.lemmas.Bool.{cases_eq}
 use Rattle.std.proofs.lemmas.List.{length-map}
 use Rattle.std.proofs.lemmas.Option.{slice_get_within, slice_get-map}
+use Rattle.histories.proofs.Lists.{given_at, same_at, set_length, set_here, set_others}
 use Rattle.observations.specs.Pods.{PodObs}
 use Rattle.observations.specs.declared.tick.TickObs.{TickObs}
 use Rattle.pod_state.specs.Pods.{pod_tick}
@@ -15,24 +16,6 @@ use Rattle.node_pods.specs.Pods.{Pods, AreNext, Fits, AreHanded, AreAfter, AreEv
 use Rattle.node_pods.specs.Steps.{AreFree, IsNextAt, AreNextBelow, MayTake, with_shown}
 use Rattle.node_pods.specs.Laws.{OneIsAfter, OneIsEvicted}
 use Rattle.node_pods.proofs.Candidates.{same_piece}
-
--- two lists with the same items at their places
-pub same_items : {A : Type 0} (xs ys : List A) → length xs ≡ length ys
-    → ((n : ℕ) → n < length xs → slice_get xs n ≡ slice_get ys n) → xs ≡ ys
-same_items [] [] long same = refl
-same_items [] (y ∷ ys) long same = absurd (omega arith)
-same_items (x ∷ xs) [] long same = absurd (omega arith)
-same_items (x ∷ xs) (y ∷ ys) long same =
-    let first : Some x ≡ Some y = same 0 (omega arith) in
-    let head : x ≡ y = cc in
-    let rest : xs ≡ ys = same_items xs ys (omega (arith, long)) (λ n lt. same (suc n) (omega (arith, lt))) in
-    ap (λ z. z ∷ xs) head ∙ ap (λ zs. y ∷ zs) rest
-
--- what stands at a place of a list
-pub item_at : {A : Type 0} (xs : List A) (n : ℕ) → n < length xs → (x : A) × (slice_get xs n ≡ Some x)
-item_at [] n lt = absurd (omega arith)
-item_at (x ∷ xs) zero lt = (x, refl)
-item_at (x ∷ xs) (suc n) lt = item_at xs n (omega arith)
 
 -- what is shown of the pods, one after the other, may be handed to them
 abbrev pub MayTakeAll : List Piece → List PodObs → Type 0
@@ -89,29 +72,10 @@ after_handed old shown pending are = record {
 
 pub after_unique : (old : List Piece) (shown : List PodObs) (one other : List Piece) → AreNext old shown
     → AreAfter old shown one → AreAfter old shown other → one ≡ other
-after_unique old shown one other next a b = same_items one other (a.as_many ∙ sym b.as_many) (λ n lt.
-    let p = item_at old n (omega (arith, lt, a.as_many)) in
-    let o = item_at shown n (omega (arith, lt, a.as_many, next.as_many)) in
+after_unique old shown one other next a b = same_at one other (a.as_many ∙ sym b.as_many) (λ n lt.
+    let p = given_at old n (omega (arith, lt, a.as_many)) in
+    let o = given_at shown n (omega (arith, lt, a.as_many, next.as_many)) in
     a.each n p.0 o.0 p.1 o.1 ∙ sym (b.each n p.0 o.0 p.1 o.1))
-
--- one piece set
-pub set_length : {A : Type 0} (xs : List A) (n : ℕ) (x : A) → length (slice_set xs n x) ≡ length xs
-set_length [] n x = refl
-set_length (y ∷ xs) zero x = refl
-set_length (y ∷ xs) (suc n) x = ap suc (set_length xs n x)
-
-pub set_here : {A : Type 0} (xs : List A) (n : ℕ) (x y : A) → slice_get xs n ≡ Some y
-    → slice_get (slice_set xs n x) n ≡ Some x
-set_here [] n x y at = absurd (cc)
-set_here (z ∷ xs) zero x y at = refl
-set_here (z ∷ xs) (suc n) x y at = set_here xs n x y at
-
-pub set_others : {A : Type 0} (xs : List A) (n m : ℕ) (x : A) → m ≢ n → slice_get (slice_set xs n x) m ≡ slice_get xs m
-set_others [] n m x apart = refl
-set_others (z ∷ xs) zero zero x apart = absurd (apart refl)
-set_others (z ∷ xs) zero (suc m) x apart = refl
-set_others (z ∷ xs) (suc n) zero x apart = refl
-set_others (z ∷ xs) (suc n) (suc m) x apart = set_others xs n m x (λ e. apart (ap suc e))
 
 pub set_evicted : (old : List Piece) (n : ℕ) (order : EvictOrder) (piece evicted : Piece)
     → slice_get old n ≡ Some piece → evicted ≡ with_eviction piece order
@@ -125,10 +89,10 @@ set_evicted old n order piece evicted at is = record {
 
 pub evicted_unique : (old : List Piece) (n : ℕ) (order : EvictOrder) (one other : List Piece)
     → AreEvicted old n order one → AreEvicted old n order other → one ≡ other
-evicted_unique old n order one other a b = same_items one other (a.as_many ∙ sym b.as_many) (λ m lt.
+evicted_unique old n order one other a b = same_at one other (a.as_many ∙ sym b.as_many) (λ m lt.
     elim (cases_eq m n) [
       | inl same ↦
-          let p = item_at old n (omega (arith, lt, a.as_many, same)) in
+          let p = given_at old n (omega (arith, lt, a.as_many, same)) in
           subst (λ (k : ℕ). slice_get one k ≡ slice_get other k) (sym same) (a.here p.0 p.1 ∙ sym (b.here p.0 p.1))
       | inr apart ↦ a.others m apart ∙ sym (b.others m apart)
     ])
@@ -193,7 +157,7 @@ fits_all pods tick long all = record {
   };
   at_its_moment = λ n observed there.
       let lt = slice_get_within tick.pods n observed there in
-      let p = item_at pods.pieces n (omega (arith, lt, long)) in
+      let p = given_at pods.pieces n (omega (arith, lt, long)) in
       (all n p.0 observed (omega (arith, lt, long)) p.1 there).now;
 }
 

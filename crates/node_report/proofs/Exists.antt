@@ -4,7 +4,8 @@ use Rattle.std.specs.Prelude.{slice_get, option_map}
 use Rattle.std.specs.List.{concat}
 use Rattle.std.proofs.lemmas.List.{length-map}
 use Rattle.std.proofs.lemmas.Option.{same_Some, slice_get-get_or, slice_get-map}
-use Rattle.histories.proofs.Found.{given_at, list_of}
+use Rattle.histories.proofs.Found.{list_of}
+use Rattle.histories.proofs.Lists.{given_at}
 use Rattle.manifest.specs.declared.pod.PodSpec.{PodSpec}
 use Rattle.node_config.specs.declared.node.NodeConfig.{NodeConfig}
 use Rattle.observations.specs.declared.tick.TickObs.{TickObs}

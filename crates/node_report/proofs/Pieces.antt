@@ -2,17 +2,14 @@
 use Rattle.std.proofs.Common.{◌≡◌, ◌∙◌, ℕ, suc, zero, ◌<◌, List, [], ◌∷◌, length, take, get_or, Option, Some, ap, sym}
 use Rattle.std.proofs.Common.{subst}
 use Rattle.std.proofs.Common.{arith}
-use Rattle.std.specs.Prelude.{slice_get, option_map}
-use Rattle.std.proofs.lemmas.List.{take_all, length-map}
-use Rattle.std.proofs.lemmas.Option.{slice_get-map}
+use Rattle.std.specs.Prelude.{slice_get}
+use Rattle.std.proofs.lemmas.List.{take_all}
+use Rattle.histories.proofs.Lists.{given_at}
 use Rattle.manifest.specs.declared.pod.PodSpec.{PodSpec}
 use Rattle.node_config.specs.declared.node.NodeConfig.{NodeConfig}
 use Rattle.observations.specs.declared.tick.TickObs.{TickObs}
 use Rattle.pod_piece.specs.Piece.{Piece}
-use Rattle.eviction.proofs.Unique.{at_place}
 use Rattle.eviction.specs.declared.eviction.Eviction.{Eviction}
-use Rattle.event_book.proofs.Places.{same_places}
-use Rattle.event_list.specs.Names.{pods_in}
 use Rattle.tick_round.specs.Node.{ArePieces, piece_after}
 use Rattle.node_report.specs.Report.{AreLines}
 
@@ -23,7 +20,7 @@ pub piece_here : (config : NodeConfig) (pods : List PodSpec) (ticks : List TickO
     × (piece ≡ piece_after config ticks evictions n pod)
 piece_here config pods ticks evictions pieces n piece are lt is =
     let many : length pieces ≡ length pods = are.as_many in
-    let pod = at_place pods n (omega arith) in
+    let pod = given_at pods n (omega arith) in
     let here : Some piece ≡ Some (piece_after config ticks evictions n pod.0) = sym (found pieces n piece lt is)
     ∙ are.each n pod.0 pod.1 in (
       pod.0,
@@ -50,13 +47,3 @@ pub whole_report : (config : NodeConfig) (ticks : List TickObs) (evictions : Lis
 whole_report config ticks evictions pods pieces n bytes are all is =
     let many : length pieces ≡ length pods = are.as_many in
     subst (λ (ps : List PodSpec). AreLines ticks evictions ps bytes) (take_all n pods (omega arith)) is
-
--- the pods of the pieces are the node's
-pub pods_are : (config : NodeConfig) (pods : List PodSpec) (ticks : List TickObs) (evictions : List (Option Eviction))
-    (pieces : List Piece) → ArePieces config pods ticks evictions pieces → pods_in pieces ≡ pods
-pods_are config pods ticks evictions pieces are =
-    let pod_of : Piece → PodSpec = λ (piece : Piece). piece.pod in
-    same_places (pods_in pieces) pods (length-map pieces pod_of ∙ are.as_many) (λ n x y here there.
-    let both : Some x ≡ Some y =
-    sym here ∙ (slice_get-map pod_of pieces n ∙ ap (option_map pod_of) (are.each n y there)) in
-    cc)

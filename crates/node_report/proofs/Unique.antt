@@ -1,8 +1,10 @@
 -- There is one report.
-use Rattle.std.proofs.Common.{◌≡◌, ◌∙◌, ℕ, suc, Bool, ◌<◌, List, [], ◌∷◌, length, get_or, Option, slice_index_or}
-use Rattle.std.proofs.Common.{refl, ap, sym, subst, arith}
+use Rattle.std.proofs.Common.{◌≡◌, ◌∙◌, ℕ, Bool, ◌<◌, List, length, Option, slice_index_or}
+use Rattle.std.proofs.Common.{ap, sym, subst, arith}
 use Rattle.std.specs.List.{concat}
+use Rattle.std.proofs.lemmas.Option.{slice_get_within}
 use Rattle.histories.proofs.Decide.{same_bool}
+use Rattle.histories.proofs.Lists.{same_places, given_at, some_item, same_items}
 use Rattle.manifest.specs.declared.pod.PodSpec.{PodSpec}
 use Rattle.node_config.specs.declared.node.NodeConfig.{NodeConfig}
 use Rattle.observations.specs.declared.tick.TickObs.{TickObs}
@@ -13,14 +15,12 @@ use Rattle.pressure.proofs.LawLemmas.{one_since}
 use Rattle.node_signals.specs.declared.condition.NodeCondition.{NodeCondition}
 use Rattle.node_signals.specs.Conditions.{conditions}
 use Rattle.node_signals.proofs.ConditionLemmas.{one_list}
-use Rattle.node_signals.proofs.PlaceLemmas.{within}
 use Rattle.containers.specs.declared.status.ContainerStatus.{ContainerStatus}
 use Rattle.pod_state.specs.declared.lifecycle.Lifecycle.{Lifecycle}
 use Rattle.pod_state.proofs.UniqueLemmas.{status_one, container_one}
 use Rattle.eviction.specs.declared.eviction.Eviction.{Eviction}
 use Rattle.eviction.specs.Replay.{pod_ticks}
-use Rattle.eviction.proofs.Unique.{at_place, one_replay}
-use Rattle.event_book.proofs.Places.{same_places}
+use Rattle.eviction.proofs.Unique.{one_replay}
 use Rattle.event_list.specs.declared.event.Event.{Event}
 use Rattle.event_list.specs.Events.{AreEvents}
 use Rattle.event_list.specs.Totals.{totals_of}
@@ -30,17 +30,6 @@ use Rattle.tick_round.specs.Summary.{IsConditionAfter, AreConditionsAfter}
 use Rattle.node_report.specs.Lines.{pod_text, report_lines}
 use Rattle.node_report.specs.Report.{evicting_tick, evicting_order, ArePodLines, AreLines}
 use Rattle.node_report.specs.Laws.{OneReport}
-
--- lists of one length with the same items
-same_items : {A : Type 0} (xs ys : List A) → length xs ≡ length ys
-    → ((i : ℕ) (d : A) → i < length xs → get_or xs i d ≡ get_or ys i d) → xs ≡ ys
-same_items [] [] e same = refl
-same_items [] (y ∷ ys) e same = absurd (omega arith)
-same_items (x ∷ xs) [] e same = absurd (omega arith)
-same_items (x ∷ xs) (y ∷ ys) e same =
-    let first : x ≡ y = same 0 x (omega arith) in
-    let rest : xs ≡ ys = same_items xs ys (omega arith) (λ i d lt. same (suc i) d (omega arith)) in
-    cc
 
 lines_one : (ticks : List TickObs) (evictions : List (Option Eviction)) (n : ℕ) (pod : PodSpec) (a b : List ℕ)
     → ArePodLines ticks evictions n pod a → ArePodLines ticks evictions n pod b → a ≡ b
@@ -60,10 +49,6 @@ lines_one ticks evictions n pod a b x y =
     ∙ ap (λ (s : Lifecycle). pod_text n pod y.qos s.phase s.conditions order x.containers) lifecycles
     ∙ ap (λ (cs : List ContainerStatus). pod_text n pod y.qos y.lifecycle.phase y.lifecycle.conditions order cs)
     containers ∙ sym y.text
-
-some_item : {A : Type 0} (xs : List A) (n : ℕ) → n < length xs → A
-some_item [] n lt = absurd (omega arith)
-some_item (x ∷ xs) n lt = x
 
 all_lines_one : (ticks : List TickObs) (evictions : List (Option Eviction)) (pods : List PodSpec) (a b : List ℕ)
     → AreLines ticks evictions pods a → AreLines ticks evictions pods b → a ≡ b
@@ -102,9 +87,9 @@ conditions_one : (config : NodeConfig) (ticks : List TickObs) (a b : List Condit
     → AreConditionsAfter config ticks a → AreConditionsAfter config ticks b → a ≡ b
 conditions_one config ticks a b x y =
     same_places a b (x.as_many ∙ sym y.as_many) (λ n one other here there.
-    let lt : n < length a = within a n one here in
+    let lt : n < length a = slice_get_within a n one here in
     let many : length a ≡ length conditions = x.as_many in
-    let condition = at_place conditions n (omega arith) in
+    let condition = given_at conditions n (omega arith) in
     condition_one config ticks condition.0 one other (x.each n condition.0 one condition.1 here)
     (y.each n condition.0 other condition.1 there))
 

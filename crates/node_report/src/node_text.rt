@@ -2,7 +2,7 @@
 
 ghost use Rattle.std.specs.Prelude.{◌≡◌, ◌++◌, IfOk, OnOk, string_bytes};
 ghost use Rattle.std.specs.List.{flat_map};
-ghost use Rattle.event_list.specs.Names.{pods_in};
+ghost use Rattle.pod_piece.specs.Piece.{pods_in};
 ghost use Rattle.event_list.specs.Text.{event_line};
 ghost use Rattle.node_report.specs.Lines.{header_line, node_condition_line, eviction_line, eviction_text, totals_line};
 

@@ -1,12 +1,13 @@
 -- What the ticks say of a condition.
-use Rattle.std.proofs.Common.{◌≡◌, ◌⊎◌, inl, inr, ℕ, zero, suc, ◌<◌, List, [], ◌∷◌, ◌++◌, length, take, Bool, true}
-use Rattle.std.proofs.Common.{false, Some, None, refl, sym, ap, subst, ◌∙◌, arith}
-use Rattle.std.specs.Prelude.{◌↔◌, IsTrue, IsSomeAnd, slice_get}
-use Rattle.std.proofs.lemmas.Bool.{cases_lt}
+use Rattle.std.proofs.Common.{◌≡◌, inl, inr, ℕ, zero, suc, ◌<◌, List, [], ◌∷◌, ◌++◌, length, take, Bool}
+use Rattle.std.proofs.Common.{Some, refl, sym, ap, subst, ◌∙◌, arith}
+use Rattle.std.specs.Prelude.{◌↔◌, IsTrue}
 use Rattle.std.proofs.lemmas.List.{take-append-le, take_all}
-use Rattle.histories.specs.Histories.{recorded, moment_at, entry_at}
+use Rattle.std.proofs.lemmas.Option.{slice_get_within}
+use Rattle.histories.specs.Histories.{recorded, moment_at}
 use Rattle.histories.proofs.Decide.{same_bool}
-use Rattle.histories.proofs.Places.{length-more, moment_at-old, moment_at-new, kept, added, split, entry_at-below}
+use Rattle.histories.proofs.Places.{length-more, moment_at-old, moment_at-new}
+use Rattle.histories.proofs.Lists.{place_split, given_at}
 use Rattle.pressure.specs.Pressures.{Observation, IsMetAt, IsUnderPressure, IsSince}
 use Rattle.pressure.specs.declared.pressure.Pressure.{Pressure}
 use Rattle.pressure.specs.State.{IsStateOf as IsPressureState}
@@ -15,7 +16,6 @@ use Rattle.observations.specs.declared.tick.TickObs.{TickObs}
 use Rattle.node_signals.specs.declared.condition.NodeCondition.{NodeCondition}
 use Rattle.node_signals.specs.Conditions.{IsMet, AreObservations, IsTrueAfter, IsSinceMoment}
 use Rattle.node_signals.specs.Node.{IsPressureOf}
-use Rattle.node_signals.proofs.PlaceLemmas.{within, place_split}
 
 -- lists of observations that say the same of each place are one
 same_observations : (h k : List Observation) → length h ≡ length k
@@ -35,19 +35,14 @@ same_observations (x ∷ h) (y ∷ k) len moments met =
     let Q : List Observation → Type 0 = λ z. x ∷ h ≡ x ∷ z in
     subst P head (subst Q rest refl)
 
-at_place : {A : Type 0} (xs : List A) (t : ℕ) → t < length xs → (x : A) × (slice_get xs t ≡ Some x)
-at_place [] t lt = absurd (omega arith)
-at_place (y ∷ xs) zero lt = (y, refl)
-at_place (y ∷ xs) (suc t) lt = at_place xs t (omega arith)
-
 -- the ticks say one thing of a condition
 pub one_list : (eviction : Eviction) (condition : NodeCondition) (ticks : List TickObs) (h k : List Observation)
     → AreObservations eviction condition ticks h → AreObservations eviction condition ticks k → h ≡ k
 one_list eviction condition ticks h k a b =
     same_observations h k (a.as_many ∙ sym b.as_many)
-    (λ t lt. let there = at_place ticks t (let many : length h ≡ length ticks = a.as_many in omega arith) in
+    (λ t lt. let there = given_at ticks t (let many : length h ≡ length ticks = a.as_many in omega arith) in
     a.moments t there.0 there.1 ∙ sym (b.moments t there.0 there.1))
-    (λ t lt. let there = at_place ticks t (let many : length h ≡ length ticks = a.as_many in omega arith) in
+    (λ t lt. let there = given_at ticks t (let many : length h ≡ length ticks = a.as_many in omega arith) in
     let one = a.met t there.0 there.1 in
     let other = b.met t there.0 there.1 in
     ((λ m. other.1 (one.0 m)), (λ m. one.1 (other.0 m))))
@@ -88,7 +83,7 @@ observed_more eviction condition before tick h met is a = record {
   ];
   met = λ t x e. elim (place_split before tick x t e) [
     | inl old ↦
-        let lt : t < length before = within before t x old in
+        let lt : t < length before = slice_get_within before t x old in
         let m = met_before h tick.at met t (let many : length h ≡ length before = a.as_many in omega arith) in
         let was = a.met t x old in
         let same : take (suc t) (before ++ tick ∷ []) ≡ take (suc t) before = take-append-le (suc t) before

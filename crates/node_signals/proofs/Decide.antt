@@ -6,6 +6,7 @@ use Rattle.histories.specs.Histories.{entry_at, moment_at, last_moment}
 use Rattle.histories.proofs.Decide.{OrNot, of_test, both, either, true_or_not, less_or_not, at_most_or_not}
 use Rattle.histories.proofs.Decide.{given_or_not}
 use Rattle.histories.proofs.Found.{some_below}
+use Rattle.histories.proofs.Lists.{within_and, given, map_more}
 use Rattle.signals.specs.declared.threshold.Threshold.{Threshold}
 use Rattle.signals.specs.BySignal.{of}
 use Rattle.signals.specs.Signals.{is_of_file_system}
@@ -23,7 +24,6 @@ use Rattle.node_signals.specs.declared.condition.NodeCondition.TheVariants.{Memo
 use Rattle.node_signals.specs.Keys.{serving_order, threshold_at}
 use Rattle.node_signals.specs.Thresholds.{samples, IsActive, IsDue, IsEnough, IsReclaimed}
 use Rattle.node_signals.specs.Conditions.{condition_of, Meets, IsMet}
-use Rattle.node_signals.proofs.PlaceLemmas.{within_and, map_more, given}
 
 -- a threshold is active, or it isn't
 threshold_active_or_not : (threshold : Threshold) (capacity : Option ℕ) (h : List Sample)

@@ -5,6 +5,7 @@ use mathlib.Core.Bool.{beq}
 use Rattle.std.specs.Prelude.{◌↔◌, IsTrue, slice_get}
 use Rattle.std.proofs.lemmas.List.{take_all}
 use Rattle.histories.proofs.Decide.{same_bool}
+use Rattle.histories.proofs.Lists.{take_more}
 use Rattle.node_signals.specs.declared.event.NodeEvent.{NodeEvent}
 use Rattle.node_config.specs.Eviction.{Eviction}
 use Rattle.observations.specs.declared.tick.TickObs.{TickObs}
@@ -13,7 +14,6 @@ use Rattle.node_signals.specs.Keys.{serving_order}
 use Rattle.node_signals.specs.Conditions.{conditions}
 use Rattle.node_signals.specs.Events.{Changes, ChangesThreshold, ChangesCondition, Reclaims, Gives, as_list, AreGiven}
 use Rattle.node_signals.specs.Events.{AreNodeEvents, Adds}
-use Rattle.node_signals.proofs.PlaceLemmas.{take_more}
 use Rattle.node_signals.proofs.ServedLemmas.{key_at}
 
 pub gives_none : (P : NodeEvent → Type 0) → ((e : NodeEvent) → P e → ⊥) → Gives P None

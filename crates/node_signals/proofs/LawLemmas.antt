@@ -1,5 +1,5 @@
 -- The laws.
-use Rattle.std.proofs.Common.{◌≡◌, ap, sym, ◌∙◌, ◌++◌}
+use Rattle.std.proofs.Common.{ap, sym, ◌∙◌, ◌++◌}
 use Rattle.std.specs.Prelude.{option_and_then, slice_get}
 use Rattle.histories.proofs.First.{IsFirstPlace-unique}
 use Rattle.node_signals.specs.Keys.{serving_order}

@@ -1,4 +1,3 @@
-pub mod PlaceLemmas
 pub mod WatchLemmas
 pub mod ServedLemmas
 pub mod ConditionLemmas

@@ -1,16 +1,16 @@
 -- The places of the serving order.
-use Rattle.std.proofs.Common.{◌≡◌, ℕ, zero, suc, ◌+◌, ◌<◌, ◌≤◌, List, [], ◌∷◌, ◌++◌, length, Bool, true, false}
+use Rattle.std.proofs.Common.{◌≡◌, ℕ, zero, suc, ◌+◌, ◌<◌, ◌≤◌, List, [], ◌∷◌, length, Bool, true, false}
 use Rattle.std.proofs.Common.{Some, None, refl, sym, subst, ◌∙◌, arith}
 use Rattle.std.specs.Prelude.{◌↔◌, IsTrue, IsSomeAnd, slice_get}
 use Rattle.histories.proofs.First.{none_next}
+use Rattle.histories.proofs.Lists.{within_and, given}
 use Rattle.node_config.specs.Eviction.{Eviction}
 use Rattle.observations.specs.declared.tick.TickObs.{TickObs}
 use Rattle.node_signals.specs.declared.key.ThresholdKey.{ThresholdKey}
 use Rattle.node_signals.specs.declared.condition.NodeCondition.{NodeCondition}
 use Rattle.node_signals.specs.Conditions.{Meets, IsMet}
 use Rattle.node_signals.specs.Keys.{serving_order}
-use Rattle.node_signals.specs.Thresholds.{Asks, AsksAt, IsServed}
-use Rattle.node_signals.proofs.PlaceLemmas.{within_and, given}
+use Rattle.node_signals.specs.Thresholds.{Asks, IsServed}
 
 -- P holds of the threshold at the place
 abbrev pub At : (ThresholdKey → Type 0) → ℕ → Type 0

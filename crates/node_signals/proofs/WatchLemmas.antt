@@ -1,7 +1,9 @@
 -- The watches of a node, one for each place of the serving order.
-use Rattle.std.proofs.Common.{◌≡◌, ◌⊎◌, inl, inr, ℕ, ◌+◌, ◌<◌, ◌≤◌, List, [], ◌∷◌, ◌++◌, length, Bool, true, false}
-use Rattle.std.proofs.Common.{Option, Some, None, refl, sym, ap, subst, ◌∙◌, arith}
+use Rattle.std.proofs.Common.{◌≡◌, inl, inr, ℕ, ◌+◌, ◌<◌, ◌≤◌, List, [], ◌∷◌, ◌++◌, length, Bool, true, false}
+use Rattle.std.proofs.Common.{Option, Some, None, sym, subst, ◌∙◌, arith}
 use Rattle.std.specs.Prelude.{◌↔◌, IsTrue, IsSomeAnd, slice_get, slice_set}
+use Rattle.std.proofs.lemmas.Option.{slice_get_within}
+use Rattle.histories.proofs.Lists.{set_split, set_length, map_more}
 use Rattle.signals.specs.declared.threshold.Threshold.{Threshold}
 use Rattle.signals.specs.BySignal.{of}
 use Rattle.thresholds.specs.Samples.{Sample, sample}
@@ -13,7 +15,6 @@ use Rattle.node_signals.specs.declared.key.ThresholdKey.{ThresholdKey}
 use Rattle.node_signals.specs.Keys.{serving_order, threshold_at}
 use Rattle.node_signals.specs.Thresholds.{samples}
 use Rattle.node_signals.specs.Node.{IsWatchOf, IsWatchAt, AreWatches}
-use Rattle.node_signals.proofs.PlaceLemmas.{set_split, set_length, within, map_more}
 
 -- what a watch tells of its threshold, whatever its samples were
 abbrev pub Tells : (Threshold → Option ℕ → List Sample → Type 0) → Watch → Bool → Type 0
@@ -94,7 +95,7 @@ pub all_made : (eviction : Eviction) (ticks : List TickObs) (i : ℕ) (watches :
     → AreMade eviction ticks i watches → AreWatches eviction ticks watches
 all_made eviction ticks i watches le m = record {
   as_many = m.as_many;
-  each = λ place key w at e. m.each place key w (let lt : place < 12 = within serving_order place key at in
+  each = λ place key w at e. m.each place key w (let lt : place < 12 = slice_get_within serving_order place key at in
       omega arith) at e;
 }
 

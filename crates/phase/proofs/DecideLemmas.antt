@@ -1,6 +1,7 @@
 -- Each case of the raw phase holds or does not, where each container's part in it does, so one of
 -- them is the first that holds.
 use Rattle.std.proofs.Common.{◌≡◌, ◌≢◌, inl, inr, ℤ, pos, List, Option, Some, None, refl, ap, subst, sym, ◌∙◌, arith}
+use Rattle.std.proofs.Common.{◌⊎◌}
 use Rattle.std.proofs.lemmas.Bool.Decides.{Decides-int_eq}
 use Rattle.histories.proofs.Decide.{OrNot, of_test, negated, both, either, implied, true_or_not, all_or_not, any_or_not}
 use Rattle.manifest.specs.declared.policy.Policy.{Policy}
@@ -13,6 +14,7 @@ use Rattle.phase.specs.declared.phase.Phase.TheVariants.{Pending, Running, Succe
 use Rattle.phase.specs.declared.view.ContainerView.{ContainerView}
 use Rattle.phase.specs.Facts.{Facts, of_view, exit_code, HasCompleted, HasFailed, HasFinished}
 use Rattle.phase.specs.RawPhase.{IsRawPhase, IsFailedInit, IsAwaited, HaveFinished, HasInitialized, AreInitialized}
+use Rattle.phase.specs.RawPhase.{IsTerminal}
 
 -- the codes
 zero_or_not : (code : ℤ) → OrNot (code ≡ pos 0)
@@ -141,3 +143,10 @@ prepared_or_not view = elim (implied (init_or_not view.role) (completed_or_not v
 
 pub initialized_or_not : (views : List ContainerView) → OrNot (AreInitialized of_view views)
 initialized_or_not views = all_or_not (HasInitialized of_view) prepared_or_not views
+
+-- a phase is terminal or not
+pub terminal_cases : (p : Phase) → IsTerminal p ⊎ (IsTerminal p → ⊥)
+terminal_cases Succeeded = inl (inl refl)
+terminal_cases Failed = inl (inr refl)
+terminal_cases Pending = inr (λ w. elim w [ inl e ↦ cc | inr e ↦ cc ])
+terminal_cases Running = inr (λ w. elim w [ inl e ↦ cc | inr e ↦ cc ])

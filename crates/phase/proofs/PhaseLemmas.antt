@@ -1,10 +1,11 @@
 -- One raw phase, and what it is of containers with the same facts.
-use Rattle.std.proofs.Common.{◌≡◌, inl, inr, ℕ, ℤ, pos, zero, suc, ◌<◌, List, [], ◌∷◌, length, get_or, sym, subst}
+use Rattle.std.proofs.Common.{◌≡◌, inl, inr, ℕ, ℤ, pos, ◌<◌, List, length, get_or, sym, subst}
 use Rattle.std.proofs.Common.{◌∙◌, arith}
 use Rattle.std.specs.Prelude.{◌↔◌, All, Any}
 use Rattle.std.proofs.lemmas.List.{get_or_default}
+use Rattle.histories.proofs.Lists.{some_item}
+use Rattle.histories.proofs.Picked.{flip}
 use Rattle.manifest.specs.declared.policy.Policy.{Policy}
-use Rattle.manifest.specs.declared.policy.Policy.TheVariants.{Never}
 use Rattle.manifest.specs.declared.pod.Role.{Role}
 use Rattle.manifest.specs.declared.pod.Role.TheVariants.{Init, Sidecar, App}
 use Rattle.phase.specs.declared.phase.Phase.{Phase}
@@ -43,32 +44,25 @@ pub record AreSame {C D : Type 0} (f : Facts C) (g : Facts D) (cs : List C) (ds 
 pub record Agree {C D : Type 0} (f : Facts C) (g : Facts D) (P : C → Type 0) (Q : D → Type 0) : Type 0 where
   pub agree : (c : C) (d : D) → SameFacts f g c d → (P c ↔ Q d)
 
-item : {A : Type 0} (xs : List A) (k : ℕ) → k < length xs → A
-item [] k lt = absurd (omega arith)
-item (x ∷ xs) k lt = x
-
 pub All-same : {C D : Type 0} (f : Facts C) (g : Facts D) (P : C → Type 0) (Q : D → Type 0) → Agree f g P Q
     → (cs : List C) (ds : List D) → AreSame f g cs ds → All P cs → All Q ds
 All-same {C = C} f g P Q is cs ds same all k e lt =
     let lt' : k < length cs = let old : k < length ds = lt in omega (arith, same.as_many) in
-    let c : C = item cs k lt' in
+    let c : C = some_item cs k lt' in
     (is.agree _ _ (same.each k c e lt')).0 (all k c lt')
 
 pub Any-same : {C D : Type 0} (f : Facts C) (g : Facts D) (P : C → Type 0) (Q : D → Type 0) → Agree f g P Q
     → (cs : List C) (ds : List D) → AreSame f g cs ds → Any P cs → Any Q ds
 Any-same {C = C} {D = D} f g P Q is cs ds same any =
     let lt : any.0 < length ds = let old : any.0 < length cs = any.2 in omega (arith, same.as_many) in
-    let d : D = get_or ds any.0 (item ds any.0 lt) in
+    let d : D = get_or ds any.0 (some_item ds any.0 lt) in
     let R : C → Type 0 = λ c. SameFacts f g c d in (
       any.0,
       d,
       lt,
-      get_or_default ds any.0 d (item ds any.0 lt) lt,
-      (is.agree any.1 d (subst R any.3 (same.each any.0 any.1 (item ds any.0 lt) any.2))).0 any.4,
+      get_or_default ds any.0 d (some_item ds any.0 lt) lt,
+      (is.agree any.1 d (subst R any.3 (same.each any.0 any.1 (some_item ds any.0 lt) any.2))).0 any.4,
     )
-
-pub flip : {P Q : Type 0} → (P ↔ Q) → (Q ↔ P)
-flip is = (is.1, is.0)
 
 turned : {C D : Type 0} (f : Facts C) (g : Facts D) (c : C) (d : D) → SameFacts f g c d → SameFacts g f d c
 turned f g c d s = record {

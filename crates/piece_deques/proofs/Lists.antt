@@ -3,7 +3,7 @@ use Rattle.std.proofs.Common.{◌≡◌, ℕ, zero, suc, ◌+◌, ◌*◌, ◌<�
 use Rattle.std.proofs.Common.{take, drop, reverse, All, sym, refl, ap, ◌∙◌, subst, ⊎_elim, append_assoc, add-one, arith}
 use Rattle.std.specs.List.{sum_by, AllWithin}
 use Rattle.std.proofs.Math.Seq.{map-set_same}
-use Rattle.std.proofs.lemmas.List.{map-append, reverse-append, reverse-reverse, get_or-set_same, get_or-set_other}
+use Rattle.std.proofs.lemmas.List.{reverse-append, reverse-reverse, get_or-set_same, get_or-set_other}
 use Rattle.std.proofs.lemmas.List.{take-map, take_more, drop_more, length-map}
 use Rattle.std.proofs.lemmas.Bool.{cases_lt}
 use Rattle.std.proofs.lemmas.List.Sums.{sum_by-cons, sum_by-set, sum_by_push}
@@ -11,6 +11,7 @@ use Rattle.std.proofs.lemmas.List.Elements.{All-push, All-take, All-drop}
 use mathlib.Core.Option.{some, some-injective, some-ne-none}
 use lib.ListN.{get_elem?}
 use lib.Seq.{take-append_seam, drop-append_seam}
+use Rattle.histories.proofs.Lists.{map_more}
 
 pub ones : {X : Type 0} (xs : List X) → sum_by (λ _. 1) xs ≡ length xs
 ones [] = refl
@@ -19,14 +20,11 @@ ones {X} (x ∷ xs) = let rest = ones xs in omega (arith, sum_by-cons (λ (_ : X
 pub more_rows : (n m : ℕ) → (n + 1) * m ≡ n * m + m
 more_rows n m = grind arith
 
-pub map_push : {X Y : Type 0} (f : X → Y) (xs : List X) (x : X) → map f (xs ++ x ∷ []) ≡ map f xs ++ f x ∷ []
-map_push f xs x = map-append f xs (x ∷ [])
-
 pub map_reverse : {X Y : Type 0} (f : X → Y) (xs : List X) → map f (reverse xs) ≡ reverse (map f xs)
 map_reverse f [] = refl
 map_reverse f (x ∷ xs) =
     ap (map f) (reverse-append (x ∷ []) xs)
-    ∙ (map_push f (reverse xs) x
+    ∙ (map_more f (reverse xs) x
     ∙ (ap (λ l. l ++ f x ∷ []) (map_reverse f xs) ∙ sym (reverse-append (f x ∷ []) (map f xs))))
 
 module _ {X : Type 0} where
@@ -186,7 +184,7 @@ module _ {X : Type 0} where
   take_map_more f xs i x in' at =
       take-map f (i + 1) xs
       ∙ (ap (map f) (take_more xs i x in')
-      ∙ (map_push f (take i xs) (get_or xs i x)
+      ∙ (map_more f (take i xs) (get_or xs i x)
       ∙ (ap (λ l. l ++ f (get_or xs i x) ∷ []) (sym (take-map f i xs))
       ∙ ap (λ y. take i (map f xs) ++ f y ∷ []) (sym at))))
 
@@ -206,9 +204,9 @@ module _ {X : Type 0} where
   moved f g zs rest z xs ys x all e put same before =
       let r = reverse (map g rest) in
       let back : reverse (map g zs) ≡ g z ∷ r =
-      ap (λ l. reverse (map g l)) e ∙ (ap reverse (map_push g rest z) ∙ reverse-append (map g rest) (g z ∷ [])) in
+      ap (λ l. reverse (map g l)) e ∙ (ap reverse (map_more g rest z) ∙ reverse-append (map g rest) (g z ∷ [])) in
       ap (λ l. map f l ++ r) put
-      ∙ (ap (λ l. l ++ r) (map_push f xs x)
+      ∙ (ap (λ l. l ++ r) (map_more f xs x)
       ∙ (append_assoc (map f xs) (f x ∷ []) r
       ∙ (ap (λ y. map f xs ++ y ∷ r) same ∙ (ap (λ l. map f xs ++ l) (sym back) ∙ before))))
 
@@ -218,15 +216,3 @@ module _ {X : Type 0} where
   to_move f g zs rev xs none e =
       ap (λ l. map f l ++ reverse (map g rev)) none
       ∙ (ap (λ l. reverse (map g l)) e ∙ (ap reverse (map_reverse g zs) ∙ reverse-reverse (map g zs)))
-
-  pub snoc_same : (xs ys : List X) (x y : X) → xs ++ x ∷ [] ≡ ys ++ y ∷ [] → (xs ≡ ys) × (x ≡ y)
-  snoc_same [] [] x y e = (refl, cc)
-  snoc_same [] (z ∷ []) x y e = absurd (cc)
-  snoc_same [] (z ∷ w ∷ ws) x y e = absurd (cc)
-  snoc_same (z ∷ []) [] x y e = absurd (cc)
-  snoc_same (z ∷ w ∷ ws) [] x y e = absurd (cc)
-  snoc_same (z ∷ zs) (w ∷ ws) x y e =
-      let tails : zs ++ x ∷ [] ≡ ws ++ y ∷ [] = cc in
-      let rest = snoc_same zs ws x y tails in
-      let a = rest.0 in
-      (cc, rest.1)

@@ -20,11 +20,12 @@ use Rattle.round_core.specs.Pool.{WorkerState, PoolState, idle, no_entry, worker
 use Rattle.round_core.specs.Pool.{update, step}
 use Rattle.round_core.specs.Places.{one_at, places, times_marked, waiting, updated_by}
 use Rattle.round_core.proofs.Runs.{one_at_same, one_at_other}
+use Rattle.round_core.proofs.Rounds.{marked_at_most}
 use Rattle.played_round.specs.Table.{TableState, IsWaiting, IsUpdate}
 use Rattle.played_round.specs.Round.{RoundState, round_of, with_pool}
 use Rattle.played_round.specs.Playing.{CanUpdate, IsUpdateOf, CanEnter, Stands}
 use Rattle.played_round.specs.Playing.{Agrees, Plays}
-use Rattle.played_round.proofs.Marks.{marked_stands, taken_is_unmarked, updated_is_marked, updated_is_unfinished}
+use Rattle.played_round.proofs.Marks.{taken_is_unmarked, updated_is_marked, updated_is_unfinished}
 use Rattle.played_round.proofs.Marks.{weight_step, marks_step, grown_step}
 
 -- What a hand holds
@@ -66,7 +67,7 @@ module _ (r : RoundState) (stands : Stands r) where
   pub can_enter : (w : ℕ) → CanEnter r w
   can_enter w n holds =
       let marked = updated_is_marked r.pool w n holds in
-      let stood = marked_stands n r.pool in
+      let stood = marked_at_most n r.pool in
       let within = number_within n (omega arith) in
       let as_many = stands.as_many in
       let more = updated_is_unfinished r.pool w n holds in

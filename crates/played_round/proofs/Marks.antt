@@ -72,10 +72,6 @@ pub marks_finished : (n : ℕ) (workers : List WorkerState)
     → sum_by (finished_of (one_at n)) workers ≤ sum_by (marked_of (one_at n)) workers
 marks_finished n workers = let both = finished_is_marked (one_at n) workers in omega arith
 
--- a piece that is marked stands somewhere
-pub marked_stands : (n : ℕ) (pool : PoolState) → times_marked n pool ≤ places n pool
-marked_stands n pool = let both = marked_or_not (one_at n) pool.workers in omega arith
-
 -- What is in a hand
 
 holder_is_there : (pool : PoolState) (w : ℕ) (amount : Hand → ℕ) → amount Empty ≡ 0

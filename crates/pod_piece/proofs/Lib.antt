@@ -1,3 +1,4 @@
 pub mod ListingLemmas
 pub mod UsageLemmas
 pub mod PieceLemmas
+pub mod LastTicks

@@ -1,15 +1,13 @@
 -- What a piece keeps, from call to call.
-use Rattle.std.proofs.Common.{◌≡◌, ◌∙◌, inl, inr, ℕ, suc, zero, ◌-◌, ◌<◌, ◌≤◌, Bool, true, false, List, [], ◌∷◌, ◌++◌}
-use Rattle.std.proofs.Common.{length, map, take, get_or, Option, Some, None, refl, ap, sym, subst, arith}
-use Rattle.std.specs.Prelude.{◌↔◌, IsTrue, IsSome, is_some, IfSome, IsSomeAnd, MatchOption, nat_lt, option_map}
+use Rattle.std.proofs.Common.{◌≡◌, ◌∙◌, inl, inr, ℕ, suc, ◌-◌, ◌<◌, ◌≤◌, Bool, true, false, List, [], ◌∷◌, ◌++◌}
+use Rattle.std.proofs.Common.{length, map, get_or, Option, Some, None, refl, ap, sym, subst, arith}
+use Rattle.std.specs.Prelude.{◌↔◌, IsTrue, IsSome, is_some, IfSome, IsSomeAnd, MatchOption, nat_lt}
 use Rattle.std.specs.Prelude.{if◌then◌else◌, slice_get, unwrap_or}
 use Rattle.std.proofs.lemmas.Bool.{cases_lt, lt-ltb, ltb-true}
-use Rattle.std.proofs.lemmas.List.{get_or-take, length-map, length-take-le, map-append, take-map, take_all}
-use Rattle.std.proofs.lemmas.Option.{slice_get-get_or, slice_get-map, slice_get_past, slice_get_within}
-use Rattle.std.proofs.Math.Seq.{take-append_seam, take-suc}
-use Rattle.histories.specs.Histories.{recorded, last_moment, moment_at, EndsBefore}
+use Rattle.std.proofs.lemmas.List.{map-append}
+use Rattle.std.proofs.lemmas.Option.{slice_get_past}
+use Rattle.histories.specs.Histories.{last_moment, moment_at, EndsBefore}
 use Rattle.histories.proofs.Places.{length-more, length-project, moment_at-project}
-use Rattle.probes.proofs.Runs.{slice_get-new}
 use Rattle.manifest.specs.declared.pod.PodSpec.{PodSpec}
 use Rattle.observations.specs.Pods.{PodObs}
 use Rattle.observations.specs.declared.container.ContainerObs.{ContainerObs}
@@ -34,23 +32,7 @@ use Rattle.pod_piece.specs.Piece.{Piece, piece, before_last, last_of, taken, tic
 use Rattle.pod_piece.specs.Piece.{evicted_before, new_piece, with_tick, updated, with_eviction}
 use Rattle.pod_piece.specs.Status.{IsStatusAfter, IsStatusOf, AreEventsAfter}
 use Rattle.pod_piece.specs.Kept.{MayBe, EndsAt, IsStateAfter, IsKept}
-
--- the last of some ticks, and those before it
-pub front_more : (h : List PodTick) (x : PodTick) → before_last (h ++ x ∷ []) ≡ h
-front_more h x = ap (λ n. take n (h ++ x ∷ [])) {x = length (h ++ x ∷ []) - 1} {y = length h}
-    (omega (arith, length-more h x)) ∙ take-append_seam h (x ∷ [])
-
-pub last_more : (h : List PodTick) (x : PodTick) → last_of (h ++ x ∷ []) ≡ Some x
-last_more h x = ap (λ n. slice_get (h ++ x ∷ []) n) {x = length (h ++ x ∷ []) - 1} {y = length h}
-    (omega (arith, length-more h x)) ∙ slice_get-new h x
-
-pub split_last : (h : List PodTick) (x : PodTick) → last_of h ≡ Some x → h ≡ before_last h ++ x ∷ []
-split_last h x is =
-    let n = length h - 1 in
-    let lt : n < length h = slice_get_within h n x is in
-    let same : Some (get_or h n x) ≡ Some x = sym (slice_get-get_or h n x lt) ∙ is in
-    let here : get_or h n x ≡ x = cc in
-    sym (take_all (suc n) h (omega (arith, lt))) ∙ take-suc h n x lt ∙ ap (λ y. take n h ++ y ∷ []) here
+use Rattle.pod_piece.proofs.LastTicks.{front_more, last_more, split_last, observed_last, some_last, of_last}
 
 -- the eviction that is still to come, or was
 pub may_self : (o : Option ℕ) (n : ℕ) → MayBe o n o
@@ -149,7 +131,7 @@ kept_new number pod greatest differs state status listed is was shown = record {
   made = refl;
 }
 
-taken_free : (b : Bool) (h : List PodTick) → b ≡ false → taken b h ≡ h
+pub taken_free : (b : Bool) (h : List PodTick) → b ≡ false → taken b h ≡ h
 taken_free false h e = refl
 taken_free true h e = absurd (let w : true ≡ false = e in cc)
 
@@ -390,43 +372,6 @@ pub flag_says : (o : Option Eviction) (b : Bool) → b ≡ is_some o → (IsTrue
 flag_says None b e = ((λ t. sym e ∙ t), (λ w. e ∙ w))
 flag_says (Some eviction) b e = ((λ t. refl), (λ w. e))
 
--- the last tick, by its moment
-pub tick_at : (h : List PodTick) (m : ℕ) → last_moment h ≡ Some m → (entry : PodEntry)
-    × (last_of h ≡ Some (recorded m entry))
-tick_at h m is = there (slice_get h (length h - 1)) refl (sym (moment_here h (length h - 1)) ∙ is)
-  where
-    moment_here : (h : List PodTick) (i : ℕ) → moment_at h i ≡ option_map (λ (x : PodTick). x.moment) (slice_get h i)
-    moment_here [] i = refl
-    moment_here (x ∷ xs) zero = refl
-    moment_here (x ∷ xs) (suc i) = moment_here xs i
-
-    there : (o : Option PodTick) → slice_get h (length h - 1) ≡ o → option_map (λ (x : PodTick). x.moment) o ≡ Some m
-        → (entry : PodEntry) × (last_of h ≡ Some (recorded m entry))
-    there None e at = absurd (let w : None ≡ Some m = at in cc)
-    there (Some x) e at = let same : x.moment ≡ m = (let w : Some x.moment ≡ Some m = at in cc) in
-        (x.entry, e ∙ ap (λ n. Some (recorded n x.entry)) same)
-
--- the observation that was handed last
-pub observed_last : (items : List PodObs) (n : ℕ) (observed : PodObs) → n ≡ length items → 0 < length items
-    → observed ≡ get_or items (n - 1) observed
-    → last_of (map pod_tick items) ≡ Some (pod_tick observed)
-observed_last items n observed long some is =
-    let k = length items - 1 in
-    let lt : k < length items = omega (arith, some) in
-    let here : observed ≡ get_or items k observed = is ∙ ap (λ m. get_or items (m - 1) observed) long in
-    ap (λ m. slice_get (map pod_tick items) (m - 1)) (length-map items pod_tick) ∙ slice_get-map pod_tick items k
-    ∙ ap (option_map pod_tick) (slice_get-get_or items k observed lt ∙ ap Some (sym here))
-
--- where something is known of the last tick, there is one
-pub some_last : (items : List PodObs) (Q : PodTick → Type 0) → IsSomeAnd (last_of (map pod_tick items)) Q
-    → 0 < length items
-some_last [] Q is = absurd is
-some_last (x ∷ xs) Q is = omega arith
-
-pub of_last : (h : List PodTick) (x : PodTick) (Q : PodTick → Type 0) → last_of h ≡ Some x → IsSomeAnd (last_of h) Q
-    → Q x
-of_last h x Q last is = subst (λ (o : Option PodTick). IsSomeAnd o Q) last is
-
 -- a container's last tick is the pod's
 ends_too : (h : List PodTick) (n at : ℕ) → EndsBefore h at → EndsBefore (listings (ticks_of h n)) at
 ends_too h n at later =
@@ -481,48 +426,6 @@ piece_handed number pod greatest items was_pending eviction observed =
       is_pending = true;
       eviction = eviction;
     }) (map-append pod_tick items (observed ∷ []))
-
--- the last moment
-moment_of : (items : List PodObs) (i : ℕ) → moment_at (map pod_tick items) i ≡ option_map (λ (o : PodObs). o.at)
-    (slice_get items i)
-moment_of [] i = refl
-moment_of (x ∷ xs) zero = refl
-moment_of (x ∷ xs) (suc i) = moment_of xs i
-
-pub last_moment_of : (items : List PodObs) → last_moment (map pod_tick items) ≡ option_map (λ (o : PodObs). o.at)
-    (slice_get items (length items - 1))
-last_moment_of items = ap (λ m. moment_at (map pod_tick items) (m - 1)) (length-map items pod_tick)
-    ∙ moment_of items (length items - 1)
-
-pub front_is : (items : List PodObs) → before_last (map pod_tick items) ≡ map pod_tick (take (length items - 1) items)
-front_is items = ap (λ m. take (m - 1) (map pod_tick items)) (length-map items pod_tick) ∙ take-map pod_tick
-    (length items - 1) items
-
--- the moment before a place
-pub moment_taken : (items : List PodObs) (n : ℕ) (last : PodObs) → 0 < n → n ≤ length items
-    → last ≡ get_or items (n - 1) last
-    → Some last.at ≡ last_moment (map pod_tick (take n items))
-moment_taken items n last some within is =
-    let long : length (take n items) ≡ n = length-take-le n items within in
-    let here : last ≡ get_or (take n items) (n - 1) last =
-    is ∙ sym (get_or-take n items (n - 1) last (omega (arith, some))) in
-    sym (last_moment_of (take n items)
-    ∙ ap (λ m. option_map (λ (o : PodObs). o.at) (slice_get (take n items) (m - 1))) long
-    ∙ ap (option_map (λ (o : PodObs). o.at)) (slice_get-get_or (take n items) (n - 1) last (omega (arith, long, some)))
-    ∙ ap (λ (o : PodObs). Some o.at) (sym here))
-
--- what was pushed stands last
-pub pushed_last : (items : List PodObs) (observed : PodObs) (n : ℕ) (last : PodObs)
-    → n ≡ length (items ++ observed ∷ []) → last ≡ get_or (items ++ observed ∷ []) (n - 1) last → last ≡ observed
-pushed_last items observed n last long is =
-    let k = length items in
-    let e : n - 1 ≡ k = omega (arith, long, length-more items observed) in
-    let here : last ≡ get_or (items ++ observed ∷ []) k last = is ∙ ap (λ m. get_or (items ++ observed ∷ []) m last) e
-    in
-    let same : Some last ≡ Some observed =
-    ap Some here ∙ sym (slice_get-get_or (items ++ observed ∷ []) k last (omega (arith, length-more items observed)))
-    ∙ slice_get-new items observed in
-    cc
 
 -- what is known of a piece whose tick is pending
 pub record IsAtLast (number : ℕ) (pod : PodSpec) (greatest : ℕ) (items : List PodObs) (is_pending : Bool)

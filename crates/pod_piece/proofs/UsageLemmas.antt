@@ -1,15 +1,16 @@
--- The newest samples, after one more tick.
+-- The newest samples, after one more tick; they are one.
 use Rattle.std.proofs.Common.{◌≡◌, ◌∙◌, ℕ, ◌<◌, Bool, true, false, List, [], ◌∷◌, ◌++◌, length, Option, Some, None}
 use Rattle.std.proofs.Common.{refl, ap, sym, subst, arith}
-use Rattle.std.specs.Prelude.{◌↔◌, IsTrue, IsSome, not, option_and_then, if◌then◌else◌}
+use Rattle.std.specs.Prelude.{◌↔◌, IsTrue, IsSome, not, option_and_then, if◌then◌else◌, IsSomeAnd}
 use Rattle.std.specs.Option.{option_or}
 use Rattle.histories.proofs.Places.{kept, added, up_to-old, up_to-new}
-use Rattle.histories.proofs.Last.{IsLast-old, IsLast-new}
+use Rattle.histories.proofs.Last.{IsLast-old, IsLast-new, IsLast-unique}
 use Rattle.histories.proofs.First.{none_more}
 use Rattle.histories.proofs.Growth.{grows_entry}
+use Rattle.histories.specs.Histories.{entry_at}
 use Rattle.manifest.specs.declared.pod.PodSpec.{PodSpec}
 use Rattle.observations.specs.declared.usage.Usage.{Usage}
-use Rattle.pod_state.specs.Pods.{PodTick, IsEnd, HasEnded, counted}
+use Rattle.pod_state.specs.Pods.{PodTick, IsEnd, HasEnded, counted, PodEntry}
 use Rattle.pod_state.proofs.EndLemmas.{IsEnd-unique, end_old, counted_all}
 use Rattle.pod_piece.specs.Usage.{sample_in, HasSample, IsNewestSample, AreNewestSamples, IsUsageOf, nothing, newer}
 
@@ -129,3 +130,44 @@ usage_evicted pod h x usage is none now =
       newest = subst (λ (k : List PodTick). AreNewestSamples k usage)
           (ap (counted (h ++ x ∷ [])) same ∙ sym (up_to-new h x)) is.newest;
     }
+
+-- The newest samples are one
+
+same_sample : (resource : Usage → Option ℕ) (o : Option PodEntry) (a b : ℕ)
+    → IsSomeAnd o (λ entry. sample_in resource entry ≡ Some a)
+    → IsSomeAnd o (λ entry. sample_in resource entry ≡ Some b) → Some a ≡ Some b
+same_sample resource None a b e f = absurd e
+same_sample resource (Some entry) a b e f = sym e ∙ f
+
+one_sample : (resource : Usage → Option ℕ) (h : List PodTick) (o p : Option ℕ)
+    → IsNewestSample resource h o → IsNewestSample resource h p → o ≡ p
+one_sample resource h None None v w = refl
+one_sample resource h None (Some b) none (t, last, is) = absurd (none t last.holds)
+one_sample resource h (Some a) None (t, last, is) none = absurd (none t last.holds)
+one_sample resource h (Some a) (Some b) (t, last, is) (u, last', is') =
+    let At : ℕ → Type 0 = λ k. IsSomeAnd (entry_at h k) (λ entry. sample_in resource entry ≡ Some a) in
+    same_sample resource (entry_at h u) a b (subst At (IsLast-unique _ t u last last') is) is'
+
+one_of_each : (h : List PodTick) (one other : Usage) → AreNewestSamples h one → AreNewestSamples h other → one ≡ other
+one_of_each h one other v w =
+    let memory = one_sample (λ u. u.memory) h one.memory other.memory v.memory w.memory in
+    let volumes = one_sample (λ u. u.volumes) h one.volumes other.volumes v.volumes w.volumes in
+    let logs = one_sample (λ u. u.logs) h one.logs other.logs v.logs w.logs in
+    let writable = one_sample (λ u. u.writable) h one.writable other.writable v.writable w.writable in
+    let inodes = one_sample (λ u. u.inodes) h one.inodes other.inodes v.inodes w.inodes in
+    let pids = one_sample (λ u. u.pids) h one.pids other.pids v.pids w.pids in
+    λ i. record {
+      memory = memory i;
+      volumes = volumes i;
+      logs = logs i;
+      writable = writable i;
+      inodes = inodes i;
+      pids = pids i;
+    }
+
+pub one_usage : (pod : PodSpec) (evicted : Option ℕ) (h : List PodTick) (one other : Usage)
+    → IsUsageOf pod evicted h one → IsUsageOf pod evicted h other → one ≡ other
+one_usage pod evicted h one other v w =
+    let same : v.end ≡ w.end = IsEnd-unique pod evicted h v.end w.end v.is_end w.is_end in
+    let Newest : Option ℕ → Type 0 = λ end. AreNewestSamples (counted h end) one in
+    one_of_each (counted h w.end) one other (subst Newest same v.newest) w.newest

@@ -29,6 +29,10 @@ piece number pod greatest history is_pending eviction = record {
   eviction = eviction;
 }
 
+-- the pods of these pieces
+abbrev pub pods_in : List Piece → List PodSpec
+pods_in pieces = map (λ (piece : Piece). piece.pod) pieces
+
 -- all ticks but the last
 abbrev pub before_last : List PodTick → List PodTick
 before_last h = take (length h - 1) h

@@ -1,6 +1,6 @@
 -- The containers of a pod, as its ticks leave them.
-use Rattle.std.proofs.Common.{◌≡◌, inl, inr, ℕ, suc, ◌<◌, Bool, List, [], ◌∷◌, ◌++◌, length, get_or, Option, Some}
-use Rattle.std.proofs.Common.{None, refl, ap, subst, sym, ◌∙◌, arith}
+use Rattle.std.proofs.Common.{◌≡◌, ℕ, ◌<◌, Bool, List, [], ◌∷◌, ◌++◌, length, get_or, Option, Some}
+use Rattle.std.proofs.Common.{None, refl, subst, sym, ◌∙◌}
 use Rattle.std.specs.Prelude.{◌↔◌, ◌≢◌, IsSomeAnd, IsTrue, slice_get, unwrap_or}
 use Rattle.histories.specs.Histories.{recorded}
 use Rattle.histories.proofs.Items.{any_default}
@@ -9,7 +9,6 @@ use Rattle.manifest.specs.declared.pod.ContainerSpec.{ContainerSpec}
 use Rattle.manifest.specs.declared.pod.PodSpec.{PodSpec}
 use Rattle.manifest.specs.declared.pod.Role.TheVariants.{Init}
 use Rattle.observations.specs.Pods.{PodObs}
-use Rattle.observations.specs.declared.container.ContainerObs.{ContainerObs}
 use Rattle.phase.specs.declared.view.ContainerView.{ContainerView}
 use Rattle.containers.specs.declared.container.Container.{Container}
 use Rattle.containers.specs.Ticks.{ContainerTick}
@@ -21,7 +20,7 @@ use Rattle.containers.specs.Probed as probed
 use Rattle.containers.specs.Shown as shown
 use Rattle.containers.specs.declared.status.ContainerStatus.{ContainerStatus}
 use Rattle.pod_state.specs.Events.{IsMadeOf}
-use Rattle.pod_state.specs.Pods.{PodEntry, PodTick, pod_tick, ticks_of, unseen, OfSpec, Serves, IsReady, IsViewOf}
+use Rattle.pod_state.specs.Pods.{PodEntry, PodTick, pod_tick, ticks_of, unseen, Serves, IsReady, IsViewOf}
 use Rattle.pod_state.specs.Pods.{IsEnd, counted, EndsEvicted}
 use Rattle.pod_state.specs.Containers.{IsShownOf, AreShown, AreStatusesOf, IsContainerOf, AreContainersOf, AreKept}
 use Rattle.pod_state.proofs.EndLemmas.{IsEnd-unique}
@@ -152,22 +151,6 @@ pub item_at_any : (containers : List Container) (n : ℕ) (container : Container
     → container ≡ get_or containers n container
     → (P : Container → Type 0) (e : Container) → P (get_or containers n e) → P container
 item_at_any containers n container lt is P e of = subst P (any_default containers n e container lt ∙ sym is) of
-
--- a list with a place has an item
-pub some_item : {A : Type 0} (xs : List A) (n : ℕ) → n < length xs → A
-some_item [] n lt = absurd (omega arith)
-some_item (x ∷ xs) n lt = x
-
--- lists of one length with the same items
-pub same_items : {A : Type 0} (xs ys : List A) → length xs ≡ length ys
-    → ((i : ℕ) (d : A) → i < length xs → get_or xs i d ≡ get_or ys i d) → xs ≡ ys
-same_items [] [] e same = refl
-same_items [] (y ∷ ys) e same = absurd (omega arith)
-same_items (x ∷ xs) [] e same = absurd (omega arith)
-same_items (x ∷ xs) (y ∷ ys) e same =
-    let first : x ≡ y = same 0 x (omega arith) in
-    let rest : xs ≡ ys = same_items xs ys (omega arith) (λ i d lt. same (suc i) d (omega arith)) in
-    cc
 
 -- one that serves is one of the pod's
 pub serving_within : (pod : PodSpec) (n : ℕ) → Serves pod n → n < length pod.containers

@@ -1,14 +1,14 @@
 -- The end of a pod and its phase, after one more tick.
-use Rattle.std.proofs.Common.{◌≡◌, ◌⊎◌, inl, inr, ℕ, suc, ◌<◌, List, [], ◌∷◌, ◌++◌, length, Option, Some, None, refl}
+use Rattle.std.proofs.Common.{◌≡◌, inl, inr, ℕ, suc, ◌<◌, List, [], ◌∷◌, ◌++◌, length, Option, Some, None, refl}
 use Rattle.std.proofs.Common.{ap, subst, sym, ◌∙◌, arith}
-use Rattle.std.specs.Prelude.{◌↔◌, IsSomeAnd, All}
+use Rattle.std.specs.Prelude.{◌↔◌, IsSomeAnd}
 use Rattle.std.proofs.lemmas.List.{length-take-le}
 use Rattle.histories.specs.Histories.{up_to, IsSo}
 use Rattle.histories.proofs.Places.{length-more, up_to-old, up_to-new}
 use Rattle.histories.proofs.First.{Grows, IsFirst-old, IsFirst-new, IsFirst-split, IsFirstPlace-unique, none_more}
 use Rattle.histories.proofs.Growth.{grows_so, so_last}
 use Rattle.phase.specs.declared.phase.Phase.{Phase}
-use Rattle.phase.specs.declared.phase.Phase.TheVariants.{Pending, Running, Succeeded, Failed}
+use Rattle.phase.specs.declared.phase.Phase.TheVariants.{Pending, Succeeded, Failed}
 use Rattle.manifest.specs.declared.pod.PodSpec.{PodSpec}
 use Rattle.phase.specs.RawPhase.{IsTerminal, AreInitialized}
 use Rattle.pod_state.specs.Pods.{PodTick, facts, numbers, AllReady, IsRawPhaseAfter, EndsPod, IsEnd, counted}
@@ -16,6 +16,7 @@ use Rattle.pod_state.specs.Pods.{IsPhaseBy, IsPhase, IsInitialized, AreContainer
 use Rattle.containers.specs.declared.container.Container.{Container}
 use Rattle.pod_state.specs.Containers.{AreContainersOf, AreKept}
 use Rattle.phase.proofs.PhaseLemmas.{where_same, IsRawPhase-unique}
+use Rattle.phase.proofs.DecideLemmas.{terminal_cases}
 
 pub IsEnd-unique : (pod : PodSpec) (evicted : Option ℕ) (h : List PodTick) (o p : Option ℕ) → IsEnd pod evicted h o
     → IsEnd pod evicted h p → o ≡ p
@@ -40,13 +41,6 @@ IsPhase-unique pod evicted h p q (o, is, by) (o', is', by') =
 not_pending : (p : Phase) → p ≡ Pending → IsTerminal p → ⊥
 not_pending p is (inl e) = let x : Pending ≡ Succeeded = sym is ∙ e in cc
 not_pending p is (inr e) = let x : Pending ≡ Failed = sym is ∙ e in cc
-
--- a phase is terminal or not
-pub terminal_cases : (p : Phase) → IsTerminal p ⊎ (IsTerminal p → ⊥)
-terminal_cases Succeeded = inl (inl refl)
-terminal_cases Failed = inl (inr refl)
-terminal_cases Pending = inr (λ w. elim w [ inl e ↦ cc | inr e ↦ cc ])
-terminal_cases Running = inr (λ w. elim w [ inl e ↦ cc | inr e ↦ cc ])
 
 evicted_at : (evicted : Option ℕ) (n m : ℕ) → n ≡ suc m → IsSomeAnd evicted (λ t. n ≡ suc t) → evicted ≡ Some m
 evicted_at None n m e q = absurd q

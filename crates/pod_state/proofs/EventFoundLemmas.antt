@@ -5,8 +5,9 @@ use Rattle.std.specs.Prelude.{All, slice_get, unwrap_or}
 use Rattle.std.proofs.lemmas.Option.{get_or_from_slice_get}
 use Rattle.histories.specs.Histories.{recorded}
 use Rattle.histories.proofs.Decide.{OrNot}
-use Rattle.histories.proofs.Found.{given_at, list_of}
+use Rattle.histories.proofs.Found.{list_of}
 use Rattle.histories.proofs.Places.{length-project}
+use Rattle.histories.proofs.Lists.{given_at}
 use Rattle.manifest.specs.declared.pod.ContainerSpec.{ContainerSpec}
 use Rattle.manifest.specs.declared.pod.PodSpec.{PodSpec}
 use Rattle.phase.specs.declared.phase.Phase.{Phase}

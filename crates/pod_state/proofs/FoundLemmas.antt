@@ -7,7 +7,8 @@ use Rattle.std.proofs.lemmas.Bool.{cases_eq}
 use Rattle.std.proofs.lemmas.Option.{same_Some}
 use Rattle.histories.specs.Histories.{IsSo}
 use Rattle.histories.proofs.Decide.{OrNot, negated, either, all_three, implied, test_of, given_or_not}
-use Rattle.histories.proofs.Found.{all_below, first_so, so_or_not, transition_of, given_at, list_of}
+use Rattle.histories.proofs.Found.{all_below, first_so, so_or_not, transition_of, list_of}
+use Rattle.histories.proofs.Lists.{given_at}
 use Rattle.manifest.specs.declared.pod.PodSpec.{PodSpec}
 use Rattle.phase.specs.declared.phase.Phase.{Phase}
 use Rattle.phase.specs.declared.phase.Phase.TheVariants.{Pending, Failed}
@@ -15,6 +16,7 @@ use Rattle.phase.specs.declared.conditions.Condition.{Condition}
 use Rattle.phase.specs.declared.view.ContainerView.{ContainerView}
 use Rattle.phase.specs.RawPhase.{IsTerminal, AreInitialized}
 use Rattle.phase.proofs.DecideLemmas.{sidecar_or_not, app_or_not, initialized_or_not as views_initialized_or_not}
+use Rattle.phase.proofs.DecideLemmas.{terminal_cases}
 use Rattle.containers.specs.Shown as shown
 use Rattle.containers.specs.declared.status.ContainerStatus.{ContainerStatus}
 use Rattle.containers.proofs.FoundLemmas.{view_of, status_of, ready_or_not}
@@ -25,10 +27,11 @@ use Rattle.pod_state.specs.Pods.{IsInitialized, AllReady, AreContainersReady}
 use Rattle.pod_state.specs.Lifecycles.{IsConditionAfter, IsLifecycleOf}
 use Rattle.pod_state.specs.Containers.{IsContainerStatus, AreStatusesOf}
 use Rattle.pod_state.specs.Laws.{SomeStatus}
-use Rattle.pod_state.proofs.TickLemmas.{of_spec, within}
+use Rattle.pod_state.proofs.TickLemmas.{of_spec}
 use Rattle.pod_state.proofs.ViewLemmas.{initialized_after}
-use Rattle.pod_state.proofs.EndLemmas.{IsEnd-unique, raw_unique, terminal_cases}
+use Rattle.pod_state.proofs.EndLemmas.{IsEnd-unique, raw_unique}
 use Rattle.pod_state.proofs.LawLemmas.{one_raw_phase}
+use Rattle.pod_state.proofs.ContainerLemmas.{serving_within}
 
 -- the views
 view_at : (pod : PodSpec) (h : List PodTick) (k : ℕ) → k < length pod.containers
@@ -116,10 +119,6 @@ serves_or_not : (pod : PodSpec) (container : ℕ) → OrNot (Serves pod containe
 serves_or_not pod container =
     either (given_or_not _ (λ spec. sidecar_or_not spec.role) (slice_get pod.containers container))
     (given_or_not _ (λ spec. app_or_not spec.role) (slice_get pod.containers container))
-
-serving_within : (pod : PodSpec) (container : ℕ) → Serves pod container → container < length pod.containers
-serving_within pod container (inl role) = within pod container _ role
-serving_within pod container (inr role) = within pod container _ role
 
 ready_at_or_not : (pod : PodSpec) (h : List PodTick) (container : ℕ) → OrNot (IsReady pod h container)
 ready_at_or_not pod h container =

@@ -2,13 +2,11 @@
 use Rattle.std.proofs.Common.{◌≡◌, inl, inr, ℕ, suc, zero, ◌<◌, Bool, true, false, List, [], ◌∷◌, ◌++◌, length}
 use Rattle.std.proofs.Common.{Option, Some, None, refl, ap, subst, sym, ◌∙◌, arith}
 use Rattle.std.specs.Prelude.{◌↔◌, IsTrue, not}
-use Rattle.std.proofs.lemmas.Bool.{cases_lt, lt-ltb}
 use Rattle.histories.specs.Histories.{Recorded, recorded, moment_at, IsSo}
 use Rattle.histories.proofs.Places.{length-more, project-append}
 use Rattle.histories.proofs.First.{Grows}
 use Rattle.histories.proofs.Growth.{grows_entry, grows_so}
 use Rattle.histories.proofs.Transitions.{transition_same}
-use Rattle.state_diff.specs.Instances.{Tick}
 use Rattle.phase.specs.declared.phase.Phase.{Phase}
 use Rattle.phase.specs.declared.phase.Phase.TheVariants.{Pending, Failed}
 use Rattle.phase.specs.declared.conditions.Condition.{Condition}
@@ -24,7 +22,8 @@ use Rattle.pod_state.specs.Pods.{PodTick, facts, numbers, counted, AllReady, IsP
 use Rattle.pod_state.specs.Pods.{AreContainersReady, AreViewsOf}
 use Rattle.pod_state.specs.Lifecycles.{IsConditionAfter, IsLifecycleOf, AreValuesOf, IsProgressOf}
 use Rattle.phase.proofs.ConditionLemmas.{IsTrueAt, last_or-more}
-use Rattle.pod_state.proofs.EndLemmas.{IsPhase-unique, phase_ended, phase_evicted, terminal_cases, terminal_end}
+use Rattle.phase.proofs.DecideLemmas.{terminal_cases}
+use Rattle.pod_state.proofs.EndLemmas.{IsPhase-unique, phase_ended, phase_evicted, terminal_end}
 use Rattle.pod_state.proofs.EndLemmas.{initialized_ended, initialized_lives, ready_is}
 use Rattle.pod_state.proofs.ViewLemmas.{initialized_after}
 

@@ -1,11 +1,11 @@
 -- The events of a pod, one place and one container more.
-use Rattle.std.proofs.Common.{◌≡◌, ◌∙◌, inl, inr, ℕ, suc, zero, ◌+◌, ◌<◌, List, [], ◌∷◌, ◌++◌, length, take, get_or}
-use Rattle.std.proofs.Common.{Option, Some, None, refl, ap, sym, arith}
-use Rattle.std.specs.List.{filter_map}
+use Rattle.std.proofs.Common.{◌≡◌, ◌∙◌, inl, inr, ℕ, suc, ◌+◌, ◌<◌, List, [], ◌∷◌, ◌++◌, length, take, get_or}
+use Rattle.std.proofs.Common.{Option, Some, None, ap, sym, arith}
 use Rattle.std.specs.Prelude.{option_map}
 use Rattle.std.proofs.Math.Seq.{take-suc}
 use Rattle.std.proofs.lemmas.List.{append_assoc, append-nil, length-take-le}
 use Rattle.std.proofs.lemmas.List.Elements.{filter_map-append}
+use Rattle.histories.proofs.Lists.{same_items}
 use Rattle.phase.specs.declared.phase.Phase.{Phase}
 use Rattle.containers.specs.declared.what.What.{What}
 use Rattle.containers.specs.declared.events.ContainerEvents.{ContainerEvents}
@@ -18,7 +18,6 @@ use Rattle.pod_state.specs.Pods.{PodTick, ticks_of}
 use Rattle.pod_state.specs.Events.{IsMadeOf, ChangesPhase, AreNews, places_in, events_at, events_from}
 use Rattle.pod_state.specs.Laws.{NoEventsAfterTheEnd, OneListOfEvents}
 use Rattle.pod_state.proofs.TickLemmas.{whatever, together}
-use Rattle.pod_state.proofs.ContainerLemmas.{same_items}
 use Rattle.pod_state.proofs.EndLemmas.{raw_unique}
 
 -- the items up to a place, and the item there

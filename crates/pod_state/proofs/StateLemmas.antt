@@ -1,5 +1,5 @@
 -- A pod after one more tick.
-use Rattle.std.proofs.Common.{◌≡◌, ◌∙◌, inl, inr, ℕ, ◌<◌, List, [], ◌∷◌, ◌++◌, length, Option, Some, None, false}
+use Rattle.std.proofs.Common.{◌≡◌, ◌∙◌, inl, inr, ℕ, List, [], ◌∷◌, ◌++◌, length, Option, Some, None, false}
 use Rattle.std.proofs.Common.{slice_index_or, refl, sym, subst, ap, arith}
 use Rattle.std.specs.Prelude.{◌↔◌, ◌≢◌, IsSomeAnd, IsTrue, slice_get, unwrap_or}
 use Rattle.histories.specs.Histories.{EndsBefore}

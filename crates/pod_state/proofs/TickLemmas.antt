@@ -1,13 +1,12 @@
 -- The ticks of one container, and what its specification says.
-use Rattle.std.proofs.Common.{◌≡◌, ℕ, ◌<◌, List, [], ◌∷◌, ◌++◌, length, take, get_or, Option, Some, None, refl, ap}
-use Rattle.std.proofs.Common.{subst, sym, ◌∙◌}
+use Rattle.std.proofs.Common.{◌≡◌, ℕ, ◌<◌, List, [], ◌∷◌, ◌++◌, length, get_or, Option, Some, None, refl}
+use Rattle.std.proofs.Common.{subst, sym}
 use Rattle.std.specs.Prelude.{IsSomeAnd, slice_get, unwrap_or}
 use Rattle.std.proofs.lemmas.Option.{slice_get_read, slice_get_within}
 use Rattle.histories.specs.Histories.{recorded}
 use Rattle.histories.proofs.Places.{project-append}
 use Rattle.manifest.specs.declared.pod.ContainerSpec.{ContainerSpec}
 use Rattle.manifest.specs.declared.pod.PodSpec.{PodSpec}
-use Rattle.containers.specs.Ticks.{ContainerTick}
 use Rattle.pod_state.specs.Pods.{PodEntry, PodTick, ticks_of, unseen, OfSpec}
 
 -- one more tick

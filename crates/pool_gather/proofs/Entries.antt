@@ -5,17 +5,18 @@ use Rattle.std.specs.Prelude.{slice_get}
 use Rattle.std.specs.List.{sum_by}
 use Rattle.std.specs.List.Sorted.{IsPermutation}
 use Rattle.std.proofs.lemmas.List.{length-append}
-use Rattle.std.proofs.lemmas.Option.{slice_get-get_or}
-use Rattle.node_signals.proofs.PlaceLemmas.{place_split, within}
+use Rattle.std.proofs.lemmas.Option.{slice_get-get_or, slice_get_within}
+use Rattle.histories.proofs.Lists.{place_split}
 use Rattle.pod_piece.specs.Piece.{Piece, updated}
 use Rattle.event_book.specs.declared.totals.Entry.{Entry}
 use Rattle.event_book.specs.declared.totals.Totals.{Totals}
 use Rattle.event_book.specs.Totals.{IsEntryOf, AreEntriesOf, plus, sums_of}
 use Rattle.event_book.specs.Shares.{Part, part}
+use Rattle.event_book.proofs.Numbers.{totals_same}
 use Rattle.piece_deques.proofs.Lists.{sum_map}
 use Rattle.piece_deques.specs.Rule.{AreNumbered}
 use Rattle.pool_harvest.specs.Done.{HaveEntries, AreSumsOf}
-use Rattle.pool_harvest.proofs.Sums.{totals_same, sums_permuted}
+use Rattle.pool_harvest.proofs.Sums.{sums_permuted}
 use Rattle.pool_gather.specs.Order.{AreAdded}
 
 pub no_entries : (pieces : List Piece) → pieces ≡ [] → AreEntriesOf pieces []
@@ -34,10 +35,10 @@ entries_more xs ys es piece entry put are is =
       each = λ n p e at there. elim (place_split xs piece p n at) [
         | inl old ↦ elim (place_split es entry e n there) [
           | inl older ↦ are.each n p e old older
-          | inr w ↦ let lt : n < length xs = within xs n p old in let last = w.0 in absurd (omega arith)
+          | inr w ↦ let lt : n < length xs = slice_get_within xs n p old in let last = w.0 in absurd (omega arith)
         ]
         | inr v ↦ elim (place_split es entry e n there) [
-          | inl older ↦ let lt : n < length es = within es n e older in let last = v.0 in absurd (omega arith)
+          | inl older ↦ let lt : n < length es = slice_get_within es n e older in let last = v.0 in absurd (omega arith)
           | inr w ↦ subst (λ q. IsEntryOf q e) v.1 (subst (λ f. IsEntryOf piece f) w.1 is)
         ]
       ];

@@ -9,8 +9,8 @@ use Rattle.std.proofs.lemmas.List.Sums.{sum_by-cons}
 use Rattle.std.proofs.lemmas.List.Elements.{All-get_or}
 use Rattle.std.proofs.lemmas.List.Sorted.{sum_by-IsPermutation, All-permutation}
 use Rattle.std.proofs.lemmas.Option.{slice_get-map, slice_get_within, get_or_from_slice_get}
+use Rattle.histories.proofs.Lists.{same_places}
 use Rattle.pod_piece.specs.Piece.{Piece, updated}
-use Rattle.event_book.proofs.Places.{same_places}
 use Rattle.piece_deques.specs.Rule.{number_of, AreNumbered}
 use Rattle.piece_deques.proofs.Lists.{ones, sum_map}
 use Rattle.pool_harvest.specs.Done.{IsDone, weigh}

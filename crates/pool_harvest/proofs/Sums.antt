@@ -12,14 +12,11 @@ use Rattle.event_book.specs.Totals.{IsEntryOf, plus, nothing}
 use Rattle.event_book.specs.Shares.{one_update}
 use Rattle.event_book.specs.Limits.{IsLow}
 use Rattle.event_book.proofs.Low.{one_entry}
+use Rattle.event_book.proofs.Numbers.{totals_same}
 use Rattle.piece_deques.proofs.Lists.{all_left, all_right, ones}
 use Rattle.pool_harvest.specs.Done.{HaveEntries, AreSumsOf}
 
 -- Sums
-
-pub totals_same : (a b : Totals) → a.updates ≡ b.updates → a.events ≡ b.events → a.orders ≡ b.orders → a ≡ b
-totals_same a b updates events orders =
-    λ k. (let t : Totals = record { updates = updates k; events = events k; orders = orders k } in t)
 
 pub no_sums : (pieces : List Piece) (totals : Totals) → pieces ≡ [] → totals ≡ nothing → AreSumsOf pieces totals
 no_sums pieces totals none is =

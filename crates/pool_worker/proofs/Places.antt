@@ -3,13 +3,14 @@ use Rattle.std.proofs.Common.{◌≡◌, ℕ, ◌+◌, ◌<◌, List, [], ◌∷
 use Rattle.std.proofs.Common.{sym, refl, ap, ◌∙◌, arith}
 use Rattle.std.specs.List.{sum_by}
 use Rattle.std.specs.Global.{Global}
-use Rattle.std.proofs.lemmas.List.{reverse-append}
+use Rattle.std.proofs.lemmas.List.{reverse-append, same_from_push}
 use Rattle.std.proofs.lemmas.List.Sums.{sum_by-cons}
 use Rattle.crossbeam_deque.specs.Handles.{worker_deque, worker_view}
 use Rattle.crossbeam_deque.specs.declared.handles.Worker.{Worker}
+use Rattle.histories.proofs.Lists.{map_more}
 use Rattle.piece_deques.specs.declared.rule.Tally.{Tally}
 use Rattle.piece_deques.specs.Ends.{pushed_weight}
-use Rattle.piece_deques.proofs.Lists.{drop_map_more, map_push, map_same, ones, snoc_same, sum_map, sum_same}
+use Rattle.piece_deques.proofs.Lists.{drop_map_more, map_same, ones, sum_map, sum_same}
 use Rattle.piece_deques.proofs.Lists.{take_map_more}
 use Rattle.pool_harvest.specs.declared.reach.Reach.{Reach}
 use Rattle.pool_worker.specs.Seats.{Place, owner_place, seat_place, places_len, pushed_to}
@@ -45,8 +46,8 @@ module _ {X Y Z : Type 0} (f : X → Z) (g : Y → Z) (ys : List Y) (y : Y) (n a
   pub paired : (xs rest : List X) (x : X) → xs ≡ rest ++ x ∷ [] → map f xs ≡ take n (map g ys)
       → (map f rest ≡ take at (map g ys)) × (f x ≡ g y)
   paired xs rest x row same =
-      snoc_same (map f rest) (take at (map g ys)) (f x) (g y)
-      (sym (map_push f rest x)
+      same_from_push (map f rest) (take at (map g ys)) (f x) (g y)
+      (sym (map_more f rest x)
       ∙ (ap (map f) (sym row)
       ∙ (same ∙ (ap (λ k. take k (map g ys)) next ∙ take_map_more g ys at y in' was))))
 
@@ -55,7 +56,7 @@ module _ {X Y Z : Type 0} (f : X → Z) (g : Y → Z) (ys : List Y) (y : Y) (n a
       → reverse (map f new) ≡ drop at (map g ys)
   seated xs new x put same fits =
       ap (λ l. reverse (map f l)) put
-      ∙ (ap reverse (map_push f xs x)
+      ∙ (ap reverse (map_more f xs x)
       ∙ (reverse-append (map f xs) (f x ∷ [])
       ∙ (ap (λ l. f x ∷ l) (same ∙ ap (λ k. drop k (map g ys)) next)
       ∙ (ap (λ z. z ∷ drop (at + 1) (map g ys)) fits ∙ sym (drop_map_more g ys at y in' was)))))

@@ -14,10 +14,10 @@ use Rattle.probes.specs.Outcomes.{PassesWithin, FailsWithin}
 use Rattle.probes.specs.Ticks.{Tick, belonging, startup_results, HasPassed, IsStarted}
 use Rattle.probes.specs.Startup.{IsProgressOf, IsProgressWith}
 use Rattle.probes.specs.Container.{IsPassTick, AreCounted}
-use Rattle.probes.proofs.Runs.{slice_get-kept}
 use Rattle.histories.specs.Histories.{Lasts}
 use Rattle.histories.proofs.First.{IsFirst-unique}
 use Rattle.histories.proofs.Lasting.{Lasts-all, ComesTrue-later, ComesTrue-now}
+use Rattle.histories.proofs.Lists.{slice_get-kept}
 
 pub PassesWithin-more : (f : ℕ) (xs ys : List Outcome) → PassesWithin f xs → PassesWithin f (xs ++ ys)
 PassesWithin-more f xs ys (k, lt, is) = (k, lt, slice_get-kept xs ys k Success is)

@@ -1,29 +1,14 @@
 -- Runs of one outcome in a list of results, when one more result comes.
 use Rattle.std.proofs.Common.{◌≡◌, ◌⊎◌, inl, inr, ℕ, suc, zero, ◌+◌, ◌<◌, ◌≤◌, List, [], ◌∷◌, ◌++◌, length, Some}
-use Rattle.std.proofs.Common.{refl, sym, subst, length-append, ◌∙◌, arith}
+use Rattle.std.proofs.Common.{sym, subst, length-append, ◌∙◌, arith}
 use Rattle.std.specs.Prelude.{◌↔◌, slice_get}
 use Rattle.std.proofs.lemmas.Bool.{cases_lt}
 use Rattle.std.proofs.lemmas.List.{length_push}
 use Rattle.std.proofs.lemmas.Option.{same_Some}
+use Rattle.histories.proofs.Lists.{slice_get-old, slice_get-kept, slice_get-new}
 use Rattle.manifest.specs.declared.outcome.Outcome.{Outcome}
 use Rattle.manifest.specs.declared.outcome.Outcome.TheVariants.{Success, Failure}
 use Rattle.probes.specs.Outcomes.{EndsRun, FailsInARow, HoldsAfter, IsRunLength}
-
--- more elements leave those before as they are
-pub slice_get-old : {X : Type 0} (xs ys : List X) (k : ℕ) → k < length xs → slice_get (xs ++ ys) k ≡ slice_get xs k
-slice_get-old [] ys k lt = absurd (omega arith)
-slice_get-old (x ∷ xs) ys zero lt = refl
-slice_get-old (x ∷ xs) ys (suc k) lt = slice_get-old xs ys k (omega arith)
-
-pub slice_get-kept : {X : Type 0} (xs ys : List X) (k : ℕ) (x : X) → slice_get xs k ≡ Some x
-    → slice_get (xs ++ ys) k ≡ Some x
-slice_get-kept [] ys k x is = absurd (cc)
-slice_get-kept (y ∷ xs) ys zero x is = is
-slice_get-kept (y ∷ xs) ys (suc k) x is = slice_get-kept xs ys k x is
-
-pub slice_get-new : {X : Type 0} (xs : List X) (x : X) → slice_get (xs ++ x ∷ []) (length xs) ≡ Some x
-slice_get-new [] x = refl
-slice_get-new (y ∷ xs) x = slice_get-new xs x
 
 -- the new element, where its place is known by an equation
 slice_get-at : {X : Type 0} (xs : List X) (x : X) (k : ℕ) → k ≡ length xs → slice_get (xs ++ x ∷ []) k ≡ Some x

@@ -6,9 +6,7 @@ use Rattle.std.specs.declared.cmp.Ordering.TheVariants.{Less, Equal, Greater}
 use Rattle.std.proofs.lemmas.Bool.{cases_eq}
 use Rattle.std.proofs.lemmas.Bool.Decides.{eqb_tells}
 use Rattle.signals.specs.declared.signal.Signal.{Signal}
-use Rattle.phase.specs.declared.phase.Phase.{Phase}
-use Rattle.phase.specs.declared.phase.Phase.TheVariants.{Pending, Running, Succeeded, Failed}
-use Rattle.phase.specs.RawPhase.{IsTerminal}
+use Rattle.phase.proofs.DecideLemmas.{terminal_cases}
 use Rattle.pod_piece.specs.declared.status.PodStatus.{PodStatus}
 use Rattle.ranking.specs.declared.key.RankKey.{RankKey}
 use Rattle.ranking.specs.Amounts.{used, has_requests, requested}
@@ -98,12 +96,6 @@ pub same_victim : (signal : Signal) (dedicated : Bool) (C D : ℕ → PodStatus 
 same_victim signal dedicated C D same None v = λ n p d. v n p ((same n p).1 d)
 same_victim signal dedicated C D same (Some n) (p, c, before) =
     (p, (same n p).0 c, λ m q d apart. before m q ((same m q).1 d) apart)
-
-terminal_cases : (p : Phase) → IsTerminal p ⊎ (IsTerminal p → ⊥)
-terminal_cases Pending = inr (λ w. elim w [ inl e ↦ cc | inr e ↦ cc ])
-terminal_cases Running = inr (λ w. elim w [ inl e ↦ cc | inr e ↦ cc ])
-terminal_cases Succeeded = inl (inl refl)
-terminal_cases Failed = inl (inr refl)
 
 -- what is held under one number, and as before under the others
 at_number : (held : ℕ → Option PodStatus) (number : ℕ) (now : Option PodStatus)

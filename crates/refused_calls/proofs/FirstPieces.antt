@@ -2,7 +2,7 @@
 use Rattle.std.proofs.Common.{◌≡◌, ℕ, ◌+◌, List, [], ◌∷◌, ◌++◌, length, length-append, Some, sym, ap, ◌∙◌, subst, inl}
 use Rattle.std.proofs.Common.{inr}
 use Rattle.std.specs.Prelude.{IsTrue, slice_get}
-use Rattle.node_signals.proofs.PlaceLemmas.{place_split}
+use Rattle.histories.proofs.Lists.{place_split}
 use Rattle.pod_piece.specs.Piece.{Piece}
 use Rattle.piece_deques.proofs.Lists.{grown}
 use Rattle.refused_calls.specs.Round.{AreFirst}

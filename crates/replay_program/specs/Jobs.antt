@@ -1,5 +1,5 @@
 -- What the program can do.
-use Rattle.std.specs.Prelude.{ℕ, ◌<◌, ◌≤◌}
+use Rattle.std.specs.Prelude.{◌<◌, ◌≤◌}
 use Rattle.commands.specs.declared.job.Job.{Job}
 use Rattle.commands.specs.declared.job.Job.TheVariants.{Run, Check, Play}
 

@@ -12,6 +12,7 @@ use Rattle.round_core.specs.declared.hand.Hand.{Hand}
 use Rattle.round_core.specs.declared.hand.Hand.TheVariants.{Empty, Taken, Updated}
 use Rattle.round_steps.specs.declared.step.Step.{Step}
 use Rattle.event_book.specs.Totals.{sums_of}
+use Rattle.event_book.proofs.Numbers.{totals_same}
 use Rattle.round_core.specs.Pool.{WorkerState, PoolState, idle, entry_at, deal, drain_steps, after_steps, after_drain}
 use Rattle.round_core.specs.Places.{sum_below, one_at, held, held_updated, worker_weight, pool_weight}
 use Rattle.round_core.specs.Places.{finished_weight, places, times_finished, times_marked, times_updated}
@@ -34,16 +35,6 @@ events_total round = record { adds = λ totals piece. refl }
 pub orders_total : (round : List Entry)
     → IsTotal round (λ totals. totals.orders) (λ piece. (entry_at round piece).orders)
 orders_total round = record { adds = λ totals piece. refl }
-
-totals_same : (one other : Totals) → one.updates ≡ other.updates → one.events ≡ other.events
-    → one.orders ≡ other.orders → one ≡ other
-totals_same one other updates events orders =
-    ap (λ (n : ℕ). let totals : Totals = record { updates = n; events = one.events; orders = one.orders } in
-    totals) updates
-    ∙ ap (λ (n : ℕ). let totals : Totals = record { updates = other.updates; events = n; orders = one.orders } in
-    totals) events
-    ∙ ap (λ (n : ℕ). let totals : Totals = record { updates = other.updates; events = other.events; orders = n } in
-    totals) orders
 
 -- Each piece is at one place
 
@@ -193,7 +184,7 @@ hand_marked weight Empty = omega arith
 hand_marked weight (Taken piece) = omega arith
 hand_marked weight (Updated piece) = omega arith
 
-marked_at_most : (piece : ℕ) (pool : PoolState) → times_marked piece pool ≤ places piece pool
+pub marked_at_most : (piece : ℕ) (pool : PoolState) → times_marked piece pool ≤ places piece pool
 marked_at_most piece pool =
     sum_by-le-sum_by (marked_of (one_at piece)) (worker_weight (one_at piece)) pool.workers
     (λ worker. let hand = hand_marked (one_at piece) worker.hand in omega arith)

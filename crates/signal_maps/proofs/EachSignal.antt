@@ -4,6 +4,7 @@ use Rattle.std.specs.Prelude.{not}
 use Rattle.serde_json.specs.Data.{Data}
 use Rattle.json_fields.specs.Reading.{refused_if}
 use Rattle.json_fields.proofs.Steps.{bind_ok}
+use Rattle.json_fields.proofs.Only.{same_value}
 use Rattle.signals.specs.declared.by_signal.BySignal.{BySignal}
 use Rattle.signals.specs.declared.signal.Signal.{Signal}
 use Rattle.signals.specs.declared.signal.Signal.TheVariants.{MemoryAvailable, NodefsAvailable, ImagefsAvailable}
@@ -11,9 +12,6 @@ use Rattle.signals.specs.declared.signal.Signal.TheVariants.{NodefsInodesFree, I
 use Rattle.signals.specs.BySignal.{of}
 use Rattle.signal_maps.specs.declared.scope.Scope.{Scope}
 use Rattle.signal_maps.specs.Maps.{is_signal_map, in_map, read_each, read_map}
-
-ok_same : {A E : Type 0} (x y : A) → ◌≡◌ {A = Result A E} (Ok x) (Ok y) → x ≡ y
-ok_same x y e = cc
 
 -- what was read for each signal was read for this one
 pub each_read : {A E : Type 0} (read : Signal → Result A E) (all : BySignal A) → read_each read ≡ Ok all
@@ -26,7 +24,7 @@ each_read {E = E} read all e signal =
     let d = bind_ok (read NodefsInodesFree) _ all c.2 in
     let f = bind_ok (read ImagefsInodesFree) _ all d.2 in
     let g = bind_ok (read PidAvailable) _ all f.2 in
-    let same = ok_same {E = E} _ all g.2 in
+    let same = same_value {E = E} _ all g.2 in
     let P : BySignal _ → Type 0 = λ values. read signal ≡ Ok (of values signal) in
     subst P same (elim signal as (λ s. read s ≡ Ok (of (record {
       memory_available = a.0;

@@ -1,9 +1,9 @@
 -- Which fault is answered for a map.
-use Rattle.std.proofs.Common.{◌≡◌, ◌⊎◌, Option, Result, Ok, Err, refl, ap, inl, inr}
+use Rattle.std.proofs.Common.{◌≡◌, Option, Result, Err, inl, inr}
 use Rattle.std.specs.Prelude.{not}
 use Rattle.serde_json.specs.Data.{Data}
-use Rattle.json_fields.specs.Reading.{◌>>=◌}
 use Rattle.json_fields.proofs.Only.{Only, only_ok, only_bind, only_refused}
+use Rattle.json_fields.proofs.Steps.{bind_err}
 use Rattle.signals.specs.declared.signal.Signal.{Signal}
 use Rattle.signals.specs.declared.signal.Signal.TheVariants.{MemoryAvailable, NodefsAvailable, ImagefsAvailable}
 use Rattle.signals.specs.declared.signal.Signal.TheVariants.{NodefsInodesFree, ImagefsInodesFree, PidAvailable}
@@ -30,14 +30,6 @@ unfolding read_map
 map_only P scope fault read found is one =
     only_bind P _ _ (only_refused P (not (is_signal_map scope found)) fault is) (λ alone.
     each_only P (λ s. read s (in_map found s)) (λ s. one s (in_map found s)))
-
-pub bind_err : {A B E : Type 0} (r : Result A E) (f : A → Result B E) (fault : E) → (r >>= f) ≡ Err fault
-    → (r ≡ Err fault) ⊎ ((x : A) × (r ≡ Ok x) × (f x ≡ Err fault))
-bind_err (Ok x) f fault e = inr (x, refl, e)
-bind_err {A = A} {E = E} (Err other) f fault e =
-    let same : other ≡ fault = cc in
-    let refused : E → Result A E = λ x. Err x in
-    inl (ap refused same)
 
 -- a fault of all is that of one signal
 pub each_err : {A E : Type 0} (read : Signal → Result A E) (fault : E) → read_each read ≡ Err fault

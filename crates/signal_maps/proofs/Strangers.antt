@@ -1,11 +1,12 @@
 -- A member of a name that a map may not have.
-use Rattle.std.proofs.Common.{◌≡◌, ◌∙◌, ℕ, Bool, true, false, List, Option, Some, None, Result, Err, refl, ap, sym}
+use Rattle.std.proofs.Common.{◌≡◌, ◌∙◌, ℕ, true, false, List, Option, Some, None, Result, Err, refl, ap, sym}
 use Rattle.std.proofs.Common.{Ordering, Less, Equal, Greater, nat_cmp, is_eq}
-use Rattle.std.specs.Prelude.{◌||◌, is_some, option_and_then}
+use Rattle.std.specs.Prelude.{is_some, option_and_then}
 use Rattle.std.specs.Cmp.Lexicographic.{slice_cmp}
 use Rattle.std.specs.Ordering.{match_ordering}
 use Rattle.std.proofs.lemmas.Map.Text.{is_eq-slice_cmp}
 use Rattle.std.proofs.lemmas.Slice.Eq.{bytes_eq-Decides}
+use Rattle.std.proofs.lemmas.Bool.{or_right}
 use Rattle.serde_json.specs.Data.{Data, null, boolean, number, string, array, object, Members, no_members, member}
 use Rattle.serde_json.specs.Find.{as_null, get_member}
 use Rattle.json_fields.specs.Fields.{present, field_at}
@@ -22,21 +23,17 @@ not_null (string s) value e = refl
 not_null (array ds) value e = refl
 not_null (object ms) value e = refl
 
-or_later : (b c : Bool) → c ≡ true → (b || c) ≡ true
-or_later true c e = refl
-or_later false c e = e
-
 found_at : (o : Ordering) (scope : Scope) (name l : List ℕ) (d value : Data) (rest : Members)
     → slice_cmp nat_cmp name l ≡ o → may_name scope name ≡ false
     → (present (get_member name rest) ≡ Some value → has_stranger scope rest ≡ true)
     → present (match_ordering o (get_member name rest) (Some d) (get_member name rest)) ≡ Some value
     → has_stranger scope (member l d rest) ≡ true
-found_at Less scope name l d value rest is other later e = or_later _ (has_stranger scope rest) (later e)
+found_at Less scope name l d value rest is other later e = or_right _ (has_stranger scope rest) (later e)
 found_at Equal scope name l d value rest is other later e =
     let same : name ≡ l = (bytes_eq-Decides name l).0 (sym (is_eq-slice_cmp name l) ∙ ap is_eq is) in
     let named_other : may_name scope l ≡ false = sym (ap (may_name scope) same) ∙ other in
     rw (not_null d value e, named_other) refl
-found_at Greater scope name l d value rest is other later e = or_later _ (has_stranger scope rest) (later e)
+found_at Greater scope name l d value rest is other later e = or_right _ (has_stranger scope rest) (later e)
 
 stranger_found : (scope : Scope) (name : List ℕ) (value : Data) (ms : Members) → may_name scope name ≡ false
     → present (get_member name ms) ≡ Some value → has_stranger scope ms ≡ true

@@ -4,7 +4,7 @@ use Rattle.std.proofs.Common.{length, Option, Some, None, refl, subst, sym, ◌�
 use Rattle.std.specs.Prelude.{IsSomeAnd, IsTrue, ◌↔◌, ◌||◌, ◌&&◌, not, if◌then◌else◌, ◌==◌}
 use Rattle.std.specs.Bool.{Decides}
 use Rattle.std.specs.List.{list_all, list_any}
-use Rattle.std.proofs.lemmas.Bool.{and_parts, or_cases, leb-true, le-leb}
+use Rattle.std.proofs.lemmas.Bool.{and_parts, or_cases, leb-true, le-leb, or_right, and_from}
 use Rattle.std.proofs.lemmas.Bool.Decides.{Decides-eqb, Decides-and}
 use Rattle.state_diff.specs.States.{rank, is_known}
 use Rattle.state_diff.specs.declared.seen.Seen.{Seen}
@@ -47,10 +47,6 @@ all_seen p none (y ∷ h) = (
     forth here later zero = here
     forth here later (suc t) = later t
 
-true_or : (a b : Bool) → b ≡ true → (a || b) ≡ true
-true_or true b e = refl
-true_or false b e = e
-
 any_seen : (p : Option Seen → Bool) → p None ≡ false → (h : List Tick)
     → (IsTrue (list_any (λ x. p x.entry) h) ↔ ((t : ℕ) × IsTrue (p (seen_at h t))))
 any_seen p none [] = ((λ e. absurd (let e : IsTrue false = e in cc)), (λ w. let e : p None ≡ true = w.1 in absurd (cc)))
@@ -66,7 +62,7 @@ any_seen p none (y ∷ h) = (
         → IsTrue (p (seen_at (y ∷ h) t))
         → IsTrue (list_any (λ x. p x.entry) (y ∷ h))
     back rest zero e = let here : p y.entry ≡ true = e in rw here refl
-    back rest (suc t) e = true_or (p y.entry) _ (rest (t, e))
+    back rest (suc t) e = or_right (p y.entry) _ (rest (t, e))
 
 not_older_is : (h : List Tick) (a : ℕ) → (IsTrue (is_not_older h a) ↔ ((b t : ℕ) → Listed h b t → b ≤ a))
 not_older_is h a = (
@@ -175,10 +171,6 @@ not_back_is h a s = (
   (λ f. le-leb (rank (effective_state h a)) (rank s) (f (effective_state h a) (effective_state_is h a))),
 )
 
-both : (a b : Bool) → a ≡ true → b ≡ true → (a && b) ≡ true
-both true b e f = f
-both false b e f = absurd (cc)
-
 -- the test says what is acceptable
 pub is_acceptable_is : (h : List Tick) (seen : Option Seen) → (IsTrue (is_acceptable h seen) ↔ IsAcceptable h seen)
 is_acceptable_is h None = ((λ e. tt), (λ w. refl))
@@ -192,7 +184,7 @@ is_acceptable_is h (Some s) = (
         not_back = (not_back_is h s.attempt s.state).0 v.1;
       }),
   (λ m.
-      both (is_not_older h s.attempt) _ ((not_older_is h s.attempt).1 m.not_older)
-      (both (is_not_gone h s.attempt) _ ((not_gone_is h s.attempt).1 m.not_gone)
+      and_from (is_not_older h s.attempt) _ ((not_older_is h s.attempt).1 m.not_older)
+      (and_from (is_not_gone h s.attempt) _ ((not_gone_is h s.attempt).1 m.not_gone)
       ((not_back_is h s.attempt s.state).1 m.not_back))),
 )

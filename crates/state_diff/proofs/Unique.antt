@@ -26,7 +26,7 @@ one_code : (a : ℕ) (k k' : ℤ) (o : Option Seen) → IsSomeAnd o (λ seen. (s
 one_code a k k' None q r = absurd q
 one_code a k k' (Some s) q r = let e : Some k ≡ Some k' = sym q.1 ∙ r.1 in cc
 
-of_coded : (a : ℕ) (k : ℤ) (o : Option Seen) → IsSomeAnd o (λ seen. (seen.attempt ≡ a) × (seen.code ≡ Some k))
+pub of_coded : (a : ℕ) (k : ℤ) (o : Option Seen) → IsSomeAnd o (λ seen. (seen.attempt ≡ a) × (seen.code ≡ Some k))
     → IsSomeAnd o (IsOf a)
 of_coded a k None q = q
 of_coded a k (Some s) q = q.0

@@ -1,10 +1,11 @@
 -- What is known of the parts of what was read.
-use Rattle.std.proofs.Common.{◌≡◌, ◌∙◌, Result, Ok, ap}
+use Rattle.std.proofs.Common.{◌≡◌, ◌∙◌, Ok, ap}
 use Rattle.std.specs.Prelude.{codes}
 use Rattle.serde_json.specs.Data.{Data}
 use Rattle.json_fields.specs.Fields.{field_at, text_at}
 use Rattle.json_fields.specs.Reading.{some_or}
 use Rattle.json_fields.proofs.Steps.{bind_ok}
+use Rattle.json_fields.proofs.Only.{same_value}
 use Rattle.observations.specs.declared.usage.Usage.{Usage}
 use Rattle.tick_lines.specs.declared.entry.Entry.{Entry}
 use Rattle.tick_lines.specs.declared.fault.TickLineFault.TheVariants as faults
@@ -18,9 +19,6 @@ use Rattle.tick_lines.specs.Entries.{entry_of, entries_of}
 use Rattle.tick_lines.specs.Samples.{samples_of}
 use Rattle.tick_lines.specs.Line.{tick_line_of}
 
-pub same_ok : {A E : Type 0} (x y : A) → ◌≡◌ {A = Result A E} (Ok x) (Ok y) → x ≡ y
-same_ok x y e = cc
-
 pub record IsLine (d : Data) (line : TickLine) : Type 0 where
   pub entries : entries_of (field_at (codes "pods") d) ≡ Ok line.entries
   pub signals : samples_of Node (field_at (codes "signals") d) ≡ Ok line.signals
@@ -32,7 +30,7 @@ line_parts d line e =
     let entries = bind_ok (entries_of (field_at (codes "pods") d)) _ line e in
     let signals = bind_ok (samples_of Node (field_at (codes "signals") d)) _ line entries.2 in
     let after = bind_ok (samples_of FileSystems (field_at (codes "afterReclaim") d)) _ line signals.2 in
-    let same = same_ok _ line after.2 in
+    let same = same_value _ line after.2 in
     record {
       entries = entries.1 ∙ ap (λ (l : TickLine). Ok l.entries) same;
       signals = signals.1 ∙ ap (λ (l : TickLine). Ok l.signals) same;
@@ -51,7 +49,7 @@ entry_parts d entry e =
     let listings = bind_ok (listings_of (field_at (codes "containers") d)) _ entry key.2 in
     let results = bind_ok (results_of (field_at (codes "probes") d)) _ entry listings.2 in
     let usage = bind_ok (usage_of (field_at (codes "usage") d)) _ entry results.2 in
-    let same = same_ok _ entry usage.2 in
+    let same = same_value _ entry usage.2 in
     record {
       listings = listings.1 ∙ ap (λ (x : Entry). Ok x.listings) same;
       results = results.1 ∙ ap (λ (x : Entry). Ok x.results) same;
@@ -76,7 +74,7 @@ usage_parts d usage e =
     let writable = bind_ok (quantity_at (field_at (codes "writable") d)) _ usage logs.2 in
     let inodes = bind_ok (quantity_at (field_at (codes "inodes") d)) _ usage writable.2 in
     let pids = bind_ok (quantity_at (field_at (codes "pids") d)) _ usage inodes.2 in
-    let same = same_ok _ usage pids.2 in
+    let same = same_value _ usage pids.2 in
     record {
       memory = memory.1 ∙ ap (λ (u : Usage). Ok u.memory) same;
       volumes = volumes.1 ∙ ap (λ (u : Usage). Ok u.volumes) same;

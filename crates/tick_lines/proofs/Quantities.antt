@@ -1,10 +1,12 @@
 -- A sample is the quantity under its name.
 use Rattle.std.proofs.Common.{◌≡◌, ◌∙◌, ℕ, Option, Some, None, Result, Ok, Err, refl, ap, sym}
 use Rattle.std.specs.Prelude.{◌↔◌, codes}
+use Rattle.std.proofs.lemmas.Option.{same_Some, none-some}
 use Rattle.serde_json.specs.Data.{Data}
 use Rattle.json_fields.specs.Fields.{field_at}
 use Rattle.json_fields.specs.Reading.{◌>>=◌}
 use Rattle.json_fields.proofs.Steps.{bind_ok}
+use Rattle.json_fields.proofs.Only.{same_value}
 use Rattle.observations.specs.declared.usage.Usage.{Usage}
 use Rattle.quantity_fields.specs.Fields.{quantity_in}
 use Rattle.quantity_fields.specs.declared.fault.FieldFault.{FieldFault}
@@ -21,36 +23,30 @@ use Rattle.tick_lines.specs.Fields.{held, quantity_at}
 use Rattle.tick_lines.specs.Usages.{usage_in, usage_of}
 use Rattle.tick_lines.specs.Samples.{samples_of}
 use Rattle.tick_lines.specs.Laws.{IsSample, IsUsage, SaysUsage, SamplesSaid, UsageSaid}
-use Rattle.tick_lines.proofs.Parts.{same_ok, line_parts, entry_parts, usage_parts}
+use Rattle.tick_lines.proofs.Parts.{line_parts, entry_parts, usage_parts}
 
 -- the value that was found is this quantity
 abbrev IsQuantity : Option Data → ℕ → Type 0
 IsQuantity found n = (value : Data) × (found ≡ Some value) × (quantity_in value ≡ Ok n)
 
-same_some : {A : Type 0} (x y : A) → Some x ≡ Some y → x ≡ y
-same_some x y e = cc
-
-no_some : {A : Type 0} (x : A) → None ≡ Some x → ⊥
-no_some x e = absurd (cc)
-
 held_is : (d : Data) (r : Result ℕ FieldFault) (sample : Option ℕ) → quantity_in d ≡ r
     → (held r >>= λ thousandths. Ok (Some thousandths)) ≡ Ok sample → (n : ℕ)
     → (sample ≡ Some n ↔ IsQuantity (Some d) n)
 held_is d (Ok q) sample is e n =
-    let same : Some q ≡ sample = same_ok (Some q) sample e in (
-      λ (said : sample ≡ Some n). (d, refl, is ∙ ap Ok (same_some q n (same ∙ said))),
+    let same : Some q ≡ sample = same_value (Some q) sample e in (
+      λ (said : sample ≡ Some n). (d, refl, is ∙ ap Ok (same_Some q n (same ∙ said))),
       λ (found : IsQuantity (Some d) n). sym same
-          ∙ ap Some (same_ok {E = FieldFault} q n (sym is ∙ ap quantity_in (same_some d found.0 found.1) ∙ found.2)),
+          ∙ ap Some (same_value {E = FieldFault} q n (sym is ∙ ap quantity_in (same_Some d found.0 found.1) ∙ found.2)),
     )
 held_is d (Err fault) sample is e n = absurd (cc)
 
 quantity_is : (found : Option Data) (sample : Option ℕ) → quantity_at found ≡ Ok sample → (n : ℕ)
     → (sample ≡ Some n ↔ IsQuantity found n)
 quantity_is None sample e n =
-    let none : None ≡ sample = same_ok None sample e in (
-      λ (said : sample ≡ Some n). absurd (no_some n (none ∙ said)),
+    let none : None ≡ sample = same_value None sample e in (
+      λ (said : sample ≡ Some n). absurd (none-some n (none ∙ said)),
       λ (found : IsQuantity None n). absurd
-          (no_some found.0 found.1),
+          (none-some found.0 found.1),
     )
 quantity_is (Some d) sample e n = held_is d (quantity_in d) sample refl e n
 
@@ -80,10 +76,10 @@ usage_is d usage e =
     }
 
 says_usage : (found : Option Data) (said : Option Usage) → usage_of found ≡ Ok said → SaysUsage found said
-says_usage None said e = sym (same_ok None said e)
+says_usage None said e = sym (same_value None said e)
 says_usage (Some d) said e =
     let usage = bind_ok (usage_in d) _ said e in
-    (usage.0, sym (same_ok (Some usage.0) said usage.2), usage_is d usage.0 usage.1)
+    (usage.0, sym (same_value (Some usage.0) said usage.2), usage_is d usage.0 usage.1)
 
 pub usage_said : UsageSaid
 usage_said d entry e = says_usage _ entry.usage (entry_parts d entry e).usage

@@ -5,6 +5,7 @@ use Rattle.serde_json.specs.Data.{Data}
 use Rattle.json_fields.specs.Fields.{field_at, text_at}
 use Rattle.json_fields.specs.Reading.{some_or}
 use Rattle.json_fields.proofs.Steps.{bind_ok}
+use Rattle.json_fields.proofs.Only.{same_value}
 use Rattle.tick_lines.specs.declared.entry.Entry.{Entry}
 use Rattle.tick_lines.specs.declared.fault.TickLineFault.{TickLineFault}
 use Rattle.tick_lines.specs.declared.fault.TickLineFault.TheVariants.{Usage}
@@ -15,11 +16,10 @@ use Rattle.tick_lines.specs.Results.{probe_named, outcome_named, result_of, resu
 use Rattle.tick_lines.specs.Usages.{usage_of}
 use Rattle.tick_lines.specs.Entries.{entry_of}
 use Rattle.tick_lines.specs.Laws.{TextsSaid}
-use Rattle.tick_lines.proofs.Parts.{same_ok}
 
 some_found : {A : Type 0} (found : Option A) (x : A) → some_or Usage found ≡ Ok x → found ≡ Some x
 some_found None x e = absurd (cc)
-some_found (Some y) x e = ap Some (same_ok {E = TickLineFault} y x e)
+some_found (Some y) x e = ap Some (same_value {E = TickLineFault} y x e)
 
 entry_said : (d : Data) (entry : Entry) → entry_of d ≡ Ok entry → text_at (codes "pod") d ≡ Some entry.key
 unfolding entry_of
@@ -28,14 +28,14 @@ entry_said d entry e =
     let listings = bind_ok (listings_of (field_at (codes "containers") d)) _ entry key.2 in
     let results = bind_ok (results_of (field_at (codes "probes") d)) _ entry listings.2 in
     let usage = bind_ok (usage_of (field_at (codes "usage") d)) _ entry results.2 in
-    some_found _ _ key.1 ∙ ap (λ (x : Entry). Some x.key) (same_ok _ entry usage.2)
+    some_found _ _ key.1 ∙ ap (λ (x : Entry). Some x.key) (same_value _ entry usage.2)
 
 listing_said : (d : Data) (listing : Listing) → listing_of d ≡ Ok listing → text_at (codes "name") d ≡ Some listing.name
 unfolding listing_of
 listing_said d listing e =
     let name = bind_ok (some_or Usage (text_at (codes "name") d)) _ listing e in
     let instance = bind_ok (instance_of d) _ listing name.2 in
-    some_found _ _ name.1 ∙ ap (λ (x : Listing). Some x.name) (same_ok _ listing instance.2)
+    some_found _ _ name.1 ∙ ap (λ (x : Listing). Some x.name) (same_value _ listing instance.2)
 
 result_said : (d : Data) (r : ProbeResult) → result_of d ≡ Ok r → text_at (codes "container") d ≡ Some r.container
 unfolding result_of
@@ -43,7 +43,7 @@ result_said d r e =
     let container = bind_ok (some_or Usage (text_at (codes "container") d)) _ r e in
     let probe = bind_ok (probe_named (text_at (codes "probe") d)) _ r container.2 in
     let outcome = bind_ok (outcome_named (text_at (codes "result") d)) _ r probe.2 in
-    some_found _ _ container.1 ∙ ap (λ (x : ProbeResult). Some x.container) (same_ok _ r outcome.2)
+    some_found _ _ container.1 ∙ ap (λ (x : ProbeResult). Some x.container) (same_value _ r outcome.2)
 
 pub texts_said : TextsSaid
 texts_said = record { entry = entry_said; listing = listing_said; probe_result = result_said }

@@ -2,7 +2,6 @@
 use Rattle.std.specs.Prelude.{Result, Ok, codes}
 use Rattle.serde_json.specs.Data.{Data}
 use Rattle.json_fields.specs.Fields.{field_at}
-use Rattle.json_fields.specs.Reading.{◌>>=◌}
 use Rattle.tick_lines.specs.declared.fault.TickLineFault.{TickLineFault}
 use Rattle.tick_lines.specs.declared.line.TickLine.{TickLine}
 use Rattle.signal_maps.specs.declared.scope.Scope.TheVariants.{Node, FileSystems}

@@ -3,8 +3,8 @@
 ghost use Rattle.std.specs.Prelude.{◌≡◌, map, option_map};
 ghost use Rattle.serde_json.specs.View.{view};
 ghost use Rattle.tick_lines.specs.declared.fault.TickLineFault.TheVariants.{Usage};
-ghost use Rattle.json_fields.specs.Reading.{some_or};
-ghost use Rattle.tick_lines.specs.Gives.{Gives, GivesExactly};
+ghost use Rattle.json_fields.specs.Reading.{some_or, GivesExactly};
+ghost use Rattle.tick_lines.specs.Gives.{Gives};
 ghost use Rattle.tick_lines.specs.Fields.{items_of, only_object, quantity_at};
 
 use crate::fault::TickLineFault;

@@ -2,8 +2,8 @@
 
 ghost use Rattle.std.specs.Prelude.{◌≡◌, map, option_map};
 ghost use Rattle.serde_json.specs.View.{view};
-ghost use Rattle.json_fields.specs.Reading.{each};
-ghost use Rattle.tick_lines.specs.Gives.{Gives, GivesExactly};
+ghost use Rattle.json_fields.specs.Reading.{each, GivesExactly};
+ghost use Rattle.tick_lines.specs.Gives.{Gives};
 ghost use Rattle.tick_lines.specs.Results.{probe_named, outcome_named, result_of, results_of};
 
 use crate::fault::TickLineFault;

@@ -6,9 +6,9 @@ use Rattle.std.specs.List.{sum_by}
 use Rattle.std.proofs.lemmas.Bool.{cases_eq}
 use Rattle.std.proofs.lemmas.List.{length-map}
 use Rattle.std.proofs.lemmas.List.Sums.{sum_by-cons, sum_by-append}
-use Rattle.std.proofs.lemmas.Option.{slice_get-map}
+use Rattle.std.proofs.lemmas.Option.{slice_get-map, slice_get_within}
 use Rattle.histories.proofs.Places.{length-more}
-use Rattle.node_signals.proofs.PlaceLemmas.{within, place_split}
+use Rattle.histories.proofs.Lists.{place_split, given_at, same_at, set_length, set_here, set_others}
 use Rattle.pod_piece.specs.Piece.{Piece, updated}
 use Rattle.event_book.specs.declared.totals.Totals.{Totals}
 use Rattle.event_book.specs.declared.totals.Entry.{Entry}
@@ -16,7 +16,6 @@ use Rattle.event_book.specs.Totals.{IsEntryOf, sums_of, plus}
 use Rattle.event_book.specs.Shares.{one_update, AreWithin}
 use Rattle.event_book.specs.Limits.{IsLow}
 use Rattle.node_pods.proofs.Candidates.{same_piece}
-use Rattle.node_pods.proofs.Steps.{same_items, item_at, set_length, set_here, set_others}
 use Rattle.tick_parts.specs.Update.{AreUpTo, MayUpdate, AreEntered, UpdatesAt}
 
 abbrev totals : ℕ → ℕ → ℕ → Totals
@@ -121,7 +120,7 @@ one_updated old before i now after new then so_far step = record {
       omega (arith, many, length-more so_far.entries step.entered.entry);
   are = λ n piece entry at there. elim (place_split so_far.entries step.entered.entry entry n there) [
     | inl older ↦
-        let lt : n < length so_far.entries = within so_far.entries n entry older in
+        let lt : n < length so_far.entries = slice_get_within so_far.entries n entry older in
         let many : length so_far.entries ≡ i = so_far.made in
         so_far.are n piece entry (sym (others n (λ e. omega arith)) ∙ at) older
     | inr w ↦
@@ -150,9 +149,9 @@ one_updated old before i now after new then so_far step = record {
 pub all_updated : (old : List Piece) (before : Totals) (i : ℕ) (now : List Piece) (after : Totals)
     → AreUpdatedBelow old before i now after → i ≡ length old → now ≡ map updated old
 all_updated old before i now after are end =
-    same_items now (map updated old) (are.as_many ∙ sym (length-map old updated)) (λ n lt.
+    same_at now (map updated old) (are.as_many ∙ sym (length-map old updated)) (λ n lt.
     let many : length now ≡ length old = are.as_many in
-    let p = item_at old n (omega (arith, lt, many)) in
+    let p = given_at old n (omega (arith, lt, many)) in
     are.below n p.0 (omega (arith, lt, many, end)) p.1
     ∙ sym (slice_get-map updated old n ∙ ap (option_map updated) p.1))
 

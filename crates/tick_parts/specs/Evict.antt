@@ -1,17 +1,12 @@
 -- The eviction of a tick, by what a node keeps of its pods. (Kubernetes, "Node-pressure Eviction".)
-use Rattle.std.specs.Prelude.{◌≡◌, ℕ, List, map, Option, Some, None}
-use Rattle.manifest.specs.declared.pod.PodSpec.{PodSpec}
+use Rattle.std.specs.Prelude.{◌≡◌, ℕ, List, Option, Some, None}
 use Rattle.node_config.specs.declared.node.NodeConfig.{NodeConfig}
 use Rattle.node_signals.specs.declared.key.ThresholdKey.{ThresholdKey}
-use Rattle.pod_piece.specs.Piece.{Piece}
+use Rattle.pod_piece.specs.Piece.{Piece, pods_in}
 use Rattle.ranking.specs.Order.{IsVictim}
 use Rattle.eviction.specs.declared.eviction.Eviction.{Eviction}
 use Rattle.eviction.specs.Replay.{IsOfVictim}
 use Rattle.node_pods.specs.Pods.{IsCandidate, IsEvictable, AreEvicted}
-
--- the specifications of these pieces
-abbrev pub pods_in : List Piece → List PodSpec
-pods_in pieces = map (λ (piece : Piece). piece.pod) pieces
 
 -- the eviction at a moment for the threshold that is served, of these pods
 abbrev pub IsEvictionAt : NodeConfig → List Piece → ℕ → Option ThresholdKey → Option Eviction → Type 0

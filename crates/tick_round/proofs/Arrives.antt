@@ -3,7 +3,9 @@ use Rattle.std.proofs.Common.{◌≡◌, inl, inr, ℕ, zero, suc, ◌<◌, ◌�
 use Rattle.std.proofs.Common.{take, true, false, Option, Some, None, refl, sym, ap, subst, ◌∙◌, arith}
 use Rattle.std.specs.List.{cons_option}
 use Rattle.std.specs.Prelude.{◌↔◌, slice_get, IsSome, option_map}
+use Rattle.std.proofs.lemmas.Option.{slice_get_within, slice_get_past}
 use Rattle.histories.proofs.Places.{length-more}
+use Rattle.histories.proofs.Lists.{place_split, given_at, slice_get-new}
 use Rattle.manifest.specs.declared.pod.PodSpec.{PodSpec}
 use Rattle.node_config.specs.declared.node.NodeConfig.{NodeConfig}
 use Rattle.observations.specs.Observations.{own_ticks}
@@ -11,20 +13,17 @@ use Rattle.observations.specs.Pods.{PodObs}
 use Rattle.observations.specs.declared.tick.TickObs.{TickObs}
 use Rattle.observations.specs.Limits.{most_pods}
 use Rattle.node_signals.specs.declared.key.ThresholdKey.{ThresholdKey}
-use Rattle.node_signals.proofs.PlaceLemmas.{within, place_split}
 use Rattle.pod_state.specs.Pods.{PodTick, pod_tick}
 use Rattle.pod_piece.specs.declared.piece.Eviction.{Eviction as EvictionOfPod}
 use Rattle.pod_piece.specs.declared.status.PodStatus.{PodStatus}
-use Rattle.pod_piece.specs.Piece.{Piece, new_piece}
+use Rattle.pod_piece.specs.Piece.{Piece, new_piece, pods_in}
 use Rattle.ranking.proofs.LawLemmas.{same_victim}
 use Rattle.eviction.specs.declared.eviction.Eviction.{Eviction}
 use Rattle.eviction.specs.Replay.{EvictedAt, pod_ticks, own_eviction, IsCandidate}
 use Rattle.eviction.specs.Replay.{IsOfVictim, IsEvictionFor, IsRound}
 use Rattle.eviction.proofs.Own.{evicted_none}
-use Rattle.eviction.proofs.Unique.{at_place}
 use Rattle.node_pods.specs.Pods.{Pods, with_pod}
 use Rattle.event_list.proofs.More.{events_arrived}
-use Rattle.tick_parts.specs.Evict.{pods_in}
 use Rattle.tick_round.specs.Node.{State, state, piece_after, HasTaken}
 use Rattle.tick_round.specs.Round.{AreFew, IsKept}
 use Rattle.tick_round.proofs.GoesOn.{kept_by}
@@ -35,26 +34,18 @@ get_left [] y n x e = absurd (cc)
 get_left (z ∷ xs) y zero x e = e
 get_left (z ∷ xs) y (suc n) x e = get_left xs y n x e
 
-get_last : {A : Type 0} (xs : List A) (y : A) → slice_get (xs ++ y ∷ []) (length xs) ≡ Some y
-get_last [] y = refl
-get_last (z ∷ xs) y = get_last xs y
-
 present_below : (xs : List PodObs) (n : ℕ) → IsSome (slice_get xs n) → n < length xs
 present_below [] n e = let f : false ≡ true = e in absurd (cc)
 present_below (x ∷ xs) zero e = omega arith
 present_below (x ∷ xs) (suc n) e = let lt : n < length xs = present_below xs n e in omega arith
-
-absent : (xs : List PodObs) (n : ℕ) → length xs ≤ n → slice_get xs n ≡ None
-absent [] n le = refl
-absent (x ∷ xs) zero le = absurd (omega arith)
-absent (x ∷ xs) (suc n) le = absent xs n (omega arith)
 
 -- a pod that no tick shows has no ticks
 unshown : (ticks : List TickObs) (n : ℕ)
     → ((t : ℕ) (tick : TickObs) → slice_get ticks t ≡ Some tick → length tick.pods ≤ n) → pod_ticks ticks n ≡ []
 unshown [] n none = refl
 unshown (x ∷ ticks) n none =
-    ap (λ (o : Option PodObs). map pod_tick (cons_option o (own_ticks ticks n))) (absent x.pods n (none 0 x refl))
+    ap (λ (o : Option PodObs). map pod_tick (cons_option o (own_ticks ticks n)))
+    (slice_get_past x.pods n (none 0 x refl))
     ∙ unshown ticks n (λ t tick at. none (suc t) tick at)
 
 abbrev piece_of : ℕ → PodSpec → ℕ → List PodTick → Option EvictionOfPod → Piece
@@ -121,7 +112,7 @@ evicted_below config pods before tick es e r = by r.served r.is_for
     by None is = absurd (cc)
     by (Some key) (None, is, v) = absurd (cc)
     by (Some key) (Some n, is, v) =
-        let lt : n < length pods = within pods n v.pod v.is_pod in
+        let lt : n < length pods = slice_get_within pods n v.pod v.is_pod in
         let here : e.pod ≡ n = v.number in omega arith
 
 -- the pod is one of the node's
@@ -139,9 +130,9 @@ never pods ticks s taken =
     (option_map (λ (f : EvictedAt).
     record { place = length (pod_ticks (take f.tick ticks) (length pods)); order = f.order }))
     (evicted_none (length pods) s.evictions (λ t e is here.
-    let lt : t < length s.evictions = within s.evictions t (Some e) is in
+    let lt : t < length s.evictions = slice_get_within s.evictions t (Some e) is in
     let many : length s.evictions ≡ length ticks = taken.replay.as_many in
-    let tick = at_place ticks t (omega arith) in
+    let tick = given_at ticks t (omega arith) in
     let below : e.pod < length pods =
     evicted_below s.config pods (take t ticks) tick.0 (take t s.evictions) e
     (taken.replay.each t tick.0 (Some e) tick.1 is) in
@@ -158,7 +149,7 @@ newest pods ticks s pod n p taken here same =
     ≡ Some (new_piece (length s.pods.pieces) pod s.pods.greatest) =
     subst
     (λ (k : ℕ). slice_get (pieces_with s pod) k ≡ Some (new_piece (length s.pods.pieces) pod s.pods.greatest))
-    many (get_last s.pods.pieces (new_piece (length s.pods.pieces) pod s.pods.greatest)) in
+    many (slice_get-new s.pods.pieces (new_piece (length s.pods.pieces) pod s.pods.greatest)) in
     let delay = s.config.max_restart_delay in
     let done : slice_get (pieces_with s pod) (length pods)
     ≡ Some (piece_after s.config ticks s.evictions (length pods) pod) =

@@ -1,27 +1,28 @@
 -- The candidates and the eviction of a tick, by a node's pieces and by its history.
-use Rattle.std.proofs.Common.{◌≡◌, ℕ, suc, ◌-◌, ◌<◌, List, [], ◌∷◌, ◌++◌, length}
-use Rattle.std.proofs.Common.{Option, Some, None, refl, sym, ap, subst, ◌∙◌, arith}
-use Rattle.std.specs.Prelude.{◌↔◌, slice_get, is_some}
+use Rattle.std.proofs.Common.{◌≡◌, ℕ, ◌-◌, ◌<◌, List, [], ◌∷◌, ◌++◌, length}
+use Rattle.std.proofs.Common.{Option, Some, None, sym, ap, subst, ◌∙◌, arith}
+use Rattle.std.specs.Prelude.{◌↔◌, slice_get, is_some, option_map}
+use Rattle.std.proofs.lemmas.Option.{slice_get_within, slice_get-map}
+use Rattle.std.proofs.lemmas.List.{length-map}
 use Rattle.histories.specs.Histories.{last_moment, moment_at}
 use Rattle.histories.proofs.Places.{length-more, moment_at-new}
+use Rattle.histories.proofs.Lists.{given_at, same_places}
 use Rattle.manifest.specs.declared.pod.PodSpec.{PodSpec}
 use Rattle.node_config.specs.declared.node.NodeConfig.{NodeConfig}
 use Rattle.observations.specs.Pods.{PodObs}
 use Rattle.observations.specs.declared.tick.TickObs.{TickObs}
 use Rattle.node_signals.specs.declared.key.ThresholdKey.{ThresholdKey}
 use Rattle.node_signals.specs.Thresholds.{IsServed}
-use Rattle.node_signals.proofs.PlaceLemmas.{within}
 use Rattle.pod_state.specs.Pods.{PodTick, pod_tick}
 use Rattle.pod_piece.specs.declared.order.EvictOrder.{EvictOrder}
 use Rattle.pod_piece.specs.declared.status.PodStatus.{PodStatus}
-use Rattle.pod_piece.specs.Piece.{Piece, with_tick, updated}
+use Rattle.pod_piece.specs.Piece.{Piece, with_tick, updated, pods_in}
 use Rattle.pod_piece.specs.Status.{IsStatusOf}
 use Rattle.ranking.proofs.LawLemmas.{same_victim}
 use Rattle.eviction.specs.declared.eviction.Eviction.{Eviction}
 use Rattle.eviction.specs.Replay.{IsCandidate as IsCandidateIn, IsOfVictim, IsEvictionFor, IsRound}
-use Rattle.eviction.proofs.Unique.{at_place}
 use Rattle.node_pods.specs.Pods.{IsCandidate, AreAfter}
-use Rattle.tick_parts.specs.Evict.{pods_in, IsEvictionAt, MayBeEvicted}
+use Rattle.tick_parts.specs.Evict.{IsEvictionAt, MayBeEvicted}
 use Rattle.tick_round.specs.Node.{piece_after, ArePieces}
 use Rattle.tick_round.proofs.Pieces.{pod_at}
 
@@ -33,8 +34,8 @@ candidates : (config : NodeConfig) (pods : List PodSpec) (before : List TickObs)
 candidates config pods before tick es pieces shown are n p = (
   (λ c.
       let here = pod_at config pods (before ++ tick ∷ []) es pieces n c.piece are c.at in
-      let lt : n < length pods = within pods n here.0 here.1 in
-      let o = at_place tick.pods n (omega arith) in
+      let lt : n < length pods = slice_get_within pods n here.0 here.1 in
+      let o = given_at tick.pods n (omega arith) in
       record {
         pod = here.0;
         at = here.1;
@@ -50,26 +51,15 @@ candidates config pods before tick es pieces shown are n p = (
   }),
 )
 
-specs_same : (pieces : List Piece) (pods : List PodSpec) → length pieces ≡ length pods
-    → ((n : ℕ) (pod : PodSpec) → slice_get pods n ≡ Some pod
-    → (piece : Piece) × (slice_get pieces n ≡ Some piece) × (piece.pod ≡ pod))
-    → pods_in pieces ≡ pods
-specs_same [] [] len each = refl
-specs_same [] (pod ∷ pods) len each = absurd (omega arith)
-specs_same (piece ∷ pieces) [] len each = absurd (omega arith)
-specs_same (piece ∷ pieces) (pod ∷ pods) len each =
-    let first = each 0 pod refl in
-    let found : Some piece ≡ Some first.0 = first.1 in
-    let same : piece ≡ first.0 = cc in
-    let head : piece.pod ≡ pod = ap (λ (p : Piece). p.pod) same ∙ first.2 in
-    let rest : pods_in pieces ≡ pods = specs_same pieces pods (omega arith) (λ n p at. each (suc n) p at) in
-    ap (λ (p : PodSpec). p ∷ pods_in pieces) head ∙ ap (λ (ps : List PodSpec). pod ∷ ps) rest
-
-pub specs_are : (config : NodeConfig) (pods : List PodSpec) (ticks : List TickObs) (es : List (Option Eviction))
+pub pods_are : (config : NodeConfig) (pods : List PodSpec) (ticks : List TickObs) (es : List (Option Eviction))
     (pieces : List Piece)
     → ArePieces config pods ticks es pieces → pods_in pieces ≡ pods
-specs_are config pods ticks es pieces are =
-    specs_same pieces pods are.as_many (λ n pod at. (piece_after config ticks es n pod, are.each n pod at, refl))
+pods_are config pods ticks es pieces are =
+    let pod_of : Piece → PodSpec = λ (piece : Piece). piece.pod in
+    same_places (pods_in pieces) pods (length-map pieces pod_of ∙ are.as_many) (λ n x y here there.
+    let both : Some x ≡ Some y =
+    sym here ∙ (slice_get-map pod_of pieces n ∙ ap (option_map pod_of) (are.each n y there)) in
+    cc)
 
 -- the eviction by the node's pieces is that of the round
 pub round_of : (config : NodeConfig) (pods : List PodSpec) (before : List TickObs) (tick : TickObs)
@@ -89,7 +79,7 @@ round_of config pods before tick es pieces served eviction shown are is by =
       same_victim key.signal config.has_dedicated_imagefs (IsCandidate pieces) (IsCandidateIn pods before tick es)
           (candidates config pods before tick es pieces shown are) victim first,
       subst (λ (ps : List PodSpec). IsOfVictim config ps tick.at key victim eviction)
-          (specs_are config pods (before ++ tick ∷ []) es pieces are) of,
+          (pods_are config pods (before ++ tick ∷ []) es pieces are) of,
     )
 
 -- the last ticks of the pieces have this moment
@@ -104,10 +94,10 @@ last_more h x =
 pub are_at : (old new : List Piece) (shown : List PodObs) (at : ℕ) → length shown ≡ length old → AreAfter old shown new
     → ((n : ℕ) (o : PodObs) → slice_get shown n ≡ Some o → o.at ≡ at) → AreAt new at
 are_at old new shown at len after moments n piece is =
-    let lt : n < length new = within new n piece is in
+    let lt : n < length new = slice_get_within new n piece is in
     let many : length new ≡ length old = after.as_many in
-    let was = at_place old n (omega arith) in
-    let o = at_place shown n (omega arith) in
+    let was = given_at old n (omega arith) in
+    let o = given_at shown n (omega arith) in
     let both : Some piece ≡ Some (updated (with_tick was.0 (pod_tick o.0))) =
     sym is ∙ after.each n was.0 o.0 was.1 o.1 in
     let same : piece ≡ updated (with_tick was.0 (pod_tick o.0)) = cc in

@@ -1,9 +1,11 @@
 -- A node after one more tick.
 use Rattle.std.proofs.Common.{◌≡◌, inl, inr, ℕ, suc, ◌+◌, ◌*◌, ◌<◌, ◌≤◌, List, [], ◌∷◌, ◌++◌, length}
-use Rattle.std.proofs.Common.{map, append_assoc, Option, Some, None, refl, sym, ap, subst, ◌∙◌, arith}
+use Rattle.std.proofs.Common.{map, Option, Some, None, refl, sym, ap, subst, ◌∙◌, arith}
 use Rattle.std.specs.Prelude.{slice_get}
 use Rattle.std.proofs.lemmas.List.{length-append}
+use Rattle.std.proofs.lemmas.Option.{slice_get_within}
 use Rattle.histories.proofs.Places.{length-more}
+use Rattle.histories.proofs.Lists.{place_split, given_at}
 use Rattle.manifest.specs.declared.pod.PodSpec.{PodSpec}
 use Rattle.node_config.specs.declared.node.NodeConfig.{NodeConfig}
 use Rattle.observations.specs.Pods.{PodObs}
@@ -14,10 +16,9 @@ use Rattle.node_signals.specs.declared.event.NodeEvent.{NodeEvent}
 use Rattle.node_signals.specs.declared.key.ThresholdKey.{ThresholdKey}
 use Rattle.node_signals.specs.Thresholds.{IsServed}
 use Rattle.node_signals.specs.Node.{IsStateOf}
-use Rattle.node_signals.proofs.PlaceLemmas.{within, place_split}
 use Rattle.pod_state.specs.declared.events.PodEvent.{PodEvent}
 use Rattle.pod_state.specs.Pods.{pod_tick}
-use Rattle.pod_piece.specs.Piece.{Piece, with_tick, updated}
+use Rattle.pod_piece.specs.Piece.{Piece, with_tick, updated, pods_in}
 use Rattle.eviction.specs.declared.eviction.Eviction.{Eviction}
 use Rattle.eviction.proofs.More.{no_replay, replay_more}
 use Rattle.event_book.specs.declared.totals.Totals.{Totals}
@@ -26,13 +27,13 @@ use Rattle.event_book.specs.Limits.{IsLow}
 use Rattle.event_book.proofs.Low.{low}
 use Rattle.event_book.specs.Totals.{sums_of, plus, nothing}
 use Rattle.node_pods.specs.Pods.{Pods, pods_of, Awaited, awaited, AreHanded, AreAfter}
-use Rattle.node_pods.proofs.Steps.{item_at, after_handed}
+use Rattle.node_pods.proofs.Steps.{after_handed}
 use Rattle.event_list.specs.declared.event.Event.{Event}
 use Rattle.event_list.specs.Events.{of_pods, of_node, of_eviction, AreEvents}
 use Rattle.event_list.specs.Totals.{totals_of}
 use Rattle.event_list.proofs.More.{no_events, events_more, totals_more}
 use Rattle.event_list.specs.Tick.{AddsEvents}
-use Rattle.tick_parts.specs.Evict.{IsEvictionAt, MayBeEvicted, AreWithout, pods_in}
+use Rattle.tick_parts.specs.Evict.{IsEvictionAt, MayBeEvicted, AreWithout}
 use Rattle.tick_parts.specs.Update.{AreUpTo, MayUpdate, AreEntered}
 use Rattle.tick_parts.proofs.Evicts.{get_pod}
 use Rattle.tick_parts.proofs.Updates.{sums_low}
@@ -41,7 +42,7 @@ use Rattle.tick_round.specs.Node.{State, state, ArePieces, HasTaken, Fits}
 use Rattle.tick_round.specs.Node.{last_of, IsAfter}
 use Rattle.tick_round.specs.Round.{most_of_tick, AreFew, IsKept, IsSampled, HasBegun, AreUpdated, MayEnd}
 use Rattle.tick_round.proofs.Pieces.{pieces_updated, pieces_evicted, pieces_spared}
-use Rattle.tick_round.proofs.Candidates.{round_of, are_at, may_be_evicted, specs_are}
+use Rattle.tick_round.proofs.Candidates.{round_of, are_at, may_be_evicted, pods_are}
 use Rattle.tick_round.proofs.Made.{made_by, entries_by}
 
 last_more : (ticks : List TickObs) (x : TickObs) → last_of (ticks ++ x ∷ []) ≡ Some x.at
@@ -88,7 +89,7 @@ pub kept_by : (all : List PodSpec) (ticks : List TickObs) (s : State) → HasTak
     → AreUpTo (length ticks * most_of_tick) s.totals → IsKept s
 kept_by all ticks s taken few room =
     let same : all ≡ pods_in s.pods.pieces =
-    sym (specs_are s.config all ticks s.evictions s.pods.pieces taken.pieces) in
+    sym (pods_are s.config all ticks s.evictions s.pods.pieces taken.pieces) in
     record {
       ticks = ticks;
       taken = subst (λ (ps : List PodSpec). HasTaken ps ticks s) same taken;
@@ -292,8 +293,8 @@ room_more n pieces old new room entered few many =
     let entries = entered.entries in
     let as_many : length entries ≡ length pieces = entered.are_entries.as_many in
     let are_low : (k : ℕ) (entry : Entry) → slice_get entries k ≡ Some entry → IsLow entry = λ k entry at.
-    let lt : k < length entries = within entries k entry at in
-    let piece = item_at pieces k (omega (arith, lt, as_many)) in
+    let lt : k < length entries = slice_get_within entries k entry at in
+    let piece = given_at pieces k (omega (arith, lt, as_many)) in
     let is = entered.are_entries.each k piece.0 entry piece.1 at in
     low piece.0 entry (few_piece pieces k piece.0 few piece.1) is in
     let sums = sums_low entries are_low in
@@ -316,7 +317,7 @@ ends_kept s x begun mid totals next kept may taken same =
     let shown = all_shown pods kept.ticks s x kept.taken may.fits in
     let now = pieces_updated s.config pods kept.ticks s.evictions x s.pods.pieces mid kept.taken.replay.as_many shown
     kept.taken.pieces may.updated.after in
-    let specs : pods_in mid ≡ pods = specs_are s.config pods (kept.ticks ++ x ∷ []) s.evictions mid now in
+    let specs : pods_in mid ≡ pods = pods_are s.config pods (kept.ticks ++ x ∷ []) s.evictions mid now in
     let many : length mid ≡ length pods = now.as_many in
     let most : length pods ≤ 256 = kept.taken.few_pods in
     let long : length (kept.ticks ++ x ∷ []) ≡ length kept.ticks + 1 = omega (arith, length-more kept.ticks x) in
@@ -338,9 +339,9 @@ may_update s shown pending kept as_many handed =
     record {
       few = omega (arith, many, specs, most);
       pending = λ n piece at.
-          let lt : n < length pending = within pending n piece at in
-          let p = item_at s.pods.pieces n (omega (arith, lt, many)) in
-          let o = item_at shown n (omega (arith, lt, many, as_many)) in
+          let lt : n < length pending = slice_get_within pending n piece at in
+          let p = given_at s.pods.pieces n (omega (arith, lt, many)) in
+          let o = given_at shown n (omega (arith, lt, many, as_many)) in
           let both : Some piece ≡ Some (with_tick p.0 (pod_tick o.0)) = sym at ∙ handed.each n p.0 o.0 p.1 o.1 in
           let same : piece ≡ with_tick p.0 (pod_tick o.0) = cc in
           ap (λ (q : Piece). q.is_pending) same;
@@ -374,10 +375,6 @@ to_some config pods ticks after s is same taken =
 pub rest_next : {A : Type 0} (all front : List A) (rest : List A) (x : A) (behind : List A) → all ≡ front ++ rest
     → rest ≡ x ∷ behind → all ≡ front ++ x ∷ behind
 rest_next all front rest x behind is next = is ∙ ap (λ xs. front ++ xs) next
-
-pub rest_more : {A : Type 0} (all front : List A) (x : A) (rest : List A) → all ≡ front ++ x ∷ rest
-    → all ≡ (front ++ x ∷ []) ++ rest
-rest_more all front x rest is = is ∙ sym (append_assoc front (x ∷ []) rest)
 
 -- one more of the pods may arrive
 pub room_left : (pods front : List PodSpec) (pod : PodSpec) (rest : List PodSpec) (s : State)

@@ -1,44 +1,36 @@
 -- What a tick's updates make of events and totals, by the pods' histories.
 use Rattle.std.proofs.Common.{◌≡◌, ◌∙◌, inl, inr, ℕ, suc, ◌<◌, ◌≤◌, Bool, List, [], ◌∷◌, ◌++◌, length, map}
 use Rattle.std.proofs.Common.{take, cond, Option, Some, None, refl, sym, ap, subst, arith}
-use Rattle.std.specs.Prelude.{slice_get, IfSome, IsSome, option_map}
+use Rattle.std.specs.Prelude.{slice_get, IfSome, option_map}
 use Rattle.std.specs.Prelude.{MatchOption}
-use Rattle.std.proofs.lemmas.Bool.{lt-ltb}
 use Rattle.std.proofs.lemmas.List.{length-map}
-use Rattle.std.proofs.lemmas.Option.{slice_get-map}
+use Rattle.std.proofs.lemmas.Option.{slice_get-map, slice_get_within}
 use Rattle.std.proofs.lemmas.Bool.Decides.{eqb_tells}
 use Rattle.histories.proofs.Places.{length-more}
+use Rattle.histories.proofs.Lists.{take_more, given_at, some_given, same_at}
 use Rattle.manifest.specs.declared.pod.PodSpec.{PodSpec}
 use Rattle.node_config.specs.declared.node.NodeConfig.{NodeConfig}
-use Rattle.observations.specs.Pods.{PodObs}
 use Rattle.observations.specs.declared.tick.TickObs.{TickObs}
 use Rattle.observations.specs.Observations.{shown_of}
-use Rattle.node_signals.proofs.PlaceLemmas.{within, take_more}
 use Rattle.pod_state.specs.declared.events.PodEvent.{PodEvent}
 use Rattle.pod_state.specs.Pods.{PodTick, pod_tick}
 use Rattle.pod_state.specs.Events.{AreEventsOf}
 use Rattle.pod_piece.specs.declared.piece.Eviction.{Eviction as EvictionOfPod}
 use Rattle.pod_piece.specs.Piece.{Piece, last_of, place_of, evicted_before}
 use Rattle.pod_piece.specs.Status.{AreEventsAfter}
-use Rattle.pod_piece.proofs.PieceLemmas.{front_more, last_more}
+use Rattle.pod_piece.proofs.PieceLemmas.{before_is}
+use Rattle.pod_piece.proofs.LastTicks.{front_more, last_more}
 use Rattle.eviction.specs.declared.eviction.Eviction.{Eviction}
 use Rattle.eviction.specs.Replay.{EvictedAt, pod_ticks, evicted_at, own_eviction, later, IsReplay}
 use Rattle.eviction.proofs.Evicted.{evicted_pod_lived}
 use Rattle.eviction.proofs.Own.{pod_ticks-more, own_eviction-longer, of_pod}
-use Rattle.eviction.proofs.Unique.{at_place}
 use Rattle.event_book.specs.declared.totals.Entry.{Entry}
 use Rattle.event_book.specs.Totals.{entry_of, AreEntriesOf}
 use Rattle.event_book.proofs.Low.{one_last}
-use Rattle.node_pods.proofs.Steps.{same_items, item_at}
 use Rattle.event_list.specs.Events.{ArePodEvents}
 use Rattle.event_list.specs.Tick.{AreMadeBy}
 use Rattle.tick_round.specs.Node.{piece_after, ArePieces}
 use Rattle.tick_round.proofs.Pieces.{fewer}
-
--- an eviction that was before a place
-kept_before : (evicted : Option ℕ) (k : ℕ) → IfSome evicted (λ place. place < k) → evicted_before evicted k ≡ evicted
-kept_before None k lt = refl
-kept_before (Some place) k lt = ap (λ (b : Bool). cond b (Some place) None) (lt-ltb place k lt)
 
 -- the events of a pod's newest tick
 events_of_last : (pod : PodSpec) (greatest : ℕ) (evicted : Option ℕ) (before : List PodTick) (tick : PodTick)
@@ -53,7 +45,7 @@ events_of_last pod greatest evicted before tick events lt are =
     let at : P before (last_of whole) =
     subst (λ (h : List PodTick). P h (last_of whole)) (front_more before tick) are in
     let now : P before (Some tick) = subst (λ (o : Option PodTick). P before o) (last_more before tick) at in
-    subst (λ (e : Option ℕ). AreEventsOf pod greatest e before tick events) (kept_before evicted (length before) lt) now
+    subst (λ (e : Option ℕ). AreEventsOf pod greatest e before tick events) (before_is evicted (length before) lt) now
 
 -- what was found is an eviction of the pod
 found_is : (n : ℕ) (es : List (Option Eviction)) (f : EvictedAt) → evicted_at n es ≡ Some f
@@ -94,10 +86,6 @@ found_is n (Some d ∷ es) f is = elim (eqb_tells d.pod n) [
         let there = rest g refl in
         (there.0, subst (λ (h : EvictedAt). slice_get (Some d ∷ es) h.tick ≡ Some (Some there.0)) same there.1, there.2)
 
-some_shown : (o : Option PodObs) → IsSome o → (shown : PodObs) × (o ≡ Some shown)
-some_shown None some = absurd (let e : IsSome {T = PodObs} None = some in cc)
-some_shown (Some shown) some = (shown, refl)
-
 -- a pod was evicted by one of its own ticks
 evicted_by_own : (config : NodeConfig) (pods : List PodSpec) (ticks : List TickObs) (es : List (Option Eviction))
     (n : ℕ) → IsReplay config pods ticks es
@@ -110,11 +98,11 @@ evicted_by_own config pods ticks es n replay = by (evicted_at n es) (found_is n 
     by None found = tt
     by (Some f) found =
         let e = found f refl in
-        let lt : f.tick < length es = within es f.tick (Some e.0) e.1 in
+        let lt : f.tick < length es = slice_get_within es f.tick (Some e.0) e.1 in
         let many : length es ≡ length ticks = replay.as_many in
-        let tick = at_place ticks f.tick (omega (arith, lt, many)) in
+        let tick = given_at ticks f.tick (omega (arith, lt, many)) in
         let lived = evicted_pod_lived config pods ticks es f.tick tick.0 e.0 replay tick.1 e.1 in
-        let shown = some_shown (shown_of tick.0 e.0.pod) lived.present in
+        let shown = some_given (shown_of tick.0 e.0.pod) lived.present in
         let is : shown_of tick.0 n ≡ Some shown.0 = subst (λ (k : ℕ). shown_of tick.0 k ≡ Some shown.0) e.2 shown.1 in
         let before = take f.tick ticks in
         let grown : length (pod_ticks (take (suc f.tick) ticks) n) ≡ suc (length (pod_ticks before n)) =
@@ -152,12 +140,12 @@ made_by config pods ticks es x pieces made replay shown are by = record {
 pub entries_by : (pieces : List Piece) (made : List (List PodEvent)) (entries : List Entry) → AreMadeBy pieces made
     → AreEntriesOf pieces entries → entries ≡ map entry_of made
 entries_by pieces made entries by are =
-    same_items entries (map entry_of made) (are.as_many ∙ sym by.as_many ∙ sym (length-map made entry_of)) (λ n lt.
+    same_at entries (map entry_of made) (are.as_many ∙ sym by.as_many ∙ sym (length-map made entry_of)) (λ n lt.
     let many : length entries ≡ length pieces = are.as_many in
     let as_many : length made ≡ length pieces = by.as_many in
-    let entry = item_at entries n lt in
-    let piece = item_at pieces n (omega (arith, lt, many)) in
-    let events = item_at made n (omega (arith, lt, many, as_many)) in
+    let entry = given_at entries n lt in
+    let piece = given_at pieces n (omega (arith, lt, many)) in
+    let events = given_at made n (omega (arith, lt, many, as_many)) in
     let is = are.each n piece.0 entry.0 piece.1 entry.1 in
     let same = one_last piece.0 is.0 events.0 is.1 (by.each n piece.0 events.0 piece.1 events.1) in
     entry.1 ∙ ap Some is.2 ∙ ap (λ (list : List PodEvent). Some (entry_of list)) same

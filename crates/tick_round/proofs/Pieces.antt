@@ -5,25 +5,26 @@ use Rattle.std.specs.Prelude.{slice_get, option_map}
 use Rattle.std.specs.List.{cons_option}
 use Rattle.std.proofs.lemmas.Bool.{cases_eq}
 use Rattle.std.proofs.lemmas.List.{length-take-le}
+use Rattle.std.proofs.lemmas.Option.{slice_get_within}
 use Rattle.histories.specs.Histories.{up_to, IsSo}
 use Rattle.histories.proofs.Places.{length-more}
+use Rattle.histories.proofs.Lists.{given_at}
 use Rattle.manifest.specs.declared.pod.PodSpec.{PodSpec}
 use Rattle.observations.specs.Pods.{PodObs}
 use Rattle.observations.specs.declared.tick.TickObs.{TickObs}
 use Rattle.observations.specs.Observations.{shown_of, own_ticks}
 use Rattle.node_config.specs.declared.node.NodeConfig.{NodeConfig}
-use Rattle.node_signals.proofs.PlaceLemmas.{within}
 use Rattle.phase.specs.declared.phase.Phase.{Phase}
 use Rattle.phase.specs.RawPhase.{IsTerminal}
+use Rattle.phase.proofs.DecideLemmas.{terminal_cases}
 use Rattle.pod_state.specs.Pods.{PodTick, pod_tick, EndsPod, IsPhase}
-use Rattle.pod_state.proofs.EndLemmas.{terminal_cases, lives}
+use Rattle.pod_state.proofs.EndLemmas.{lives}
 use Rattle.pod_piece.specs.declared.piece.Eviction.{Eviction as EvictionOfPod}
 use Rattle.pod_piece.specs.declared.status.PodStatus.{PodStatus}
 use Rattle.pod_piece.specs.Piece.{Piece}
 use Rattle.pod_piece.specs.Status.{IsStatusOf}
 use Rattle.eviction.specs.declared.eviction.Eviction.{Eviction}
 use Rattle.eviction.specs.Replay.{EvictedAt, pod_ticks, evicted_at, own_eviction}
-use Rattle.eviction.proofs.Unique.{at_place}
 use Rattle.eviction.proofs.Own.{pod_ticks-more, own_eviction-longer, own_eviction-other, own_eviction-now}
 use Rattle.node_pods.specs.Pods.{IsCandidate, AreAfter, AreEvicted}
 use Rattle.tick_round.specs.Node.{piece_after, ArePieces}
@@ -39,9 +40,9 @@ pub pod_at : (config : NodeConfig) (pods : List PodSpec) (ticks : List TickObs) 
     → ArePieces config pods ticks es pieces → slice_get pieces n ≡ Some piece
     → (pod : PodSpec) × (slice_get pods n ≡ Some pod) × (piece ≡ piece_after config ticks es n pod)
 pod_at config pods ticks es pieces n piece are at =
-    let lt : n < length pieces = within pieces n piece at in
+    let lt : n < length pieces = slice_get_within pieces n piece at in
     let many : length pieces ≡ length pods = are.as_many in
-    let here = at_place pods n (omega arith) in
+    let here = given_at pods n (omega arith) in
     let both : Some piece ≡ Some (piece_after config ticks es n here.0) = sym at ∙ are.each n here.0 here.1 in
     (here.0, here.1, let same : piece ≡ piece_after config ticks es n here.0 = cc in same)
 
@@ -53,8 +54,8 @@ pub pieces_updated : (config : NodeConfig) (pods : List PodSpec) (ticks : List T
 pieces_updated config pods ticks es x old new len shown are after = record {
   as_many = after.as_many ∙ are.as_many;
   each = λ n pod at.
-      let lt : n < length pods = within pods n pod at in
-      let o = at_place x.pods n (omega arith) in
+      let lt : n < length pods = slice_get_within pods n pod at in
+      let o = given_at x.pods n (omega arith) in
       let handed : pod_ticks ticks n ++ pod_tick o.0 ∷ [] ≡ pod_ticks (ticks ++ x ∷ []) n =
       sym (pod_ticks-more ticks x n o.0 o.1) in
       let eviction : own_eviction n ticks es ≡ own_eviction n (ticks ++ x ∷ []) es =
@@ -97,8 +98,8 @@ candidate_not_evicted config pods ticks es x pieces n status len shown are candi
     let here = pod_at config pods (ticks ++ x ∷ []) es pieces n candidate.piece are candidate.at in
     let is : IsStatusOf (piece_after config (ticks ++ x ∷ []) es n here.0) status =
     subst (λ (p : Piece). IsStatusOf p status) here.2 candidate.is_status in
-    let lt : n < length pods = within pods n here.0 here.1 in
-    let o = at_place x.pods n (omega arith) in
+    let lt : n < length pods = slice_get_within pods n here.0 here.1 in
+    let o = given_at x.pods n (omega arith) in
     none here.0 o.0 o.1 (own_eviction n ticks es) (λ e found. before e found)
     (own_eviction-longer n ticks x es len) is.lifecycle.phase
   where
@@ -144,8 +145,8 @@ pieces_evicted config pods ticks es x e old new status len shown are candidate e
   each = λ n pod at. elim (cases_eq n e.pod) [
     | inl here ↦
         let at' : slice_get pods e.pod ≡ Some pod = subst (λ (k : ℕ). slice_get pods k ≡ Some pod) here at in
-        let lt : e.pod < length pods = within pods e.pod pod at' in
-        let o = at_place x.pods e.pod (omega arith) in
+        let lt : e.pod < length pods = slice_get_within pods e.pod pod at' in
+        let o = given_at x.pods e.pod (omega arith) in
         let grown : length (pod_ticks (ticks ++ x ∷ []) e.pod) ≡ suc (length (pod_ticks ticks e.pod)) =
         ap length (pod_ticks-more ticks x e.pod o.0 o.1) ∙ length-more (pod_ticks ticks e.pod) (pod_tick o.0) in
         let last : length (pod_ticks (ticks ++ x ∷ []) e.pod) - 1 ≡ length (pod_ticks ticks e.pod) = omega arith in

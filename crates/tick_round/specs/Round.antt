@@ -9,10 +9,9 @@ use Rattle.node_signals.specs.declared.key.ThresholdKey.{ThresholdKey}
 use Rattle.node_signals.specs.Events.{AreNodeEvents}
 use Rattle.node_signals.specs.Node.{IsStateOf}
 use Rattle.node_signals.specs.Thresholds.{IsServed}
-use Rattle.pod_piece.specs.Piece.{Piece}
+use Rattle.pod_piece.specs.Piece.{Piece, pods_in}
 use Rattle.event_book.specs.declared.totals.Totals.{Totals}
 use Rattle.node_pods.specs.Pods.{AreAfter, awaited}
-use Rattle.tick_parts.specs.Evict.{pods_in}
 use Rattle.tick_parts.specs.Update.{AreUpTo, AreEntered}
 use Rattle.tick_round.specs.declared.begun.Begun.{Begun}
 use Rattle.tick_round.specs.Node.{State, HasTaken, Fits}

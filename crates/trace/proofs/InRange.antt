@@ -9,6 +9,7 @@ use Rattle.serde_json.specs.Find.{as_number, as_i64, as_u64}
 use Rattle.json_fields.specs.Fields.{field_at}
 use Rattle.json_fields.specs.Reading.{each}
 use Rattle.json_fields.proofs.Steps.{bind_ok}
+use Rattle.json_fields.proofs.Only.{same_value}
 use Rattle.manifest_fields.specs.declared.fault.Field.TheVariants as fields
 use Rattle.manifest_fields.specs.declared.fault.ManifestFault.{ManifestFault}
 use Rattle.manifest_fields.specs.declared.fault.ManifestFault.TheVariants.{ProbeRange, InitProbe}
@@ -42,9 +43,6 @@ HasProbesInRange container = AreInRange container.probes
 abbrev pub HaveProbesInRange : List PodSpec → Type 0
 HaveProbesInRange pods = All (λ (pod : PodSpec). All HasProbesInRange pod.containers) pods
 
-same_value : {A E : Type 0} {a b : A} → ◌≡◌ {A = Result A E} (Ok a) (Ok b) → a ≡ b
-same_value e = cc
-
 -- one number
 abbrev IsWithin : ℕ → ℕ → ℕ → Type 0
 IsWithin least most value = (least ≤ value) × (value ≤ most)
@@ -56,7 +54,7 @@ in_range_given least most n value e = by (nat_le least n && nat_le n most) refl 
         → IsWithin least most value
     by true holds e =
         let both = and_parts (nat_le least n) (nat_le n most) holds in
-        subst (IsWithin least most) (same_value e) (leb-true least n both.0, leb-true n most both.1)
+        subst (IsWithin least most) (same_value _ _ e) (leb-true least n both.0, leb-true n most both.1)
     by false fails e = absurd (cc)
 
 not_given : (o : Option ℤ) (value : ℕ) → not_from_0 o ≡ Ok value → ⊥
@@ -65,7 +63,7 @@ not_given (Some z) value e = cc
 
 number_given : (least most default : ℕ) → IsWithin least most default → (found : Option Data) (value : ℕ)
     → number_of least most default found ≡ Ok value → IsWithin least most value
-number_given least most default within None value e = subst (IsWithin least most) (same_value e) within
+number_given least most default within None value e = subst (IsWithin least most) (same_value _ _ e) within
 number_given least most default within (Some d) value e = by (option_and_then as_u64 (as_number d)) e
   where
     by : (o : Option ℕ) → number_from least most d o ≡ Ok value → IsWithin least most value
@@ -97,7 +95,7 @@ probe_given most within d p e =
     let are_failures = number_given 1 greatest 3 (omega arith, omega arith)
     (at (codes "failureThreshold")) failures.0 failures.1 in
     let all : (n : ℕ) → n ≤ greatest → n < 2 ^ 31 = λ n le. below n greatest le (omega arith) in
-    subst IsInRange (same_value failures.2) (record {
+    subst IsInRange (same_value _ _ failures.2) (record {
       initial_delay = all delay.0 is_delay.1;
       some_period = is_period.0;
       period = all period.0 is_period.1;
@@ -111,10 +109,10 @@ probe_given most within d p e =
 
 optional_given : (most : ℕ) → IsWithin 1 greatest most → (found : Option Data) (o : Option Probe)
     → probe_of most found ≡ Ok o → HasNumbersInRange o
-optional_given most within None o e = subst HasNumbersInRange (same_value e) tt
+optional_given most within None o e = subst HasNumbersInRange (same_value _ _ e) tt
 optional_given most within (Some d) o e =
     let p = bind_ok (probe_in most d) _ o e in
-    subst HasNumbersInRange (same_value p.2) (probe_given most within d p.0 p.1)
+    subst HasNumbersInRange (same_value _ _ p.2) (probe_given most within d p.0 p.1)
 
 -- the probes of a container
 some_probes_given : (d : Data) (probes : Probes) → some_probes d ≡ Ok probes → AreInRange probes
@@ -123,7 +121,7 @@ some_probes_given d probes e =
     let startup = bind_ok (probe_of 1 (field_at (codes "startupProbe") d)) _ probes e in
     let liveness = bind_ok (probe_of 1 (field_at (codes "livenessProbe") d)) _ probes startup.2 in
     let readiness = bind_ok (probe_of greatest (field_at (codes "readinessProbe") d)) _ probes liveness.2 in
-    subst AreInRange (same_value readiness.2) (
+    subst AreInRange (same_value _ _ readiness.2) (
       optional_given 1 (omega arith, omega arith) (field_at (codes "startupProbe") d) startup.0 startup.1,
       optional_given 1 (omega arith, omega arith) (field_at (codes "livenessProbe") d) liveness.0 liveness.1,
       optional_given greatest (omega arith, omega arith) (field_at (codes "readinessProbe") d) readiness.0 readiness.1,
@@ -135,7 +133,7 @@ unprobed_given d probes e =
     let startup = bind_ok (absent InitProbe (field_at (codes "startupProbe") d)) _ probes e in
     let liveness = bind_ok (absent InitProbe (field_at (codes "livenessProbe") d)) _ probes startup.2 in
     let readiness = bind_ok (absent InitProbe (field_at (codes "readinessProbe") d)) _ probes liveness.2 in
-    subst AreInRange (same_value readiness.2) (tt, tt, tt)
+    subst AreInRange (same_value _ _ readiness.2) (tt, tt, tt)
 
 probes_given : (role : Role) (d : Data) (probes : Probes) → probes_of role d ≡ Ok probes → AreInRange probes
 probes_given Init d probes e = unprobed_given d probes e
@@ -151,16 +149,16 @@ container_given place d c e =
     let role = bind_ok (role_of place (field_at (codes "restartPolicy") object.0)) _ c name.2 in
     let resources = bind_ok (resources_of (field_at (codes "resources") object.0)) _ c role.2 in
     let probes = bind_ok (probes_of role.0 object.0) _ c resources.2 in
-    subst HasProbesInRange (same_value probes.2) (probes_given role.0 object.0 probes.0 probes.1)
+    subst HasProbesInRange (same_value _ _ probes.2) (probes_given role.0 object.0 probes.0 probes.1)
 
 -- the containers of a pod
 each_given : (place : _) (ds : List Data) (cs : List ContainerSpec) → each (container_of place) ds ≡ Ok cs
     → All HasProbesInRange cs
-each_given place [] cs e = subst (All HasProbesInRange) (same_value e) (All-nil HasProbesInRange)
+each_given place [] cs e = subst (All HasProbesInRange) (same_value _ _ e) (All-nil HasProbesInRange)
 each_given place (d ∷ ds) cs e =
     let one = bind_ok (container_of place d) _ cs e in
     let rest = bind_ok (each (container_of place) ds) _ cs one.2 in
-    subst (All HasProbesInRange) (same_value rest.2)
+    subst (All HasProbesInRange) (same_value _ _ rest.2)
     (All-cons HasProbesInRange one.0 rest.0 (container_given place d one.0 one.1) (each_given place ds rest.0 rest.1))
 
 containers_given : (init_items items : List Data) (cs : List ContainerSpec) → containers_of init_items items ≡ Ok cs
@@ -171,7 +169,7 @@ containers_given init_items items cs e =
     let init = bind_ok (each (container_of _) init_items) _ cs within.2 in
     let apps = bind_ok (each (container_of _) items) _ cs init.2 in
     let names = bind_ok (apart (init.0 ++ apps.0)) _ cs apps.2 in
-    subst (All HasProbesInRange) (same_value names.2)
+    subst (All HasProbesInRange) (same_value _ _ names.2)
     (All-append HasProbesInRange init.0 apps.0 (each_given _ init_items init.0 init.1)
     (each_given _ items apps.0 apps.1))
 
@@ -189,7 +187,7 @@ spec_given found spec e =
     let object = bind_ok (object_of fields.Spec found) _ spec e in
     let settings = bind_ok (settings_in object.0) _ spec object.2 in
     let containers = bind_ok (containers_in object.0) _ spec settings.2 in
-    let same = same_value containers.2 in
+    let same = same_value _ _ containers.2 in
     let are : containers.0 ≡ spec.containers = λ i. (same i).containers in
     subst (All HasProbesInRange) are (containers_in_given object.0 containers.0 containers.1)
 
@@ -199,12 +197,12 @@ pod_given d pod e =
     let object = bind_ok (object_of fields.Pod (Some d)) _ pod e in
     let metadata = bind_ok (metadata_of (field_at (codes "metadata") object.0)) _ pod object.2 in
     let spec = bind_ok (spec_of (field_at (codes "spec") object.0)) _ pod metadata.2 in
-    subst (λ (p : PodSpec). All HasProbesInRange p.containers) (same_value spec.2)
+    subst (λ (p : PodSpec). All HasProbesInRange p.containers) (same_value _ _ spec.2)
     (spec_given (field_at (codes "spec") object.0) spec.0 spec.1)
 
 -- the pods of a trace
 read : (r : Result PodSpec ManifestFault) (pod : PodSpec) → of_manifest r ≡ Ok pod → r ≡ Ok pod
-read (Ok p) pod e = ap Ok (same_value e)
+read (Ok p) pod e = ap Ok (same_value _ _ e)
 read (Err fault) pod e = absurd (cc)
 
 line_keeps : (past : Past) (line : List ℕ) (next : Past) → HaveProbesInRange past.pods → Says past line next

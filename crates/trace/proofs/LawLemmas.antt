@@ -7,7 +7,7 @@ pub mod Results
 pub mod Saying
 pub mod Strangers
 pub mod Usages
-use Rattle.std.proofs.Common.{◌≡◌, ◌∙◌, ◌⊎◌, ℕ, zero, suc, ◌+◌, ◌≤◌, ◌<◌, true, false, List, [], ◌∷◌, ◌++◌, length}
+use Rattle.std.proofs.Common.{◌≡◌, ◌∙◌, ◌⊎◌, ℕ, zero, suc, ◌+◌, ◌≤◌, ◌<◌, true, false, List, [], ◌∷◌, length}
 use Rattle.std.proofs.Common.{drop, get_or, slice_get, Option, Some, None, Result, Ok, Err, refl, ap, sym, subst, inl}
 use Rattle.std.proofs.Common.{inr, arith, is_some, drop-cons}
 use Rattle.std.specs.Prelude.{⊤, ◌-◌, nat_lt, nat_le, codes}

@@ -1,10 +1,12 @@
 -- Entries whose pods' numbers are known.
-use Rattle.std.proofs.Common.{◌≡◌, ◌∙◌, ℕ, suc, zero, ◌<◌, List, [], ◌∷◌, length, Option, Some, None, Result, Ok, Err}
-use Rattle.std.proofs.Common.{refl, ap, sym, subst, arith}
+use Rattle.std.proofs.Common.{◌≡◌, ◌∙◌, ℕ, suc, ◌<◌, List, [], ◌∷◌, length, Result, Ok, Err}
+use Rattle.std.proofs.Common.{refl, ap, sym, subst}
 use Rattle.std.specs.Prelude.{All, IfOk, slice_get}
 use Rattle.std.proofs.lemmas.List.Elements.{All-nil, All-cons}
-use Rattle.json_fields.specs.Reading.{◌>>=◌, each, some_or}
-use Rattle.json_fields.proofs.Steps.{bind_ok}
+use Rattle.std.proofs.lemmas.Option.{slice_get_within}
+use Rattle.json_fields.specs.Reading.{◌>>=◌, each}
+use Rattle.json_fields.proofs.Steps.{bind_ok, then_ok, there_is}
+use Rattle.json_fields.proofs.Only.{same_value}
 use Rattle.manifest.specs.declared.pod.PodSpec.{PodSpec}
 use Rattle.tick_lines.specs.declared.entry.Entry.{Entry}
 use Rattle.trace.specs.declared.fault.FaultKind.{FaultKind}
@@ -35,12 +37,6 @@ then_all : {A B E : Type 0} (r : Result A E) (f : A → Result B E) (x : A) (res
     → ((r >>= f) >>= λ y. rest >>= λ ys. Ok (y ∷ ys)) ≡ (f x >>= λ y. rest >>= λ ys. Ok (y ∷ ys))
 then_all r f x rest e = rw e refl
 
-after : {A B E : Type 0} (r : Result A E) (f : A → Result B E) (x : A) → r ≡ Ok x → (r >>= f) ≡ f x
-after r f x e = rw e refl
-
-same_ok : {A E : Type 0} (x y : A) → ◌≡◌ {A = Result A E} (Ok x) (Ok y) → x ≡ y
-same_ok x y e = cc
-
 entry_by_number : (keys : List (List ℕ)) (pods : List PodSpec) (x : Entry) (n : ℕ)
     (rest : Result (List PlacedEntry) FaultKind) → number_in keys x ≡ Ok n
     → (placed_entry keys pods x >>= λ y. rest >>= λ ys. Ok (y ∷ ys))
@@ -53,35 +49,26 @@ pub by_numbers : (keys : List (List ℕ)) (pods : List PodSpec) (es : List Entry
     → each (number_in keys) es ≡ Ok ns → each (placed_entry keys pods) es ≡ entries_of_pods pods ns es
 by_numbers keys pods [] ns e =
     subst (λ (ks : List ℕ). each (placed_entry keys pods) [] ≡ entries_of_pods pods ks [])
-    (same_ok {E = FaultKind} [] ns e) refl
+    (same_value {E = FaultKind} [] ns e) refl
 by_numbers keys pods (x ∷ xs) ns e =
     let one = bind_ok (number_in keys x) (λ n. each (number_in keys) xs >>= λ ms. Ok (n ∷ ms)) ns e in
     let rest = bind_ok (each (number_in keys) xs) (λ ms. Ok (one.0 ∷ ms)) ns one.2 in
     let add : Result (List PlacedEntry) FaultKind → Result (List PlacedEntry) FaultKind =
     λ read. entry_of_pod pods one.0 x >>= λ y. read >>= λ ys. Ok (y ∷ ys) in
     subst (λ (ks : List ℕ). each (placed_entry keys pods) (x ∷ xs) ≡ entries_of_pods pods ks (x ∷ xs))
-    (same_ok {E = FaultKind} (one.0 ∷ rest.0) ns rest.2)
+    (same_value {E = FaultKind} (one.0 ∷ rest.0) ns rest.2)
     (entry_by_number keys pods x one.0 (each (placed_entry keys pods) xs) one.1
     ∙ ap add (by_numbers keys pods xs rest.0 rest.1))
 
 -- so many entries, so many numbers
 pub as_many : {A B E : Type 0} (f : A → Result B E) (xs : List A) (ys : List B) → each f xs ≡ Ok ys
     → length ys ≡ length xs
-as_many {B = B} {E = E} f [] ys e = ap (λ (zs : List B). length zs) (sym (same_ok {E = E} [] ys e))
+as_many {B = B} {E = E} f [] ys e = ap (λ (zs : List B). length zs) (sym (same_value {E = E} [] ys e))
 as_many {B = B} {E = E} f (x ∷ xs) ys e =
     let one = bind_ok (f x) (λ z. each f xs >>= λ zs. Ok (z ∷ zs)) ys e in
     let rest = bind_ok (each f xs) (λ zs. Ok (one.0 ∷ zs)) ys one.2 in
-    ap (λ (zs : List B). length zs) (sym (same_ok {E = E} (one.0 ∷ rest.0) ys rest.2))
+    ap (λ (zs : List B). length zs) (sym (same_value {E = E} (one.0 ∷ rest.0) ys rest.2))
     ∙ ap suc (as_many f xs rest.0 rest.1)
-
-there : {A E : Type 0} (fault : E) (found : Option A) (x : A) → some_or fault found ≡ Ok x → found ≡ Some x
-there fault None x e = absurd (cc)
-there fault (Some y) x e = let is : y ≡ x = cc in ap Some is
-
-slice_within : {A : Type 0} (xs : List A) (n : ℕ) (x : A) → slice_get xs n ≡ Some x → n < length xs
-slice_within [] n x e = absurd (cc)
-slice_within (y ∷ ys) zero x e = omega arith
-slice_within (y ∷ ys) (suc n) x e = let lt = slice_within ys n x e in omega arith
 
 -- the pod of an entry that could be placed is there
 entry_known : (pods : List PodSpec) (n : ℕ) (entry : Entry) (e : PlacedEntry) → entry_of_pod pods n entry ≡ Ok e
@@ -91,24 +78,24 @@ entry_known pods n entry e is =
     let pod = bind_ok (pod_numbered pods n) (with_pod entry n) e is in
     let listings = bind_ok (each (placed_listing pod.0) entry.listings) (with_listings entry n pod.0) e pod.2 in
     let results = bind_ok (each (placed_result pod.0) entry.results) (placed entry n listings.0) e listings.2 in
-    let same : n ≡ e.pod = ap (λ (p : PlacedEntry). p.pod) (same_ok {E = FaultKind} (record {
+    let same : n ≡ e.pod = ap (λ (p : PlacedEntry). p.pod) (same_value {E = FaultKind} (record {
       pod = n;
       listings = listings.0;
       results = results.0;
       usage = entry.usage;
     }) e results.2) in
-    subst (λ (k : ℕ). k < length pods) same (slice_within pods n pod.0 (there _ (slice_get pods n) pod.0 pod.1))
+    subst (λ (k : ℕ). k < length pods) same (slice_get_within pods n pod.0 (there_is _ (slice_get pods n) pod.0 pod.1))
 
 pub all_known : (pods : List PodSpec) (ns : List ℕ) (es : List Entry) (placed : List PlacedEntry)
     → entries_of_pods pods ns es ≡ Ok placed → All (λ e. e.pod < length pods) placed
 all_known pods [] es placed is =
-    subst (All (λ (e : PlacedEntry). e.pod < length pods)) (same_ok {E = FaultKind} [] placed is) (All-nil _)
+    subst (All (λ (e : PlacedEntry). e.pod < length pods)) (same_value {E = FaultKind} [] placed is) (All-nil _)
 all_known pods (n ∷ ns) [] placed is =
-    subst (All (λ (e : PlacedEntry). e.pod < length pods)) (same_ok {E = FaultKind} [] placed is) (All-nil _)
+    subst (All (λ (e : PlacedEntry). e.pod < length pods)) (same_value {E = FaultKind} [] placed is) (All-nil _)
 all_known pods (n ∷ ns) (x ∷ xs) placed is =
     let one = bind_ok (entry_of_pod pods n x) (λ y. entries_of_pods pods ns xs >>= λ ys. Ok (y ∷ ys)) placed is in
     let rest = bind_ok (entries_of_pods pods ns xs) (λ ys. Ok (one.0 ∷ ys)) placed one.2 in
-    subst (All (λ (e : PlacedEntry). e.pod < length pods)) (same_ok {E = FaultKind} (one.0 ∷ rest.0) placed rest.2)
+    subst (All (λ (e : PlacedEntry). e.pod < length pods)) (same_value {E = FaultKind} (one.0 ∷ rest.0) placed rest.2)
     (All-cons (λ (e : PlacedEntry). e.pod < length pods) one.0 rest.0 (entry_known pods n x one.0 one.1)
     (all_known pods ns xs rest.0 rest.1))
 
@@ -124,7 +111,7 @@ by_names view r keys pods past ns numbers es entries pods_are keys_are ns_are es
     let names : List Entry → Result (List PlacedEntry) FaultKind =
     λ xs. each (number_in (keys_of past)) xs >>= λ _. each (placed_entry (keys_of past) past) xs in
     let whole : names es ≡ each (placed_entry (keys_of past) past) es =
-    after (each (number_in (keys_of past)) es) (λ _. each (placed_entry (keys_of past) past) es) numbers known in
+    then_ok (each (number_in (keys_of past)) es) (λ _. each (placed_entry (keys_of past) past) es) numbers known in
     subst (Gives view r) (ap (λ (ps : List PodSpec). entries_of_pods ps ns es) pods_are
     ∙ ap (λ (ms : List ℕ). entries_of_pods past ms es) ns_are
     ∙ sym (whole ∙ by_numbers (keys_of past) past es numbers known) ∙ ap names es_are) gives

@@ -1,9 +1,10 @@
 -- The shape of a trace.
-use Rattle.std.proofs.Common.{◌≡◌, ◌∙◌, ◌⊎◌, ℕ, zero, suc, ◌+◌, ◌≤◌, ◌<◌, List, [], ◌∷◌, ◌++◌, length, Some, Result}
+use Rattle.std.proofs.Common.{◌≡◌, ◌∙◌, ℕ, zero, suc, ◌+◌, ◌≤◌, ◌<◌, List, [], ◌∷◌, ◌++◌, length, Some, Result}
 use Rattle.std.proofs.Common.{Ok, Err, refl, ap, sym, subst, inl, inr, arith}
 use Rattle.std.specs.Prelude.{slice_get, ◌^◌, codes, IfOk}
 use Rattle.std.proofs.lemmas.List.{length-append}
 use Rattle.std.proofs.lemmas.Option.{slice_get_within}
+use Rattle.histories.proofs.Lists.{place_split}
 use Rattle.json_fields.specs.Fields.{field_at}
 use Rattle.manifest.specs.declared.pod.PodSpec.{PodSpec}
 use Rattle.observations.specs.declared.tick.TickObs.{TickObs}
@@ -22,17 +23,6 @@ use Rattle.trace.specs.Trace.{trace_of}
 use Rattle.trace.proofs.Moments.{rising-more, moment_later, moment_low}
 use Rattle.trace.proofs.Said.{IsKept, of_trace}
 use Rattle.trace.proofs.Shown.{as_many, moment_shown, count_shown}
-
--- an item of a list with one item more is one of the list, or the last
-pushed_at : {A : Type 0} (xs : List A) (x y : A) (n : ℕ) → slice_get (xs ++ x ∷ []) n ≡ Some y
-    → (slice_get xs n ≡ Some y) ⊎ ((n ≡ length xs) × (x ≡ y))
-pushed_at [] x y zero e = inr (refl, cc)
-pushed_at [] x y (suc n) e = absurd (cc)
-pushed_at (z ∷ xs) x y zero e = inl e
-pushed_at (z ∷ xs) x y (suc n) e = elim (pushed_at xs x y n e) [
-  | inl before ↦ inl before
-  | inr last ↦ inr (ap suc last.0, last.1)
-]
 
 one_more : {A : Type 0} (xs : List A) (x : A) (most : ℕ) → length xs < most → length (xs ++ x ∷ []) ≤ most
 one_more xs x most room = let more = length-append xs (x ∷ []) in omega arith
@@ -83,7 +73,7 @@ shows_more pods arrivals t tick pod arrival lt as_many all = record {
     λ is. (all.present n).1 (present_before arrivals arrival t n lt is),
   );
   moment = all.moment;
-  containers = λ n q shown here there. elim (pushed_at pods pod q n here) [
+  containers = λ n q shown here there. elim (place_split pods pod q n here) [
     | inl before ↦ all.containers n q shown before there
     | inr last ↦
         let within = present_within arrivals t n ((all.present n).0 (slice_get_within tick.pods n shown there)) in
@@ -96,16 +86,16 @@ arrivals_more : (pods ticks : ℕ) (arrivals : List ℕ) → AreArrivals pods ti
     → AreArrivals (pods + 1) ticks (arrivals ++ ticks ∷ [])
 arrivals_more pods ticks arrivals all = record {
   as_many = omega (arith, length-append arrivals (ticks ∷ []), all.as_many);
-  in_range = λ n arrival here. elim (pushed_at arrivals ticks arrival n here) [
+  in_range = λ n arrival here. elim (place_split arrivals ticks arrival n here) [
     | inl before ↦ all.in_range n arrival before
     | inr last ↦ omega (arith, last.1)
   ];
-  in_order = λ n m earlier later le here there. elim (pushed_at arrivals ticks later m there) [
-    | inl after ↦ elim (pushed_at arrivals ticks earlier n here) [
+  in_order = λ n m earlier later le here there. elim (place_split arrivals ticks later m there) [
+    | inl after ↦ elim (place_split arrivals ticks earlier n here) [
       | inl before ↦ all.in_order n m earlier later le before after
       | inr last ↦ let within = slice_get_within arrivals m later after in absurd (omega (arith, last.0))
     ]
-    | inr last ↦ elim (pushed_at arrivals ticks earlier n here) [
+    | inr last ↦ elim (place_split arrivals ticks earlier n here) [
       | inl before ↦ let low = all.in_range n earlier before in omega (arith, last.1)
       | inr same ↦ omega (arith, last.1, same.1)
     ]
@@ -115,12 +105,12 @@ arrivals_more pods ticks arrivals all = record {
 -- the pods' keys stay apart
 apart_more : (pods : List PodSpec) (pod : PodSpec) → HaveOwnKeys pods → (HasKey pods (key_of_pod pod) → ⊥)
     → HaveOwnKeys (pods ++ pod ∷ [])
-apart_more pods pod own new n m p q here there same = elim (pushed_at pods pod p n here) [
-  | inl a ↦ elim (pushed_at pods pod q m there) [
+apart_more pods pod own new n m p q here there same = elim (place_split pods pod p n here) [
+  | inl a ↦ elim (place_split pods pod q m there) [
     | inl b ↦ own n m p q a b same
     | inr b ↦ absurd (new (n, p, a, same ∙ sym (ap key_of_pod b.1)))
   ]
-  | inr a ↦ elim (pushed_at pods pod q m there) [
+  | inr a ↦ elim (place_split pods pod q m there) [
     | inl b ↦ absurd (new (m, q, b, sym same ∙ sym (ap key_of_pod a.1)))
     | inr b ↦ a.0 ∙ sym b.0
   ]
@@ -149,7 +139,7 @@ line_keeps past line _ all (says_tick d at written placed is coded) =
     let now = observed at written placed past.pods in
     let has = is.is_apart.has_places.has_written.has_moment in
     record {
-      shown = λ t tick here. elim (pushed_at past.ticks now tick t here) [
+      shown = λ t tick here. elim (place_split past.ticks now tick t here) [
         | inl before ↦ all.shown t tick before
         | inr last ↦
             let here = shows_each at written placed past.pods past.arrivals (length past.ticks) all.arrived in
@@ -162,7 +152,7 @@ line_keeps past line _ all (says_tick d at written placed is coded) =
             omega (arith, length-append past.ticks (now ∷ []));
         in_order = all.arrived.in_order;
       };
-      below = λ t tick here. elim (pushed_at past.ticks now tick t here) [
+      below = λ t tick here. elim (place_split past.ticks now tick t here) [
         | inl before ↦ all.below t tick before
         | inr last ↦ subst (λ (o : TickObs). o.at < 2 ^ 40) last.1
             (moment_low past.ticks (field_at (codes "at") d) at has.moment)

@@ -13,14 +13,6 @@ is_memory kind = false
 abbrev pub Gives : {X Y : Type 0} → (X → Y) → Result X FaultKind → Result Y FaultKind → Type 0
 Gives view result given = GivesUnless is_memory view result given
 
--- of a call that takes none
-abbrev pub GivesExactly : {X Y : Type 0} → (X → Y) → Result X FaultKind → Result Y FaultKind → Type 0
-GivesExactly view result given = GivesUnless (λ kind. false) view result given
-
 -- of a call that takes memory, with the line
 abbrev pub GivesAt : {X Y : Type 0} → (X → Y) → Result X LineFault → Result Y LineFault → Type 0
 GivesAt view result given = GivesUnless (λ fault. is_memory fault.kind) view result given
-
--- of a call that takes none, with the line
-abbrev pub GivesExactlyAt : {X Y : Type 0} → (X → Y) → Result X LineFault → Result Y LineFault → Type 0
-GivesExactlyAt view result given = GivesUnless (λ fault. false) view result given

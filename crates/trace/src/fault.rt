@@ -2,8 +2,7 @@
 
 ghost use Rattle.std.specs.Prelude.{◌≡◌};
 ghost use Rattle.trace.specs.declared.fault.FaultKind.TheVariants.{OutOfMemory};
-ghost use Rattle.json_fields.specs.Reading.{refused_if};
-ghost use Rattle.trace.specs.Gives.{GivesExactly};
+ghost use Rattle.json_fields.specs.Reading.{refused_if, GivesExactly};
 ghost use Rattle.trace.specs.Trace.{at_line};
 ghost use Rattle.trace.specs.Faults.{kind_of_follow_error, kind_of_manifest_fault};
 ghost use Rattle.trace.specs.Faults.{kind_of_node_fault, kind_of_tick_fault};

@@ -2,8 +2,8 @@
 
 ghost use Rattle.std.specs.Prelude.{◌≡◌, ◌==◌, length};
 ghost use Rattle.name_list.specs.Names.{place_of};
-ghost use Rattle.json_fields.specs.Reading.{each, some_or};
-ghost use Rattle.trace.specs.Gives.{Gives, GivesExactly};
+ghost use Rattle.json_fields.specs.Reading.{each, some_or, GivesExactly};
+ghost use Rattle.trace.specs.Gives.{Gives};
 ghost use Rattle.trace.specs.Pod.{keys_of};
 ghost use Rattle.trace.specs.Placing.{number_in, container_number, placed_listing, placed_result, pod_numbered};
 ghost use Rattle.trace.specs.Placing.{entry_of_pod, entries_of_pods, has_twice, are_of_one_container, is_of_probe};

@@ -2,8 +2,9 @@
 
 ghost use Rattle.std.specs.Prelude.{◌≡◌, option_map, is_some, None, IfOk, string_bytes};
 ghost use Rattle.serde_json.specs.View.{view};
+ghost use Rattle.json_fields.specs.Reading.{GivesExactly};
 ghost use Rattle.name_list.specs.Names.{place_of};
-ghost use Rattle.trace.specs.Gives.{Gives, GivesExactly};
+ghost use Rattle.trace.specs.Gives.{Gives};
 ghost use Rattle.trace.specs.Pod.{key_of_pod, keys_of, new_key, room_for_pod, manifest_of, pod_from};
 
 use crate::fault::{FaultKind, refused_if};

@@ -2,8 +2,9 @@
 
 ghost use Rattle.std.specs.Prelude.{◌≡◌, [], option_map, None, Ok, OnOk, string_bytes};
 ghost use Rattle.serde_json.specs.View.{view};
+ghost use Rattle.json_fields.specs.Reading.{GivesExactly};
 ghost use Rattle.json_lines.specs.Lines.{data_of};
-ghost use Rattle.trace.specs.Gives.{Gives, GivesExactly};
+ghost use Rattle.trace.specs.Gives.{Gives};
 ghost use Rattle.name_list.specs.Names.{place_of};
 ghost use Rattle.trace.specs.Written.{node_in};
 ghost use Rattle.trace.specs.Past.{IsEnlisted, version_in, with_pod};

@@ -1,8 +1,9 @@
 //! Reading a whole trace, window by window.
 
 ghost use Rattle.std.specs.Prelude.{◌≡◌, ◌<◌, ◌+◌, ◌^◌, length, map, IfOk, IsTrue};
+ghost use Rattle.json_fields.specs.Reading.{GivesExactly};
 ghost use Rattle.json_lines.specs.Lines.{data_of};
-ghost use Rattle.trace.specs.Gives.{is_memory, GivesAt, GivesExactlyAt};
+ghost use Rattle.trace.specs.Gives.{is_memory, GivesAt};
 ghost use Rattle.trace.specs.Sound.{AreAcceptable, AreRising, HasShape};
 ghost use Rattle.trace.specs.Taken.{lines_at};
 ghost use Rattle.trace.specs.Trace.{finished, nothing, trace_of};
@@ -61,7 +62,7 @@ fn no_memory(line: u64) -> LineFault
 }
 
 fn finished(line: u64, reader: Reader) -> Result<Trace, LineFault>
-    ensures { GivesExactlyAt (λ t. t) result (finished line reader reader.node) }
+    ensures { GivesExactly (λ t. t) result (finished line reader reader.node) }
 {
     let Reader {
         node,

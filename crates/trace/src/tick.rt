@@ -3,8 +3,8 @@
 ghost use Rattle.std.specs.Prelude.{◌≡◌, ◌<◌, All, length, option_map, Ok, IfOk};
 ghost use Rattle.std.specs.List.{list_any};
 ghost use Rattle.serde_json.specs.View.{view};
-ghost use Rattle.json_fields.specs.Reading.{refused_if};
-ghost use Rattle.trace.specs.Gives.{Gives, GivesExactly};
+ghost use Rattle.json_fields.specs.Reading.{refused_if, GivesExactly};
+ghost use Rattle.trace.specs.Gives.{Gives};
 ghost use Rattle.trace.specs.Past.{with_tick};
 ghost use Rattle.trace.specs.ByPod.{AreFirst};
 ghost use Rattle.trace.specs.Placing.{placed_of, is_doubled};

@@ -1,2 +1,3 @@
 pub mod NodeLemmas
 pub mod Reports
+pub mod Replayable

@@ -1,163 +1,27 @@
 -- The node of a trace, one tick and some pods more.
-use Rattle.std.proofs.Common.{◌≡◌, ◌⊎◌, inl, inr, ◌∙◌, ℕ, suc, zero, ◌+◌, ◌-◌, ◌<◌, ◌≤◌, ◌^◌, List, [], ◌∷◌, ◌++◌}
-use Rattle.std.proofs.Common.{length, map, take, drop, get_or, append_assoc, append-nil, Option, Some, None, refl, ap}
+use Rattle.std.proofs.Common.{◌≡◌, ◌∙◌, ℕ, suc, zero, ◌+◌, ◌-◌, ◌<◌, ◌≤◌, List, [], ◌∷◌, ◌++◌}
+use Rattle.std.proofs.Common.{length, take, drop, append_assoc, append-nil, Option, Some, None, refl, ap}
 use Rattle.std.proofs.Common.{sym, subst, arith}
-use Rattle.std.specs.Prelude.{slice_get, MatchOption, IfSome, IsSomeAnd, is_some, IsSome, option_and_then, unwrap_or}
-use Rattle.std.specs.Prelude.{◌↔◌}
-use Rattle.std.proofs.lemmas.Bool.{cases_lt}
-use Rattle.std.proofs.lemmas.List.{length-take-le, take-append-le, take_all, length-append}
-use Rattle.histories.specs.Histories.{recorded, last_moment, moment_at, EndsBefore}
-use Rattle.histories.proofs.Places.{length-project, moment_at-project}
+use Rattle.std.specs.Prelude.{slice_get, MatchOption, IfSome}
+use Rattle.std.proofs.lemmas.List.{length-take-le, take_all, length-append}
+use Rattle.std.proofs.Math.Seq.{take-append_seam}
+use Rattle.histories.proofs.Lists.{rest_more, slice_get-kept}
 use Rattle.manifest.specs.declared.pod.PodSpec.{PodSpec}
-use Rattle.state_diff.specs.declared.seen.Seen.{Seen}
-use Rattle.state_diff.specs.Instances.{Tick, IsAcceptable}
 use Rattle.node_config.specs.declared.node.NodeConfig.{NodeConfig}
 use Rattle.observations.specs.Pods.{PodObs}
 use Rattle.observations.specs.declared.tick.TickObs.{TickObs}
-use Rattle.observations.specs.declared.container.ContainerObs.{ContainerObs}
 use Rattle.observations.specs.Limits.{most_ticks, most_pods}
-use Rattle.observations.specs.Observations.{shown_of, listed_in, own_ticks, history}
-use Rattle.observations.proofs.OwnTicks.{AreBefore, acceptable_at, history_ends_before}
-use Rattle.trace.specs.Sound.{AreAcceptable, HasShape}
-use Rattle.node_signals.proofs.PlaceLemmas.{within}
-use Rattle.containers.specs.Ticks.{listings}
-use Rattle.pod_state.specs.Pods.{PodEntry, PodTick, pod_tick, ticks_of, unseen}
+use Rattle.pod_state.specs.Pods.{pod_tick}
 use Rattle.pod_piece.specs.Listings.{IsNextTick}
 use Rattle.pod_piece.specs.Piece.{Piece}
-use Rattle.eviction.proofs.Unique.{at_place}
-use Rattle.eviction.specs.declared.eviction.Eviction.{Eviction}
 use Rattle.eviction.specs.Replay.{pod_ticks}
-use Rattle.node_pods.specs.Pods.{AreNext}
-use Rattle.tick_round.specs.Node.{State, ArePieces, piece_after, HasTaken, Fits, IsAfter, MayTake, HasRoom, last_of}
+use Rattle.tick_round.specs.Node.{State, HasTaken, Fits, IsAfter, MayTake, HasRoom, last_of}
 use Rattle.tick_round.proofs.Pieces.{pod_at}
 use Rattle.trace_replay.specs.Ticks.{AreReplayable, MayArrive}
-
--- what a trace keeps lets every tick be handed on
-listed : (o : Option ContainerObs)
-    → (unwrap_or o unseen).seen ≡ option_and_then (λ (shown : ContainerObs). shown.seen) o
-listed None = refl
-listed (Some shown) = refl
-
-same_history : (own : List PodObs) (c : ℕ)
-    → listings (ticks_of (map pod_tick own) c) ≡ map (λ (shown : PodObs). recorded shown.at (listed_in shown c)) own
-same_history [] c = refl
-same_history (o ∷ os) c =
-    ap (λ (s : Option Seen). recorded o.at s ∷ listings (ticks_of (map pod_tick os) c))
-    (listed (slice_get o.containers c))
-    ∙ ap (λ rest. recorded o.at (listed_in o c) ∷ rest) (same_history os c)
-
--- the pod's last tick is that of its first container
-ends_so : (h : List PodTick) (at : ℕ) → EndsBefore (listings (ticks_of h 0)) at → EndsBefore h at
-ends_so h at ends =
-    let f = λ (entry : PodEntry). unwrap_or (slice_get entry.containers 0) unseen in
-    let g = λ (shown : ContainerObs). shown.seen in
-    let same : last_moment (listings (ticks_of h 0)) ≡ last_moment h =
-    moment_at-project g (ticks_of h 0) (length (listings (ticks_of h 0)) - 1) ∙ moment_at-project f h
-    (length (listings (ticks_of h 0)) - 1)
-    ∙ ap (λ m. moment_at h (m - 1)) (length-project g (ticks_of h 0) ∙ length-project f h) in
-    subst (λ (o : Option ℕ). IfSome o (λ last. last < at)) same ends
-
-kept : (i t : ℕ) (ticks : List TickObs) (tick : TickObs) → slice_get (take i ticks) t ≡ Some tick → (t < i)
-    × (slice_get ticks t ≡ Some tick)
-kept zero t ticks tick e = absurd (cc)
-kept (suc i) t [] tick e = absurd (cc)
-kept (suc i) zero (x ∷ xs) tick e = (omega arith, e)
-kept (suc i) (suc t) (x ∷ xs) tick e = let w = kept i t xs tick e in (omega (arith, w.0), w.1)
-
--- no tick shows fewer pods than one before it
-grows : (pods : List PodSpec) (arrivals : List ℕ) (ticks : List TickObs) → HasShape pods arrivals ticks
-    → (t u : ℕ) (earlier later : TickObs) → t < u → slice_get ticks t ≡ Some earlier → slice_get ticks u ≡ Some later
-    → length earlier.pods ≤ length later.pods
-grows pods arrivals ticks shape t u earlier later lt at there =
-    elim (cases_lt (length later.pods) (length earlier.pods)) [
-      | inl fewer ↦
-          let n = length later.pods in
-          let present = ((shape.shown t earlier at).present n).0 fewer in
-          let still = before (slice_get arrivals n) present in
-          let shown : n < length later.pods = ((shape.shown u later there).present n).1 still in
-          absurd (omega arith)
-      | inr ge ↦ ge
-    ]
-  where
-    before : (o : Option ℕ) → IsSomeAnd o (λ arrival. arrival ≤ t) → IsSomeAnd o (λ arrival. arrival ≤ u)
-    before None p = p
-    before (Some arrival) p = let le : arrival ≤ t = p in omega arith
-
--- and none shows more than there are
-no_more : (pods : List PodSpec) (arrivals : List ℕ) (ticks : List TickObs) → HasShape pods arrivals ticks → (t : ℕ)
-    (tick : TickObs) → slice_get ticks t ≡ Some tick
-    → length tick.pods ≤ length pods
-no_more pods arrivals ticks shape t tick at = elim (cases_lt (length pods) (length tick.pods)) [
-  | inl more ↦
-      let present = ((shape.shown t tick at).present (length pods)).0 more in
-      let below : length pods < length arrivals = some_below arrivals (length pods) present in
-      let many : length arrivals ≡ length pods = shape.arrived.as_many in
-      absurd (omega arith)
-  | inr le ↦ le
-]
-  where
-    some_below : (xs : List ℕ) (n : ℕ) → IsSomeAnd (slice_get xs n) (λ arrival. arrival ≤ t) → n < length xs
-    some_below [] n p = absurd p
-    some_below (x ∷ xs) zero p = omega arith
-    some_below (x ∷ xs) (suc n) p = let lt : n < length xs = some_below xs n p in omega arith
-
-pub are_replayable : (pods : List PodSpec) (arrivals : List ℕ) (ticks : List TickObs) → AreAcceptable ticks
-    → HasShape pods arrivals ticks → AreReplayable pods ticks
-are_replayable pods arrivals ticks acceptable shape = record {
-  next = next;
-  moments = λ t n tick shown at is. (shape.shown t tick at).moment n shown is;
-  rising = shape.rising;
-  below = shape.below;
-  growing = grows pods arrivals ticks shape;
-  few_ticks = shape.few_ticks;
-  few_pods = shape.few_pods;
-  within = no_more pods arrivals ticks shape;
-}
-  where
-    next : (t n : ℕ) (tick : TickObs) (pod : PodSpec) (observed : PodObs) → slice_get ticks t ≡ Some tick
-        → slice_get pods n ≡ Some pod → shown_of tick n ≡ Some observed
-        → IsNextTick pod (pod_ticks (take t ticks) n) (pod_tick observed)
-    next t n tick pod observed here at shown =
-        let each = shape.shown t tick here in
-        let own = own_ticks (take t ticks) n in
-        let moment : observed.at ≡ tick.at = each.moment n observed shown in
-        let before : AreBefore (take t ticks) n observed.at = λ u earlier seen e is.
-        let w = kept t u ticks earlier e in
-        let then : seen.at ≡ earlier.at = (shape.shown u earlier w.1).moment n seen is in
-        let rising : earlier.at < tick.at = shape.rising u t earlier tick w.0 w.1 here in
-        omega (arith, moment, then, rising) in
-        record {
-          shown = record {
-            as_many = each.containers n pod observed at shown;
-            acceptable = λ c lt.
-                subst (λ (h : List Tick). IsAcceptable h (unwrap_or (slice_get observed.containers c) unseen).seen)
-                (sym (same_history own c))
-                (subst (λ (o : Option Seen). IsAcceptable (history (take t ticks) n c) o)
-                (sym (listed (slice_get observed.containers c)))
-                (acceptable_at ticks t n c tick observed here shown (acceptable n c)));
-          };
-          later = ends_so (map pod_tick own) observed.at
-              (subst (λ (h : List Tick). EndsBefore h observed.at) (sym (same_history own 0))
-              (history_ends_before (take t ticks) n 0 observed.at before));
-          bounded = subst (λ (m : ℕ). m < 2 ^ 40) (sym moment) (shape.below t tick here);
-        }
-
--- where a list is cut
-pub rest_more : {A : Type 0} (all front : List A) (x : A) (rest : List A) → all ≡ front ++ x ∷ rest
-    → all ≡ (front ++ x ∷ []) ++ rest
-rest_more all front x rest is = is ∙ sym (append_assoc front (x ∷ []) rest)
 
 middle : {A : Type 0} (xs : List A) (x : A) (ys : List A) → slice_get (xs ++ x ∷ ys) (length xs) ≡ Some x
 middle [] x ys = refl
 middle (y ∷ xs) x ys = middle xs x ys
-
-front : {A : Type 0} (xs ys : List A) → take (length xs) (xs ++ ys) ≡ xs
-front xs ys = take-append-le (length xs) xs ys (omega arith) ∙ take_all (length xs) xs (omega arith)
-
-get_before : {A : Type 0} (xs ys : List A) (n : ℕ) (x : A) → slice_get xs n ≡ Some x → slice_get (xs ++ ys) n ≡ Some x
-get_before [] ys n x e = absurd (cc)
-get_before (z ∷ xs) ys zero x e = e
-get_before (z ∷ xs) ys (suc n) x e = get_before xs ys n x e
 
 get_behind : {A : Type 0} (xs : List A) (x : A) (ys : List A) (t : ℕ) (y : A) → slice_get ys t ≡ Some y
     → slice_get (xs ++ x ∷ ys) (length xs + suc t) ≡ Some y
@@ -192,7 +56,7 @@ fits_next pods ticks before tick rest s may whole taken =
     let t = length before in
     let at : slice_get ticks t ≡ Some tick = ap (λ (xs : List TickObs). slice_get xs t) whole ∙ middle before tick
     rest in
-    let cut : take t ticks ≡ before = ap (take t) whole ∙ front before (tick ∷ rest) in
+    let cut : take t ticks ≡ before = ap (take t) whole ∙ take-append_seam before (tick ∷ rest) in
     let count : length (take (length tick.pods) pods) ≡ length tick.pods = length-take-le (length tick.pods) pods
     (may.within t tick at) in
     record {
@@ -206,7 +70,7 @@ fits_next pods ticks before tick rest s may whole taken =
           (if_some (last_of before) (λ m. m < tick.at) (λ m is.
           let w = last_place before m is in
           let there : slice_get ticks w.0 ≡ Some w.1 = ap (λ (xs : List TickObs). slice_get xs w.0) whole
-          ∙ get_before before (tick ∷ rest) w.0 w.1 w.2 in
+          ∙ slice_get-kept before (tick ∷ rest) w.0 w.1 w.2 in
           let rises : w.1.at < tick.at = may.rising w.0 t w.1 tick w.4 there at in
           let same : w.1.at ≡ m = w.3 in omega arith));
       bounded = may.below t tick at;
@@ -370,10 +234,6 @@ pub none_left : {A : Type 0} (o : Option A) (old new : ℕ) (Q : A → Type 0) (
 none_left None old new Q [] ends long is = refl
 none_left None old new Q (x ∷ xs) ends long is = absurd (omega (arith, long, ends.1))
 none_left (Some x) old new Q rest ends long is = absurd (let w : Some x ≡ None = is in cc)
-
-pub nothing_left : {A : Type 0} (rest : List A) → length rest ≡ 0 → rest ≡ []
-nothing_left [] long = refl
-nothing_left (x ∷ xs) long = absurd (omega (arith, long))
 
 -- the first so many of these pods have arrived
 pub record AreArriving (all : List PodSpec) (i : ℕ) (old new : Option State) (left : List PodSpec) : Type 0 where

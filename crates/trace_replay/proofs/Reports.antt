@@ -9,7 +9,7 @@ use Rattle.event_list.specs.Laws.{ShowsKnownPods, HaveProbesInRange}
 use Rattle.node_report.proofs.Exists.{some_report}
 use Rattle.node_report.proofs.Unique.{one_report}
 use Rattle.trace_replay.specs.Report.{IsReportOf}
-use Rattle.trace_replay.proofs.NodeLemmas.{are_replayable}
+use Rattle.trace_replay.proofs.Replayable.{are_replayable}
 
 -- a trace shows none but its pods
 known : (trace : Trace) → AreAcceptable trace.ticks → HasShape trace.pods trace.arrivals trace.ticks

@@ -6,6 +6,8 @@ use Rattle.std.proofs.lemmas.Bool.{ltb-true, ltb-false, lt-ltb, le-ltb, leb-true
 use Rattle.serde_json.specs.Data.{Data}
 use Rattle.json_fields.specs.Fields.{field_at, text_at}
 use Rattle.json_fields.specs.Reading.{◌>>=◌, refused_if}
+use Rattle.json_fields.proofs.Only.{no_fault, same_fault}
+use Rattle.json_fields.proofs.Steps.{bind_err, then_ok}
 use Rattle.manifest.specs.declared.pod.PodSpec.{PodSpec}
 use Rattle.trace.specs.declared.fault.FaultKind.{FaultKind}
 use Rattle.trace.specs.declared.fault.FaultKind.TheVariants.{TooLong, UnknownKind, Order, TooMany, DuplicatePod}
@@ -37,14 +39,6 @@ use Rattle.trace.specs.Laws.{IsJson, IsOfKind, TakesPods, MayStand, Stands, HasP
 use Rattle.trace.specs.Laws.{IsApart, IsForwards, Fails, too_long, not_json, unknown_kind, misplaced, wrong_node}
 use Rattle.trace.specs.Laws.{many_pods, wrong_pod, duplicate_pod, many_ticks, wrong_moment, wrong_field, stranger}
 use Rattle.trace.specs.Laws.{doubled, backwards, no_code, FirstCheck}
-
-pub bind_err : {A B E : Type 0} (r : Result A E) (f : A → Result B E) (fault : E) → (r >>= f) ≡ Err fault
-    → (r ≡ Err fault) ⊎ ((x : A) × (r ≡ Ok x) × (f x ≡ Err fault))
-bind_err (Ok x) f fault e = inr (x, refl, e)
-bind_err (Err other) f fault e = let is : other ≡ fault = cc in inl (ap Err is)
-
-pub then_ok : {A B E : Type 0} (r : Result A E) (f : A → Result B E) (x : A) → r ≡ Ok x → (r >>= f) ≡ f x
-then_ok r f x e = rw e refl
 
 pub then_err : {A B E : Type 0} (r : Result A E) (f : A → Result B E) (fault : E) → r ≡ Err fault
     → (r >>= f) ≡ Err fault
@@ -96,12 +90,6 @@ in_time Two ticks may = refl
 comes_late : (version : Version) (ticks : List TickObs) → (TakesPods ticks version → ⊥) → is_late version ticks ≡ true
 comes_late One ticks never = in_some ticks never
 comes_late Two ticks never = absurd (never tt)
-
-pub no_fault : {A E : Type 0} (x : A) (fault : E) → ◌≡◌ {A = Result A E} (Ok x) (Err fault) → ⊥
-no_fault x fault e = absurd (cc)
-
-pub same_fault : {A E : Type 0} (a b : E) → ◌≡◌ {A = Result A E} (Err a) (Err b) → a ≡ b
-same_fault a b e = cc
 
 -- from a fault to the check that fails
 code_fails : (past : Past) (line : List ℕ) (d : Data) (at : ℕ) (written : TickLine) (placed : List PlacedEntry)

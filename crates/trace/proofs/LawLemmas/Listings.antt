@@ -4,6 +4,7 @@ use Rattle.std.proofs.Common.{Some, None, refl, ap, sym, inl, inr, arith}
 use Rattle.std.specs.Prelude.{◌==◌, option_and_then}
 use Rattle.std.specs.List.{list_any}
 use Rattle.std.proofs.lemmas.Bool.{cases_Bool, or_parts, eqb-true, eq-eqb}
+use Rattle.std.proofs.lemmas.Map.Keys.{any_passes_from_place}
 use Rattle.state_diff.specs.declared.seen.Seen.{Seen}
 use Rattle.tick_lines.specs.declared.listing.ListedInstance.{ListedInstance}
 use Rattle.tick_lines.specs.declared.line.TickLine.{TickLine}
@@ -19,7 +20,6 @@ use Rattle.trace.specs.Placing.{has_twice, are_of_one_pod, are_of_one_container,
 use Rattle.trace.specs.Observed.{seen_listed, seen_in, containers_from, entry_for, listings_of, results_of}
 use Rattle.trace.specs.Observed.{pod_observed, pods_from, observed}
 use Rattle.trace.specs.Laws.{IsListed, Lists, ListingsShown}
-use Rattle.trace.proofs.LawLemmas.Results.{some_item}
 
 abbrev listing : ℕ → ListedInstance → PlacedListing
 listing n instance = record { container = n; instance = instance }
@@ -55,7 +55,7 @@ given (l ∷ ls) n instance once (suc m) here =
       | inl first ↦
           let alike : are_of_one_container (listing n instance) l ≡ true =
           eq-eqb n l.container (sym (eqb-true l.container n first)) in
-          let twice = some_item (λ k. are_of_one_container k l) ls m (listing n instance) here alike in
+          let twice = any_passes_from_place (λ k. are_of_one_container k l) ls m (listing n instance) here alike in
           let never : false ≡ true = sym none.0 ∙ twice in
           absurd (cc)
       | inr other ↦ rw other (given ls n instance none.1 m here)
@@ -92,7 +92,7 @@ entry_given (x ∷ xs) n entry once (suc k) here is =
     elim (cases_Bool (x.pod == n)) [
       | inl first ↦
           let alike : are_of_one_pod entry x ≡ true = eq-eqb entry.pod x.pod (is ∙ sym (eqb-true x.pod n first)) in
-          let twice = some_item (λ y. are_of_one_pod y x) xs k entry here alike in
+          let twice = any_passes_from_place (λ y. are_of_one_pod y x) xs k entry here alike in
           let never : false ≡ true = sym none.0 ∙ twice in
           absurd (cc)
       | inr other ↦ rw other (entry_given xs n entry none.1 k here is)
@@ -103,7 +103,7 @@ once_in : (es : List PlacedEntry) (k : ℕ) (entry : PlacedEntry) → list_any r
 once_in es k entry none here = elim (cases_Bool (has_twice are_of_one_container entry.listings)) [
   | inl twice ↦
       let repeated : repeats entry ≡ true = rw twice refl in
-      let some = some_item repeats es k entry here repeated in
+      let some = any_passes_from_place repeats es k entry here repeated in
       absurd (cc)
   | inr once ↦ once
 ]

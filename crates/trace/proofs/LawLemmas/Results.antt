@@ -1,9 +1,10 @@
 -- What a tick shows of a probe is the result that is given.
-use Rattle.std.proofs.Common.{◌≡◌, ◌∙◌, ℕ, zero, suc, Bool, true, false, List, [], ◌∷◌, slice_get, Some, refl, ap}
+use Rattle.std.proofs.Common.{◌≡◌, ◌∙◌, ℕ, zero, suc, true, false, List, [], ◌∷◌, slice_get, Some, refl, ap}
 use Rattle.std.proofs.Common.{sym, inl, inr}
 use Rattle.std.specs.Prelude.{◌==◌, ◌&&◌}
 use Rattle.std.specs.List.{list_any}
 use Rattle.std.proofs.lemmas.Bool.{cases_Bool, and_parts, or_parts, eqb-true, eq-eqb}
+use Rattle.std.proofs.lemmas.Map.Keys.{any_passes_from_place}
 use Rattle.manifest.specs.declared.outcome.Outcome.{Outcome}
 use Rattle.manifest.specs.declared.outcome.ProbeKind.{ProbeKind}
 use Rattle.manifest.specs.declared.outcome.ProbeKind.TheVariants.{Startup, Liveness, Readiness}
@@ -37,19 +38,6 @@ is_result r n probe e =
 of_itself : (n : ℕ) (probe : ProbeKind) → (n == n && place probe == place probe) ≡ true
 of_itself n probe = rw (eq-eqb n n refl, eq-eqb (place probe) (place probe) refl) refl
 
--- what holds of an item holds of some item
-pub some_item : {A : Type 0} (test : A → Bool) (xs : List A) (m : ℕ) (x : A) → slice_get xs m ≡ Some x → test x ≡ true
-    → list_any test xs ≡ true
-some_item test [] m x here holds = absurd (cc)
-some_item test (y ∷ ys) zero x here holds =
-    let is : y ≡ x = cc in
-    let first : test y ≡ true = ap test is ∙ holds in
-    rw first refl
-some_item test (y ∷ ys) (suc m) x here holds = elim (cases_Bool (test y)) [
-  | inl first ↦ rw first refl
-  | inr later ↦ rw later (some_item test ys m x here holds)
-]
-
 shown : (rs : List PlacedResult) (n : ℕ) (probe : ProbeKind) (outcome : Outcome)
     → outcome_in rs n probe ≡ Some outcome → IsGiven rs n probe outcome
 shown [] n probe outcome e = absurd (cc)
@@ -80,7 +68,7 @@ given (r ∷ rs) n probe outcome once (suc m) here =
       | inl first ↦
           let alike : are_of_one_probe (result n probe outcome) r ≡ true =
           ap (are_of_one_probe (result n probe outcome)) (is_result r n probe first) ∙ of_itself n probe in
-          let twice = some_item (λ s. are_of_one_probe s r) rs m (result n probe outcome) here alike in
+          let twice = any_passes_from_place (λ s. are_of_one_probe s r) rs m (result n probe outcome) here alike in
           let never : false ≡ true = sym none.0 ∙ twice in
           absurd (cc)
       | inr other ↦ rw other (given rs n probe outcome none.1 m here)

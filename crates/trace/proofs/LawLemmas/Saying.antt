@@ -6,7 +6,8 @@ use Rattle.std.proofs.lemmas.Bool.{ltb-false, leb-false}
 use Rattle.serde_json.specs.Data.{Data}
 use Rattle.json_fields.specs.Fields.{field_at, text_at}
 use Rattle.json_fields.specs.Reading.{◌>>=◌, refused_if}
-use Rattle.json_fields.proofs.Steps.{bind_ok}
+use Rattle.json_fields.proofs.Steps.{bind_ok, then_ok}
+use Rattle.json_fields.proofs.Only.{same_value, no_fault}
 use Rattle.trace.proofs.Whole.{with_kind, with_json, with_tick_seen, with_places, with_written, with_moment}
 use Rattle.trace.proofs.Whole.{with_room, with_code, with_forwards, with_apart, pod_new, pod_said, pod_read}
 use Rattle.trace.proofs.Whole.{pod_early, tick_whole, pod_whole, line_whole}
@@ -35,17 +36,14 @@ use Rattle.trace.specs.Trace.{json_of, kind_from, with_node, is_late, pod_line_a
 use Rattle.trace.specs.Laws.{IsJson, IsOfKind, Stands, HasPod, HasMoment, HasWritten, HasPlaces}
 use Rattle.trace.specs.Laws.{IsApart, IsForwards}
 use Rattle.trace.specs.Laws.{Says, says_node, says_pod, says_tick, AllChecks}
-use Rattle.trace.proofs.LawLemmas.Checks.{PodStands, no_fault, node_in_order, of_kind, of_places, of_pod_said, passed}
-use Rattle.trace.proofs.LawLemmas.Checks.{takes_pods, then_ok}
+use Rattle.trace.proofs.LawLemmas.Checks.{PodStands, node_in_order, of_kind, of_places, of_pod_said, passed}
+use Rattle.trace.proofs.LawLemmas.Checks.{takes_pods}
 
 -- a test that refuses nothing, and what follows it
 cleared : {B E : Type 0} (b : Bool) (fault : E) (f : ⊤ → Result B E) (y : B) → (refused_if b fault >>= f) ≡ Ok y
     → (b ≡ false) × (f tt ≡ Ok y)
 cleared true fault f y e = absurd (cc)
 cleared false fault f y e = (refl, e)
-
-same_value : {A E : Type 0} (a b : A) → ◌≡◌ {A = Result A E} (Ok a) (Ok b) → a ≡ b
-same_value a b e = cc
 
 -- from what a line leaves to what it says
 tick_says : (past : Past) (line : List ℕ) (d : Data) (next : Past) → Stands past line kinds.Tick d

@@ -6,6 +6,8 @@ use Rattle.std.proofs.Common.{get_or}
 use Rattle.std.proofs.lemmas.Option.{slice_get-get_or}
 use Rattle.std.proofs.lemmas.List.{length-map}
 use Rattle.json_fields.specs.Reading.{◌>>=◌, some_or, each}
+use Rattle.json_fields.proofs.Only.{no_fault, same_fault}
+use Rattle.json_fields.proofs.Steps.{bind_err, then_ok, there_is}
 use Rattle.name_list.specs.Names.{place_of}
 use Rattle.manifest.specs.declared.pod.PodSpec.{PodSpec}
 use Rattle.manifest.specs.Containers.{names_of}
@@ -22,7 +24,7 @@ use Rattle.trace.specs.Placing.{number_in, pod_numbered, container_number, place
 use Rattle.trace.specs.Placing.{entry_of_pod, placed_entry, placed_of}
 use Rattle.trace.specs.Laws.{HasNo, NamesOther, NamesStranger, NamesStrangerContainer, Strangers}
 use Rattle.trace.proofs.Placed.{placed, with_listings, with_pod, with_number}
-use Rattle.trace.proofs.LawLemmas.Checks.{no_fault, same_fault, bind_err, then_ok, then_err}
+use Rattle.trace.proofs.LawLemmas.Checks.{then_err}
 
 -- the first item that gives a fault
 each_at : {A B E : Type 0} (f : A → Result B E) (xs : List A) (fault : E) → each f xs ≡ Err fault → (n : ℕ) × (x : A)
@@ -60,10 +62,6 @@ missing_is : {A E : Type 0} (fault given : E) (found : Option A) → some_or fau
     × (given ≡ fault)
 missing_is fault given None e = (refl, sym (same_fault fault given e))
 missing_is fault given (Some x) e = absurd (no_fault x given e)
-
-there_is : {A E : Type 0} (fault : E) (found : Option A) (x : A) → some_or fault found ≡ Ok x → found ≡ Some x
-there_is fault None x e = absurd (no_fault x fault (sym e))
-there_is fault (Some y) x e = let is : y ≡ x = cc in ap Some is
 
 within_one : (here : Bool) (ks : List (List ℕ)) (n : ℕ) (later : Option ℕ)
     → ((m : ℕ) → later ≡ Some m → m < length ks) → (if here then Some 0 else option_map (λ i. i + 1) later) ≡ Some n

@@ -1,4 +1,4 @@
-use Rattle.std.proofs.Common.{◌≡◌, ℕ, ◌+◌, ◌*◌, ◌/◌, ◌%◌, ◌<◌, min, length, map, arith, rules, sym, refl}
+use Rattle.std.proofs.Common.{◌≡◌, ◌+◌, ◌*◌, ◌/◌, ◌%◌, ◌<◌, min, length, map, arith, rules, sym}
 use Rattle.std.proofs.lemmas.Grind.{div_ceil_times}
 use Rattle.json_lines.specs.Lines.{line_data, data_of}
 use Rattle.json_lines.proofs.Joined.{shared_read}

@@ -1,4 +1,4 @@
-use Rattle.std.proofs.Common.{◌++◌, ◌∷◌, [], ◌≡◌, Some, subst}
+use Rattle.std.proofs.Common.{◌++◌, ◌∷◌, [], Some, subst}
 use Rattle.node_signals.specs.declared.key.ThresholdKey.{ThresholdKey}
 use Rattle.node_signals.specs.declared.event.NodeEvent.TheVariants.{Threshold}
 use Rattle.node_signals.specs.Thresholds.{IsActive}

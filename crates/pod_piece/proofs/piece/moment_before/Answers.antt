@@ -1,5 +1,5 @@
 use Rattle.std.proofs.Common.{◌∙◌, ℕ, Some, ap, arith}
-use Rattle.pod_piece.proofs.PieceLemmas.{moment_taken}
+use Rattle.pod_piece.proofs.LastTicks.{moment_taken}
 use Rattle.pod_piece.proofs.piece.moment_before.Goals as goal
 
 pub returns : goal.returns

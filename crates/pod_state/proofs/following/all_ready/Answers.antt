@@ -1,10 +1,9 @@
-use Rattle.std.proofs.Common.{◌≡◌, ◌+◌, ℕ, ◌<◌, List, length, slice_index_or, inl, inr, sym, subst, arith}
+use Rattle.std.proofs.Common.{◌≡◌, ℕ, ◌<◌, length, slice_index_or, inl, inr, sym, subst, arith}
 use Rattle.std.proofs.lemmas.Bool.{cases_lt, iff_false}
-use Rattle.manifest.specs.declared.pod.PodSpec.{PodSpec}
-use Rattle.containers.specs.declared.container.Container.{Container}
-use Rattle.pod_state.specs.Pods.{PodTick, Serves, IsReady}
+use Rattle.histories.proofs.Lists.{some_item}
+use Rattle.pod_state.specs.Pods.{Serves, IsReady}
 use Rattle.pod_state.specs.Containers.{IsContainerOf}
-use Rattle.pod_state.proofs.ContainerLemmas.{item_at, some_item, serving_ready, serving_within}
+use Rattle.pod_state.proofs.ContainerLemmas.{item_at, serving_ready, serving_within}
 use Rattle.pod_state.proofs.following.all_ready.Goals as goal
 
 pub returns-then-not-is_ready_or_init : goal.returns-then-not-is_ready_or_init

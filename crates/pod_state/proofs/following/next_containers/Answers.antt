@@ -1,4 +1,4 @@
-use Rattle.std.proofs.Common.{◌≡◌, ◌∙◌, ◌+◌, ℕ, ◌<◌, List, [], ◌∷◌, ◌++◌, length, get_or, slice_index_or, sym, subst}
+use Rattle.std.proofs.Common.{◌≡◌, ◌+◌, ℕ, ◌<◌, List, [], ◌∷◌, ◌++◌, length, slice_index_or, sym, subst}
 use Rattle.std.proofs.Common.{arith}
 use Rattle.std.specs.Prelude.{slice_get, unwrap_or}
 use Rattle.manifest.specs.declared.pod.PodSpec.{PodSpec}
@@ -7,12 +7,13 @@ use Rattle.observations.specs.declared.container.ContainerObs.{ContainerObs}
 use Rattle.containers.specs.declared.container.Container.{Container}
 use Rattle.containers.specs.Container.{Accepts, IsStateOf}
 use Rattle.histories.proofs.Items.{pushed_each}
+use Rattle.histories.proofs.Lists.{some_item}
 use Rattle.pod_state.specs.Pods.{PodTick, pod_tick, unseen}
 use Rattle.containers.specs.declared.events.ContainerEvents.{ContainerEvents}
 use Rattle.containers.specs.Events.{AreEvents}
 use Rattle.pod_state.specs.Containers.{IsContainerOf}
 use Rattle.pod_state.specs.Events.{IsMadeOf}
-use Rattle.pod_state.proofs.ContainerLemmas.{item_at_any, some_item, next_is, made_is}
+use Rattle.pod_state.proofs.ContainerLemmas.{item_at_any, next_is, made_is}
 use Rattle.pod_state.proofs.following.next_containers.Goals as goal
 
 pub after_tick-next-requires-clause-accepted : goal.after_tick-next-requires-clause-accepted

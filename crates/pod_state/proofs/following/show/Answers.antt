@@ -1,13 +1,14 @@
-use Rattle.std.proofs.Common.{◌≡◌, ◌∙◌, ◌+◌, ℕ, ◌<◌, List, length, get_or, slice_index_or, sym, subst, arith}
+use Rattle.std.proofs.Common.{◌∙◌, ℕ, List, slice_index_or, arith}
 use Rattle.std.specs.Prelude.{IsTrue}
 use Rattle.manifest.specs.declared.pod.PodSpec.{PodSpec}
 use Rattle.containers.specs.declared.status.ContainerStatus.{ContainerStatus}
 use Rattle.containers.specs.declared.container.Container.{Container}
 use Rattle.std.proofs.lemmas.List.{length-set}
 use Rattle.histories.proofs.Items.{set_each}
+use Rattle.histories.proofs.Lists.{some_item}
 use Rattle.pod_state.specs.Pods.{PodTick}
 use Rattle.pod_state.specs.Containers.{IsContainerOf, IsShownOf}
-use Rattle.pod_state.proofs.ContainerLemmas.{item_at_any, some_item, shown_is}
+use Rattle.pod_state.proofs.ContainerLemmas.{item_at_any, shown_is}
 use Rattle.pod_state.proofs.following.show.Goals as goal
 
 pub loop-number-preserved : goal.loop-number-preserved

@@ -1,11 +1,12 @@
-use Rattle.std.proofs.Common.{◌≡◌, ◌∙◌, ◌+◌, ℕ, ◌<◌, List, length, get_or, slice_index_or, sym, subst, arith}
+use Rattle.std.proofs.Common.{◌≡◌, ◌+◌, ℕ, ◌<◌, List, length, slice_index_or, sym, subst, arith}
 use Rattle.manifest.specs.declared.pod.PodSpec.{PodSpec}
 use Rattle.phase.specs.declared.view.ContainerView.{ContainerView}
 use Rattle.containers.specs.declared.container.Container.{Container}
-use Rattle.histories.proofs.Items.{any_default, pushed_each}
+use Rattle.histories.proofs.Items.{pushed_each}
+use Rattle.histories.proofs.Lists.{some_item}
 use Rattle.pod_state.specs.Pods.{PodTick, IsViewOf}
 use Rattle.pod_state.specs.Containers.{IsContainerOf}
-use Rattle.pod_state.proofs.ContainerLemmas.{item_at, some_item, view_is}
+use Rattle.pod_state.proofs.ContainerLemmas.{item_at, view_is}
 use Rattle.pod_state.proofs.following.views_of.Goals as goal
 
 pub loop-container-preserved : goal.loop-container-preserved

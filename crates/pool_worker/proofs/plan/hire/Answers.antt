@@ -1,6 +1,7 @@
 use Rattle.std.proofs.Common.{◌≡◌, ◌+◌, ◌<◌, ◌∷◌, [], ◌++◌, map, take, sym, ap, ◌∙◌, arith, length, vec_len}
 use Rattle.crossbeam_deque.specs.Handles.{worker_deque, stealer_deque}
-use Rattle.piece_deques.proofs.Lists.{map_push, take_map_more}
+use Rattle.histories.proofs.Lists.{map_more}
+use Rattle.piece_deques.proofs.Lists.{take_map_more}
 use Rattle.pool_worker.proofs.plan.hire.Goals as goal
 
 pub hired-preserved : goal.hired-preserved
@@ -18,7 +19,7 @@ hired-preserved g c =
       within = omega (arith, put.len);
       same =
           ap (map stealer_deque) put.items
-          ∙ (map_push stealer_deque l.thieves.items thief
+          ∙ (map_more stealer_deque l.thieves.items thief
           ∙ (ap (λ l. l ++ stealer_deque thief ∷ []) l.invariant.same
           ∙ (ap (λ d. take n (map worker_deque owners.items) ++ d ∷ []) c.in_ok-thief.ensures.0
           ∙ (sym more ∙ ap (λ k. take k (map worker_deque owners.items)) next))));

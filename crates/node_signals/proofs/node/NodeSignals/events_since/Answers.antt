@@ -1,4 +1,4 @@
-use Rattle.std.proofs.Common.{◌++◌, ◌∷◌, [], ◌≡◌, List, subst}
+use Rattle.std.proofs.Common.{List, subst}
 use Rattle.node_signals.specs.declared.event.NodeEvent.{NodeEvent}
 use Rattle.node_signals.specs.Keys.{serving_order}
 use Rattle.node_signals.specs.Events.{ChangesThreshold, Adds}

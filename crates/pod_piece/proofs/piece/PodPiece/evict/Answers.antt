@@ -8,8 +8,9 @@ use Rattle.pod_piece.specs.declared.status.PodStatus.{PodStatus}
 use Rattle.pod_piece.specs.Kept.{IsKept}
 use Rattle.pod_piece.specs.Piece.{Piece, piece, before_last, place_of, Lives}
 use Rattle.pod_piece.proofs.PieceLemmas.{goes_on, state_free, lives_free, may_self, has_containers, kept_evicted}
-use Rattle.pod_piece.proofs.PieceLemmas.{evicted_state, by_eviction, tick_at}
+use Rattle.pod_piece.proofs.PieceLemmas.{evicted_state, by_eviction}
 use Rattle.pod_piece.proofs.UsageLemmas.{usage_evicted}
+use Rattle.pod_piece.proofs.LastTicks.{tick_at}
 use Rattle.pod_piece.proofs.piece.PodPiece.evict.Goals as goal
 
 pub evict-requires : goal.evict-requires

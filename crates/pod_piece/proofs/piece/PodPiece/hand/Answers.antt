@@ -5,7 +5,8 @@ use Rattle.pod_state.specs.Pods.{pod_tick}
 use Rattle.pod_piece.specs.Kept.{IsKept}
 use Rattle.pod_piece.specs.Listings.{AreListed, IsNextTick, AllFollow}
 use Rattle.pod_piece.specs.Piece.{Piece, piece}
-use Rattle.pod_piece.proofs.PieceLemmas.{all_follow, kept_handed, piece_handed, pushed_last}
+use Rattle.pod_piece.proofs.PieceLemmas.{all_follow, kept_handed, piece_handed}
+use Rattle.pod_piece.proofs.LastTicks.{pushed_last}
 use Rattle.pod_piece.proofs.piece.PodPiece.hand.Goals as goal
 
 pub follow-requires : goal.follow-requires

@@ -3,7 +3,7 @@ use Rattle.std.proofs.Math.Seq.{take-length}
 use Rattle.histories.specs.Histories.{last_moment}
 use Rattle.pod_state.specs.Pods.{pod_tick}
 use Rattle.pod_piece.specs.Piece.{Piece, taken, ticks}
-use Rattle.pod_piece.proofs.PieceLemmas.{front_is}
+use Rattle.pod_piece.proofs.LastTicks.{front_is}
 use Rattle.pod_piece.proofs.piece.PodPiece.last_at.Goals as goal
 
 pub returns-then-self : goal.returns-then-self

@@ -8,7 +8,7 @@ use Rattle.pod_state.specs.Pods.{pod_tick, AreViewsOf, IsPhase}
 use Rattle.pod_state.specs.Lifecycles.{IsNext}
 use Rattle.pod_state.specs.Events.{AreMade, events_at, events_from}
 use Rattle.pod_state.specs.Containers.{AreContainersOf}
-use Rattle.pod_state.specs.States.{AllAccept, AllBefore}
+use Rattle.pod_state.specs.States.{AllAccept}
 use Rattle.pod_state.proofs.StateLemmas.{not_evicted, after_end, before_end, events_ended, events_lives}
 use Rattle.pod_state.proofs.state.PodState.take.Goals as goal
 

@@ -1,5 +1,5 @@
 use Rattle.std.proofs.Common.{Some, refl}
-use Rattle.tick_parts.specs.Evict.{pods_in}
+use Rattle.pod_piece.specs.Piece.{pods_in}
 use Rattle.tick_round.specs.Node.{state}
 use Rattle.tick_round.proofs.GoesOn.{adds_as, ends, ends_kept, may_carry_out}
 use Rattle.tick_round.proofs.begun.Begun.end.Goals as goal

@@ -1,5 +1,6 @@
 use Rattle.std.proofs.Common.{◌∙◌, []}
-use Rattle.tick_round.proofs.GoesOn.{rest_next, rest_more, room_left}
+use Rattle.histories.proofs.Lists.{rest_more}
+use Rattle.tick_round.proofs.GoesOn.{rest_next, room_left}
 use Rattle.tick_round.proofs.running.Running.arrive_all.Goals as goal
 
 pub arrive-requires : goal.arrive-requires

@@ -1,0 +1,7 @@
+-- Totals by their numbers.
+use Rattle.std.proofs.Common.{◌≡◌}
+use Rattle.event_book.specs.declared.totals.Totals.{Totals}
+
+pub totals_same : (a b : Totals) → a.updates ≡ b.updates → a.events ≡ b.events → a.orders ≡ b.orders → a ≡ b
+totals_same a b updates events orders =
+    λ k. (let t : Totals = record { updates = updates k; events = events k; orders = orders k } in t)
