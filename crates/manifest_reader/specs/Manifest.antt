@@ -6,7 +6,7 @@ use Rattle.std.specs.Prelude.{None, option_and_then, if◌then◌else◌, Result
 use Rattle.serde_json.specs.Data.{Data}
 use Rattle.serde_json.specs.Find.{as_str, as_number, as_i64, as_u64}
 use Rattle.json_fields.specs.Fields.{field_at}
-use Rattle.json_fields.specs.Reading.{refused_if, each}
+use Rattle.json_fields.specs.Reading.{◌>>=◌, refused_if, each}
 use Rattle.manifest_fields.specs.declared.fault.Field.{Field}
 use Rattle.manifest_fields.specs.declared.fault.Field.TheVariants as fields
 use Rattle.manifest_fields.specs.declared.fault.ManifestFault.{ManifestFault}

@@ -36,10 +36,21 @@ pub(crate) fn collect<D: Deal, U: Ledger, E: Ledger, O: Ledger, R: Wait, G: Gate
     let Some(rest) = left.pop() else {
         unreachable!();
     };
-    let mut total = rest.finish(rt, book, gate)?;
+    let mut total = match rest.finish(rt, book, gate) {
+        Ok(total) => total,
+        Err(piece) => {
+            drop(left);
+            return Err(piece);
+        }
+    };
     'joined: while let Some(rest) = left.pop() {
-        let theirs = rest.finish(rt, book, gate)?;
-        total.merge(theirs);
+        match rest.finish(rt, book, gate) {
+            Ok(theirs) => total.merge(theirs),
+            Err(piece) => {
+                drop((left, total));
+                return Err(piece);
+            }
+        }
     }
     Ok(total)
 }

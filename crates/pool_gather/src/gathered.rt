@@ -70,8 +70,18 @@ pub fn gather<D: Deal, U: Ledger, E: Ledger, O: Ledger, R: Wait, G: Gate>(
     let Room { rests, rows } = room;
     let mut rests = rests;
     let mut rows = rows;
-    part_all(bundles, &mut rests, &mut rows)?;
-    absorb_all(&mut rests, rows);
-    let total = collect(rt, book, gate, rests)?;
-    Ok(settle(rt, book, total, share))
+    match part_all(bundles, &mut rests, &mut rows) {
+        Ok(()) => absorb_all(&mut rests, rows),
+        Err(piece) => {
+            drop((rests, rows, share));
+            return Err(piece);
+        }
+    }
+    match collect(rt, book, gate, rests) {
+        Ok(total) => Ok(settle(rt, book, total, share)),
+        Err(piece) => {
+            drop(share);
+            Err(piece)
+        }
+    }
 }

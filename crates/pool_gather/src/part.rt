@@ -31,8 +31,13 @@ fn part<D: Deal, U: Ledger, E: Ledger, O: Ledger>(
         reaches,
         harvest,
     } = bundle;
-    let harvest = harvest.complete()?;
-    Ok((Rest { owner, harvest }, reaches))
+    match harvest.complete() {
+        Ok(harvest) => Ok((Rest { owner, harvest }, reaches)),
+        Err(piece) => {
+            drop((owner, reaches));
+            Err(piece)
+        }
+    }
 }
 
 /// Parts the seats from each bundle, in their order. An `Err` is a piece whose update was refused.

@@ -1,6 +1,7 @@
 -- A tick line, as it is written, but for its moment.
 use Rattle.std.specs.Prelude.{Result, Ok, codes}
 use Rattle.serde_json.specs.Data.{Data}
+use Rattle.json_fields.specs.Reading.{◌>>=◌}
 use Rattle.json_fields.specs.Fields.{field_at}
 use Rattle.tick_lines.specs.declared.fault.TickLineFault.{TickLineFault}
 use Rattle.tick_lines.specs.declared.line.TickLine.{TickLine}

@@ -11,7 +11,7 @@ joined-init g c =
     let left = c.pop.new.self in
     let rest = c.in-Some.rest in
     let pop = c.in-Some.ensures.items in
-    let e = c.in_ok-total.ensures in
+    let e = c.in-Ok.ensures in
     let mine = last away rests.items left.items rest pop c.requires.whole in
     record {
       whole = front away rests.items left.items rest pop c.requires.whole;
@@ -45,7 +45,7 @@ merge-requires-clause-room g c =
     let left = c.pop-in-joined.new.self in
     let rest = c.in-Some-pop.rest in
     let pop = c.in-Some-pop.ensures.items in
-    let t = c.in_ok-theirs.theirs in
+    let t = c.in-Ok-finish.theirs in
     let a = sum_grown (rest_kept (λ _. 1)) left.items l.left.items rest pop in
     let b = sum_grown (rest_pushed (λ _. 1)) left.items l.left.items rest pop in
     let d = sum_grown (rest_taken (λ _. 1)) left.items l.left.items rest pop in
@@ -54,7 +54,7 @@ merge-requires-clause-room g c =
     let k = ones l.total.done.items in
     let p = ones t.done.items in
     let each = l.invariant.each (λ _. 1) in
-    let theirs = c.in_ok-theirs.ensures.each (λ _. 1) in
+    let theirs = c.in-Ok-finish.ensures.each (λ _. 1) in
     omega (arith, l.invariant.room, l.total.done.ok.0, t.done.ok.0)
 
 pub merge-requires-clause-room_late : goal.merge-requires-clause-room_late
@@ -63,7 +63,7 @@ merge-requires-clause-room_late g c =
     let left = c.pop-in-joined.new.self in
     let rest = c.in-Some-pop.rest in
     let pop = c.in-Some-pop.ensures.items in
-    let t = c.in_ok-theirs.theirs in
+    let t = c.in-Ok-finish.theirs in
     let a = sum_grown (rest_kept (λ _. 1)) left.items l.left.items rest pop in
     let b = sum_grown (rest_pushed (λ _. 1)) left.items l.left.items rest pop in
     let d = sum_grown (rest_taken (λ _. 1)) left.items l.left.items rest pop in
@@ -72,7 +72,7 @@ merge-requires-clause-room_late g c =
     let m = ones l.total.late.items in
     let q = ones t.late.items in
     let each = l.invariant.each (λ _. 1) in
-    let theirs = c.in_ok-theirs.ensures.each (λ _. 1) in
+    let theirs = c.in-Ok-finish.ensures.each (λ _. 1) in
     omega (arith, l.invariant.room_late, l.total.late.ok.0, t.late.ok.0)
 
 pub joined-preserved : goal.joined-preserved
@@ -83,7 +83,7 @@ joined-preserved g c =
     let left = c.pop-in-joined.new.self in
     let rest = c.in-Some-pop.rest in
     let pop = c.in-Some-pop.ensures.items in
-    let e = c.in_ok-theirs.ensures in
+    let e = c.in-Ok-finish.ensures in
     let m = c.merge.ensures in
     let mine = last away l.left.items left.items rest pop i.whole in
     record {

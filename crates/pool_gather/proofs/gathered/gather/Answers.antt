@@ -24,7 +24,7 @@ collect-requires-clause-whole g c κs within =
     let pushed = laid_pushed g.D.Deal.all bundles.items c.requires.laid in
     let first = c.part_all.new.rests in
     let rests = c.absorb_all.new.rests in
-    let p = c.in_ok-part_all.ensures in
+    let p = c.in-Ok.ensures in
     let a = c.absorb_all.ensures in
     let away = IsAway n (places_len places) in
     let many : places_len places ≡ length g.D.Deal.all = places_ones places ∙ (pushed (λ _. 1) ∙ ones g.D.Deal.all) in
@@ -52,7 +52,7 @@ collect-requires-clause-each g c κs within = λ weight. (
     let pushed = laid_pushed g.D.Deal.all c.args.bundles.items c.requires.laid weight in
     let first = c.part_all.new.rests.items in
     let rests = c.absorb_all.new.rests.items in
-    let p = c.in_ok-part_all.ensures in
+    let p = c.in-Ok.ensures in
     let a = c.absorb_all.ensures in
     let k : sum_by (rest_kept weight) rests ≡ sum_by (rest_kept weight) first =
     sum_same (λ r. r.harvest) (λ t. kept weight t) rests first a.harvests in

@@ -12,6 +12,6 @@ invariant_of-result-clause-room g c =
     let o = ones (worker_view b.owner).taken in
     let n = no_more b.reaches.items in
     let r = b.room in
-    let k = ap (kept (λ _. 1)) c.in_ok-harvest.ensures.ok in
-    let v = ap (λ t. vec_capacity t.done) c.in_ok-harvest.ensures.ok in
+    let k = ap (kept (λ _. 1)) c.in-Ok.ensures.ok in
+    let v = ap (λ t. vec_capacity t.done) c.in-Ok.ensures.ok in
     omega arith
