@@ -81,7 +81,7 @@ fn answer_to_first(bytes: usize) -> (Result<(), RunFault>, Written) {
         27 | 28 => (Ok(()), NODE_ALONE),
         29..=110 => (refused(2, FaultKind::NotJson), NOTHING),
         111 | 112 => (Ok(()), PENDING),
-        113..=232 => (refused(3, FaultKind::NotJson), NOTHING),
+        113..=214 => (refused(3, FaultKind::NotJson), NOTHING),
         _ => (Ok(()), FIRST),
     }
 }
@@ -89,7 +89,7 @@ fn answer_to_first(bytes: usize) -> (Result<(), RunFault>, Written) {
 #[test]
 fn each_beginning_of_a_text_is_answered(rt: HostRuntime) {
     let bytes = FIRST_TICK.as_bytes();
-    assert_eq!(rt; bytes.len(), 234);
+    assert_eq!(rt; bytes.len(), 216);
     for end in 0..bytes.len() {
         let (wanted, written) = answer_to_first(end);
         expect(&rt, &bytes[..end], wanted, written);
@@ -150,8 +150,8 @@ fn expect_halted_reader<H: Abort + AllocGlobal + Threads + Wait + Sync>(
 
 #[test]
 fn readers_of_std_may_halt_once(rt: HostRuntime) {
-    // 24 calls give the text, and one more finds its end
-    for calls in 0..25usize {
+    // 22 calls give the text, and one more finds its end
+    for calls in 0..23usize {
         for call in CALLS {
             expect_halted_reader(&rt, call, calls, Some(ErrorKind::Interrupted));
             expect_halted_reader(&rt, call, calls, Some(ErrorKind::BrokenPipe));
