@@ -4,6 +4,7 @@ use crate::manifest_text::{Telling, told};
 use crate::replays::{Answer, played_answer_of};
 use crate::texts;
 use anyhow::Result;
+use kubelet_replay::Format;
 use std::alloc::Global;
 
 /// What the texts of a table are.
@@ -63,7 +64,7 @@ impl Kind {
 /// How a trace is answered that ends in this line.
 fn after(alloc: Global, before: &str, line: &str) -> Result<String> {
     let trace = format!(in alloc; "{before}{line}\n")?;
-    match played_answer_of(alloc, trace.as_bytes())? {
+    match played_answer_of(alloc, Format::Standard, trace.as_bytes())? {
         Answer::Report(_) => Ok(String::from_str(alloc, "accepted")?),
         Answer::Refusal(refusal) => Ok(refusal),
     }

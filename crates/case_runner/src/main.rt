@@ -3,7 +3,7 @@
 //!
 //! - `traces/FAMILY/NAME.trace` beside `NAME.report`, the bytes of the report, or `NAME.refusal`, the status and the
 //!   line. Each is replayed on one thread, again by each of a few plays, and with 1, 2, 3 and 64 workers in threads,
-//!   which all leave the answer as it is.
+//!   which all leave the answer as it is. Those of the family `extended` are read in the extended format.
 //! - `lines/NAME.table`: a row's text is the last line of a trace, after the lines of `NAME.before`.
 //! - `manifests/NAME.json` beside `NAME.read`, what is read of it.
 //! - `texts/KIND.table`: a row's text is of that kind.
@@ -22,15 +22,24 @@ mod traces;
 
 use anyhow::{Context, Result};
 use kind::Kind;
+use kubelet_replay::Format;
 use std::rt::Runtime;
 use std::sync::Wait;
 use std::thread::Threads;
+
+/// The format in which the traces of a family are read.
+fn format_of(family: &str) -> Format {
+    match family {
+        "extended" => Format::Extended,
+        _ => Format::Standard,
+    }
+}
 
 /// Replays the traces of each folder of `traces/`.
 fn run_traces(rt: &(impl Runtime + AllocGlobal + Threads + Wait + Sync)) -> Result<()> {
     for family in files::names_in(rt, "traces", "")? {
         let folder = format!(in rt.alloc(); "traces/{family}")?;
-        let count = traces::run_all(rt, folder.as_str())?;
+        let count = traces::run_all(rt, format_of(family.as_str()), folder.as_str())?;
         println!(rt; "{folder}: {count} traces")?;
     }
     Ok(())

@@ -5,7 +5,8 @@ ghost use Rattle.std.specs.Prelude.{◌<◌, ◌≤◌};
 use crate::plays::{LAST_FIRST, MISTAKEN, STOLEN};
 use anyhow::{Context, Result, bail};
 use kubelet_replay::{
-    MemSink, MemSource, NoGate, RunFault, Step, check, fault_line, replay, replay_play, status_of,
+    Format, MemSink, MemSource, NoGate, RunFault, Step, check_in, fault_line, replay_in,
+    replay_play_in, status_of,
 };
 use std::alloc::Global;
 use std::sync::Wait;
@@ -40,6 +41,7 @@ fn answered(alloc: Global, output: &MemSink<'_>, outcome: Result<(), RunFault>) 
 /// Replays the bytes of a trace with so many workers, 1 to 64, in threads of their own.
 fn replayed(
     rt: &(impl AllocGlobal + Threads + Wait + Sync),
+    format: Format,
     trace: &[u8],
     workers: usize,
 ) -> Result<Answer>
@@ -49,28 +51,34 @@ fn replayed(
     let mut room = vec![in rt.alloc(); 0u8; ROOM]?;
     let mut input = MemSource::new(trace, STEP);
     let mut output = MemSink::new(&mut room, STEP);
-    let outcome = replay(rt, &mut input, &mut output, workers, &NoGate);
+    let outcome = replay_in(rt, format, &mut input, &mut output, workers, &NoGate);
     answered(rt.alloc(), &output, outcome)
 }
 
 /// Replays the bytes of a trace on one thread with so many workers, 1 to 64, by these steps.
-fn played(alloc: Global, trace: &[u8], workers: usize, steps: &[Step]) -> Result<Answer>
+fn played(
+    alloc: Global,
+    format: Format,
+    trace: &[u8],
+    workers: usize,
+    steps: &[Step],
+) -> Result<Answer>
     requires some { 0 < workers }
     requires most { workers ≤ 64 }
 {
     let mut room = vec![in alloc; 0u8; ROOM]?;
     let mut input = MemSource::new(trace, STEP);
     let mut output = MemSink::new(&mut room, STEP);
-    let outcome = replay_play(alloc, &mut input, &mut output, workers, steps);
+    let outcome = replay_play_in(alloc, format, &mut input, &mut output, workers, steps);
     answered(alloc, &output, outcome)
 }
 
 /// Reads the bytes of a trace without a replay.
-fn checked(alloc: Global, trace: &[u8]) -> Result<Answer> {
+fn checked(alloc: Global, format: Format, trace: &[u8]) -> Result<Answer> {
     let mut room = vec![in alloc; 0u8; STEP]?;
     let mut input = MemSource::new(trace, STEP);
     let mut output = MemSink::new(&mut room, STEP);
-    let outcome = check(alloc, &mut input, &mut output);
+    let outcome = check_in(alloc, format, &mut input, &mut output);
     answered(alloc, &output, outcome)
 }
 
@@ -104,12 +112,12 @@ fn expect_alike(other: Result<Answer>, answer: &Answer) -> Result<()> {
 
 /// With the workers and steps of each play the answer is to be the same, and to read the trace without a
 /// replay is to fit it.
-fn expect_plays(alloc: Global, trace: &[u8], answer: &Answer) -> Result<()> {
-    expect_alike(played(alloc, trace, 2, STOLEN), answer)?;
-    expect_alike(played(alloc, trace, 3, MISTAKEN), answer)?;
-    expect_alike(played(alloc, trace, 64, LAST_FIRST), answer)?;
+fn expect_plays(alloc: Global, format: Format, trace: &[u8], answer: &Answer) -> Result<()> {
+    expect_alike(played(alloc, format, trace, 2, STOLEN), answer)?;
+    expect_alike(played(alloc, format, trace, 3, MISTAKEN), answer)?;
+    expect_alike(played(alloc, format, trace, 64, LAST_FIRST), answer)?;
     let wanted = answer_of_check(alloc, answer)?;
-    let done = expect_alike(checked(alloc, trace), &wanted);
+    let done = expect_alike(checked(alloc, format, trace), &wanted);
     drop(wanted);
     done
 }
@@ -117,19 +125,20 @@ fn expect_plays(alloc: Global, trace: &[u8], answer: &Answer) -> Result<()> {
 /// With 1, 2, 3 and 64 workers in threads the answer is to be the same.
 fn expect_workers(
     rt: &(impl AllocGlobal + Threads + Wait + Sync),
+    format: Format,
     trace: &[u8],
     answer: &Answer,
 ) -> Result<()> {
-    expect_alike(replayed(rt, trace, 1), answer)?;
-    expect_alike(replayed(rt, trace, 2), answer)?;
-    expect_alike(replayed(rt, trace, 3), answer)?;
-    expect_alike(replayed(rt, trace, 64), answer)
+    expect_alike(replayed(rt, format, trace, 1), answer)?;
+    expect_alike(replayed(rt, format, trace, 2), answer)?;
+    expect_alike(replayed(rt, format, trace, 3), answer)?;
+    expect_alike(replayed(rt, format, trace, 64), answer)
 }
 
 /// Replays the bytes of a trace on one thread, in each way that does without other threads.
-pub(crate) fn played_answer_of(alloc: Global, trace: &[u8]) -> Result<Answer> {
-    let answer = played(alloc, trace, 1, &[])?;
-    match expect_plays(alloc, trace, &answer) {
+pub(crate) fn played_answer_of(alloc: Global, format: Format, trace: &[u8]) -> Result<Answer> {
+    let answer = played(alloc, format, trace, 1, &[])?;
+    match expect_plays(alloc, format, trace, &answer) {
         Ok(()) => Ok(answer),
         Err(error) => {
             drop(answer);
@@ -141,10 +150,11 @@ pub(crate) fn played_answer_of(alloc: Global, trace: &[u8]) -> Result<Answer> {
 /// Replays the bytes of a trace in each way, on one thread and by workers in threads.
 pub(crate) fn answer_of(
     rt: &(impl AllocGlobal + Threads + Wait + Sync),
+    format: Format,
     trace: &[u8],
 ) -> Result<Answer> {
-    let answer = played_answer_of(rt.alloc(), trace)?;
-    match expect_workers(rt, trace, &answer) {
+    let answer = played_answer_of(rt.alloc(), format, trace)?;
+    match expect_workers(rt, format, trace, &answer) {
         Ok(()) => Ok(answer),
         Err(error) => {
             drop(answer);

@@ -1,12 +1,12 @@
 -- Commands that grow by an argument or a subcommand.
-use Rattle.std.proofs.Common.{◌≡◌, ◌∙◌, ap, ap₂, sym, Bool, true, false, Option, Some, List, ℕ, ◌||◌}
+use Rattle.std.proofs.Common.{◌≡◌, ◌∙◌, ap, ap₂, sym, Bool, true, false, Option, Some, is_some, List, ℕ, ◌||◌}
 use Rattle.std.specs.Borrow.{Bor}
 use Rattle.clap.specs.Words.{App, Rule, AddsArg, AddsSubcommand, app_of, rule_of, with_rule, with_subcommand}
 use Rattle.clap.specs.declared.builder.arg.Arg.{Arg}
 use Rattle.clap.specs.declared.builder.command.Command.{Command}
 use Rattle.clap.specs.declared.builder.command.Command.TheViews.{out-Command}
 use Rattle.clap.specs.Simple.{app_of_fields}
-use Rattle.commands.specs.Program.{IsCommand, needing_one}
+use Rattle.commands.specs.Program.{IsCommand, needing_one, with_version}
 
 pub with_arg : (old new : Command) (a : Arg) (app : App) (rule : Rule) → IsCommand app old → rule_of a ≡ rule
     → a.global ≡ false
@@ -33,6 +33,18 @@ about_told old new app is local same =
     record {
       described = ap app_of_fields same ∙ is;
       local = ap (λ f. f.has_globals) same ∙ local;
+    }
+
+pub answers_version : (old new : Command) (app : App) {version : Option (Bor (List ℕ))} → IsCommand app old
+    → out-Command new ≡ record (out-Command old) { version = version } → is_some version ≡ true
+    → IsCommand (with_version app) new
+answers_version old new app {version} is same some =
+    let given : record (app_of old) { top = record (app_of old).top { has_version = is_some version } }
+    ≡ with_version (app_of old) =
+    ap (λ (b : Bool). record (app_of old) { top = record (app_of old).top { has_version = b } }) some in
+    record {
+      described = ap app_of_fields same ∙ given ∙ ap with_version is.described;
+      local = ap (λ f. f.has_globals) same ∙ is.local;
     }
 
 pub needs_one_below : (old new : Command) (app : App) → IsCommand app old

@@ -19,9 +19,9 @@ has_no_text f id is text has = let same : None ≡ Some text = is ∙ first_valu
 -- every job has a trace
 pub job_trace : (name : List ℕ) (rows : List Row) (job : Job) → IsJobFor name rows job
     → (text : List ℕ) × Has rows (codes "TRACE") text
-job_trace name rows (Run trace workers) is = (trace.now, is.1)
-job_trace name rows (Check trace) is = (trace.now, is.1)
-job_trace name rows (Play trace steps workers) is = (trace.now, is.1)
+job_trace name rows (Run trace workers format) is = (trace.now, is.1)
+job_trace name rows (Check trace format) is = (trace.now, is.1)
+job_trace name rows (Play trace steps workers format) is = (trace.now, is.1)
 
 -- the first bytes of the names tell the subcommands apart
 apart : (name : List ℕ) (v w : ℕ) (vs ws : List ℕ) → (v ≡ w → ⊥) → name ≡ v ∷ vs → name ≡ w ∷ ws → ⊥
@@ -30,27 +30,27 @@ apart name v w vs ws other is so = other (ap (λ (l : List ℕ). get_or l 0 0) (
 -- a run has a number of workers
 pub run_workers : (name : List ℕ) (rows : List Row) (job : Job) → name ≡ codes "run" → IsJobFor name rows job
     → (workers : ℕ) × HasWorkers rows workers
-run_workers name rows (Run trace workers) named is = (workers, is.2)
-run_workers name rows (Check trace) named is =
+run_workers name rows (Run trace workers format) named is = (workers, is.2)
+run_workers name rows (Check trace format) named is =
     absurd (apart name 114 99 _ _ (λ e. absurd (omega (arith, e))) named is.0)
-run_workers name rows (Play trace steps workers) named is =
+run_workers name rows (Play trace steps workers format) named is =
     absurd (apart name 114 112 _ _ (λ e. absurd (omega (arith, e))) named is.0)
 
 -- and so has a play, with its steps
 pub play_workers : (name : List ℕ) (rows : List Row) (job : Job) → name ≡ codes "play" → IsJobFor name rows job
     → (workers : ℕ) × HasWorkers rows workers
-play_workers name rows (Run trace workers) named is = (workers, is.2)
-play_workers name rows (Check trace) named is =
+play_workers name rows (Run trace workers format) named is = (workers, is.2)
+play_workers name rows (Check trace format) named is =
     absurd (apart name 112 99 _ _ (λ e. absurd (omega (arith, e))) named is.0)
-play_workers name rows (Play trace steps workers) named is = (workers, is.3)
+play_workers name rows (Play trace steps workers format) named is = (workers, is.3)
 
 pub play_steps : (name : List ℕ) (rows : List Row) (job : Job) → name ≡ codes "play" → IsJobFor name rows job
     → (text : List ℕ) × Has rows (codes "STEPS") text
-play_steps name rows (Run trace workers) named is =
+play_steps name rows (Run trace workers format) named is =
     absurd (apart name 112 114 _ _ (λ e. absurd (omega (arith, e))) named is.0)
-play_steps name rows (Check trace) named is =
+play_steps name rows (Check trace format) named is =
     absurd (apart name 112 99 _ _ (λ e. absurd (omega (arith, e))) named is.0)
-play_steps name rows (Play trace steps workers) named is = (steps.now, is.2)
+play_steps name rows (Play trace steps workers format) named is = (steps.now, is.2)
 
 -- ---- the number of workers, as `get_one` reads it
 

@@ -1,9 +1,11 @@
 -- The job that words ask for, by what clap finds in them.
-use Rattle.std.specs.Prelude.{◌≡◌, ◌≢◌, ◌⊎◌, ◌≤◌, ℕ, List, [], Option, Some, None, codes}
+use Rattle.std.specs.Prelude.{◌≡◌, ◌≢◌, ◌⊎◌, ◌≤◌, ℕ, List, [], Option, Some, None, codes, bytes_eq, if◌then◌else◌}
 use Rattle.std.specs.Str.Parse.{IsNumeral, digits_value, without_leading_plus}
 use Rattle.clap.specs.Words.{Row, Text, fault_of, first_of, one_of, subcommand_of, IsAmong, kind_of}
 use Rattle.clap.specs.declared.error.Error.{Error}
 use Rattle.clap.specs.declared.error.kind.ErrorKind.TheVariants as kinds
+use Rattle.node_config.specs.declared.node.Format.{Format}
+use Rattle.node_config.specs.declared.node.Format.TheVariants.{Standard, Extended}
 use Rattle.commands.specs.declared.job.Job.{Job}
 use Rattle.commands.specs.declared.job.Job.TheVariants.{Run, Check, Play}
 use Rattle.commands.specs.declared.fault.UsageFault.{UsageFault}
@@ -27,14 +29,24 @@ pub record HasWorkers (rows : List Row) (workers : ℕ) : Type 0 where
 abbrev pub Has : List Row → List ℕ → List ℕ → Type 0
 Has rows id value = first_of id rows ≡ Some value
 
+-- the format that a flag asks for by its value, if it has one
+abbrev pub format_asked : Option (List ℕ) → Format
+format_asked None = Standard
+format_asked (Some value) = if bytes_eq value (codes "true") then Extended else Standard
+
+-- the extended format where `--extended` is written, which gives the flag its value
+abbrev pub format_of : List Row → Format
+format_of rows = format_asked (first_of (codes "extended") rows)
+
 -- the subcommand of this name asks for the job, by what was found for its arguments
 abbrev pub IsJobFor : Text → List Row → Job → Type 0
-IsJobFor name rows (Run trace workers) =
-    (name ≡ codes "run") × Has rows (codes "TRACE") trace.now × HasWorkers rows workers
-IsJobFor name rows (Check trace) = (name ≡ codes "check") × Has rows (codes "TRACE") trace.now
-IsJobFor name rows (Play trace steps workers) =
+IsJobFor name rows (Run trace workers format) =
+    (name ≡ codes "run") × Has rows (codes "TRACE") trace.now × HasWorkers rows workers × (format ≡ format_of rows)
+IsJobFor name rows (Check trace format) =
+    (name ≡ codes "check") × Has rows (codes "TRACE") trace.now × (format ≡ format_of rows)
+IsJobFor name rows (Play trace steps workers format) =
     (name ≡ codes "play") × Has rows (codes "TRACE") trace.now × Has rows (codes "STEPS") steps.now
-    × HasWorkers rows workers
+    × HasWorkers rows workers × (format ≡ format_of rows)
 
 -- the subcommand that was found, if any, asks for the job
 abbrev pub IsJobOf : Option (Text × List Row) → Job → Type 0

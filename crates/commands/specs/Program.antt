@@ -1,5 +1,6 @@
 -- The program's command line, as clap's contracts see it.
 use Rattle.std.specs.Prelude.{◌≡◌, Some, [], ◌∷◌, codes, true, false}
+use Rattle.clap.specs.declared.builder.action.ArgAction.TheVariants.{SetTrue}
 use Rattle.clap.specs.Words.{App, Rule, app_of, new_app, new_rule, with_rule, with_subcommand}
 use Rattle.clap.specs.declared.builder.command.Command.{Command}
 use Rattle.clap.specs.declared.builder.command.Command.TheViews.{out-Command}
@@ -20,26 +21,39 @@ workers_rule = record (new_rule (codes "workers")) {
   defaults = codes "4" ∷ [];
 }
 
--- `run TRACE --workers N`
+-- a flag
+abbrev pub extended_rule : Rule
+extended_rule = record (new_rule (codes "extended")) {
+  long = Some (codes "extended");
+  action = Some SetTrue;
+}
+
+-- `run TRACE --workers N --extended`
 abbrev pub run : App
-run = with_rule (with_rule (new_app (codes "run")) trace_rule) workers_rule
+run = with_rule (with_rule (with_rule (new_app (codes "run")) trace_rule) workers_rule) extended_rule
 
--- `check TRACE`
+-- `check TRACE --extended`
 abbrev pub check : App
-check = with_rule (new_app (codes "check")) trace_rule
+check = with_rule (with_rule (new_app (codes "check")) trace_rule) extended_rule
 
--- `play TRACE STEPS --workers N`
+-- `play TRACE STEPS --workers N --extended`
 abbrev pub play : App
-play = with_rule (with_rule (with_rule (new_app (codes "play")) trace_rule) steps_rule) workers_rule
+play =
+    with_rule (with_rule (with_rule (with_rule (new_app (codes "play")) trace_rule) steps_rule) workers_rule)
+    extended_rule
 
 -- the command wants one of its subcommands
 abbrev pub needing_one : App → App
 needing_one app = record app { top = record app.top { subcommand_required = true } }
 
+-- `--version` is answered
+abbrev pub with_version : App → App
+with_version app = record app { top = record app.top { has_version = true } }
+
 -- the program, of which one of the three is asked
 abbrev pub program : App
 program =
-    let named = needing_one (new_app (codes "kubelet_replay")) in
+    let named = needing_one (with_version (new_app (codes "kubelet_replay"))) in
     with_subcommand (with_subcommand (with_subcommand named run.top) check.top) play.top
 
 -- clap's command is the one that is described, with no argument for the levels below it

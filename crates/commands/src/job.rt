@@ -1,14 +1,16 @@
 //! A job, from the program's words.
 
-ghost use Rattle.std.specs.Prelude.{◌≤◌, ◌↔◌, ℕ, IsTrue, IfOk, IfErr, MatchOption, map};
+ghost use Rattle.std.specs.Prelude.{◌≡◌, ◌≤◌, ◌↔◌, ℕ, IsTrue, IfOk, IfErr, MatchOption, map, option_map};
 ghost use Rattle.clap.specs.Words.{found_of, rows_of, subcommand_rows_of};
 ghost use Rattle.commands.specs.declared.job.Job.{Job};
-ghost use Rattle.commands.specs.Jobs.{HasWorkers, IsJobFor, IsJobOf, IsAskedBy, IsRefusal, Refuses};
+ghost use Rattle.commands.specs.Jobs.{HasWorkers, format_asked, format_of, IsJobFor, IsJobOf, IsAskedBy};
+ghost use Rattle.commands.specs.Jobs.{IsRefusal, Refuses};
 
 use crate::fault::UsageFault;
 use crate::program::program;
 use clap::error::ErrorKind;
 use clap::{ArgMatches, Error};
+use node_config::Format;
 use std::alloc::Global;
 use std::convert::AsStr;
 
@@ -22,16 +24,19 @@ pub enum Job<'a> {
     Run {
         trace: &'a str,
         workers: usize,
+        format: Format,
     },
     /// Say whether a file is a trace.
     Check {
         trace: &'a str,
+        format: Format,
     },
     /// Write the report of a trace, with so many workers that take the steps of a steps file.
     Play {
         trace: &'a str,
         steps: &'a str,
         workers: usize,
+        format: Format,
     },
 }
 
@@ -56,18 +61,40 @@ fn workers_in(given: &ArgMatches<'_>) -> Option<usize>
     }
 }
 
+/// The format that a flag asks for by its value.
+fn format_asked(value: Option<&str>) -> Format
+    ensures { result ≡ format_asked (option_map (λ s. s.now) value.entry) }
+{
+    match value {
+        Some("true") => Format::Extended,
+        _ => Format::Standard,
+    }
+}
+
+/// The format that a subcommand's matches ask for.
+fn format_in(given: &ArgMatches<'_>) -> Format
+    ensures { result ≡ format_of (rows_of (found_of given.now)) }
+{
+    format_asked(given.get_str("extended"))
+}
+
 /// The job that the matches of the subcommand of this name say.
 fn job_for<'a>(name: &str, given: &ArgMatches<'a>) -> Option<Job<'a>>
     ensures { MatchOption result ((job : Job) → IsJobFor name.now (rows_of (found_of given.now)) job → ⊥)
         (IsJobFor name.now (rows_of (found_of given.now))) }
 {
     let trace = given.get_str("TRACE")?;
+    let format = format_in(given);
     match name {
         "run" => {
             let workers = workers_in(given)?;
-            Some(Job::Run { trace, workers })
+            Some(Job::Run {
+                trace,
+                workers,
+                format,
+            })
         }
-        "check" => Some(Job::Check { trace }),
+        "check" => Some(Job::Check { trace, format }),
         "play" => {
             let steps = given.get_str("STEPS")?;
             let workers = workers_in(given)?;
@@ -75,6 +102,7 @@ fn job_for<'a>(name: &str, given: &ArgMatches<'a>) -> Option<Job<'a>>
                 trace,
                 steps,
                 workers,
+                format,
             })
         }
         _ => None,

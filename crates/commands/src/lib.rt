@@ -7,3 +7,4 @@ mod program;
 
 pub use fault::UsageFault;
 pub use job::{Job, job_of};
+pub use node_config::Format;

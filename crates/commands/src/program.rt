@@ -2,10 +2,14 @@
 
 ghost use Rattle.std.specs.Prelude.{◌≡◌, IfOk, false};
 ghost use Rattle.clap.specs.Words.{rule_of};
-ghost use Rattle.commands.specs.Program.{trace_rule, steps_rule, workers_rule, run, check, play, program, IsCommand};
+ghost use Rattle.commands.specs.Program.{trace_rule, steps_rule, workers_rule, extended_rule, run, check, play};
+ghost use Rattle.commands.specs.Program.{program, IsCommand};
 
-use clap::{Arg, Command};
+use clap::{Arg, ArgAction, Command};
 use std::alloc::{AllocError, Global};
+
+/// The program's version: the file VERSION at the top of the repository has the same.
+const VERSION: &str = "0.9.0";
 
 const ABOUT: &str =
     "Replays what a kubelet would have decided on a node, from the node's recorded trace.";
@@ -19,7 +23,11 @@ const STEPS_HELP: &str =
     are numbers of workers, from 0 on";
 
 const WORKERS_HELP: &str =
-    "How many workers share the pods of a tick, from 1 to 64; their number never changes the report";
+    "How many workers share the lines of the trace and, where they are worth their start, the pods of a tick, from 1 \
+    to 64; their number never changes the report";
+
+const EXTENDED_HELP: &str =
+    "Takes version 3 of the trace's format as well, which has pauses between evictions";
 
 fn trace_arg<'a>(alloc: Global) -> Arg<'a>
     ensures rule { rule_of result ≡ trace_rule }
@@ -47,6 +55,16 @@ fn workers_arg<'a>(alloc: Global) -> Arg<'a>
         .help(WORKERS_HELP)
 }
 
+fn extended_arg<'a>(alloc: Global) -> Arg<'a>
+    ensures rule { rule_of result ≡ extended_rule }
+    ensures local { result.global ≡ false }
+{
+    Arg::new(alloc, "extended")
+        .long("extended")
+        .action(ArgAction::SetTrue)
+        .help(EXTENDED_HELP)
+}
+
 fn run_command<'a>(alloc: Global) -> Result<Command<'a>, AllocError>
     ensures { IfOk result (IsCommand run) }
 {
@@ -55,7 +73,8 @@ fn run_command<'a>(alloc: Global) -> Result<Command<'a>, AllocError>
             "Writes the report of a trace: why each pod was restarted, became unready or was evicted",
         )
         .arg(trace_arg(alloc))?
-        .arg(workers_arg(alloc))
+        .arg(workers_arg(alloc))?
+        .arg(extended_arg(alloc))
 }
 
 fn check_command<'a>(alloc: Global) -> Result<Command<'a>, AllocError>
@@ -63,7 +82,8 @@ fn check_command<'a>(alloc: Global) -> Result<Command<'a>, AllocError>
 {
     Command::new(alloc, "check")
         .about("Says whether a file is a trace, or names its first faulty line")
-        .arg(trace_arg(alloc))
+        .arg(trace_arg(alloc))?
+        .arg(extended_arg(alloc))
 }
 
 fn play_command<'a>(alloc: Global) -> Result<Command<'a>, AllocError>
@@ -75,7 +95,8 @@ fn play_command<'a>(alloc: Global) -> Result<Command<'a>, AllocError>
         )
         .arg(trace_arg(alloc))?
         .arg(steps_arg(alloc))?
-        .arg(workers_arg(alloc))
+        .arg(workers_arg(alloc))?
+        .arg(extended_arg(alloc))
 }
 
 /// The program, with what each of its words means.
@@ -84,6 +105,7 @@ pub(crate) fn program<'a>(alloc: Global) -> Result<Command<'a>, AllocError>
 {
     Command::new(alloc, "kubelet_replay")
         .about(ABOUT)
+        .version(VERSION)
         .subcommand_required(true)
         .subcommand(run_command(alloc)?)?
         .subcommand(check_command(alloc)?)?

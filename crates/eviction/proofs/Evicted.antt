@@ -1,6 +1,6 @@
 -- What is true of a tick that evicts a pod, and of that pod.
 use Rattle.std.proofs.Common.{◌≡◌, inl, inr, ℕ, zero, suc, ◌+◌, ◌<◌, ◌≤◌, List, [], ◌∷◌, ◌++◌, length, map, take}
-use Rattle.std.proofs.Common.{drop, Option, Some, None, refl, sym, ap, subst, ◌∙◌, arith}
+use Rattle.std.proofs.Common.{Bool, true, false, drop, Option, Some, None, refl, sym, ap, subst, ◌∙◌, arith}
 use Rattle.std.specs.Prelude.{slice_get, IsSomeAnd, option_map}
 use Rattle.std.proofs.lemmas.Bool.{cases_order}
 use Rattle.std.proofs.lemmas.List.{length-append, length-take-le, map-append, take-append-drop}
@@ -23,7 +23,7 @@ use Rattle.pod_piece.specs.Piece.{place_of}
 use Rattle.ranking.specs.Order.{IsVictim}
 use Rattle.eviction.specs.declared.eviction.Eviction.{Eviction}
 use Rattle.eviction.specs.Replay.{pod_ticks, EvictedAt, evicted_at, own_eviction, IsCandidate, order_of, IsOfVictim}
-use Rattle.eviction.specs.Replay.{IsEvictionFor, IsRound, IsReplay}
+use Rattle.eviction.specs.Replay.{IsEvictionFor, is_paused, unless_paused, IsRound, IsReplay}
 use Rattle.eviction.specs.Laws.{EvictedOnce, EvictedPodLived, ServedAlone}
 use Rattle.eviction.proofs.Own.{pod_ticks-more, of_pod, evicted_unless, own_eviction-longer}
 
@@ -40,7 +40,8 @@ record Reason (config : NodeConfig) (pods : List PodSpec) (before : List TickObs
 reason_of : (config : NodeConfig) (pods : List PodSpec) (before : List TickObs) (tick : TickObs)
     (evictions : List (Option Eviction)) (eviction : Eviction)
     → IsRound config pods before tick evictions (Some eviction) → Reason config pods before tick evictions eviction
-reason_of config pods before tick evictions eviction round = by round.served round.is_served round.is_for
+reason_of config pods before tick evictions eviction round =
+    unpaused (is_paused config tick.at evictions) round.served round.is_served round.is_for
   where
     of : (key : ThresholdKey) → IsServed config.eviction before tick (Some key) → (victim : Option ℕ)
         → IsVictim key.signal config.has_dedicated_imagefs (IsCandidate pods before tick evictions) victim
@@ -60,6 +61,19 @@ reason_of config pods before tick evictions eviction round = by round.served rou
         → Reason config pods before tick evictions eviction
     by None is e = absurd (let none : Some eviction ≡ None = e in cc)
     by (Some key) is (victim, is_victim, e) = of key is victim is_victim e
+
+    unpaused : (paused : Bool) (served : Option ThresholdKey) → IsServed config.eviction before tick served
+        → IsEvictionFor config pods before tick evictions (unless_paused paused served) (Some eviction)
+        → Reason config pods before tick evictions eviction
+    unpaused true served is e = absurd (let none : Some eviction ≡ None = e in cc)
+    unpaused false served is e = by served is e
+
+-- the moment of an eviction is that of its tick
+pub moment_of : (config : NodeConfig) (pods : List PodSpec) (before : List TickObs) (tick : TickObs)
+    (evictions : List (Option Eviction)) (eviction : Eviction)
+    → IsRound config pods before tick evictions (Some eviction) → eviction.order.at ≡ tick.at
+moment_of config pods before tick evictions eviction round =
+    ap (λ (o : EvictOrder). o.at) (reason_of config pods before tick evictions eviction round).order
 
 reason_at : (config : NodeConfig) (pods : List PodSpec) (ticks : List TickObs) (evictions : List (Option Eviction))
     (t : ℕ) (tick : TickObs) (eviction : Eviction)
@@ -156,7 +170,7 @@ never_before pods before tick evictions n status many c = by (evicted_at n evict
         absurd (candidate_lives pods before tick evictions n status c
         (subst Ended (sym (ap place_of is)) (has_ended c.pod place h (omega arith))))
 
-taken : {A : Type 0} (xs : List A) (t u : ℕ) (x : A) → t < u → slice_get xs t ≡ Some x
+pub taken : {A : Type 0} (xs : List A) (t u : ℕ) (x : A) → t < u → slice_get xs t ≡ Some x
     → slice_get (take u xs) t ≡ Some x
 taken xs t zero x lt e = absurd (omega arith)
 taken [] t (suc u) x lt e = e

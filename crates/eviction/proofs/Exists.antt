@@ -29,7 +29,8 @@ use Rattle.ranking.specs.Order.{IsVictim}
 use Rattle.ranking.proofs.LawLemmas.{RankAlike}
 use Rattle.ranking.proofs.Victims.{AreCandidates, victim_among}
 use Rattle.eviction.specs.declared.eviction.Eviction.{Eviction}
-use Rattle.eviction.specs.Replay.{pod_ticks, own_eviction, IsCandidate, order_of, IsRound, IsReplay}
+use Rattle.eviction.specs.Replay.{pod_ticks, own_eviction, IsCandidate, order_of, IsEvictionFor, is_paused}
+use Rattle.eviction.specs.Replay.{unless_paused, IsRound, IsReplay}
 use Rattle.eviction.specs.Laws.{SomeReplay}
 use Rattle.eviction.proofs.More.{no_replay, replay_more}
 use Rattle.eviction.proofs.Statuses.{some_status}
@@ -147,32 +148,31 @@ candidates pods before tick evictions = record {
 some_round : (config : NodeConfig) (pods : List PodSpec) (before : List TickObs) (tick : TickObs)
     (evictions : List (Option Eviction))
     → (e : Option Eviction) × IsRound config pods before tick evictions e
-some_round config pods before tick evictions = from (some_served config.eviction before tick)
+some_round config pods before tick evictions =
+    let served = some_served config.eviction before tick in
+    let found = some_eviction (unless_paused (is_paused config tick.at evictions) served.0) in
+    (found.0, record { served = served.0; is_served = served.1; is_for = found.1 })
   where
     Candidate : ℕ → PodStatus → Type 0
     Candidate = IsCandidate pods before tick evictions
 
-    for_key : (key : ThresholdKey) → IsServed config.eviction before tick (Some key)
+    for_key : (key : ThresholdKey)
         → (victim : Option ℕ) × IsVictim key.signal config.has_dedicated_imagefs Candidate victim
-        → (e : Option Eviction) × IsRound config pods before tick evictions e
-    for_key key is (None, none) = (None, record { served = Some key; is_served = is; is_for = (None, none, refl) })
-    for_key key is (Some n, victim) =
+        → (e : Option Eviction) × IsEvictionFor config pods before tick evictions (Some key) e
+    for_key key (None, none) = (None, (None, none, refl))
+    for_key key (Some n, victim) =
         let pod = victim.1.pod in
         let e : Eviction = record { pod = n; order = order_of config pod tick.at key } in (
           Some e,
-          record {
-            served = Some key;
-            is_served = is;
-            is_for = (Some n, victim, record { pod = pod; is_pod = victim.1.at; number = refl; order = refl });
-          },
+          (Some n, victim, record { pod = pod; is_pod = victim.1.at; number = refl; order = refl }),
         )
 
-    from : (served : Option ThresholdKey) × IsServed config.eviction before tick served
-        → (e : Option Eviction) × IsRound config pods before tick evictions e
-    from (None, is) = (None, record { served = None; is_served = is; is_for = refl })
-    from (Some key, is) =
+    some_eviction : (key : Option ThresholdKey)
+        → (e : Option Eviction) × IsEvictionFor config pods before tick evictions key e
+    some_eviction None = (None, refl)
+    some_eviction (Some key) =
         let all = candidates pods before tick evictions in
-        for_key key is (victim_among key.signal config.has_dedicated_imagefs Candidate (length pods) all)
+        for_key key (victim_among key.signal config.has_dedicated_imagefs Candidate (length pods) all)
 
 replay_from : (config : NodeConfig) (pods : List PodSpec) (later before : List TickObs)
     (evictions : List (Option Eviction))

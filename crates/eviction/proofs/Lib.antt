@@ -4,3 +4,4 @@ pub mod More
 pub mod Evicted
 pub mod Statuses
 pub mod Exists
+pub mod Paused

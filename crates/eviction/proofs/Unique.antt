@@ -15,7 +15,8 @@ use Rattle.pod_piece.specs.declared.order.EvictOrder.{EvictOrder}
 use Rattle.pod_piece.specs.declared.status.PodStatus.{PodStatus}
 use Rattle.ranking.proofs.LawLemmas.{victim_unique}
 use Rattle.eviction.specs.declared.eviction.Eviction.{Eviction}
-use Rattle.eviction.specs.Replay.{IsCandidate, order_of, Evicts, IsOfVictim, IsEvictionFor, IsRound}
+use Rattle.eviction.specs.Replay.{IsCandidate, order_of, Evicts, IsOfVictim, IsEvictionFor, is_paused, unless_paused}
+use Rattle.eviction.specs.Replay.{IsRound}
 use Rattle.eviction.specs.Laws.{OneReplay}
 
 -- two lists of which each place is determined by the places before it are one
@@ -76,9 +77,11 @@ pub round_unique : (config : NodeConfig) (pods : List PodSpec) (before : List Ti
     (evictions : List (Option Eviction)) (one other : Option Eviction)
     → IsRound config pods before tick evictions one → IsRound config pods before tick evictions other → one ≡ other
 round_unique config pods before tick evictions one other v w =
-    let P : Option ThresholdKey → Type 0 = λ served. IsEvictionFor config pods before tick evictions served other in
+    let P : Option ThresholdKey → Type 0 = λ served. IsEvictionFor config pods before tick evictions
+    (unless_paused (is_paused config tick.at evictions) served) other in
     let same : w.served ≡ v.served = served_unique config before tick w.served v.served w.is_served v.is_served in
-    eviction_unique config pods before tick evictions v.served one other v.is_for (subst P same w.is_for)
+    eviction_unique config pods before tick evictions (unless_paused (is_paused config tick.at evictions) v.served)
+    one other v.is_for (subst P same w.is_for)
 
 pub one_replay : OneReplay
 one_replay config pods ticks one other v w = same_lists one other (v.as_many ∙ sym w.as_many) (λ t before x y e f.

@@ -1,5 +1,6 @@
 -- The statements of the laws.
-use Rattle.std.specs.Prelude.{◌≡◌, ◌^◌, ◌<◌, ℕ, List, length, [], ◌∷◌, ◌++◌, take, slice_get, Option, Some, IsSome}
+use Rattle.std.specs.Prelude.{◌≡◌, ◌^◌, ◌<◌, ◌≤◌, ◌-◌, ℕ, List, length, [], ◌∷◌, ◌++◌, take, slice_get, Option, Some}
+use Rattle.std.specs.Prelude.{IsSome}
 use Rattle.manifest.specs.declared.pod.PodSpec.{PodSpec}
 use Rattle.observations.specs.declared.tick.TickObs.{TickObs}
 use Rattle.observations.specs.Observations.{shown_of}
@@ -82,3 +83,12 @@ ServedAlone =
     → IsReplay config pods ticks evictions
     → slice_get ticks t ≡ Some tick → slice_get evictions t ≡ Some (Some eviction)
     → ServesOne config (take t ticks) tick eviction
+
+-- between two evictions as many seconds pass as the node's pause has, at least
+abbrev pub PausedBetween : Type 0
+PausedBetween =
+    (config : NodeConfig) (pods : List PodSpec) (ticks : List TickObs) (evictions : List (Option Eviction))
+    (t u : ℕ) (one other : Eviction)
+    → IsReplay config pods ticks evictions → t < u
+    → slice_get evictions t ≡ Some (Some one) → slice_get evictions u ≡ Some (Some other)
+    → config.eviction_pause ≤ other.order.at - one.order.at

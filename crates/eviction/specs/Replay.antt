@@ -3,7 +3,8 @@
 -- its own and by the evictions before it; that one pod at most is evicted in a tick is this profile's
 -- rule. A tick is named by its place, a pod by its number.
 use Rattle.std.specs.Prelude.{◌≡◌, ◌==◌, ℕ, suc, List, [], ◌∷◌, ◌++◌, length, map, take, slice_get, Option, Some, None}
-use Rattle.std.specs.Prelude.{option_map, IsSome, if◌then◌else◌, min}
+use Rattle.std.specs.Prelude.{Bool, true, false, ◌-◌, nat_lt, option_map, IsSome, if◌then◌else◌, min}
+use Rattle.std.specs.List.{list_any}
 use Rattle.manifest.specs.declared.pod.PodSpec.{PodSpec}
 use Rattle.signals.specs.declared.threshold.ThresholdKind.{ThresholdKind}
 use Rattle.signals.specs.declared.threshold.ThresholdKind.TheVariants.{Hard, Soft}
@@ -96,12 +97,27 @@ IsEvictionFor config pods before tick evictions (Some key) eviction =
     × IsVictim key.signal config.has_dedicated_imagefs (IsCandidate pods before tick evictions) victim
     × IsOfVictim config pods tick.at key victim eviction
 
+-- the eviction of an earlier tick, if it had one, is less than the node's pause ago
+abbrev pub is_recent : NodeConfig → ℕ → Option Eviction → Bool
+is_recent config at None = false
+is_recent config at (Some earlier) = nat_lt (at - earlier.order.at) config.eviction_pause
+
+-- some earlier eviction is, so that no pod is evicted (this project's extended format)
+abbrev pub is_paused : NodeConfig → ℕ → List (Option Eviction) → Bool
+is_paused config at evictions = list_any (is_recent config at) evictions
+
+-- the threshold that is served, or none while evictions pause
+abbrev pub unless_paused : Bool → Option ThresholdKey → Option ThresholdKey
+unless_paused true served = None
+unless_paused false served = served
+
 -- the eviction of a tick that comes after these ticks with these evictions
 pub record IsRound (config : NodeConfig) (pods : List PodSpec) (before : List TickObs) (tick : TickObs)
     (evictions : List (Option Eviction)) (eviction : Option Eviction) : Type 0 where
   pub served : Option ThresholdKey
   pub is_served : IsServed config.eviction before tick served
-  pub is_for : IsEvictionFor config pods before tick evictions served eviction
+  pub is_for : IsEvictionFor config pods before tick evictions
+      (unless_paused (is_paused config tick.at evictions) served) eviction
 
 -- these are the evictions of these ticks
 pub record IsReplay (config : NodeConfig) (pods : List PodSpec) (ticks : List TickObs)

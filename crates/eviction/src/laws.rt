@@ -2,6 +2,7 @@
 //! laws.
 
 ghost use Rattle.eviction.specs.Laws.{SomeStatus, SomeReplay, OneReplay, EvictedOnce, EvictedPodLived, ServedAlone};
+ghost use Rattle.eviction.specs.Laws.{PausedBetween};
 
 /// A pod has a status, whenever it is evicted and whatever its ticks are. (A status shows the
 /// containers in a vector, so that there are fewer than 2^63 of them.)
@@ -33,4 +34,9 @@ pub fn evicted_pod_lived()
 /// of its signal and kind, at the tick's moment.
 pub fn served_alone()
     ensures { ServedAlone }
+{}
+
+/// Between two evictions the node's pause passes.
+pub fn paused_between()
+    ensures { PausedBetween }
 {}

@@ -6,4 +6,4 @@
 mod eviction;
 pub mod laws;
 
-pub use eviction::{Eviction, order_for};
+pub use eviction::{Eviction, order_for, unless_paused};

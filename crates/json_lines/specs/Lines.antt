@@ -1,10 +1,15 @@
 -- The lines of a text, and what each says by itself.
-use Rattle.std.specs.Prelude.{ℕ, ◌==◌, ◌||◌, Bool, List, [], ◌∷◌, length, nat_lt, Option, Some, None, if◌then◌else◌}
+use Rattle.std.specs.Prelude.{ℕ, ◌==◌, ◌||◌, Bool, List, [], ◌∷◌, length, nat_lt, Option, Some, None, Result}
+use Rattle.std.specs.Prelude.{if◌then◌else◌}
 use Rattle.std.specs.List.{list_all}
 use Rattle.std.specs.Str.{is_utf8}
 use Rattle.serde_json.specs.Data.{Data}
 use Rattle.serde_json.specs.Read.{read}
 use Rattle.serde_json.specs.View.{view}
+use Rattle.tick_lines.specs.declared.fault.TickLineFault.{TickLineFault}
+use Rattle.tick_lines.specs.declared.line.TickLine.{TickLine}
+use Rattle.tick_lines.specs.Line.{tick_line_of}
+use Rattle.json_lines.specs.Ticks.{is_tick, moment_at}
 use Rattle.json_lines.specs.declared.line.TextLine.{TextLine}
 use Rattle.json_lines.specs.declared.line.TextLine.TheVariants as text_lines
 
@@ -37,19 +42,26 @@ pub data LineData : Type 0 where
   Blank : LineData
   TooLong : LineData
   NotJson : LineData
+  -- a tick's moment, and what it says beside it
+  Tick : Option ℕ → Result TickLine TickLineFault → LineData
   Json : Data → LineData
 
-abbrev pub json_or_not : Option Data → LineData
-json_or_not None = NotJson
-json_or_not (Some d) = Json d
+-- what a JSON value says by itself
+unfoldable pub said_by : Data → LineData
+said_by d = if is_tick d then Tick (moment_at d) (tick_line_of d) else Json d
+
+abbrev pub said_or_not : Option Data → LineData
+said_or_not None = NotJson
+said_or_not (Some d) = said_by d
 
 abbrev pub line_data : List ℕ → LineData
 line_data line =
     if is_blank line then Blank
-    else (if nat_lt longest_line (length line) then TooLong else json_or_not (json_in line))
+    else (if nat_lt longest_line (length line) then TooLong else said_or_not (json_in line))
 
 abbrev pub data_of : TextLine → LineData
 data_of text_lines.Blank = Blank
 data_of text_lines.TooLong = TooLong
 data_of text_lines.NotJson = NotJson
+data_of (text_lines.Tick tick) = Tick tick.at tick.written
 data_of (text_lines.Json value) = Json (view value)

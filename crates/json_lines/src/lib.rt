@@ -1,10 +1,12 @@
-//! The lines of a text, each with its JSON value, read by one thread or shared among several.
+//! The lines of a text, each with what it says by itself, read by one thread or shared among several.
 #![tactic(auto)]
 
 mod line;
 mod lines;
 mod parts;
+mod tick;
 mod window;
 
 pub use line::TextLine;
+pub use tick::{TickRecord, tick_record};
 pub use window::{Window, window_alone, window_by_workers};

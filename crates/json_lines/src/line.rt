@@ -2,9 +2,10 @@
 
 ghost use Rattle.std.specs.Prelude.{◌≡◌, IfOk, map, option_map};
 ghost use Rattle.serde_json.specs.View.{view};
-ghost use Rattle.json_lines.specs.Lines.{json_in, line_data, data_of};
+ghost use Rattle.json_lines.specs.Lines.{json_in, said_by, line_data, data_of};
 
 use crate::lines::is_blank;
+use crate::tick::{TickRecord, is_tick, tick_record};
 use serde_json::Value;
 use std::alloc::{AllocError, Global};
 
@@ -20,7 +21,9 @@ pub enum TextLine {
     TooLong,
     /// No JSON value.
     NotJson,
-    /// A JSON value.
+    /// A tick line, read field by field.
+    Tick(TickRecord),
+    /// The JSON value of any other line.
     Json(Value),
 }
 
@@ -40,6 +43,19 @@ fn json(alloc: Global, line: &[u8]) -> Result<Option<Value>, AllocError>
     }
 }
 
+/// What a JSON value says. A tick's is given up here, by the thread that made it.
+#[tactic(auto, unfolding(crate::specs::Lines::said_by))]
+fn said_by(alloc: Global, value: Value) -> Result<TextLine, AllocError>
+    ensures { IfOk result (λ read. data_of read ≡ said_by (view value)) }
+{
+    if !is_tick(&value) {
+        return Ok(TextLine::Json(value));
+    }
+    let tick = tick_record(alloc, &value);
+    drop(value);
+    Ok(TextLine::Tick(tick?))
+}
+
 fn read_line(alloc: Global, line: &[u8]) -> Result<TextLine, AllocError>
     ensures { IfOk result (λ read. data_of read ≡ line_data line.now) }
 {
@@ -50,7 +66,7 @@ fn read_line(alloc: Global, line: &[u8]) -> Result<TextLine, AllocError>
         return Ok(TextLine::TooLong);
     }
     match json(alloc, line)? {
-        Some(value) => Ok(TextLine::Json(value)),
+        Some(value) => said_by(alloc, value),
         None => Ok(TextLine::NotJson),
     }
 }

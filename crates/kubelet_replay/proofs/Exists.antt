@@ -7,8 +7,8 @@ use Rattle.trace_replay.proofs.Reports.{some_report_of}
 use Rattle.kubelet_replay.specs.Laws.{SomeReportOfText}
 
 pub some_report_of_text : SomeReportOfText
-some_report_of_text text trace is =
+some_report_of_text format text trace is =
     let report =
-    some_report_of trace (given_acceptable text (Ok trace) is) (given_shape text (Ok trace) is)
-    (probes_in_range text trace is) in
+    some_report_of trace (given_acceptable format text (Ok trace) is) (given_shape format text (Ok trace) is)
+    (probes_in_range format text trace is) in
     (report.0, record { trace = trace; is_trace = is; report = report.1 })

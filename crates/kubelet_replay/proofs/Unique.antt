@@ -1,13 +1,14 @@
 -- There is one report.
 use Rattle.std.proofs.Common.{◌≡◌, ◌∙◌, ℕ, List, Ok, sym, subst}
+use Rattle.node_config.specs.declared.node.Format.{Format}
 use Rattle.trace.specs.declared.past.Trace.{Trace}
 use Rattle.trace_replay.specs.Report.{IsReportOf}
 use Rattle.trace_replay.proofs.Reports.{one_report_of}
-use Rattle.kubelet_replay.specs.Run.{IsReportOfText}
+use Rattle.kubelet_replay.specs.Run.{IsReportIn}
 use Rattle.kubelet_replay.specs.Laws.{OneReport}
 
-text_one : (text a b : List ℕ) → IsReportOfText text a → IsReportOfText text b → a ≡ b
-text_one text a b x y =
+text_one : (format : Format) (text a b : List ℕ) → IsReportIn format text a → IsReportIn format text b → a ≡ b
+text_one format text a b x y =
     let given : Ok x.trace ≡ Ok y.trace = sym x.is_trace ∙ y.is_trace in
     let traces : y.trace ≡ x.trace = cc in
     one_report_of x.trace a b x.report (subst (λ (t : Trace). IsReportOf t b) traces y.report)

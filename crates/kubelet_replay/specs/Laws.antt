@@ -1,14 +1,17 @@
 -- Laws of reports, over the definitions alone.
 use Rattle.std.specs.Prelude.{◌≡◌, ℕ, List, Ok}
+use Rattle.node_config.specs.declared.node.Format.{Format}
 use Rattle.trace.specs.declared.past.Trace.{Trace}
 use Rattle.trace.specs.Trace.{trace_of}
-use Rattle.kubelet_replay.specs.Run.{IsReportOfText}
+use Rattle.kubelet_replay.specs.Run.{IsReportIn}
 
 -- a text that is a trace has a report
 abbrev pub SomeReportOfText : Type 0
 SomeReportOfText =
-    (text : List ℕ) (trace : Trace) → trace_of text ≡ Ok trace → (bytes : List ℕ) × IsReportOfText text bytes
+    (format : Format) (text : List ℕ) (trace : Trace) → trace_of format text ≡ Ok trace
+    → (bytes : List ℕ) × IsReportIn format text bytes
 
 -- a text has at most one report
 abbrev pub OneReport : Type 0
-OneReport = (text one other : List ℕ) → IsReportOfText text one → IsReportOfText text other → one ≡ other
+OneReport = (format : Format) (text one other : List ℕ) → IsReportIn format text one → IsReportIn format text other
+    → one ≡ other

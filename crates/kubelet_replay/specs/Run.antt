@@ -2,6 +2,10 @@
 use Rattle.std.specs.Prelude.{◌≡◌, ℕ, ◌<◌, ◌≤◌, List, [], ◌∷◌, length, take, codes, Option, Some, None, Result, Ok, Err}
 use Rattle.std.specs.Fmt.{decimal}
 use Rattle.std.specs.Io.KnownBytes.{Appends}
+use Rattle.node_config.specs.declared.node.Format.{Format}
+use Rattle.node_config.specs.declared.node.Format.TheVariants.{Standard}
+use Rattle.replay_stream.specs.declared.fault.ReadAllFault.{ReadAllFault}
+use Rattle.replay_stream.specs.declared.fault.ReadAllFault.TheVariants as stream
 use Rattle.trace.specs.declared.past.Trace.{Trace}
 use Rattle.trace.specs.declared.fault.FaultKind.{FaultKind}
 use Rattle.trace.specs.declared.fault.FaultKind.TheVariants as kinds
@@ -54,17 +58,25 @@ abbrev pub check_line : ℕ → ℕ → List ℕ
 check_line pods ticks =
     joined (codes "ok pods=" ∷ decimal pods ∷ codes " ticks=" ∷ decimal ticks ∷ codes "\n" ∷ [])
 
--- these bytes are the line of the text's trace
-pub record IsCheckOfText (text bytes : List ℕ) : Type 0 where
+-- these bytes are the line of the text's trace in a format
+pub record IsCheckIn (format : Format) (text bytes : List ℕ) : Type 0 where
   pub trace : Trace
-  pub is_trace : trace_of text ≡ Ok trace
+  pub is_trace : trace_of format text ≡ Ok trace
   pub line : bytes ≡ check_line (length trace.pods) (length trace.ticks)
 
--- these bytes are the report of the text's trace
-pub record IsReportOfText (text bytes : List ℕ) : Type 0 where
+-- and in the standard one
+abbrev pub IsCheckOfText : List ℕ → List ℕ → Type 0
+IsCheckOfText = IsCheckIn Standard
+
+-- these bytes are the report of the text's trace in a format
+pub record IsReportIn (format : Format) (text bytes : List ℕ) : Type 0 where
   pub trace : Trace
-  pub is_trace : trace_of text ≡ Ok trace
+  pub is_trace : trace_of format text ≡ Ok trace
   pub report : IsReportOf trace bytes
+
+-- and in the standard one
+abbrev pub IsReportOfText : List ℕ → List ℕ → Type 0
+IsReportOfText = IsReportIn Standard
 
 abbrev pub run_fault : FaultKind → LineFault → RunFault
 run_fault kinds.OutOfMemory fault = OutOfMemory
@@ -73,6 +85,17 @@ run_fault kind fault = Line fault
 -- a faulty line is named, but for want of memory
 abbrev pub fault_of : LineFault → RunFault
 fault_of fault = run_fault fault.kind fault
+
+-- the trace that was read, or why there is none
+abbrev pub read_as : Result Trace LineFault → Result Trace RunFault
+read_as (Ok trace) = Ok trace
+read_as (Err fault) = Err (fault_of fault)
+
+-- why the input was not read
+abbrev pub read_fault_of : ReadAllFault → RunFault
+read_fault_of stream.Read = Read
+read_fault_of stream.TooLong = TooLong
+read_fault_of stream.OutOfMemory = OutOfMemory
 
 -- the input is refused as it is read
 abbrev pub Refuses : Option (List ℕ) → RunFault → Type 0
@@ -83,12 +106,12 @@ Refuses left OutOfMemory = Unit {0}
 Refuses left Write = ⊥
 
 -- the text is refused: at its first faulty line, or for want of memory
-abbrev pub RefusesText : List ℕ → RunFault → Type 0
-RefusesText text Read = ⊥
-RefusesText text TooLong = ⊥
-RefusesText text (Line fault) = trace_of text ≡ Err fault
-RefusesText text OutOfMemory = Unit {0}
-RefusesText text Write = ⊥
+abbrev pub RefusesText : Format → List ℕ → RunFault → Type 0
+RefusesText format text Read = ⊥
+RefusesText format text TooLong = ⊥
+RefusesText format text (Line fault) = trace_of format text ≡ Err fault
+RefusesText format text OutOfMemory = Unit {0}
+RefusesText format text Write = ⊥
 
 -- all of the text was written, or a part of it from its beginning
 abbrev pub IsWritten : Option (List ℕ) → Option (List ℕ) → List ℕ → {V : Type 0} → Result V RunFault → Type 0
@@ -108,10 +131,10 @@ pub record Writes (IsAnswer : List ℕ → List ℕ → Type 0) (left old new : 
   pub written : Appends old new bytes
 
 -- the input is a text that is refused at its first faulty line
-pub record IsFaulty (left : Option (List ℕ)) (fault : LineFault) : Type 0 where
+pub record IsFaulty (format : Format) (left : Option (List ℕ)) (fault : LineFault) : Type 0 where
   pub text : List ℕ
   pub read : HasRead left text
-  pub refused : trace_of text ≡ Err fault
+  pub refused : trace_of format text ≡ Err fault
 
 -- a part of it is written, from its beginning
 pub record WritesPart (IsAnswer : List ℕ → List ℕ → Type 0) (left old new : Option (List ℕ)) : Type 0 where
@@ -123,11 +146,16 @@ pub record WritesPart (IsAnswer : List ℕ → List ℕ → Type 0) (left old ne
   pub part : count < length bytes
   pub written : Appends old new (take count bytes)
 
--- what each refusal says of the input and of what is written
+-- what each refusal of a format says of the input and of what is written
+abbrev pub IsRefusalIn : Format → (List ℕ → List ℕ → Type 0) → Option (List ℕ) → Option (List ℕ) → Option (List ℕ)
+    → RunFault → Type 0
+IsRefusalIn format IsAnswer left old new Read = new ≡ old
+IsRefusalIn format IsAnswer left old new TooLong = IsTooLong left × (new ≡ old)
+IsRefusalIn format IsAnswer left old new (Line fault) = IsFaulty format left fault × (new ≡ old)
+IsRefusalIn format IsAnswer left old new OutOfMemory = new ≡ old
+IsRefusalIn format IsAnswer left old new Write = WritesPart IsAnswer left old new
+
+-- and of the standard one
 abbrev pub IsRefusal : (List ℕ → List ℕ → Type 0) → Option (List ℕ) → Option (List ℕ) → Option (List ℕ) → RunFault
     → Type 0
-IsRefusal IsAnswer left old new Read = new ≡ old
-IsRefusal IsAnswer left old new TooLong = IsTooLong left × (new ≡ old)
-IsRefusal IsAnswer left old new (Line fault) = IsFaulty left fault × (new ≡ old)
-IsRefusal IsAnswer left old new OutOfMemory = new ≡ old
-IsRefusal IsAnswer left old new Write = WritesPart IsAnswer left old new
+IsRefusal = IsRefusalIn Standard

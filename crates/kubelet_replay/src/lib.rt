@@ -9,5 +9,6 @@ pub use commands::{Job, UsageFault, job_of};
 pub use fault::{RunFault, fault_line, status_of};
 pub use replay_stream::{Counted, MemSink, MemSource, ReadFailed, Sink, Source, Stop, WriteFailed};
 pub use round_steps::{StepsFault, read_steps, steps_fault_line, steps_status_of};
-pub use run::{check, replay, replay_play};
+pub use run::{check, check_in, replay, replay_in, replay_play, replay_play_in};
+pub use trace::Format;
 pub use trace_replay::{Gate, NoGate, Node, Step, Summary, TickFault, report_text, round_laws};

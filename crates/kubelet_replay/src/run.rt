@@ -2,20 +2,31 @@
 
 ghost use Rattle.std.specs.Prelude.{◌≡◌, ◌+◌, ◌^◌, ◌<◌, ◌≤◌, IfOk, IfErr, OnOk, string_bytes};
 ghost use Rattle.event_book.specs.Limits.{most_workers};
-ghost use Rattle.kubelet_replay.specs.Run.{failed_reads, failed_writes, HasRead, IsReportOfText};
-ghost use Rattle.kubelet_replay.specs.Run.{RefusesText, Refuses, IsWritten, fault_of, Writes, IsRefusal};
-ghost use Rattle.kubelet_replay.specs.Run.{IsCheckOfText, check_line};
+ghost use Rattle.kubelet_replay.specs.Run.{failed_reads, failed_writes, HasRead, IsReportIn, IsReportOfText};
+ghost use Rattle.kubelet_replay.specs.Run.{read_fault_of, RefusesText, Refuses, IsWritten, fault_of, read_as, Writes};
+ghost use Rattle.kubelet_replay.specs.Run.{IsRefusalIn, IsRefusal, IsCheckIn, IsCheckOfText, check_line};
 
 use crate::fault::RunFault;
 use replay_stream::{ReadAllFault, Sink, Source, read_all, write_all};
 use std::alloc::{AllocError, Global};
 use std::sync::Wait;
 use std::thread::Threads;
-use trace::{FaultKind, LineFault, read_trace, read_trace_by_workers};
+use trace::{FaultKind, Format, LineFault, Trace, read_trace, read_trace_by_workers};
 use trace_replay::{Gate, Step};
 
 /// The greatest length of an input: 64 MiB.
 const LONGEST_INPUT: usize = 67_108_864;
+
+/// Why the input was not read.
+fn read_fault_of(fault: ReadAllFault) -> RunFault
+    ensures { result ≡ read_fault_of fault }
+{
+    match fault {
+        ReadAllFault::Read => RunFault::Read,
+        ReadAllFault::TooLong => RunFault::TooLong,
+        ReadAllFault::OutOfMemory => RunFault::OutOfMemory,
+    }
+}
 
 fn read_text<R: Source>(alloc: Global, input: &mut R) -> Result<Vec<u8>, RunFault>
     requires { R.failures input.old < 2 ^ 63 }
@@ -25,9 +36,7 @@ fn read_text<R: Source>(alloc: Global, input: &mut R) -> Result<Vec<u8>, RunFaul
 {
     match read_all(alloc, input, LONGEST_INPUT) {
         Ok(text) => Ok(text),
-        Err(ReadAllFault::Read) => Err(RunFault::Read),
-        Err(ReadAllFault::TooLong) => Err(RunFault::TooLong),
-        Err(ReadAllFault::OutOfMemory) => Err(RunFault::OutOfMemory),
+        Err(fault) => Err(read_fault_of(fault)),
     }
 }
 
@@ -40,44 +49,52 @@ fn fault_of(fault: LineFault) -> RunFault
     }
 }
 
+/// The trace that was read, or why the text has none.
+fn read_as(read: Result<Trace, LineFault>) -> Result<Trace, RunFault>
+    ensures { result ≡ read_as read }
+{
+    match read {
+        Ok(trace) => Ok(trace),
+        Err(fault) => Err(fault_of(fault)),
+    }
+}
+
 fn report_by_steps(
     alloc: Global,
+    format: Format,
     text: &[u8],
     workers: usize,
     steps: &[Step],
 ) -> Result<String, RunFault>
     requires some { 0 < workers }
     requires most { workers ≤ most_workers }
-    ensures ok { IfOk result (λ report. IsReportOfText text.now (string_bytes report)) }
-    ensures err { IfErr result (RefusesText text.now) }
+    ensures ok { IfOk result (λ report. IsReportIn format text.now (string_bytes report)) }
+    ensures err { IfErr result (RefusesText format text.now) }
 {
-    match read_trace(alloc, text) {
-        Ok(trace) => match trace_replay::report_by_steps(alloc, trace, workers, steps) {
-            Ok(report) => Ok(report),
-            Err(_) => Err(RunFault::OutOfMemory),
-        },
-        Err(fault) => Err(fault_of(fault)),
+    let trace = read_as(read_trace(alloc, format, text))?;
+    match trace_replay::report_by_steps(alloc, trace, workers, steps) {
+        Ok(report) => Ok(report),
+        Err(_) => Err(RunFault::OutOfMemory),
     }
 }
 
 fn report_by_workers<R: Threads + Wait + Sync, G: Gate>(
     rt: &R,
     alloc: Global,
+    format: Format,
     text: &[u8],
     workers: usize,
     gate: &G,
 ) -> Result<String, RunFault>
     requires some { 0 < workers }
     requires most { workers ≤ most_workers }
-    ensures ok { IfOk result (λ report. IsReportOfText text.now (string_bytes report)) }
-    ensures err { IfErr result (RefusesText text.now) }
+    ensures ok { IfOk result (λ report. IsReportIn format text.now (string_bytes report)) }
+    ensures err { IfErr result (RefusesText format text.now) }
 {
-    match read_trace_by_workers(rt, alloc, text, workers) {
-        Ok(trace) => match trace_replay::report_by_workers(rt, alloc, trace, workers, gate) {
-            Ok(report) => Ok(report),
-            Err(_) => Err(RunFault::OutOfMemory),
-        },
-        Err(fault) => Err(fault_of(fault)),
+    let trace = read_as(read_trace_by_workers(rt, alloc, format, text, workers))?;
+    match trace_replay::report_by_workers(rt, alloc, trace, workers, gate) {
+        Ok(report) => Ok(report),
+        Err(_) => Err(RunFault::OutOfMemory),
     }
 }
 
@@ -88,19 +105,15 @@ fn check_line(alloc: Global, pods: usize, ticks: usize) -> Result<String, AllocE
     format!(in alloc; "ok pods={pods} ticks={ticks}\n")
 }
 
-fn check_of_text(alloc: Global, text: &[u8]) -> Result<String, RunFault>
-    ensures ok { IfOk result (λ line. IsCheckOfText text.now (string_bytes line)) }
-    ensures err { IfErr result (RefusesText text.now) }
+fn check_of_text(alloc: Global, format: Format, text: &[u8]) -> Result<String, RunFault>
+    ensures ok { IfOk result (λ line. IsCheckIn format text.now (string_bytes line)) }
+    ensures err { IfErr result (RefusesText format text.now) }
 {
-    match read_trace(alloc, text) {
-        Ok(trace) => {
-            let (pods, ticks) = (trace.pods.as_slice().len(), trace.ticks.as_slice().len());
-            match check_line(alloc, pods, ticks) {
-                Ok(line) => Ok(line),
-                Err(_) => Err(RunFault::OutOfMemory),
-            }
-        }
-        Err(fault) => Err(fault_of(fault)),
+    let trace = read_as(read_trace(alloc, format, text))?;
+    let (pods, ticks) = (trace.pods.as_slice().len(), trace.ticks.as_slice().len());
+    match check_line(alloc, pods, ticks) {
+        Ok(line) => Ok(line),
+        Err(_) => Err(RunFault::OutOfMemory),
     }
 }
 
@@ -115,10 +128,10 @@ fn write_text<W: Sink>(output: &mut W, text: &str) -> Result<(), RunFault>
     }
 }
 
-/// Replays a trace and writes its report. So many workers, 1 to 64, update the pods of each tick in threads
-/// of their own, no more than there are pods, and steal from each other; the gate is told of each update. From
-/// 64 KiB on they share the lines of the text as well, 1 MiB at a time.
-/// The report is that of the rules applied by one thread, pod after pod, whatever the workers and the
+/// Replays a trace and writes its report. So many workers, 1 to 64, update the pods of each tick in threads of their
+/// own and steal from each other: no more than there are pods and, where no update waits in the gate, no more than are
+/// worth their start. The gate is told of each update. From 64 KiB on they share the lines of the text as well, 1 MiB
+/// at a time. The report is that of the rules applied by one thread, pod after pod, whatever the workers and the
 /// threads do. It may wait for threads and for the lock of the book.
 ///
 /// The input is read to its end and the report is made whole before the first write. So nothing is
@@ -143,8 +156,31 @@ pub fn replay<H: AllocGlobal + Threads + Wait + Sync, R: Source, W: Sink, G: Gat
     ensures reads { R.failures input.new ≡ R.failures input.old + failed_reads result }
     ensures writes { W.failures output.new ≡ W.failures output.old + failed_writes result }
 {
+    replay_in(rt, Format::Standard, input, output, workers, gate)
+}
+
+/// The same of a trace in a format.
+pub fn replay_in<H: AllocGlobal + Threads + Wait + Sync, R: Source, W: Sink, G: Gate>(
+    rt: &H,
+    format: Format,
+    input: &mut R,
+    output: &mut W,
+    workers: usize,
+    gate: &G,
+) -> Result<(), RunFault>
+    requires some { 0 < workers }
+    requires most { workers ≤ most_workers }
+    requires reads { R.failures input.old < 2 ^ 63 }
+    requires writes { W.failures output.old < 2 ^ 63 }
+    ensures ok { OnOk result (Writes (IsReportIn format) (R.left input.old) (W.written output.old)
+        (W.written output.new)) }
+    ensures err { IfErr result (IsRefusalIn format (IsReportIn format) (R.left input.old) (W.written output.old)
+        (W.written output.new)) }
+    ensures reads { R.failures input.new ≡ R.failures input.old + failed_reads result }
+    ensures writes { W.failures output.new ≡ W.failures output.old + failed_writes result }
+{
     let text = read_text(rt.alloc(), input)?;
-    let report = report_by_workers(rt, rt.alloc(), &text, workers, gate)?;
+    let report = report_by_workers(rt, rt.alloc(), format, &text, workers, gate)?;
     write_text(output, report.as_str())
 }
 
@@ -167,8 +203,31 @@ pub fn replay_play<R: Source, W: Sink>(
     ensures reads { R.failures input.new ≡ R.failures input.old + failed_reads result }
     ensures writes { W.failures output.new ≡ W.failures output.old + failed_writes result }
 {
+    replay_play_in(alloc, Format::Standard, input, output, workers, steps)
+}
+
+/// The same of a trace in a format.
+pub fn replay_play_in<R: Source, W: Sink>(
+    alloc: Global,
+    format: Format,
+    input: &mut R,
+    output: &mut W,
+    workers: usize,
+    steps: &[Step],
+) -> Result<(), RunFault>
+    requires some { 0 < workers }
+    requires most { workers ≤ most_workers }
+    requires reads { R.failures input.old < 2 ^ 63 }
+    requires writes { W.failures output.old < 2 ^ 63 }
+    ensures ok { OnOk result (Writes (IsReportIn format) (R.left input.old) (W.written output.old)
+        (W.written output.new)) }
+    ensures err { IfErr result (IsRefusalIn format (IsReportIn format) (R.left input.old) (W.written output.old)
+        (W.written output.new)) }
+    ensures reads { R.failures input.new ≡ R.failures input.old + failed_reads result }
+    ensures writes { W.failures output.new ≡ W.failures output.old + failed_writes result }
+{
     let text = read_text(alloc, input)?;
-    let report = report_by_steps(alloc, &text, workers, steps)?;
+    let report = report_by_steps(alloc, format, &text, workers, steps)?;
     write_text(output, report.as_str())
 }
 
@@ -187,7 +246,26 @@ pub fn check<R: Source, W: Sink>(
     ensures reads { R.failures input.new ≡ R.failures input.old + failed_reads result }
     ensures writes { W.failures output.new ≡ W.failures output.old + failed_writes result }
 {
+    check_in(alloc, Format::Standard, input, output)
+}
+
+/// The same of a trace in a format.
+pub fn check_in<R: Source, W: Sink>(
+    alloc: Global,
+    format: Format,
+    input: &mut R,
+    output: &mut W,
+) -> Result<(), RunFault>
+    requires reads { R.failures input.old < 2 ^ 63 }
+    requires writes { W.failures output.old < 2 ^ 63 }
+    ensures ok { OnOk result (Writes (IsCheckIn format) (R.left input.old) (W.written output.old)
+        (W.written output.new)) }
+    ensures err { IfErr result (IsRefusalIn format (IsCheckIn format) (R.left input.old) (W.written output.old)
+        (W.written output.new)) }
+    ensures reads { R.failures input.new ≡ R.failures input.old + failed_reads result }
+    ensures writes { W.failures output.new ≡ W.failures output.old + failed_writes result }
+{
     let text = read_text(alloc, input)?;
-    let line = check_of_text(alloc, &text)?;
+    let line = check_of_text(alloc, format, &text)?;
     write_text(output, line.as_str())
 }

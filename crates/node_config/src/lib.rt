@@ -5,4 +5,4 @@ mod eviction;
 mod node;
 
 pub use eviction::Eviction;
-pub use node::{NodeConfig, Version};
+pub use node::{Format, NodeConfig, Version};

@@ -9,6 +9,15 @@ use manifest::{MaxRestartDelay, Text};
 use quantity::Quantity;
 use signals::{Signal, Threshold, ThresholdKind};
 
+/// The format that a trace is read by.
+#[derive(Clone, Copy, Debug, PartialEq, Eq)]
+pub enum Format {
+    /// Versions 1 and 2.
+    Standard,
+    /// Version 3 as well, which is this project's own.
+    Extended,
+}
+
 /// The version of the format that a trace is written in.
 #[derive(Clone, Copy, Debug, PartialEq, Eq)]
 pub enum Version {
@@ -16,6 +25,8 @@ pub enum Version {
     One,
     /// A pod line may follow a tick line.
     Two,
+    /// The same; and evictions may pause.
+    Three,
 }
 
 /// The node and its configuration.
@@ -34,6 +45,8 @@ pub struct NodeConfig {
     pub eviction_max_pod_grace_period: u32,
     /// `evictionPressureTransitionPeriod`, in seconds.
     pub eviction_pressure_transition_period: u64,
+    /// `evictionPauseSeconds`: for so many seconds after an eviction no pod is evicted. 0 in versions 1 and 2.
+    pub eviction_pause: u32,
 }
 
 impl NodeConfig {

@@ -17,7 +17,8 @@ use Rattle.quantity_fields.specs.Fields.{quantity_in, limit_in}
 use Rattle.signals.specs.declared.by_signal.BySignal.{BySignal}
 use Rattle.signals.specs.declared.signal.Signal.{Signal}
 use Rattle.signals.specs.BySignal.{of}
-use Rattle.node_config.specs.declared.node.Version.TheVariants.{One, Two}
+use Rattle.node_config.specs.declared.node.Version.{Version}
+use Rattle.node_config.specs.declared.node.Version.TheVariants.{One, Two, Three}
 use Rattle.node_lines.specs.declared.eviction.Written.{Written}
 use Rattle.node_lines.specs.declared.fault.NodeFault.{NodeFault}
 use Rattle.node_lines.specs.declared.fault.NodeFault.TheVariants.{Config, SoftWithoutGrace}
@@ -28,7 +29,7 @@ use Rattle.node_lines.specs.Maps.{map_of, or_config, duration_from, duration_at,
 use Rattle.signal_maps.specs.declared.scope.Scope.TheVariants.{Node}
 use Rattle.signal_maps.proofs.Refused.{each_only, map_only, each_err}
 use Rattle.node_lines.specs.Node.{whole_number, version_named, version_of, name_from, restart_delay_of, flag_of}
-use Rattle.node_lines.specs.Node.{few_seconds, seconds_of, or_default, settings_in, node_of}
+use Rattle.node_lines.specs.Node.{few_seconds, seconds_of, or_default, pause_of, settings_in, node_of}
 use Rattle.node_lines.specs.Thresholds.{soft_threshold, written_over, written_in, soft_thresholds, eviction_from}
 use Rattle.node_lines.proofs.LawLemmas.{IsWritten, limit_read, in_read, soft_limit_of, grace_of}
 
@@ -101,7 +102,8 @@ written_only d = only_bind IsConfig _ _
 named_only : (found : Option ℕ) → Only IsConfig (version_named found)
 named_only None = only_err IsConfig Config refl
 named_only (Some n) = only_if IsConfig _ (Ok One) _ (only_ok IsConfig One)
-    (only_if IsConfig _ (Ok Two) (Err Config) (only_ok IsConfig Two) (only_err IsConfig Config refl))
+    (only_if IsConfig _ (Ok Two) _ (only_ok IsConfig Two)
+    (only_if IsConfig _ (Ok Three) (Err Config) (only_ok IsConfig Three) (only_err IsConfig Config refl)))
 
 version_only : (found : Option Data) → Only IsConfig (version_of found)
 version_only None = only_ok IsConfig One
@@ -124,6 +126,11 @@ seconds_only : (found : Option Data) → Only IsConfig (seconds_of found)
 seconds_only None = only_ok IsConfig 0
 seconds_only (Some d) = some_only (option_and_then few_seconds (whole_number d))
 
+pause_only : (version : Version) (found : Option Data) → Only IsConfig (pause_of version found)
+pause_only One found = only_ok IsConfig 0
+pause_only Two found = only_ok IsConfig 0
+pause_only Three found = seconds_only found
+
 settings_only : (d : Data) → Only IsConfig (settings_in d)
 unfolding settings_in
 settings_only d =
@@ -133,7 +140,8 @@ settings_only d =
     only_bind P _ _ (flag_only (field_at (codes "dedicatedImagefs") d)) (λ c.
     only_bind P _ _ (seconds_only (field_at (codes "evictionMaxPodGracePeriod") d)) (λ f.
     only_bind P _ _ (only_bind P _ _ (duration_only (field_at (codes "evictionPressureTransitionPeriod") d))
-    (λ w. only_ok P (or_default w))) (λ g. only_ok P _)))))
+    (λ w. only_ok P (or_default w))) (λ g.
+    only_bind P _ _ (pause_only a (field_at (codes "evictionPauseSeconds") d)) (λ h. only_ok P _))))))
 
 -- so a missing grace was answered after them
 passed : {A B : Type 0} (r : Result A NodeFault) (f : A → Result B NodeFault) → Only IsConfig r

@@ -9,7 +9,7 @@ use Rattle.manifest.specs.Names.{is_name}
 use Rattle.manifest.specs.RestartDelay.{most_max_delay, max_delay_of}
 use Rattle.node_config.specs.declared.node.NodeConfig.{NodeConfig}
 use Rattle.node_config.specs.declared.node.Version.{Version}
-use Rattle.node_config.specs.declared.node.Version.TheVariants.{One, Two}
+use Rattle.node_config.specs.declared.node.Version.TheVariants.{One, Two, Three}
 use Rattle.node_lines.specs.declared.node.Settings.{Settings}
 use Rattle.node_lines.specs.declared.fault.NodeFault.{NodeFault}
 use Rattle.node_lines.specs.declared.fault.NodeFault.TheVariants.{Config}
@@ -22,7 +22,10 @@ whole_number d = option_and_then as_u64 (as_number d)
 
 abbrev pub version_named : Option ℕ → Result Version NodeFault
 version_named None = Err Config
-version_named (Some n) = if n == 1 then Ok One else (if n == 2 then Ok Two else Err Config)
+version_named (Some n) =
+    if n == 1 then Ok One
+    else (if n == 2 then Ok Two
+    else (if n == 3 then Ok Three else Err Config))
 
 -- the format's version, 1 where none is written
 abbrev pub version_of : Option Data → Result Version NodeFault
@@ -66,6 +69,12 @@ or_default (Some seconds) = if seconds == 0 then default_transition_period else 
 abbrev pub transition_period_of : Option Data → Result ℕ NodeFault
 transition_period_of found = duration_at found >>= λ written. Ok (or_default written)
 
+-- for how many seconds after an eviction no pod is evicted; versions 1 and 2 have no such field
+abbrev pub pause_of : Version → Option Data → Result ℕ NodeFault
+pause_of One found = Ok 0
+pause_of Two found = Ok 0
+pause_of Three found = seconds_of found
+
 -- what a node line says besides its thresholds, one line for each field
 unfoldable pub settings_in : Data → Result Settings NodeFault
 settings_in d = do
@@ -74,12 +83,14 @@ settings_in d = do
   has_dedicated_imagefs ← flag_of (field_at (codes "dedicatedImagefs") d)
   max_pod_grace_period ← seconds_of (field_at (codes "evictionMaxPodGracePeriod") d)
   transition_period ← transition_period_of (field_at (codes "evictionPressureTransitionPeriod") d)
+  eviction_pause ← pause_of version (field_at (codes "evictionPauseSeconds") d)
   Ok (record {
     version = version;
     max_restart_delay = max_restart_delay;
     has_dedicated_imagefs = has_dedicated_imagefs;
     max_pod_grace_period = max_pod_grace_period;
     transition_period = transition_period;
+    eviction_pause = eviction_pause;
   })
 
 -- every field is read before a soft threshold without its grace is looked for
@@ -97,4 +108,5 @@ node_of d = do
     eviction = eviction;
     eviction_max_pod_grace_period = settings.max_pod_grace_period;
     eviction_pressure_transition_period = settings.transition_period;
+    eviction_pause = settings.eviction_pause;
   })

@@ -5,7 +5,7 @@ ghost use Rattle.serde_json.specs.View.{view};
 ghost use Rattle.json_fields.specs.Reading.{GivesExactly};
 ghost use Rattle.node_lines.specs.Gives.{Gives};
 ghost use Rattle.node_lines.specs.Node.{version_of, name_from, restart_delay_of, flag_of, seconds_of};
-ghost use Rattle.node_lines.specs.Node.{transition_period_of, settings_in, node_of};
+ghost use Rattle.node_lines.specs.Node.{transition_period_of, pause_of, settings_in, node_of};
 
 use crate::eviction::{eviction_from, written_in};
 use crate::fault::NodeFault;
@@ -24,6 +24,7 @@ pub(crate) struct Settings {
     has_dedicated_imagefs: bool,
     max_pod_grace_period: u32,
     transition_period: u64,
+    eviction_pause: u32,
 }
 
 /// How long a condition of the node stays where nothing else is written, in seconds.
@@ -38,6 +39,7 @@ fn version(found: Option<&Value>) -> Result<Version, NodeFault>
     match value.as_u64() {
         Some(1) => Ok(Version::One),
         Some(2) => Ok(Version::Two),
+        Some(3) => Ok(Version::Three),
         _ => Err(NodeFault::Config),
     }
 }
@@ -109,6 +111,16 @@ fn transition_period(found: Option<&Value>) -> Result<u64, NodeFault>
     }
 }
 
+/// The seconds of a pause, in a version that has one.
+fn pause(version: Version, found: Option<&Value>) -> Result<u32, NodeFault>
+    ensures { result ≡ pause_of version (option_map (λ v. view v.now) found.entry) }
+{
+    match version {
+        Version::One | Version::Two => Ok(0),
+        Version::Three => seconds(found),
+    }
+}
+
 #[tactic(auto, unfolding(crate::specs::Node::settings_in))]
 fn settings_in(node: &Value) -> Result<Settings, NodeFault>
     ensures { result ≡ settings_in (view node.now) }
@@ -118,12 +130,14 @@ fn settings_in(node: &Value) -> Result<Settings, NodeFault>
     let has_dedicated_imagefs = flag(field(node, "dedicatedImagefs"))?;
     let max_pod_grace_period = seconds(field(node, "evictionMaxPodGracePeriod"))?;
     let transition_period = transition_period(field(node, "evictionPressureTransitionPeriod"))?;
+    let eviction_pause = pause(version, field(node, "evictionPauseSeconds"))?;
     Ok(Settings {
         version,
         max_restart_delay,
         has_dedicated_imagefs,
         max_pod_grace_period,
         transition_period,
+        eviction_pause,
     })
 }
 
@@ -147,5 +161,6 @@ pub fn node_of(alloc: Global, node: &Value) -> Result<NodeConfig, NodeFault>
         eviction,
         eviction_max_pod_grace_period: settings.max_pod_grace_period,
         eviction_pressure_transition_period: settings.transition_period,
+        eviction_pause: settings.eviction_pause,
     })
 }

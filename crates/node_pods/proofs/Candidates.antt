@@ -12,10 +12,10 @@ use Rattle.pod_piece.specs.declared.status.PodStatus.{PodStatus}
 use Rattle.pod_piece.specs.Piece.{Piece, with_eviction}
 use Rattle.pod_piece.specs.Status.{IsStatusOf}
 use Rattle.ranking.specs.Order.{IsVictim}
-use Rattle.ranking.specs.Index.{AreHeldAfter, AreHeldWithout}
+use Rattle.ranking.specs.Index.{AreHeldAfter}
 use Rattle.ranking.proofs.LawLemmas.{RankAlike, before_alike}
 use Rattle.node_pods.specs.Laws.{AreAlike, EvictedIsNoCandidate}
-use Rattle.node_pods.specs.Pods.{IsCandidate}
+use Rattle.node_pods.specs.Pods.{Pods, IsCandidate}
 use Rattle.node_pods.specs.Ranked.{IsHeldAt, AreHeld, AreHeldBelow}
 use Rattle.node_pods.proofs.Statuses.{alike, rank_alike, evicted_ended}
 
@@ -91,30 +91,6 @@ held_here pieces n piece status held after at is number are = elim (terminal_cas
       }
 ]
 
--- one pod has another piece, and is held by its status, or has ended
-pub held_after : (old new : List Piece) (n : ℕ) (piece : Piece) (status : PodStatus)
-    (held after : ℕ → Option PodStatus) → ((m : ℕ) → m ≢ n → slice_get new m ≡ slice_get old m)
-    → slice_get new n ≡ Some piece → IsStatusOf piece status → status.number ≡ n
-    → AreHeld old held → AreHeldAfter held status after → AreHeld new after
-held_after old new n piece status held after others at is number before are m = elim (cases_eq m n) [
-  | inl same ↦
-      subst (λ (k : ℕ). IsHeldAt new after k) (sym same) (held_here new n piece status held after at is number are)
-  | inr apart ↦
-      held_same old new held after m (others m apart) (are.others m (λ e. apart (e ∙ number))) (before m)
-]
-
--- one pod is a candidate no more, and is not held any more
-pub held_without : (old new : List Piece) (n : ℕ) (held after : ℕ → Option PodStatus)
-    → ((m : ℕ) → m ≢ n → slice_get new m ≡ slice_get old m) → ((p : PodStatus) → IsCandidate new n p → ⊥)
-    → AreHeld old held → AreHeldWithout held n after → AreHeld new after
-held_without old new n held after others ended before are m = elim (cases_eq m n) [
-  | inl same ↦ subst (λ (k : ℕ). IsHeldAt new after k) (sym same) (record {
-    sound = λ p e. absurd (let w : None ≡ Some p = sym are.gone ∙ e in cc);
-    complete = λ p c. absurd (ended p c);
-  })
-  | inr apart ↦ held_same old new held after m (others m apart) (are.others m apart) (before m)
-]
-
 -- one pod more has its present place
 pub below_more : (pieces : List Piece) (i : ℕ) (piece : Piece) (status : PodStatus)
     (before held after : ℕ → Option PodStatus) → slice_get pieces i ≡ Some piece → IsStatusOf piece status
@@ -147,23 +123,18 @@ all_below pieces before held none so_far n = elim (cases_lt n (length pieces)) [
   }
 ]
 
-pub none_held : AreHeld [] (λ n. None)
-none_held n = record {
-  sound = λ p e. absurd (let w : None ≡ Some p = e in cc);
-  complete = λ p c. absurd (let w : None ≡ Some c.piece = c.at in cc);
-}
-
--- no pod is held behind the last
-pub none_past : (pieces : List Piece) (held : ℕ → Option PodStatus) → AreHeld pieces held → (n : ℕ)
-    → length pieces ≤ n → held n ≡ None
-none_past pieces held are n past = none_at (held n) refl
-  where
-    none_at : (o : Option PodStatus) → held n ≡ o → held n ≡ None
-    none_at None e = e
-    none_at (Some p) e =
-        let c = (are n).sound p e in
-        let lt : n < length pieces = slice_get_within pieces n c.piece c.at in
-        absurd (omega arith)
+-- the victim by an index that had no pod before each of the pieces was given its place
+pub victim_of_all : (pods : Pods) (pieces : List Piece) (signal by : Signal) (dedicated : Bool)
+    (held : ℕ → Option PodStatus) (victim : Option ℕ) → pieces ≡ pods.pieces → by ≡ signal
+    → dedicated ≡ pods.has_dedicated_imagefs → AreHeldBelow pieces (length pieces) (λ n. None) held
+    → IsVictim by dedicated (λ n p. held n ≡ Some p) victim
+    → IsVictim signal pods.has_dedicated_imagefs (IsCandidate pods.pieces) victim
+victim_of_all pods pieces signal by dedicated held victim same of_signal is_dedicated below first =
+    let are = all_below pieces (λ n. None) held (λ n past. refl) below in
+    let here = victim_of_held by dedicated pieces held are victim first in
+    let here = subst (λ (s : Signal). IsVictim s dedicated (IsCandidate pieces) victim) of_signal here in
+    let here = subst (λ (d : Bool). IsVictim signal d (IsCandidate pieces) victim) is_dedicated here in
+    subst (λ (ps : List Piece). IsVictim signal pods.has_dedicated_imagefs (IsCandidate ps) victim) same here
 
 -- the pod that was evicted is no candidate any more
 pub evicted_is_no_candidate : EvictedIsNoCandidate

@@ -15,17 +15,11 @@ use Rattle.pod_piece.specs.declared.order.EvictOrder.{EvictOrder}
 use Rattle.pod_piece.specs.declared.status.PodStatus.{PodStatus}
 use Rattle.pod_piece.specs.Piece.{Piece, new_piece, with_tick, updated, with_eviction}
 use Rattle.pod_piece.specs.Status.{IsStatusOf}
-use Rattle.ranking.specs.Index.{AreHeldAfter, AreHeldWithout}
-use Rattle.ranking.proofs.LawLemmas.{one_is_held_after, one_is_held_without}
-use Rattle.node_pods.specs.declared.rankings.Rankings.{Rankings}
 use Rattle.node_pods.specs.Pods.{pods_of, IsPlaced, ArePlaced, AreNext, AreHanded, AreAfter, awaited, AreAwaited}
-use Rattle.node_pods.specs.Pods.{IsEvictable, AreEvicted}
+use Rattle.node_pods.specs.Pods.{AreEvicted}
 use Rattle.node_pods.specs.Laws.{CandidateIsEvictable}
 use Rattle.node_pods.specs.Steps.{AreFree}
-use Rattle.node_pods.specs.Ranked.{AreHeldBelow, AreRankings, AreRankingsBut, AreRanked, AreRankedBelow, IsKept}
-use Rattle.node_pods.proofs.Candidates.{same_piece, held_after, held_without, all_below, none_past}
-use Rattle.node_pods.proofs.Candidates.{evicted_is_no_candidate}
-use Rattle.node_pods.proofs.Indexes.{but}
+use Rattle.node_pods.proofs.Candidates.{same_piece}
 use Rattle.node_pods.proofs.Steps.{after_handed}
 
 -- where each pod has its number
@@ -44,7 +38,7 @@ others_arrived pieces x n apart = elim (cases_order n (length pieces)) [
       ∙ sym (slice_get_past pieces n (omega (arith, gt)))
 ]
 
-placed_arrived : (pieces : List Piece) (greatest : ℕ) (dedicated : Bool) (pod : PodSpec)
+pub placed_arrived : (pieces : List Piece) (greatest : ℕ) (dedicated : Bool) (pod : PodSpec)
     → ArePlaced (pods_of pieces greatest dedicated)
     → ArePlaced (pods_of (pieces ++ new_piece (length pieces) pod greatest ∷ []) greatest dedicated)
 placed_arrived pieces greatest dedicated pod placed n piece at = elim (cases_eq n (length pieces)) [
@@ -56,44 +50,6 @@ placed_arrived pieces greatest dedicated pod placed n piece at = elim (cases_eq 
   | inr apart ↦
       placed n piece (sym (others_arrived pieces (new_piece (length pieces) pod greatest) n apart) ∙ at)
 ]
-
-pub kept_arrived : (pieces : List Piece) (greatest : ℕ) (dedicated : Bool) (old new : Rankings) (pod : PodSpec)
-    (status : PodStatus) → IsKept (pods_of pieces greatest dedicated) old
-    → IsStatusOf (new_piece (length pieces) pod greatest) status
-    → ((d : Bool) (held after : ℕ → Option PodStatus) → AreRankings d held old → AreHeldAfter held status after
-    → AreRankings d after new)
-    → IsKept (pods_of (pieces ++ new_piece (length pieces) pod greatest ∷ []) greatest dedicated) new
-kept_arrived pieces greatest dedicated old new pod status kept is rank =
-    let x = new_piece (length pieces) pod greatest in
-    let ranked = kept.ranked in
-    let after = one_is_held_after.exists ranked.held status in
-    record {
-      placed = placed_arrived pieces greatest dedicated pod kept.placed;
-      ranked = record {
-        held = after.0;
-        are_held = held_after pieces (pieces ++ x ∷ []) (length pieces) x status ranked.held after.0
-            (others_arrived pieces x) (slice_get-new pieces x) is is.number_is ranked.are_held after.1;
-        are_rankings = rank dedicated ranked.held after.0 ranked.are_rankings after.1;
-      };
-    }
-
--- none more, since memory was refused
-pub kept_refused : (pieces : List Piece) (greatest : ℕ) (dedicated : Bool) (old new : Rankings) (status : PodStatus)
-    → IsKept (pods_of pieces greatest dedicated) old → status.number ≡ length pieces
-    → ((d : Bool) (held : ℕ → Option PodStatus) → held status.number ≡ None → AreRankings d held old
-    → AreRankings d held new) → IsKept (pods_of pieces greatest dedicated) new
-kept_refused pieces greatest dedicated old new status kept number undo =
-    let ranked = kept.ranked in
-    let none = subst (λ (k : ℕ). ranked.held k ≡ None) (sym number)
-    (none_past pieces ranked.held ranked.are_held (length pieces) (omega arith)) in
-    record {
-      placed = kept.placed;
-      ranked = record {
-        held = ranked.held;
-        are_held = ranked.are_held;
-        are_rankings = undo dedicated ranked.held none ranked.are_rankings;
-      };
-    }
 
 -- after a tick
 pub placed_after : (old : List Piece) (greatest : ℕ) (dedicated : Bool) (shown : List PodObs) (new : List Piece)
@@ -119,33 +75,8 @@ awaited_after old greatest dedicated shown pending placed next are =
       placed = placed_after old greatest dedicated shown (map updated pending) placed next after;
     }
 
-pub ranked_below : (pieces : List Piece) (greatest count : ℕ) (dedicated : Bool) (r : Rankings)
-    → count ≡ length pieces → AreRanked (pods_of pieces greatest dedicated) r → AreRankedBelow count dedicated r
-ranked_below pieces greatest count dedicated r many ranked = record {
-  held = ranked.held;
-  none_past = λ n past. none_past pieces ranked.held ranked.are_held n (omega (arith, past, many));
-  are_rankings = ranked.are_rankings;
-}
-
-pub kept_with : (pieces : List Piece) (greatest count : ℕ) (dedicated : Bool) (before after : Rankings)
-    → AreRankedBelow count dedicated before → AreAwaited (awaited count greatest dedicated) pieces
-    → ((d : Bool) (was : ℕ → Option PodStatus) → AreRankings d was before
-    → (held : ℕ → Option PodStatus) × AreRankings d held after × AreHeldBelow pieces (length pieces) was held)
-    → IsKept (pods_of pieces greatest dedicated) after
-kept_with pieces greatest count dedicated before after ranked are rank =
-    let now = rank dedicated ranked.held ranked.are_rankings in
-    let many : length pieces ≡ count = are.as_many in
-    record {
-      placed = are.placed;
-      ranked = record {
-        held = now.0;
-        are_held = all_below pieces ranked.held now.0 (λ n past. ranked.none_past n (omega (arith, past, many))) now.2;
-        are_rankings = now.1;
-      };
-    }
-
 -- after an eviction
-placed_evicted : (old : List Piece) (greatest : ℕ) (dedicated : Bool) (number : ℕ) (order : EvictOrder)
+pub placed_evicted : (old : List Piece) (greatest : ℕ) (dedicated : Bool) (number : ℕ) (order : EvictOrder)
     (new : List Piece) → ArePlaced (pods_of old greatest dedicated) → AreEvicted old number order new
     → ArePlaced (pods_of new greatest dedicated)
 placed_evicted old greatest dedicated number order new placed are n piece at = elim (cases_eq n number) [
@@ -159,39 +90,6 @@ placed_evicted old greatest dedicated number order new placed are n piece at = e
       (record { number_is = was.number_is; greatest_is = was.greatest_is; free = was.free })
   | inr apart ↦ placed n piece (sym (are.others n apart) ∙ at)
 ]
-
-pub kept_evicted : (old : List Piece) (greatest : ℕ) (dedicated : Bool) (number : ℕ) (order : EvictOrder)
-    (new : List Piece) (before after : Rankings) → IsKept (pods_of old greatest dedicated) before
-    → IsEvictable old number order.at → AreEvicted old number order new
-    → ((d : Bool) (held less : ℕ → Option PodStatus) → AreRankingsBut d held number before
-    → AreHeldWithout held number less → AreRankings d less after)
-    → IsKept (pods_of new greatest dedicated) after
-kept_evicted old greatest dedicated number order new before after kept may are remove =
-    let ranked = kept.ranked in
-    let less = one_is_held_without.exists ranked.held number in
-    let free = free_all old greatest dedicated kept.placed in
-    record {
-      placed = placed_evicted old greatest dedicated number order new kept.placed are;
-      ranked = record {
-        held = less.0;
-        are_held = held_without old new number ranked.held less.0 are.others
-            (evicted_is_no_candidate old new number order free may are) ranked.are_held less.1;
-        are_rankings = remove dedicated ranked.held less.0
-            (but dedicated ranked.held number before ranked.are_rankings) less.1;
-      };
-    }
-
--- what holds at any error
-pub on_any_err : {T E P : Type 0} (r : Result T E) → P → OnErr r P
-on_any_err (Ok t) p = tt
-on_any_err (Err e) p = p
-
--- what is ranked, by the same pieces
-pub ranked_by : (new pieces : List Piece) (dedicated : Bool) (was : ℕ → Option PodStatus) (r : Rankings) → pieces ≡ new
-    → ((held : ℕ → Option PodStatus) × AreRankings dedicated held r × AreHeldBelow pieces (length pieces) was held)
-    → (held : ℕ → Option PodStatus) × AreRankings dedicated held r × AreHeldBelow new (length new) was held
-ranked_by new pieces dedicated was r same (held, are, below) =
-    (held, are, subst (λ (ps : List Piece). AreHeldBelow ps (length ps) was held) same below)
 
 pub candidate_is_evictable : CandidateIsEvictable
 candidate_is_evictable pods tick new n status fits are c =

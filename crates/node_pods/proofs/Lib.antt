@@ -1,5 +1,4 @@
 pub mod Statuses
 pub mod Candidates
-pub mod Indexes
 pub mod Steps
 pub mod Kept

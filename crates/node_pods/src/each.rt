@@ -1,16 +1,17 @@
 //! All pods of a node at one tick.
 
-ghost use Rattle.std.specs.Prelude.{◌≡◌, ◌↔◌, ℕ, ◌<◌, Bool, false, length, slice_get, Option, Some};
+ghost use Rattle.std.specs.Prelude.{◌≡◌, ◌↔◌, ℕ, ◌<◌, false, length, slice_get, Option, Some};
 ghost use Rattle.std.specs.Prelude.{IsTrue, IfSome, IfOk, OnOk};
 ghost use Rattle.pod_piece.specs.declared.status.PodStatus.{PodStatus};
 ghost use Rattle.pod_piece.specs.Piece.{Piece};
 ghost use Rattle.node_pods.specs.Pods.{AreNext, AreHanded, IsEvictable, AreEvicted};
 ghost use Rattle.node_pods.specs.Steps.{AreFree, IsNextAt, AreNextBelow, MayTake, with_shown};
-ghost use Rattle.node_pods.specs.Ranked.{AreRankings, AreHeldBelow};
+ghost use Rattle.node_pods.specs.Ranked.{AreHeldBelow};
+ghost use Rattle.ranking.specs.Index.{IsIndexOf};
 
-use crate::rankings::Rankings;
 use observations::PodObs;
 use pod_piece::{EvictOrder, PodPiece};
+use ranking::RankIndex;
 use std::alloc::{AllocError, Global};
 
 /// Moments are below this.
@@ -98,16 +99,17 @@ pub(crate) fn all_handed(
     Ok(all)
 }
 
-/// Gives each pod its present place in each index.
-pub(crate) fn rank_all(rankings: &mut Rankings, pieces: &[PodPiece]) -> Result<(), AllocError>
+/// Gives each pod its present place in the index.
+pub(crate) fn rank_all(index: &mut RankIndex, pieces: &[PodPiece]) -> Result<(), AllocError>
     requires { (n : ℕ) (piece : Piece) → slice_get pieces.now n ≡ Some piece → piece.number ≡ n }
-    ensures { OnOk result ((has_dedicated_imagefs : Bool) (before : ℕ → Option PodStatus)
-        → AreRankings has_dedicated_imagefs before rankings.old
-        → (held : ℕ → Option PodStatus) × AreRankings has_dedicated_imagefs held rankings.new
+    ensures signal { index.new.signal ≡ index.old.signal }
+    ensures dedicated { index.new.has_dedicated_imagefs ≡ index.old.has_dedicated_imagefs }
+    ensures held { OnOk result ((before : ℕ → Option PodStatus) → IsIndexOf before index.old
+        → (held : ℕ → Option PodStatus) × IsIndexOf held index.new
         × AreHeldBelow pieces.now (length pieces.now) before held) }
 {
     for number in 0..pieces.len() {
-        rankings.update(piece_at(pieces, number).status())?;
+        index.update(piece_at(pieces, number).status())?;
     }
     Ok(())
 }

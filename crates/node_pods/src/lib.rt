@@ -1,4 +1,4 @@
-//! The pods that are present on a node, with their places in the orders of eviction.
+//! The pods that are present on a node, and which of them is evicted first.
 //! (Kubernetes, "Pod Lifecycle" and "Node-pressure Eviction".)
 //!
 //! A tick is handed to all pods together. Their pieces then go out to take it into their statuses, and
@@ -8,6 +8,5 @@
 mod each;
 pub mod laws;
 mod pods;
-mod rankings;
 
 pub use pods::{AwaitedPods, NodePods};

@@ -7,34 +7,32 @@ ghost use Rattle.node_pods.specs.Pods.{pods_of, with_pod, ArePlaced, IsCandidate
 ghost use Rattle.node_pods.specs.Pods.{awaited, AreAwaited, IsEvictable, AreEvicted};
 
 use crate::each::{all_handed, are_next, evict_at, rank_all};
-use crate::rankings::Rankings;
 use manifest::{MaxRestartDelay, PodSpec};
 use observations::{PodObs, TickObs};
 use pod_piece::{EvictOrder, PodPiece};
+use ranking::RankIndex;
 use signals::Signal;
 use std::alloc::{AllocError, Global};
 use std::marker::Model;
 
-/// The pods that are present on a node, by their numbers, and for each signal an index of those that
-/// have not ended. (Kubernetes, "Pod Lifecycle" and "Node-pressure Eviction".)
+/// The pods that are present on a node, by their numbers. (Kubernetes, "Pod Lifecycle" and
+/// "Node-pressure Eviction".)
 #[derive(Drop)]
 pub struct NodePods {
     alloc: Global,
     greatest: MaxRestartDelay,
     has_dedicated_imagefs: bool,
     pieces: Vec<PodPiece>,
-    rankings: Rankings,
 }
 
 impl Model for NodePods {
-    ghost use Rattle.node_pods.specs.Pods.{Pods, pods_of};
-    ghost use Rattle.node_pods.specs.Ranked.{IsKept};
+    ghost use Rattle.node_pods.specs.Pods.{Pods, pods_of, ArePlaced};
 
     ghost Value = { Pods };
 
     ghost view = { λ p. pods_of p.pieces.items p.greatest p.has_dedicated_imagefs };
 
-    ghost invariant = { λ p. IsKept (pods_of p.pieces.items p.greatest p.has_dedicated_imagefs) p.rankings };
+    ghost invariant = { λ p. ArePlaced (pods_of p.pieces.items p.greatest p.has_dedicated_imagefs) };
 }
 
 impl NodePods {
@@ -48,7 +46,6 @@ impl NodePods {
             greatest,
             has_dedicated_imagefs,
             pieces: Vec::new(alloc),
-            rankings: Rankings::new(alloc, has_dedicated_imagefs),
         }
     }
 
@@ -68,7 +65,6 @@ impl NodePods {
     {
         self.pieces.try_reserve(1)?;
         let piece = PodPiece::new(self.alloc, self.pieces.len(), pod, self.greatest)?;
-        self.rankings.add(piece.status())?;
         self.pieces.push_reserved(piece);
         Ok(())
     }
@@ -98,7 +94,6 @@ impl NodePods {
             greatest,
             has_dedicated_imagefs,
             pieces,
-            rankings,
         } = self;
         let count = pieces.len();
         let pieces = all_handed(alloc, pieces, shown)?;
@@ -109,18 +104,20 @@ impl NodePods {
                 greatest,
                 has_dedicated_imagefs,
                 count,
-                rankings,
             },
         ))
     }
 
-    /// The number of the pod that is evicted first under the signal; none, where all pods have ended.
-    /// It takes no memory. (Kubernetes, "Node-pressure Eviction", "Pod selection for kubelet
+    /// The number of the pod that is evicted first under the signal; none, where all pods have ended. The
+    /// index of the signal is made here, so that a signal that serves no threshold costs nothing. An `Err`
+    /// says that memory was refused. (Kubernetes, "Node-pressure Eviction", "Pod selection for kubelet
     /// eviction".)
-    pub fn first(&self, signal: Signal) -> Option<usize>
-        ensures { IsVictim signal self.now.has_dedicated_imagefs (IsCandidate self.now.pieces) result }
+    pub fn first(&self, signal: Signal) -> Result<Option<usize>, AllocError>
+        ensures { IfOk result (IsVictim signal self.now.has_dedicated_imagefs (IsCandidate self.now.pieces)) }
     {
-        self.rankings.first(signal)
+        let mut index = RankIndex::new(self.alloc, signal, self.has_dedicated_imagefs);
+        rank_all(&mut index, &self.pieces)?;
+        Ok(index.first())
     }
 
     /// Evicts the pod with the number by the tick that came last. It takes no memory.
@@ -131,7 +128,6 @@ impl NodePods {
         ensures dedicated { self.new.has_dedicated_imagefs ≡ self.old.has_dedicated_imagefs }
     {
         evict_at(&mut self.pieces, number, order);
-        self.rankings.remove(number);
     }
 }
 
@@ -142,41 +138,33 @@ pub struct AwaitedPods {
     greatest: MaxRestartDelay,
     has_dedicated_imagefs: bool,
     count: usize,
-    rankings: Rankings,
 }
 
 impl Model for AwaitedPods {
     ghost use Rattle.node_pods.specs.Pods.{Awaited, awaited};
-    ghost use Rattle.node_pods.specs.Ranked.{AreRankedBelow};
 
     ghost Value = { Awaited };
 
     ghost view = { λ a. awaited a.count a.greatest a.has_dedicated_imagefs };
-
-    ghost invariant = { λ a. AreRankedBelow a.count a.has_dedicated_imagefs a.rankings };
 }
 
 impl AwaitedPods {
-    /// The pods of the node with these pieces, each at its present place in the orders of eviction. An
-    /// `Err` says that memory was refused.
-    pub fn with(self, pieces: Vec<PodPiece>) -> Result<NodePods, AllocError>
+    /// The pods of the node with these pieces. It takes no memory.
+    pub fn with(self, pieces: Vec<PodPiece>) -> NodePods
         requires { AreAwaited self pieces.items }
-        ensures { IfOk result (λ pods. pods ≡ pods_of pieces.items self.greatest self.has_dedicated_imagefs) }
+        ensures { result ≡ pods_of pieces.items self.greatest self.has_dedicated_imagefs }
     {
         let AwaitedPods {
             alloc,
             greatest,
             has_dedicated_imagefs,
             count: _,
-            mut rankings,
         } = self;
-        rank_all(&mut rankings, &pieces)?;
-        Ok(NodePods {
+        NodePods {
             alloc,
             greatest,
             has_dedicated_imagefs,
             pieces,
-            rankings,
-        })
+        }
     }
 }

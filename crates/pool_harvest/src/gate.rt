@@ -9,6 +9,12 @@ use std::alloc::AllocError;
 
 /// Called before and after each update, with the number of the pod.
 pub trait Gate: Sync {
+    /// Whether an update may wait in it until others have begun. Where it may, each of the workers runs, however few
+    /// pods there are for each.
+    fn waits(&self) -> bool {
+        true
+    }
+
     /// The update of the pod begins.
     fn enter(&self, pod: usize);
 
@@ -20,13 +26,17 @@ pub trait Gate: Sync {
 pub struct NoGate;
 
 impl Gate for NoGate {
+    fn waits(&self) -> bool {
+        false
+    }
+
     fn enter(&self, _pod: usize) {}
 
     fn leave(&self, _pod: usize) {}
 }
 
 /// Updates a piece between the two calls of the gate. An `Err` changes nothing.
-pub(crate) fn update<G: Gate>(gate: &G, piece: &mut PodPiece) -> Result<(), AllocError>
+pub fn update<G: Gate>(gate: &G, piece: &mut PodPiece) -> Result<(), AllocError>
     requires { IsTrue piece.old.is_pending }
     ensures ok { OnOk result (piece.new ≡ updated piece.old) }
     ensures err { OnErr result (piece.new ≡ piece.old) }

@@ -8,7 +8,7 @@ mod harvest;
 mod order;
 mod reach;
 
-pub use gate::{Gate, NoGate};
+pub use gate::{Gate, NoGate, update};
 pub use harvest::Harvest;
 pub use order::in_order;
 pub use reach::Reach;

@@ -4,7 +4,7 @@ use crate::seen::Unprepared;
 use manifest::PodSpec;
 use observations::{PodObs, TickObs};
 use std::alloc::Global;
-use trace::{NodeConfig, read_trace};
+use trace::{Format, NodeConfig, Trace, read_trace};
 
 /// Two pods by two ticks.
 const TEXT: &str = r#"{"kind":"node","name":"n1"}
@@ -49,23 +49,26 @@ pub(crate) fn is_report(text: &str) -> bool {
     text == REPORT
 }
 
-// Each of these reads the trace anew, so that a scenario holds no more of it than it uses.
+/// The trace. Each of the following reads it anew, so that a scenario holds no more of it than it uses.
+fn read(alloc: Global) -> Result<Trace, Unprepared> {
+    Ok(read_trace(alloc, Format::Standard, TEXT.as_bytes())?)
+}
 
 /// The trace's node.
 pub(crate) fn config(alloc: Global) -> Result<NodeConfig, Unprepared> {
-    let trace = read_trace(alloc, TEXT.as_bytes())?;
+    let trace = read(alloc)?;
     Ok(trace.node)
 }
 
 /// Its pods.
 pub(crate) fn pods(alloc: Global) -> Result<Vec<PodSpec>, Unprepared> {
-    let trace = read_trace(alloc, TEXT.as_bytes())?;
+    let trace = read(alloc)?;
     Ok(trace.pods.into_vec())
 }
 
 /// Its ticks.
 pub(crate) fn ticks(alloc: Global) -> Result<Vec<TickObs>, Unprepared> {
-    let trace = read_trace(alloc, TEXT.as_bytes())?;
+    let trace = read(alloc)?;
     Ok(trace.ticks.into_vec())
 }
 

@@ -11,9 +11,9 @@ few : (rows : List Row) (workers : ℕ) → HasWorkers rows workers → (0 < wor
 few rows workers has = (omega (arith, has.some), has.few)
 
 of_found : (name : Text) (rows : List Row) (job : Job) → IsJobFor name rows job → HasFewWorkers job
-of_found name rows (Run trace workers) is = few rows workers is.2
-of_found name rows (Check trace) is = tt
-of_found name rows (Play trace steps workers) is = few rows workers is.3
+of_found name rows (Run trace workers format) is = few rows workers is.2
+of_found name rows (Check trace format) is = tt
+of_found name rows (Play trace steps workers format) is = few rows workers is.3
 
 of_job : (found : Option (Text × List Row)) (job : Job) → IsJobOf found job → HasFewWorkers job
 of_job None job is = absurd is

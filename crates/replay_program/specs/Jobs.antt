@@ -5,6 +5,6 @@ use Rattle.commands.specs.declared.job.Job.TheVariants.{Run, Check, Play}
 
 -- where the job is for workers, there are as many as can share a tick
 abbrev pub HasFewWorkers : Job → Type 0
-HasFewWorkers (Run trace workers) = (0 < workers) × (workers ≤ 64)
-HasFewWorkers (Check trace) = Unit {0}
-HasFewWorkers (Play trace steps workers) = (0 < workers) × (workers ≤ 64)
+HasFewWorkers (Run trace workers format) = (0 < workers) × (workers ≤ 64)
+HasFewWorkers (Check trace format) = Unit {0}
+HasFewWorkers (Play trace steps workers format) = (0 < workers) × (workers ≤ 64)

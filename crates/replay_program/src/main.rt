@@ -9,7 +9,8 @@ ghost use Rattle.replay_program.specs.Jobs.{HasFewWorkers};
 
 use fault::Fault;
 use kubelet_replay::{
-    Counted, Job, NoGate, Sink, Source, Step, check, job_of, read_steps, replay, replay_play,
+    Counted, Format, Job, NoGate, Sink, Source, Step, check_in, job_of, read_steps, replay,
+    replay_in, replay_play_in,
 };
 use replay_stream::read_all;
 use std::alloc::AllocError;
@@ -39,6 +40,7 @@ fn words_of(rt: &(impl Env + AllocGlobal)) -> Result<Vec<String>, Fault> {
 /// Replays the file of this path by so many workers.
 fn run<H: Files + AllocGlobal + Threads + Wait + Sync, W: Sink>(
     rt: &H,
+    format: Format,
     path: &str,
     workers: usize,
     output: &mut W,
@@ -48,17 +50,22 @@ fn run<H: Files + AllocGlobal + Threads + Wait + Sync, W: Sink>(
     requires writes { W.failures output.old < 2 ^ 63 }
 {
     let mut input = Counted::new(File::open(rt, path)?);
-    let done = replay(rt, &mut input, output, workers, &NoGate);
+    let done = replay_in(rt, format, &mut input, output, workers, &NoGate);
     drop(input);
     done.map_err(Fault::from)
 }
 
 /// Says whether the file of this path is a trace.
-fn look<H: Files + AllocGlobal, W: Sink>(rt: &H, path: &str, output: &mut W) -> Result<(), Fault>
+fn look<H: Files + AllocGlobal, W: Sink>(
+    rt: &H,
+    format: Format,
+    path: &str,
+    output: &mut W,
+) -> Result<(), Fault>
     requires { W.failures output.old < 2 ^ 63 }
 {
     let mut input = Counted::new(File::open(rt, path)?);
-    let done = check(rt.alloc(), &mut input, output);
+    let done = check_in(rt.alloc(), format, &mut input, output);
     drop(input);
     done.map_err(Fault::from)
 }
@@ -74,6 +81,7 @@ fn steps_text<H: Files + AllocGlobal>(rt: &H, path: &str) -> Result<Vec<u8>, Fau
 /// Replays the file of this path by so many workers that take these steps.
 fn play<H: Files + AllocGlobal, W: Sink>(
     rt: &H,
+    format: Format,
     path: &str,
     workers: usize,
     steps: &[Step],
@@ -84,7 +92,7 @@ fn play<H: Files + AllocGlobal, W: Sink>(
     requires writes { W.failures output.old < 2 ^ 63 }
 {
     let mut input = Counted::new(File::open(rt, path)?);
-    let done = replay_play(rt.alloc(), &mut input, output, workers, steps);
+    let done = replay_play_in(rt.alloc(), format, &mut input, output, workers, steps);
     drop(input);
     done.map_err(Fault::from)
 }
@@ -99,16 +107,21 @@ fn work<H: Files + AllocGlobal + Threads + Wait + Sync, W: Sink>(
     requires writes { W.failures output.old < 2 ^ 63 }
 {
     match job {
-        Job::Run { trace, workers } => run(rt, trace, workers, output),
-        Job::Check { trace } => look(rt, trace, output),
+        Job::Run {
+            trace,
+            workers,
+            format,
+        } => run(rt, format, trace, workers, output),
+        Job::Check { trace, format } => look(rt, format, trace, output),
         Job::Play {
             trace,
             steps,
             workers,
+            format,
         } => {
             let text = steps_text(rt, steps)?;
             let steps = read_steps(rt.alloc(), &text)?;
-            let done = play(rt, trace, workers, steps.as_slice(), output);
+            let done = play(rt, format, trace, workers, steps.as_slice(), output);
             drop(steps);
             done
         }

@@ -20,36 +20,26 @@ get_pod (p ∷ pieces) zero piece e = let same : p ≡ piece = cc in ap (λ (q :
 get_pod (p ∷ pieces) (suc n) piece e = get_pod pieces n piece e
 
 -- the first of the candidates is evicted
-pub evicts_first : (config : NodeConfig) (pieces : List Piece) (at : ℕ) (served : Option ThresholdKey)
-    (key : ThresholdKey) (dedicated : Bool) (victim : Option ℕ) (n : ℕ) (piece : Piece) (order : EvictOrder)
-    → served ≡ Some key → dedicated ≡ config.has_dedicated_imagefs
-    → IsVictim key.signal dedicated (IsCandidate pieces) victim → victim ≡ Some n
+pub evicts_first : (config : NodeConfig) (pieces : List Piece) (at : ℕ) (key : ThresholdKey) (victim : Option ℕ)
+    (n : ℕ) (piece : Piece) (order : EvictOrder)
+    → IsVictim key.signal config.has_dedicated_imagefs (IsCandidate pieces) victim → victim ≡ Some n
     → slice_get pieces n ≡ Some piece → order ≡ order_of config piece.pod at key
-    → IsEvictionAt config pieces at served (Some (record { pod = n; order = order }))
-evicts_first config pieces at served key dedicated victim n piece order is same first number found by =
-    let now : IsVictim key.signal config.has_dedicated_imagefs (IsCandidate pieces) victim =
-    subst (λ (d : Bool). IsVictim key.signal d (IsCandidate pieces) victim) same first in
-    let P : Option ℕ → Type 0 = λ v. IsVictim key.signal config.has_dedicated_imagefs (IsCandidate pieces) v in
-    let of : IsEvictionAt config pieces at (Some key) (Some (record { pod = n; order = order })) = (
-      Some n,
-      subst P number now,
-      record { pod = piece.pod; is_pod = get_pod pieces n piece found; number = refl; order = by },
-    ) in
-    subst (λ (k : Option ThresholdKey). IsEvictionAt config pieces at k (Some (record { pod = n; order = order })))
-    (sym is) of
+    → IsEvictionAt config pieces at (Some key) (Some (record { pod = n; order = order }))
+evicts_first config pieces at key victim n piece order first is found by = (
+  Some n,
+  subst (λ (v : Option ℕ). IsVictim key.signal config.has_dedicated_imagefs (IsCandidate pieces) v) is first,
+  record { pod = piece.pod; is_pod = get_pod pieces n piece found; number = refl; order = by },
+)
 
 -- without candidates nobody is
-pub evicts_none : (config : NodeConfig) (pieces : List Piece) (at : ℕ) (served : Option ThresholdKey)
-    (key : ThresholdKey) (dedicated : Bool) (victim : Option ℕ)
-    → served ≡ Some key → dedicated ≡ config.has_dedicated_imagefs
-    → IsVictim key.signal dedicated (IsCandidate pieces) victim → victim ≡ None
-    → IsEvictionAt config pieces at served None
-evicts_none config pieces at served key dedicated victim is same first none =
-    let now : IsVictim key.signal config.has_dedicated_imagefs (IsCandidate pieces) victim =
-    subst (λ (d : Bool). IsVictim key.signal d (IsCandidate pieces) victim) same first in
-    let P : Option ℕ → Type 0 = λ v. IsVictim key.signal config.has_dedicated_imagefs (IsCandidate pieces) v in
-    let of : IsEvictionAt config pieces at (Some key) None = (None, subst P none now, refl) in
-    subst (λ (k : Option ThresholdKey). IsEvictionAt config pieces at k None) (sym is) of
+pub evicts_none : (config : NodeConfig) (pieces : List Piece) (at : ℕ) (key : ThresholdKey) (victim : Option ℕ)
+    → IsVictim key.signal config.has_dedicated_imagefs (IsCandidate pieces) victim → victim ≡ None
+    → IsEvictionAt config pieces at (Some key) None
+evicts_none config pieces at key victim first is = (
+  None,
+  subst (λ (v : Option ℕ). IsVictim key.signal config.has_dedicated_imagefs (IsCandidate pieces) v) is first,
+  refl,
+)
 
 -- the first of the candidates is one of the pods
 pub victim_there : (pieces : List Piece) (key : ThresholdKey) (dedicated : Bool) (victim : Option ℕ) (n : ℕ)

@@ -20,7 +20,7 @@ use Rattle.pod_piece.specs.Piece.{Piece, new_piece, pods_in}
 use Rattle.ranking.proofs.LawLemmas.{same_victim}
 use Rattle.eviction.specs.declared.eviction.Eviction.{Eviction}
 use Rattle.eviction.specs.Replay.{EvictedAt, pod_ticks, own_eviction, IsCandidate}
-use Rattle.eviction.specs.Replay.{IsOfVictim, IsEvictionFor, IsRound}
+use Rattle.eviction.specs.Replay.{IsOfVictim, IsEvictionFor, is_paused, unless_paused, IsRound}
 use Rattle.eviction.proofs.Own.{evicted_none}
 use Rattle.node_pods.specs.Pods.{Pods, with_pod}
 use Rattle.event_list.proofs.More.{events_arrived}
@@ -58,7 +58,11 @@ same_round : (config : NodeConfig) (pods : List PodSpec) (pod : PodSpec) (before
     → length tick.pods ≤ length pods → IsRound config pods before tick es eviction
     → IsRound config (pods ++ pod ∷ []) before tick es eviction
 same_round config pods pod before tick es eviction fewer r =
-    record { served = r.served; is_served = r.is_served; is_for = for r.served r.is_for }
+    record {
+      served = r.served;
+      is_served = r.is_served;
+      is_for = for (unless_paused (is_paused config tick.at es) r.served) r.is_for;
+    }
   where
     same : (n : ℕ) (p : PodStatus)
         → (IsCandidate pods before tick es n p ↔ IsCandidate (pods ++ pod ∷ []) before tick es n p)
@@ -105,7 +109,7 @@ same_round config pods pod before tick es eviction fewer r =
 evicted_below : (config : NodeConfig) (pods : List PodSpec) (before : List TickObs) (tick : TickObs)
     (es : List (Option Eviction)) (e : Eviction)
     → IsRound config pods before tick es (Some e) → e.pod < length pods
-evicted_below config pods before tick es e r = by r.served r.is_for
+evicted_below config pods before tick es e r = by (unless_paused (is_paused config tick.at es) r.served) r.is_for
   where
     by : (served : Option ThresholdKey) → IsEvictionFor config pods before tick es served (Some e)
         → e.pod < length pods

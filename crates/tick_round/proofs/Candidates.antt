@@ -20,7 +20,8 @@ use Rattle.pod_piece.specs.Piece.{Piece, with_tick, updated, pods_in}
 use Rattle.pod_piece.specs.Status.{IsStatusOf}
 use Rattle.ranking.proofs.LawLemmas.{same_victim}
 use Rattle.eviction.specs.declared.eviction.Eviction.{Eviction}
-use Rattle.eviction.specs.Replay.{IsCandidate as IsCandidateIn, IsOfVictim, IsEvictionFor, IsRound}
+use Rattle.eviction.specs.Replay.{IsCandidate as IsCandidateIn, IsOfVictim, IsEvictionFor, is_paused, unless_paused}
+use Rattle.eviction.specs.Replay.{IsRound}
 use Rattle.node_pods.specs.Pods.{IsCandidate, AreAfter}
 use Rattle.tick_parts.specs.Evict.{IsEvictionAt, MayBeEvicted}
 use Rattle.tick_round.specs.Node.{piece_after, ArePieces}
@@ -66,10 +67,11 @@ pub round_of : (config : NodeConfig) (pods : List PodSpec) (before : List TickOb
     (es : List (Option Eviction)) (pieces : List Piece)
     (served : Option ThresholdKey) (eviction : Option Eviction)
     → length tick.pods ≡ length pods → ArePieces config pods (before ++ tick ∷ []) es pieces
-    → IsServed config.eviction before tick served → IsEvictionAt config pieces tick.at served eviction
+    → IsServed config.eviction before tick served
+    → IsEvictionAt config pieces tick.at (unless_paused (is_paused config tick.at es) served) eviction
     → IsRound config pods before tick es eviction
 round_of config pods before tick es pieces served eviction shown are is by =
-    record { served = served; is_served = is; is_for = for served by }
+    record { served = served; is_served = is; is_for = for (unless_paused (is_paused config tick.at es) served) by }
   where
     for : (served : Option ThresholdKey) → IsEvictionAt config pieces tick.at served eviction
         → IsEvictionFor config pods before tick es served eviction

@@ -20,6 +20,7 @@ use Rattle.pod_state.specs.declared.events.PodEvent.{PodEvent}
 use Rattle.pod_state.specs.Pods.{pod_tick}
 use Rattle.pod_piece.specs.Piece.{Piece, with_tick, updated, pods_in}
 use Rattle.eviction.specs.declared.eviction.Eviction.{Eviction}
+use Rattle.eviction.specs.Replay.{is_paused, unless_paused}
 use Rattle.eviction.proofs.More.{no_replay, replay_more}
 use Rattle.event_book.specs.declared.totals.Totals.{Totals}
 use Rattle.event_book.specs.declared.totals.Entry.{Entry}
@@ -133,7 +134,8 @@ may_evict s x mid served eviction fits after by =
 
 pub goes_on : (pods : List PodSpec) (ticks : List TickObs) (s : State) (x : TickObs) (begun : Begun)
     (mid : List Piece) (totals : Totals) (new : Pods) (eviction : Option Eviction) (evs : List Event)
-    → HasTaken pods ticks s → MayEnd s x begun mid totals → IsEvictionAt s.config mid x.at begun.served eviction
+    → HasTaken pods ticks s → MayEnd s x begun mid totals
+    → IsEvictionAt s.config mid x.at (unless_paused (is_paused s.config x.at s.evictions) begun.served) eviction
     → AddsEvents x.at mid begun.news.items eviction s.events evs → AreWithout mid eviction new.pieces
     → new.greatest ≡ s.pods.greatest → new.has_dedicated_imagefs ≡ s.pods.has_dedicated_imagefs
     → HasTaken pods (ticks ++ x ∷ [])
@@ -142,7 +144,8 @@ goes_on pods ticks s x begun mid totals new eviction evs taken may by adds gone 
   replay = replay_more s.config pods ticks s.evictions x eviction taken.replay
       (round_of s.config pods ticks x s.evictions mid begun.served eviction shown now_pieces served by);
   pieces = without s.config pods ticks s.evictions x eviction mid new.pieces len shown now_pieces
-      (may_evict s x mid begun.served eviction may.fits may.updated.after by) gone;
+      (may_evict s x mid (unless_paused (is_paused s.config x.at s.evictions) begun.served) eviction may.fits
+      may.updated.after by) gone;
   events = subst (λ (es : List Event). AreEvents s.config pods (ticks ++ x ∷ []) (s.evictions ++ eviction ∷ []) es)
       (sym adds.added)
       (events_more s.config pods ticks s.evictions s.events (part adds.made) x eviction len taken.events (record {
@@ -199,16 +202,18 @@ goes_on pods ticks s x begun mid totals new eviction evs taken may by adds gone 
 
 -- the node that has ended the tick
 pub ends : (pods : List PodSpec) (ticks : List TickObs) (s : State) (x : TickObs) (begun : Begun)
-    (mid : List Piece) (totals : Totals) (between new : Pods) (eviction : Option Eviction) (evs : List Event)
-    (es : List (Option Eviction))
+    (mid : List Piece) (totals : Totals) (between new : Pods) (key : Option ThresholdKey)
+    (eviction : Option Eviction) (evs : List Event) (es : List (Option Eviction))
     → HasTaken pods ticks s → MayEnd s x begun mid totals
     → between ≡ pods_of mid begun.pods.greatest begun.pods.has_dedicated_imagefs
-    → IsEvictionAt begun.config between.pieces begun.at begun.served eviction
+    → key ≡ unless_paused (is_paused begun.config begun.at begun.evictions.items) begun.served
+    → IsEvictionAt begun.config between.pieces begun.at key eviction
     → AddsEvents begun.at between.pieces begun.news.items eviction begun.events.items evs
     → AreWithout between.pieces eviction new.pieces → new.greatest ≡ between.greatest
     → new.has_dedicated_imagefs ≡ between.has_dedicated_imagefs → es ≡ begun.evictions.items ++ eviction ∷ []
     → HasTaken pods (ticks ++ x ∷ []) (state begun.config begun.signals new es evs totals (Some begun.at))
-ends pods ticks s x begun mid totals between new eviction evs es taken may is by adds gone greatest dedicated more =
+ends pods ticks s x begun mid totals between new key eviction evs es taken may is heeds by adds gone greatest dedicated
+    more =
     subst (λ (c : NodeConfig). HasTaken pods all (state c begun.signals new es evs totals (Some begun.at)))
     (sym b.config)
     (subst (λ (k : ℕ). HasTaken pods all (state s.config begun.signals new es evs totals (Some k))) (sym b.at)
@@ -229,11 +234,19 @@ ends pods ticks s x begun mid totals between new eviction evs es taken may is by
     same : between.pieces ≡ mid
     same = ap (λ (p : Pods). p.pieces) is
 
-    by' : IsEvictionAt s.config mid x.at begun.served eviction
+    heeds' : key ≡ unless_paused (is_paused s.config x.at s.evictions) begun.served
+    heeds' =
+        heeds
+        ∙ ap (λ (c : NodeConfig). unless_paused (is_paused c begun.at begun.evictions.items) begun.served) b.config
+        ∙ ap (λ (k : ℕ). unless_paused (is_paused s.config k begun.evictions.items) begun.served) b.at
+        ∙ ap (λ (l : List (Option Eviction)). unless_paused (is_paused s.config x.at l) begun.served) b.evictions
+
+    by' : IsEvictionAt s.config mid x.at (unless_paused (is_paused s.config x.at s.evictions) begun.served) eviction
     by' =
-        subst (λ (c : NodeConfig). IsEvictionAt c mid x.at begun.served eviction) b.config
-        (subst (λ (k : ℕ). IsEvictionAt begun.config mid k begun.served eviction) b.at
-        (subst (λ (ps : List Piece). IsEvictionAt begun.config ps begun.at begun.served eviction) same by))
+        subst (λ (k : Option ThresholdKey). IsEvictionAt s.config mid x.at k eviction) heeds'
+        (subst (λ (c : NodeConfig). IsEvictionAt c mid x.at key eviction) b.config
+        (subst (λ (k : ℕ). IsEvictionAt begun.config mid k key eviction) b.at
+        (subst (λ (ps : List Piece). IsEvictionAt begun.config ps begun.at key eviction) same by)))
 
     adds' : AddsEvents x.at mid begun.news.items eviction s.events evs
     adds' =
@@ -252,6 +265,13 @@ adds_as at pieces others news same_news eviction old new is is' adds =
     subst (λ (ps : List Piece). AddsEvents at ps same_news eviction old new) is
     (subst (λ (l : List NodeEvent). AddsEvents at pieces l eviction old new) is' adds)
 
+-- the threshold that is heeded, by the same evictions
+pub heeds_as : (config : NodeConfig) (at : ℕ) (es others : List (Option Eviction)) (served key : Option ThresholdKey)
+    → es ≡ others → key ≡ unless_paused (is_paused config at es) served
+    → key ≡ unless_paused (is_paused config at others) served
+heeds_as config at es others served key same is =
+    is ∙ ap (λ (l : List (Option Eviction)). unless_paused (is_paused config at l) served) same
+
 -- a node that has begun a tick, as its type keeps it
 pub begun_as : (s t : State) (x : TickObs) (b : Begun) → s ≡ t → b.config ≡ s.config
     → IsSampled s.config s.signals x b.signals b.news.items b.served
@@ -269,17 +289,17 @@ begun_as s t x b same config sampled pods evictions events at =
 
 -- the eviction may be carried out
 pub may_carry_out : (s : State) (x : TickObs) (begun : Begun) (mid : List Piece) (totals : Totals) (between : Pods)
-    (eviction : Option Eviction) → MayEnd s x begun mid totals
+    (key : Option ThresholdKey) (eviction : Option Eviction) → MayEnd s x begun mid totals
     → between ≡ pods_of mid begun.pods.greatest begun.pods.has_dedicated_imagefs
-    → IsEvictionAt begun.config between.pieces begun.at begun.served eviction → MayBeEvicted between.pieces eviction
-may_carry_out s x begun mid totals between eviction may is by =
+    → IsEvictionAt begun.config between.pieces begun.at key eviction → MayBeEvicted between.pieces eviction
+may_carry_out s x begun mid totals between key eviction may is by =
     let same : between.pieces ≡ mid = ap (λ (p : Pods). p.pieces) is in
     let b = may.has_begun in
     subst (λ (ps : List Piece). MayBeEvicted ps eviction) (sym same)
-    (may_evict s x mid begun.served eviction may.fits may.updated.after
-    (subst (λ (c : NodeConfig). IsEvictionAt c mid x.at begun.served eviction) b.config
-    (subst (λ (k : ℕ). IsEvictionAt begun.config mid k begun.served eviction) b.at
-    (subst (λ (ps : List Piece). IsEvictionAt begun.config ps begun.at begun.served eviction) same by))))
+    (may_evict s x mid key eviction may.fits may.updated.after
+    (subst (λ (c : NodeConfig). IsEvictionAt c mid x.at key eviction) b.config
+    (subst (λ (k : ℕ). IsEvictionAt begun.config mid k key eviction) b.at
+    (subst (λ (ps : List Piece). IsEvictionAt begun.config ps begun.at key eviction) same by))))
 
 -- what the updates of a tick add to the totals
 few_piece : (pieces : List Piece) (n : ℕ) (piece : Piece) → AreFew (pods_in pieces) → slice_get pieces n ≡ Some piece

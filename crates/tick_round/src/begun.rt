@@ -11,7 +11,7 @@ ghost use Rattle.tick_round.specs.Round.{IsKept, MayEnd};
 use crate::running::Running;
 use event_book::WholeBook;
 use event_list::{Event, add_events};
-use eviction::Eviction;
+use eviction::{Eviction, unless_paused};
 use node_config::NodeConfig;
 use node_pods::AwaitedPods;
 use node_signals::{NodeEvent, NodeSignals, ThresholdKey};
@@ -79,14 +79,15 @@ impl Begun {
             mut events,
             at,
         } = self;
-        let mut pods = match pods.with(pieces) {
-            Ok(pods) => pods,
+        let mut pods = pods.with(pieces);
+        let heeded = unless_paused(&config, at, &evictions, served);
+        let eviction = match eviction_for(&config, &pods, at, heeded) {
+            Ok(eviction) => eviction,
             Err(fault) => {
-                drop((config, signals, news, evictions, events, book));
+                drop((config, signals, pods, news, evictions, events, book));
                 return Err(fault);
             }
         };
-        let eviction = eviction_for(&config, &pods, at, served);
         let added = add_tick(
             &mut events,
             &mut evictions,

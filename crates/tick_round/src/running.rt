@@ -36,7 +36,7 @@ use std::marker::Model;
 use std::sync::Wait;
 use std::sync::ledger::Ledger;
 use std::thread::Threads;
-use tick_parts::{Gate, update_alone, update_by_steps, update_by_workers};
+use tick_parts::{Gate, NoGate, update_alone, update_by_steps, update_by_workers};
 
 /// A node that is not halted. Its type keeps that all in it is the state of the ticks that it took.
 #[derive(Drop)]
@@ -195,7 +195,7 @@ impl<U: Ledger, E: Ledger, O: Ledger> Running<U, E, O> {
             → IfOk result (HasTaken pods (ticks ++ tick ∷ [])) }
     {
         let (pieces, book, begun) = self.begin(tick)?;
-        match update_alone(pieces, book) {
+        match update_alone(pieces, book, &NoGate) {
             Ok((pieces, book)) => begun.end(pieces, book),
             Err(fault) => {
                 drop(begun);

@@ -26,6 +26,7 @@ use Rattle.manifest_fields.specs.ProbeFields.{greatest, not_from_0, in_range, nu
 use Rattle.manifest_fields.specs.ProbeFields.{probe_of}
 use Rattle.manifest_fields.specs.ProbeFields.{some_probes, unprobed, probes_of}
 use Rattle.manifest_fields.specs.ResourceFields.{resources_of}
+use Rattle.node_config.specs.declared.node.Format.{Format}
 use Rattle.trace.specs.declared.past.Trace.{Trace}
 use Rattle.trace.specs.Laws.{Says, says_node, says_pod, says_tick}
 use Rattle.trace.specs.Past.{Past}
@@ -216,7 +217,8 @@ line_keeps past line _ all (says_pod d pod is new) =
 line_keeps past line _ all (says_tick d at written placed is coded) = all
 
 kept : IsKept (λ past. HaveProbesInRange past.pods)
-kept = record { first = All-nil (λ (p : PodSpec). All HasProbesInRange p.containers); line = line_keeps }
+kept = record { first = λ format. All-nil (λ (p : PodSpec). All HasProbesInRange p.containers); line = line_keeps }
 
-pub probes_in_range : (text : List ℕ) (trace : Trace) → trace_of text ≡ Ok trace → HaveProbesInRange trace.pods
-probes_in_range text trace e = of_trace (λ past. HaveProbesInRange past.pods) kept text trace e
+pub probes_in_range : (format : Format) (text : List ℕ) (trace : Trace) → trace_of format text ≡ Ok trace
+    → HaveProbesInRange trace.pods
+probes_in_range format text trace e = (of_trace (λ past. HaveProbesInRange past.pods) kept format text trace e).1

@@ -1,5 +1,6 @@
 -- The trace of a text is what its lines say, or its first fault.
 pub mod Checks
+pub mod Formats
 pub mod GoingBack
 pub mod Kinds
 pub mod Listings
@@ -36,6 +37,7 @@ use Rattle.json_lines.specs.Lines.{lines_of, is_blank, longest_line}
 use Rattle.trace.specs.Written.{node_in, tick_line_in}
 use Rattle.trace.specs.Pod.{key_of_pod, has_key, pod_from}
 use Rattle.trace.specs.Placing.{placed_of}
+use Rattle.node_config.specs.declared.node.Format.{Format}
 use Rattle.node_config.specs.declared.node.Version.{Version}
 use Rattle.trace.specs.Past.{Past, version_in, of_node, with_pod, with_tick}
 use Rattle.trace.specs.Tick.{moment_of, observed_in, tick_at}
@@ -72,50 +74,52 @@ ends_at n before line kind rest counts fails =
     ∙ ap (λ (r : Result Past FaultKind). at_line n r >>= λ next. read_on (n + 1) next rest) fails
 
 -- once the first n lines are read, the others are read after what those say
-reaches : (lines : List (List ℕ)) (n : ℕ) (past : Past) → AreSaid lines n past
-    → read_on 1 nothing lines ≡ read_on (n + 1) past (drop n lines)
-reaches lines zero past said = ap (λ (p : Past). read_on 1 p lines) (sym said)
-reaches lines (suc n) past (before, line, said, here, leaves) =
+reaches : (format : Format) (lines : List (List ℕ)) (n : ℕ) (past : Past) → AreSaid format lines n past
+    → read_on 1 (nothing format) lines ≡ read_on (n + 1) past (drop n lines)
+reaches format lines zero past said = ap (λ (p : Past). read_on 1 p lines) (sym said)
+reaches format lines (suc n) past (before, line, said, here, leaves) =
     let ones : n + 1 ≡ suc n = omega arith in
-    let so_far = reaches lines n before said in
+    let so_far = reaches format lines n before said in
     let cut = drop_here lines n line here in
     let next = goes_on (n + 1) before line past (drop (suc n) lines) leaves in
     so_far ∙ ap (λ (ls : List (List ℕ)). read_on (n + 1) before ls) cut ∙ next
     ∙ ap (λ (k : ℕ). read_on (k + 1) past (drop (suc n) lines)) ones
 
-refused : (lines : List (List ℕ)) (n : ℕ) (kind : FaultKind) → IsFaultAt lines n kind
-    → read_on 1 nothing lines ≡ Err (record { line = n + 1; kind = kind })
-refused lines n kind is =
-    reaches lines n is.past is.said ∙ ap (λ (ls : List (List ℕ)). read_on (n + 1) is.past ls)
+refused : (format : Format) (lines : List (List ℕ)) (n : ℕ) (kind : FaultKind) → IsFaultAt format lines n kind
+    → read_on 1 (nothing format) lines ≡ Err (record { line = n + 1; kind = kind })
+refused format lines n kind is =
+    reaches format lines n is.past is.said ∙ ap (λ (ls : List (List ℕ)). read_on (n + 1) is.past ls)
     (drop_here lines n is.line is.here)
     ∙ ends_at (n + 1) is.past is.line kind (drop (suc n) lines) is.counts is.fails
 
-ended : (lines : List (List ℕ)) (past : Past) → AreSaid lines (length lines) past
-    → read_on 1 nothing lines ≡ finished (length lines + 1) past past.node
-ended lines past said =
-    reaches lines (length lines) past said ∙ ap (λ (ls : List (List ℕ)). read_on (length lines + 1) past ls)
+ended : (format : Format) (lines : List (List ℕ)) (past : Past) → AreSaid format lines (length lines) past
+    → read_on 1 (nothing format) lines ≡ finished (length lines + 1) past past.node
+ended format lines past said =
+    reaches format lines (length lines) past said ∙ ap (λ (ls : List (List ℕ)). read_on (length lines + 1) past ls)
     (drop-length lines)
 
-abbrev Reached : List (List ℕ) → ℕ → Type 0
-Reached lines n = ((past : Past) × AreSaid lines n past) ⊎ ((m : ℕ) × (kind : FaultKind) × IsFaultAt lines m kind)
+abbrev Reached : Format → List (List ℕ) → ℕ → Type 0
+Reached format lines n = ((past : Past) × AreSaid format lines n past) ⊎ ((m : ℕ) × (kind : FaultKind)
+    × IsFaultAt format lines m kind)
 
-line_says : (lines : List (List ℕ)) (n : ℕ) (past : Past) (line : List ℕ) (said : AreSaid lines n past)
+line_says : (format : Format) (lines : List (List ℕ)) (n : ℕ) (past : Past) (line : List ℕ)
+    (said : AreSaid format lines n past)
     (here : slice_get lines n ≡ Some line)
-    (counts : is_blank line ≡ false) (r : Result Past FaultKind) → line_at past line ≡ r → Reached lines (suc n)
-line_says lines n past line said here counts (Ok next) e = inl (next, (past, line, said, here, inr (counts, e)))
-line_says lines n past line said here counts (Err kind) e =
+    (counts : is_blank line ≡ false) (r : Result Past FaultKind) → line_at past line ≡ r → Reached format lines (suc n)
+line_says format lines n past line said here counts (Ok next) e = inl (next, (past, line, said, here, inr (counts, e)))
+line_says format lines n past line said here counts (Err kind) e =
     inr (n, kind, record { past = past; line = line; said = said; here = here; counts = counts; fails = e })
 
 -- the first n lines say something, or there is a first fault
-said_or_fault : (lines : List (List ℕ)) (n : ℕ) → n ≤ length lines → Reached lines n
-said_or_fault lines zero le = inl (nothing, refl)
-said_or_fault lines (suc n) le = elim (said_or_fault lines n (omega arith)) [
+said_or_fault : (format : Format) (lines : List (List ℕ)) (n : ℕ) → n ≤ length lines → Reached format lines n
+said_or_fault format lines zero le = inl ((nothing format), refl)
+said_or_fault format lines (suc n) le = elim (said_or_fault format lines n (omega arith)) [
   | inl said ↦
       let line = get_or lines n [] in
       let here : slice_get lines n ≡ Some line = slice_get-get_or lines n [] (omega arith) in
       elim (cases_Bool (is_blank line)) [
         | inl blank ↦ inl (said.0, (said.0, line, said.1, here, inl (blank, refl)))
-        | inr counts ↦ line_says lines n said.0 line said.1 here counts (line_at said.0 line) refl
+        | inr counts ↦ line_says format lines n said.0 line said.1 here counts (line_at said.0 line) refl
       ]
   | inr fault ↦ inr fault
 ]
@@ -126,7 +130,7 @@ unfolding with_node
 with_node_some past d next e =
     let with : NodeConfig → Past = of_node past in
     let last : NodeConfig → Result Past FaultKind = λ node. Ok (with node) in
-    let node = bind_ok (node_in d) last next e in
+    let node = bind_ok (node_in past.format d) last next e in
     let given : Ok (with node.0) ≡ Ok next = node.2 in
     let is_next : with node.0 ≡ next = cc in
     subst (λ (p : Past). is_some p.node ≡ true) is_next refl
@@ -200,49 +204,52 @@ earlier (suc n) (suc m) lt = elim (earlier n m (omega arith)) [
 ]
 
 -- where the first n lines say no node, all of them are blank
-blank_before : (lines : List (List ℕ)) (n : ℕ) (past : Past) → AreSaid lines n past → past.node ≡ None
+blank_before : (format : Format) (lines : List (List ℕ)) (n : ℕ) (past : Past) → AreSaid format lines n past
+    → past.node ≡ None
     → (m : ℕ) (line : List ℕ) → m < n → slice_get lines m ≡ Some line → is_blank line ≡ true
-blank_before lines zero past said none m line lt e = absurd (omega arith)
-blank_before lines (suc n) past (before, last, said, here, inl blank) none m line lt e =
+blank_before format lines zero past said none m line lt e = absurd (omega arith)
+blank_before format lines (suc n) past (before, last, said, here, inl blank) none m line lt e =
     let same : past.node ≡ before.node = ap (λ (p : Past). p.node) blank.1 in
     elim (earlier n m lt) [
-      | inl less ↦ blank_before lines n before said (sym same ∙ none) m line less e
+      | inl less ↦ blank_before format lines n before said (sym same ∙ none) m line less e
       | inr is ↦
           let at_n : slice_get lines n ≡ Some line = subst (λ (k : ℕ). slice_get lines k ≡ Some line) is e in
           let is_last : last ≡ line = cc in
           subst (λ (l : List ℕ). is_blank l ≡ true) is_last blank.0
     ]
-blank_before lines (suc n) past (before, last, said, here, inr counts) none m line lt e =
+blank_before format lines (suc n) past (before, last, said, here, inr counts) none m line lt e =
     let some = line_some before last past counts.1 in
     let never : false ≡ true = subst (λ (o : Option NodeConfig). is_some o ≡ true) none some in
     absurd (cc)
 
--- blank lines say nothing
-blanks_said : (lines : List (List ℕ)) → NoneCounts lines → (n : ℕ) → n ≤ length lines → AreSaid lines n nothing
-blanks_said lines blank zero le = refl
-blanks_said lines blank (suc n) le =
+-- blank lines say (nothing format)
+blanks_said : (format : Format) (lines : List (List ℕ)) → NoneCounts lines → (n : ℕ) → n ≤ length lines
+    → AreSaid format lines n (nothing format)
+blanks_said format lines blank zero le = refl
+blanks_said format lines blank (suc n) le =
     let line = get_or lines n [] in
     let here : slice_get lines n ≡ Some line = slice_get-get_or lines n [] (omega arith) in
-    (nothing, line, blanks_said lines blank n (omega arith), here, inl (blank n line here, refl))
+    ((nothing format), line, blanks_said format lines blank n (omega arith), here, inl (blank n line here, refl))
 
 -- the end of a text whose lines have no fault
-end_fault : (lines : List (List ℕ)) (fault : LineFault) (past : Past) (node : Option NodeConfig)
-    → AreSaid lines (length lines) past → past.node ≡ node
-    → finished (length lines + 1) past node ≡ Err fault → IsFirstFault lines fault
-end_fault lines fault past None said none e =
+end_fault : (format : Format) (lines : List (List ℕ)) (fault : LineFault) (past : Past) (node : Option NodeConfig)
+    → AreSaid format lines (length lines) past → past.node ≡ node
+    → finished (length lines + 1) past node ≡ Err fault → IsFirstFault format lines fault
+end_fault format lines fault past None said none e =
     let is : record { line = length lines + 1; kind = Order } ≡ fault = cc in
     inr (
-      λ n line here. blank_before lines (length lines) past said none n line (slice_get_within lines n line here) here,
+      λ n line here. blank_before format lines (length lines) past said none n line
+          (slice_get_within lines n line here) here,
       ap (λ (f : LineFault). f.kind) (sym is),
       ap (λ (f : LineFault). f.line) (sym is),
     )
-end_fault lines fault past (Some node) said some e = absurd (cc)
+end_fault format lines fault past (Some node) said some e = absurd (cc)
 
-end_whole : (lines : List (List ℕ)) (trace : Trace) (past : Past) (node : Option NodeConfig)
-    → AreSaid lines (length lines) past → past.node ≡ node
-    → finished (length lines + 1) past node ≡ Ok trace → IsWhole lines trace
-end_whole lines trace past None said none e = absurd (cc)
-end_whole lines trace past (Some node) said some e =
+end_whole : (format : Format) (lines : List (List ℕ)) (trace : Trace) (past : Past) (node : Option NodeConfig)
+    → AreSaid format lines (length lines) past → past.node ≡ node
+    → finished (length lines + 1) past node ≡ Ok trace → IsWhole format lines trace
+end_whole format lines trace past None said none e = absurd (cc)
+end_whole format lines trace past (Some node) said some e =
     let is : record { node = node; pods = past.pods; arrivals = past.arrivals; ticks = past.ticks } ≡ trace = cc in
     record {
       past = past;
@@ -253,45 +260,49 @@ end_whole lines trace past (Some node) said some e =
       ticks = ap (λ (t : Trace). t.ticks) is;
     }
 
-fault_of : (lines : List (List ℕ)) (fault : LineFault) → read_on 1 nothing lines ≡ Err fault → IsFirstFault lines fault
-fault_of lines fault e = elim (said_or_fault lines (length lines) (omega arith)) [
-  | inl said ↦ end_fault lines fault said.0 said.0.node said.1 refl (sym (ended lines said.0 said.1) ∙ e)
+fault_of : (format : Format) (lines : List (List ℕ)) (fault : LineFault)
+    → read_on 1 (nothing format) lines ≡ Err fault → IsFirstFault format lines fault
+fault_of format lines fault e = elim (said_or_fault format lines (length lines) (omega arith)) [
+  | inl said ↦ end_fault format lines fault said.0 said.0.node said.1 refl (sym (ended format lines said.0 said.1) ∙ e)
   | inr first ↦
       let given : Err (record { line = first.0 + 1; kind = first.1 }) ≡ Err fault =
-      sym (refused lines first.0 first.1 first.2) ∙ e in
+      sym (refused format lines first.0 first.1 first.2) ∙ e in
       let is : record { line = first.0 + 1; kind = first.1 } ≡ fault = cc in
       let kind : first.1 ≡ fault.kind = ap (λ (f : LineFault). f.kind) is in
       inl (
         first.0,
-        subst (λ (k : FaultKind). IsFaultAt lines first.0 k) kind first.2,
+        subst (λ (k : FaultKind). IsFaultAt format lines first.0 k) kind first.2,
         ap (λ (f : LineFault). f.line)
             (sym is),
       )
 ]
 
-fault_is : (lines : List (List ℕ)) (fault : LineFault) → IsFirstFault lines fault → read_on 1 nothing lines ≡ Err fault
-fault_is lines fault (inl (n, first, number)) =
-    refused lines n fault.kind first ∙ ap (λ (k : ℕ). Err (record { line = k; kind = fault.kind })) (sym number)
-fault_is lines fault (inr (blank, kind, number)) =
-    let said = blanks_said lines blank (length lines) (omega arith) in
-    ended lines nothing said
+fault_is : (format : Format) (lines : List (List ℕ)) (fault : LineFault) → IsFirstFault format lines fault
+    → read_on 1 (nothing format) lines ≡ Err fault
+fault_is format lines fault (inl (n, first, number)) =
+    refused format lines n fault.kind first ∙ ap (λ (k : ℕ). Err (record { line = k; kind = fault.kind })) (sym number)
+fault_is format lines fault (inr (blank, kind, number)) =
+    let said = blanks_said format lines blank (length lines) (omega arith) in
+    ended format lines (nothing format) said
     ∙ ap (λ (k : ℕ). Err (record { line = k; kind = Order })) (sym number)
     ∙ ap (λ (k : FaultKind). Err (record { line = fault.line; kind = k })) (sym kind)
 
-whole_of : (lines : List (List ℕ)) (trace : Trace) → read_on 1 nothing lines ≡ Ok trace → IsWhole lines trace
-whole_of lines trace e = elim (said_or_fault lines (length lines) (omega arith)) [
-  | inl said ↦ end_whole lines trace said.0 said.0.node said.1 refl (sym (ended lines said.0 said.1) ∙ e)
+whole_of : (format : Format) (lines : List (List ℕ)) (trace : Trace) → read_on 1 (nothing format) lines ≡ Ok trace
+    → IsWhole format lines trace
+whole_of format lines trace e = elim (said_or_fault format lines (length lines) (omega arith)) [
+  | inl said ↦ end_whole format lines trace said.0 said.0.node said.1 refl (sym (ended format lines said.0 said.1) ∙ e)
   | inr first ↦
       let given : ◌≡◌ {A = Result Trace LineFault} (Err (record { line = first.0 + 1; kind = first.1 })) (Ok trace) =
-      sym (refused lines first.0 first.1 first.2) ∙ e in
+      sym (refused format lines first.0 first.1 first.2) ∙ e in
       absurd (cc)
 ]
 
-whole_is : (lines : List (List ℕ)) (trace : Trace) → IsWhole lines trace → read_on 1 nothing lines ≡ Ok trace
-whole_is lines trace is =
+whole_is : (format : Format) (lines : List (List ℕ)) (trace : Trace) → IsWhole format lines trace
+    → read_on 1 (nothing format) lines ≡ Ok trace
+whole_is format lines trace is =
     let n = length lines + 1 in
     let past = is.past in
-    ended lines past is.said
+    ended format lines past is.said
     ∙ ap (λ (o : Option NodeConfig). finished n past o) is.node
     ∙ ap (λ (ps : List PodSpec). Ok
     (record { node = trace.node; pods = ps; arrivals = past.arrivals; ticks = past.ticks })) is.pods
@@ -308,21 +319,23 @@ one_left before past past' line (inl (blank, is)) (inr (counts, is')) = absurd (
 one_left before past past' line (inr (counts, is)) (inl (blank, is')) = absurd (cc)
 one_left before past past' line (inr (counts, is)) (inr (counts', is')) = cc
 
-one_said : (lines : List (List ℕ)) (n : ℕ) (past past' : Past) → AreSaid lines n past → AreSaid lines n past'
+one_said : (format : Format) (lines : List (List ℕ)) (n : ℕ) (past past' : Past) → AreSaid format lines n past
+    → AreSaid format lines n past'
     → past ≡ past'
-one_said lines zero past past' is is' = is ∙ sym is'
-one_said lines (suc n) past past' (before, line, said, here, leaves) (before', line', said', here', leaves') =
-    let same : before' ≡ before = one_said lines n before' before said' said in
+one_said format lines zero past past' is is' = is ∙ sym is'
+one_said format lines (suc n) past past' (before, line, said, here, leaves) (before', line', said', here', leaves') =
+    let same : before' ≡ before = one_said format lines n before' before said' said in
     let same_line : line' ≡ line = cc in
     one_left before past past' line leaves
     (subst (λ (l : List ℕ). Leaves before l past') same_line
     (subst (λ (p : Past). Leaves p line' past') same leaves'))
 
-one_first : (lines : List (List ℕ)) (n m : ℕ) (kind kind' : FaultKind) → IsFaultAt lines n kind
-    → IsFaultAt lines m kind' → (n ≡ m) × (kind ≡ kind')
-one_first lines n m kind kind' is is' =
+one_first : (format : Format) (lines : List (List ℕ)) (n m : ℕ) (kind kind' : FaultKind) → IsFaultAt format lines n kind
+    → IsFaultAt format lines m kind' → (n ≡ m) × (kind ≡ kind')
+one_first format lines n m kind kind' is is' =
     let given : ◌≡◌ {A = Result Trace LineFault} (Err (record { line = n + 1; kind = kind }))
-    (Err (record { line = m + 1; kind = kind' })) = sym (refused lines n kind is) ∙ refused lines m kind' is' in
+    (Err (record { line = m + 1; kind = kind' })) = sym (refused format lines n kind is)
+    ∙ refused format lines m kind' is' in
     let same : ◌≡◌ {A = LineFault} (record { line = n + 1; kind = kind }) (record { line = m + 1; kind = kind' }) =
     cc in
     let number : n + 1 ≡ m + 1 = ap (λ (f : LineFault). f.line) same in
@@ -330,11 +343,11 @@ one_first lines n m kind kind' is is' =
 
 pub first_fault : FirstFault
 unfolding trace_of
-first_fault text fault = (fault_of (lines_of text) fault, fault_is (lines_of text) fault)
+first_fault format text fault = (fault_of format (lines_of text) fault, fault_is format (lines_of text) fault)
 
 pub whole_trace : WholeTrace
 unfolding trace_of
-whole_trace text trace = (whole_of (lines_of text) trace, whole_is (lines_of text) trace)
+whole_trace format text trace = (whole_of format (lines_of text) trace, whole_is format (lines_of text) trace)
 
 pub one_fault : OneFault
 one_fault = record { said = one_said; fault = one_first }

@@ -9,6 +9,7 @@ use Rattle.json_fields.specs.Fields.{field_at}
 use Rattle.manifest.specs.declared.pod.PodSpec.{PodSpec}
 use Rattle.observations.specs.declared.tick.TickObs.{TickObs}
 use Rattle.observations.specs.Limits.{most_pods, most_ticks}
+use Rattle.node_config.specs.declared.node.Format.{Format}
 use Rattle.trace.specs.declared.fault.LineFault.{LineFault}
 use Rattle.trace.specs.declared.past.Trace.{Trace}
 use Rattle.tick_lines.specs.declared.line.TickLine.{TickLine}
@@ -165,7 +166,7 @@ line_keeps past line _ all (says_tick d at written placed is coded) =
 
 kept : IsKept IsShaped
 kept = record {
-  first = record {
+  first = λ format. record {
     shown = λ t tick here. absurd (cc);
     arrived = record {
       as_many = refl;
@@ -183,7 +184,7 @@ kept = record {
 }
 
 -- what a call answers that gives this trace
-pub given_shape : (text : List ℕ) (answer : Result Trace LineFault) → GivesAt (λ t. t) answer (trace_of text)
-    → IfOk answer (λ t. HasShape t.pods t.arrivals t.ticks)
-given_shape text (Ok trace) given = of_trace IsShaped kept text trace given
-given_shape text (Err fault) given = tt
+pub given_shape : (format : Format) (text : List ℕ) (answer : Result Trace LineFault)
+    → GivesAt (λ t. t) answer (trace_of format text) → IfOk answer (λ t. HasShape t.pods t.arrivals t.ticks)
+given_shape format text (Ok trace) given = (of_trace IsShaped kept format text trace given).1
+given_shape format text (Err fault) given = tt

@@ -13,6 +13,7 @@ use Rattle.observations.specs.declared.tick.TickObs.{TickObs}
 use Rattle.observations.specs.Pods.{PodObs}
 use Rattle.observations.specs.Observations.{shown_of, listed_in, seen_of, history}
 use Rattle.observations.proofs.OwnTicks.{seen_shown, history_shown, history_rests}
+use Rattle.node_config.specs.declared.node.Format.{Format}
 use Rattle.trace.specs.declared.fault.LineFault.{LineFault}
 use Rattle.trace.specs.declared.past.Trace.{Trace}
 use Rattle.following.specs.Backwards.{is_backwards}
@@ -70,17 +71,21 @@ line_sound past line _ all (says_tick d at written placed is coded) =
 
 kept : IsKept IsSound
 kept = record {
-  first = record { acceptable = λ pod container t lt. absurd (omega arith); rising = λ t u x y lt e f. absurd (cc) };
+  first = λ format. record {
+    acceptable = λ pod container t lt. absurd
+        (omega arith);
+    rising = λ t u x y lt e f. absurd (cc);
+  };
   line = line_sound;
 }
 
 -- what a call answers that gives this trace
-pub given_acceptable : (text : List ℕ) (answer : Result Trace LineFault) → GivesAt (λ t. t) answer (trace_of text)
-    → IfOk answer (λ t. AreAcceptable t.ticks)
-given_acceptable text (Ok trace) given = (of_trace IsSound kept text trace given).acceptable
-given_acceptable text (Err fault) given = tt
+pub given_acceptable : (format : Format) (text : List ℕ) (answer : Result Trace LineFault)
+    → GivesAt (λ t. t) answer (trace_of format text) → IfOk answer (λ t. AreAcceptable t.ticks)
+given_acceptable format text (Ok trace) given = (of_trace IsSound kept format text trace given).1.acceptable
+given_acceptable format text (Err fault) given = tt
 
-pub given_rising : (text : List ℕ) (answer : Result Trace LineFault) → GivesAt (λ t. t) answer (trace_of text)
-    → IfOk answer (λ t. AreRising t.ticks)
-given_rising text (Ok trace) given = (of_trace IsSound kept text trace given).rising
-given_rising text (Err fault) given = tt
+pub given_rising : (format : Format) (text : List ℕ) (answer : Result Trace LineFault)
+    → GivesAt (λ t. t) answer (trace_of format text) → IfOk answer (λ t. AreRising t.ticks)
+given_rising format text (Ok trace) given = (of_trace IsSound kept format text trace given).1.rising
+given_rising format text (Err fault) given = tt

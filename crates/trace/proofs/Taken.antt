@@ -1,21 +1,34 @@
 -- A text whose lines are taken by what each says by itself.
 use Rattle.std.proofs.Common.{◌≡◌, ◌∙◌, ℕ, suc, ◌+◌, false, List, [], ◌∷◌, ◌++◌, length, map, nat_lt}
-use Rattle.std.proofs.Common.{Option, Some, None, Result, Ok, Err, refl, ap, sym, inl, inr, arith}
+use Rattle.std.proofs.Common.{Option, Some, None, Result, Ok, Err, refl, ap, sym, subst, inl, inr, true, arith}
 use Rattle.std.proofs.lemmas.List.{length-map}
 use Rattle.std.specs.Prelude.{MatchBool}
 use Rattle.std.proofs.lemmas.Bool.{cases_Bool}
 use Rattle.serde_json.specs.Data.{Data}
 use Rattle.json_fields.specs.Reading.{◌>>=◌}
-use Rattle.json_lines.specs.Lines.{LineData, is_blank, json_in, json_or_not, line_data, lines_of, longest_line}
+use Rattle.std.proofs.lemmas.Slice.Eq.{bytes_eq-Decides}
+use Rattle.std.specs.Prelude.{codes}
+use Rattle.json_fields.specs.Fields.{text_at}
+use Rattle.json_fields.specs.Reading.{some_or}
+use Rattle.json_lines.specs.Lines.{LineData, is_blank, json_in, said_by, said_or_not, line_data, lines_of, longest_line}
+use Rattle.json_lines.specs.Ticks.{is_tick_kind, is_tick, moment_at}
+use Rattle.node_config.specs.declared.node.Format.{Format}
+use Rattle.node_config.specs.declared.node.Version.{Version}
+use Rattle.tick_lines.specs.declared.fault.TickLineFault.{TickLineFault}
+use Rattle.tick_lines.specs.declared.line.TickLine.{TickLine}
+use Rattle.tick_lines.specs.Line.{tick_line_of}
 use Rattle.trace.specs.declared.fault.FaultKind.{FaultKind}
+use Rattle.trace.specs.declared.fault.FaultKind.TheVariants.{UnknownKind}
 use Rattle.trace.specs.declared.fault.LineFault.{LineFault}
 use Rattle.trace.specs.declared.past.LineKind.{LineKind}
 use Rattle.trace.specs.declared.past.Trace.{Trace}
 use Rattle.trace.specs.Gives.{is_memory}
 use Rattle.trace.specs.Past.{Past, version_in}
-use Rattle.trace.specs.Taken.{value_at, any_line_at, lines_at}
-use Rattle.trace.specs.Trace.{json_of, kind_of_line, in_order, kind_and_value, line_at, at_line, finished, read_on}
-use Rattle.trace.specs.Trace.{nothing, trace_of}
+use Rattle.trace.specs.declared.past.LineKind.TheVariants as line_kinds
+use Rattle.trace.specs.Taken.{tick_of, tick_after, value_at, any_line_at, lines_at}
+use Rattle.trace.specs.Tick.{tick_in, tick_at}
+use Rattle.trace.specs.Trace.{json_of, kind_from, kind_of_line, turn_of, in_order, kind_and_value, line_at, at_line}
+use Rattle.trace.specs.Trace.{finished, read_on, nothing, trace_of}
 
 -- the rest of a text, by what each line says by itself
 abbrev pub read_data : ℕ → Past → List LineData → Result Trace LineFault
@@ -43,11 +56,52 @@ kind_taken : (past : Past) (d : Data) (line_kind : Result LineKind FaultKind)
 kind_taken past d (Ok k) = refl
 kind_taken past d (Err e) = refl
 
+-- a tick line says the same by its record and by its JSON value
+by_value : (past : Past) (d : Data) → tick_after past (moment_at d) (tick_line_of d) ≡ tick_at past d
+unfolding tick_at tick_in tick_after tick_of
+by_value past d = refl
+
+pub of_value : (past : Past) (d : Data) (moment : Option ℕ) (said : Result TickLine TickLineFault)
+    → moment ≡ moment_at d → said ≡ tick_line_of d → tick_after past moment said ≡ tick_at past d
+of_value past d moment said at written =
+    ap (λ (m : Option ℕ). tick_after past m said) at
+    ∙ ap (λ (s : Result TickLine TickLineFault). tick_after past (moment_at d) s) written ∙ by_value past d
+
+-- in the place of a line whose kind is this text
+abbrev named : Past → Data → Option Version → Option (List ℕ) → Result Past FaultKind
+named past d version kind = some_or UnknownKind (kind_from kind) >>= λ line_kind. in_order version past line_kind d
+
+abbrev by_record : Past → Data → Option Version → Result Past FaultKind
+by_record past d version =
+    turn_of version line_kinds.Tick >>= λ turn. tick_after past (moment_at d) (tick_line_of d)
+
+tick_named : (past : Past) (d : Data) (version : Option Version)
+    → by_record past d version ≡ named past d version (Some (codes "tick"))
+tick_named past d None = refl
+tick_named past d (Some version) = by_value past d
+
+tick_taken : (past : Past) (d : Data) (version : Option Version) (kind : Option (List ℕ))
+    → is_tick_kind kind ≡ true → by_record past d version ≡ named past d version kind
+tick_taken past d version None tick = absurd (cc)
+tick_taken past d version (Some kind) tick =
+    let is : kind ≡ codes "tick" = (bytes_eq-Decides kind (codes "tick")).0 tick in
+    subst (λ (k : List ℕ). by_record past d version ≡ named past d version (Some k)) (sym is)
+    (tick_named past d version)
+
+value_said : (past : Past) (d : Data) → any_line_at past (said_by d) ≡ value_at past d
+unfolding said_by value_at
+value_said past d = elim (cases_Bool (is_tick d)) [
+  | inl tick ↦ rw tick (tick_taken past d (version_in past) (text_at (codes "kind") d) tick)
+  | inr other ↦ rw other refl
+]
+
 value_taken : (past : Past) (line : List ℕ) (found : Option Data) → json_in line ≡ found
-    → nat_lt longest_line (length line) ≡ false → any_line_at past (json_or_not found) ≡ line_at past line
+    → nat_lt longest_line (length line) ≡ false → any_line_at past (said_or_not found) ≡ line_at past line
 unfolding json_of kind_and_value line_at value_at
 value_taken past line None here short = rw (short, here) refl
-value_taken past line (Some d) here short = rw (short, here) (sym (kind_taken past d (kind_of_line d)))
+value_taken past line (Some d) here short =
+    let kind : value_at past d ≡ line_at past line = rw (short, here) (sym (kind_taken past d (kind_of_line d))) in
+    value_said past d ∙ kind
 
 line_taken : (past : Past) (line : List ℕ) → is_blank line ≡ false
     → any_line_at past (line_data line) ≡ line_at past line
@@ -55,7 +109,7 @@ unfolding kind_and_value line_at
 line_taken past line counts = elim (cases_Bool (nat_lt longest_line (length line))) [
   | inl long ↦ rw (counts, long) refl
   | inr short ↦
-      let json : line_data line ≡ json_or_not (json_in line) = rw (counts, short) refl in
+      let json : line_data line ≡ said_or_not (json_in line) = rw (counts, short) refl in
       ap (any_line_at past) json ∙ value_taken past line (json_in line) refl short
 ]
 
@@ -87,18 +141,19 @@ behind n past (line ∷ lines) later =
     (λ after. read_data (n + 1 + length lines) after later)))
 
 -- a line number, what is past and a rest of the text, from which the whole text is read
-abbrev pub LeadsOn : List ℕ → ℕ → Past → List ℕ → Type 0
-LeadsOn text n past rest = read_data n past (map line_data (lines_of rest)) ≡ trace_of text
+abbrev pub LeadsOn : Format → List ℕ → ℕ → Past → List ℕ → Type 0
+LeadsOn format text n past rest = read_data n past (map line_data (lines_of rest)) ≡ trace_of format text
 
-pub leads_from_start : (text : List ℕ) → LeadsOn text 1 nothing text
+pub leads_from_start : (format : Format) (text : List ℕ) → LeadsOn format text 1 (nothing format) text
 unfolding trace_of
-leads_from_start text = sym (read_taken 1 nothing (lines_of text))
+leads_from_start format text = sym (read_taken 1 (nothing format) (lines_of text))
 
-pub leads_on : {A : Type 0} (view : A → LineData) (text : List ℕ) (n : ℕ) (past : Past) (rest later : List ℕ)
+pub leads_on : {A : Type 0} (view : A → LineData) (format : Format) (text : List ℕ) (n : ℕ) (past : Past)
+    (rest later : List ℕ)
     (lines : List A) (count : ℕ) (next : Past)
-    → LeadsOn text n past rest → map line_data (lines_of rest) ≡ map view lines ++ map line_data (lines_of later)
-    → lines_at n past (map view lines) ≡ Ok next → count ≡ length lines → LeadsOn text (n + count) next later
-leads_on view text n past rest later lines count next leads cut taken counted =
+    → LeadsOn format text n past rest → map line_data (lines_of rest) ≡ map view lines ++ map line_data (lines_of later)
+    → lines_at n past (map view lines) ≡ Ok next → count ≡ length lines → LeadsOn format text (n + count) next later
+leads_on view format text n past rest later lines count next leads cut taken counted =
     let all : n + count ≡ n + length (map view lines) = rw (length-map lines view, counted) refl in
     let whole = behind n past (map view lines) (map line_data (lines_of later)) in
     let after : (lines_at n past (map view lines)
@@ -106,11 +161,12 @@ leads_on view text n past rest later lines count next leads cut taken counted =
     ≡ read_data (n + length (map view lines)) next (map line_data (lines_of later)) = rw taken refl in
     rw all (sym after ∙ sym whole ∙ ap (read_data n past) (sym cut) ∙ leads)
 
-pub stops : (text : List ℕ) (n : ℕ) (past : Past) (rest later : List ℕ) (lines : List LineData) (fault : LineFault)
-    → LeadsOn text n past rest → map line_data (lines_of rest) ≡ lines ++ map line_data (lines_of later)
+pub stops : (format : Format) (text : List ℕ) (n : ℕ) (past : Past) (rest later : List ℕ) (lines : List LineData)
+    (fault : LineFault)
+    → LeadsOn format text n past rest → map line_data (lines_of rest) ≡ lines ++ map line_data (lines_of later)
     → MatchBool (is_memory fault.kind) (Unit {0}) (lines_at n past lines ≡ Err fault)
-    → MatchBool (is_memory fault.kind) (Unit {0}) (trace_of text ≡ Err fault)
-stops text n past rest later lines fault leads cut taken = elim (cases_Bool (is_memory fault.kind)) [
+    → MatchBool (is_memory fault.kind) (Unit {0}) (trace_of format text ≡ Err fault)
+stops format text n past rest later lines fault leads cut taken = elim (cases_Bool (is_memory fault.kind)) [
   | inl memory ↦ rw memory tt
   | inr other ↦
       let faulty : lines_at n past lines ≡ Err fault = rw other at taken in

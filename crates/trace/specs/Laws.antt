@@ -46,8 +46,10 @@ use Rattle.observations.specs.Limits.{most_pods, most_ticks}
 use Rattle.state_diff.specs.declared.seen.Seen.{Seen}
 use Rattle.state_diff.specs.Instances.{IsAcceptable}
 use Rattle.node_config.specs.declared.node.NodeConfig.{NodeConfig}
+use Rattle.node_config.specs.declared.node.Format.{Format}
+use Rattle.node_config.specs.declared.node.Format.TheVariants.{Standard, Extended}
 use Rattle.node_config.specs.declared.node.Version.{Version}
-use Rattle.node_config.specs.declared.node.Version.TheVariants.{One, Two}
+use Rattle.node_config.specs.declared.node.Version.TheVariants.{One, Two, Three}
 use Rattle.trace.specs.Past.{Past, version_in, of_node, with_pod, with_tick}
 use Rattle.trace.specs.Tick.{moment_of}
 use Rattle.trace.specs.Trace.{json_of, kind_from, line_at, nothing, trace_of}
@@ -59,16 +61,16 @@ Leaves before line past = ((is_blank line ≡ true) × (past ≡ before))
     ⊎ ((is_blank line ≡ false) × (line_at before line ≡ Ok past))
 
 -- the first n lines say this, and none of them that counts has a fault
-abbrev pub AreSaid : List (List ℕ) → ℕ → Past → Type 0
-AreSaid lines zero past = past ≡ nothing
-AreSaid lines (suc n) past = (before : Past) × (line : List ℕ) × AreSaid lines n before
+abbrev pub AreSaid : Format → List (List ℕ) → ℕ → Past → Type 0
+AreSaid format lines zero past = past ≡ nothing format
+AreSaid format lines (suc n) past = (before : Past) × (line : List ℕ) × AreSaid format lines n before
     × (slice_get lines n ≡ Some line) × Leaves before line past
 
 -- the line at place n counts and has a fault, its first of this kind, and no line before it has one
-pub record IsFaultAt (lines : List (List ℕ)) (n : ℕ) (kind : FaultKind) : Type 0 where
+pub record IsFaultAt (format : Format) (lines : List (List ℕ)) (n : ℕ) (kind : FaultKind) : Type 0 where
   pub past : Past
   pub line : List ℕ
-  pub said : AreSaid lines n past
+  pub said : AreSaid format lines n past
   pub here : slice_get lines n ≡ Some line
   pub counts : is_blank line ≡ false
   pub fails : line_at past line ≡ Err kind
@@ -79,15 +81,15 @@ NoneCounts lines = (n : ℕ) (line : List ℕ) → slice_get lines n ≡ Some li
 
 -- the answer names the first line that has a fault, or the line after the last one where no line
 -- counts
-abbrev pub IsFirstFault : List (List ℕ) → LineFault → Type 0
-IsFirstFault lines fault =
-    ((n : ℕ) × IsFaultAt lines n fault.kind × (fault.line ≡ n + 1))
+abbrev pub IsFirstFault : Format → List (List ℕ) → LineFault → Type 0
+IsFirstFault format lines fault =
+    ((n : ℕ) × IsFaultAt format lines n fault.kind × (fault.line ≡ n + 1))
     ⊎ (NoneCounts lines × (fault.kind ≡ Order) × (fault.line ≡ length lines + 1))
 
 -- no line has a fault, and all of them say the trace
-pub record IsWhole (lines : List (List ℕ)) (trace : Trace) : Type 0 where
+pub record IsWhole (format : Format) (lines : List (List ℕ)) (trace : Trace) : Type 0 where
   pub past : Past
-  pub said : AreSaid lines (length lines) past
+  pub said : AreSaid format lines (length lines) past
   pub node : past.node ≡ Some trace.node
   pub pods : past.pods ≡ trace.pods
   pub arrivals : past.arrivals ≡ trace.arrivals
@@ -95,19 +97,21 @@ pub record IsWhole (lines : List (List ℕ)) (trace : Trace) : Type 0 where
 
 -- a text is refused exactly with its first fault
 abbrev pub FirstFault : Type 0
-FirstFault = (text : List ℕ) (fault : LineFault) → (trace_of text ≡ Err fault ↔ IsFirstFault (lines_of text) fault)
+FirstFault = (format : Format) (text : List ℕ) (fault : LineFault)
+    → (trace_of format text ≡ Err fault ↔ IsFirstFault format (lines_of text) fault)
 
 -- a text has a trace exactly where no line has a fault and some line counts; it is what the lines
 -- say
 abbrev pub WholeTrace : Type 0
-WholeTrace = (text : List ℕ) (trace : Trace) → (trace_of text ≡ Ok trace ↔ IsWhole (lines_of text) trace)
+WholeTrace = (format : Format) (text : List ℕ) (trace : Trace)
+    → (trace_of format text ≡ Ok trace ↔ IsWhole format (lines_of text) trace)
 
 -- the first lines say one thing at most, and at most one line has the first fault
 pub record OneFault : Type 0 where
-  pub said : (lines : List (List ℕ)) (n : ℕ) (past past' : Past) → AreSaid lines n past → AreSaid lines n past'
-      → past ≡ past'
-  pub fault : (lines : List (List ℕ)) (n m : ℕ) (kind kind' : FaultKind) → IsFaultAt lines n kind
-      → IsFaultAt lines m kind' → (n ≡ m) × (kind ≡ kind')
+  pub said : (format : Format) (lines : List (List ℕ)) (n : ℕ) (past past' : Past) → AreSaid format lines n past
+      → AreSaid format lines n past' → past ≡ past'
+  pub fault : (format : Format) (lines : List (List ℕ)) (n m : ℕ) (kind kind' : FaultKind)
+      → IsFaultAt format lines n kind → IsFaultAt format lines m kind' → (n ≡ m) × (kind ≡ kind')
 
 -- the line is at most 1 MiB long, and it is this JSON value
 pub record IsJson (line : List ℕ) (d : Data) : Type 0 where
@@ -119,10 +123,11 @@ pub record IsOfKind (line : List ℕ) (line_kind : LineKind) (d : Data) : Type 0
   pub json : IsJson line d
   pub kind : kind_from (text_at (codes "kind") d) ≡ Some line_kind
 
--- in version 1 a pod line stands before all tick lines; in version 2 it may follow one
+-- in version 1 a pod line stands before all tick lines; in later ones it may follow one
 abbrev pub TakesPods : List TickObs → Version → Type 0
 TakesPods ticks One = ticks ≡ []
 TakesPods ticks Two = Unit {0}
+TakesPods ticks Three = Unit {0}
 
 -- a node line stands before all other lines that count, and a pod line where the version takes it
 abbrev pub MayStand : Past → LineKind → Type 0
@@ -182,7 +187,7 @@ pub data Fails (past : Past) (line : List ℕ) : FaultKind → Type 0 where
   unknown_kind : (d : Data) → IsJson line d → kind_from (text_at (codes "kind") d) ≡ None → Fails past line UnknownKind
   misplaced : (line_kind : LineKind) (d : Data) → IsOfKind line line_kind d → (MayStand past line_kind → ⊥)
       → Fails past line Order
-  wrong_node : (d : Data) (kind : FaultKind) → Stands past line kinds.Node d → node_in d ≡ Err kind
+  wrong_node : (d : Data) (kind : FaultKind) → Stands past line kinds.Node d → node_in past.format d ≡ Err kind
       → Fails past line kind
   many_pods : (d : Data) → Stands past line kinds.Pod d → most_pods ≤ length past.pods → Fails past line TooMany
   wrong_pod : (d : Data) (kind : FaultKind) → Stands past line kinds.Pod d → length past.pods < most_pods
@@ -210,7 +215,7 @@ FirstCheck = (past : Past) (line : List ℕ) (kind : FaultKind) → (line_at pas
 
 -- what is said after a line that passes all its checks
 pub data Says (past : Past) (line : List ℕ) : Past → Type 0 where
-  says_node : (d : Data) (node : NodeConfig) → Stands past line kinds.Node d → node_in d ≡ Ok node
+  says_node : (d : Data) (node : NodeConfig) → Stands past line kinds.Node d → node_in past.format d ≡ Ok node
       → Says past line (of_node past node)
   says_pod : (d : Data) (pod : PodSpec) → HasPod past line d pod → (HasKey past.pods (key_of_pod pod) → ⊥)
       → Says past line (with_pod past pod)
@@ -225,7 +230,8 @@ AllChecks = (past : Past) (line : List ℕ) (next : Past) → (line_at past line
 -- the kinds of fault that a check answers
 pub record KindsOfChecks : Type 0 where
   pub json : (line : List ℕ) (kind : FaultKind) → json_of line ≡ Err kind → kind ≡ NotJson
-  pub node : (d : Data) (kind : FaultKind) → node_in d ≡ Err kind → (kind ≡ Config) ⊎ (kind ≡ SoftWithoutGrace)
+  pub node : (format : Format) (d : Data) (kind : FaultKind) → node_in format d ≡ Err kind
+      → (kind ≡ Config) ⊎ (kind ≡ SoftWithoutGrace)
   pub pod : (found : Option Data) (kind : FaultKind) → pod_from found ≡ Err kind → (fault : ManifestFault)
       × (kind ≡ Manifest fault)
   pub moment : (ticks : List TickObs) (found : Option Data) (kind : FaultKind) → moment_of ticks found ≡ Err kind
@@ -337,6 +343,11 @@ pub record GoesBack (ticks : List TickObs) (tick : TickObs) : Type 0 where
 abbrev pub BackwardsListing : Type 0
 BackwardsListing = (ticks : List TickObs) (tick : TickObs) → (is_backwards ticks tick ≡ true ↔ GoesBack ticks tick)
 
+-- a text that is a trace in the standard format is the same trace in the extended one
+abbrev pub StandardIsExtended : Type 0
+StandardIsExtended =
+    (text : List ℕ) (trace : Trace) → trace_of Standard text ≡ Ok trace → trace_of Extended text ≡ Ok trace
+
 -- not for want of memory
 abbrev pub IsNotMemory : FaultKind → Type 0
 IsNotMemory kind = (kind ≢ OutOfMemory) × (kind ≢ Manifest manifest_faults.OutOfMemory)
@@ -344,4 +355,5 @@ IsNotMemory kind = (kind ≢ OutOfMemory) × (kind ≢ Manifest manifest_faults.
 -- no line and no text has a fault for want of memory
 pub record NeverMemory : Type 0 where
   pub line : (past : Past) (line : List ℕ) (kind : FaultKind) → line_at past line ≡ Err kind → IsNotMemory kind
-  pub text : (text : List ℕ) (fault : LineFault) → trace_of text ≡ Err fault → IsNotMemory fault.kind
+  pub text : (format : Format) (text : List ℕ) (fault : LineFault) → trace_of format text ≡ Err fault
+      → IsNotMemory fault.kind

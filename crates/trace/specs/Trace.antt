@@ -10,8 +10,9 @@ use Rattle.trace.specs.declared.fault.FaultKind.{FaultKind}
 use Rattle.trace.specs.declared.fault.FaultKind.TheVariants.{TooLong, NotJson, UnknownKind, Order}
 use Rattle.trace.specs.declared.fault.LineFault.{LineFault}
 use Rattle.node_config.specs.declared.node.NodeConfig.{NodeConfig}
+use Rattle.node_config.specs.declared.node.Format.{Format}
 use Rattle.node_config.specs.declared.node.Version.{Version}
-use Rattle.node_config.specs.declared.node.Version.TheVariants.{One, Two}
+use Rattle.node_config.specs.declared.node.Version.TheVariants.{One, Two, Three}
 use Rattle.trace.specs.declared.past.Trace.{Trace}
 use Rattle.trace.specs.declared.past.LineKind.{LineKind}
 use Rattle.trace.specs.declared.past.LineKind.TheVariants as kinds
@@ -40,17 +41,18 @@ kind_of_line d = some_or UnknownKind (kind_from (text_at (codes "kind") d))
 
 unfoldable pub with_node : Past → Data → Result Past FaultKind
 with_node past d = do
-  node ← node_in d
+  node ← node_in past.format d
   Ok (of_node past node)
 
 -- a pod goes behind the earlier ones, if none of them has its key
 abbrev pub with_new_pod : Past → PodSpec → Result Past FaultKind
 with_new_pod past pod = new_key past.pods pod >>= λ new. Ok (with_pod past pod)
 
--- in version 1 a pod line stands before all tick lines; in version 2 it may follow one
+-- in version 1 a pod line stands before all tick lines; in later ones it may follow one
 abbrev pub is_late : Version → List TickObs → Bool
 is_late One ticks = nat_lt 0 (length ticks)
 is_late Two ticks = false
+is_late Three ticks = false
 
 -- the pod that a pod line says after those that say what is past, whatever its key
 unfoldable pub pod_in : Version → Past → Data → Result PodSpec FaultKind
@@ -116,9 +118,9 @@ read_on n past (line ∷ lines) =
     else (at_line n (line_at past line) >>= λ next. read_on (n + 1) next lines)
 
 -- no line was read yet
-abbrev pub nothing : Past
-nothing = record { node = None; pods = []; arrivals = []; ticks = [] }
+abbrev pub nothing : Format → Past
+nothing format = record { format = format; node = None; pods = []; arrivals = []; ticks = [] }
 
--- the trace of a text
-unfoldable pub trace_of : List ℕ → Result Trace LineFault
-trace_of text = read_on 1 nothing (lines_of text)
+-- the trace of a text in a format
+unfoldable pub trace_of : Format → List ℕ → Result Trace LineFault
+trace_of format text = read_on 1 (nothing format) (lines_of text)

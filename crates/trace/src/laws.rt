@@ -2,7 +2,7 @@
 //! their contracts are the laws.
 ghost use Rattle.trace.specs.Laws.{FirstFault, WholeTrace, OneFault, FirstCheck, AllChecks, KindsOfChecks, Strangers};
 ghost use Rattle.trace.specs.Laws.{ResultsShown, ListingsShown, UsageShown, SignalsShown, BackwardsListing};
-ghost use Rattle.trace.specs.Laws.{NeverMemory};
+ghost use Rattle.trace.specs.Laws.{StandardIsExtended, NeverMemory};
 
 /// A text is refused exactly with the fault of its first line that has one, or behind its last line
 /// where no line counts.
@@ -67,6 +67,11 @@ pub fn signals_shown()
 /// all its earlier ones.
 pub fn backwards_listing()
     ensures { BackwardsListing }
+{}
+
+/// What the standard format takes says the same in the extended one.
+pub fn standard_is_extended()
+    ensures { StandardIsExtended }
 {}
 
 /// No text has a fault for want of memory.

@@ -12,6 +12,6 @@ mod text;
 mod tick;
 
 pub use fault::{FaultKind, LineFault};
-pub use node_config::{NodeConfig, Version};
+pub use node_config::{Format, NodeConfig, Version};
 pub use past::Trace;
 pub use text::{read_trace, read_trace_by_workers};

@@ -3,7 +3,7 @@
 use following::Following;
 use manifest::PodSpec;
 use name_list::NameList;
-use node_config::{NodeConfig, Version};
+use node_config::{Format, NodeConfig, Version};
 use observations::TickObs;
 use sequence::Sequence;
 use std::marker::Model;
@@ -28,6 +28,7 @@ pub(crate) enum Turn {
 /// What the lines so far say, with the pods' keys by number, and what follows their containers.
 #[derive(Drop)]
 pub(crate) struct Reader {
+    pub(crate) format: Format,
     pub(crate) node: Option<NodeConfig>,
     pub(crate) pods: Sequence<PodSpec>,
     pub(crate) arrivals: Sequence<usize>,
@@ -52,7 +53,13 @@ impl Model for Reader {
 
     ghost Value = { Past };
 
-    ghost view = { λ r. record { node = r.node; pods = r.pods; arrivals = r.arrivals; ticks = r.ticks } };
+    ghost view = { λ r. record {
+      format = r.format;
+      node = r.node;
+      pods = r.pods;
+      arrivals = r.arrivals;
+      ticks = r.ticks;
+    } };
 
     ghost invariant = { λ r. (r.keys ≡ keys_of r.pods) × HasFollowed r.ticks (container_counts r.pods) r.following };
 }

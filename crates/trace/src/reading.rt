@@ -1,29 +1,39 @@
 //! A line, behind what the lines before it say.
 
-ghost use Rattle.std.specs.Prelude.{◌≡◌, [], option_map, None, Ok, OnOk, string_bytes};
+ghost use Rattle.std.specs.Prelude.{◌≡◌, [], option_map, option_and_then, None, Ok, OnOk, string_bytes};
+ghost use Rattle.json_fields.specs.Fields.{field_at};
+ghost use Rattle.node_lines.specs.Node.{whole_number};
 ghost use Rattle.serde_json.specs.View.{view};
 ghost use Rattle.json_fields.specs.Reading.{GivesExactly};
 ghost use Rattle.json_lines.specs.Lines.{data_of};
 ghost use Rattle.trace.specs.Gives.{Gives};
 ghost use Rattle.name_list.specs.Names.{place_of};
-ghost use Rattle.trace.specs.Written.{node_in};
+ghost use Rattle.trace.specs.Written.{is_foreign, node_in};
 ghost use Rattle.trace.specs.Past.{IsEnlisted, version_in, with_pod};
 ghost use Rattle.trace.specs.Pod.{key_of_pod, keys_of};
-ghost use Rattle.trace.specs.Taken.{value_at, any_line_at};
+ghost use Rattle.trace.specs.Taken.{tick_line_at, value_at, any_line_at};
 ghost use Rattle.trace.specs.Trace.{kind_from, kind_of_line, with_node, with_new_pod, is_late, pod_in};
 ghost use Rattle.trace.specs.Trace.{pod_line_at, turn_of, in_order};
+ghost use Rattle.trace.specs.Tick.{tick_at};
 
 use crate::fault::{FaultKind, refused_if};
 use crate::past::{LineKind, Reader, Roster, Turn};
 use crate::pod::{new_key, pod_from, room_for_pod};
 use crate::tick::take_tick;
 use json_fields::{field, text_at};
-use json_lines::TextLine;
+use json_lines::{TextLine, TickRecord, tick_record};
 use manifest::PodSpec;
-use node_config::{NodeConfig, Version};
+use node_config::{Format, NodeConfig, Version};
 use node_lines::node_of;
 use serde_json::Value;
 use std::alloc::{AllocError, Global};
+
+/// The whole number in a field, if it has one.
+fn whole_number_at(line: &Value, name: &str) -> Option<u64>
+    ensures { result ≡ option_and_then whole_number (field_at name.now (view line.now)) }
+{
+    field(line, name)?.as_u64()
+}
 
 fn kind_from(kind: Option<&str>) -> Option<LineKind>
     ensures { result ≡ kind_from (option_map (λ s. s.now) kind.entry) }
@@ -46,10 +56,21 @@ fn kind_of_line(line: &Value) -> Result<LineKind, FaultKind>
     }
 }
 
-/// The configuration that a node line says.
-fn node_in(alloc: Global, line: &Value) -> Result<NodeConfig, FaultKind>
-    ensures { Gives (λ n. n) result (node_in (view line.now)) }
+/// Whether the line says version 3, which the standard format does not have.
+fn is_foreign(format: Format, line: &Value) -> bool
+    ensures { result ≡ is_foreign format (view line.now) }
 {
+    match format {
+        Format::Standard => whole_number_at(line, "version") == Some(3),
+        Format::Extended => false,
+    }
+}
+
+/// The configuration that a node line says.
+fn node_in(alloc: Global, format: Format, line: &Value) -> Result<NodeConfig, FaultKind>
+    ensures { Gives (λ n. n) result (node_in format (view line.now)) }
+{
+    refused_if(is_foreign(format, line), FaultKind::Config)?;
     Ok(node_of(alloc, line)?)
 }
 
@@ -58,7 +79,7 @@ fn node_in(alloc: Global, line: &Value) -> Result<NodeConfig, FaultKind>
 fn take_node(alloc: Global, reader: Reader, line: &Value) -> Result<Reader, FaultKind>
     ensures { Gives (λ r. r) result (with_node reader (view line.now)) }
 {
-    let node = match node_in(alloc, line) {
+    let node = match node_in(alloc, reader.format, line) {
         Ok(node) => node,
         Err(kind) => {
             drop(reader);
@@ -66,6 +87,7 @@ fn take_node(alloc: Global, reader: Reader, line: &Value) -> Result<Reader, Faul
         }
     };
     let Reader {
+        format,
         pods,
         arrivals,
         ticks,
@@ -74,6 +96,7 @@ fn take_node(alloc: Global, reader: Reader, line: &Value) -> Result<Reader, Faul
         ..
     } = reader;
     Ok(Reader {
+        format,
         node: Some(node),
         pods,
         arrivals,
@@ -100,6 +123,7 @@ fn with_pod(alloc: Global, reader: Reader, pod: PodSpec, key: String) -> Result<
     ensures { Gives (λ r. r) result (Ok (with_pod reader pod)) }
 {
     let Reader {
+        format,
         node,
         pods,
         arrivals,
@@ -121,6 +145,7 @@ fn with_pod(alloc: Global, reader: Reader, pod: PodSpec, key: String) -> Result<
     };
     match enlist(&mut roster, pod, key, ticks.as_slice().len()) {
         Ok(()) => Ok(Reader {
+            format,
             node,
             pods: roster.pods,
             arrivals: roster.arrivals,
@@ -154,7 +179,7 @@ fn is_late(version: Version, reader: &Reader) -> bool
 {
     match version {
         Version::One => !reader.ticks.as_slice().is_empty(),
-        Version::Two => false,
+        Version::Two | Version::Three => false,
     }
 }
 
@@ -214,6 +239,19 @@ fn turn_of(version: Option<Version>, line_kind: LineKind) -> Result<Turn, FaultK
     }
 }
 
+/// Takes the JSON value of a tick line.
+fn take_tick_value(alloc: Global, reader: Reader, line: &Value) -> Result<Reader, FaultKind>
+    ensures { Gives (λ r. r) result (tick_at reader (view line.now)) }
+{
+    match tick_record(alloc, line) {
+        Ok(tick) => take_tick(alloc, reader, &tick),
+        Err(error) => {
+            drop(reader);
+            Err(FaultKind::from(error))
+        }
+    }
+}
+
 fn take_in_order(
     alloc: Global,
     reader: Reader,
@@ -225,7 +263,7 @@ fn take_in_order(
     match turn_of(version_in(&reader), line_kind) {
         Ok(Turn::Node) => take_node(alloc, reader, line),
         Ok(Turn::Pod(version)) => take_pod(alloc, version, reader, line),
-        Ok(Turn::Tick) => take_tick(alloc, reader, line),
+        Ok(Turn::Tick) => take_tick_value(alloc, reader, line),
         Err(kind) => {
             drop(reader);
             Err(kind)
@@ -247,12 +285,26 @@ fn take_value(alloc: Global, reader: Reader, line: &Value) -> Result<Reader, Fau
     }
 }
 
+/// Takes a tick line, if it may stand where it does.
+fn take_tick_line(alloc: Global, reader: Reader, line: &TickRecord) -> Result<Reader, FaultKind>
+    ensures { Gives (λ r. r) result (tick_line_at reader line.now.at line.now.written) }
+{
+    match turn_of(version_in(&reader), LineKind::Tick) {
+        Ok(_) => take_tick(alloc, reader, line),
+        Err(kind) => {
+            drop(reader);
+            Err(kind)
+        }
+    }
+}
+
 /// Takes a line.
 pub(crate) fn take_line(alloc: Global, reader: Reader, line: &TextLine) -> Result<Reader, FaultKind>
     ensures { Gives (λ r. r) result (any_line_at reader (data_of line.now)) }
 {
     let kind = match line {
         TextLine::Blank => return Ok(reader),
+        TextLine::Tick(tick) => return take_tick_line(alloc, reader, tick),
         TextLine::Json(value) => return take_value(alloc, reader, value),
         TextLine::TooLong => FaultKind::TooLong,
         TextLine::NotJson => FaultKind::NotJson,

@@ -14,15 +14,17 @@ use crate::reading::take_line;
 use following::Following;
 use json_lines::{TextLine, window_alone, window_by_workers};
 use name_list::NameList;
+use node_config::Format;
 use sequence::Sequence;
 use std::alloc::Global;
 use std::thread::Threads;
 
 /// What is said before the first line.
-fn nothing(alloc: Global) -> Reader
-    ensures { result ≡ nothing }
+fn nothing(alloc: Global, format: Format) -> Reader
+    ensures { result ≡ nothing format }
 {
     Reader {
+        format,
         node: None,
         pods: Sequence::new(alloc),
         arrivals: Sequence::new(alloc),
@@ -88,10 +90,10 @@ fn finished(line: u64, reader: Reader) -> Result<Trace, LineFault>
     }
 }
 
-fn read_alone(alloc: Global, text: &[u8]) -> Result<Trace, LineFault>
-    ensures { GivesAt (λ t. t) result (trace_of text.now) }
+fn read_alone(alloc: Global, format: Format, text: &[u8]) -> Result<Trace, LineFault>
+    ensures { GivesAt (λ t. t) result (trace_of format text.now) }
 {
-    let mut reader = nothing(alloc);
+    let mut reader = nothing(alloc, format);
     let mut rest = text;
     let mut number = 1u64;
     while !rest.is_empty() {
@@ -107,27 +109,28 @@ fn read_alone(alloc: Global, text: &[u8]) -> Result<Trace, LineFault>
     finished(number, reader)
 }
 
-/// The trace that a text says, or its first faulty line with that line's first fault. Where a
+/// The trace that a text says in a format, or its first faulty line with that line's first fault. Where a
 /// growth of memory is refused the answer is `OutOfMemory`; of its line nothing is promised.
-pub fn read_trace(alloc: Global, text: &[u8]) -> Result<Trace, LineFault>
-    ensures gives { GivesAt (λ t. t) result (trace_of text.now) }
+pub fn read_trace(alloc: Global, format: Format, text: &[u8]) -> Result<Trace, LineFault>
+    ensures gives { GivesAt (λ t. t) result (trace_of format text.now) }
     ensures acceptable { IfOk result (λ t. AreAcceptable t.ticks) }
     ensures rising { IfOk result (λ t. AreRising t.ticks) }
     ensures shape { IfOk result (λ t. HasShape t.pods t.arrivals t.ticks) }
 {
-    read_alone(alloc, text)
+    read_alone(alloc, format, text)
 }
 
 fn read_by_workers<R: Threads + Sync>(
     rt: &R,
     alloc: Global,
+    format: Format,
     text: &[u8],
     workers: usize,
 ) -> Result<Trace, LineFault>
     requires { 0 < workers }
-    ensures { GivesAt (λ t. t) result (trace_of text.now) }
+    ensures { GivesAt (λ t. t) result (trace_of format text.now) }
 {
-    let mut reader = nothing(alloc);
+    let mut reader = nothing(alloc, format);
     let mut rest = text;
     let mut number = 1u64;
     while !rest.is_empty() {
@@ -147,14 +150,15 @@ fn read_by_workers<R: Threads + Sync>(
 pub fn read_trace_by_workers<R: Threads + Sync>(
     rt: &R,
     alloc: Global,
+    format: Format,
     text: &[u8],
     workers: usize,
 ) -> Result<Trace, LineFault>
     requires { 0 < workers }
-    ensures gives { GivesAt (λ t. t) result (trace_of text.now) }
+    ensures gives { GivesAt (λ t. t) result (trace_of format text.now) }
     ensures acceptable { IfOk result (λ t. AreAcceptable t.ticks) }
     ensures rising { IfOk result (λ t. AreRising t.ticks) }
     ensures shape { IfOk result (λ t. HasShape t.pods t.arrivals t.ticks) }
 {
-    read_by_workers(rt, alloc, text, workers)
+    read_by_workers(rt, alloc, format, text, workers)
 }

@@ -2,7 +2,6 @@
 
 ghost use Rattle.std.specs.Prelude.{◌≡◌, ◌<◌, All, length, option_map, Ok, IfOk};
 ghost use Rattle.std.specs.List.{list_any};
-ghost use Rattle.serde_json.specs.View.{view};
 ghost use Rattle.json_fields.specs.Reading.{refused_if, GivesExactly};
 ghost use Rattle.trace.specs.Gives.{Gives};
 ghost use Rattle.trace.specs.Past.{with_tick};
@@ -14,8 +13,9 @@ ghost use Rattle.trace.specs.Observed.{some_code_missing};
 ghost use Rattle.following.specs.Backwards.{is_backwards};
 ghost use Rattle.following.specs.Followed.{EndBefore, ComesNext};
 ghost use Rattle.trace.specs.Pod.{container_counts};
-ghost use Rattle.trace.specs.Tick.{moment_of, moment_in, room_for_tick, HasFollowedTo, observed_in, tick_in, tick_at};
-ghost use Rattle.trace.specs.Written.{tick_line_in};
+ghost use Rattle.trace.specs.Taken.{tick_of, tick_after};
+ghost use Rattle.trace.specs.Tick.{moment_from, room_for_tick, HasFollowedTo, observed_in};
+ghost use Rattle.trace.specs.Written.{of_tick_line};
 
 use crate::by_pod::{EntriesByPod, entries_by_pod, entry_for};
 use crate::fault::{FaultKind, refused_if};
@@ -25,22 +25,18 @@ use crate::placing::{
     some_entry_repeats,
 };
 use following::Following;
-use json_fields::field;
+use json_lines::TickRecord;
 use manifest::{ContainerSpec, Outcome, PodSpec, ProbeKind};
 use observations::{ContainerObs, MOST_TICKS, PodObs, TickObs, Usage};
 use sequence::Sequence;
-use serde_json::Value;
 use state_diff::{CriState, Seen};
 use std::alloc::{AllocError, Global};
-use tick_lines::{ListedInstance, TickLine, tick_line_of};
+use tick_lines::{ListedInstance, TickLine, TickLineFault};
 
-fn moment(ticks: &[TickObs], found: Option<&Value>) -> Result<u64, FaultKind>
-    ensures { GivesExactly (λ n. n) result (moment_of ticks.now (option_map (λ v. view v.now) found.entry)) }
+fn moment_from(ticks: &[TickObs], written: Option<u64>) -> Result<u64, FaultKind>
+    ensures { GivesExactly (λ n. n) result (moment_from ticks.now written) }
 {
-    let Some(value) = found else {
-        return Err(FaultKind::Moment);
-    };
-    let Some(at) = value.as_u64() else {
+    let Some(at) = written else {
         return Err(FaultKind::Moment);
     };
     if at >= 1 << 40 {
@@ -214,10 +210,13 @@ fn some_code_missing(entries: &[PlacedEntry]) -> bool
 }
 
 /// What a tick line says beside its moment.
-fn tick_line_in(alloc: Global, line: &Value) -> Result<TickLine, FaultKind>
-    ensures { Gives (λ t. t) result (tick_line_in (view line.now)) }
+fn written_in(said: &Result<TickLine, TickLineFault>) -> Result<&TickLine, FaultKind>
+    ensures { GivesExactly (λ t. t.now) result (of_tick_line said.now) }
 {
-    Ok(tick_line_of(alloc, line)?)
+    match said {
+        Ok(written) => Ok(written),
+        Err(fault) => Err(FaultKind::from(*fault)),
+    }
 }
 
 fn room(reader: &Reader) -> Result<(), FaultKind>
@@ -229,11 +228,11 @@ fn room(reader: &Reader) -> Result<(), FaultKind>
     )
 }
 
-fn moment_in(reader: &Reader, line: &Value) -> Result<u64, FaultKind>
-    ensures gives { GivesExactly (λ n. n) result (moment_in reader.now.ticks (view line.now)) }
+fn moment_in(reader: &Reader, written: Option<u64>) -> Result<u64, FaultKind>
+    ensures gives { GivesExactly (λ n. n) result (moment_from reader.now.ticks written) }
     ensures later { IfOk result (λ at. EndBefore reader.now.ticks at) }
 {
-    moment(reader.ticks.as_slice(), field(line, "at"))
+    moment_from(reader.ticks.as_slice(), written)
 }
 
 /// The entries with numbers in the place of names: first all pods, then all containers.
@@ -302,6 +301,7 @@ fn with_tick(reader: Reader, tick: TickObs, following: Following) -> Result<Read
     ensures { Gives (λ r. r) result (Ok (with_tick reader tick)) }
 {
     let Reader {
+        format,
         node,
         pods,
         arrivals,
@@ -311,6 +311,7 @@ fn with_tick(reader: Reader, tick: TickObs, following: Following) -> Result<Read
     } = reader;
     match ticks.push(tick) {
         Ok(()) => Ok(Reader {
+            format,
             node,
             pods,
             arrivals,
@@ -326,24 +327,32 @@ fn with_tick(reader: Reader, tick: TickObs, following: Following) -> Result<Read
 }
 
 /// The tick that a tick line says, and what follows the containers after it.
-#[tactic(auto, unfolding(crate::specs::Tick::tick_in))]
-fn tick_in(alloc: Global, reader: &Reader, line: &Value) -> Result<(TickObs, Following), FaultKind>
-    ensures gives { Gives (λ r. r.0) result (tick_in reader.now (view line.now)) }
+#[tactic(auto, unfolding(crate::specs::Taken::tick_of))]
+fn tick_of(
+    alloc: Global,
+    reader: &Reader,
+    line: &TickRecord,
+) -> Result<(TickObs, Following), FaultKind>
+    ensures gives { Gives (λ r. r.0) result (tick_of reader.now line.now.at line.now.written) }
     ensures followed { IfOk result (λ r. HasFollowedTo reader.now r.0 r.1) }
 {
     room(reader)?;
-    let at = moment_in(reader, line)?;
-    let written = tick_line_in(alloc, line)?;
-    let placed = placed_of(alloc, reader, &written)?;
-    observed_in(alloc, reader, at, &written, &placed)
+    let at = moment_in(reader, line.at)?;
+    let written = written_in(&line.written)?;
+    let placed = placed_of(alloc, reader, written)?;
+    observed_in(alloc, reader, at, written, &placed)
 }
 
 /// Takes a tick line.
-#[tactic(auto, unfolding(crate::specs::Tick::tick_at))]
-pub(crate) fn take_tick(alloc: Global, reader: Reader, line: &Value) -> Result<Reader, FaultKind>
-    ensures { Gives (λ r. r) result (tick_at reader (view line.now)) }
+#[tactic(auto, unfolding(crate::specs::Taken::tick_after))]
+pub(crate) fn take_tick(
+    alloc: Global,
+    reader: Reader,
+    line: &TickRecord,
+) -> Result<Reader, FaultKind>
+    ensures { Gives (λ r. r) result (tick_after reader line.now.at line.now.written) }
 {
-    match tick_in(alloc, &reader, line) {
+    match tick_of(alloc, &reader, line) {
         Ok((tick, following)) => with_tick(reader, tick, following),
         Err(kind) => {
             drop(reader);

@@ -14,7 +14,7 @@ use Rattle.trace.specs.declared.fault.FaultKind.TheVariants.{TooLong, UnknownKin
 use Rattle.trace.specs.declared.fault.FaultKind.TheVariants.{Doubled, Backwards, ExitCode}
 use Rattle.node_config.specs.declared.node.NodeConfig.{NodeConfig}
 use Rattle.node_config.specs.declared.node.Version.{Version}
-use Rattle.node_config.specs.declared.node.Version.TheVariants.{One, Two}
+use Rattle.node_config.specs.declared.node.Version.TheVariants.{One, Two, Three}
 use Rattle.trace.specs.declared.past.LineKind.{LineKind}
 use Rattle.trace.specs.declared.past.LineKind.TheVariants as kinds
 use Rattle.observations.specs.declared.tick.TickObs.{TickObs}
@@ -78,18 +78,22 @@ in_none xs none = rw none refl
 pub takes_pods : (version : Version) (ticks : List TickObs) → is_late version ticks ≡ false → TakesPods ticks version
 takes_pods One ticks e = none_in ticks e
 takes_pods Two ticks e = tt
+takes_pods Three ticks e = tt
 
 too_late : (version : Version) (ticks : List TickObs) → is_late version ticks ≡ true → TakesPods ticks version → ⊥
 too_late One ticks e none = some_in ticks e none
 too_late Two ticks e may = absurd (cc)
+too_late Three ticks e may = absurd (cc)
 
 in_time : (version : Version) (ticks : List TickObs) → TakesPods ticks version → is_late version ticks ≡ false
 in_time One ticks none = in_none ticks none
 in_time Two ticks may = refl
+in_time Three ticks may = refl
 
 comes_late : (version : Version) (ticks : List TickObs) → (TakesPods ticks version → ⊥) → is_late version ticks ≡ true
 comes_late One ticks never = in_some ticks never
 comes_late Two ticks never = absurd (never tt)
+comes_late Three ticks never = absurd (never tt)
 
 -- from a fault to the check that fails
 code_fails : (past : Past) (line : List ℕ) (d : Data) (at : ℕ) (written : TickLine) (placed : List PlacedEntry)
@@ -207,7 +211,7 @@ node_fails : (past : Past) (line : List ℕ) (d : Data) (kind : FaultKind) → S
 unfolding with_node
 node_fails past line d kind is e =
     let said : NodeConfig → Result Past FaultKind = λ node. Ok (of_node past node) in
-    elim (bind_err (node_in d) said kind e) [
+    elim (bind_err (node_in past.format d) said kind e) [
       | inl here ↦ wrong_node d kind is here
       | inr later ↦ absurd (no_fault (of_node past later.0) kind later.2)
     ]
@@ -307,12 +311,12 @@ tick_in_order None past d is = absurd (cc)
 tick_in_order (Some node) past d is = refl
 
 of_wrong_node : (past : Past) (line : List ℕ) (d : Data) (kind : FaultKind) → Stands past line kinds.Node d
-    → node_in d ≡ Err kind → line_at past line ≡ Err kind
+    → node_in past.format d ≡ Err kind → line_at past line ≡ Err kind
 unfolding with_node
 of_wrong_node past line d kind is e =
     let said : NodeConfig → Result Past FaultKind = λ node. Ok (of_node past node) in
     of_kind past line kinds.Node d is.of_kind ∙ node_in_order past.node past d is.here
-    ∙ then_err (node_in d) said kind e
+    ∙ then_err (node_in past.format d) said kind e
 
 of_pod : (past : Past) (line : List ℕ) (d : Data) → Stands past line kinds.Pod d
     → line_at past line ≡ pod_early past d tt

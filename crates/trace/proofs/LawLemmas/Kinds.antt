@@ -1,10 +1,11 @@
 -- The kinds of fault that the checks of a line answer.
 use Rattle.std.proofs.Common.{◌≡◌, ◌⊎◌, ℕ, List, length, slice_get, Option, Some, None, Result, Ok, Err}
-use Rattle.std.proofs.Common.{refl, ap, sym, subst, inl, inr}
+use Rattle.std.proofs.Common.{refl, ap, sym, subst, inl, inr, Bool, true, false}
 use Rattle.std.specs.Prelude.{◌&&◌, ◌-◌, ◌^◌, option_and_then, nat_lt, codes}
 use Rattle.serde_json.specs.Data.{Data}
 use Rattle.serde_json.specs.Find.{as_number, as_u64}
 use Rattle.json_fields.specs.Fields.{field_at}
+use Rattle.json_fields.specs.Reading.{◌>>=◌, refused_if}
 use Rattle.manifest.specs.declared.pod.PodSpec.{PodSpec}
 use Rattle.trace.specs.declared.fault.FaultKind.{FaultKind}
 use Rattle.trace.specs.declared.fault.FaultKind.TheVariants.{NotJson, Config, SoftWithoutGrace, Manifest, Moment}
@@ -34,6 +35,7 @@ use Rattle.trace.specs.Laws.{backwards, no_code, KindsOfChecks, IsNotMemory, Nev
 use Rattle.trace.proofs.LawLemmas.{first_fault}
 use Rattle.trace.proofs.LawLemmas.Checks.{line_fails}
 use Rattle.json_fields.proofs.Only.{Only, only_ok, only_err, only_bind, only_if, only_some, only_each}
+use Rattle.node_config.specs.declared.node.Format.{Format}
 use Rattle.node_lines.specs.declared.fault.NodeFault.{NodeFault}
 use Rattle.node_lines.specs.Node.{node_of}
 use Rattle.node_lines.proofs.FaultLemmas.{IsNodeFault, node_only}
@@ -41,7 +43,7 @@ use Rattle.tick_lines.specs.declared.fault.TickLineFault.{TickLineFault}
 use Rattle.tick_lines.specs.Line.{tick_line_of}
 use Rattle.tick_lines.proofs.OnlyUsage.{IsUsageFault, one_kind}
 use Rattle.trace.specs.Faults.{kind_of_node_fault, kind_of_tick_fault}
-use Rattle.trace.specs.Written.{of_node_line, of_tick_line, node_in, tick_line_in}
+use Rattle.trace.specs.Written.{is_foreign, of_node_line, of_tick_line, node_in, tick_line_in}
 use Rattle.manifest_reader.proofs.NeverMemory.{IsFound, missing, pod_at_only}
 
 abbrev Is : FaultKind → FaultKind → Type 0
@@ -58,8 +60,13 @@ of_node_only : {A : Type 0} (r : Result A NodeFault) → Only IsNodeFault r → 
 of_node_only (Ok x) only = only_ok IsOfNode x
 of_node_only (Err fault) only = only_err IsOfNode (kind_of_node_fault fault) (node_kind fault (only.has fault refl))
 
-node_in_only : (d : Data) → Only IsOfNode (node_in d)
-node_in_only d = of_node_only (node_of d) (node_only d)
+known_only : (foreign : Bool) → Only IsOfNode (refused_if foreign Config)
+known_only true = only_err IsOfNode Config (inl refl)
+known_only false = only_ok IsOfNode tt
+
+node_in_only : (format : Format) (d : Data) → Only IsOfNode (node_in format d)
+node_in_only format d =
+    only_bind IsOfNode _ _ (known_only (is_foreign format d)) (λ known. of_node_only (node_of d) (node_only d))
 
 json_only : (line : List ℕ) → Only (Is NotJson) (json_of line)
 unfolding json_of
@@ -128,7 +135,7 @@ placed_only pods es =
 pub kinds_of_checks : KindsOfChecks
 kinds_of_checks = record {
   json = λ line kind e. (json_only line).has kind e;
-  node = λ d kind e. (node_in_only d).has kind e;
+  node = λ format d kind e. (node_in_only format d).has kind e;
   pod = λ found kind e. let is = (pod_only found).has kind e in (is.0, is.1);
   moment = λ ticks found kind e. (moment_only ticks (option_and_then as_u64 (option_and_then as_number found))).has
       kind e;
@@ -146,7 +153,7 @@ fails_not_memory past line _ (not_json kind short e) =
     is_not kind NotJson ((json_only line).has kind e) (λ memory. absurd (cc), λ memory. absurd (cc))
 fails_not_memory past line _ (unknown_kind d is none) = (λ memory. absurd (cc), λ memory. absurd (cc))
 fails_not_memory past line _ (misplaced sort d is never) = (λ memory. absurd (cc), λ memory. absurd (cc))
-fails_not_memory past line _ (wrong_node d kind is e) = elim ((node_in_only d).has kind e) [
+fails_not_memory past line _ (wrong_node d kind is e) = elim ((node_in_only past.format d).has kind e) [
   | inl config ↦ is_not kind Config config (λ memory. absurd (cc), λ memory. absurd (cc))
   | inr soft ↦ is_not kind SoftWithoutGrace soft (λ memory. absurd (cc), λ memory. absurd (cc))
 ]
@@ -176,14 +183,15 @@ fails_not_memory past line _ (doubled d at written placed is twice) = (λ memory
 fails_not_memory past line _ (backwards d at written placed is back) = (λ memory. absurd (cc), λ memory. absurd (cc))
 fails_not_memory past line _ (no_code d at written placed is missing) = (λ memory. absurd (cc), λ memory. absurd (cc))
 
-first_not_memory : (lines : List (List ℕ)) (fault : LineFault) → IsFirstFault lines fault → IsNotMemory fault.kind
-first_not_memory lines fault (inl (n, first, number)) =
+first_not_memory : (format : Format) (lines : List (List ℕ)) (fault : LineFault) → IsFirstFault format lines fault
+    → IsNotMemory fault.kind
+first_not_memory format lines fault (inl (n, first, number)) =
     fails_not_memory first.past first.line fault.kind (line_fails first.past first.line fault.kind first.fails)
-first_not_memory lines fault (inr (blank, kind, number)) =
+first_not_memory format lines fault (inr (blank, kind, number)) =
     is_not fault.kind Order kind (λ memory. absurd (cc), λ memory. absurd (cc))
 
 pub never_memory : NeverMemory
 never_memory = record {
   line = λ past line kind e. fails_not_memory past line kind (line_fails past line kind e);
-  text = λ text fault e. first_not_memory (lines_of text) fault ((first_fault text fault).0 e);
+  text = λ format text fault e. first_not_memory format (lines_of text) fault ((first_fault format text fault).0 e);
 }

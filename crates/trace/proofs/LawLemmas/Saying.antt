@@ -101,7 +101,7 @@ unfolding with_node
 node_says past line d next is e =
     let said : NodeConfig → Past = of_node past in
     let last : NodeConfig → Result Past FaultKind = λ node. Ok (said node) in
-    let node = bind_ok (node_in d) last next e in
+    let node = bind_ok (node_in past.format d) last next e in
     let is_next : said node.0 ≡ next = same_value {E = FaultKind} (said node.0) next node.2 in
     subst (λ (p : Past). Says past line p) {x = said node.0} is_next (says_node d node.0 is node.1)
 
@@ -133,12 +133,13 @@ line_says_it past line next e =
 
 -- from what a line says to what it leaves
 node_line : (past : Past) (line : List ℕ) (d : Data) (node : NodeConfig) → Stands past line kinds.Node d
-    → node_in d ≡ Ok node
+    → node_in past.format d ≡ Ok node
     → line_at past line ≡ Ok (of_node past node)
 unfolding with_node
 node_line past line d node is e =
     let said : NodeConfig → Result Past FaultKind = λ node. Ok (of_node past node) in
-    of_kind past line kinds.Node d is.of_kind ∙ node_in_order past.node past d is.here ∙ then_ok (node_in d) said node e
+    of_kind past line kinds.Node d is.of_kind ∙ node_in_order past.node past d is.here
+    ∙ then_ok (node_in past.format d) said node e
 
 tick_line : (past : Past) (line : List ℕ) (d : Data) (at : ℕ) (written : TickLine) (placed : List PlacedEntry)
     → IsForwards past line d at written placed → some_code_missing placed ≡ false

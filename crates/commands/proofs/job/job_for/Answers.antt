@@ -32,10 +32,15 @@ returns-in_ok-workers-in-run c = (
   c.in-run.is,
   has_text (found_of c.args.given.now) (codes "TRACE") _ c.in_ok-trace.ensures,
   c.in_ok-workers-in-run.ensures,
+  c.format_in-format.ensures,
 )
 
 pub returns-in-check : goal.returns-in-check
-returns-in-check c = (c.in-check.is, has_text (found_of c.args.given.now) (codes "TRACE") _ c.in_ok-trace.ensures)
+returns-in-check c = (
+  c.in-check.is,
+  has_text (found_of c.args.given.now) (codes "TRACE") _ c.in_ok-trace.ensures,
+  c.format_in-format.ensures,
+)
 
 pub returns-in_ok-workers-in-play : goal.returns-in_ok-workers-in-play
 returns-in_ok-workers-in-play c = (
@@ -43,4 +48,5 @@ returns-in_ok-workers-in-play c = (
   has_text (found_of c.args.given.now) (codes "TRACE") _ c.in_ok-trace.ensures,
   has_text (found_of c.args.given.now) (codes "STEPS") _ c.in_ok-steps-in-play.ensures,
   c.in_ok-workers-in-play.ensures,
+  c.format_in-format.ensures,
 )

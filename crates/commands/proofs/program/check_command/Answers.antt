@@ -5,7 +5,9 @@ use Rattle.commands.proofs.program.check_command.Goals as goal
 pub returns : goal.returns
 returns c =
     let start = about_told c.new.result c.about.result _ c.new.ensures.app c.new.ensures.local c.about.ensures in
-    IfOk-weaker c.arg.result _ _
-    (λ command adds. with_arg c.about.result command c.trace_arg.result _ _ start c.trace_arg.ensures.rule
-    c.trace_arg.ensures.local adds)
-    c.arg.ensures
+    let traced = with_arg c.about.result c.in_ok-arg.field-0 c.trace_arg.result _ _ start c.trace_arg.ensures.rule
+    c.trace_arg.ensures.local c.in_ok-arg.ensures in
+    IfOk-weaker c.arg-2.result _ _
+    (λ command adds. with_arg _ command c.extended_arg.result _ _ traced c.extended_arg.ensures.rule
+    c.extended_arg.ensures.local adds)
+    c.arg-2.ensures

@@ -9,7 +9,9 @@ returns c =
     c.trace_arg.ensures.local c.in_ok-arg.ensures in
     let stepped = with_arg c.in_ok-arg.field-0 c.in_ok-arg-2.field-0 c.steps_arg.result _ _ traced
     c.steps_arg.ensures.rule c.steps_arg.ensures.local c.in_ok-arg-2.ensures in
-    IfOk-weaker c.arg-3.result _ _
-    (λ command adds. with_arg _ command c.workers_arg.result _ _ stepped c.workers_arg.ensures.rule
-    c.workers_arg.ensures.local adds)
-    c.arg-3.ensures
+    let shared = with_arg c.in_ok-arg-2.field-0 c.in_ok-arg-3.field-0 c.workers_arg.result _ _ stepped
+    c.workers_arg.ensures.rule c.workers_arg.ensures.local c.in_ok-arg-3.ensures in
+    IfOk-weaker c.arg-4.result _ _
+    (λ command adds. with_arg _ command c.extended_arg.result _ _ shared c.extended_arg.ensures.rule
+    c.extended_arg.ensures.local adds)
+    c.arg-4.ensures

@@ -7,7 +7,9 @@ returns c =
     let start = about_told c.new.result c.about.result _ c.new.ensures.app c.new.ensures.local c.about.ensures in
     let traced = with_arg c.about.result c.in_ok-arg.field-0 c.trace_arg.result _ _ start c.trace_arg.ensures.rule
     c.trace_arg.ensures.local c.in_ok-arg.ensures in
-    IfOk-weaker c.arg-2.result _ _
-    (λ command adds. with_arg _ command c.workers_arg.result _ _ traced c.workers_arg.ensures.rule
-    c.workers_arg.ensures.local adds)
-    c.arg-2.ensures
+    let shared = with_arg c.in_ok-arg.field-0 c.in_ok-arg-2.field-0 c.workers_arg.result _ _ traced
+    c.workers_arg.ensures.rule c.workers_arg.ensures.local c.in_ok-arg-2.ensures in
+    IfOk-weaker c.arg-3.result _ _
+    (λ command adds. with_arg _ command c.extended_arg.result _ _ shared c.extended_arg.ensures.rule
+    c.extended_arg.ensures.local adds)
+    c.arg-3.ensures

@@ -1,10 +1,13 @@
-use Rattle.std.proofs.Common.{ℕ, Bool, Option}
+use Rattle.std.proofs.Common.{◌≡◌, ℕ, Option}
 use Rattle.pod_piece.specs.declared.status.PodStatus.{PodStatus}
-use Rattle.node_pods.specs.Ranked.{AreRankings, AreHeldBelow}
+use Rattle.ranking.specs.Index.{IsIndexOf}
+use Rattle.node_pods.specs.Ranked.{AreHeldBelow}
 use Rattle.node_pods.proofs.each.rank_all.Given as goal
 
 abbrev pub invariant-loop-number : goal.invariant-loop-number
-invariant-loop-number l = (dedicated : Bool) (before : ℕ → Option PodStatus)
-    → AreRankings dedicated before l.fn.rankings
-    → (held : ℕ → Option PodStatus) × AreRankings dedicated held l.rankings
-    × AreHeldBelow l.pieces l.number before held
+invariant-loop-number l = record {
+  signal : l.index.signal ≡ l.fn.index.signal;
+  dedicated : l.index.has_dedicated_imagefs ≡ l.fn.index.has_dedicated_imagefs;
+  held : (before : ℕ → Option PodStatus) → IsIndexOf before l.fn.index
+      → (held : ℕ → Option PodStatus) × IsIndexOf held l.index × AreHeldBelow l.pieces l.number before held;
+}

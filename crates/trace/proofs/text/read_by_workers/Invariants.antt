@@ -3,7 +3,8 @@ use Rattle.trace.proofs.Taken.{LeadsOn}
 use Rattle.trace.proofs.text.read_by_workers.Given as goal
 
 abbrev pub invariant-loop-rest : goal.invariant-loop-rest
-invariant-loop-rest g l = LeadsOn l.fn.text l.number l.reader l.rest × (l.number + length l.rest ≤ length l.fn.text + 1)
+invariant-loop-rest g l = LeadsOn l.fn.format l.fn.text l.number l.reader l.rest
+    × (l.number + length l.rest ≤ length l.fn.text + 1)
 
 abbrev pub decreases-loop-rest : goal.decreases-loop-rest
 decreases-loop-rest g l = length l.rest

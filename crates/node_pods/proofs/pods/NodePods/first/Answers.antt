@@ -1,14 +1,17 @@
-use Rattle.std.proofs.Common.{subst}
-use Rattle.ranking.specs.Order.{IsVictim}
-use Rattle.node_pods.specs.Pods.{Pods, IsCandidate}
-use Rattle.node_pods.proofs.Candidates.{victim_of_held}
+use Rattle.std.proofs.Common.{◌∙◌, None, ap}
+use Rattle.ranking.specs.Index.{Ranks}
+use Rattle.node_pods.specs.Pods.{Pods}
+use Rattle.node_pods.proofs.Candidates.{victim_of_all}
 use Rattle.node_pods.proofs.pods.NodePods.first.Goals as goal
 
 pub returns : goal.returns
 returns c =
-    let ranked = c.self.invariant.ranked in
-    let i = c.self.inside in
-    subst (λ (p : Pods). IsVictim c.args.signal p.has_dedicated_imagefs (IsCandidate p.pieces) c.first.result)
-    c.self.view_is
-    (victim_of_held c.args.signal i.has_dedicated_imagefs i.pieces.items ranked.held ranked.are_held c.first.result
-    (c.first.ensures i.has_dedicated_imagefs ranked.held ranked.are_rankings))
+    let made = c.new-index.ensures in
+    let given = c.in_ok-rank_all.ensures.held (λ n. None) made.none in
+    victim_of_all c.args.self.now c.deref.result.now c.args.signal c.rank_all.new.index.signal
+    c.rank_all.new.index.has_dedicated_imagefs given.0 c.first.result
+    (c.deref.ensures.value ∙ ap (λ (p : Pods). p.pieces) c.self.view_is)
+    (c.rank_all.ensures.signal ∙ ap (λ (r : Ranks). r.signal) made.value)
+    (c.rank_all.ensures.dedicated ∙ ap (λ (r : Ranks). r.has_dedicated_imagefs) made.value
+    ∙ ap (λ (p : Pods). p.has_dedicated_imagefs) c.self.view_is)
+    given.2 (c.first.ensures given.0 given.1)

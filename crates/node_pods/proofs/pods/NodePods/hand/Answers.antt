@@ -1,14 +1,8 @@
 use Rattle.std.proofs.Common.{◌≡◌, ℕ, length, map, sym, subst, arith}
 use Rattle.pod_piece.specs.Piece.{updated}
 use Rattle.node_pods.specs.Pods.{Pods, AreNext, awaited, AreAwaited}
-use Rattle.node_pods.proofs.Kept.{awaited_after, ranked_below}
+use Rattle.node_pods.proofs.Kept.{awaited_after}
 use Rattle.node_pods.proofs.pods.NodePods.hand.Goals as goal
-
-pub invariant_of-result : goal.invariant_of-result
-invariant_of-result c =
-    let i = c.self.inside in
-    ranked_below i.pieces.items i.greatest c.len-count.result i.has_dedicated_imagefs i.rankings
-    (omega (arith, c.len-count.ensures, i.pieces.ok)) c.self.invariant.ranked
 
 pub returns-clause-updated : goal.returns-clause-updated
 returns-clause-updated c =
@@ -18,5 +12,5 @@ returns-clause-updated c =
     let many : length i.pieces.items ≡ c.len-count.result = omega (arith, c.len-count.ensures, i.pieces.ok) in
     let next = subst (λ (p : Pods). AreNext p.pieces shown) (sym c.self.view_is) c.requires in
     subst (λ (k : ℕ). AreAwaited (awaited k i.greatest i.has_dedicated_imagefs) (map updated pending)) many
-    (awaited_after i.pieces.items i.greatest i.has_dedicated_imagefs shown pending c.self.invariant.placed next
+    (awaited_after i.pieces.items i.greatest i.has_dedicated_imagefs shown pending c.self.invariant next
     c.in_ok-pieces.ensures)

@@ -1,0 +1,128 @@
+"""The definitions of a module of specs/, as it is written: each with its comment, its place and the names that it
+refers to."""
+import re
+import textwrap
+from typing import NamedTuple
+
+from terms import Walk, tokens_of
+
+HEAD = re.compile(r"(?:unfoldable |abbrev |pub )+(record |data )?(?:pub )?(\S+)")
+IMPORT = re.compile(r"(?:pub )?(?:ghost )?use ([\w.]+)(?:\.\{([^}]*)\}| as (\w+))?;?$")
+
+
+class Definition(NamedTuple):
+    name: str
+    comment: str
+    text: str
+    line: int
+    names: list         # the words that it refers to, in the order in which it names them
+    constructors: list  # of a data type
+
+
+class Module(NamedTuple):
+    comment: str
+    scope: dict         # a word, and what it stands for: (path, name), the name None for a whole module
+    definitions: list
+
+
+def parts_of(name):
+    """The words by which a name is used: of `◌>>=◌` the sign between."""
+    return [part for part in name.split("◌") if part] or [name]
+
+
+def imports_in(line, scope):
+    """Puts what a line imports into the scope. Gives whether the line is an import."""
+    read = IMPORT.match(line.strip())
+    if not read:
+        return False
+    path, names, alias = read.groups()
+    if names is None:
+        scope[alias or path.rpartition(".")[2]] = path, None
+        return True
+    for item in re.split(r",\s*", names.strip()):
+        name, _, other = item.partition(" as ")
+        for word in parts_of((other or name).strip()):
+            scope[word] = path, name.strip()
+    return True
+
+
+def blocks_of(lines):
+    """The number of the first line of each block, with its lines; an empty line ends a block."""
+    block = []
+    for number, line in enumerate([*lines, ""], 1):
+        if line.strip():
+            block.append(line)
+        elif block:
+            yield number - len(block), block
+            block = []
+
+
+def comment_of(lines):
+    return "\n".join(line.strip().lstrip("-").strip() for line in lines)
+
+
+def clauses_of(lines):
+    """The lines joined to those that begin at the margin."""
+    clauses = []
+    for line in lines:
+        if line[0].isspace() and clauses:
+            clauses[-1] += "\n" + line
+        else:
+            clauses.append(line)
+    return clauses
+
+
+def bound_by(pattern, is_constructor):
+    """The variables of a clause's left side."""
+    return {token for token in pattern if re.fullmatch(r"[^\W\d][\w']*", token) and not is_constructor(token)}
+
+
+def names_in(lines, name, is_constructor):
+    """The names in a definition whose lines are these."""
+    clauses, found = clauses_of(lines), {}
+    head = tokens_of(clauses[0])
+    start = head.index(name) + 1
+    found.update(dict.fromkeys(Walk().take(head[start:])))
+    words = set(parts_of(name))
+    for clause in clauses[1:]:
+        tokens = tokens_of(clause)
+        cut = tokens.index("=") if "=" in tokens else 0
+        pattern = [token for token in tokens[:cut] if token not in words]
+        bound = bound_by(pattern, is_constructor)
+        found.update(dict.fromkeys(token for token in Walk(bound).take(pattern)))
+        found.update(dict.fromkeys(Walk(bound).take(tokens[cut + 1:])))
+        if "do" in tokens:
+            found.setdefault(">>=")
+    return list(found)
+
+
+def read_module(text, is_constructor):
+    """A module. What it imports is looked up by is_constructor(scope, word), which says whether the word is one."""
+    scope, raw, comment = {}, [], ""
+    for number, block in blocks_of(text.split("\n")):
+        notes, block = [], textwrap.dedent("\n".join(block)).split("\n")
+        while block and (block[0].startswith(("--", "infix")) or imports_in(block[0], scope)):
+            if block[0].startswith("--"):
+                notes.append(block[0])
+            elif notes and not comment:
+                comment, notes = comment_of(notes), []
+            block, number = block[1:], number + 1
+        if block and HEAD.match(block[0]) and not block[0].startswith("pub mod "):
+            raw.append((number, notes, block))
+        elif notes and not raw and not comment:
+            comment = comment_of(notes)
+    made = [(number, notes, block, *constructors_of(block)) for number, notes, block in raw]
+    own = {constructor for *_, found in made for constructor in found}
+    definitions = []
+    for number, notes, block, name, constructors in made:
+        names = names_in(block, name, lambda word: word in own or is_constructor(scope, word))
+        definitions.append(Definition(name, comment_of(notes), "\n".join(block), number, names, constructors))
+    return Module(comment, scope, definitions)
+
+
+def constructors_of(block):
+    """The name of a definition, and its constructors where it is a data type."""
+    head = HEAD.match(block[0])
+    if (head[1] or "").strip() != "data":
+        return head[2], []
+    return head[2], [found[1] for line in block[1:] if (found := re.match(r"\s+(\w+) :", line))]

@@ -1,0 +1,93 @@
+"""Writes the manual page of the program to standard output, from what its help says and from the table of statuses in
+docs/formats.md.
+
+    manual.py PROGRAM TOP VERSION DATE
+"""
+import re
+import subprocess
+import sys
+
+
+def said(program, *words):
+    return subprocess.run([program, *words], capture_output=True, text=True, check=True).stdout
+
+
+def parts_of(text):
+    """What a help says: the parts by their titles, the first under none, the usage under Usage."""
+    parts, title = {"": []}, ""
+    for line in text.split("\n"):
+        usage = re.match(r"Usage: (.*)", line)
+        head = re.match(r"(\w+):$", line)
+        if usage:
+            title = ""
+            parts["Usage"] = [re.sub(r"^\S+", "kubelet_replay", usage[1])]
+        elif head:
+            title = head[1]
+            parts[title] = []
+        elif line.strip():
+            parts[title].append(line)
+    return parts
+
+
+def items_of(lines):
+    """The names of a list with what stands beside each; a line that is indented further goes on with the last."""
+    items = []
+    for line in lines:
+        head = re.match(r"  (\S.*?)(?:  +(.*))?$", line) or re.match(r"  (?:    )?(-.*?)(?:  +(.*))?$", line)
+        if head:
+            items.append([head[1], [head[2] or ""]])
+        else:
+            items[-1][1].append(line.strip())
+    return [(name, " ".join(words).strip()) for name, words in items]
+
+
+def escaped(text):
+    text = text.replace("\\", "\\e").replace("-", "\\-")
+    return "\\&" + text if text[:1] in (".", "'") else text
+
+
+def list_of(items):
+    return [line for name, words in items for line in (".TP", f"\\fB{escaped(name)}\\fR", escaped(words))]
+
+
+def statuses(top):
+    """The rows of the table of statuses, without its marks."""
+    with open(f"{top}/docs/formats.md", encoding="utf-8") as file:
+        table = file.read().partition("| Status | When |")[2].partition("\n\n")[0].split("\n")[2:]
+    for row in table:
+        status, when, line = (cell.strip().replace("`", "") for cell in row.strip().strip("|").split("|"))
+        yield status, f"{when}. On standard error: {line}."
+
+
+def command(program, name):
+    parts = parts_of(said(program, "help", name))
+    lines = [f".SS {escaped(name)}", *map(escaped, parts[""]), ".PP", f"\\fB{escaped(parts['Usage'][0])}\\fR"]
+    for title in ("Arguments", "Options"):
+        lines += list_of(item for item in items_of(parts.get(title, [])) if "help" not in item[0])
+    return lines
+
+
+def page(program, top, version, date):
+    parts = parts_of(said(program, "help"))
+    about, commands = parts[""][0], items_of(parts["Commands"])
+    lines = [f'.TH KUBELET_REPLAY 1 "{date}" "kubelet_replay {version}"', ".SH NAME",
+             f"kubelet_replay \\- {escaped(about[0].lower() + about[1:].rstrip('.'))}",
+             ".SH SYNOPSIS", *(line for name, _ in commands if name != "help"
+                               for line in (f"\\fBkubelet_replay\\fR {name} \\fI...\\fR", ".br")),
+             "\\fBkubelet_replay\\fR < \\fITRACE\\fR",
+             ".SH DESCRIPTION", escaped(about),
+             "Without a word it replays the trace of standard input.", ".SH COMMANDS"]
+    for name, _ in commands:
+        if name != "help":
+            lines += command(program, name)
+    lines += [".SH OPTIONS", *list_of(items_of(parts.get("Options", [])))]
+    lines += [".SH EXIT STATUS", *list_of(statuses(top))]
+    lines += [".SH FILES", "Beside the program docs/rules.md has the rules, docs/formats.md says what a trace and a",
+              "report are, and examples/ has traces with their reports."]
+    return "\n".join(lines) + "\n"
+
+
+if __name__ == "__main__":
+    if len(sys.argv) != 5:
+        sys.exit("usage: manual.py PROGRAM TOP VERSION DATE")
+    sys.stdout.write(page(*sys.argv[1:]))

@@ -1,0 +1,169 @@
+"""What the contracts of some functions reach: definitions, declared types and traits, and the library's words."""
+import glob
+import os
+import re
+from typing import NamedTuple
+
+import antt
+import rt
+from crates import read_crates
+
+LIBRARY = "library"
+
+
+class Node(NamedTuple):
+    """Something reached. Its place is its crate with its module, as `ranking`, `Order`, or a file of src/."""
+    kind: str      # contract, trait, type or definition
+    crate: str
+    module: str
+    name: str
+    comment: str
+    text: str
+    path: str      # of its file, from the top
+    line: int
+    below: list    # the keys of what it names, in the order in which it names them
+
+    @property
+    def key(self):
+        return self.crate, self.module, self.name
+
+
+class Repository:
+    """Reads files once each, and looks words up."""
+
+    def __init__(self, top):
+        self.top = top
+        self.crates = {crate.name: crate for crate in read_crates(top)}
+        self.modules, self.files = {}, {}
+
+    def text(self, path):
+        with open(os.path.join(self.top, path), encoding="utf-8") as file:
+            return file.read()
+
+    def module(self, crate, name):
+        path = f"crates/{crate}/specs/{name.replace('.', '/')}.antt"
+        if (crate, name) not in self.modules:
+            there = os.path.exists(os.path.join(self.top, path))
+            self.modules[crate, name] = antt.read_module(self.text(path), self.is_constructor) if there else None
+        return self.modules[crate, name]
+
+    def file(self, path):
+        if path not in self.files:
+            self.files[path] = rt.read_file(self.text(path))
+        return self.files[path]
+
+    def sources(self, crate):
+        found = glob.glob(f"crates/{crate}/src/**/*.rt", root_dir=self.top, recursive=True)
+        return sorted(found)
+
+    def path_of(self, path):
+        """Of a path as `Rattle.ranking.specs.Order` the crate and the rest, where the crate is one of these."""
+        words = path.split(".")
+        if words[0] == "Rattle" and len(words) > 3 and words[1] in self.crates:
+            return words[1], words[3:]
+        return None
+
+    def is_constructor(self, scope, word):
+        head, _, rest = word.partition(".")
+        path, name = scope.get(head, ("", None))
+        if "TheVariants" in path:
+            return bool(rest) or name is not None
+        found = self.path_of(path)
+        if not found:
+            return name in ("Some", "None", "Ok", "Err", "true", "false", "zero", "suc", "pos", "negsuc", "tt")
+        module = self.module(found[0], ".".join(found[1]))
+        return bool(module) and any(name in definition.constructors for definition in module.definitions)
+
+    def type_key(self, crate, name):
+        """The key of a declared type of a crate, by the file that declares it."""
+        for path in self.sources(crate):
+            if re.search(rf"(?m)^(pub(\(crate\))? )?(struct|enum) {name}\b", self.file(path).text):
+                return crate, os.path.basename(path), name
+        return None
+
+    def meaning(self, scope, word):
+        """The key of what a word stands for; nothing where it is a variable or a sign."""
+        head, _, rest = word.partition(".")
+        path, name = scope.get(word) or scope.get(head) or ("", None)
+        name = name or rest
+        if not path or not name:
+            return None
+        found = self.path_of(path)
+        if not found:
+            return LIBRARY, path, name
+        crate, rest_of_path = found
+        if rest_of_path[0] == "declared":
+            return self.type_key(crate, next(part for part in rest_of_path[1:] if part[0].isupper()))
+        module = ".".join(rest_of_path)
+        for definition in (self.module(crate, module) or antt.Module("", {}, [])).definitions:
+            if name in (definition.name, *definition.constructors):
+                return crate, module, definition.name
+        raise ValueError(f"crates/{crate}/specs/{module}.antt defines no {name}")
+
+    def keys(self, scope, words):
+        found = (self.meaning(scope, word) for word in words)
+        return list(dict.fromkeys(key for key in found if key))
+
+    def node(self, key):
+        crate, module, name = key
+        if module.endswith(".rt"):
+            return self.declared(crate, name)
+        read = self.module(crate, module)
+        own = {word: (f"Rattle.{crate}.specs.{module}", name) for found in read.definitions
+               for name in (found.name, *found.constructors) for word in antt.parts_of(name)}
+        found = next(found for found in read.definitions if found.name == name)
+        below = [key for key in self.keys({**read.scope, **own}, found.names) if key != (crate, module, name)]
+        path = f"crates/{crate}/specs/{module.replace('.', '/')}.antt"
+        return Node("definition", crate, module, name, found.comment, found.text, path, found.line, below)
+
+    def declared(self, crate, name):
+        """A declared type or a trait."""
+        for path in self.sources(crate):
+            file = self.file(path)
+            item, kind = rt.type_of(file.text, name), "type"
+            if not item:
+                item, kind = rt.trait_of(file.text, name), "trait"
+            if item:
+                below = self.keys(file.scope, item.names) + self.field_types(crate, file, item.types)
+                own = crate, os.path.basename(path), name
+                below = [key for key in dict.fromkeys(below) if key != own]
+                return Node(kind, *own, item.comment, item.text, path, item.line, below)
+        return None
+
+    def field_types(self, crate, file, names):
+        found = []
+        for name in names:
+            root = file.uses.get(name, "crate").split("::")[0]
+            owner = crate if root in ("crate", "super", "self") else root
+            if owner in self.crates and (key := self.type_key(owner, name)):
+                found.append(key)
+        return found
+
+    def contract(self, crate, name):
+        """A function with its contract, and below it what its clauses name."""
+        for path in self.sources(crate):
+            file = self.file(path)
+            if item := rt.contract_of(file.text, name):
+                below = self.keys(file.scope, item.names)
+                for trait in item.types:
+                    owner = file.uses.get(trait, crate).split("::")[0]
+                    node = self.declared(owner, trait)
+                    below.insert(0, (owner, node.module, trait))
+                module = os.path.basename(path)
+                return Node("contract", crate, module, name, item.comment, item.text, path, item.line, below)
+        raise ValueError(f"crates/{crate}/src has no public function {name}")
+
+
+def reached(repository, crate, functions):
+    """The contracts, and all that they reach, each with its key; behind them the words of the library, by module."""
+    contracts = [repository.contract(crate, name) for name in functions]
+    nodes, library = {}, {}
+    left = [key for node in reversed(contracts) for key in reversed(node.below)]
+    while left:
+        key = left.pop()
+        if key[0] == LIBRARY:
+            library.setdefault(key[1], {}).setdefault(key[2])
+        elif key not in nodes:
+            nodes[key] = repository.node(key)
+            left += reversed(nodes[key].below)
+    return contracts, nodes, {path: list(words) for path, words in library.items()}

@@ -1,0 +1,46 @@
+//! A tick line, read by itself.
+
+ghost use Rattle.std.specs.Prelude.{◌≡◌, IfOk, option_map};
+ghost use Rattle.serde_json.specs.View.{view};
+ghost use Rattle.tick_lines.specs.Line.{tick_line_of};
+ghost use Rattle.json_lines.specs.Ticks.{is_tick, moment_written, moment_at};
+
+use json_fields::{field, text_at};
+use serde_json::Value;
+use std::alloc::{AllocError, Global};
+use tick_lines::{TickLine, TickLineFault, tick_line_of};
+
+/// What a tick line says by itself: the tree of its JSON value is no longer needed.
+#[derive(Drop)]
+pub struct TickRecord {
+    /// The whole number that it gives as its moment, in seconds.
+    pub at: Option<u64>,
+    /// What it says beside its moment, or its first fault.
+    pub written: Result<TickLine, TickLineFault>,
+}
+
+/// Whether a JSON value says that it is a tick.
+pub(crate) fn is_tick(line: &Value) -> bool
+    ensures { result ≡ is_tick (view line.now) }
+{
+    text_at(line, "kind") == Some("tick")
+}
+
+/// The whole number that is found.
+fn moment_written(found: Option<&Value>) -> Option<u64>
+    ensures { result ≡ moment_written (option_map (λ v. view v.now) found.entry) }
+{
+    found?.as_u64()
+}
+
+/// Reads a tick line.
+pub fn tick_record(alloc: Global, line: &Value) -> Result<TickRecord, AllocError>
+    ensures at { IfOk result (λ tick. tick.at ≡ moment_at (view line.now)) }
+    ensures written { IfOk result (λ tick. tick.written ≡ tick_line_of (view line.now)) }
+{
+    let at = moment_written(field(line, "at"));
+    match tick_line_of(alloc, line) {
+        Err(TickLineFault::OutOfMemory) => Err(AllocError),
+        written => Ok(TickRecord { at, written }),
+    }
+}
