@@ -6,6 +6,7 @@ use Rattle.pod_piece.specs.Piece.{Piece}
 use Rattle.piece_deques.proofs.Lists.{all_unmap, map_map}
 use Rattle.pool_worker.specs.declared.bundle.Bundle.{Bundle}
 use Rattle.pool_harvest.specs.Done.{weigh}
+use Rattle.pool_worker.specs.Dealing.{dealt_to}
 use Rattle.pool_worker.specs.Seats.{Place, places_weigh}
 use Rattle.pool_worker.specs.Bundles.{Tag, bundle_place, bundle_tag, places_in, IsLaid, AreLaid}
 
@@ -29,9 +30,10 @@ module _ {D U E O : Type 0} {g : _} where
 
   pub to_laid : (pieces : List Piece) (bundles : List (Bundle D U E O g)) (n : ℕ) (places : List Place)
       → n ≡ length bundles → map bundle_place bundles ≡ places → All (λ b. IsLaid n places (bundle_tag b)) bundles
+      → map (λ (p : Place). p.pushed) places ≡ dealt_to n pieces
       → ((weight : ℕ → ℕ) → places_weigh weight places ≡ weigh weight pieces)
       → AreLaid pieces (map bundle_tag bundles)
-  to_laid pieces bundles n places count at laid pushed =
+  to_laid pieces bundles n places count at laid dealt pushed =
       let tags = map bundle_tag bundles in
       let many : n ≡ length tags = count ∙ sym (length-map bundles bundle_tag) in
       let there : places ≡ places_in tags = sym at ∙ sym (places_are bundles) in
@@ -40,5 +42,7 @@ module _ {D U E O : Type 0} {g : _} where
             subst (λ k. All (IsLaid k (places_in tags)) tags) many
             (subst (λ (p : List Place). All (IsLaid n p) tags) there
             (All-map (IsLaid n places) bundle_tag bundles laid));
+        dealt =
+            ap (map (λ (p : Place). p.pushed)) (sym there) ∙ dealt ∙ ap (λ (k : ℕ). dealt_to k pieces) many;
         pushed = λ weight. ap (places_weigh weight) (sym there) ∙ pushed weight;
       }

@@ -1,3 +1,4 @@
 pub mod Room
 pub mod Laid
 pub mod Places
+pub mod Dealing

@@ -9,6 +9,7 @@ use Rattle.piece_deques.specs.Rule.{all_parts}
 use Rattle.pool_harvest.specs.declared.reach.Reach.{Reach}
 use Rattle.pool_worker.specs.declared.bundle.Bundle.{Bundle}
 use Rattle.pool_worker.specs.Seats.{Place, seat_place, owner_place, places_weigh}
+use Rattle.pool_worker.specs.Dealing.{dealt_to}
 use Rattle.pool_harvest.specs.Done.{weigh}
 
 -- the deque of the owner and what was pushed to it, the owner's parts, the deques of the seats, and the parts of the
@@ -37,10 +38,11 @@ pub record IsLaid (away : ℕ) (places : List Place) (t : Tag) : Type 0 where
 abbrev pub places_in : List Tag → List Place
 places_in tags = map (λ (t : Tag). t.place) tags
 
--- the bundles with these tags have a seat of each deque each, and these pieces were pushed to the deques, once each:
--- so their numbers add up to the same, however they are weighed
+-- the bundles with these tags have a seat of each deque each, and these pieces were dealt to the deques by the rule:
+-- once each, so that their numbers add up to the same, however they are weighed
 pub record AreLaid (pieces : List Piece) (tags : List Tag) : Type 0 where
   pub each : All (IsLaid (length tags) (places_in tags)) tags
+  pub dealt : map (λ (p : Place). p.pushed) (places_in tags) ≡ dealt_to (length tags) pieces
   pub pushed : (weight : ℕ → ℕ) → places_weigh weight (places_in tags) ≡ weigh weight pieces
 
 -- the deque of a bundle's owner

@@ -1,3 +1,4 @@
+pub mod Dealing
 pub mod Seats
 pub mod Bundles
 pub mod Lanes

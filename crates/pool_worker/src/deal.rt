@@ -4,9 +4,10 @@ ghost use Rattle.std.specs.Prelude.{◌≡◌, ◌<◌, ◌≤◌, ◌+◌, ℕ,
 ghost use Rattle.std.specs.List.{sum_by};
 ghost use Rattle.crossbeam_deque.specs.Handles.{worker_deque};
 ghost use Rattle.observations.specs.Limits.{most_pods};
-ghost use Rattle.piece_deques.specs.Rule.{IsDue};
+ghost use Rattle.piece_deques.specs.Rule.{number_of, IsDue};
 ghost use Rattle.piece_deques.specs.Ends.{IsOpen, pushed_weight};
 ghost use Rattle.pool_harvest.specs.Done.{weigh};
+ghost use Rattle.pool_worker.specs.Dealing.{deal, pushed_of};
 
 use piece_deques::{Deal, Owner, number_of, push};
 use pod_piece::PodPiece;
@@ -19,6 +20,8 @@ pub(crate) fn deal<D: Deal>(owners: &mut Vec<Owner<D>>, pieces: Vec<PodPiece>)
     requires opened { All (IsOpen (vec_len pieces) 0) owners.old.items }
     ensures deques { map worker_deque owners.new.items ≡ map worker_deque owners.old.items }
     ensures opened { All (IsOpen (vec_len pieces) (vec_len pieces)) owners.new.items }
+    ensures dealt { map pushed_of owners.new.items
+        ≡ deal (map pushed_of owners.old.items) (map number_of pieces.items) }
     ensures pushed { (weight : ℕ → ℕ) → sum_by (pushed_weight weight) owners.new.items
         ≡ sum_by (pushed_weight weight) owners.old.items + weigh weight pieces.items }
 {

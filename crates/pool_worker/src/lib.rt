@@ -7,6 +7,7 @@ mod bundle;
 mod bundles;
 mod deal;
 mod lane;
+pub mod laws;
 mod plan;
 mod seats;
 mod work;

@@ -1,10 +1,11 @@
-use Rattle.std.proofs.Common.{◌≡◌, ◌*◌, ◌≤◌, List, All, map, vec_len, vec_capacity, sym, ◌∙◌, subst, arith}
+use Rattle.std.proofs.Common.{◌≡◌, ◌*◌, ◌≤◌, List, All, map, length, vec_len, vec_capacity, sym, ◌∙◌, subst, arith}
 use Rattle.std.specs.List.{sum_by}
 use Rattle.std.proofs.lemmas.List.Elements.{All-weaker}
 use Rattle.crossbeam_deque.specs.Handles.{stealer_deque, worker_deque}
 use Rattle.piece_deques.specs.Ends.{IsOpen, pushed_weight}
 use Rattle.piece_deques.proofs.Lists.{ones, sum_map}
 use Rattle.pool_worker.specs.Seats.{Place, owner_place}
+use Rattle.pool_worker.proofs.Dealing.{as_many, all_laid}
 use Rattle.pool_worker.proofs.Laid.{to_laid}
 use Rattle.pool_worker.specs.Lanes.{IsHost, IsLane, IsDesk}
 use Rattle.pool_worker.proofs.Places.{same_pushed}
@@ -53,8 +54,13 @@ returns-clause-laid g c =
     let dealt = c.deal.new.owners.items in
     let bundles = c.bundle_all.new.bundles in
     let e = c.bundle_all.ensures in
+    let kept = as_many worker_deque dealt c.args.plan.owners.items c.deal.ensures.deques in
+    let many : length c.args.plan.owners.items ≡ vec_len owners =
+    omega (arith, kept, c.seat_all.ensures.owners, c.deal.new.owners.ok.0) in
     to_laid c.args.pieces.items bundles.items (vec_len owners) (map owner_place owners.items)
     (sym e.len ∙ bundles.ok.0) e.places e.laid
+    (all_laid owners.items dealt c.args.plan.owners.items c.args.pieces.items (vec_len owners)
+    c.seat_all.ensures.places c.deal.ensures.dealt (c.requires.plan.none (λ _. 1)) many)
     (λ weight. (
     let b = sum_map owner_place (λ (p : Place). sum_by weight p.pushed) owners.items in
     let d = same_pushed owners.items dealt c.seat_all.ensures.places weight in

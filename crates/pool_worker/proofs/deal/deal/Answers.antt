@@ -1,4 +1,4 @@
-use Rattle.std.proofs.Common.{◌≡◌, ◌+◌, ◌-◌, ◌%◌, ◌<◌, ℕ, List, [], ◌∷◌, length, vec_len, All, sym, ap, ◌∙◌, subst}
+use Rattle.std.proofs.Common.{◌≡◌, ◌+◌, ◌-◌, ◌%◌, ◌<◌, ℕ, List, [], ◌∷◌, length, vec_len, All, map, set, sym, ap, ◌∙◌, subst}
 use Rattle.std.proofs.Common.{refl, arith, rules}
 use Rattle.std.specs.List.{sum_by}
 use Rattle.std.proofs.lemmas.List.Sums.{sum_by_push}
@@ -11,6 +11,8 @@ use Rattle.piece_deques.specs.Ends.{IsOpen, pushed_weight}
 use Rattle.piece_deques.proofs.Lists.{front, map_set, sum_set}
 use Rattle.pool_harvest.specs.Done.{weigh}
 use Rattle.pool_harvest.proofs.Numbers.{weigh_more}
+use Rattle.pool_worker.specs.Dealing.{pushed_of}
+use Rattle.pool_worker.proofs.Dealing.{given_one, dealt_next, all_dealt}
 use Rattle.pool_worker.proofs.deal.deal.Goals as goal
 
 weigh_none : (weight : ℕ → ℕ) (pieces : List Piece) → length pieces ≡ 0 → weigh weight pieces ≡ 0
@@ -35,6 +37,7 @@ loop-piece-preserved g c =
     let piece = c.in-Some.piece in
     let in' : at < length l.owners.items = search rules in
     let was = c.index_mut.ensures.value in
+    let dealt_at : at ≡ piece.number % length l.owners.items = search rules in
     let o = subst (IsOpen n k) (sym was) (i.opened at old in') in
     let more : k' ≡ k + 1 = omega (arith, c.in-Some.ensures.len, i.within) in
     let now : IsOpen n k' new = record {
@@ -62,12 +65,22 @@ loop-piece-preserved g c =
       some = search rules;
       deques = map_set worker_deque l.owners.items at old new was same.0 ∙ i.deques;
       opened = All-set (IsOpen n k') l.owners.items at new now weaker;
+      dealt = dealt_next (map pushed_of l.owners.items) (map pushed_of (set l.owners.items at new)) l.left.items rest
+          piece row (given_one pushed_of l.owners.items piece.number at old new dealt_at in' was (ap (λ v. v.pushed) v))
+          ∙ i.dealt;
       pushed = λ h. (
           let t = sum_set (pushed_weight h) l.owners.items at old new in' was in
           let w = weigh_more h rest l.left.items piece row in
           let p = ap (λ v. sum_by h v.pushed) v ∙ sum_by_push h (worker_view old).pushed piece.number in
           omega (arith, i.pushed h));
     }
+
+pub returns-clause-dealt : goal.returns-clause-dealt
+returns-clause-dealt g c =
+    let l = c.loop-piece in
+    all_dealt (map pushed_of l.owners.items) (map pushed_of c.args.owners.now.items) l.left.items
+    c.reverse.new.self.items c.args.pieces.items (omega (arith, l.left.ok.0, c.in_default.ensures.cases.0))
+    c.reverse.ensures.items l.invariant.dealt
 
 pub returns-clause-pushed : goal.returns-clause-pushed
 returns-clause-pushed g c = λ h.
