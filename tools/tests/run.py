@@ -75,14 +75,12 @@ def expect_refused(name, answer, status, words):
 
 
 class Recorder:
-    """A run of tools/record over recorded answers."""
+    """A run of tools/record over recorded answers, by a clock that is played, or by the node's."""
 
-    def __init__(self, name, tool=f"{TOOLS}/record", **settings):
+    def __init__(self, name, tool=f"{COMMANDS}/played_record", **settings):
         self.tool = tool
         self.folder = os.path.join(RECORDINGS, name)
         self.run = tempfile.mkdtemp()
-        with open(f"{self.run}/turn", "w") as file:
-            file.write("1\n")
         with open(f"{self.run}/curl", "w") as file:
             file.write('header = "Authorization: Bearer none"\n')
         stood_in = {"CURL": f"{self.run}/curl", "NODE": f"{self.folder}/node_line"}

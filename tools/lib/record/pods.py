@@ -27,10 +27,20 @@ class Pod:
         """The names of its containers, init containers first."""
         return [container["name"] for container in all_containers(self.manifest)]
 
+    def probe(self, container_name, probe):
+        """The fields of a container's probe; none where it has none."""
+        containers = {container["name"]: container for container in all_containers(self.manifest)}
+        return containers.get(container_name, {}).get(PROBES[probe], {})
+
     def period(self, container_name, probe):
         """Seconds from one result of a probe to the next."""
-        containers = {container["name"]: container for container in all_containers(self.manifest)}
-        return containers.get(container_name, {}).get(PROBES[probe], {}).get("periodSeconds", 10)
+        return self.probe(container_name, probe).get("periodSeconds", 10)
+
+    def initial_delay(self, container_name, probe):
+        return self.probe(container_name, probe).get("initialDelaySeconds", 0)
+
+    def successes_wanted(self, container_name, probe):
+        return self.probe(container_name, probe).get("successThreshold", 1)
 
 
 def pods_of(text, what):

@@ -96,9 +96,9 @@ class Recorder:
         return [recorded for recorded in self.recorded.values() if recorded.is_followed]
 
     def take_pods(self, seen):
-        there = {pod.uid for pod in seen.pods}
+        there = {pod.uid for pod in seen.pods} | {pod.key for pod in seen.pods}
         for recorded in self.followed():
-            if recorded.pod.uid not in there:
+            if recorded.pod.uid not in there and recorded.pod.key not in there:
                 self.miss(recorded, seen)
         for pod in seen.pods:
             recorded = self.recorded.get(pod.uid)

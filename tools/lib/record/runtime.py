@@ -159,7 +159,8 @@ class Container:
             return []
         if instance.state == CREATED:
             # shown where nothing else was: until it runs, the one before it stands as it ended
-            return [] if was_replaced else [Change(moment, Listing(self.attempt, CREATED), True)]
+            made = instance.created / 1e9 or moment
+            return [] if was_replaced else [Change(made, Listing(self.attempt, CREATED), True)]
         if instance.state == UNKNOWN:
             self.newest = before
         return self.unknown(instance, moment) + self.started(instance, moment) + self.ended(instance, moment)

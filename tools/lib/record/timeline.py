@@ -3,16 +3,20 @@
 A tick lists one instance of a container and one result of a probe, and the moments of ticks rise by whole seconds. So
 what happened stands at the second of its moment, with all else of that second, or at the first later one at which the
 formats read it as it was: a start before its end, a result before the end that it led to, a startup's result before
-the others, and each result of one probe at a second of its own."""
+the others, and each result of one probe at a second of its own.
+
+A success behind as many as its probe wants changes nothing, so it wants no tick: the next one has it, once."""
 
 from dataclasses import dataclass, field, replace
 from typing import Optional
 
-from .runtime import EXITED, LOST_CODE, RUNNING, Change
+from .runtime import CREATED, EXITED, LOST_CODE, RUNNING, Change
 from .trace import entry_of, gone_line, pod_line, tick_line
 
 # a pod's sync that kills a container starts its successor; what the kubelet shows has nothing between the two
 SYNC_SECONDS = 1.0
+# a start that had to stand later must not bring a result before the probe's initial delay
+ROUNDING_SECONDS = 2
 
 
 @dataclass
@@ -71,8 +75,10 @@ class Timeline:
         self.next_second = 0
         self.latest = None
         self.last_placed = {}
+        self.successes = {}
         self.present = []
         self.listings = {}
+        self.results = {}
         self.usages = {}
         self.signals = {}
 
@@ -119,10 +125,13 @@ class Timeline:
     def place_change(self, pod, container, change, arrived):
         key = pod.key, container
         self.take_back_end(key, change)
+        self.successes = {place: run for place, run in self.successes.items() if place[:2] != key}
         last = [self.last_placed.get((*key, kind), -1) + 1 for kind in ("listing", "startup", "liveness", "readiness")]
         second = self.second_of(change.moment, arrived, *last)
         self.tick(second, not change.is_quiet).listings[key] = change
-        self.last_placed[(*key, "listing")] = second
+        # a start in the same second takes the place of what was only made
+        if change.listing is None or change.listing.state != CREATED:
+            self.last_placed[(*key, "listing")] = second
 
     def take_back_end(self, key, change):
         """An end that is not written yet goes where its successor's start, known only now, says it too."""
@@ -134,12 +143,22 @@ class Timeline:
 
     def place_result(self, pod, container, result, arrived):
         key = pod.key, container
-        after = [self.last_placed.get((*key, "listing"), 0), self.last_placed.get((*key, result.probe), -1) + 1]
+        listed = self.last_placed.get((*key, "listing"), 0)
+        after = [listed, self.last_placed.get((*key, result.probe), -1) + 1]
         if result.probe != "startup":
             after.append(self.last_placed.get((*key, "startup"), -1) + 1)
+        may_come = listed + pod.initial_delay(container, result.probe)
+        if may_come - result.moment <= ROUNDING_SECONDS:
+            after.append(may_come)
         second = self.second_of(result.moment, arrived, *after)
-        self.tick(second, True).results[(*key, result.probe)] = result.result
+        self.tick(second, not self.is_repeated(pod, key, result)).results[(*key, result.probe)] = result.result
         self.last_placed[(*key, result.probe)] = second
+
+    def is_repeated(self, pod, key, result):
+        """Whether a result is a success behind as many as its probe wants. Each instance begins at none."""
+        run = self.successes.get((*key, result.probe), 0) + 1 if result.result == "success" else 0
+        self.successes[(*key, result.probe)] = run
+        return run > pod.successes_wanted(key[1], result.probe)
 
     # --- what is written ---
 
@@ -161,19 +180,23 @@ class Timeline:
         self.present += tick.arrivals
         for (key, container), change in tick.listings.items():
             self.listings.setdefault(key, {})[container] = change.listing
+            # what was found on an instance that is no more changes nothing, and must not count for the next one
+            self.results = {place: result for place, result in self.results.items() if place[:2] != (key, container)}
+        self.results.update(tick.results)
         self.usages.update(tick.usages)
         self.signals = self.signals if tick.signals is None else tick.signals
         if tick.is_wanted:
-            entries = [self.entry(pod, tick.results, is_silent) for pod in self.present]
+            entries = [self.entry(pod, is_silent) for pod in self.present]
             lines.append(tick_line(second, [entry for entry in entries if entry is not None], self.signals))
-            self.usages = {}
+            self.results, self.usages = {}, {}
         for pod in tick.departures:
             self.present.remove(pod)
             self.listings.pop(pod.key, None)
             lines += [gone_line(pod)] if self.format.says_gone else []
         return lines
 
-    def entry(self, pod, results, is_silent):
+    def entry(self, pod, is_silent):
         listings = {name: listing for name, listing in self.listings.get(pod.key, {}).items() if listing is not None}
-        of_pod = {(container, probe): result for (key, container, probe), result in results.items() if key == pod.key}
+        of_pod = {(container, probe): result for (key, container, probe), result in self.results.items()
+                  if key == pod.key}
         return entry_of(pod, listings, of_pod, self.usages.get(pod.key), is_silent)
