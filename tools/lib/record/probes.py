@@ -38,7 +38,7 @@ def counters_of(text):
 def grown(before, now):
     """What the counts of one probe grew by. A count that fell began anew with the kubelet, so all of it came since."""
     growth = {result: now.get(result, 0) - before.get(result, 0) for result in RESULTS}
-    return {result: number if number >= 0 else now[result] for result, number in growth.items()}
+    return {result: number if number >= 0 else now.get(result, 0) for result, number in growth.items()}
 
 
 def results_of(probe, growth, period, since, until):

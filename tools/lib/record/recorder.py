@@ -110,18 +110,16 @@ class Recorder:
     def arrive(self, pod, seen):
         reason = self.reason_to_leave_out(pod)
         before = next((each for each in self.followed() if each.pod.key == pod.key), None)
+        gone_at = -1
         if reason is None and before is not None:
-            if self.format.says_gone:
-                self.depart(before, seen.moment)
-            else:
-                before.is_followed = False
-                self.timeline.place_departure(before.pod, seen.moment)
-                reason = ANEW
+            gone_at = self.depart(before, seen.moment)
+            reason = None if self.format.says_gone else ANEW
         if reason is not None:
             self.say(f"{pod.key} {reason}")
             self.left_out.add(pod.uid)
             return
-        self.recorded[pod.uid] = Recorded(pod, self.timeline.place_arrival(pod, self.arrival_moment(pod, seen)))
+        moment = max(self.arrival_moment(pod, seen), gone_at + 1)
+        self.recorded[pod.uid] = Recorded(pod, self.timeline.place_arrival(pod, moment))
 
     def reason_to_leave_out(self, pod):
         """Why a pod has no line, by what came before; None where it can have one."""
@@ -158,9 +156,10 @@ class Recorder:
             self.depart(recorded, moment)
 
     def depart(self, recorded, moment):
+        """A pod goes from the trace; the second behind which it is no more."""
         self.plan_pod(recorded, moment)
         recorded.is_followed = False
-        self.timeline.place_departure(recorded.pod, moment)
+        return self.timeline.place_departure(recorded.pod, moment)
 
     # --- containers and probes ---
 
@@ -225,7 +224,7 @@ class Recorder:
             usage = seen.summary.usage(recorded.pod, self.has_running(recorded))
             if usage is not None and usage.times != recorded.usage_times:
                 recorded.usage_times = usage.times
-                usages[recorded.pod.key] = usage.amounts
+                usages[recorded.pod.uid] = usage.amounts
         self.timeline.place_sample(seen.moment, seen.summary.signals, usages, is_new)
 
     @staticmethod

@@ -59,9 +59,10 @@ def woven(changes, results):
     if first_end is None:
         return [*changes, *results]
     is_followed = any(map(is_start, changes[first_end:]))
-    end = changes[first_end].moment
-    early = [replace(result, moment=min(result.moment, end)) for result in results
-             if result.result == "failure" or not is_followed]
+    early = [result for result in results if result.result == "failure" or not is_followed]
+    # the last of them has a second of its own before that of the end
+    over = max((result.moment for result in early), default=0) - (changes[first_end].moment - 1)
+    early = [replace(result, moment=result.moment - max(over, 0)) for result in early]
     late = [result for result in results if result.result != "failure" and is_followed]
     return [*changes[:first_end], *early, *changes[first_end:], *late]
 
@@ -105,9 +106,11 @@ class Timeline:
         return second
 
     def place_departure(self, pod, moment):
-        """A pod goes, after all that happened in it."""
-        last = [second for (key, *_), second in self.last_placed.items() if key == pod.key]
-        self.tick(self.second_of(moment, *last), True).departures.append(pod)
+        """A pod goes, after all that happened in it; the second behind which it is no more."""
+        last = [second for (uid, *_), second in self.last_placed.items() if uid == pod.uid]
+        second = self.second_of(moment, *last)
+        self.tick(second, True).departures.append(pod)
+        return second
 
     def place_sample(self, moment, signals, usages, is_wanted):
         tick = self.tick(self.second_of(moment), is_wanted)
@@ -123,7 +126,7 @@ class Timeline:
                 self.place_result(pod, container, item, arrived)
 
     def place_change(self, pod, container, change, arrived):
-        key = pod.key, container
+        key = pod.uid, container
         self.take_back_end(key, change)
         self.successes = {place: run for place, run in self.successes.items() if place[:2] != key}
         last = [self.last_placed.get((*key, kind), -1) + 1 for kind in ("listing", "startup", "liveness", "readiness")]
@@ -142,7 +145,7 @@ class Timeline:
             self.last_placed[(*key, "listing")] = second - 1
 
     def place_result(self, pod, container, result, arrived):
-        key = pod.key, container
+        key = pod.uid, container
         listed = self.last_placed.get((*key, "listing"), 0)
         after = [listed, self.last_placed.get((*key, result.probe), -1) + 1]
         if result.probe != "startup":
@@ -178,10 +181,10 @@ class Timeline:
     def lines_of(self, second, tick, is_silent):
         lines = [pod_line(pod) for pod in tick.arrivals]
         self.present += tick.arrivals
-        for (key, container), change in tick.listings.items():
-            self.listings.setdefault(key, {})[container] = change.listing
+        for (uid, container), change in tick.listings.items():
+            self.listings.setdefault(uid, {})[container] = change.listing
             # what was found on an instance that is no more changes nothing, and must not count for the next one
-            self.results = {place: result for place, result in self.results.items() if place[:2] != (key, container)}
+            self.results = {place: result for place, result in self.results.items() if place[:2] != (uid, container)}
         self.results.update(tick.results)
         self.usages.update(tick.usages)
         self.signals = self.signals if tick.signals is None else tick.signals
@@ -191,12 +194,12 @@ class Timeline:
             self.results, self.usages = {}, {}
         for pod in tick.departures:
             self.present.remove(pod)
-            self.listings.pop(pod.key, None)
+            self.listings.pop(pod.uid, None)
             lines += [gone_line(pod)] if self.format.says_gone else []
         return lines
 
     def entry(self, pod, is_silent):
-        listings = {name: listing for name, listing in self.listings.get(pod.key, {}).items() if listing is not None}
-        of_pod = {(container, probe): result for (key, container, probe), result in self.results.items()
-                  if key == pod.key}
-        return entry_of(pod, listings, of_pod, self.usages.get(pod.key), is_silent)
+        listings = {name: listing for name, listing in self.listings.get(pod.uid, {}).items() if listing is not None}
+        of_pod = {(container, probe): result for (uid, container, probe), result in self.results.items()
+                  if uid == pod.uid}
+        return entry_of(pod, listings, of_pod, self.usages.get(pod.uid), is_silent)

@@ -27,6 +27,7 @@ def kind_of(words):
 
 class Play:
     """A script: its moments are seconds from `begin` on. It has
+    clock       what the clock says at each look, where it is no good one, and `true` the moments of these looks
     pods        {key: {"from", "until", "spec", "evicted"}}; a key may have a list of them, one after the other
     containers  {"id", "pod", "name", "attempt", "created", "started", "ended", "code", "removed", "lost"}: `lost` is when
                 `crictl inspect` no longer knows it while a list still has it
@@ -40,17 +41,26 @@ class Play:
         with open(path, encoding="utf-8") as file:
             self.script = json.load(file)
         self.begin = self.script["begin"]
-        self.asked_at = None
-        self.lists = 0
+        self.clock = [self.begin + moment for moment in self.script.get("clock", [0])]
+        self.said_last, self.look = None, -1
 
     def answer(self, words, now):
-        moment, (kind, identity) = now - self.begin, kind_of(words)
+        moment, (kind, identity) = self.true_moment(now), kind_of(words)
         for fault in self.script.get("fails", []):
             if fault["kind"] == kind and fault["from"] <= moment < fault["until"]:
                 raise Failed(fault["text"])
         if kind == "inspect":
             return self.inspected(identity, moment)
         return getattr(self, kind)(moment)
+
+    def true_moment(self, now):
+        """The moment at which the clock says so; a look of its own each time that it says something else."""
+        if "true" not in self.script:
+            return now - self.begin
+        if now != self.said_last:
+            self.said_last = now
+            self.look += 1
+        return self.script["true"][self.look]
 
     # --- the runtime ---
 
