@@ -41,12 +41,12 @@ def instances_of(status):
     """The instances that a status has: (container, id, start, end, code)."""
     for container in (status.get("initContainerStatuses") or []) + (status.get("containerStatuses") or []):
         for state in (container.get("lastState") or {}, container.get("state") or {}):
-            if state.get("terminated"):
-                ended = state["terminated"]
-                yield (container["name"], ended.get("containerID"), seconds_of(ended.get("startedAt")),
+            name, ended, running = container["name"], state.get("terminated"), state.get("running")
+            if ended:
+                yield (name, ended.get("containerID"), seconds_of(ended.get("startedAt")),
                        seconds_of(ended.get("finishedAt")), ended.get("exitCode"))
-            elif state.get("running"):
-                yield container["name"], container.get("containerID"), seconds_of(state["running"]["startedAt"]), None, None
+            elif running:
+                yield name, container.get("containerID"), seconds_of(running["startedAt"]), None, None
 
 
 def instance_facts(statuses):
@@ -86,6 +86,24 @@ def kill_facts(log, year):
         moment = calendar.timegm((year, int(month), int(day), int(hour), int(minute), int(second)))
         facts.append(Fact(key, container, f"kill {number} {probe.lower()}", moment))
     return facts
+
+
+def facts_of(shown, log):
+    """All that the kubelet showed in /pods, and the kills of its log."""
+    statuses = list(statuses_of(shown))
+    begun = json.loads(shown.split("\n", 1)[0])["at"]
+    return instance_facts(statuses) + ready_facts(statuses) + kill_facts(log, time.gmtime(begun).tm_year)
+
+
+def text_of(facts):
+    """Facts as lines: moment, pod, container, and what happened."""
+    return "".join(f"{fact.moment} {fact.pod} {fact.container} {fact.what}\n"
+                   for fact in sorted(facts, key=lambda fact: (fact.moment, fact.pod, fact.container, fact.what)))
+
+
+def facts_from(text):
+    parts = (line.split(" ", 3) for line in text.splitlines())
+    return [Fact(pod, container, what, int(moment)) for moment, pod, container, what in parts]
 
 
 # --- what the report says ---
@@ -153,8 +171,8 @@ def show_pod(key, pairs, left, show):
     lines = [(fact.moment, f"{fact.container} {fact.what}", at(fact.moment),
               at(found.moment) if found else "-", f"{found.moment - fact.moment:+d} s" if found else "missing")
              for fact, found in pairs if fact.pod == key]
-    lines += [(fact.moment, f"{fact.container} {fact.what}", "-", at(fact.moment), "in the report alone") for fact in left
-              if fact.pod == key]
+    lines += [(fact.moment, f"{fact.container} {fact.what}", "-", at(fact.moment), "in the report alone")
+              for fact in left if fact.pod == key]
     for _, what, shown, said, apart in sorted(lines):
         show(f"  {what:32} {shown:8}  {said:8} {apart}")
 
@@ -170,11 +188,8 @@ def show_kind(kind, pairs, left, show):
     return near == len(of_kind)
 
 
-def show_beside(shown, log, report, show):
-    """Shows the facts of each pod; whether each of the kubelet's is in the report within two seconds."""
-    statuses = list(statuses_of(shown))
-    begun = json.loads(shown.split("\n", 1)[0])["at"]
-    facts = instance_facts(statuses) + ready_facts(statuses) + kill_facts(log, time.gmtime(begun).tm_year)
+def show_beside(facts, report, show):
+    """Shows what the kubelet showed beside what a report says; whether each fact is in it within two seconds."""
     pairs, left = paired(facts, report_facts(report))
     for key in sorted({fact.pod for fact in facts} | {fact.pod for fact in left}):
         show_pod(key, pairs, left, show)

@@ -1,5 +1,5 @@
-"""The thirteen pods that bench/real_node runs: a crash loop, each probe, each policy, an init container that fails first,
-a memory limit, two containers, an image and a command that are missing."""
+"""The thirteen pods that bench/real_node runs: a crash loop, each probe, each policy, an init container that fails
+first, a memory limit, two containers, an image and a command that are missing."""
 
 COUNT = "n=$(cat /s/{0} 2>/dev/null || echo 0); n=$(expr $n + 1); echo $n > /s/{0}; sleep 5; test $n -gt 2 || exit 4"
 

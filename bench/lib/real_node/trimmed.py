@@ -1,5 +1,6 @@
-"""Makes the answers that captured.py kept into a recording of tools/tests: trimmed.py FILE OUT.jsonl.gz. It has for each
-look those answers that differ from the look before, with the fields that tools/record reads and a few beside them."""
+"""Makes the answers that captured.py kept into a recording of tools/tests: trimmed.py FILE OUT.jsonl.gz. It has for
+each look those answers that differ from the look before, with the fields that tools/record reads and a few beside
+them."""
 
 import gzip
 import json
@@ -41,12 +42,19 @@ def sample_of(value):
             or name in SAMPLES or name == "uid"}
 
 
+def configuration_of(answer):
+    """A configuration without the machine's own places."""
+    return {"kubeletconfig": {name: value for name, value in answer["kubeletconfig"].items()
+                              if not (isinstance(value, str) and value.startswith("/"))}}
+
+
 def counts_of(text):
     return "".join(f"{line}\n" for line in text.split("\n") if line.startswith("prober_probe_total{"))
 
 
 TRIMS = {"ps": lambda text: list_of(json.loads(text)), "pods": lambda text: pods_of(json.loads(text)),
-         "summary": lambda text: sample_of(json.loads(text)), "probes": counts_of, "configz": json.loads}
+         "summary": lambda text: sample_of(json.loads(text)), "probes": counts_of,
+         "configz": lambda text: configuration_of(json.loads(text))}
 
 
 def kind_of(words):

@@ -29,8 +29,8 @@ class Play:
     """A script: its moments are seconds from `begin` on. It has
     clock       what the clock says at each look, where it is no good one, and `true` the moments of these looks
     pods        {key: {"from", "until", "spec", "evicted"}}; a key may have a list of them, one after the other
-    containers  {"id", "pod", "name", "attempt", "created", "started", "ended", "code", "removed", "lost"}: `lost` is when
-                `crictl inspect` no longer knows it while a list still has it
+    containers  {"id", "pod", "name", "attempt", "created", "started", "ended", "code", "removed", "lost"}: `lost` is
+                when `crictl inspect` no longer knows it while a list still has it
     probes      {"pod", "container", "probe", "result", "at": [moments]}
     samples     {moment: {signal: value}} of the node, as the kubelet takes them
     fails       {"kind", "from", "until", "text"}: answers that do not come
@@ -142,8 +142,8 @@ class Play:
 
 
 class Captured:
-    """Answers that were captured, a line of JSON for each look: its moment, and the answers that were others than at the
-    look before: {"at": moment, "answers": {kind or container id: text, or {"failed": text}}}."""
+    """Answers that were captured, a line of JSON for each look: its moment, and the answers that were others than at
+    the look before: {"at": moment, "answers": {kind or container id: text, or {"failed": text}}}."""
 
     def __init__(self, path):
         with gzip.open(path, "rt", encoding="utf-8") as file:
