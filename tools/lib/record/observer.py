@@ -14,7 +14,7 @@ SUMMARY_SECONDS = 10
 PODS_SECONDS = 10
 # a list is asked for anew so often where a container has gone between it and `crictl inspect`
 MOST_LISTS = 3
-RUNTIME, PROBES, PODS, SUMMARY = "crictl ps", "/metrics/probes", "the pods", "/stats/summary"
+RUNTIME, PROBES, PODS, SUMMARY = "crictl ps", "/metrics/probes", "the list of pods", "/stats/summary"
 MEANWHILE = {
     RUNTIME: "ticks wait for it up to 30 s, and then list containers as unknown",
     PROBES: "ticks wait for it up to 30 s; its results are written once it answers",

@@ -108,7 +108,8 @@ class Container:
         """What the first look shows of it: its newest instance alone, as it is at that moment."""
         newest = instances[-1]
         self.begin(newest)
-        self.has_started = newest.state != CREATED
+        self.newest, self.has_started = newest, newest.state != CREATED
+        self.is_unknown = newest.state == UNKNOWN
         return [Change(moment, Listing(self.attempt, newest.state, newest.exit_code))]
 
     def changes(self, instances, moment):

@@ -181,6 +181,8 @@ class Timeline:
     def lines_of(self, second, tick, is_silent):
         lines = [pod_line(pod) for pod in tick.arrivals]
         self.present += tick.arrivals
+        if not self.format.says_gone:
+            self.depart(tick.departures)
         for (uid, container), change in tick.listings.items():
             self.listings.setdefault(uid, {})[container] = change.listing
             # what was found on an instance that is no more changes nothing, and must not count for the next one
@@ -192,11 +194,15 @@ class Timeline:
             entries = [self.entry(pod, is_silent) for pod in self.present]
             lines.append(tick_line(second, [entry for entry in entries if entry is not None], self.signals))
             self.results, self.usages = {}, {}
-        for pod in tick.departures:
+        if self.format.says_gone:
+            lines += [gone_line(pod) for pod in tick.departures]
+            self.depart(tick.departures)
+        return lines
+
+    def depart(self, pods):
+        for pod in pods:
             self.present.remove(pod)
             self.listings.pop(pod.uid, None)
-            lines += [gone_line(pod)] if self.format.says_gone else []
-        return lines
 
     def entry(self, pod, is_silent):
         listings = {name: listing for name, listing in self.listings.get(pod.uid, {}).items() if listing is not None}
