@@ -26,8 +26,8 @@ It needs python3, crictl (as root, on the node) and
   kubectl  that may get nodes/proxy and list pods; or, with --kubelet,
   curl     that asks the kubelet at URL, as https://127.0.0.1:10250; FILE is a curl configuration with its token and
            certificate, as in: header = "Authorization: Bearer .."
-/configz is served on port 10250 alone, which wants a permission, or by the API server's proxy; the read-only port 10255
-does not have it, nor /metrics/probes on some versions. --node-line FILE has a node line in its place.
+/configz is served at port 10250, which wants a permission, and by the API server's proxy; the read-only port 10255 does
+not serve it. --node-line FILE has a node line in its place.
 
 It asks                                  how often              for
   crictl ps -a -o json                   --look                 attempts and states
