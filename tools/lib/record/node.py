@@ -8,7 +8,7 @@ from fractions import Fraction
 
 from .formats import (at_place, duration_fault, first_fault, is_percentage, limit_fault, name_fault, percentage_fault,
                       seconds_of, whole_fault, without_nones)
-from .sources import Failed, read_json
+from .sources import Failed, read_json, reads
 
 SIGNALS = ("memory.available", "nodefs.available", "imagefs.available", "nodefs.inodesFree", "imagefs.inodesFree",
            "pid.available")
@@ -127,6 +127,7 @@ def sets_no_threshold(value):
     return percentage_fault(value) is None and float(value.rstrip("%")) in (0, 100)
 
 
+@reads("/configz")
 def node_line_of(text, name, summary, node_format):
     """The node line of an answer of /configz; Failed where the formats do not take what it says."""
     answer = read_json(text, "/configz")

@@ -4,7 +4,7 @@ read and no others, so neither its status nor what a container is told in its en
 from dataclasses import dataclass
 
 from .formats import (at_place, first_fault, label_fault, name_fault, quantity_fault, whole_fault, without_nones)
-from .sources import Failed, read_json
+from .sources import Failed, read_json, reads
 
 PROBES = {"startup": "startupProbe", "liveness": "livenessProbe", "readiness": "readinessProbe"}
 PROBE_FIELDS = ("initialDelaySeconds", "periodSeconds", "timeoutSeconds", "successThreshold", "failureThreshold")
@@ -43,6 +43,7 @@ class Pod:
         return self.probe(container_name, probe).get("successThreshold", 1)
 
 
+@reads("pods")
 def pods_of(text, what):
     """The pods of an answer, by their keys."""
     answer = read_json(text, what)
@@ -58,12 +59,12 @@ def pod_of(item):
     metadata = item.get("metadata") or {}
     status = item.get("status") or {}
     try:
-        manifest = manifest_of(item)
+        manifest, volumes = manifest_of(item), local_volumes(item)
         fault = manifest_fault(manifest)
     except (KeyError, TypeError, AttributeError):
-        manifest, fault = {}, "no manifest"
-    return Pod(f"{metadata.get('namespace') or 'default'}/{metadata.get('name')}", uid_of(metadata), manifest, fault,
-               local_volumes(item), status.get("phase") == "Failed" and status.get("reason") == "Evicted")
+        manifest, volumes, fault = {}, frozenset(), "no manifest"
+    return Pod(f"{metadata.get('namespace') or 'default'}/{metadata.get('name')}", str(uid_of(metadata)), manifest,
+               fault, volumes, status.get("phase") == "Failed" and status.get("reason") == "Evicted")
 
 
 def uid_of(metadata):

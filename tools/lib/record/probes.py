@@ -4,6 +4,8 @@ looks, put in an order."""
 import re
 from dataclasses import dataclass
 
+from .sources import reads
+
 PROBES = ("startup", "liveness", "readiness")
 RESULTS = ("failure", "success", "unknown")
 PROBE_WORDS = {"Startup": "startup", "Liveness": "liveness", "Readiness": "readiness"}
@@ -20,6 +22,7 @@ class Result:
     result: str
 
 
+@reads("/metrics/probes")
 def counters_of(text):
     """The counts of an answer: {(uid, container, probe): {result: count}}."""
     counters = {}

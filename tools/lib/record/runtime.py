@@ -5,7 +5,8 @@ import re
 from dataclasses import dataclass, replace
 from typing import Optional
 
-from .sources import Failed, read_json
+from .formats import whole_fault
+from .sources import Failed, read_json, reads
 
 CREATED, RUNNING, EXITED, UNKNOWN = ("CONTAINER_CREATED", "CONTAINER_RUNNING", "CONTAINER_EXITED", "CONTAINER_UNKNOWN")
 MOMENT = re.compile(r"(\d{4})-(\d\d)-(\d\d)T(\d\d):(\d\d):(\d\d)([.]\d+)?(Z|([+-])(\d\d):(\d\d))")
@@ -63,11 +64,15 @@ def instance_of(item):
         raise Failed(f"crictl ps: a container's state is {state}")
     if not isinstance(identity, str) or not CONTAINER_ID.fullmatch(identity):
         raise Failed(f"crictl ps: a container's id is {identity}")
-    return Instance(identity, labels.get("io.kubernetes.pod.uid", ""),
-                    labels.get("io.kubernetes.container.name") or metadata.get("name") or "",
-                    metadata.get("attempt") or 0, state, int(item.get("createdAt") or 0))
+    attempt = metadata.get("attempt") or 0
+    if whole_fault(attempt, 0, 2 ** 31 - 1):
+        raise Failed(f"crictl ps: a container's attempt is {attempt}")
+    return Instance(identity, str(labels.get("io.kubernetes.pod.uid", "")),
+                    str(labels.get("io.kubernetes.container.name") or metadata.get("name") or ""),
+                    attempt, state, int(item.get("createdAt") or 0))
 
 
+@reads("crictl ps")
 def instances_of(text):
     """The instances of a list, in the order in which they were created."""
     answer = read_json(text, "crictl ps")
@@ -77,6 +82,7 @@ def instances_of(text):
     return sorted(map(instance_of, containers), key=lambda instance: (instance.created, instance.attempt))
 
 
+@reads("crictl inspect")
 def inspected_of(text, instance):
     """An instance with what `crictl inspect` says of it. A code of 0 may be left out of an answer."""
     answer = read_json(text, f"crictl inspect {instance.id}")
@@ -87,8 +93,11 @@ def inspected_of(text, instance):
     started = moment_of(status.get("startedAt"))
     if status.get("state") != EXITED:
         return replace(instance, started=started)
+    code = status.get("exitCode") or 0
+    if whole_fault(code, -2 ** 31, 2 ** 31 - 1):
+        raise Failed(f"crictl inspect {instance.id}: the exit code is {code}")
     return replace(instance, state=EXITED, started=started, finished=moment_of(status.get("finishedAt")),
-                   exit_code=status.get("exitCode") or 0)
+                   exit_code=code)
 
 
 class Container:

@@ -1,5 +1,6 @@
 """The commands that are asked, each with a time-out. An answer is a text; one that does not come is Failed."""
 
+import functools
 import json
 import subprocess
 from dataclasses import dataclass
@@ -30,8 +31,21 @@ def run_command(words, seconds):
 def read_json(text, what):
     try:
         return json.loads(text)
-    except ValueError:
+    except (ValueError, RecursionError):
         raise Failed(f"{what}: the answer is no JSON") from None
+
+
+def reads(what):
+    """Marks what reads an answer: one that has another shape than it reads is Failed."""
+    def marked(read):
+        @functools.wraps(read)
+        def checked(*given):
+            try:
+                return read(*given)
+            except (ValueError, TypeError, KeyError, AttributeError, OverflowError):
+                raise Failed(f"{what}: the answer has another shape than is read") from None
+        return checked
+    return marked
 
 
 @dataclass(frozen=True)

@@ -3,7 +3,7 @@
 from dataclasses import dataclass
 
 from .formats import is_whole, without_nones
-from .sources import Failed, read_json
+from .sources import Failed, read_json, reads
 
 
 @dataclass(frozen=True)
@@ -53,6 +53,7 @@ def difference(whole, part):
     return None if whole is None or part is None else whole - part
 
 
+@reads("/stats/summary")
 def summary_of(text):
     answer = read_json(text, "/stats/summary")
     node = answer.get("node") if isinstance(answer, dict) else None
@@ -75,7 +76,17 @@ def summary_of(text):
     sampled = {"memory": memory, "nodefs": file_system, "imagefs": images, "pid": limits}
     times = {signal: sampled[signal.split(".")[0]].get("time") for signal in signals}
     return Summary(whole_values(capacity), is_dedicated(images, file_system), whole_values(signals), times,
-                   {fields_of(stats.get("podRef")).get("uid"): stats for stats in answer.get("pods") or []})
+                   pods_in(answer))
+
+
+def pods_in(answer):
+    """The stats of the pods by their uids, such as can be read."""
+    pods = {str(fields_of(stats.get("podRef")).get("uid")): stats for stats in answer.get("pods") or []}
+    for stats in pods.values():
+        volumes = {volume.get("name") for volume in stats.get("volume") or []}
+        amounts_of(stats, volumes)
+        times_of(stats)
+    return pods
 
 
 def is_dedicated(images, file_system):
