@@ -28,8 +28,9 @@ def runtime_checks(sources):
     def inspect_one():
         if not listed:
             return "not asked: there is no container"
-        detail = inspected_of(sources.inspected(listed[-1].id), listed[-1])
-        return f"{listed[-1].container} started at {detail.started}"
+        newest = listed[-1]
+        started = inspected_of(sources.inspected(newest.id), newest).started
+        return f"{newest.container} " + ("has not started" if started is None else f"started at {int(started)}")
 
     return [("crictl ps", list_them, wanted), ("crictl inspect", inspect_one, wanted)]
 

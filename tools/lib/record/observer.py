@@ -48,9 +48,10 @@ class Observer:
         return Seen(moment, self.resolved(listed, moment), counters, pods, summary)
 
     def pass_over(self, listed):
-        """Of what is there at the first look no start is asked for, and of instances that were replaced no code."""
+        """Of the pods that are there at the first look no start is asked for, and of instances that were replaced no
+        code: what a tick shows of them is the newest alone."""
         newest = {(each.uid, each.container): each for each in listed}
-        for each in listed:
+        for each in filter(lambda each: each.uid in self.known, listed):
             if newest[each.uid, each.container].id != each.id:
                 self.details[each.id] = replace(each, exit_code=0)
             elif each.state == RUNNING:

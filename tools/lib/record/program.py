@@ -164,6 +164,16 @@ def recorded(words, sources, clock, say):
     return 0
 
 
+def checked(words, sources, say):
+    """Shows which sources work; the status."""
+    try:
+        works = check(sources, words.node, words.format, lambda line: print(line, flush=True))
+    except OSError:
+        say("standard output takes no more")
+        return 1
+    return 0 if works else 1
+
+
 def main(arguments, clock=None, make_sources=Sources):
     """The program, with a clock and sources that tests can stand in for; its status."""
     say = Says()
@@ -181,5 +191,5 @@ def main(arguments, clock=None, make_sources=Sources):
         say(f"not on the PATH: {', '.join(missing)}")
         return 127
     if words.is_check:
-        return 0 if check(sources, words.node, words.format, print) else 1
+        return checked(words, sources, say)
     return recorded(words, sources, clock or Clock(), say)

@@ -53,7 +53,7 @@ class Recorder:
         self.left_out = set()
         self.is_first = True
         self.is_behind = False
-        self.planned_at = self.listed_at = self.sampled_at = None
+        self.begun = self.planned_at = self.listed_at = self.sampled_at = None
         self.sample_times = None
         self.counters = self.planned_counters = {}
 
@@ -67,7 +67,7 @@ class Recorder:
         """Takes what a look saw; what happened is planned once the runtime and the probes have both answered."""
         self.check_clock(seen.moment)
         if self.is_first:
-            self.planned_at = self.listed_at = self.sampled_at = seen.moment
+            self.begun = self.planned_at = self.listed_at = self.sampled_at = seen.moment
             self.planned_counters = seen.counters
             self.timeline.place_look(seen.moment)
         if seen.pods is not None:
@@ -178,10 +178,17 @@ class Recorder:
             else:
                 self.say(f"{pod.key} {instance.container} is left out: its pod's manifest has no such container")
         for name, instances in by_name.items():
+            if name not in recorded.containers:
+                instances = self.without_past(instances)
             if instances or name in recorded.containers:
                 container = recorded.containers.setdefault(name, Container(f"{pod.key} {name}", self.say))
                 step = container.first_changes if self.is_first else container.changes
                 recorded.changes.setdefault(name, []).extend(step(instances, seen.moment))
+
+    def without_past(self, instances):
+        """The instances of a container that is met: without those that were over before the recording began."""
+        return [each for each in instances if each is instances[-1]
+                or each.finished is None or each.finished >= self.begun]
 
     def plan(self, moment):
         for recorded in self.followed():
