@@ -16,9 +16,10 @@ from concurrent.futures import ThreadPoolExecutor
 sys.dont_write_bytecode = True
 import checks
 import test_json
+import test_why
 from checks import HERE, LONGEST, REPLAY, TOOLS, TOP, expect, expect_kept, expect_refused, read, run
 
-MODULES = (test_json,)
+MODULES = (test_json, test_why)
 RECORDINGS = f"{HERE}/recordings"
 COMMANDS = f"{HERE}/commands"
 TEXTS = f"{TOP}/crates/case_runner/data/texts"
@@ -333,7 +334,7 @@ def test_words():
 
 
 def test_help():
-    for tool in ("record", "story", "timeline", "what-if", "json"):
+    for tool in ("record", "story", "timeline", "what-if", "json", "why"):
         status, help_text, said = run([f"{TOOLS}/{tool}", "--help"])
         found = [words in help_text for words in (f"usage: tools/{tool} ", "It needs", "leaves out", "Status 0")]
         expect(f"{tool} --help", (status, said, found), (0, "", [True] * 4))
@@ -350,7 +351,7 @@ def test_missing_commands():
         ("record", ["--kubelet", "https://127.0.0.1:10250"], "curl"),
         ("what-if", ["."], "jq"), ("what-if", ["."], "diff"),
         ("story", ["a/b"], "python3"), ("timeline", [], "python3"),
-        ("json", [], "python3"), ("test", [], "python3"), ("test", [], "jq"),
+        ("json", [], "python3"), ("why", ["a/b"], "python3"), ("test", [], "python3"), ("test", [], "jq"),
     ):
         folder = tempfile.mkdtemp()
         for name in all_of:
