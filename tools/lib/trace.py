@@ -121,6 +121,20 @@ class Trace:
         return value_at(self.settings, "dedicatedImagefs", False)
 
 
+def present_at_each(trace):
+    """The pods that are present, by key, at each tick in turn; the same dict each time."""
+    present, arriving = {}, sorted(trace.pods, key=lambda pod: pod.first, reverse=True)
+    leaving = sorted((pod for pod in trace.pods if pod.gone is not None), key=lambda pod: pod.gone, reverse=True)
+    for place in range(len(trace.ticks)):
+        while leaving and leaving[-1].gone <= place:
+            present.pop(leaving.pop().key, None)
+        while arriving and arriving[-1].first <= place:
+            pod = arriving.pop()
+            if pod.is_present(place):
+                present[pod.key] = pod
+        yield present
+
+
 def value_at(found, name, otherwise=None):
     """A field's value, where null counts as absent."""
     value = found.get(name)

@@ -89,18 +89,17 @@ class Around:
 
 
 class PodTicks:
-    """The results and the listings of one pod's containers over its ticks, in one reading of the trace."""
+    """The results and the listings of one pod's containers over its ticks."""
 
     def __init__(self, trace, pod):
-        self.pod = pod
+        self.trace, self.pod = trace, pod
         self.results = {}
+        """moments and results, by container and probe"""
         self.listings = {container.name: ([], []) for container in pod.containers}
-        """the moments at which what is listed changed, and what it was from then on"""
-        self.moments = [tick.at for tick in trace.ticks[pod.first : pod.gone]]
-        for place in range(pod.first, len(trace.ticks) if pod.gone is None else pod.gone):
-            self.take(trace.ticks[place].at, trace.ticks[place].entries.get(pod.key) or {})
+        """the moments at which what is listed changed, and what it was from then on, by container"""
 
     def take(self, at, entry):
+        """One more tick, with what it has of the pod."""
         listed = {found.get("name"): traces.listing_of(found) for found in traces.list_at(entry, "containers")}
         for name, (moments, kept) in self.listings.items():
             if listed.get(name) != (kept[-1] if kept else None):
@@ -116,10 +115,9 @@ class PodTicks:
         place = bisect_right(moments, at) - 1
         if place < 0:
             return Listed(None, None, None)
-        began = moments[place]
-        before = bisect_left(self.moments, began) - 1
+        before = self.trace.places[moments[place]] - 1
         return Listed(kept[place], kept[place - 1] if place > 0 else None,
-                      self.moments[before] if place > 0 and before >= 0 else None)
+                      self.trace.ticks[before].at if place > 0 else None)
 
     def runs(self, name, kind, since, until):
         """The results of a probe in a span of moments, both ends included, as runs of equal ones."""
@@ -135,10 +133,29 @@ class PodTicks:
         return runs
 
 
+def ticks_of(trace, pods):
+    """The ticks of some pods, by their numbers, in one reading of the trace. A tick that does not list a pod matters
+    where the tick before did."""
+    found = {pod.number: PodTicks(trace, pod) for pod in pods}
+    wanted, listed = set(found), {}
+    for tick, present in zip(trace.ticks, traces.present_at_each(trace)):
+        now = {}
+        for key, entry in tick.entries.items():
+            number = present[key].number
+            if number in wanted:
+                found[number].take(tick.at, entry)
+                now[number] = present[key]
+        for number, pod in listed.items():
+            if number not in now and present.get(pod.key) is pod:
+                found[number].take(tick.at, {})
+        listed = now
+    return found
+
+
 def around_events(trace, report, pod):
     """What the trace holds around each event of a pod of the report, in order."""
     ours = trace.pods[pod.number]
-    ticks = PodTicks(trace, ours)
+    ticks = ticks_of(trace, [ours])[pod.number]
     specs = {container.name: container for container in ours.containers}
     deaths = {(event.container, event.at) for event in pod.events if event.word == "died"}
     starts, exits, found = {}, {}, []
@@ -216,19 +233,21 @@ def usages_at(trace, places):
     """The newest samples of each pod's usage up to the ticks of some places: thousandths by resource, by the pod's
     number, by place."""
     usages = {pod.number: {} for pod in trace.pods}
-    present, found = {}, {}
-    arriving = sorted(trace.pods, key=lambda pod: pod.first, reverse=True)
-    for place, tick in enumerate(trace.ticks[: max(places, default=-1) + 1]):
-        while arriving and arriving[-1].first <= place:
-            pod = arriving.pop()
-            present[pod.key] = pod
+    found = {}
+    for place, (tick, present) in enumerate(zip(trace.ticks, traces.present_at_each(trace))):
         for key, entry in tick.entries.items():
-            for resource, value in traces.dict_at(entry, "usage").items():
-                if resource in traces.USAGES and value is not None:
-                    usages[present[key].number][resource] = traces.amounts.quantity(value)
+            take_usage(usages[present[key].number], entry)
         if place in places:
             found[place] = {number: dict(usage) for number, usage in usages.items()}
+        if len(found) == len(places):
+            break
     return found
+
+
+def take_usage(usage, entry):
+    for resource, value in traces.dict_at(entry, "usage").items():
+        if resource in traces.USAGES and value is not None:
+            usage[resource] = traces.amounts.quantity(value)
 
 
 def candidates_of(trace, report, eviction, usages):
