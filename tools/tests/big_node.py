@@ -1,6 +1,7 @@
 """Makes a great trace and its report, to try how quick a page is. The report is made by hand as the trace is, and is
 not what the program says of it: its events are where the trace has them, and its evictions are made up."""
 
+import collections
 import json
 import math
 
@@ -56,17 +57,18 @@ def signals(tick):
 def report_of(pods, ticks, present):
     """The report: starts, deaths, restarts and readiness as the listings and results of the pods have them."""
     stride = max(1, ticks // pods)
-    events, evicted = [], {}
+    evicted = {tick // stride - place % 3: TICK * tick for place, tick in enumerate(range(1500, ticks, 1999))}
+    events = [(at, 1, f"node evicted {key_of(number)} memory.available hard 0") for number, at in evicted.items()]
     for number in range(pods):
-        for age in range(min(present * stride, ticks - number * stride)):
+        last = min(number + present, pods) * stride
+        ages = (last if number not in evicted else evicted[number] // TICK + 1) - number * stride
+        for age in range(min(ages, ticks - number * stride)):
             events += [(TICK * (number * stride + age), 0, words) for words in age_words(number, age)]
-    for place, tick in enumerate(range(1500, ticks, 1999)):
-        evicted[tick // stride - place % 3] = TICK * tick
-        events.append((TICK * tick, 1, f"node evicted {key_of(tick // stride - place % 3)} memory.available hard 0"))
     events.sort(key=lambda event: event[:2])
     yield f"node big-node pods={pods} ticks={ticks}\n"
     yield from (f"event {at} {words}\n" for at, _, words in events)
-    yield from (status_lines(number, TICK * number * stride, evicted.get(number)) for number in range(pods))
+    restarts = collections.Counter(words.split()[0] for _, _, words in events if " restart " in words)
+    yield from (status_lines(number, TICK * number * stride, evicted.get(number), restarts) for number in range(pods))
     yield "".join(f"nodecondition {kind}Pressure False 0\n" for kind in ("Memory", "Disk", "PID"))
     yield from (f"eviction {at} {key_of(number)} memory.available hard 0\n" for number, at in evicted.items())
     yield f"totals updates={pods * ticks} events={len(events)} orders=0\n"
@@ -90,11 +92,11 @@ def age_words(number, age):
     return [*found, f"{key_of(number)} - phase Running"] if age == 0 else found
 
 
-def status_lines(number, first, evicted):
+def status_lines(number, first, evicted, restarts):
     """A pod's status, which the page takes no events from."""
     key, since = key_of(number), first if evicted is None else evicted
     phase, ready = ("phase=Running reason=-", "True") if evicted is None else ("phase=Failed reason=Evicted", "False")
     return (f"pod {number} {key} {phase} qos=Burstable\ncondition {number} PodScheduled True {first}\n"
             f"condition {number} Initialized True {first}\ncondition {number} ContainersReady {ready} {since}\n"
             f"condition {number} Ready {ready} {since}\n"
-            f"container {number} app state=Running code=- restarts=0 ready=true started=true\n")
+            f"container {number} app state=Running code=- restarts={restarts[key]} ready=true started=true\n")

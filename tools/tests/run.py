@@ -16,10 +16,11 @@ from concurrent.futures import ThreadPoolExecutor
 sys.dont_write_bytecode = True
 import checks
 import test_json
+import test_page
 import test_why
 from checks import HERE, LONGEST, REPLAY, TOOLS, TOP, expect, expect_kept, expect_refused, read, run
 
-MODULES = (test_json, test_why)
+MODULES = (test_json, test_why, test_page)
 RECORDINGS = f"{HERE}/recordings"
 COMMANDS = f"{HERE}/commands"
 TEXTS = f"{TOP}/crates/case_runner/data/texts"
@@ -334,7 +335,7 @@ def test_words():
 
 
 def test_help():
-    for tool in ("record", "story", "timeline", "what-if", "json", "why"):
+    for tool in ("record", "story", "timeline", "what-if", "json", "why", "page"):
         status, help_text, said = run([f"{TOOLS}/{tool}", "--help"])
         found = [words in help_text for words in (f"usage: tools/{tool} ", "It needs", "leaves out", "Status 0")]
         expect(f"{tool} --help", (status, said, found), (0, "", [True] * 4))
@@ -351,7 +352,8 @@ def test_missing_commands():
         ("record", ["--kubelet", "https://127.0.0.1:10250"], "curl"),
         ("what-if", ["."], "jq"), ("what-if", ["."], "diff"),
         ("story", ["a/b"], "python3"), ("timeline", [], "python3"),
-        ("json", [], "python3"), ("why", ["a/b"], "python3"), ("test", [], "python3"), ("test", [], "jq"),
+        ("json", [], "python3"), ("why", ["a/b"], "python3"), ("page", [], "python3"),
+        ("test", [], "python3"), ("test", [], "jq"),
     ):
         folder = tempfile.mkdtemp()
         for name in all_of:

@@ -15,6 +15,8 @@ RESULTS = ("success", "failure", "unknown")
 # what a page leaves out above these, and says so
 MOST_RUNS = 400000
 MOST_ROWS = 40
+WITHOUT_TRACE = ("the samples of signals, the results of probes and what the ticks list, since no trace was given: "
+                 "tools/page TRACE has them", "the moment of the last tick, which a report lacks")
 
 
 class Span:
@@ -41,8 +43,7 @@ def differences(moments):
 
 def data_of(report, trace, utc):
     span = Span(report, trace)
-    left = [] if trace else ["the samples of signals, the results of probes and what the ticks list, since no trace was "
-                             "given: tools/page TRACE has them", "the moment of the last tick, which a report lacks"]
+    left = [] if trace else list(WITHOUT_TRACE)
     ticks = why.ticks_of(trace, trace.pods) if trace else {}
     budget = Budget(MOST_RUNS)
     data = {

@@ -4,8 +4,8 @@ const colours = {};
 
 function readColours() {
   const style = getComputedStyle(document.documentElement);
-  for (const name of ['ground', 'panel', 'ink', 'quiet', 'line', 'faint', 'accent', 'waiting', 'running', 'ended', 'failed',
-    'ready', 'unready', 'pressure', 'signal', 'hard', 'soft', 'kill', 'mark', 'shade']) {
+  for (const name of ['panel', 'quiet', 'line', 'waiting', 'running', 'ended', 'failed', 'ready', 'unready', 'pressure',
+    'signal', 'hard', 'soft', 'kill', 'mark', 'shade']) {
     colours[name] = style.getPropertyValue(`--${name}`).trim();
   }
 }
@@ -51,7 +51,8 @@ function short(pen, text, room) {
   return text.slice(0, kept) + '…';
 }
 
-const CLOCK = [1, 2, 5, 10, 15, 30, 60, 120, 300, 600, 900, 1800, 3600, 7200, 10800, 21600, 43200, 86400, 172800, 604800];
+const CLOCK = [1, 2, 5, 10, 15, 30, 60, 120, 300, 600, 900, 1800, 3600, 7200, 10800, 21600, 43200, 86400, 172800,
+  604800];
 
 function axisStep(span, most) {
   if (view.utc) {
@@ -66,7 +67,8 @@ function axisStep(span, most) {
 function axisMoments(area) {
   const step = axisStep(view.to - view.from, Math.max(2, (area.right - area.left) / 90));
   const found = [];
-  for (let at = Math.ceil((data.first + view.from) / step) * step - data.first; at <= view.to; at += step) found.push(at);
+  const first = Math.ceil((data.first + view.from) / step) * step - data.first;
+  for (let at = first; at <= view.to; at += step) found.push(at);
   return {step, found};
 }
 
@@ -136,19 +138,20 @@ const charts = [];
 
 function makeCharts() {
   const section = document.getElementById('charts');
-  const add = (draw, tip, hits) => {
+  const add = (draw, tip, hits, signal) => {
     const holder = document.createElement('div');
     const canvas = document.createElement('canvas');
     holder.className = 'chart';
     canvas.className = 'plot';
     holder.append(canvas);
     section.append(holder);
-    charts.push({canvas, draw, tip, hits});
+    charts.push({canvas, draw, tip, hits, signal});
   };
   add(drawNodeLanes, nodeTip, () => data.evictions);
   for (const signal of data.signals) {
+    signal.isTall = data.active.some((span) => span[0] === signal.name);
     add((canvas) => drawSignal(canvas, signal), (at) => signalTip(signal, at),
-      () => data.evictions.filter((one) => one.signal === signal.name));
+      () => data.evictions.filter((one) => one.signal === signal.name), signal);
   }
 }
 
@@ -205,7 +208,8 @@ function drawName(area, name, y) {
 
 // --- signals ---
 
-const SIGNAL_HEIGHT = 92;
+// Signals of which a threshold was active are drawn tall, and a click on a chart's name turns that.
+const TALL = 92, LOW = 40;
 
 // The least and the greatest value of each pixel of a signal in view: pairs by pixel, undefined without a value.
 function envelope(area, signal) {
@@ -223,7 +227,7 @@ function envelope(area, signal) {
 }
 
 function drawSignal(canvas, signal) {
-  const area = fit(canvas, SIGNAL_HEIGHT);
+  const area = fit(canvas, signal.isTall ? TALL : LOW);
   const {pen} = area;
   const columns = envelope(area, signal);
   let most = 0;
@@ -241,8 +245,8 @@ function drawSignal(canvas, signal) {
   drawLine(area, columns, yOf);
   drawEvictions(area, data.evictions.filter((one) => one.signal === signal.name),
     (one) => yOf(signal.values[placeBefore(tickMoments.length, (place) => tickMoments[place], one.at)] || 0));
-  drawName(area, signal.name, 10);
-  drawName(area, `0 to ${amount(most, signal.bytes)}`, 25);
+  drawName(area, `${signal.isTall ? '▾' : '▸'} ${signal.name}`, 10);
+  if (signal.isTall) drawName(area, `0 to ${amount(most, signal.bytes)}`, 25);
 }
 
 // A line through the last value of each pixel, with the whole height between the least and the greatest.
@@ -279,11 +283,12 @@ function drawThresholds(area, signal, yOf) {
     pen.setLineDash([]);
   }
   const written = [...signal.thresholds].sort((a, b) => a.kind < b.kind ? -1 : 1);
-  written.forEach((one, place) => {
+  written.slice(0, signal.isTall ? 2 : 1).forEach((one, place) => {
     pen.font = SMALL;
     pen.textAlign = 'left';
     pen.fillStyle = colours[one.kind];
-    pen.fillText(short(pen, `${one.kind} ${amount(one.limit, signal.bytes)}`, area.left - 10), 0, 44 + 15 * place);
+    const words = `${one.kind} ${amount(one.limit, signal.bytes)}`;
+    pen.fillText(short(pen, words, area.left - 10), 0, (signal.isTall ? 44 : 27) + 15 * place);
   });
 }
 
@@ -294,8 +299,9 @@ function signalTip(signal, at) {
 }
 
 function nodeTip(at) {
-  const found = data.pressure.filter((span) => span[1] <= at && (span[2] === null || at < span[2])).map((span) => span[0]);
-  const active = data.active.filter((span) => span[2] <= at && (span[3] === null || at < span[3]))
+  const holds = (since, until) => since <= at && (until === null || at < until);
+  const found = data.pressure.filter((span) => holds(span[1], span[2])).map((span) => span[0]);
+  const active = data.active.filter((span) => holds(span[2], span[3]))
     .map((span) => `threshold ${span[0]} ${span[1]} active`);
   return [moment(Math.round(at)), ...found, ...active].join('\n');
 }

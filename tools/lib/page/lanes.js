@@ -52,8 +52,8 @@ function element(kind, words, className) {
 }
 
 function makeRow(pod, place) {
-  const [holder, head, canvas] = [element('div', undefined, 'pod'), element('div', undefined, 'head'),
-    element('canvas', undefined, 'plot')];
+  const [holder, head] = [element('div', undefined, 'pod'), element('div', undefined, 'head')];
+  const canvas = element('canvas', undefined, 'plot');
   holder.style.top = `${rows.tops[place]}px`;
   const name = element('button', pod.key, 'name');
   name.title = pod.key;
@@ -106,8 +106,9 @@ function inView(spans) {
 
 function spansOf(pod) {
   if (!pod.drawn) {
+    const marks = pod.list.filter((event) => event.word in MARKED);
     pod.drawn = {ready: readySpans(pod), lanes: pod.containers.map((container) => stateSpans(pod, container)),
-      marks: pod.containers.map((_, place) => pod.list.filter((event) => event.place === place && event.word in MARKED))};
+      marks: pod.containers.map((_, place) => marks.filter((event) => event.place === place))};
   }
   return pod.drawn;
 }

@@ -1,12 +1,17 @@
 // What the page shows, and what is done to it.
 const shown = {filter: '', chip: 'all', order: 'worst'};
-const CHIPS = [['all', 'all', () => true], ['evicted', 'evicted', (pod) => pod.eviction !== null],
+const CHIPS = [
+  ['all', 'all', () => true], ['evicted', 'evicted', (pod) => pod.eviction !== null],
   ['restarted', 'restarted', (pod) => pod.restarts > 0], ['killed', 'killed by a probe', (pod) => pod.kills > 0],
-  ['unready', 'not ready at the end', (pod) => !pod.isReady && pod.phase !== 'Succeeded']];
+  ['unready', 'not ready at the end', (pod) => !pod.isReady && pod.phase !== 'Succeeded'],
+];
 const ORDERS = {worst: isWorse, trace: (a, b) => a.number - b.number, name: (a, b) => (a.key < b.key ? -1 : 1)};
-const LEGEND = [['waiting', 'waiting'], ['running', 'running'], ['ended', 'ended with 0'], ['failed', 'ended otherwise'],
-  ['ready', 'ready'], ['unready', 'not ready'], ['pressure', 'pressure'], ['shade', 'threshold active']];
-const MARKS = [['▼', 'kill ordered', 'kill'], ['○', 'restart', 'mark'], ['□', 'restart put off', 'mark'], ['✕', 'evicted', 'failed']];
+const LEGEND = [
+  ['waiting', 'waiting'], ['running', 'running'], ['ended', 'ended with 0'], ['failed', 'ended otherwise'],
+  ['ready', 'ready'], ['unready', 'not ready'], ['pressure', 'pressure'], ['shade', 'threshold active'],
+];
+const MARKS = [['▼', 'kill ordered', 'kill'], ['○', 'restart', 'mark'], ['□', 'restart put off', 'mark'],
+  ['✕', 'evicted', 'failed']];
 const byId = (name) => document.getElementById(name);
 let asked = 0, askedAll = false;
 
@@ -19,6 +24,7 @@ function draw(all) {
     const began = performance.now();
     asked = 0;
     if (askedAll) {
+      document.documentElement.style.setProperty('--head', `${document.querySelector('header').offsetHeight}px`);
       drawAxis();
       drawCharts();
       describe();
@@ -31,7 +37,8 @@ function draw(all) {
 
 function describe() {
   const span = view.to - view.from;
-  byId('range').textContent = `${moment(Math.round(view.from))} – ${moment(Math.round(view.to))} (${seconds(Math.round(span))})`;
+  const [from, to] = [view.from, view.to].map((at) => moment(Math.round(at)));
+  byId('range').textContent = `${from} – ${to} (${seconds(Math.round(span))})`;
   byId('whole').disabled = view.from === 0 && view.to === Math.max(data.last, 1);
 }
 
@@ -81,11 +88,19 @@ function choose(place) {
   rows.chosen = Math.max(0, Math.min(place, rows.pods.length - 1));
   if (rows.pods.length) {
     const top = byId('pods').getBoundingClientRect().top + rows.tops[rows.chosen];
-    const [low, high] = [document.querySelector('header').offsetHeight + 8, window.innerHeight - 90];
+    const [low, high] = [byId('ruler').getBoundingClientRect().bottom + 8, window.innerHeight - 90];
     if (top < low) window.scrollBy(0, top - low);
     else if (top > high) window.scrollBy(0, top - high + 60);
   }
   draw(false);
+}
+
+// The chosen pod's name has the keyboard then, so that Enter opens its story.
+function chooseByKey(by) {
+  choose(rows.chosen + by);
+  showRows(false);
+  const row = rows.made.get(rows.chosen);
+  if (row) row.holder.querySelector('button').focus({preventScroll: true});
 }
 
 let stepped = {pod: null, place: -1};
@@ -160,6 +175,10 @@ function click(plot, event) {
     const near = plot.chart.hits().map((one) => [Math.abs(xOf(plot.area, one.at) - x), one])
       .filter((one) => one[0] < 8).sort((a, b) => a[0] - b[0]);
     if (near.length) openEviction(near[0][1]);
+    else if (plot.chart.signal && x < plot.area.left) {
+      plot.chart.signal.isTall = !plot.chart.signal.isTall;
+      draw(true);
+    }
   }
 }
 
@@ -174,7 +193,8 @@ function tell(event) {
   tip.hidden = !plot || x < plot.area.left || x > plot.area.right || event.pointerType === 'touch';
   if (tip.hidden) return;
   const at = momentAt(plot.area, x);
-  tip.textContent = plot.row ? rowTip(plot.row, plot.area, x, y) : plot.chart ? plot.chart.tip(at) : moment(Math.round(at));
+  if (plot.row) tip.textContent = rowTip(plot.row, plot.area, x, y);
+  else tip.textContent = plot.chart ? plot.chart.tip(at) : moment(Math.round(at));
   tip.hidden = !tip.textContent;
   const width = tip.offsetWidth;
   tip.style.left = `${Math.min(event.clientX + 12, window.innerWidth - width - 6)}px`;
@@ -184,7 +204,7 @@ function tell(event) {
 // --- keys ---
 
 const PRESSED = {
-  '/': () => byId('filter').focus(), j: () => choose(rows.chosen + 1), k: () => choose(rows.chosen - 1),
+  '/': () => byId('filter').focus(), j: () => chooseByKey(1), k: () => chooseByKey(-1),
   n: () => step(1), p: () => step(-1), '+': () => zoomBy(0.5), '=': () => zoomBy(0.5), '-': () => zoomBy(2),
   0: () => zoom(0, Math.max(data.last, 1)), ArrowLeft: () => move(-0.25), ArrowRight: () => move(0.25),
   u: () => setClock(!view.utc), t: () => byId('theme').click(), '?': openKeys,
@@ -248,7 +268,8 @@ function begin() {
   byId('order').addEventListener('change', (event) => { shown.order = event.target.value; refilter(); });
   byId('whole').addEventListener('click', PRESSED[0]);
   byId('clock').addEventListener('click', PRESSED.u);
-  byId('theme').addEventListener('click', () => setTheme(document.documentElement.dataset.theme === 'dark' ? 'light' : 'dark'));
+  const isDark = () => document.documentElement.dataset.theme === 'dark';
+  byId('theme').addEventListener('click', () => setTheme(isDark() ? 'light' : 'dark'));
   byId('keys').addEventListener('click', openKeys);
   for (const [name, done] of [['pointerdown', startDrag], ['pointermove', moveDrag], ['pointerup', endDrag],
     ['keydown', press]]) document.addEventListener(name, done);

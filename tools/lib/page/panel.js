@@ -53,7 +53,8 @@ function openStory(pod) {
   const first = pod.first === null ? 'no tick' : `first tick ${moment(pod.first)}`;
   const restarts = pod.containers.map((one) => [one.name, one.state, one.code === null ? '-' : one.code, one.restarts,
     one.ready, one.started]);
-  const conditions = pod.conditions.map((one) => [one[0], one[1], one[2] === null ? '-' : moment(one[2]), one[3] || '-']);
+  const conditions = pod.conditions.map(([kind, value, since, reason]) =>
+    [kind, value, since === null ? '-' : moment(since), reason || '-']);
   openPanel(pod.key, [
     said(`${pod.phase}${pod.reason ? ` (${pod.reason})` : ''}, ${pod.qos}, ${first}${ended}${gone}; `
       + `not ready ${seconds(pod.unready)} in all`),
@@ -69,7 +70,8 @@ function eventList(pod, events, open) {
   if (whole > MOST_EVENTS) events = events.filter((event) => event.at >= view.from && event.at <= view.to);
   const cut = events.slice(0, MOST_EVENTS);
   const parts = cut.map((event) => eventItem(pod, event, open));
-  if (cut.length < whole) parts.push(said(`${whole - cut.length} of ${whole} events are left out: zoom to where they are.`));
+  const count = whole - cut.length;
+  if (count) parts.push(said(`${count} of ${whole} events are left out: zoom to where they are.`));
   return parts.length ? parts : [said('none')];
 }
 
@@ -159,7 +161,8 @@ function exitParts(pod, event) {
   if (!newest) return [said('No exit is in the report.')];
   const counted = exits.slice(exits.length - newest.rest[2]);
   const kept = counted.slice(-MOST_ROWS);
-  const parts = [said(`Exits that count${pod.policy ? ` (policy ${pod.policy})` : ''}; the delay goes by the last number:`),
+  const policy = pod.policy ? ` (policy ${pod.policy})` : '';
+  const parts = [said(`Exits that count${policy}; the delay goes by the last number:`),
     tableOf(['number', 'attempt', 'died', 'run', 'code'],
       kept.map((one) => [one.rest[2], one.rest[0], moment(one.at), `${one.rest[3]} s`, one.rest[1]]))];
   if (kept.length < counted.length) parts.push(said(`${counted.length - kept.length} earlier exits are left out.`));
@@ -174,7 +177,8 @@ function resultParts(pod, event) {
   if (!data.hasTrace) return lackOf('the results of probes');
   const kinds = {kill: [event.rest[1]], ready: ['startup', 'readiness'], unready: ['readiness'],
     'startup-passed': ['startup']}[event.word];
-  const start = pod.list.filter((one) => one.number < event.number && one.place === event.place && one.word === 'started').pop();
+  const start = pod.list.filter((one) => one.number < event.number && one.place === event.place
+    && one.word === 'started').pop();
   const probes = pod.probes.filter((probe) => probe[0] === event.place && kinds.includes(probe[1]));
   if (!probes.length) return [said('It has no startup and no readiness probe.')];
   return probes.flatMap((probe) => probeParts(probe, start ? start.at : 0, event.at));
@@ -188,7 +192,8 @@ function probeParts(probe, since, until) {
   const runs = resultRuns(flat, since, until);
   const kept = runs.slice(-MOST_ROWS);
   const parts = [head, said(`Its results since the instance started at ${moment(since)}:`),
-    tableOf(['result', 'in a row', 'moments'], kept.map((run) => [run.said, run.moments.length, momentsWords(run.moments)]))];
+    tableOf(['result', 'in a row', 'moments'],
+      kept.map((run) => [run.said, run.moments.length, momentsWords(run.moments)]))];
   if (kept.length < runs.length) parts.push(said(`${runs.length - kept.length} earlier runs of results are left out.`));
   return parts;
 }
@@ -227,7 +232,8 @@ function sampleParts(name, around, at) {
     if (!after.size) return cells;
     return [...cells, after.has(tickMoments[one]) ? amount(after.get(tickMoments[one]), signal.bytes) : '-'];
   }))];
-  if (kept.length < found.length) parts.push(said(`${found.length - kept.length} samples behind the first are left out.`));
+  const count = found.length - kept.length;
+  if (count) parts.push(said(`${count} samples behind the first are left out.`));
   return parts;
 }
 
@@ -246,6 +252,7 @@ function openKeys() {
     keys.split(', ').forEach((key) => cell.append(element('kbd', key), ' '));
     row.append(element('td', what));
   }
-  openPanel('Keys', [made, said('Drag over a lane or a chart to zoom. A click on a pod opens its story, one on a mark or a '
-    + 'bar the why of the events there. A mark stands for all events within five pixels.')]);
+  openPanel('Keys', [made, said('Drag over a lane or a chart to zoom, click twice for the whole span. A click on a pod '
+    + 'opens its story, one on a mark or a cross the why of the events there. A mark stands for all events within five '
+    + 'pixels. A click on the name of a signal makes its chart tall or low.')]);
 }
