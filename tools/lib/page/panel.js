@@ -11,6 +11,7 @@ function openPanel(title, parts, before) {
   panel.replaceChildren(top, ...parts);
   panel.hidden = false;
   panel.scrollTop = 0;
+  standBeside(true);
   panel.focus({preventScroll: true});
 }
 
@@ -18,7 +19,15 @@ function closePanel() {
   if (panel.hidden) return;
   panel.hidden = true;
   panel.replaceChildren();
+  standBeside(false);
   if (comesBack && comesBack.isConnected) comesBack.focus({preventScroll: true});
+}
+
+// On a wide screen the lanes make room for the panel.
+function standBeside(is) {
+  if (document.body.classList.contains('beside') === is) return;
+  document.body.classList.toggle('beside', is);
+  draw(true);
 }
 
 function pressable(words, pressed, title) {
