@@ -12,10 +12,13 @@ import xml.dom.minidom
 
 sys.dont_write_bytecode = True
 import checks
+import test_json
+import test_page
 import test_record
+import test_why
 from checks import HERE, REPLAY, TOOLS, TOP, expect, expect_kept, expect_refused, read, run
 
-MODULES = (test_record,)
+MODULES = (test_record, test_json, test_why, test_page)
 RECORDINGS = f"{HERE}/recordings"
 COMMANDS = f"{HERE}/commands"
 
@@ -178,7 +181,7 @@ def test_words():
 
 
 def test_help():
-    for tool in ("record", "story", "timeline", "what-if"):
+    for tool in ("record", "story", "timeline", "what-if", "json", "why", "page"):
         status, help_text, said = run([f"{TOOLS}/{tool}", "--help"])
         found = [words in help_text for words in (f"usage: tools/{tool} ", "It needs", "leaves out", "Status 0")]
         expect(f"{tool} --help", (status, said, found), (0, "", [True] * 4))
@@ -194,7 +197,9 @@ def test_missing_commands():
         ("record", [], "python3"), ("record", [], "crictl"), ("record", [], "kubectl"),
         ("record", ["--kubelet", "https://127.0.0.1:10250"], "curl"),
         ("what-if", ["."], "jq"), ("what-if", ["."], "diff"),
-        ("story", ["a/b"], "python3"), ("timeline", [], "python3"), ("test", [], "python3"), ("test", [], "jq"),
+        ("story", ["a/b"], "python3"), ("timeline", [], "python3"),
+        ("json", [], "python3"), ("why", ["a/b"], "python3"), ("page", [], "python3"),
+        ("test", [], "python3"), ("test", [], "jq"),
     ):
         folder = tempfile.mkdtemp()
         for name in all_of:
