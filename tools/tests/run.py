@@ -13,62 +13,16 @@ import time
 import xml.dom.minidom
 from concurrent.futures import ThreadPoolExecutor
 
-HERE = os.path.dirname(os.path.realpath(__file__))
-TOOLS = os.path.dirname(HERE)
-TOP = os.path.dirname(TOOLS)
+sys.dont_write_bytecode = True
+import checks
+import test_json
+import test_why
+from checks import HERE, LONGEST, REPLAY, TOOLS, TOP, expect, expect_kept, expect_refused, read, run
+
+MODULES = (test_json, test_why)
 RECORDINGS = f"{HERE}/recordings"
-REPLAY = os.environ.get("KUBELET_REPLAY", f"{TOP}/kubelet_replay")
 COMMANDS = f"{HERE}/commands"
 TEXTS = f"{TOP}/crates/case_runner/data/texts"
-# a recorder that goes on by mistake ends all the same
-LONGEST = 60
-
-WRITE = "--write" in sys.argv[1:]
-passed, failed = 0, 0
-
-
-def expect(name, got, wanted):
-    """Counts one test, and shows the first line in which it differs."""
-    global passed, failed
-    if got == wanted:
-        passed += 1
-        return
-    failed += 1
-    lines = zip((got if isinstance(got, str) else repr(got)).split("\n") + ["(end)"],
-                (wanted if isinstance(wanted, str) else repr(wanted)).split("\n") + ["(end)"])
-    first = next(((a, b) for a, b in lines if a != b), ("", ""))
-    print(f"FAILED {name}\n  got     {first[0][:300]}\n  wanted  {first[1][:300]}")
-
-
-def expect_kept(name, got, path):
-    """Counts one test against a kept file."""
-    if WRITE:
-        with open(path, "w") as file:
-            file.write(got)
-    kept = read(path) if os.path.exists(path) else "(no such file)"
-    expect(name, got, kept)
-
-
-def read(path):
-    with open(path, encoding="utf-8") as file:
-        return file.read()
-
-
-def run(words, given="", **settings):
-    """The status, the output and the errors of a command."""
-    try:
-        done = subprocess.run(words, input=given.encode(), capture_output=True, timeout=LONGEST, check=False,
-                              env={**os.environ, "KUBELET_REPLAY": REPLAY, **settings})
-    except subprocess.TimeoutExpired:
-        return None, "", f"it went on for {LONGEST} s"
-    return done.returncode, done.stdout.decode("utf-8", "replace"), done.stderr.decode("utf-8", "replace")
-
-
-def expect_refused(name, answer, status, words):
-    """One line on standard error with some words, nothing on standard output, and a status."""
-    got, out, said = answer
-    one_line = said.count("\n") == 1 and said.endswith("\n")
-    expect(name, (got, out, one_line and words in said or said), (status, "", True))
 
 
 # --- the recorder ---
@@ -380,7 +334,7 @@ def test_words():
 
 
 def test_help():
-    for tool in ("record", "story", "timeline", "what-if"):
+    for tool in ("record", "story", "timeline", "what-if", "json", "why"):
         status, help_text, said = run([f"{TOOLS}/{tool}", "--help"])
         found = [words in help_text for words in (f"usage: tools/{tool} ", "It needs", "leaves out", "Status 0")]
         expect(f"{tool} --help", (status, said, found), (0, "", [True] * 4))
@@ -396,7 +350,8 @@ def test_missing_commands():
         ("record", [], "jq"), ("record", [], "crictl"), ("record", [], "kubectl"),
         ("record", ["--kubelet", "https://127.0.0.1:10250"], "curl"),
         ("what-if", ["."], "jq"), ("what-if", ["."], "diff"),
-        ("story", ["a/b"], "python3"), ("timeline", [], "python3"), ("test", [], "python3"), ("test", [], "jq"),
+        ("story", ["a/b"], "python3"), ("timeline", [], "python3"),
+        ("json", [], "python3"), ("why", ["a/b"], "python3"), ("test", [], "python3"), ("test", [], "jq"),
     ):
         folder = tempfile.mkdtemp()
         for name in all_of:
@@ -430,12 +385,13 @@ def main():
         print(f"tools/test: {REPLAY} does not write whole reports", file=sys.stderr)
         return 1
     wanted = [word for word in sys.argv[1:] if word != "--write"]
-    for name, test in list(globals().items()):
-        if name.startswith("test_") and (not wanted or any(word in name for word in wanted)):
-            test()
+    for module in (sys.modules[__name__], *MODULES):
+        for name, test in list(vars(module).items()):
+            if name.startswith("test_") and callable(test) and (not wanted or any(word in name for word in wanted)):
+                test()
     print(f"{time.monotonic() - began:.0f} s", file=sys.stderr)
-    print(f"{passed} passed, {failed} failed")
-    return 1 if failed else 0
+    print(f"{checks.passed} passed, {checks.failed} failed")
+    return 1 if checks.failed else 0
 
 
 if __name__ == "__main__":
