@@ -23,6 +23,8 @@ class Event:
     container: str | None
     word: str
     rest: list[str]
+    number: int | None = None
+    """that of its pod, where it has one"""
 
 
 @dataclass
@@ -65,15 +67,21 @@ class Eviction:
     signal: str
     kind: str
     grace: int
+    number: int | None = None
+    """that of the pod"""
 
 
 @dataclass
 class Report:
     node: str
+    pod_count: int
+    tick_count: int
     events: list[Event] = field(default_factory=list)
     pods: list[Pod] = field(default_factory=list)
     conditions: list[Condition] = field(default_factory=list)
     evictions: list[Eviction] = field(default_factory=list)
+    totals: tuple[int, ...] = ()
+    """updates, events, orders"""
 
 
 @dataclass
@@ -87,20 +95,27 @@ class Span:
 
 
 FORMS = {
-    "node": r"node (\S+) pods=\d+ ticks=\d+",
+    "node": r"node (\S+) pods=(\d+) ticks=(\d+)",
     "node event": r"event (\d+) node (threshold|pressure|reclaim|evicted) (\S.*)",
     "event": r"event (\d+) (\S+/\S+) (\S+) "
              r"(started|died|startup-passed|kill|ready|unready|backoff|restart|phase)((?: \S+)*)",
-    "pod": r"pod (\d+) (\S+) phase=(\S+) reason=(\S+) qos=(\S+)",
+    "pod": r"pod (\d+) (\S+/\S+) phase=(Pending|Running|Succeeded|Failed) reason=(\S+) "
+           r"qos=(Guaranteed|Burstable|BestEffort)",
     "condition": r"condition (\d+) (\S+) (True|False) (\d+)(?: (\S+))?",
-    "container": r"container (\d+) (\S+) state=(\S+) code=(\S+) restarts=(\d+) ready=(\S+) started=(\S+)",
+    "container": r"container (\d+) (\S+) state=(Waiting|Running|Terminated) code=(-|-?\d+) restarts=(\d+) "
+                 r"ready=(true|false) started=(true|false)",
     "node condition": r"nodecondition (\S+) (True|False) (\d+)",
-    "eviction": r"eviction (\d+) (\S+) (\S+) (hard|soft) (\d+)",
-    "totals": r"totals updates=\d+ events=\d+ orders=\d+",
+    "eviction": r"eviction (\d+) (\S+/\S+) (\S+) (hard|soft) (\d+)",
+    "totals": r"totals updates=(\d+) events=(\d+) orders=(\d+)",
+}
+RESTS = {
+    "started": r"\d+", "died": r"\d+ -?\d+", "startup-passed": r"\d+", "kill": r"\d+ (?:startup|liveness)",
+    "ready": "", "unready": "", "backoff": r"\d+", "restart": r"\d+",
+    "phase": "Pending|Running|Succeeded|Failed", "threshold": r"\S+ (?:hard|soft) (?:active|cleared)",
+    "pressure": r"\S+ (?:True|False)", "reclaim": r"\S+ (?:hard|soft)", "evicted": r"\S+/\S+ \S+ (?:hard|soft) \d+",
 }
 FORMS = {kind: re.compile(form, re.ASCII) for kind, form in FORMS.items()}
-WORDS = {"started": 1, "died": 2, "startup-passed": 1, "kill": 2, "ready": 0, "unready": 0, "backoff": 1, "restart": 1,
-         "phase": 1, "threshold": 3, "pressure": 2, "reclaim": 2, "evicted": 4}
+RESTS = {word: re.compile(form, re.ASCII) for word, form in RESTS.items()}
 
 
 def parts_of(line):
@@ -124,9 +139,9 @@ def read_report(text):
         if kind is None or ended or (report is None) != (kind == "node"):
             raise ReportFault(f"line {number} of standard input is no line of a report there")
         if kind == "node":
-            report = Report(parts[0])
+            report = Report(parts[0], int(parts[1]), int(parts[2]))
         elif kind == "totals":
-            ended = True
+            report.totals, ended = tuple(map(int, parts)), True
         else:
             try:
                 add_line(report, kind, parts)
@@ -135,16 +150,39 @@ def read_report(text):
     if not ended:
         raise ReportFault("standard input has no whole report: the line of totals is missing")
     check_whole(report)
-    pods = {pod.key: pod for pod in report.pods}
-    for event in report.events:
-        if event.pod in pods:
-            pods[event.pod].events.append(event)
+    named = pods_by_key(report)
+    for said in (*report.events, *report.evictions):
+        pod = pod_at(named.get(said.pod, ()), said.at)
+        said.number = pod.number if pod else None
+        if pod and isinstance(said, Event):
+            pod.events.append(said)
     return report
+
+
+def pods_by_key(report):
+    named = {}
+    for pod in report.pods:
+        named.setdefault(pod.key, []).append(pod)
+    return named
+
+
+def pod_at(pods, at):
+    """Of pods of one key, one after the other, that which was there at the moment of an event: the last whose first
+    tick was by then. A pod without ticks has the moment 0 as its first, and none of its containers was ever seen."""
+    begun = [pod for pod in pods if first_tick(pod) <= at]
+    return max(begun, key=lambda pod: (first_tick(pod), was_seen(pod), -pod.number), default=None)
+
+
+def was_seen(pod):
+    return any(container.state != "Waiting" for container in pod.containers)
 
 
 def check_whole(report):
     if [condition.kind for condition in report.conditions] != list(CONDITIONS):
         raise ReportFault("standard input has no whole report: a condition of the node is missing")
+    if len(report.pods) != report.pod_count:
+        raise ReportFault(f"standard input has no whole report: it has {len(report.pods)} pods and says "
+                          f"{report.pod_count}")
     for pod in report.pods:
         if [condition.kind for condition in pod.conditions[:4]] != list(POD_CONDITIONS):
             raise ReportFault(f"standard input has no whole report: a condition of {pod.key} is missing")
@@ -159,6 +197,8 @@ def add_line(report, kind, parts):
         rest = rest.split()
         report.events.append(checked(Event(int(at), rest[0] if word == "evicted" else None, None, word, rest)))
     elif kind == "pod":
+        if int(parts[0]) != len(report.pods):
+            raise ValueError
         report.pods.append(Pod(int(parts[0]), *parts[1:]))
     elif kind == "condition":
         report.pods[int(parts[0])].conditions.append(Condition(parts[1], parts[2], int(parts[3]), parts[4]))
@@ -171,7 +211,7 @@ def add_line(report, kind, parts):
 
 
 def checked(event):
-    if len(event.rest) != WORDS[event.word]:
+    if not RESTS[event.word].fullmatch(" ".join(event.rest)):
         raise ValueError
     return event
 
@@ -190,6 +230,16 @@ def moment_text(at, utc):
 def first_tick(pod):
     """The moment of a pod's first tick, since which it is scheduled."""
     return pod.condition("PodScheduled").at
+
+
+def has_ticks(report, pod):
+    """Whether some tick came after the pod's line, as far as the report tells: a pod without one has the moment 0. Pods
+    come in the order of their lines, so one with 0 behind one with more has none."""
+    if first_tick(pod) > 0 or pod.events:
+        return True
+    changed = {event.rest[0] for event in report.events if event.word == "pressure"}
+    begun = max((condition.at for condition in report.conditions if condition.kind not in changed), default=0)
+    return report.tick_count > 0 and begun == 0 and all(first_tick(other) == 0 for other in report.pods[: pod.number])
 
 
 def end_of(pod):

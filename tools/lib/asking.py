@@ -1,0 +1,61 @@
+"""What is asked of a report with its trace: pods by name, with the nearest names where there is none, and why."""
+
+from __future__ import annotations
+
+import difflib
+
+import entry
+import trace as traces
+import why_text
+
+
+def pods_named(report, key):
+    """The pods of a key, more than one where a pod came again under its name."""
+    found = [pod for pod in report.pods if pod.key == key]
+    if not found:
+        raise entry.Fault(f"the report has no pod {key}; {nearest(report, key)}")
+    return found
+
+
+def nearest(report, key):
+    """What to write in place of a key that no pod has."""
+    keys = list(dict.fromkeys(pod.key for pod in report.pods))
+    names = {known.partition("/")[2]: known for known in keys}
+    near = difflib.get_close_matches(key, keys, 3) or [
+        names[name] for name in difflib.get_close_matches(key.rpartition("/")[2], list(names), 3)]
+    if near:
+        return f"the nearest: {', '.join(near)}"
+    return "a pod is NAMESPACE/NAME"
+
+
+def trace_of(report, path):
+    """The trace of a file, which has to belong to the report."""
+    try:
+        trace = traces.read_trace(path)
+        traces.check_belongs(trace, report, path)
+    except traces.TraceFault as fault:
+        raise entry.Fault(str(fault)) from None
+    except (ValueError, TypeError, KeyError, AttributeError):
+        raise entry.Fault(f"{path} has a tick line that is none (the program's check says which)") from None
+    return trace
+
+
+def why(trace, report, pods, show):
+    """What the trace holds around the events of some pods, as text."""
+    told = []
+    for pod in pods:
+        again = f", number {pod.number}" if len(pods) > 1 else ""
+        told.append(f"why {pod.key} on {report.node}{again}\n\n" + why_of(trace, report, pod, show))
+    return "\n".join(told)
+
+
+def why_of(trace, report, pod, show):
+    return of_whole_ticks(lambda: why_text.whole_text(trace, report, pod, show))
+
+
+def of_whole_ticks(gather):
+    """What is gathered of a trace, whose ticks are looked at only then."""
+    try:
+        return gather()
+    except (ValueError, TypeError, KeyError, AttributeError):
+        raise entry.Fault("the trace has a tick line that is none (the program's check says which)") from None

@@ -1,0 +1,69 @@
+"""What the entries of the tools have in common: reading standard input, one line of a fault, writing an answer."""
+
+from __future__ import annotations
+
+import os
+import sys
+
+import report as reports
+
+
+class Fault(Exception):
+    """What is said in one line on standard error, and the status with it."""
+
+    def __init__(self, said, status=2):
+        super().__init__(said)
+        self.status = status
+
+
+def read_report():
+    """The report of standard input."""
+    try:
+        return reports.read_report(sys.stdin.buffer.read().decode("utf-8", "replace"))
+    except reports.ReportFault as fault:
+        raise Fault(str(fault)) from None
+    except OSError as fault:
+        raise Fault(f"standard input can't be read: {fault.strerror}") from None
+
+
+def run(tool, main):
+    """The status of a tool: that of main, or of a fault, 1 where standard output takes no more."""
+    try:
+        status = main(sys.argv[1:])
+        sys.stdout.flush()
+        return status
+    except Fault as fault:
+        print(f"{tool}: {fault}", file=sys.stderr)
+        return fault.status
+    except BrokenPipeError:
+        # what is still held must not be written once more as the interpreter ends
+        os.dup2(os.open(os.devnull, os.O_WRONLY), sys.stdout.fileno())
+        return 1
+    except OSError as fault:
+        os.dup2(os.open(os.devnull, os.O_WRONLY), sys.stdout.fileno())
+        print(f"{tool}: standard output takes no more: {fault.strerror}", file=sys.stderr)
+        return 1
+    except KeyboardInterrupt:
+        return 130
+
+
+def words_with(words, flags=(), valued=()):
+    """The words apart: those that are none of the flags and valued words, and a dict of those that are."""
+    plain, found, waiting = [], {}, None
+    for word in words:
+        name, equals, value = word.partition("=")
+        if waiting:
+            found[waiting], waiting = word, None
+        elif word in flags:
+            found[word] = True
+        elif word in valued:
+            waiting = word
+        elif equals and name in valued:
+            found[name] = value
+        elif word.startswith("-") and word != "-":
+            raise Fault(f"{word} is no word of it (--help says more)")
+        else:
+            plain.append(word)
+    if waiting:
+        raise Fault(f"{waiting} wants a value (--help says more)")
+    return plain, found

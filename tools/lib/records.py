@@ -1,0 +1,132 @@
+"""A report as records: dicts of plain values by name, as docs/report.schema.json says. Moments and lengths are in
+seconds of the trace. What a record does not have is left out of it; what is there and unknown is None."""
+
+from __future__ import annotations
+
+import report as reports
+
+
+def records_of(report):
+    """Each record of a report: the node, its events, its pods with their containers and conditions, its own
+    conditions, and the evictions."""
+    last = last_moment(report)
+    yield node_record(report, last)
+    for number, event in enumerate(report.events):
+        yield event_record(report, number, event)
+    for pod in report.pods:
+        yield pod_record(report, pod, last)
+        for container in pod.containers:
+            yield container_record(report, pod, container)
+        for condition in pod.conditions:
+            yield condition_record(report, condition, pod)
+    for condition in report.conditions:
+        yield condition_record(report, condition, None)
+    for number, eviction in enumerate(report.evictions):
+        yield eviction_record(report, number, eviction)
+
+
+def last_moment(report):
+    """The last moment that the report names, which is no later than that of the last tick; None without a tick."""
+    return max(reports.moments(report)) if report.tick_count else None
+
+
+def node_record(report, last):
+    updates, events, orders = report.totals
+    return {
+        "record": "node", "node": report.node, "pods": report.pod_count, "ticks": report.tick_count,
+        "last_moment": last, "updates": updates, "pod_events": events, "orders": orders,
+        "restarts": sum(int(container.restarts) for pod in report.pods for container in pod.containers),
+        "evictions": len(report.evictions),
+    }
+
+
+def event_record(report, number, event):
+    record = {"record": "event", "node": report.node, "number": number, "at": event.at, "event": event.word}
+    if event.pod is not None:
+        record.update(pod=event.pod, pod_number=event.number)
+    if event.container is not None:
+        record["container"] = event.container
+    return record | WORDS[event.word](event.rest)
+
+
+WORDS = {
+    "started": lambda rest: {"attempt": int(rest[0])},
+    "died": lambda rest: {"attempt": int(rest[0]), "code": int(rest[1])},
+    "startup-passed": lambda rest: {"attempt": int(rest[0])},
+    "kill": lambda rest: {"attempt": int(rest[0]), "probe": rest[1]},
+    "ready": lambda rest: {},
+    "unready": lambda rest: {},
+    "backoff": lambda rest: {"delay_seconds": int(rest[0])},
+    "restart": lambda rest: {"attempt": int(rest[0])},
+    "phase": lambda rest: {"phase": rest[0]},
+    "threshold": lambda rest: {"signal": rest[0], "kind": rest[1], "active": rest[2] == "active"},
+    "pressure": lambda rest: {"condition": rest[0], "value": rest[1] == "True"},
+    "reclaim": lambda rest: {"signal": rest[0], "kind": rest[1]},
+    "evicted": lambda rest: {"signal": rest[1], "kind": rest[2], "grace_seconds": int(rest[3])},
+}
+
+
+def pod_record(report, pod, last):
+    namespace, _, name = pod.key.partition("/")
+    ended, ready, seen = reports.end_of(pod), pod.condition("Ready"), reports.has_ticks(report, pod)
+    evicted = next((eviction for eviction in report.evictions if eviction.number == pod.number), None)
+    return {
+        "record": "pod", "node": report.node, "number": pod.number, "pod": pod.key, "namespace": namespace,
+        "name": name, "phase": pod.phase, "reason": none_of(pod.reason), "qos": pod.qos,
+        "ready": ready.value == "True", "ready_since": ready.at if seen else None,
+        "first_tick": reports.first_tick(pod) if seen else None,
+        "ended_at": ended[0] if ended else None, "ended_as": ended[1] if ended else None,
+        "restarts": sum(int(container.restarts) for container in pod.containers),
+        "deaths": count(pod, "died"), "kills": count(pod, "kill"), "backoffs": count(pod, "backoff"),
+        "became_unready": became_unready(pod), "unready_seconds": unready_seconds(pod, ended, last) if seen else 0,
+        "evicted_at": evicted.at if evicted else None, "evicted_signal": evicted.signal if evicted else None,
+        "evicted_kind": evicted.kind if evicted else None,
+    }
+
+
+def became_unready(pod):
+    """How often Ready went from True to False, the pod's end included."""
+    spans = reports.ready_spans(pod)
+    return sum(before.value == "True" and after.value == "False" for before, after in zip(spans, spans[1:]))
+
+
+def unready_seconds(pod, ended, last):
+    """For how long the pod was not Ready, from its first tick until its end, or else until the last moment."""
+    end = ended[0] if ended else last
+    spans = [span for span in reports.ready_spans(pod) if span.value == "False" and span.since < end]
+    return sum((end if span.until is None else min(span.until, end)) - span.since for span in spans)
+
+
+def count(pod, word, name=None):
+    return sum(event.word == word and name in (None, event.container) for event in pod.events)
+
+
+def none_of(text):
+    return None if text == "-" else text
+
+
+def container_record(report, pod, container):
+    return {
+        "record": "container", "node": report.node, "pod": pod.key, "pod_number": pod.number, "name": container.name,
+        "state": container.state, "code": None if container.code == "-" else int(container.code),
+        "restarts": int(container.restarts), "ready": container.ready == "true",
+        "started": container.started == "true", "starts": count(pod, "started", container.name),
+        "deaths": count(pod, "died", container.name), "kills": count(pod, "kill", container.name),
+        "backoffs": count(pod, "backoff", container.name),
+    }
+
+
+def condition_record(report, condition, pod):
+    return {
+        "record": "condition", "node": report.node, "pod": pod.key if pod else None,
+        "pod_number": pod.number if pod else None, "condition": condition.kind, "value": condition.value == "True",
+        "since": condition.at, "reason": condition.reason,
+    }
+
+
+def eviction_record(report, number, eviction):
+    return {
+        "record": "eviction", "node": report.node, "number": number, "at": eviction.at, "pod": eviction.pod,
+        "pod_number": eviction.number, "signal": eviction.signal, "kind": eviction.kind,
+        "grace_seconds": eviction.grace,
+    }

@@ -1,0 +1,68 @@
+"""Records of reports as tables of SQLite, one table for each kind of record. Each row has the number of its report in
+the file, so that many reports can stand in one."""
+
+from __future__ import annotations
+
+import os
+import sqlite3
+import tempfile
+
+TABLES = {
+    "node": ("nodes", "node TEXT, pods INTEGER, ticks INTEGER, last_moment INTEGER, updates INTEGER, "
+                      "pod_events INTEGER, orders INTEGER, restarts INTEGER, evictions INTEGER"),
+    "pod": ("pods", "node TEXT, number INTEGER, pod TEXT, namespace TEXT, name TEXT, phase TEXT, reason TEXT, "
+                    "qos TEXT, ready INTEGER, ready_since INTEGER, first_tick INTEGER, ended_at INTEGER, "
+                    "ended_as TEXT, restarts INTEGER, deaths INTEGER, kills INTEGER, backoffs INTEGER, "
+                    "became_unready INTEGER, unready_seconds INTEGER, evicted_at INTEGER, evicted_signal TEXT, "
+                    "evicted_kind TEXT"),
+    "container": ("containers", "node TEXT, pod TEXT, pod_number INTEGER, name TEXT, state TEXT, code INTEGER, "
+                                "restarts INTEGER, ready INTEGER, started INTEGER, starts INTEGER, deaths INTEGER, "
+                                "kills INTEGER, backoffs INTEGER"),
+    "event": ("events", "node TEXT, number INTEGER, at INTEGER, event TEXT, pod TEXT, pod_number INTEGER, "
+                        "container TEXT, attempt INTEGER, code INTEGER, probe TEXT, delay_seconds INTEGER, "
+                        "phase TEXT, signal TEXT, kind TEXT, active INTEGER, condition TEXT, value INTEGER, "
+                        "grace_seconds INTEGER"),
+    "condition": ("conditions", "node TEXT, pod TEXT, pod_number INTEGER, condition TEXT, value INTEGER, "
+                                "since INTEGER, reason TEXT"),
+    "eviction": ("evictions", "node TEXT, number INTEGER, at INTEGER, pod TEXT, pod_number INTEGER, signal TEXT, "
+                              "kind TEXT, grace_seconds INTEGER"),
+}
+
+
+def columns(kind):
+    """The names of the columns of a kind of record, but for the number of the report."""
+    return [column.split()[0] for column in TABLES[kind][1].split(", ")]
+
+
+def create_tables(connection):
+    for name, written in TABLES.values():
+        connection.execute(f"CREATE TABLE {name} (report INTEGER NOT NULL, {written})")
+
+
+def add_records(connection, number, records):
+    """Rows for the records of one report, in order; number is that of the report in the file."""
+    rows = {kind: [] for kind in TABLES}
+    for record in records:
+        kind = record["record"]
+        rows[kind].append([number, *map(record.get, columns(kind))])
+    for kind, found in rows.items():
+        marks = ", ".join("?" * (len(columns(kind)) + 1))
+        connection.executemany(f"INSERT INTO {TABLES[kind][0]} VALUES ({marks})", found)
+
+
+def write_database(path, fill):
+    """A new file with the tables, which `fill` is given to fill. It stands under its name once it is whole. Raises
+    OSError or sqlite3.Error, and then whatever stood there is as it was."""
+    folder = os.path.dirname(os.path.abspath(path))
+    if os.path.isdir(path):
+        raise IsADirectoryError("it is a folder")
+    with tempfile.TemporaryDirectory(dir=folder, prefix=".tables-") as work:
+        made = os.path.join(work, "tables")
+        connection = sqlite3.connect(made)
+        try:
+            with connection:
+                create_tables(connection)
+                fill(connection)
+        finally:
+            connection.close()
+        os.replace(made, path)

@@ -1,0 +1,37 @@
+"""How tables and events are told in words."""
+
+from __future__ import annotations
+
+
+def table(title, heads, rows):
+    """Lines of a table; a column of numbers, some of them missing, is aligned to the right."""
+    if not rows:
+        return [title, "  none", ""]
+    columns = list(zip(heads, *rows))
+    widths = [max(map(len, column)) for column in columns]
+    numbers = [set(column[1:]) != {"-"} and all(cell == "-" or cell.lstrip("-").isdigit() for cell in column[1:])
+               for column in columns]
+    lines = [title]
+    for row in (heads, *rows):
+        cells = (cell.rjust(width) if number else cell.ljust(width)
+                 for cell, width, number in zip(row, widths, numbers))
+        lines.append(("  " + "  ".join(cells)).rstrip())
+    return [*lines, ""]
+
+
+def event_words(event):
+    """An event's attempt, if it has one, and what happened."""
+    rest = event.rest
+    said = {
+        "started": lambda: (rest[0], "started"),
+        "died": lambda: (rest[0], f"died with code {rest[1]}"),
+        "startup-passed": lambda: (rest[0], "startup passed"),
+        "kill": lambda: (rest[0], f"kill order: {rest[1]}"),
+        "ready": lambda: ("", "ready"),
+        "unready": lambda: ("", "unready"),
+        "backoff": lambda: ("", f"restart put off by {rest[0]} s"),
+        "restart": lambda: (rest[0], "restart"),
+        "phase": lambda: ("", f"phase {rest[0]}"),
+        "evicted": lambda: ("", f"evicted by {rest[1]} {rest[2]}, grace {rest[3]} s"),
+    }
+    return said[event.word]()

@@ -1,0 +1,316 @@
+"""Reads a trace's lines into records. It takes what the program takes, and does not look for every fault that the
+program refuses."""
+
+from __future__ import annotations
+
+import json
+from dataclasses import dataclass, field
+
+import amounts
+
+STATES = ("CONTAINER_CREATED", "CONTAINER_RUNNING", "CONTAINER_EXITED", "CONTAINER_UNKNOWN")
+PROBES = ("startup", "liveness", "readiness")
+# the order in which thresholds are served
+SIGNALS = ("memory.available", "nodefs.available", "imagefs.available", "nodefs.inodesFree", "imagefs.inodesFree",
+           "pid.available")
+BYTE_SIGNALS = SIGNALS[:3]
+DEFAULT_HARD = {"memory.available": "100Mi", "nodefs.available": "10%", "imagefs.available": "15%",
+                "nodefs.inodesFree": "5%", "imagefs.inodesFree": "5%"}
+USAGES = ("memory", "volumes", "logs", "writable", "inodes", "pids")
+
+
+class TraceFault(Exception):
+    """The text is no trace, or not the one that was asked for; the message says where."""
+
+
+@dataclass
+class Probe:
+    initial_delay: int
+    period: int
+    timeout: int
+    success_threshold: int
+    failure_threshold: int
+
+
+@dataclass
+class Container:
+    name: str
+    role: str
+    """app, sidecar or init"""
+    probes: dict[str, Probe]
+    requests: dict[str, int]
+    """thousandths by resource; a limit without a request stands for it"""
+
+
+@dataclass
+class Pod:
+    number: int
+    key: str
+    policy: str
+    priority: int
+    grace: int
+    """terminationGracePeriodSeconds"""
+    containers: list[Container]
+    first: int
+    """the place of its first tick"""
+    gone: int | None = None
+    """the place of the first tick at which it is not present any more"""
+
+    def is_present(self, place):
+        return self.first <= place and (self.gone is None or place < self.gone)
+
+    def request(self, resource):
+        """The effective request, in thousandths: what runs at one time, or the greatest init container."""
+        together = sum(container.requests.get(resource, 0) for container in self.containers if container.role != "init")
+        alone = (container.requests.get(resource, 0) for container in self.containers if container.role == "init")
+        return max(together, *alone, 0)
+
+
+@dataclass
+class Listing:
+    attempt: int
+    state: str
+    code: int | None
+
+
+@dataclass
+class Tick:
+    at: int
+    entries: dict[str, dict]
+    """by the pod's key, as they are written"""
+    signals: dict[str, int]
+    """thousandths by signal"""
+    after_reclaim: dict[str, int]
+
+
+@dataclass
+class Threshold:
+    signal: str
+    kind: str
+    text: str
+    limit: int
+    """thousandths"""
+    reclaim: int
+    """thousandths, above the limit"""
+    grace: int
+
+
+@dataclass
+class Trace:
+    node: str
+    settings: dict
+    thresholds: list[Threshold]
+    """in the order in which they are served"""
+    pods: list[Pod] = field(default_factory=list)
+    ticks: list[Tick] = field(default_factory=list)
+    places: dict[int, int] = field(default_factory=dict)
+    """the place of a tick by its moment"""
+
+    def entry(self, pod, place):
+        """What a tick has of a pod, as it is written; None where the pod is not in it."""
+        return self.ticks[place].entries.get(pod.key) if pod.is_present(place) else None
+
+    def listing(self, pod, name, place):
+        """The instance of a container that a tick lists, or None."""
+        for found in list_at(self.entry(pod, place) or {}, "containers"):
+            if found.get("name") == name:
+                return listing_of(found)
+        return None
+
+    def dedicated(self):
+        return value_at(self.settings, "dedicatedImagefs", False)
+
+
+def present_at_each(trace):
+    """The pods that are present, by key, at each tick in turn; the same dict each time."""
+    present, arriving = {}, sorted(trace.pods, key=lambda pod: pod.first, reverse=True)
+    leaving = sorted((pod for pod in trace.pods if pod.gone is not None), key=lambda pod: pod.gone, reverse=True)
+    for place in range(len(trace.ticks)):
+        while leaving and leaving[-1].gone <= place:
+            present.pop(leaving.pop().key, None)
+        while arriving and arriving[-1].first <= place:
+            pod = arriving.pop()
+            if pod.is_present(place):
+                present[pod.key] = pod
+        yield present
+
+
+def value_at(found, name, otherwise=None):
+    """A field's value, where null counts as absent."""
+    value = found.get(name)
+    return otherwise if value is None else value
+
+
+def list_at(found, name):
+    value = value_at(found, name, [])
+    if not isinstance(value, list) or not all(isinstance(item, dict) for item in value):
+        raise ValueError(name)
+    return value
+
+
+def dict_at(found, name):
+    value = value_at(found, name, {})
+    if not isinstance(value, dict):
+        raise ValueError(name)
+    return value
+
+
+def number_at(found, name, otherwise):
+    value = value_at(found, name, otherwise)
+    if not isinstance(value, int) or isinstance(value, bool):
+        raise ValueError(name)
+    return value
+
+
+def text_at(found, name, otherwise=None):
+    value = value_at(found, name, otherwise)
+    if not isinstance(value, str):
+        raise ValueError(name)
+    return value
+
+
+def listing_of(found):
+    state = value_at(found, "state")
+    if isinstance(state, int) and 0 <= state < len(STATES):
+        state = STATES[state]
+    if state not in STATES:
+        raise ValueError("state")
+    code = number_at(found, "exitCode", 0) if state == "CONTAINER_EXITED" else None
+    return Listing(number_at(found, "attempt", 0), state, code)
+
+
+def read_trace(path):
+    """The trace of a file. Raises TraceFault."""
+    try:
+        with open(path, "rb") as file:
+            text = file.read()
+    except OSError as fault:
+        raise TraceFault(f"{path} can't be read: {fault.strerror}") from None
+    trace, present = None, {}
+    for number, line in enumerate(text.split(b"\n"), 1):
+        if not line.strip(b" \t\r"):
+            continue
+        try:
+            found = json.loads(line)
+            trace = trace_with(trace, present, found)
+        except (ValueError, TypeError, KeyError, AttributeError, RecursionError):
+            raise TraceFault(f"{path}: line {number} is no line of a trace there "
+                             "(the program's check says what it lacks)") from None
+    if trace is None:
+        raise TraceFault(f"{path} is no trace: it has no line")
+    return trace
+
+
+def trace_with(trace, present, found):
+    """The trace with one more line; present has its pods by key."""
+    kind = found["kind"]
+    if (trace is None) != (kind == "node"):
+        raise ValueError("kind")
+    if kind == "node":
+        return Trace(text_at(found, "name"), found, thresholds_of(found))
+    if kind == "pod":
+        pod = pod_of(len(trace.pods), found["pod"], len(trace.ticks))
+        if pod.key in present:
+            raise ValueError("pod")
+        present[pod.key] = pod
+        trace.pods.append(pod)
+    elif kind == "gone":
+        present.pop(found["pod"]).gone = len(trace.ticks)
+    elif kind == "tick":
+        add_tick(trace, present, tick_of(found))
+    else:
+        raise ValueError("kind")
+    return trace
+
+
+def add_tick(trace, present, tick):
+    if (trace.ticks and tick.at <= trace.ticks[-1].at) or not tick.entries.keys() <= present.keys():
+        raise ValueError("tick")
+    trace.places[tick.at] = len(trace.ticks)
+    trace.ticks.append(tick)
+
+
+def tick_of(found):
+    entries = {text_at(entry, "pod"): entry for entry in list_at(found, "pods")}
+    return Tick(found["at"] + 0, entries, samples(found, "signals"), samples(found, "afterReclaim"))
+
+
+def samples(found, name):
+    return {signal: amounts.quantity(value) for signal, value in dict_at(found, name).items() if value is not None}
+
+
+def pod_of(number, manifest, first):
+    metadata, spec = manifest["metadata"], manifest["spec"]
+    key = f"{text_at(metadata, 'namespace', 'default')}/{text_at(metadata, 'name')}"
+    containers = [container_of(found, "sidecar" if value_at(found, "restartPolicy") == "Always" else "init")
+                  for found in list_at(spec, "initContainers")]
+    containers += [container_of(found, "app") for found in list_at(spec, "containers")]
+    return Pod(number, key, text_at(spec, "restartPolicy", "Always"), number_at(spec, "priority", 0),
+               number_at(spec, "terminationGracePeriodSeconds", 30), containers, first)
+
+
+def container_of(found, role):
+    probes = {kind: probe_of(found[f"{kind}Probe"]) for kind in PROBES if value_at(found, f"{kind}Probe") is not None}
+    resources = dict_at(found, "resources")
+    requests = {resource: amounts.quantity(value) for named in ("limits", "requests")
+                for resource, value in dict_at(resources, named).items()
+                if resource in ("memory", "ephemeral-storage") and value is not None and amounts.quantity(value)}
+    return Container(text_at(found, "name"), role, probes, requests)
+
+
+def probe_of(found):
+    return Probe(number_at(found, "initialDelaySeconds", 0), number_at(found, "periodSeconds", 10),
+                 number_at(found, "timeoutSeconds", 1), number_at(found, "successThreshold", 1),
+                 number_at(found, "failureThreshold", 3))
+
+
+def thresholds_of(settings):
+    """The thresholds that a node line sets, in the order in which they are served."""
+    capacity = {signal: amounts.quantity(value) for signal, value in dict_at(settings, "capacity").items()
+                if value is not None}
+    hard, soft = value_at(settings, "evictionHard", DEFAULT_HARD), dict_at(settings, "evictionSoft")
+    graces, reclaims = dict_at(settings, "evictionSoftGracePeriod"), dict_at(settings, "evictionMinimumReclaim")
+    found = []
+    for signal in SIGNALS:
+        reclaim = amounts.limit(value_at(reclaims, signal, 0), capacity.get(signal)) or 0
+        for kind, limits in (("hard", hard), ("soft", soft)):
+            text = value_at(limits, signal)
+            amount = None if text is None or is_off(text) else amounts.limit(text, capacity.get(signal))
+            if amount is not None:
+                grace = amounts.duration(graces[signal]) if kind == "soft" else 0
+                found.append(Threshold(signal, kind, str(text), amount, reclaim, grace))
+    return found
+
+
+def is_off(text):
+    return isinstance(text, str) and text.endswith("%") and amounts.hundredths(text) in (0, 10000)
+
+
+def check_belongs(trace, report, path):
+    """Raises TraceFault unless the report can be one of the trace."""
+    for what, here, there in (
+        ("node", trace.node, report.node),
+        ("number of pods", len(trace.pods), report.pod_count),
+        ("number of ticks", len(trace.ticks), report.tick_count),
+    ):
+        if here != there:
+            raise TraceFault(f"{path} does not belong to the report: its {what} is {here}, the report's {there}")
+    for ours, theirs in zip(trace.pods, report.pods):
+        named = [container.name for container in theirs.containers]
+        if ours.key != theirs.key or [container.name for container in ours.containers] != named:
+            raise TraceFault(f"{path} does not belong to the report: pod {ours.number} is {ours.key} with other "
+                             f"containers than the report's {theirs.key}" if ours.key == theirs.key else
+                             f"{path} does not belong to the report: pod {ours.number} is {ours.key}, the report's "
+                             f"{theirs.key}")
+    for event in report.events:
+        if event.at not in trace.places:
+            raise TraceFault(f"{path} does not belong to the report: it has no tick at {event.at}")
+        if event.word == "started" and not is_listed(trace, event):
+            raise TraceFault(f"{path} does not belong to the report: at {event.at} it does not list attempt "
+                             f"{event.rest[0]} of {event.container} of {event.pod} as running")
+
+
+def is_listed(trace, event):
+    found = event.number is not None and trace.listing(trace.pods[event.number], event.container,
+                                                       trace.places[event.at])
+    return bool(found) and (found.attempt, found.state) == (int(event.rest[0]), "CONTAINER_RUNNING")

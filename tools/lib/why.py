@@ -1,0 +1,286 @@
+"""Gathers what a trace holds around the events of a pod. It applies no rule: that something happened is the report's,
+and what stands beside it is the trace's. The order of an eviction's table alone is made here, by the order of the
+rules, and says where the evicted pod came in it."""
+
+from __future__ import annotations
+
+from bisect import bisect_left, bisect_right
+from dataclasses import dataclass, field
+
+import report as reports
+import trace as traces
+
+# an exit behind a run this long, in seconds, begins the count of exits anew
+LONG_RUN = 600
+
+
+@dataclass
+class Results:
+    """The results of a probe from the start of an instance to an event, as runs of equal ones."""
+
+    kind: str
+    probe: traces.Probe
+    since: int | None
+    runs: list[tuple[str, list[int]]]
+
+
+@dataclass
+class Listed:
+    """What the tick of an event lists of a container, and the last tick before that listed anything else of it."""
+
+    now: traces.Listing | None
+    before: traces.Listing | None
+    before_at: int | None
+    """the last moment at which it was as before"""
+
+
+@dataclass
+class Exit:
+    attempt: int
+    started: int | None
+    died: int
+    code: int
+    number: int
+    """the delay of its restart goes by it"""
+
+    @property
+    def run(self):
+        return 0 if self.started is None else self.died - self.started
+
+
+@dataclass
+class Candidate:
+    pod: traces.Pod
+    usage: int
+    request: int | None
+    qos: str
+    victim: bool
+
+    @property
+    def above(self):
+        return self.usage - (self.request or 0)
+
+
+@dataclass
+class Evicted:
+    signal: str
+    threshold: traces.Threshold | None
+    since: int | None
+    samples: list[tuple[int, int | None, int | None]]
+    """moment, value, value after reclaim"""
+    candidates: list[Candidate]
+
+    @property
+    def is_victim_first(self):
+        return bool(self.candidates) and self.candidates[0].victim
+
+
+@dataclass
+class Around:
+    """What the trace holds around one event."""
+
+    event: reports.Event
+    results: list[Results] = field(default_factory=list)
+    listed: list[tuple[str, Listed]] = field(default_factory=list)
+    exits: list[Exit] = field(default_factory=list)
+    evicted: Evicted | None = None
+    died: bool = False
+    """the container died in the same tick"""
+
+
+class PodTicks:
+    """The results and the listings of one pod's containers over its ticks."""
+
+    def __init__(self, trace, pod):
+        self.trace, self.pod = trace, pod
+        self.results = {}
+        """moments and results, by container and probe"""
+        self.listings = {container.name: ([], []) for container in pod.containers}
+        """the moments at which what is listed changed, and what it was from then on, by container"""
+
+    def take(self, at, entry):
+        """One more tick, with what it has of the pod."""
+        listed = {found.get("name"): traces.listing_of(found) for found in traces.list_at(entry, "containers")}
+        for name, (moments, kept) in self.listings.items():
+            if listed.get(name) != (kept[-1] if kept else None):
+                moments.append(at)
+                kept.append(listed.get(name))
+        for found in traces.list_at(entry, "probes"):
+            moments, kept = self.results.setdefault((found.get("container"), found.get("probe")), ([], []))
+            moments.append(at)
+            kept.append(found.get("result"))
+
+    def listed(self, name, at):
+        moments, kept = self.listings[name]
+        place = bisect_right(moments, at) - 1
+        if place < 0:
+            return Listed(None, None, None)
+        before = self.trace.places[moments[place]] - 1
+        return Listed(kept[place], kept[place - 1] if place > 0 else None,
+                      self.trace.ticks[before].at if place > 0 else None)
+
+    def runs(self, name, kind, since, until):
+        """The results of a probe in a span of moments, both ends included, as runs of equal ones."""
+        moments, kept = self.results.get((name, kind), ([], []))
+        first = bisect_left(moments, since)
+        runs = []
+        for at, result in zip(moments[first:], kept[first:]):
+            if at > until:
+                break
+            if not runs or runs[-1][0] != result:
+                runs.append((result, []))
+            runs[-1][1].append(at)
+        return runs
+
+
+def ticks_of(trace, pods):
+    """The ticks of some pods, by their numbers, in one reading of the trace. A tick that does not list a pod matters
+    where the tick before did."""
+    found = {pod.number: PodTicks(trace, pod) for pod in pods}
+    wanted, listed = set(found), {}
+    for tick, present in zip(trace.ticks, traces.present_at_each(trace)):
+        now = {}
+        for key, entry in tick.entries.items():
+            number = present[key].number
+            if number in wanted:
+                found[number].take(tick.at, entry)
+                now[number] = present[key]
+        for number, pod in listed.items():
+            if number not in now and present.get(pod.key) is pod:
+                found[number].take(tick.at, {})
+        listed = now
+    return found
+
+
+def around_events(trace, report, pod):
+    """What the trace holds around each event of a pod of the report, in order."""
+    ours = trace.pods[pod.number]
+    ticks = ticks_of(trace, [ours])[pod.number]
+    specs = {container.name: container for container in ours.containers}
+    deaths = {(event.container, event.at) for event in pod.events if event.word == "died"}
+    starts, exits, found = {}, {}, []
+    for event in pod.events:
+        name = event.container
+        if event.word == "started":
+            starts[name] = (event.rest[0], event.at)
+        elif event.word == "died":
+            add_exit(exits.setdefault(name, []), event, starts.get(name))
+        around = Around(event, died=event.word == "unready" and (name, event.at) in deaths)
+        if event.word in ("started", "died"):
+            around.listed = [(name, ticks.listed(name, event.at))]
+        elif event.word == "phase":
+            around.listed = [(other, ticks.listed(other, event.at)) for other in specs]
+        elif event.word in ("backoff", "restart"):
+            around.exits = counted(exits.get(name, []))
+        elif event.word != "evicted":
+            around.results = results_of(ticks, specs[name], event, starts.get(name), around.died)
+        found.append(around)
+    add_evictions(trace, report, found)
+    return found
+
+
+def add_exit(exits, event, start):
+    started = start[1] if start and start[0] == event.rest[0] else None
+    exits.append(Exit(int(event.rest[0]), started, event.at, int(event.rest[1]), 1))
+    if len(exits) > 1 and exits[-1].run < LONG_RUN:
+        exits[-1].number = exits[-2].number + 1
+
+
+def counted(exits):
+    """The exits that count for the newest one, which is the last."""
+    return exits[-exits[-1].number :] if exits else []
+
+
+def results_of(ticks, container, event, start, died):
+    """The results of the probes that an event is of, from the start of the instance on."""
+    kinds = {"startup-passed": ("startup",), "kill": tuple(event.rest[1:]), "ready": ("startup", "readiness"),
+             "unready": () if died else ("readiness",)}
+    since = start[1] if start else None
+    return [Results(kind, container.probes[kind], since,
+                    ticks.runs(container.name, kind, 0 if since is None else since, event.at))
+            for kind in kinds[event.word] if kind in container.probes]
+
+
+def add_evictions(trace, report, found):
+    evictions = [around for around in found if around.event.word == "evicted"]
+    gathered = gather_evictions(trace, report, {around.event.at for around in evictions})
+    for around in evictions:
+        around.evicted = gathered[around.event.at]
+
+
+def gather_evictions(trace, report, moments):
+    """What the trace holds around the evictions of some moments, by moment; a tick evicts one pod at most."""
+    usages = usages_at(trace, {trace.places[at] for at in moments})
+    active, found = reports.Thresholds(report), {}
+    for eviction in sorted(report.evictions, key=lambda eviction: eviction.at):
+        since = active.at(eviction.at).get((eviction.signal, eviction.kind))
+        if eviction.at not in moments:
+            continue
+        threshold = next((limit for limit in trace.thresholds
+                          if (limit.signal, limit.kind) == (eviction.signal, eviction.kind)), None)
+        found[eviction.at] = Evicted(eviction.signal, threshold, since, samples_of(trace, eviction, since),
+                                     candidates_of(trace, report, eviction, usages[trace.places[eviction.at]]))
+    return found
+
+
+def samples_of(trace, eviction, since):
+    last = trace.places[eviction.at]
+    ticks = trace.ticks[trace.places.get(since, last) : last + 1]
+    return [(tick.at, tick.signals.get(eviction.signal), tick.after_reclaim.get(eviction.signal)) for tick in ticks]
+
+
+def usages_at(trace, places):
+    """The newest samples of each pod's usage up to the ticks of some places: thousandths by resource, by the pod's
+    number, by place."""
+    usages = {pod.number: {} for pod in trace.pods}
+    found = {}
+    for place, (tick, present) in enumerate(zip(trace.ticks, traces.present_at_each(trace))):
+        for key, entry in tick.entries.items():
+            take_usage(usages[present[key].number], entry)
+        if place in places:
+            found[place] = {number: dict(usage) for number, usage in usages.items()}
+        if len(found) == len(places):
+            break
+    return found
+
+
+def take_usage(usage, entry):
+    for resource, value in traces.dict_at(entry, "usage").items():
+        if resource in traces.USAGES and value is not None:
+            usage[resource] = traces.amounts.quantity(value)
+
+
+def candidates_of(trace, report, eviction, usages):
+    """The pods that were present and had not ended before the eviction, in the order of the rules for its signal."""
+    place = trace.places[eviction.at]
+    found = []
+    for pod, status in zip(trace.pods, report.pods):
+        ended = reports.end_of(status)
+        if not pod.is_present(place) or (ended and ended[0] <= eviction.at and ended != (eviction.at, "Evicted")):
+            continue
+        usage = used(usages[pod.number], eviction.signal, trace.dedicated())
+        found.append(Candidate(pod, usage, requested(pod, eviction.signal), status.qos,
+                               pod.number == eviction.number))
+    return sorted(found, key=order)
+
+
+def order(candidate):
+    """Above the request first, then lower priority, more usage above the request, lower number; without requests by
+    priority and usage alone."""
+    exceeds = candidate.request is not None and candidate.usage > candidate.request
+    return not exceeds, candidate.pod.priority, -candidate.above, candidate.pod.number
+
+
+def used(usage, signal, dedicated):
+    kinds = {
+        "memory.available": ("memory",), "pid.available": ("pids",),
+        "nodefs.available": ("volumes", "logs") if dedicated else ("volumes", "logs", "writable"),
+        "imagefs.available": ("writable",) if dedicated else ("volumes", "logs", "writable"),
+    }
+    return sum(usage.get(kind, 0) for kind in kinds.get(signal, ("inodes",)))
+
+
+def requested(pod, signal):
+    resource = {"memory.available": "memory", "nodefs.available": "ephemeral-storage",
+                "imagefs.available": "ephemeral-storage"}.get(signal)
+    return None if resource is None else pod.request(resource)

@@ -1,0 +1,156 @@
+"""Tells what a trace holds around the events of a pod, as lines of text."""
+
+from __future__ import annotations
+
+import trace as traces
+import why
+from amounts import amount_text
+from telling import event_words, table
+
+MOST_ROWS = 12
+MOST_MOMENTS = 6
+ORDERS = {True: "usage above the request first, then lower priority, then more usage above it, then lower number",
+          False: "lower priority first, then greater usage, then lower number"}
+
+
+def whole_text(trace, report, pod, show):
+    """The lines for each event of a pod of the report; show writes a moment."""
+    lines = []
+    for around in why.around_events(trace, report, pod):
+        lines += [heading(around.event, show), *(f"  {line}".rstrip() for line in told(trace, pod, around, show)), ""]
+    gone = trace.pods[pod.number].gone
+    if gone is not None:
+        last = show(trace.ticks[gone].at) if gone < len(trace.ticks) else "the end of the trace"
+        lines += [f"The trace lets the pod go before {last}.", ""]
+    return "\n".join(lines[:-1] or ["no event"]) + "\n"
+
+
+def heading(event, show):
+    attempt, what = event_words(event)
+    said = " ".join(filter(None, [event.container, what, f"(attempt {attempt})" if attempt else ""]))
+    return f"{show(event.at)}  {said}"
+
+
+def told(trace, pod, around, show):
+    """The lines below the heading of an event."""
+    word = around.event.word
+    if word in ("started", "died"):
+        return listed_lines(around.listed[0][1], show)
+    if word == "phase":
+        return table("the tick lists:", ["container", "attempt", "state", "code"],
+                     [[name, *listing_cells(listed.now)] for name, listed in around.listed])[:-1]
+    if word in ("backoff", "restart"):
+        return exit_lines(trace, pod, around, show)
+    if word == "evicted":
+        return evicted_lines(around.evicted, show)
+    if around.died:
+        return ["it died at this tick"]
+    if not around.results:
+        return ["it has no startup and no readiness probe"]
+    return [line for results in around.results for line in result_lines(results, show)]
+
+
+def listing_cells(listing):
+    if listing is None:
+        return ["-", "not listed", "-"]
+    return [str(listing.attempt), listing.state, "-" if listing.code is None else str(listing.code)]
+
+
+def listing_words(listing):
+    if listing is None:
+        return "did not list it"
+    code = "" if listing.code is None else f" with code {listing.code}"
+    return f"listed attempt {listing.attempt} as {listing.state}{code}"
+
+
+def listed_lines(listed, show):
+    lines = [f"this tick {listing_words(listed.now)}"]
+    if listed.before_at is None:
+        return [*lines, "no tick before it listed anything else"]
+    return [*lines, f"until {show(listed.before_at)} the ticks {listing_words(listed.before)}"]
+
+
+def result_lines(results, show):
+    probe = results.probe
+    since = "the first tick" if results.since is None else show(results.since)
+    head = f"{results.kind} results since the instance started at {since}:"
+    kept = results.runs[-MOST_ROWS:]
+    rows = [[result, str(len(moments)), moments_text(moments, show)] for result, moments in kept]
+    lines = [f"{results.kind}Probe: failureThreshold {probe.failure_threshold}, "
+             f"successThreshold {probe.success_threshold}, initialDelaySeconds {probe.initial_delay}, "
+             f"periodSeconds {probe.period}"]
+    lines += table(head, ["result", "in a row", "moments"], rows)[:-1]
+    return lines + left_out(len(results.runs) - len(kept), "earlier runs of results")
+
+
+def moments_text(moments, show):
+    if len(moments) <= MOST_MOMENTS:
+        return ", ".join(map(show, moments))
+    return ", ".join([*map(show, moments[:2]), "..", show(moments[-1])])
+
+
+def left_out(count, what):
+    return [f"{count} {what} are left out"] if count > 0 else []
+
+
+def exit_lines(trace, pod, around, show):
+    kept = around.exits[-MOST_ROWS:]
+    policy, most = trace.pods[pod.number].policy, traces.value_at(trace.settings, "maxRestartDelay", 300)
+    rows = [[str(found.number), str(found.attempt), "-" if found.started is None else show(found.started),
+             show(found.died), f"{found.run} s", str(found.code)] for found in kept]
+    lines = table(f"exits that count (policy {policy}, greatest delay {most} s):",
+                  ["number", "attempt", "started", "died", "run", "code"], rows)[:-1]
+    return lines + left_out(len(around.exits) - len(kept), "earlier exits")
+
+
+def evicted_lines(evicted, show):
+    of_bytes = evicted.signal in traces.BYTE_SIGNALS
+    lines = threshold_lines(evicted, of_bytes, show)
+    lines += sample_lines(evicted, of_bytes, show)
+    with_requests = any(candidate.request is not None for candidate in evicted.candidates)
+    rows = [candidate_row(place, candidate, of_bytes) for place, candidate in enumerate(evicted.candidates, 1)]
+    lines += table("pods that were present and had not ended:",
+                   ["place", "pod", "usage", "request", "above", "priority", "class", ""], rows)[:-1]
+    lines += [f"their order: {ORDERS[with_requests]}"]
+    if not evicted.is_victim_first:
+        lines += ["the evicted pod does not come first in it"]
+    return lines
+
+
+def threshold_lines(evicted, of_bytes, show):
+    since = "" if evicted.since is None or evicted.threshold is None else f"; active since {show(evicted.since)}"
+    return [threshold_words(evicted, of_bytes) + since]
+
+
+def threshold_words(evicted, of_bytes):
+    threshold = evicted.threshold
+    if threshold is None:
+        return f"the trace sets no such threshold for {evicted.signal}"
+    amount = amount_text(threshold.limit, of_bytes)
+    written = "" if threshold.text == amount else f" ({threshold.text})"
+    cleared = amount_text(threshold.limit + threshold.reclaim, of_bytes)
+    return (f"{threshold.signal} {threshold.kind}: below {amount}{written}, cleared at {cleared}, "
+            f"grace {threshold.grace} s")
+
+
+def sample_lines(evicted, of_bytes, show):
+    """The first sample and the last ones."""
+    samples = evicted.samples
+    kept = samples if len(samples) <= MOST_ROWS else [samples[0], *samples[1 - MOST_ROWS :]]
+    with_reclaim = any(after is not None for _, _, after in kept)
+    rows = [[show(at), amount_text(value, of_bytes), *([amount_text(after, of_bytes)] if with_reclaim else [])]
+            for at, value, after in kept]
+    heads = ["moment", evicted.signal, *(["after reclaim"] if with_reclaim else [])]
+    lines = table("samples since it became active:", heads, rows)[:-1]
+    least = min((value for _, value, _ in samples if value is not None), default=None)
+    if len(samples) > len(kept):
+        lines.append(f"{len(samples) - len(kept)} samples behind the first are left out; the least of all is "
+                     f"{amount_text(least, of_bytes)}")
+    return lines
+
+
+def candidate_row(place, candidate, of_bytes):
+    request = "-" if candidate.request is None else amount_text(candidate.request, of_bytes)
+    above = "-" if candidate.request is None else amount_text(candidate.above, of_bytes)
+    return [str(place), candidate.pod.key, amount_text(candidate.usage, of_bytes), request, above,
+            str(candidate.pod.priority), candidate.qos, "evicted" if candidate.victim else ""]

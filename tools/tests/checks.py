@@ -1,0 +1,59 @@
+"""What the tests of all tools share: a run of a command, and the count of what was compared."""
+
+import os
+import subprocess
+import sys
+
+HERE = os.path.dirname(os.path.realpath(__file__))
+TOOLS = os.path.dirname(HERE)
+TOP = os.path.dirname(TOOLS)
+REPLAY = os.environ.get("KUBELET_REPLAY", f"{TOP}/kubelet_replay")
+# a recorder that goes on by mistake ends all the same
+LONGEST = 60
+
+WRITE = "--write" in sys.argv[1:]
+passed, failed = 0, 0
+
+
+def expect(name, got, wanted):
+    """Counts one test, and shows the first line in which it differs."""
+    global passed, failed
+    if got == wanted:
+        passed += 1
+        return
+    failed += 1
+    lines = zip((got if isinstance(got, str) else repr(got)).split("\n") + ["(end)"],
+                (wanted if isinstance(wanted, str) else repr(wanted)).split("\n") + ["(end)"])
+    first = next(((a, b) for a, b in lines if a != b), ("", ""))
+    print(f"FAILED {name}\n  got     {first[0][:300]}\n  wanted  {first[1][:300]}")
+
+
+def expect_kept(name, got, path):
+    """Counts one test against a kept file."""
+    if WRITE:
+        with open(path, "w") as file:
+            file.write(got)
+    kept = read(path) if os.path.exists(path) else "(no such file)"
+    expect(name, got, kept)
+
+
+def read(path):
+    with open(path, encoding="utf-8") as file:
+        return file.read()
+
+
+def run(words, given="", **settings):
+    """The status, the output and the errors of a command."""
+    try:
+        done = subprocess.run(words, input=given.encode(), capture_output=True, timeout=LONGEST, check=False,
+                              env={**os.environ, "KUBELET_REPLAY": REPLAY, **settings})
+    except subprocess.TimeoutExpired:
+        return None, "", f"it went on for {LONGEST} s"
+    return done.returncode, done.stdout.decode("utf-8", "replace"), done.stderr.decode("utf-8", "replace")
+
+
+def expect_refused(name, answer, status, words):
+    """One line on standard error with some words, nothing on standard output, and a status."""
+    got, out, said = answer
+    one_line = said.count("\n") == 1 and said.endswith("\n")
+    expect(name, (got, out, one_line and words in said or said), (status, "", True))

@@ -1,0 +1,119 @@
+"""The tests of tools/json: a report and its lines, the schema, the tables, and what is refused."""
+
+import glob
+import json
+import os
+import shutil
+import sqlite3
+import tempfile
+
+from checks import HERE, TOOLS, TOP, expect, expect_kept, expect_refused, read, run
+
+try:
+    import jsonschema
+except ImportError:
+    jsonschema = None
+
+LINES = f"{HERE}/lines"
+SCHEMA = f"{TOP}/docs/report.schema.json"
+TABLES = {"nodes": "node", "pods": "pod", "containers": "container", "events": "event", "conditions": "condition",
+          "evictions": "eviction"}
+# what a hand counts in lines/came_again.report
+QUERIES = (
+    ("SELECT node, pods, ticks, last_moment, restarts, evictions FROM nodes", [("n1", 3, 6, 60, 1, 1)]),
+    ("SELECT number, pod, restarts, unready_seconds, evicted_signal FROM pods ORDER BY number",
+     [(0, "shop/db", 1, 10, None), (1, "shop/db", 0, 10, "memory.available"), (2, "shop/late", 0, 0, None)]),
+    ("SELECT pod_number, starts, deaths FROM containers ORDER BY pod_number", [(0, 2, 1), (1, 1, 0), (2, 0, 0)]),
+    ("SELECT at, pod_number, code FROM events WHERE event = 'died'", [(20, 0, 1)]),
+    ("SELECT since FROM conditions WHERE pod IS NULL AND value", [(40,)]),
+    ("SELECT pods.pod FROM evictions JOIN pods ON pods.number = evictions.pod_number", [("shop/db",)]),
+)
+
+
+def test_lines():
+    for path in sorted(glob.glob(f"{LINES}/*.report")):
+        name = os.path.basename(path).removesuffix(".report")
+        status, lines, said = run([f"{TOOLS}/json"], read(path))
+        expect(f"json {name}", (status, said), (0, ""))
+        expect_kept(f"json {name}: the lines", lines, f"{LINES}/{name}.jsonl")
+
+
+def reports():
+    return sorted(glob.glob(f"{TOP}/examples/*.report") + glob.glob(f"{LINES}/*.report"))
+
+
+def test_schema():
+    if jsonschema is None:
+        print("left out: the schema of tools/json, since python3-jsonschema is missing")
+        return
+    schema = json.loads(read(SCHEMA))
+    jsonschema.Draft7Validator.check_schema(schema)
+    validator = jsonschema.Draft7Validator(schema)
+    for path in reports():
+        lines = run([f"{TOOLS}/json"], read(path))[1].split("\n")[:-1]
+        wrong = [line for line in lines if not validator.is_valid(json.loads(line))]
+        expect(f"schema of {os.path.basename(path)}", (len(lines) > 4, wrong), (True, []))
+    for wrong in ('{"record":"node"}', '{"record":"event","node":"n","number":0,"at":1,"event":"ready","pod":"a/b"}',
+                  '{"record":"other"}', "[]"):
+        expect(f"schema refuses {wrong}", validator.is_valid(json.loads(wrong)), False)
+
+
+def test_schema_and_tables_agree():
+    """A table has a column for each property that the schema gives its records."""
+    folder = tempfile.mkdtemp()
+    run([f"{TOOLS}/json", "--sqlite", f"{folder}/db"], read(f"{LINES}/came_again.report"))
+    connection = sqlite3.connect(f"{folder}/db")
+    definitions = json.loads(read(SCHEMA))["definitions"]
+    for table, record in TABLES.items():
+        columns = {row[1] for row in connection.execute(f"PRAGMA table_info({table})")}
+        forms = definitions[record].get("oneOf", [definitions[record]])
+        named = {name for form in forms for name in form["properties"]}
+        expect(f"columns of {table}", columns, named - {"record"} | {"report"})
+    connection.close()
+    shutil.rmtree(folder)
+
+
+def test_tables():
+    folder = tempfile.mkdtemp()
+    path = f"{folder}/node.db"
+    with open(path, "w") as file:
+        file.write("something else")
+    answer = run([f"{TOOLS}/json", "--sqlite", path], read(f"{LINES}/came_again.report"))
+    expect("json --sqlite over a file", answer, (0, "", ""))
+    expect("json --sqlite leaves nothing behind", os.listdir(folder), ["node.db"])
+    connection = sqlite3.connect(path)
+    for query, wanted in QUERIES:
+        expect(query, connection.execute(query).fetchall(), wanted)
+    connection.close()
+    shutil.rmtree(folder)
+
+
+def test_unwritable_tables():
+    folder = tempfile.mkdtemp()
+    report = read(f"{LINES}/came_again.report")
+    for name, path in (("no folder", f"{folder}/none/node.db"), ("a folder", folder), ("/proc", "/proc/node.db")):
+        expect_refused(f"json --sqlite to {name}", run([f"{TOOLS}/json", "--sqlite", path], report), 2,
+                       "can't be written")
+    kept = f"{folder}/kept.db"
+    with open(kept, "w") as file:
+        file.write("kept")
+    expect_refused("json --sqlite of no report", run([f"{TOOLS}/json", "--sqlite", kept], "no report\n"), 2, "line 1 ")
+    expect("a file stays where the report is refused", (os.listdir(folder), read(kept)), (["kept.db"], "kept"))
+    shutil.rmtree(folder)
+
+
+def test_refused_json():
+    report = read(f"{LINES}/came_again.report")
+    lines = report.split("\n")
+    for name, text, words in (
+        ("nothing", "", "whole report"),
+        ("a cut report", report[:400], "whole report"),
+        ("a code that is no number", report.replace("died 0 1", "died 0 one"), "line 5 "),
+        ("a probe that there is not", report.replace("restart 0", "kill 0 readiness"), "line 7 "),
+        ("a state that there is not", report.replace("state=Waiting", "state=Idle"), "line 35 "),
+        ("a pod too few", "\n".join(lines[:29] + lines[35:]), "2 pods and says 3"),
+        ("a pod's number that is another", report.replace("pod 2 shop/late", "pod 4 shop/late"), "line 30 "),
+    ):
+        expect_refused(f"json of {name}", run([f"{TOOLS}/json"], text), 2, words)
+    for words, said in ((["--table"], "--table is no word"), (["x"], "x is no word"), (["--sqlite"], "wants a value")):
+        expect_refused(f"json {' '.join(words)}", run([f"{TOOLS}/json", *words], report), 2, said)

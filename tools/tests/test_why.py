@@ -1,0 +1,106 @@
+"""The tests of tools/why, and of tools/story with a trace: traces with their reports and what is told of a pod."""
+
+import os
+import shutil
+import tempfile
+
+from checks import HERE, REPLAY, TOOLS, TOP, expect, expect_kept, expect_refused, read, run
+
+WHYS = f"{HERE}/whys"
+# the program's standard format has no line that lets a pod go: that report is by hand
+BY_HAND = "came_again"
+
+
+def trace_and_report(name):
+    folder = f"{WHYS}/{name}"
+    if os.path.exists(f"{folder}/trace"):
+        return f"{folder}/trace", f"{folder}/report"
+    return f"{TOP}/examples/{name}.trace", f"{TOP}/examples/{name}.report"
+
+
+def test_whys():
+    for name in sorted(os.listdir(WHYS)):
+        trace, report = trace_and_report(name)
+        if name != BY_HAND:
+            expect(f"why {name}: the report is the trace's", run([REPLAY], read(trace))[1], read(report))
+        answers = [answer for answer in os.listdir(f"{WHYS}/{name}") if answer.startswith("of_")]
+        for answer in sorted(answers):
+            pod = answer.removeprefix("of_").replace("_", "/", 1)
+            status, told, said = run([f"{TOOLS}/why", pod, "--trace", trace], read(report))
+            expect(f"why {name} {pod}", (status, said), (0, ""))
+            expect_kept(f"why {name} {pod}: the text", told, f"{WHYS}/{name}/{answer}")
+
+
+def test_why_with_story():
+    trace, report = trace_and_report("probes")
+    story = run([f"{TOOLS}/story", "shop/web"], read(report))[1]
+    both = run([f"{TOOLS}/story", "shop/web", "--trace", trace], read(report))
+    expect("story with a trace", both, (0, f"{story}\n{read(f'{WHYS}/probes/of_shop_web')}", ""))
+    utc = run([f"{TOOLS}/why", "--utc", "shop/web", f"--trace={trace}"], read(report))[1].split("\n")
+    expect("why --utc", utc[2], "1970-01-01 00:00:05  app started (attempt 0)")
+
+
+def trace_of_turns():
+    """Results of liveness by turns, success at even moments and failure at odd ones, and failures from 29 on."""
+    lines = ['{"kind":"node","name":"n1"}',
+             '{"kind":"pod","pod":{"metadata":{"name":"a"},"spec":{"containers":[{"name":"c","livenessProbe":'
+             '{"failureThreshold":2}}]}}}']
+    for at in range(32):
+        result = "success" if at % 2 == 0 and at < 29 else "failure"
+        lines.append(f'{{"kind":"tick","at":{at},"pods":[{{"pod":"default/a","containers":[{{"name":"c","state":1}}],'
+                     f'"probes":[{{"container":"c","probe":"liveness","result":"{result}"}}]}}]}}')
+    return "\n".join(lines) + "\n"
+
+
+def test_why_leaves_out():
+    """Up to the kill at 30 there are 29 runs of one result, and one of two: the last 12 begin with that of 18."""
+    folder, trace = tempfile.mkdtemp(), trace_of_turns()
+    with open(f"{folder}/trace", "w") as file:
+        file.write(trace)
+    told = run([f"{TOOLS}/why", "default/a", "--trace", f"{folder}/trace"], run([REPLAY], trace)[1])[1].split("\n")
+    kill = told.index("30  c kill order: liveness (attempt 0)")
+    expect("why leaves out runs", [told[kill + 4].split(), told[kill + 15].split()],
+           [["success", "1", "18"], ["failure", "2", "29,", "30"]])
+    expect("why says how many", told[kill + 16], "  18 earlier runs of results are left out")
+    shutil.rmtree(folder)
+
+
+def test_refused_whys():
+    trace, report = trace_and_report("probes")
+    folder, given = tempfile.mkdtemp(), read(trace)
+    for name, text, words in (
+        ("of another node", given.replace('"n1"', '"n2"'), "its node is n2, the report's n1"),
+        ("of another length", given[: given.rindex("\n", 0, -1) + 1], "its number of ticks is 13, the report's 14"),
+        ("of another pod", given.replace('"name":"web"', '"name":"wab"').replace("shop/web", "shop/wab"),
+         "pod 0 is shop/wab, the report's shop/web"),
+        ("of another container", given.replace('"app"', '"main"'), "pod 0 is shop/web with other containers"),
+        ("of other moments", given.replace('"at":45', '"at":46'), "it has no tick at 45"),
+        ("with another listing", given.replace('"at":5,"pods":[{"pod":"shop/web","containers":[{"name":"app"',
+                                               '"at":5,"pods":[{"pod":"shop/web","containers":[{"name":"other"'),
+         "at 5 it does not list attempt 0 of app of shop/web as running"),
+        ("that is none", "node n1\n", "line 1 is no line of a trace"),
+        ("without a node line", given[given.index("\n") + 1 :], "line 1 is no line of a trace"),
+        ("with a cut line", given[:-30], "line 16 is no line of a trace"),
+        ("with nothing", "", "it has no line"),
+    ):
+        with open(f"{folder}/trace", "w") as file:
+            file.write(text)
+        for tool in ("why", "story"):
+            answer = run([f"{TOOLS}/{tool}", "shop/web", "--trace", f"{folder}/trace"], read(report))
+            expect_refused(f"{tool}: a trace {name}", answer, 2, words)
+    shutil.rmtree(folder)
+    expect_refused("why: a trace that is not there",
+                   run([f"{TOOLS}/why", "shop/web", "--trace", "/nonexistent"], read(report)), 2, "can't be read")
+
+
+def test_refused_words_of_why():
+    trace, report = trace_and_report("file_system")
+    for pod, said in (("default/lat", "nearest: default/late"), ("late", "nearest: default/late"),
+                      ("zzzzz", "a pod is NAMESPACE/NAME")):
+        expect_refused(f"why {pod}", run([f"{TOOLS}/why", pod, "--trace", trace], read(report)), 2, said)
+        expect_refused(f"story {pod}", run([f"{TOOLS}/story", pod], read(report)), 2, said)
+    for words, said in (([], "one pod, not 0"), (["a/b", "c/d", "--trace", trace], "one pod, not 2"),
+                        (["a/b"], "it wants --trace"), (["a/b", "--trace"], "--trace wants a value"),
+                        (["--all"], "--all is no word")):
+        expect_refused(f"why {' '.join(words)}", run([f"{TOOLS}/why", *words], read(report)), 2, said)
+    expect_refused("why of no report", run([f"{TOOLS}/why", "a/b", "--trace", trace], "no\n"), 2, "line 1 ")
