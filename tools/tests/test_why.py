@@ -2,11 +2,16 @@
 
 import os
 import shutil
+import sys
 import tempfile
 
 from checks import HERE, REPLAY, TOOLS, TOP, expect, expect_kept, expect_refused, read, run
 
+sys.path.insert(0, f"{TOOLS}/lib")
+import amounts  # noqa: E402
+
 WHYS = f"{HERE}/whys"
+TEXTS = f"{TOP}/crates/case_runner/data/texts"
 # the program's standard format has no line that lets a pod go: that report is by hand
 BY_HAND = "came_again"
 
@@ -29,6 +34,18 @@ def test_whys():
             status, told, said = run([f"{TOOLS}/why", pod, "--trace", trace], read(report))
             expect(f"why {name} {pod}", (status, said), (0, ""))
             expect_kept(f"why {name} {pod}: the text", told, f"{WHYS}/{name}/{answer}")
+
+
+def test_amounts():
+    """Each text that the program takes has the value that its own tests have for it."""
+    for kind, value_of in (("quantity", amounts.quantity), ("percentage", amounts.hundredths),
+                           ("duration", amounts.duration)):
+        rows = [line.split("\t") for line in read(f"{TEXTS}/{kind}.table").split("\n") if line and line[0] != "#"]
+        taken = [(text, int(value)) for text, value in rows if value.isdigit()]
+        expect(f"amounts of a {kind}", [(text, value_of(text)) for text, _ in taken], taken)
+    for thousandths, wanted in ((0, "0"), (1023000, "1023"), (1024000, "1Ki"), (1610612736000, "1.5Gi"),
+                                (-52428800000, "-50Mi"), (None, "-")):
+        expect(f"amount {wanted}", amounts.amount_text(thousandths, True), wanted)
 
 
 def test_why_with_story():

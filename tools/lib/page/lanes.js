@@ -54,6 +54,7 @@ function element(kind, words, className) {
 function makeRow(pod, place) {
   const [holder, head] = [element('div', undefined, 'pod'), element('div', undefined, 'head')];
   const canvas = element('canvas', undefined, 'plot');
+  canvas.setAttribute('aria-hidden', 'true');
   holder.style.top = `${rows.tops[place]}px`;
   const name = element('button', pod.key, 'name');
   name.title = pod.key;
@@ -188,9 +189,14 @@ function laneAt(pod, y) {
   return y < STRIP + 3 ? -1 : Math.min(pod.containers.length - 1, Math.floor((y - STRIP - 3) / LANE));
 }
 
+// How many seconds are near a pointer.
+function reachOf(area) {
+  return 6 * (view.to - view.from) / (area.right - area.left);
+}
+
 // What a click or a pointer at a place of a row means: events within some pixels, of that lane before all others.
 function eventsAt(row, area, x, y) {
-  const reach = 6 * (view.to - view.from) / (area.right - area.left);
+  const reach = reachOf(area);
   const at = momentAt(area, x);
   const near = row.pod.list.filter((event) => Math.abs(event.at - at) <= reach);
   const lane = laneAt(row.pod, y);

@@ -11,7 +11,7 @@ const LEGEND = [
   ['ready', 'ready'], ['unready', 'not ready'], ['pressure', 'pressure'], ['shade', 'threshold active'],
 ];
 const MARKS = [['▼', 'kill ordered', 'kill'], ['○', 'restart', 'mark'], ['□', 'restart put off', 'mark'],
-  ['✕', 'evicted', 'failed']];
+  ['✕', 'evicted', 'failed'], ...(data.reclaims.length ? [['◇', 'reclaimed', 'quiet']] : [])];
 const byId = (name) => document.getElementById(name);
 let asked = 0, askedAll = false;
 
@@ -194,7 +194,7 @@ function tell(event) {
   if (tip.hidden) return;
   const at = momentAt(plot.area, x);
   if (plot.row) tip.textContent = rowTip(plot.row, plot.area, x, y);
-  else tip.textContent = plot.chart ? plot.chart.tip(at) : moment(Math.round(at));
+  else tip.textContent = plot.chart ? plot.chart.tip(at, reachOf(plot.area)) : moment(Math.round(at));
   tip.hidden = !tip.textContent;
   const width = tip.offsetWidth;
   tip.style.left = `${Math.min(event.clientX + 12, window.innerWidth - width - 6)}px`;
@@ -275,7 +275,6 @@ function begin() {
     ['keydown', press]]) document.addEventListener(name, done);
   document.addEventListener('pointercancel', () => { drag = null; byId('band').hidden = true; });
   document.addEventListener('pointerleave', () => { byId('tip').hidden = true; });
-  document.addEventListener('dblclick', (event) => { if (plotOf(event.target)) PRESSED[0](); });
   window.addEventListener('scroll', () => draw(false), {passive: true});
   window.addEventListener('resize', () => draw(true));
   const dark = window.matchMedia('(prefers-color-scheme: dark)');
