@@ -67,7 +67,7 @@ function makeRow(pod, place) {
 function metaOf(pod) {
   const meta = element('span', undefined, 'meta');
   const bad = [];
-  if (pod.eviction) bad.push(`evicted ${moment(pod.eviction.at)}`);
+  if (pod.eviction) bad.push(`evicted ${shortMoment(pod.eviction.at, 1)}`);
   else if (pod.phase === 'Failed') bad.push('failed');
   if (pod.restarts) bad.push(`${pod.restarts} restart${pod.restarts > 1 ? 's' : ''}`);
   const rest = [pod.eviction ? '' : pod.phase, pod.qos, pod.unready ? `not ready ${seconds(pod.unready)}` : ''];

@@ -105,12 +105,15 @@ function chooseByKey(by) {
 
 let stepped = {pod: null, place: -1};
 
-// The next or the previous event of the chosen pod, with its why; it is moved into view.
+// The next or the previous event of the chosen pod, with its why, beginning with those in view; it is moved into view.
 function step(by) {
   const pod = rows.pods[Math.max(rows.chosen, 0)];
   if (!pod || !pod.list.length) return;
   if (rows.chosen < 0) choose(0);
-  stepped = stepped.pod === pod ? stepped : {pod, place: by > 0 ? -1 : pod.list.length};
+  if (stepped.pod !== pod) {
+    const seen = placeBefore(pod.list.length, (place) => pod.list[place].at, by > 0 ? view.from - 1 : view.to);
+    stepped = {pod, place: by > 0 ? seen : seen + 1};
+  }
   stepped.place = Math.max(0, Math.min(stepped.place + by, pod.list.length - 1));
   const event = pod.list[stepped.place];
   if (event.at < view.from || event.at > view.to) {
@@ -223,6 +226,7 @@ function press(event) {
   const done = PRESSED[event.key];
   if (typing || !done || (event.key === 'Enter' && event.target instanceof HTMLButtonElement)) return;
   event.preventDefault();
+  byId('tip').hidden = true;
   done();
 }
 

@@ -10,6 +10,7 @@ function openPanel(title, parts, before) {
   top.append(element('h2', title), pressable('close', closePanel, 'Close (Esc)'));
   panel.replaceChildren(top, ...parts);
   panel.hidden = false;
+  document.getElementById('tip').hidden = true;
   panel.scrollTop = 0;
   standBeside(true);
   panel.focus({preventScroll: true});
