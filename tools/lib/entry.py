@@ -9,7 +9,11 @@ import report as reports
 
 
 class Fault(Exception):
-    """What is said in one line on standard error, with status 2."""
+    """What is said in one line on standard error, and the status with it."""
+
+    def __init__(self, said, status=2):
+        super().__init__(said)
+        self.status = status
 
 
 def read_report():
@@ -23,14 +27,14 @@ def read_report():
 
 
 def run(tool, main):
-    """The status of a tool: that of main, 2 for a fault, 1 where standard output takes no more."""
+    """The status of a tool: that of main, or of a fault, 1 where standard output takes no more."""
     try:
         status = main(sys.argv[1:])
         sys.stdout.flush()
         return status
     except Fault as fault:
         print(f"{tool}: {fault}", file=sys.stderr)
-        return 2
+        return fault.status
     except BrokenPipeError:
         # what is still held must not be written once more as the interpreter ends
         os.dup2(os.open(os.devnull, os.O_WRONLY), sys.stdout.fileno())

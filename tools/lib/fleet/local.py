@@ -1,0 +1,66 @@
+"""The work on the processors of this machine, in processes of their own."""
+
+from __future__ import annotations
+
+import concurrent.futures
+import os
+import signal
+import threading
+import time
+from concurrent.futures.process import BrokenProcessPool
+
+import entry
+from fleet import work
+
+MOST_BREAKS = 3
+WAITING_EACH = 4
+
+
+def answers(tasks, program, program_sum, processes):
+    """Path and answer of each task, as they come; tasks are pairs of a path and the sum that is known of it."""
+    left = dict(tasks)
+    for _ in range(MOST_BREAKS):
+        try:
+            for path, answer in answers_of_pool(list(left.items()), program, program_sum, processes):
+                del left[path]
+                yield path, answer
+            return
+        except BrokenProcessPool:
+            # a process was ended from outside: what it had in hand is done by new ones
+            continue
+    raise entry.Fault(f"worker processes were ended {MOST_BREAKS} times; what is done is kept, and a further run goes "
+                      "on from there")
+
+
+def answers_of_pool(tasks, program, program_sum, processes):
+    """A few tasks wait beside those in hand, so that answers don't pile up."""
+    with concurrent.futures.ProcessPoolExecutor(processes, initializer=begin, initargs=(os.getpid(),)) as pool:
+        pending = {}
+        try:
+            for path, known in tasks:
+                pending[pool.submit(work.answer, program, program_sum, path, known)] = path
+                if len(pending) >= processes * WAITING_EACH:
+                    yield from some(pending)
+            while pending:
+                yield from some(pending)
+        finally:
+            pool.shutdown(wait=True, cancel_futures=True)
+
+
+def some(pending):
+    """Takes what is done from what is pending, once there is something."""
+    done, _ = concurrent.futures.wait(pending, return_when=concurrent.futures.FIRST_COMPLETED)
+    for future in done:
+        yield pending.pop(future), future.result()
+
+
+def begin(parent):
+    """An interrupt is the parent's to take, and a worker does not outlive it."""
+    signal.signal(signal.SIGINT, signal.SIG_IGN)
+    threading.Thread(target=end_with, args=(parent,), daemon=True).start()
+
+
+def end_with(parent):
+    while os.getppid() == parent:
+        time.sleep(0.5)
+    os._exit(1)

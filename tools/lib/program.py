@@ -1,0 +1,38 @@
+"""The program that replays traces: where it is, and whether it answers."""
+
+from __future__ import annotations
+
+import hashlib
+import os
+import subprocess
+
+import entry
+
+TOP = os.path.dirname(os.path.dirname(os.path.dirname(os.path.realpath(__file__))))
+SMALLEST = b'{"kind":"node","name":"n1"}\n'
+
+
+def path():
+    """The absolute path of the program: KUBELET_REPLAY, or ./kubelet_replay beside the tools."""
+    return os.path.abspath(os.environ.get("KUBELET_REPLAY") or os.path.join(TOP, "kubelet_replay"))
+
+
+def checked_path():
+    """The path of a program that writes reports. In a checkout this builds it where that is due, once and before
+    many processes ask for it."""
+    found = path()
+    try:
+        done = subprocess.run([found, "run", "/dev/stdin"], input=SMALLEST, capture_output=True, check=False)
+    except OSError as fault:
+        raise entry.Fault(f"{found} is missing or can't be started: {fault.strerror}", 127) from None
+    if done.returncode != 0 or not done.stdout.startswith(b"node n1 "):
+        said = done.stderr.decode("utf-8", "replace").split("\n")[0]
+        raise entry.Fault(f"{found} writes no report (status {done.returncode}): {said}",
+                          127 if done.returncode == 127 else 2)
+    return found
+
+
+def sum_of(found):
+    """The SHA-256 of the program's file, in hexadecimal digits."""
+    with open(found, "rb") as file:
+        return hashlib.sha256(file.read()).hexdigest()
