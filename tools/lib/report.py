@@ -216,10 +216,6 @@ def checked(event):
     return event
 
 
-def find_pod(report, key):
-    return next((pod for pod in report.pods if pod.key == key), None)
-
-
 def moment_text(at, utc):
     """A moment as its seconds, or as a UTC time where that was asked for and there is one."""
     if not utc or at > LAST_DATE:

@@ -117,6 +117,10 @@ class Trace:
                 return listing_of(found)
         return None
 
+    def pause(self):
+        """evictionPauseSeconds, which version 3 alone has."""
+        return number_at(self.settings, "evictionPauseSeconds", 0) if self.settings.get("version") == 3 else 0
+
     def dedicated(self):
         return value_at(self.settings, "dedicatedImagefs", False)
 

@@ -69,6 +69,10 @@ class Evicted:
     samples: list[tuple[int, int | None, int | None]]
     """moment, value, value after reclaim"""
     candidates: list[Candidate]
+    pause: int
+    """evictionPauseSeconds of the extended format"""
+    before: int | None
+    """the moment of the eviction before"""
 
     @property
     def is_victim_first(self):
@@ -212,14 +216,16 @@ def gather_evictions(trace, report, moments):
     """What the trace holds around the evictions of some moments, by moment; a tick evicts one pod at most."""
     usages = usages_at(trace, {trace.places[at] for at in moments})
     active, found = reports.Thresholds(report), {}
-    for eviction in sorted(report.evictions, key=lambda eviction: eviction.at):
+    evictions = sorted(report.evictions, key=lambda eviction: eviction.at)
+    for before, eviction in zip([None, *evictions], evictions):
         since = active.at(eviction.at).get((eviction.signal, eviction.kind))
         if eviction.at not in moments:
             continue
         threshold = next((limit for limit in trace.thresholds
                           if (limit.signal, limit.kind) == (eviction.signal, eviction.kind)), None)
         found[eviction.at] = Evicted(eviction.signal, threshold, since, samples_of(trace, eviction, since),
-                                     candidates_of(trace, report, eviction, usages[trace.places[eviction.at]]))
+                                     candidates_of(trace, report, eviction, usages[trace.places[eviction.at]]),
+                                     trace.pause(), before and before.at)
     return found
 
 

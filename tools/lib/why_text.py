@@ -105,7 +105,7 @@ def exit_lines(trace, pod, around, show):
 
 def evicted_lines(evicted, show):
     of_bytes = evicted.signal in traces.BYTE_SIGNALS
-    lines = threshold_lines(evicted, of_bytes, show)
+    lines = threshold_lines(evicted, of_bytes, show) + pause_lines(evicted, show)
     lines += sample_lines(evicted, of_bytes, show)
     with_requests = any(candidate.request is not None for candidate in evicted.candidates)
     rows = [candidate_row(place, candidate, of_bytes) for place, candidate in enumerate(evicted.candidates, 1)]
@@ -120,6 +120,13 @@ def evicted_lines(evicted, show):
 def threshold_lines(evicted, of_bytes, show):
     since = "" if evicted.since is None or evicted.threshold is None else f"; active since {show(evicted.since)}"
     return [threshold_words(evicted, of_bytes) + since]
+
+
+def pause_lines(evicted, show):
+    if not evicted.pause:
+        return []
+    before = "no eviction before" if evicted.before is None else f"the eviction before was at {show(evicted.before)}"
+    return [f"evictionPauseSeconds {evicted.pause}; {before}"]
 
 
 def threshold_words(evicted, of_bytes):

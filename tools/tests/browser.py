@@ -116,9 +116,9 @@ def check_filter(page):
     tell("filters by name", (page.texts(".pod .name"), page.text("#shown")), (["default/late"], "1 of 4 pods"))
     page.press(Keys.ESCAPE)
     tell("clears the filter by a key", len(page.texts(".pod .name")), 4)
-    page.click(".chips button", 1)
+    page.click("#chips button", 1)
     tell("shows the evicted alone", sorted(page.texts(".pod .name")), ["default/a", "default/late"])
-    page.click(".chips button", 0)
+    page.click("#chips button", 0)
 
 
 def check_zoom(page):

@@ -1,12 +1,22 @@
 """The tests of tools/why, and of tools/story with a trace: traces with their reports and what is told of a pod."""
 
+import glob
 import os
 import shutil
+import sys
 import tempfile
 
 from checks import HERE, REPLAY, TOOLS, TOP, expect, expect_kept, expect_refused, read, run
 
+sys.path.insert(0, f"{TOOLS}/lib")
+import amounts  # noqa: E402
+import report as reports  # noqa: E402
+import trace as traces  # noqa: E402
+import why  # noqa: E402
+
 WHYS = f"{HERE}/whys"
+TEXTS = f"{TOP}/crates/case_runner/data/texts"
+CASES = f"{TOP}/crates/case_runner/data/traces"
 # the program's standard format has no line that lets a pod go: that report is by hand
 BY_HAND = "came_again"
 
@@ -29,6 +39,58 @@ def test_whys():
             status, told, said = run([f"{TOOLS}/why", pod, "--trace", trace], read(report))
             expect(f"why {name} {pod}", (status, said), (0, ""))
             expect_kept(f"why {name} {pod}: the text", told, f"{WHYS}/{name}/{answer}")
+
+
+def test_amounts():
+    """Each text that the program takes has the value that its own tests have for it."""
+    for kind, value_of in (("quantity", amounts.quantity), ("percentage", amounts.hundredths),
+                           ("duration", amounts.duration)):
+        rows = [line.split("\t") for line in read(f"{TEXTS}/{kind}.table").split("\n") if line and line[0] != "#"]
+        taken = [(text, int(value)) for text, value in rows if value.isdigit()]
+        expect(f"amounts of a {kind}", [(text, value_of(text)) for text, _ in taken], taken)
+    for thousandths, wanted in ((0, "0"), (1023000, "1023"), (1024000, "1Ki"), (1610612736000, "1.5Gi"),
+                                (-52428800000, "-50Mi"), (None, "-")):
+        expect(f"amount {wanted}", amounts.amount_text(thousandths, True), wanted)
+
+
+def in_a_row(runs, result):
+    """How many results of a kind end the runs, where unknown ones neither count nor end them."""
+    count = 0
+    for found, moments in reversed(runs):
+        if found == result:
+            count += len(moments)
+        elif found != "unknown":
+            break
+    return count
+
+
+def doubts_of(around):
+    """What the results of an event do not have, though the event says so."""
+    wanted = {"kill": "failure", "unready": "failure", "ready": "success"}.get(around.event.word)
+    for results in around.results:
+        most = results.probe.success_threshold if wanted == "success" else results.probe.failure_threshold
+        if wanted and (wanted, results.kind) != ("success", "startup") and in_a_row(results.runs, wanted) < most:
+            yield f"{around.event.at} {results.kind}"
+    if around.evicted and not around.evicted.is_victim_first:
+        yield f"{around.event.at} evicted"
+
+
+def test_cases():
+    """In each case of the program an event of a probe has its results, and an evicted pod comes first in its table."""
+    doubts, kinds, count = [], {"kill": 0, "unready": 0, "ready": 0, "evicted": 0}, 0
+    for path in sorted(glob.glob(f"{CASES}/**/*.report", recursive=True)):
+        report = reports.read_report(read(path))
+        trace = traces.read_trace(path.removesuffix("report") + "trace")
+        traces.check_belongs(trace, report, path)
+        count += 1
+        for pod in report.pods:
+            for around in why.around_events(trace, report, pod):
+                doubts += [f"{path} {pod.key} {doubt}" for doubt in doubts_of(around)]
+                if around.event.word in kinds and (around.results or around.evicted):
+                    kinds[around.event.word] += 1
+    expect("why of the program's cases", doubts, [])
+    expect("there are cases of each kind", (count > 400, [word for word, seen in kinds.items() if seen < 20]),
+           (True, []))
 
 
 def test_why_with_story():

@@ -51,6 +51,7 @@ def data_of(report, trace, utc):
         "words": WORDS, "states": STATES, "results": RESULTS, "pods": report.pod_count, "ticks": report.tick_count,
         "tickSteps": repeated(differences([span.of(tick.at) for tick in trace.ticks])) if trace else [],
         "signals": signals_of(trace), "active": active_of(report, span), "pressure": pressure_of(report, span),
+        "reclaims": [[span.of(event.at), *event.rest] for event in report.events if event.word == "reclaim"],
         "evictions": evictions_of(report, trace, span, left),
         "podList": [pod_of(report, trace, span, pod, ticks.get(pod.number), budget) for pod in report.pods],
     }
@@ -150,7 +151,8 @@ def around_of(evicted, span):
     with_requests = any(candidate.request is not None for candidate in evicted.candidates)
     return {
         "threshold": why_text.threshold_words(evicted, of_bytes),
-        "since": span.of(evicted.since), "rows": rows, "more": len(evicted.candidates) - len(rows),
+        "pause": evicted.pause, "before": span.of(evicted.before), "since": span.of(evicted.since), "rows": rows,
+        "more": len(evicted.candidates) - len(rows),
         "after": [[span.of(at), units(after)] for at, _, after in evicted.samples if after is not None][-MOST_ROWS:],
         "order": why_text.ORDERS[with_requests], "first": evicted.is_victim_first,
     }

@@ -143,6 +143,7 @@ function makeCharts() {
     const canvas = document.createElement('canvas');
     holder.className = 'chart';
     canvas.className = 'plot';
+    canvas.setAttribute('aria-hidden', 'true');
     holder.append(canvas);
     section.append(holder);
     charts.push({canvas, draw, tip, hits, signal});
@@ -150,7 +151,7 @@ function makeCharts() {
   add(drawNodeLanes, nodeTip, () => data.evictions);
   for (const signal of data.signals) {
     signal.isTall = data.active.some((span) => span[0] === signal.name);
-    add((canvas) => drawSignal(canvas, signal), (at) => signalTip(signal, at),
+    add((canvas) => drawSignal(canvas, signal), (at, reach) => signalTip(signal, at, reach),
       () => data.evictions.filter((one) => one.signal === signal.name), signal);
   }
 }
@@ -186,7 +187,14 @@ function drawNodeLanes(canvas) {
   });
   const y = lanes.length * NODE_LANE + 10;
   drawName(area, data.evictions.length ? `${data.evictions.length} evicted` : 'no eviction', y);
+  drawReclaims(area, y);
   drawEvictions(area, data.evictions, () => y);
+}
+
+function drawReclaims(area, y) {
+  area.pen.fillStyle = colours.quiet;
+  area.pen.textAlign = 'center';
+  for (const [at] of data.reclaims) if (at >= view.from && at <= view.to) area.pen.fillText('◇', xOf(area, at), y);
 }
 
 function drawEvictions(area, evictions, yAt) {
@@ -211,16 +219,17 @@ function drawName(area, name, y) {
 // Signals of which a threshold was active are drawn tall, and a click on a chart's name turns that.
 const TALL = 92, LOW = 40;
 
-// The least and the greatest value of each pixel of a signal in view: pairs by pixel, undefined without a value.
+// The least, the greatest and the last value of each pixel of a signal in view; null where its ticks have no value, and
+// a hole where no tick falls.
 function envelope(area, signal) {
   const columns = new Array(Math.max(1, Math.ceil(area.right - area.left)));
   const from = Math.max(0, placeBefore(tickMoments.length, (place) => tickMoments[place], view.from));
   for (let place = from; place < tickMoments.length && tickMoments[place] <= view.to; place++) {
     const value = signal.values[place];
-    if (value === null) continue;
     const column = Math.max(0, Math.min(columns.length - 1, Math.floor(xOf(area, tickMoments[place]) - area.left)));
     const known = columns[column];
-    if (!known) columns[column] = [value, value, value];
+    if (value === null) columns[column] = known || null;
+    else if (!known) columns[column] = [value, value, value];
     else columns[column] = [Math.min(known[0], value), Math.max(known[1], value), value];
   }
   return columns;
@@ -232,7 +241,7 @@ function drawSignal(canvas, signal) {
   const columns = envelope(area, signal);
   let most = 0;
   for (const one of signal.thresholds) most = Math.max(most, one.clear);
-  columns.forEach((column) => { most = Math.max(most, column[1]); });
+  columns.forEach((column) => { if (column) most = Math.max(most, column[1]); });
   const yOf = (value) => area.height - 5 - value / (most * 1.06 || 1) * (area.height - 12);
   for (const span of data.active) {
     if (span[0] !== signal.name) continue;
@@ -249,23 +258,27 @@ function drawSignal(canvas, signal) {
   if (signal.isTall) drawName(area, `0 to ${amount(most, signal.bytes)}`, 25);
 }
 
-// A line through the last value of each pixel, with the whole height between the least and the greatest.
+// A line that keeps a value until the next tick, with the whole height between the least and the greatest of a pixel.
 function drawLine(area, columns, yOf) {
   const {pen} = area;
   pen.strokeStyle = colours.signal;
   pen.lineWidth = 1.5;
   pen.beginPath();
-  let known = false;
+  let last = null;
   columns.forEach((column, place) => {
-    const x = area.left + place + 0.5;
-    if (!known) pen.moveTo(x, yOf(column[2]));
-    if (column[1] > column[0]) {
-      pen.lineTo(x, yOf(column[0]));
-      pen.lineTo(x, yOf(column[1]));
+    const x = area.left + place + (place ? 0.5 : 0);
+    if (last !== null) pen.lineTo(x, last);
+    if (column) {
+      if (last === null) pen.moveTo(x, yOf(column[2]));
+      if (column[1] > column[0]) {
+        pen.lineTo(x, yOf(column[0]));
+        pen.lineTo(x, yOf(column[1]));
+      }
+      pen.lineTo(x, yOf(column[2]));
     }
-    pen.lineTo(x, yOf(column[2]));
-    known = true;
+    last = column ? yOf(column[2]) : null;
   });
+  if (last !== null) pen.lineTo(Math.min(area.right, xOf(area, data.last)), last);
   pen.stroke();
 }
 
@@ -292,16 +305,25 @@ function drawThresholds(area, signal, yOf) {
   });
 }
 
-function signalTip(signal, at) {
-  const place = placeBefore(tickMoments.length, (one) => tickMoments[one], at);
-  if (place < 0) return '';
-  return `${moment(tickMoments[place])}\n${signal.name} ${amount(signal.values[place], signal.bytes)}`;
+function evictionWords(evictions, at, reach) {
+  return evictions.filter((one) => Math.abs(one.at - at) <= reach)
+    .map((one) => `${moment(one.at)} ${data.podList[one.pod].key} evicted by ${one.signal} ${one.kind}`);
 }
 
-function nodeTip(at) {
+function signalTip(signal, at, reach) {
+  const place = placeBefore(tickMoments.length, (one) => tickMoments[one], at);
+  if (place < 0) return '';
+  return [moment(tickMoments[place]), `${signal.name} ${amount(signal.values[place], signal.bytes)}`,
+    ...evictionWords(data.evictions.filter((one) => one.signal === signal.name), at, reach)].join('\n');
+}
+
+function nodeTip(at, reach) {
   const holds = (since, until) => since <= at && (until === null || at < until);
   const found = data.pressure.filter((span) => holds(span[1], span[2])).map((span) => span[0]);
   const active = data.active.filter((span) => holds(span[2], span[3]))
     .map((span) => `threshold ${span[0]} ${span[1]} active`);
-  return [moment(Math.round(at)), ...found, ...active].join('\n');
+  const reclaimed = data.reclaims.filter((one) => Math.abs(one[0] - at) <= reach)
+    .map((one) => `${moment(one[0])} reclaimed: ${one[1]} ${one[2]}`);
+  const evicted = evictionWords(data.evictions, at, reach);
+  return [moment(Math.round(at)), ...found, ...active, ...reclaimed, ...evicted].join('\n');
 }

@@ -54,6 +54,7 @@ function element(kind, words, className) {
 function makeRow(pod, place) {
   const [holder, head] = [element('div', undefined, 'pod'), element('div', undefined, 'head')];
   const canvas = element('canvas', undefined, 'plot');
+  canvas.setAttribute('aria-hidden', 'true');
   holder.style.top = `${rows.tops[place]}px`;
   const name = element('button', pod.key, 'name');
   name.title = pod.key;
@@ -66,10 +67,12 @@ function makeRow(pod, place) {
 function metaOf(pod) {
   const meta = element('span', undefined, 'meta');
   const bad = [];
-  if (pod.eviction) bad.push(`evicted ${moment(pod.eviction.at)}`);
+  if (pod.eviction) bad.push(`evicted ${shortMoment(pod.eviction.at, 1)}`);
   else if (pod.phase === 'Failed') bad.push('failed');
   if (pod.restarts) bad.push(`${pod.restarts} restart${pod.restarts > 1 ? 's' : ''}`);
-  const rest = [pod.eviction ? '' : pod.phase, pod.qos, pod.unready ? `not ready ${seconds(pod.unready)}` : ''];
+  const gone = typeof pod.gone === 'number' ? `gone before ${shortMoment(pod.gone, 1)}` : '';
+  const unready = pod.unready ? `not ready ${seconds(pod.unready)}` : '';
+  const rest = [pod.eviction ? '' : pod.phase, pod.qos, gone, unready];
   meta.append(element('span', bad.join(' · '), 'bad'), `${bad.length ? ' · ' : ''}${rest.filter(Boolean).join(' · ')}`);
   meta.title = meta.textContent;
   return meta;
@@ -188,9 +191,14 @@ function laneAt(pod, y) {
   return y < STRIP + 3 ? -1 : Math.min(pod.containers.length - 1, Math.floor((y - STRIP - 3) / LANE));
 }
 
+// How many seconds are near a pointer.
+function reachOf(area) {
+  return 6 * (view.to - view.from) / (area.right - area.left);
+}
+
 // What a click or a pointer at a place of a row means: events within some pixels, of that lane before all others.
 function eventsAt(row, area, x, y) {
-  const reach = 6 * (view.to - view.from) / (area.right - area.left);
+  const reach = reachOf(area);
   const at = momentAt(area, x);
   const near = row.pod.list.filter((event) => Math.abs(event.at - at) <= reach);
   const lane = laneAt(row.pod, y);

@@ -11,7 +11,7 @@ const LEGEND = [
   ['ready', 'ready'], ['unready', 'not ready'], ['pressure', 'pressure'], ['shade', 'threshold active'],
 ];
 const MARKS = [['▼', 'kill ordered', 'kill'], ['○', 'restart', 'mark'], ['□', 'restart put off', 'mark'],
-  ['✕', 'evicted', 'failed']];
+  ['✕', 'evicted', 'failed'], ...(data.reclaims.length ? [['◇', 'reclaimed', 'quiet']] : [])];
 const byId = (name) => document.getElementById(name);
 let asked = 0, askedAll = false;
 
@@ -105,12 +105,15 @@ function chooseByKey(by) {
 
 let stepped = {pod: null, place: -1};
 
-// The next or the previous event of the chosen pod, with its why; it is moved into view.
+// The next or the previous event of the chosen pod, with its why, beginning with those in view; it is moved into view.
 function step(by) {
   const pod = rows.pods[Math.max(rows.chosen, 0)];
   if (!pod || !pod.list.length) return;
   if (rows.chosen < 0) choose(0);
-  stepped = stepped.pod === pod ? stepped : {pod, place: by > 0 ? -1 : pod.list.length};
+  if (stepped.pod !== pod) {
+    const seen = placeBefore(pod.list.length, (place) => pod.list[place].at, by > 0 ? view.from - 1 : view.to);
+    stepped = {pod, place: by > 0 ? seen : seen + 1};
+  }
   stepped.place = Math.max(0, Math.min(stepped.place + by, pod.list.length - 1));
   const event = pod.list[stepped.place];
   if (event.at < view.from || event.at > view.to) {
@@ -194,7 +197,7 @@ function tell(event) {
   if (tip.hidden) return;
   const at = momentAt(plot.area, x);
   if (plot.row) tip.textContent = rowTip(plot.row, plot.area, x, y);
-  else tip.textContent = plot.chart ? plot.chart.tip(at) : moment(Math.round(at));
+  else tip.textContent = plot.chart ? plot.chart.tip(at, reachOf(plot.area)) : moment(Math.round(at));
   tip.hidden = !tip.textContent;
   const width = tip.offsetWidth;
   tip.style.left = `${Math.min(event.clientX + 12, window.innerWidth - width - 6)}px`;
@@ -223,6 +226,7 @@ function press(event) {
   const done = PRESSED[event.key];
   if (typing || !done || (event.key === 'Enter' && event.target instanceof HTMLButtonElement)) return;
   event.preventDefault();
+  byId('tip').hidden = true;
   done();
 }
 
@@ -275,7 +279,6 @@ function begin() {
     ['keydown', press]]) document.addEventListener(name, done);
   document.addEventListener('pointercancel', () => { drag = null; byId('band').hidden = true; });
   document.addEventListener('pointerleave', () => { byId('tip').hidden = true; });
-  document.addEventListener('dblclick', (event) => { if (plotOf(event.target)) PRESSED[0](); });
   window.addEventListener('scroll', () => draw(false), {passive: true});
   window.addEventListener('resize', () => draw(true));
   const dark = window.matchMedia('(prefers-color-scheme: dark)');

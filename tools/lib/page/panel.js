@@ -10,6 +10,7 @@ function openPanel(title, parts, before) {
   top.append(element('h2', title), pressable('close', closePanel, 'Close (Esc)'));
   panel.replaceChildren(top, ...parts);
   panel.hidden = false;
+  document.getElementById('tip').hidden = true;
   panel.scrollTop = 0;
   standBeside(true);
   panel.focus({preventScroll: true});
@@ -216,7 +217,10 @@ function evictedParts(pod) {
   const {around, signal, at} = pod.eviction;
   if (!around) return lackOf("the signal's samples and the pods' usage");
   const since = around.since === null ? '' : `; active since ${moment(around.since)}`;
-  const parts = [said(around.threshold + since), ...sampleParts(signal, around, at),
+  const before = around.before === null ? 'no eviction before' : `the eviction before was at ${moment(around.before)}`;
+  const parts = [said(around.threshold + since),
+    ...(around.pause ? [said(`evictionPauseSeconds ${around.pause}; ${before}`)] : []),
+    ...sampleParts(signal, around, at),
     said('Pods that were present and had not ended:'),
     tableOf(['place', 'pod', 'usage', 'request', 'above', 'priority', 'class', ''], around.rows,
       (place) => around.rows[place][7] !== '')];
@@ -261,7 +265,7 @@ function openKeys() {
     keys.split(', ').forEach((key) => cell.append(element('kbd', key), ' '));
     row.append(element('td', what));
   }
-  openPanel('Keys', [made, said('Drag over a lane or a chart to zoom, click twice for the whole span. A click on a pod '
-    + 'opens its story, one on a mark or a cross the why of the events there. A mark stands for all events within five '
-    + 'pixels. A click on the name of a signal makes its chart tall or low.')]);
+  openPanel('Keys', [made, said('Drag over a lane or a chart to zoom. A click on a pod opens its story, one on a mark '
+    + 'or a cross the why of the events there. A mark stands for all events within five pixels. A click on the name of a '
+    + 'signal makes its chart tall or low.')]);
 }
