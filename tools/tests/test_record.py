@@ -252,7 +252,7 @@ def test_interrupts():
         ("an interrupt while it asks", {"WAITS": "crictl"}, signal.SIGINT, True),
     ):
         recorder = Recorder("crash_loop", **settings)
-        process = recorder.start("--node", "worker-3", "--look", "1" if settings else "60")
+        process = recorder.start("--node", "worker-3", "--standard", "--look", "1" if settings else "60")
         first = process.stdout.readline().decode()
         if settings:
             wait_for(f"{recorder.run}/waits")

@@ -29,6 +29,7 @@ def extended(eviction_pause=EVICTION_PAUSE):
     return Format(3, True, eviction_pause)
 
 
+# what is written without a word; extended() where the program reads that
 DEFAULT = STANDARD
 
 
