@@ -11,7 +11,7 @@ from dataclasses import dataclass, field, replace
 from typing import Optional
 
 from .runtime import CREATED, EXITED, LOST_CODE, RUNNING, Change
-from .trace import entry_of, gone_line, pod_line, tick_line
+from .trace import entry_of, gone_line, pod_line, tick_line, unknown
 
 # a pod's sync that kills a container starts its successor; what the kubelet shows has nothing between the two
 SYNC_SECONDS = 1.0
@@ -191,7 +191,8 @@ class Timeline:
         self.usages.update(tick.usages)
         self.signals = self.signals if tick.signals is None else tick.signals
         if tick.is_wanted:
-            entries = [self.entry(pod, is_silent) for pod in self.present]
+            changed = set(tick.listings) if is_silent else None
+            entries = [self.entry(pod, changed) for pod in self.present]
             lines.append(tick_line(second, [entry for entry in entries if entry is not None], self.signals))
             self.results, self.usages = {}, {}
         if self.format.says_gone:
@@ -204,8 +205,11 @@ class Timeline:
             self.present.remove(pod)
             self.listings.pop(pod.uid, None)
 
-    def entry(self, pod, is_silent):
-        listings = {name: listing for name, listing in self.listings.get(pod.uid, {}).items() if listing is not None}
+    def entry(self, pod, changed):
+        """A pod's entry. Where the runtime is silent `changed` has the containers whose listing is of this tick; what
+        else is listed is as it was, and may have changed since."""
+        listings = {name: listing if changed is None or (pod.uid, name) in changed else unknown(listing)
+                    for name, listing in self.listings.get(pod.uid, {}).items() if listing is not None}
         of_pod = {(container, probe): result for (uid, container, probe), result in self.results.items()
                   if uid == pod.uid}
-        return entry_of(pod, listings, of_pod, self.usages.get(pod.uid), is_silent)
+        return entry_of(pod, listings, of_pod, self.usages.get(pod.uid))
