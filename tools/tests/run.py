@@ -12,10 +12,11 @@ import xml.dom.minidom
 
 sys.dont_write_bytecode = True
 import checks
+import test_plays
 import test_record
 from checks import HERE, REPLAY, TOOLS, TOP, expect, expect_kept, expect_refused, read, run
 
-MODULES = (test_record,)
+MODULES = (test_record, test_plays)
 RECORDINGS = f"{HERE}/recordings"
 COMMANDS = f"{HERE}/commands"
 
