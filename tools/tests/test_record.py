@@ -49,7 +49,7 @@ class Recorder:
     def start(self, *words):
         """Begins a run in a session of its own, as from a terminal, by the node's clock."""
         return subprocess.Popen([f"{TOOLS}/record", *words], env={**os.environ, **self.settings},
-                                stdout=subprocess.PIPE, stderr=subprocess.PIPE, start_new_session=True,
+                                stdout=subprocess.PIPE, stderr=subprocess.PIPE, start_new_session=True, bufsize=0,
                                 preexec_fn=lambda: signal.signal(signal.SIGINT, signal.SIG_DFL))
 
     def left(self):
@@ -237,9 +237,9 @@ def ended(process, name):
     return process.returncode, out.decode(), said.decode()
 
 
-def wait_for(path, words=""):
+def wait_for(path):
     for _ in range(500):
-        if os.path.exists(path) and words in read(path):
+        if os.path.exists(path):
             return
         time.sleep(0.01)
 
@@ -252,14 +252,15 @@ def test_interrupts():
         ("an interrupt while it asks", {"WAITS": "crictl"}, signal.SIGINT, True),
     ):
         recorder = Recorder("crash_loop", **settings)
-        process = recorder.start("--node", "worker-3", "--look", "1" if settings else "60")
-        wait_for(f"{recorder.run}/{'waits' if settings else 'asked'}", "" if settings else "configz")
-        time.sleep(0.5)
+        process = recorder.start("--node", "worker-3", "--standard", "--look", "1" if settings else "60")
+        first = process.stdout.readline().decode()
+        if settings:
+            wait_for(f"{recorder.run}/waits")
         (os.killpg if whole_group else os.kill)(process.pid, number)
         answer = ended(process, name)
         if answer:
             status, out, said = answer
-            lines = out.split("\n")
+            lines = (first + out).split("\n")
             kinds = [json.loads(line)["kind"] for line in lines[:-1]]
             expect(name, (status, said, kinds, lines[-1]), (0, "", ["node", "pod", "tick"], ""))
         expect(f"{name}: nothing is left behind", recorder.left(), [])

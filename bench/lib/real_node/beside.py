@@ -1,4 +1,4 @@
-"""What a kubelet showed beside what a report says: each start, end, code, kill and change of Ready, pod by pod."""
+"""What a kubelet showed beside what a report says: each start, exit, code, kill and change of Ready, pod by pod."""
 
 import calendar
 import json
@@ -38,28 +38,28 @@ def statuses_of(shown):
 
 
 def instances_of(status):
-    """The instances that a status has: (container, id, start, end, code)."""
+    """The instances that a status has: (container, id, start, exit, code)."""
     for container in (status.get("initContainerStatuses") or []) + (status.get("containerStatuses") or []):
         for state in (container.get("lastState") or {}, container.get("state") or {}):
-            name, ended, running = container["name"], state.get("terminated"), state.get("running")
-            if ended:
-                yield (name, ended.get("containerID"), seconds_of(ended.get("startedAt")),
-                       seconds_of(ended.get("finishedAt")), ended.get("exitCode"))
+            name, exited, running = container["name"], state.get("terminated"), state.get("running")
+            if exited:
+                yield (name, exited.get("containerID"), seconds_of(exited.get("startedAt")),
+                       seconds_of(exited.get("finishedAt")), exited.get("exitCode"))
             elif running:
                 yield name, container.get("containerID"), seconds_of(running["startedAt"]), None, None
 
 
 def instance_facts(statuses):
-    """Starts and ends with their codes, each instance numbered in the order in which it was shown."""
+    """Starts and exits with their codes, each instance numbered in the order in which it was shown."""
     found, numbers = {}, {}
     for key, uid, status in statuses:
-        for container, identity, start, end, code in instances_of(status):
+        for container, identity, start, exit_at, code in instances_of(status):
             of_container = numbers.setdefault((key, container), {})
             number = of_container.setdefault(identity, len(of_container))
             if start:
                 found[key, container, number, "started"] = Fact(key, container, f"started {number}", start)
-            if end:
-                found[key, container, number, "died"] = Fact(key, container, f"died {number} {code}", end)
+            if exit_at:
+                found[key, container, number, "died"] = Fact(key, container, f"died {number} {code}", exit_at)
     return list(found.values())
 
 
@@ -110,7 +110,7 @@ def facts_from(text):
 
 
 def report_facts(report):
-    """Starts, ends and kills, and when each pod is ready: when all its app containers are, and it has not ended."""
+    """Starts, exits and kills, and when each pod is ready: when all its app containers are, and it has not ended."""
     facts, ready = [], {}
     events = [line.split() for line in report.splitlines() if line.startswith("event ") and " node " not in line[:24]]
     apps = app_containers(report)

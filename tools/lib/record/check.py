@@ -6,7 +6,7 @@ from .pods import pods_of
 from .probes import counters_of
 from .runtime import inspected_of, instances_of
 from .sources import Failed
-from .summary import summary_of
+from .summary import Summary, summary_of
 
 PROXY = "it wants the permission to get nodes/proxy"
 PORT = "it is at the kubelet's port 10250, and wants the permission to get nodes/{what}"
@@ -36,16 +36,14 @@ def runtime_checks(sources):
 
 
 def node_checks(sources, node, trace_format):
-    summaries = []
+    summaries = [Summary({}, False, {}, {}, {})]
 
     def summarize():
         summaries.append(summary_of(sources.summary()))
-        return f"{len(summaries[0].pods)} pods, signals {' '.join(summaries[0].signals)}"
+        return f"{len(summaries[-1].pods)} pods, signals {' '.join(summaries[-1].signals)}"
 
     def configure():
-        if not summaries:
-            raise Failed("/configz: not asked, since the node line needs the capacities of /stats/summary too")
-        made = node_line_of(sources.configuration(), node, summaries[0], trace_format)
+        made = node_line_of(sources.configuration(), node, summaries[-1], trace_format)
         return f"evictionHard {shown(made.fields['evictionHard'])}"
 
     own = "; the read-only port 10255 does not serve it; --node-line FILE takes its place"
@@ -71,5 +69,5 @@ def check(sources, node, trace_format, show):
             show(f"works    {name}: {ask()}")
         except Failed as failed:
             works = False
-            show(f"missing  {failed}: {wanted}")
+            show(f"missing  {failed}; {wanted}")
     return works

@@ -102,17 +102,17 @@ class Observer:
         return pods
 
     def may_have_changed_pods(self, listed):
-        """Whether the runtime has a pod that is not known, or an instance has ended or gone: then pods may have come or
-        gone. Each is asked for once."""
+        """Whether the runtime has a pod that is not known, or an instance has exited or gone: then pods may have come
+        or gone. Each is asked for once."""
         uids = {each.uid for each in listed}
         has_stranger = bool(uids - self.known - self.strangers)
         self.strangers |= uids
         now = {each.id: each.state for each in listed}
-        has_ended = any(state in (CREATED, RUNNING) and now.get(identity) not in (CREATED, RUNNING)
+        has_exited = any(state in (CREATED, RUNNING) and now.get(identity) not in (CREATED, RUNNING)
                         for identity, state in self.states.items())
         has_gone = not set(self.states) <= set(now)
         self.states = now
-        return has_stranger or has_ended or has_gone
+        return has_stranger or has_exited or has_gone
 
     # --- instances ---
 

@@ -97,6 +97,7 @@ class Recording:
         self.output = output
         self.observer = Observer(sources, words.every, say)
         self.recorder = Recorder(words.format, words.every, say)
+        self.begun = None
 
     def begin(self):
         """The first look and the node line; they need every source."""
@@ -113,18 +114,21 @@ class Recording:
         with self.output.undisturbed():
             self.output.write([first])
             self.recorder.take(seen)
-        return moment
+            self.begun = moment
 
     def has_all(self):
         """Whether all ticks that are asked for are written or wanted."""
         return self.recorder.timeline.planned() >= self.output.ticks_left
 
-    def go_on(self, begun):
+    def is_over(self, moment):
+        """Whether the next look would come too late."""
+        duration = self.words.duration
+        return duration is not None and moment + self.words.look - self.begun > duration
+
+    def go_on(self):
         """Looks until the end."""
-        moment = begun
-        while not self.has_all() and not self.output.is_stopped:
-            if self.words.duration is not None and moment + self.words.look - begun > self.words.duration:
-                break
+        moment = self.begun
+        while not self.has_all() and not self.output.is_stopped and not self.is_over(moment):
             self.clock.wait(min(max(moment + self.words.look - self.clock.now(), 0), self.words.look))
             moment = self.clock.now()
             seen = self.observer.look(moment)
@@ -134,13 +138,12 @@ class Recording:
 
     def run(self):
         """Records to the end; what is seen is written also where an interrupt ends it."""
-        begun = None
         try:
-            begun = self.begin()
-            self.go_on(begun)
+            self.begin()
+            self.go_on()
         except Stopped:
             pass
-        if begun is not None:
+        if self.begun is not None:
             with self.output.undisturbed():
                 self.output.write_due(self.recorder.rest(self.clock.now()))
 

@@ -140,7 +140,7 @@ class Recorder:
         return min([seen.moment, *created])
 
     def miss(self, recorded, seen):
-        """A pod is no longer listed. It is gone once none of its containers is there to end."""
+        """A pod is no longer listed. It is gone once none of its containers is there to exit."""
         if not self.format.says_gone:
             self.say(f"{recorded.pod.key} is gone, and the replay goes on with it: cut the trace where pods go")
         elif seen.instances is not None:

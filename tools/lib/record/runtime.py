@@ -138,16 +138,16 @@ class Container:
         return self.newest.created, self.newest.attempt
 
     def vanished(self, newer, moment):
-        """The newest instance so far is no longer listed. Where it had not ended its code is lost; the successor's
+        """The newest instance so far is no longer listed. Where it had not exited its code is lost; the successor's
         listing says so, or that none is there."""
         if not self.is_listed or any(each.id == self.newest.id for each in newer):
             return []
         self.is_listed = False
-        has_ended = self.newest.state == EXITED
-        if not has_ended:
+        has_exited = self.newest.state == EXITED
+        if not has_exited:
             self.say(f"{self.place}: attempt {self.attempt} was removed before its exit code was known, which counts "
                      f"as {LOST_CODE}")
-        return [] if newer else [Change(moment, None, has_ended)]
+        return [] if newer else [Change(moment, None, has_exited)]
 
     def begin(self, instance):
         """Another instance is the newest. The formats want a greater attempt for each."""
@@ -168,12 +168,12 @@ class Container:
         if before.state == EXITED:
             return []
         if instance.state == CREATED:
-            # shown where nothing else was: until it runs, the one before it stands as it ended
+            # shown where nothing else was: until it runs, the one before it stands as it exited
             made = instance.created / 1e9 or moment
             return [] if was_replaced else [Change(made, Listing(self.attempt, CREATED), True)]
         if instance.state == UNKNOWN:
             self.newest = before
-        return self.unknown(instance, moment) + self.started(instance, moment) + self.ended(instance, moment)
+        return self.unknown(instance, moment) + self.started(instance, moment) + self.exited(instance, moment)
 
     def has_come_back(self, instance):
         return self.newest.state == EXITED and instance.state != EXITED
@@ -192,7 +192,7 @@ class Container:
         self.has_started = True
         return [Change(moment if instance.started is None else instance.started, Listing(self.attempt, RUNNING))]
 
-    def ended(self, instance, moment):
+    def exited(self, instance, moment):
         if instance.state != EXITED:
             return []
         return [Change(moment if instance.finished is None else instance.finished,

@@ -2,7 +2,7 @@
 
 A tick lists one instance of a container and one result of a probe, and the moments of ticks rise by whole seconds. So
 what happened stands at the second of its moment, with all else of that second, or at the first later one at which the
-formats read it as it was: a start before its end, a result before the end that it led to, a startup's result before
+formats read it as it was: a start before its exit, a result before the exit that it led to, a startup's result before
 the others, and each result of one probe at a second of its own.
 
 A success behind as many as its probe wants changes nothing, so it wants no tick: the next one has it, once."""
@@ -11,7 +11,7 @@ from dataclasses import dataclass, field, replace
 from typing import Optional
 
 from .runtime import CREATED, EXITED, LOST_CODE, RUNNING, Change
-from .trace import entry_of, gone_line, pod_line, tick_line
+from .trace import entry_of, gone_line, pod_line, tick_line, unknown
 
 # a pod's sync that kills a container starts its successor; what the kubelet shows has nothing between the two
 SYNC_SECONDS = 1.0
@@ -32,18 +32,18 @@ class Tick:
 
 
 def is_seamless(item, after):
-    """An end with the code 137 whose successor starts in the same sync: the start's tick says that end and that code
+    """An exit with the code 137 whose successor starts in the same sync: the start's tick says that exit and that code
     too, since it no longer lists the one before, and shows no moment at which the container was not ready."""
     return (isinstance(item, Change) and isinstance(after, Change) and item.listing is not None
             and after.listing is not None and item.listing.state == EXITED and item.listing.exit_code == LOST_CODE
             and after.listing.state == RUNNING and after.moment - item.moment < SYNC_SECONDS)
 
 
-def without_seamless_ends(items):
+def without_seamless_exits(items):
     return [item for item, after in zip(items, [*items[1:], None]) if not is_seamless(item, after)]
 
 
-def is_end(change):
+def is_exit(change):
     return change.listing is None or change.listing.state == EXITED
 
 
@@ -53,18 +53,18 @@ def is_start(change):
 
 def woven(changes, results):
     """Changes and results of one container between two looks, in the order in which they are written. Where an
-    instance ended between the looks a failure stands before that end, and where another one started any other result
+    instance exited between the looks a failure stands before that exit, and where another one started any other result
     stands behind that start."""
-    first_end = next((place for place, change in enumerate(changes) if is_end(change)), None)
-    if first_end is None:
+    first_exit = next((place for place, change in enumerate(changes) if is_exit(change)), None)
+    if first_exit is None:
         return [*changes, *results]
-    is_followed = any(map(is_start, changes[first_end:]))
+    is_followed = any(map(is_start, changes[first_exit:]))
     early = [result for result in results if result.result == "failure" or not is_followed]
-    # the last of them has a second of its own before that of the end
-    over = max((result.moment for result in early), default=0) - (changes[first_end].moment - 1)
+    # the last of them has a second of its own before that of the exit
+    over = max((result.moment for result in early), default=0) - (changes[first_exit].moment - 1)
     early = [replace(result, moment=result.moment - max(over, 0)) for result in early]
     late = [result for result in results if result.result != "failure" and is_followed]
-    return [*changes[:first_end], *early, *changes[first_end:], *late]
+    return [*changes[:first_exit], *early, *changes[first_exit:], *late]
 
 
 class Timeline:
@@ -119,7 +119,7 @@ class Timeline:
 
     def place_container(self, pod, container, changes, results, arrived):
         """What happened to one container of a pod that arrived at a second."""
-        for item in without_seamless_ends(woven(changes, results)):
+        for item in without_seamless_exits(woven(changes, results)):
             if isinstance(item, Change):
                 self.place_change(pod, container, item, arrived)
             else:
@@ -127,7 +127,7 @@ class Timeline:
 
     def place_change(self, pod, container, change, arrived):
         key = pod.uid, container
-        self.take_back_end(key, change)
+        self.take_back_exit(key, change)
         self.successes = {place: run for place, run in self.successes.items() if place[:2] != key}
         last = [self.last_placed.get((*key, kind), -1) + 1 for kind in ("listing", "startup", "liveness", "readiness")]
         second = self.second_of(change.moment, arrived, *last)
@@ -136,11 +136,11 @@ class Timeline:
         if change.listing is None or change.listing.state != CREATED:
             self.last_placed[(*key, "listing")] = second
 
-    def take_back_end(self, key, change):
-        """An end that is not written yet goes where its successor's start, known only now, says it too."""
+    def take_back_exit(self, key, change):
+        """An exit that is not written yet goes where its successor's start, known only now, says it too."""
         second = self.last_placed.get((*key, "listing"))
-        end = self.ticks[second].listings.get(key) if second in self.ticks else None
-        if end is not None and is_seamless(end, change):
+        before = self.ticks[second].listings.get(key) if second in self.ticks else None
+        if before is not None and is_seamless(before, change):
             del self.ticks[second].listings[key]
             self.last_placed[(*key, "listing")] = second - 1
 
@@ -191,7 +191,8 @@ class Timeline:
         self.usages.update(tick.usages)
         self.signals = self.signals if tick.signals is None else tick.signals
         if tick.is_wanted:
-            entries = [self.entry(pod, is_silent) for pod in self.present]
+            changed = set(tick.listings) if is_silent else None
+            entries = [self.entry(pod, changed) for pod in self.present]
             lines.append(tick_line(second, [entry for entry in entries if entry is not None], self.signals))
             self.results, self.usages = {}, {}
         if self.format.says_gone:
@@ -204,8 +205,11 @@ class Timeline:
             self.present.remove(pod)
             self.listings.pop(pod.uid, None)
 
-    def entry(self, pod, is_silent):
-        listings = {name: listing for name, listing in self.listings.get(pod.uid, {}).items() if listing is not None}
+    def entry(self, pod, changed):
+        """A pod's entry. Where the runtime is silent `changed` has the containers whose listing is of this tick; what
+        else is listed is as it was, and may have changed since."""
+        listings = {name: listing if changed is None or (pod.uid, name) in changed else unknown(listing)
+                    for name, listing in self.listings.get(pod.uid, {}).items() if listing is not None}
         of_pod = {(container, probe): result for (uid, container, probe), result in self.results.items()
                   if uid == pod.uid}
-        return entry_of(pod, listings, of_pod, self.usages.get(pod.uid), is_silent)
+        return entry_of(pod, listings, of_pod, self.usages.get(pod.uid))

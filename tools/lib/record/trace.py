@@ -1,6 +1,6 @@
 """The lines of a trace, in one of its formats."""
 
-from dataclasses import dataclass
+from dataclasses import dataclass, replace
 from typing import Optional
 
 from .formats import LONGEST_LINE, shown, without_nones
@@ -29,6 +29,7 @@ def extended(eviction_pause=EVICTION_PAUSE):
     return Format(3, True, eviction_pause)
 
 
+# what is written without a word; extended() where the program reads that
 DEFAULT = STANDARD
 
 
@@ -47,16 +48,21 @@ def gone_line(pod):
     return line_of({"kind": "gone", "pod": pod.key})
 
 
-def container_fields(name, listing, is_silent):
-    """What a tick lists of a container; where the runtime was silent, what might have changed is unknown."""
-    state = UNKNOWN if is_silent and listing.state in (CREATED, RUNNING) else listing.state
-    return without_nones({"name": name, "attempt": listing.attempt, "state": state, "exitCode": listing.exit_code})
+def unknown(listing):
+    """A listing of what might have changed since."""
+    return replace(listing, state=UNKNOWN) if listing.state in (CREATED, RUNNING) else listing
 
 
-def entry_of(pod, listings, results, usage, is_silent):
+def container_fields(name, listing):
+    """What a tick lists of a container."""
+    return without_nones({"name": name, "attempt": listing.attempt, "state": listing.state,
+                          "exitCode": listing.exit_code})
+
+
+def entry_of(pod, listings, results, usage):
     """One pod's entry of a tick: {container: listing}, {(container, probe): result} and its usage or None; None where
     there is nothing to say of it."""
-    containers = [container_fields(name, listing, is_silent) for name, listing in sorted(listings.items())]
+    containers = [container_fields(name, listing) for name, listing in sorted(listings.items())]
     probes = [{"container": name, "probe": probe, "result": results[name, probe]}
               for name in pod.containers() for probe in ("startup", "liveness", "readiness")
               if (name, probe) in results]

@@ -31,10 +31,10 @@ not serve it. --node-line FILE has a node line in its place.
 
 It asks                                  how often              for
   crictl ps -a -o json                   --look                 attempts and states
-  crictl inspect                         once a start, an end   startedAt, finishedAt, exitCode
+  crictl inspect                         once a start, an exit  startedAt, finishedAt, exitCode
   /metrics/probes                        --look                 results of probes, as what the counters grew by
   kubectl get pods -o json, or /pods     10 s, and where an     the pods, without their environment
-                                         instance ended or went
+                                         instance exited or went
   /stats/summary                         10 s, or --every       capacity, signals and usage, when the kubelet samples
   /configz                               once                   thresholds, graces and periods
 

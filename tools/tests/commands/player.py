@@ -29,7 +29,7 @@ class Play:
     """A script: its moments are seconds from `begin` on. It has
     clock       what the clock says at each look, where it is no good one, and `true` the moments of these looks
     pods        {key: {"from", "until", "spec", "evicted"}}; a key may have a list of them, one after the other
-    containers  {"id", "pod", "name", "attempt", "created", "started", "ended", "code", "removed", "lost"}: `lost` is
+    containers  {"id", "pod", "name", "attempt", "created", "started", "exited", "code", "removed", "lost"}: `lost` is
                 when `crictl inspect` no longer knows it while a list still has it
     probes      {"pod", "container", "probe", "result", "at": [moments]}
     samples     {moment: {signal: value}} of the node, as the kubelet takes them
@@ -72,7 +72,7 @@ class Play:
         return each.get("created", each.get("started", 0)) <= moment < each.get("removed", float("inf"))
 
     def state(self, each, moment):
-        if each.get("ended", float("inf")) <= moment:
+        if each.get("exited", float("inf")) <= moment:
             return "CONTAINER_EXITED"
         return "CONTAINER_RUNNING" if each.get("started", float("inf")) <= moment else "CONTAINER_CREATED"
 
@@ -95,9 +95,9 @@ class Play:
         if "lost" in each and moment >= each["lost"] or not self.is_there(each, moment):
             raise Failed(f"failed with status 1: container \"{identity}\": not found")
         state = self.state(each, moment)
-        started, ended = (None if name not in each else self.begin + each[name] for name in ("started", "ended"))
+        started, exited = (None if name not in each else self.begin + each[name] for name in ("started", "exited"))
         status = {"id": identity, "state": state, "startedAt": moment_text(started),
-                  "finishedAt": moment_text(ended if state == "CONTAINER_EXITED" else None)}
+                  "finishedAt": moment_text(exited if state == "CONTAINER_EXITED" else None)}
         if state == "CONTAINER_EXITED":
             status["exitCode"] = each["code"]
         return json.dumps({"status": status})
