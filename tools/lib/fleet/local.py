@@ -34,7 +34,7 @@ def answers(tasks, program, program_sum, processes):
 
 def answers_of_pool(tasks, program, program_sum, processes):
     """A few tasks wait beside those in hand, so that answers don't pile up."""
-    with concurrent.futures.ProcessPoolExecutor(processes, initializer=begin, initargs=(os.getpid(),)) as pool:
+    with concurrent.futures.ProcessPoolExecutor(processes, initializer=begin) as pool:
         pending = {}
         try:
             for path, known in tasks:
@@ -54,10 +54,10 @@ def some(pending):
         yield pending.pop(future), future.result()
 
 
-def begin(parent):
+def begin():
     """An interrupt is the parent's to take, and a worker does not outlive it."""
     signal.signal(signal.SIGINT, signal.SIG_IGN)
-    threading.Thread(target=end_with, args=(parent,), daemon=True).start()
+    threading.Thread(target=end_with, args=(os.getppid(),), daemon=True).start()
 
 
 def end_with(parent):
