@@ -2,6 +2,7 @@
 
 import glob
 import os
+import resource
 import shutil
 import signal
 import subprocess
@@ -9,34 +10,11 @@ import sys
 import tempfile
 import time
 
-TICKS = os.sysconf("SC_CLK_TCK")
 PAGE = os.sysconf("SC_PAGE_SIZE")
 
 
-class Cost:
-    """What some processes and all below them take: the greatest memory at one time, and seconds of processors."""
-
-    def __init__(self, pids):
-        self.pids, self.peak, self.seconds = set(pids), 0, {}
-        self.before = {pid: 0.0 for pid in pids}
-
-    def look(self):
-        found = processes()
-        below = set(self.pids)
-        grown = True
-        while grown:
-            more = {pid for pid, (parent, _, _) in found.items() if parent in below} - below
-            below |= more
-            grown = bool(more)
-        self.peak = max(self.peak, sum(found[pid][2] for pid in below if pid in found))
-        self.seconds.update({pid: found[pid][1] for pid in self.pids if pid in found})
-
-    def total(self):
-        return sum(self.seconds.values())
-
-
 def processes():
-    """Of each process its parent, its processor seconds with those of children that ended, its memory in bytes."""
+    """The parent of each process and its resident memory in bytes."""
     found = {}
     for path in glob.glob("/proc/[0-9]*/stat"):
         try:
@@ -45,20 +23,33 @@ def processes():
         except OSError:
             continue
         words = rest.rpartition(") ")[2].split()
-        found[int(pid)] = int(words[1]), sum(map(int, words[11:15])) / TICKS, int(words[21]) * PAGE
+        found[int(pid)] = int(words[1]), int(words[21]) * PAGE
     return found
 
 
+def memory(pids):
+    """The resident memory of some processes and all below them; what they share counts for each."""
+    found, below, more = processes(), set(), set(pids)
+    while more:
+        below |= more
+        more = {pid for pid, (parent, _) in found.items() if parent in below} - below
+    return sum(found[pid][1] for pid in below if pid in found)
+
+
+def processor_seconds():
+    """Those of all processes below this one that have ended and were waited for."""
+    used = resource.getrusage(resource.RUSAGE_CHILDREN)
+    return used.ru_utime + used.ru_stime
+
+
 class Run:
-    """A run of tools/fleet into a folder of its own."""
+    """A run of tools/fleet into a folder of its own; others are the processes beside it that work for it."""
 
     def __init__(self, name, words, folder, others=()):
-        self.name, self.folder, self.words = name, folder, words
+        self.name, self.folder, self.others, self.peak = name, folder, list(others), 0
         os.makedirs(folder, exist_ok=True)
-        self.began, self.others = time.monotonic(), list(others)
-        self.before = sum(processes()[pid][1] for pid in others)
+        self.used, self.began = processor_seconds(), time.monotonic()
         self.process = subprocess.Popen([*words, "--out", f"{folder}/fleet.db"], stdout=subprocess.DEVNULL)
-        self.cost = Cost([self.process.pid, *self.others])
 
     def done(self):
         return len(glob.glob(f"{self.folder}/fleet.db.done/*.rows.gz"))
@@ -66,15 +57,15 @@ class Run:
     def look_until(self, done=None):
         """Waits until so many traces are done, or until the end."""
         while self.process.poll() is None and (done is None or self.done() < done):
-            self.cost.look()
+            self.peak = max(self.peak, memory([self.process.pid, *self.others]))
             time.sleep(0.1)
+        self.seconds = time.monotonic() - self.began
 
     def told(self):
-        """What the run cost, once it has ended."""
-        self.look_until()
-        seconds = time.monotonic() - self.began
-        print(f"{self.name:34} status {self.process.returncode}  {seconds:6.1f} s  {self.cost.peak >> 20:5} MiB  "
-              f"{self.done()} answers", flush=True)
+        """The database; what the run cost is printed."""
+        used = processor_seconds() - self.used
+        print(f"{self.name:36} status {self.process.returncode}  {self.seconds:6.1f} s  {used:6.1f} processor s  "
+              f"{self.peak >> 20:4} MiB  {self.done()} answers", flush=True)
         with open(f"{self.folder}/fleet.db", "rb") as file:
             return file.read()
 
@@ -114,6 +105,7 @@ def local_runs(fleet, traces, python, work):
     for count in (1, 2, 4):
         run = Run(f"{count} processes", [python, fleet, "run", traces, "--processes", str(count)],
                   f"{work}/local-{count}")
+        run.look_until()
         yield run.told()
 
 
@@ -127,9 +119,10 @@ def dask_run(fleet, traces, python, work, count, ends=False):
         if ends:
             run.look_until(len(glob.glob(f"{traces}/*.trace")) // 4)
             cluster.end_worker()
-        return run.told()
+        run.look_until()
     finally:
         cluster.end()
+    return run.told()
 
 
 def stopped_run(fleet, traces, python, work):
@@ -139,9 +132,11 @@ def stopped_run(fleet, traces, python, work):
     first.look_until(len(glob.glob(f"{traces}/*.trace")) // 2)
     os.kill(first.process.pid, signal.SIGKILL)
     first.process.wait()
-    print(f"{'4 processes, ended in the middle':34} after {first.done()} answers, database there: "
-          f"{os.path.exists(f'{work}/stopped/fleet.db')}")
-    return Run("4 processes, begun again", words, f"{work}/stopped").told()
+    print(f"{'4 processes, ended in the middle':36} after {first.done()} answers; a database: "
+          f"{os.path.exists(f'{work}/stopped/fleet.db')}", flush=True)
+    again = Run("4 processes, begun again", words, f"{work}/stopped")
+    again.look_until()
+    return again.told()
 
 
 def measure(fleet, traces, python=sys.executable):

@@ -4,19 +4,11 @@ from __future__ import annotations
 
 import os
 
+import pyarrow
+import pyarrow.parquet
+
 import entry
 from fleet import database
-
-try:
-    import pyarrow
-    import pyarrow.parquet
-except ImportError:
-    pyarrow = None
-
-
-def check_there():
-    if pyarrow is None:
-        raise entry.Fault("pyarrow is missing, which --parquet wants (pip install pyarrow)", 127)
 
 
 def make_folder(folder):

@@ -2,10 +2,18 @@
 
 from __future__ import annotations
 
+import importlib
 from dataclasses import dataclass
 
+import entry
 import program as programs
-from fleet import database, kept, local, parquet, progress, scheduler
+from fleet import database, kept, local, progress
+
+# what these parts of it stand on is asked for with their words alone
+PARTS = {
+    "scheduler": "Dask distributed is missing, which --scheduler wants (apt-get install python3-distributed)",
+    "parquet": "pyarrow is missing, which --parquet wants (pip install pyarrow)",
+}
 
 
 @dataclass
@@ -23,35 +31,30 @@ class Order:
 
 def run(order):
     """Writes the database; gives how many traces failed. What can't be done is found before any work."""
-    check(order)
+    database.check_replaceable(order.database)
+    scheduler = part("scheduler") if order.scheduler else None
+    parquet = part("parquet") if order.parquet else None
+    if parquet:
+        parquet.make_folder(order.parquet)
     program_sum = programs.sum_of(order.program)
     store = kept.Kept(order.database + ".done", program_sum)
     tasks = [(path, None if order.anew else store.known(path)) for path in order.paths]
-    client = scheduler.connected(order.scheduler) if order.scheduler else None
-    try:
-        failed = taken(answers(order, tasks, program_sum, client), store, len(tasks))
-    finally:
-        if client:
-            client.close()
+    if scheduler:
+        with scheduler.connected(order.scheduler) as client:
+            failed = taken(scheduler.answers(tasks, order.program, program_sum, client), store, len(tasks))
+    else:
+        failed = taken(local.answers(tasks, order.program, program_sum, order.processes), store, len(tasks))
     database.write(order.database, order.paths, store, failed)
-    if order.parquet:
+    if parquet:
         parquet.write(order.database, order.parquet)
     return len(failed)
 
 
-def check(order):
-    database.check_replaceable(order.database)
-    if order.scheduler:
-        scheduler.check_there()
-    if order.parquet:
-        parquet.check_there()
-        parquet.make_folder(order.parquet)
-
-
-def answers(order, tasks, program_sum, client):
-    if client:
-        return scheduler.answers(tasks, order.program, program_sum, client)
-    return local.answers(tasks, order.program, program_sum, order.processes)
+def part(name):
+    try:
+        return importlib.import_module(f"fleet.{name}")
+    except ImportError:
+        raise entry.Fault(PARTS[name], 127) from None
 
 
 def taken(coming, store, total):

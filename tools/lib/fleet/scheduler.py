@@ -6,24 +6,15 @@ from __future__ import annotations
 import logging
 import os
 
+import cloudpickle
+import distributed
+
 import entry
 from fleet import on_worker
-
-try:
-    import cloudpickle
-    import distributed
-except ImportError:
-    distributed = None
 
 SECONDS_TO_CONNECT = 10
 SECONDS_TO_WAIT = 60
 LIB = os.path.dirname(os.path.dirname(os.path.realpath(__file__)))
-
-
-def check_there():
-    if distributed is None:
-        raise entry.Fault("Dask distributed is missing, which --scheduler wants (apt-get install python3-distributed)",
-                          127)
 
 
 def connected(address):
@@ -32,7 +23,7 @@ def connected(address):
     for name in ("distributed", "tornado", "asyncio"):
         logging.getLogger(name).setLevel(logging.CRITICAL + 1)
     try:
-        client = distributed.Client(address, timeout=SECONDS_TO_CONNECT, set_as_default=False)
+        client = distributed.Client(address, timeout=SECONDS_TO_CONNECT)
     except (OSError, ValueError, TypeError, RuntimeError) as fault:
         said = str(fault).split("\n")[0] or type(fault).__name__
         raise entry.Fault(f"the scheduler {address} does not answer: {said}") from None
