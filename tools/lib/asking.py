@@ -50,7 +50,12 @@ def why(trace, report, pods, show):
 
 
 def why_of(trace, report, pod, show):
+    return of_whole_ticks(lambda: why_text.whole_text(trace, report, pod, show))
+
+
+def of_whole_ticks(gather):
+    """What is gathered of a trace, whose ticks are looked at only then."""
     try:
-        return why_text.whole_text(trace, report, pod, show)
+        return gather()
     except (ValueError, TypeError, KeyError, AttributeError):
         raise entry.Fault("the trace has a tick line that is none (the program's check says which)") from None

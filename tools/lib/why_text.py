@@ -118,15 +118,19 @@ def evicted_lines(evicted, show):
 
 
 def threshold_lines(evicted, of_bytes, show):
+    since = "" if evicted.since is None or evicted.threshold is None else f"; active since {show(evicted.since)}"
+    return [threshold_words(evicted, of_bytes) + since]
+
+
+def threshold_words(evicted, of_bytes):
     threshold = evicted.threshold
     if threshold is None:
-        return [f"the trace sets no such threshold for {evicted.signal}"]
+        return f"the trace sets no such threshold for {evicted.signal}"
     amount = amount_text(threshold.limit, of_bytes)
     written = "" if threshold.text == amount else f" ({threshold.text})"
     cleared = amount_text(threshold.limit + threshold.reclaim, of_bytes)
-    since = "" if evicted.since is None else f"; active since {show(evicted.since)}"
-    return [f"{threshold.signal} {threshold.kind}: below {amount}{written}, cleared at {cleared}, "
-            f"grace {threshold.grace} s{since}"]
+    return (f"{threshold.signal} {threshold.kind}: below {amount}{written}, cleared at {cleared}, "
+            f"grace {threshold.grace} s")
 
 
 def sample_lines(evicted, of_bytes, show):

@@ -2,183 +2,25 @@
 here. With `--write` it writes what the tools answer in place of what was kept, to be looked at; other words choose the
 tests whose names have one of them."""
 
-import json
 import os
 import shutil
-import signal
 import subprocess
 import sys
 import tempfile
 import time
 import xml.dom.minidom
-from concurrent.futures import ThreadPoolExecutor
 
 sys.dont_write_bytecode = True
 import checks
 import test_json
+import test_page
+import test_record
 import test_why
-from checks import HERE, LONGEST, REPLAY, TOOLS, TOP, expect, expect_kept, expect_refused, read, run
+from checks import HERE, REPLAY, TOOLS, TOP, expect, expect_kept, expect_refused, read, run
 
-MODULES = (test_json, test_why)
+MODULES = (test_record, test_json, test_why, test_page)
 RECORDINGS = f"{HERE}/recordings"
 COMMANDS = f"{HERE}/commands"
-TEXTS = f"{TOP}/crates/case_runner/data/texts"
-
-
-# --- the recorder ---
-
-
-class Recorder:
-    """A run of tools/record over recorded answers."""
-
-    def __init__(self, name, tool=f"{TOOLS}/record", **settings):
-        self.tool = tool
-        self.folder = os.path.join(RECORDINGS, name)
-        self.run = tempfile.mkdtemp()
-        with open(f"{self.run}/turn", "w") as file:
-            file.write("1\n")
-        with open(f"{self.run}/curl", "w") as file:
-            file.write('header = "Authorization: Bearer none"\n')
-        stood_in = {"CURL": f"{self.run}/curl", "NODE": f"{self.folder}/node_line"}
-        self.words = [stood_in.get(word, word) for word in read(f"{self.folder}/words").split()]
-        self.settings = {"PATH": f"{COMMANDS}:{os.environ['PATH']}", "RECORDING": self.folder, "RUN": self.run,
-                         "TMPDIR": self.run, **settings}
-
-    def whole(self):
-        return run([self.tool, *self.words], **self.settings)
-
-    def start(self):
-        """Begins a run in a session of its own, as from a terminal."""
-        return subprocess.Popen([self.tool, *self.words], env={**os.environ, **self.settings},
-                                stdout=subprocess.PIPE, stderr=subprocess.PIPE, start_new_session=True,
-                                preexec_fn=lambda: signal.signal(signal.SIGINT, signal.SIG_DFL))
-
-    def left(self):
-        """The folders for its own use that a run has left."""
-        return [name for name in os.listdir(self.run) if name.startswith("tmp.")]
-
-    def clean(self):
-        shutil.rmtree(self.run)
-
-
-def test_recordings():
-    recorders = [Recorder(name) for name in sorted(os.listdir(RECORDINGS))]
-    with ThreadPoolExecutor(4) as threads:
-        answers = list(threads.map(Recorder.whole, recorders))
-    for recorder, (status, trace, said) in zip(recorders, answers):
-        name, folder = os.path.basename(recorder.folder), recorder.folder
-        expect_kept(f"{name}: the trace", trace, f"{folder}/trace")
-        expect_kept(f"{name}: what is said", f"{said}status {status}\n", f"{folder}/said")
-        if status == 0:
-            status, report, refused = run([REPLAY], trace)
-            expect(f"{name}: the program accepts the trace", (status, refused), (0, ""))
-            expect_kept(f"{name}: the report", report, f"{folder}/report")
-        expect(f"{name}: nothing is left behind", recorder.left(), [])
-        if name == "crash_loop":
-            check_asked(recorder)
-        recorder.clean()
-
-
-def check_asked(recorder):
-    """Exit codes are asked for once, and the configuration too."""
-    asked = read(f"{recorder.run}/asked").split("\n")
-    inspected = [line for line in asked if line.startswith("crictl inspect")]
-    expect("crash_loop: each exit's code is asked for once", (len(inspected), len(set(inspected))), (2, 2))
-    expect("crash_loop: the configuration is asked for once", len([line for line in asked if "configz" in line]), 1)
-    expect("crash_loop: the runtime is asked each time", asked.count("crictl ps -a -o json"), 5)
-
-
-def test_nothing_told():
-    """What a manifest tells its containers stays on the node."""
-    for name in ("crash_loop", "whole_node"):
-        trace, pods = read(f"{RECORDINGS}/{name}/trace"), read(f"{RECORDINGS}/{name}/1/pods.json")
-        expect(f"{name}: no environment in the trace", ("secret" in pods, "secret" in trace), (True, False))
-
-
-def test_limits():
-    """A 257th pod, a line above 1 MiB, and a trace above a limit, which is 64 MiB, are not written."""
-    folder = tempfile.mkdtemp()
-    shutil.copytree(f"{RECORDINGS}/static_pod", f"{folder}/many")
-    listed = json.loads(read(f"{folder}/many/1/pods.json"))
-    [pod] = listed["items"]
-    listed["items"] = [json.loads(json.dumps(pod).replace(pod["metadata"]["uid"], f"uid-{number}")
-                                  .replace("kube-proxy-worker-3", f"pod-{number:03}")) for number in range(257)]
-    with open(f"{folder}/many/1/pods.json", "w") as file:
-        json.dump(listed, file)
-    recorder = Recorder(f"{folder}/many")
-    status, trace, said = recorder.whole()
-    expect("257 pods", (status, trace.count('"kind":"pod"'), said),
-           (0, 256, "record: kube-system/pod-256 is left out: a trace has at most 256 pods\n"))
-    recorder.clean()
-
-    shutil.copytree(f"{RECORDINGS}/own_node_line", f"{folder}/long")
-    with open(f"{folder}/long/node_line", "w") as file:
-        json.dump({"name": "n1", "padding": " " * 1048576}, file)
-    recorder = Recorder(f"{folder}/long")
-    expect_refused("a line above 1 MiB", recorder.whole(), 1, "longer than the formats take")
-    recorder.clean()
-
-    os.symlink(f"{TOOLS}/lib", f"{folder}/lib")
-    with open(f"{folder}/record", "w") as file:
-        file.write(read(f"{TOOLS}/record").replace("most_bytes=67108864", "most_bytes=1700"))
-    os.chmod(f"{folder}/record", 0o755)
-    recorder = Recorder("crash_loop", f"{folder}/record")
-    status, trace, said = recorder.whole()
-    kinds = [json.loads(line)["kind"] for line in trace.split("\n")[:-1]]
-    expect("a trace above the limit", (status, kinds, said), (0, ["node", "pod", "tick", "tick"],
-           "record: the trace has reached 64 MiB, the most that one takes\n"))
-    recorder.clean()
-    shutil.rmtree(folder)
-
-
-def ended(process, name):
-    """What a process that was interrupted leaves: its status, whether its last line is whole, what it said."""
-    try:
-        out, said = process.communicate(timeout=10)
-    except subprocess.TimeoutExpired:
-        os.killpg(process.pid, signal.SIGKILL)
-        process.communicate()
-        return expect(name, "it went on", "it ended")
-    return process.returncode, out.decode(), said.decode()
-
-
-def wait_for(path):
-    for _ in range(500):
-        if os.path.exists(path):
-            return
-        time.sleep(0.01)
-
-
-def test_interrupts():
-    for name, settings, number, whole_group in (
-        ("an interrupt while it waits", {"WAITS": "sleep"}, signal.SIGINT, True),
-        ("an end while it waits", {"WAITS": "sleep"}, signal.SIGTERM, False),
-        ("an interrupt while it asks", {"WAITS": "crictl"}, signal.SIGINT, True),
-    ):
-        recorder = Recorder("crash_loop", **settings)
-        process = recorder.start()
-        wait_for(f"{recorder.run}/waits")
-        (os.killpg if whole_group else os.kill)(process.pid, number)
-        answer = ended(process, name)
-        if answer:
-            status, out, said = answer
-            lines = out.split("\n")
-            kinds = [json.loads(line)["kind"] for line in lines[:-1]]
-            expect(name, (status, said, kinds, lines[-1]), (0, "", ["node", "pod", "tick"], ""))
-        expect(f"{name}: nothing is left behind", recorder.left(), [])
-        recorder.clean()
-
-
-def test_closed_output():
-    """A reader that goes away ends the recorder, and its files go."""
-    recorder = Recorder("crash_loop")
-    process = recorder.start()
-    process.stdout.close()
-    said = process.stderr.read().decode()
-    process.stderr.close()
-    expect("standard output is closed", (process.wait(LONGEST), said), (1, "record: standard output takes no more\n"))
-    expect("standard output is closed: nothing is left behind", recorder.left(), [])
-    recorder.clean()
 
 
 # --- reports ---
@@ -317,6 +159,11 @@ def test_words():
         (["record", "--kubelet", "https://127.0.0.1:10250", "--curl", "/nonexistent"], "can't be read"),
         (["record", "--node-line", "/nonexistent"], "can't be read"),
         (["record", "--node-line", f"{HERE}/run.py"], "no JSON object"),
+        (["record", "--look", "0"], "--look takes"),
+        (["record", "--for", "an hour"], "--for takes"),
+        (["record", "--standard", "--extended"], "give one"),
+        (["record", "--standard", "--eviction-pause", "5"], "goes with --extended"),
+        (["record", "--extended", "--eviction-pause", "2147483648"], "--eviction-pause takes"),
         (["story"], "one pod, not 0"),
         (["story", "a/b", "c/d"], "one pod, not 2"),
         (["story", "--all"], "--all is no word"),
@@ -334,7 +181,7 @@ def test_words():
 
 
 def test_help():
-    for tool in ("record", "story", "timeline", "what-if", "json", "why"):
+    for tool in ("record", "story", "timeline", "what-if", "json", "why", "page"):
         status, help_text, said = run([f"{TOOLS}/{tool}", "--help"])
         found = [words in help_text for words in (f"usage: tools/{tool} ", "It needs", "leaves out", "Status 0")]
         expect(f"{tool} --help", (status, said, found), (0, "", [True] * 4))
@@ -347,15 +194,17 @@ def test_missing_commands():
     all_of = ["sh", "env", "python3", "jq", "diff", "crictl", "kubectl", "curl", "cat", "dirname", "readlink", "uname",
               "mktemp", "rm", "mv", "sed", "head", "date", "sleep", "cmp"]
     for tool, words, missing in (
-        ("record", [], "jq"), ("record", [], "crictl"), ("record", [], "kubectl"),
+        ("record", [], "python3"), ("record", [], "crictl"), ("record", [], "kubectl"),
         ("record", ["--kubelet", "https://127.0.0.1:10250"], "curl"),
         ("what-if", ["."], "jq"), ("what-if", ["."], "diff"),
         ("story", ["a/b"], "python3"), ("timeline", [], "python3"),
-        ("json", [], "python3"), ("why", ["a/b"], "python3"), ("test", [], "python3"), ("test", [], "jq"),
+        ("json", [], "python3"), ("why", ["a/b"], "python3"), ("page", [], "python3"),
+        ("test", [], "python3"), ("test", [], "jq"),
     ):
         folder = tempfile.mkdtemp()
         for name in all_of:
             path = shutil.which(name, path=f"{COMMANDS}:{os.environ['PATH']}")
+            path = sys.executable if name == "python3" else path
             if name != missing and path:
                 os.symlink(path, f"{folder}/{name}")
         expect_refused(f"{tool} {' '.join(words)} without {missing}",
@@ -363,18 +212,6 @@ def test_missing_commands():
         shutil.rmtree(folder)
     expect_refused("what-if without the program", run([f"{TOOLS}/what-if", "."], KUBELET_REPLAY="/nonexistent/program"),
                    127, "/nonexistent/program is missing")
-
-
-def test_texts():
-    """The recorder takes a text if the program does, by the tables of the program's own tests."""
-    for kind in ("quantity", "percentage", "duration", "name"):
-        rows = [line.split("\t") for line in read(f"{TEXTS}/{kind}.table").split("\n") if line and line[0] != "#"]
-        wanted = [verdict[0].isdigit() or verdict == "true" for _, verdict in rows]
-        status, out, _ = run(["jq", "-R", "-L", f"{TOOLS}/lib", f'include "formats"; {kind}_fault == null'],
-                             "\n".join(text for text, _ in rows) + "\n")
-        got = [line == "true" for line in out.split("\n")[:-1]]
-        different = [row[0] for row, a, b in zip(rows, got, wanted) if a != b]
-        expect(f"texts of a {kind}", (status, len(got), different), (0, len(rows), []))
 
 
 def main():

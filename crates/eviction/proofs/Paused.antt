@@ -1,9 +1,9 @@
 -- Between two evictions the pause passes.
 use Rattle.std.proofs.Common.{◌≡◌, ℕ, zero, suc, ◌-◌, ◌<◌, ◌≤◌, Bool, true, false, List, [], ◌∷◌, length, take}
-use Rattle.std.proofs.Common.{Option, Some, None, nat_lt, refl, sym, ap, subst, arith, inl, inr}
-use Rattle.std.specs.Prelude.{slice_get}
+use Rattle.std.proofs.Common.{Option, Some, None, nat_lt, refl, sym, ap, subst, ◌∙◌, arith, inl, inr}
+use Rattle.std.specs.Prelude.{slice_get, ◌||◌}
 use Rattle.std.specs.List.{list_any}
-use Rattle.std.proofs.lemmas.Bool.{cases_Bool, ltb-false}
+use Rattle.std.proofs.lemmas.Bool.{cases_Bool, ltb-false, le-ltb}
 use Rattle.std.proofs.lemmas.Option.{slice_get_within}
 use Rattle.histories.proofs.Lists.{given_at}
 use Rattle.manifest.specs.declared.pod.PodSpec.{PodSpec}
@@ -23,13 +23,29 @@ none_passes test [] t x none at = absurd (cc)
 none_passes test (y ∷ xs) zero x none at =
     let same : y ≡ x = cc in
     elim (cases_Bool (test y)) [
-      | inl yes ↦ absurd (let no : true ≡ false = rw yes at none in cc)
-      | inr no ↦ subst (λ z. test z ≡ false) same no
+      | inl passes ↦ absurd (let f : true ≡ false = rw passes at none in cc)
+      | inr fails ↦ subst (λ z. test z ≡ false) same fails
     ]
 none_passes test (y ∷ xs) (suc t) x none at = elim (cases_Bool (test y)) [
-  | inl yes ↦ absurd (let no : true ≡ false = rw yes at none in cc)
-  | inr no ↦ none_passes test xs t x (rw no at none) at
+  | inl passes ↦ absurd (let f : true ≡ false = rw passes at none in cc)
+  | inr fails ↦ none_passes test xs t x (rw fails at none) at
 ]
+
+-- where the node has no pause, evictions never pause
+never_recent : (config : NodeConfig) (at : ℕ) (es : List (Option Eviction)) → config.eviction_pause ≡ 0
+    → list_any (is_recent config at) es ≡ false
+never_recent config at [] none = refl
+never_recent config at (None ∷ es) none = never_recent config at es none
+never_recent config at (Some e ∷ es) none =
+    let passed : config.eviction_pause ≤ at - e.order.at = omega (arith, none) in
+    let older : is_recent config at (Some e) ≡ false = le-ltb (at - e.order.at) config.eviction_pause passed in
+    ap (λ (b : Bool). b || list_any (is_recent config at) es) older ∙ never_recent config at es none
+
+pub pauseless : (config : NodeConfig) (at : ℕ) (es : List (Option Eviction)) → config.eviction_pause ≤ 0
+    → nat_lt 0 config.eviction_pause ≡ is_paused config at es
+pauseless config at es le =
+    let none : config.eviction_pause ≡ 0 = omega (arith, le) in
+    le-ltb 0 config.eviction_pause le ∙ sym (never_recent config at es none)
 
 -- while evictions pause nobody is evicted
 evicts_unpaused : (config : NodeConfig) (pods : List PodSpec) (before : List TickObs) (tick : TickObs)

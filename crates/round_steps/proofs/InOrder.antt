@@ -1,11 +1,12 @@
 -- Lines that spell steps, one line more and one line faulty.
-use Rattle.std.proofs.Common.{◌≡◌, ◌≢◌, ◌<◌, ℕ, List, [], ◌∷◌, ◌++◌, length, filter}
+use Rattle.std.proofs.Common.{◌≡◌, ◌≢◌, ◌<◌, ℕ, List, [], ◌∷◌, ◌++◌, length, filter, Option, Some}
 use Rattle.std.proofs.Common.{◌∙◌, refl, ap, sym, subst, arith, append-nil}
+use Rattle.std.specs.Prelude.{Ok}
 use Rattle.std.proofs.lemmas.List.Elements.{filter-append}
 use Rattle.std.proofs.lemmas.List.{length_push}
 use Rattle.round_steps.specs.declared.step.Step.{Step}
 use Rattle.round_steps.specs.Spelling.{Spells}
-use Rattle.round_steps.specs.Steps.{counts, most_steps, SpellInOrder, AreSteps}
+use Rattle.round_steps.specs.Steps.{counts, most_steps, SpellInOrder, AreSteps, SaysBehind}
 
 -- an empty line more
 pub empty_more : (lines : List (List ℕ)) (steps : List Step) → AreSteps lines steps
@@ -44,3 +45,13 @@ step_more lines steps line step are some one lt =
       spelled = subst (λ (ls : List (List ℕ)). SpellInOrder ls (steps ++ step ∷ [])) (sym kept) spelled;
       few = omega (arith, length_push steps step);
     }
+
+-- the same by what the line says
+pub said_more : (lines : List (List ℕ)) (steps slice : List Step) (number : ℕ) (line : List ℕ) (said : Option Step)
+    (step : Step) → slice ≡ steps → SaysBehind (length slice) number line (Ok said) → said ≡ Some step
+    → AreSteps lines steps → AreSteps (lines ++ line ∷ []) (steps ++ step ∷ [])
+said_more lines steps slice number line said step same says is are =
+    let it : SaysBehind (length slice) number line (Ok (Some step)) =
+    subst (λ (s : Option Step). SaysBehind (length slice) number line (Ok s)) is says in
+    step_more lines steps line step are it.0 it.1
+    (subst (λ (ss : List Step). length ss < most_steps) same it.2)

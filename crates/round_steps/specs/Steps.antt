@@ -1,12 +1,10 @@
 -- The steps of a steps file, and its first faulty line. Lines are numbered from 1.
 use Rattle.std.specs.Prelude.{◌≡◌, ◌≢◌, ◌+◌, ◌<◌, ◌≤◌, ◌==◌, ℕ, Bool, List, [], ◌∷◌, ◌++◌, length, filter, true}
-use Rattle.std.specs.Prelude.{false}
+use Rattle.std.specs.Prelude.{false, ⊤, Option, Some, None, Result, Ok, Err}
 use Rattle.std.specs.List.{slice_split}
 use Rattle.round_steps.specs.declared.step.Step.{Step}
 use Rattle.round_steps.specs.declared.fault.StepsFault.{StepsFault}
 use Rattle.round_steps.specs.declared.fault.StepsFault.TheVariants.{TooLong, Line, OutOfMemory}
-use Rattle.round_steps.specs.declared.reading.Line as line
-use Rattle.round_steps.specs.declared.reading.Line.TheVariants as lines
 use Rattle.round_steps.specs.Spelling.{Spells}
 
 -- the most bytes of a text, 1 MiB
@@ -54,11 +52,16 @@ pub record IsFirstFault (lines : List (List ℕ)) (number : ℕ) : Type 0 where
   pub said : AreSteps before steps
   pub faulty : IsFaultyBehind (length steps) line
 
--- what a line is behind so many steps
-abbrev pub IsLineBehind : ℕ → List ℕ → line.Line → Type 0
-IsLineBehind count text lines.Empty = text ≡ []
-IsLineBehind count text (lines.Step step) = (text ≢ []) × Spells text step × (count < most_steps)
-IsLineBehind count text lines.Faulty = IsFaultyBehind count text
+-- what the line of the number says behind so many steps
+abbrev pub SaysBehind : ℕ → ℕ → List ℕ → Result (Option Step) StepsFault → Type 0
+SaysBehind count number line (Ok None) = line ≡ []
+SaysBehind count number line (Ok (Some step)) = (line ≢ []) × Spells line step × (count < most_steps)
+SaysBehind count number line (Err fault) = (fault ≡ Line number) × IsFaultyBehind count line
+
+-- whether a text is short enough to be looked at
+abbrev pub IsWithin : List ℕ → Result ⊤ StepsFault → Type 0
+IsWithin text (Ok v) = length text ≤ longest_text
+IsWithin text (Err fault) = (fault ≡ TooLong) × (longest_text < length text)
 
 -- why a line of the number is refused behind the steps: it is faulty, or memory lacks
 abbrev pub IsFaultOf : ℕ → List ℕ → List Step → StepsFault → Type 0

@@ -1,7 +1,7 @@
 //! Reading a steps file.
 
 ghost use Rattle.std.specs.Prelude.{◌<◌, ◌≤◌, ◌↔◌, ◌∷◌, ◌++◌, [], ℕ, List, IsTrue, IfOk, IfErr, OnOk, length};
-ghost use Rattle.round_steps.specs.Steps.{lines_of, longest_text, most_steps, AreSteps, IsLineBehind};
+ghost use Rattle.round_steps.specs.Steps.{lines_of, longest_text, most_steps, AreSteps, SaysBehind, IsWithin};
 ghost use Rattle.round_steps.specs.Steps.{IsFaultOf, IsFirstFaultBy, Refuses};
 
 use crate::fault::StepsFault;
@@ -17,16 +17,6 @@ const LONGEST_TEXT: usize = 1_048_576;
 /// The most steps of a text.
 const MOST_STEPS: usize = 100_000;
 
-/// What a line is.
-enum Line {
-    /// It says nothing.
-    Empty,
-    /// It spells a step for which there is room.
-    Step(Step),
-    /// It spells no step, or one too many.
-    Faulty,
-}
-
 /// Whether a step may follow so many.
 fn has_room(steps: usize) -> bool
     ensures { IsTrue result ↔ (steps < most_steps) }
@@ -34,16 +24,17 @@ fn has_room(steps: usize) -> bool
     steps < MOST_STEPS
 }
 
-/// What a line is behind so many steps.
-fn line_behind(steps: usize, line: &[u8]) -> Line
-    ensures { IsLineBehind steps line.now result }
+/// What the line of this number says behind so many steps: nothing, or a step for which there is room; or that it is
+/// faulty. It takes no memory.
+fn said_by(steps: usize, number: u64, line: &[u8]) -> Result<Option<Step>, StepsFault>
+    ensures { SaysBehind steps number line.now result }
 {
     if line.is_empty() {
-        return Line::Empty;
+        return Ok(None);
     }
     match step_of(line) {
-        Some(step) if has_room(steps) => Line::Step(step),
-        _ => Line::Faulty,
+        Some(step) if has_room(steps) => Ok(Some(step)),
+        _ => Err(StepsFault::Line(number)),
     }
 }
 
@@ -53,14 +44,10 @@ fn take_line(steps: &mut Sequence<Step>, number: u64, line: &[u8]) -> Result<(),
         → AreSteps (lines ++ line.now ∷ []) steps.new) }
     ensures err { IfErr result (IsFaultOf number line.now steps.old) }
 {
-    match line_behind(steps.as_slice().len(), line) {
-        Line::Empty => Ok(()),
-        Line::Step(step) => {
-            steps.push(step)?;
-            Ok(())
-        }
-        Line::Faulty => Err(StepsFault::Line(number)),
+    if let Some(step) = said_by(steps.as_slice().len(), number, line)? {
+        steps.push(step)?;
     }
+    Ok(())
 }
 
 fn read_lines(alloc: Global, text: &[u8]) -> Result<Sequence<Step>, StepsFault>
@@ -82,6 +69,16 @@ fn read_lines(alloc: Global, text: &[u8]) -> Result<Sequence<Step>, StepsFault>
     }
 }
 
+/// Whether the text is not too long. It takes no memory.
+fn within(text: &[u8]) -> Result<(), StepsFault>
+    ensures { IsWithin text.now result }
+{
+    if text.len() > LONGEST_TEXT {
+        return Err(StepsFault::TooLong);
+    }
+    Ok(())
+}
+
 /// The steps that a text says, line by line.
 ///
 /// `TooLong` comes where the text has more than 1 MiB, before any line is looked at, and `Line`
@@ -90,8 +87,6 @@ pub fn read_steps(alloc: Global, text: &[u8]) -> Result<Sequence<Step>, StepsFau
     ensures ok { IfOk result (λ steps. (length text.now ≤ longest_text) × AreSteps (lines_of text.now) steps) }
     ensures err { IfErr result (Refuses text.now) }
 {
-    if text.len() > LONGEST_TEXT {
-        return Err(StepsFault::TooLong);
-    }
+    within(text)?;
     read_lines(alloc, text)
 }

@@ -3,7 +3,7 @@ use Rattle.tick_parts.proofs.Updates.{one_updated, all_updated, room_at}
 use Rattle.tick_parts.proofs.alone.update_alone.Goals as goal
 
 pub update_at-requires-clause-room : goal.update_at-requires-clause-room
-update_at-requires-clause-room g c =
+update_at-requires-clause-room g c = λ lifetimes outlived.
     room_at c.args.pieces.items c.args.book c.loop-number.number c.loop-number.pieces.items c.loop-number.book
     c.requires c.loop-number.invariant.updated (omega (arith, c.loop-number-test.true, c.loop-number.invariant.end))
 

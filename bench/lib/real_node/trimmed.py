@@ -1,0 +1,93 @@
+"""Makes the answers that captured.py kept into a recording of tools/tests: trimmed.py FILE OUT.jsonl.gz. It has for
+each look those answers that differ from the look before, with the fields that tools/record reads and a few beside
+them."""
+
+import gzip
+import json
+import sys
+
+POD_FIELDS = ("name", "namespace", "uid", "annotations")
+SPEC_FIELDS = ("restartPolicy", "priority", "terminationGracePeriodSeconds", "nodeName", "volumes")
+CONTAINER_FIELDS = ("name", "image", "resources", "startupProbe", "livenessProbe", "readinessProbe")
+SAMPLES = ("time", "availableBytes", "capacityBytes", "usedBytes", "workingSetBytes", "inodes", "inodesFree",
+           "inodesUsed", "maxpid", "curproc", "process_count", "name")
+
+
+def picked(fields, names):
+    return {name: fields[name] for name in names if name in fields}
+
+
+def list_of(answer):
+    return {"containers": [{**picked(each, ("id", "metadata", "state", "createdAt")),
+                            "labels": picked(each["labels"], ("io.kubernetes.container.name", "io.kubernetes.pod.uid"))}
+                           for each in answer["containers"]]}
+
+
+def pods_of(answer):
+    return {"kind": answer["kind"], "items": [
+        {"metadata": picked(pod["metadata"], POD_FIELDS), "status": picked(pod.get("status", {}), ("phase", "reason")),
+         "spec": {**picked(pod["spec"], SPEC_FIELDS), **{
+             role: [picked(container, CONTAINER_FIELDS) for container in pod["spec"][role]]
+             for role in ("initContainers", "containers") if role in pod["spec"]}}} for pod in answer["items"] or []]}
+
+
+def sample_of(value):
+    """A summary without the samples that are not read."""
+    if isinstance(value, list):
+        return [sample_of(each) for each in value]
+    if not isinstance(value, dict):
+        return value
+    return {name: sample_of(each) if isinstance(each, (dict, list)) else each for name, each in value.items()
+            if (isinstance(each, (dict, list)) and name not in ("cpu", "network", "systemContainers", "swap"))
+            or name in SAMPLES or name == "uid"}
+
+
+def configuration_of(answer):
+    """A configuration without the machine's own places."""
+    return {"kubeletconfig": {name: value for name, value in answer["kubeletconfig"].items()
+                              if not (isinstance(value, str) and value.startswith("/"))}}
+
+
+def counts_of(text):
+    return "".join(f"{line}\n" for line in text.split("\n") if line.startswith("prober_probe_total{"))
+
+
+TRIMS = {"ps": lambda text: list_of(json.loads(text)), "pods": lambda text: pods_of(json.loads(text)),
+         "summary": lambda text: sample_of(json.loads(text)), "probes": counts_of,
+         "configz": lambda text: configuration_of(json.loads(text))}
+
+
+def kind_of(words):
+    if words[0] == "crictl":
+        return "ps" if words[1] == "ps" else words[-1]
+    return next(kind for kind in ("configz", "summary", "probes", "pods") if kind in " ".join(words))
+
+
+def looks_of(lines):
+    """The moment of each look with the answers asked in it: (moment, {kind: answer})."""
+    moment, answers = None, {}
+    for entry in map(json.loads, lines):
+        if "now" not in entry:
+            kind = kind_of(entry["words"])
+            trim = TRIMS.get(kind, json.loads)
+            answers[kind] = trim(entry["answer"]) if "answer" in entry else {"failed": entry["failed"]}
+        else:
+            if answers:
+                yield moment, answers
+            moment, answers = entry["now"], {}
+    if answers:
+        yield moment, answers
+
+
+def main(path, out):
+    last = {}
+    with open(path, encoding="utf-8") as file, gzip.GzipFile(out, "wb", mtime=0) as packed:
+        for moment, answers in looks_of(file):
+            changed = {kind: answer for kind, answer in answers.items() if last.get(kind) != answer}
+            last.update(changed)
+            entry = {"at": moment, "answers": changed}
+            packed.write(json.dumps(entry, separators=(",", ":")).encode() + b"\n")
+
+
+if __name__ == "__main__":
+    sys.exit(main(*sys.argv[1:]))

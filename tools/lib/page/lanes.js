@@ -1,0 +1,227 @@
+// The rows of pods: a heading, a strip for Ready, a lane for each container. Only the rows in sight are there.
+const HEAD = 27, STRIP = 9, LANE = 19, BAR = 11, BELOW = 10;
+const WEIGHTS = {running: 0, waiting: 1, ended: 2, failed: 3, ready: 0, unready: 1};
+const MARKED = {kill: 3, restart: 1, backoff: 2};
+const rows = {pods: [], tops: [], height: 0, made: new Map(), chosen: -1};
+
+function heightOf(pod) {
+  return HEAD + STRIP + 6 + LANE * pod.containers.length + BELOW;
+}
+
+function placeRows(pods) {
+  rows.pods = pods;
+  rows.tops = [];
+  rows.height = 0;
+  for (const pod of pods) {
+    rows.tops.push(rows.height);
+    rows.height += heightOf(pod);
+  }
+  document.getElementById('pods').style.height = `${rows.height}px`;
+  for (const row of rows.made.values()) row.holder.remove();
+  rows.made.clear();
+  rows.chosen = Math.min(rows.chosen, pods.length - 1);
+}
+
+// Makes the rows that are in sight, or nearly, takes the others away, and draws those that are new or all.
+function showRows(all) {
+  const section = document.getElementById('pods');
+  const top = section.getBoundingClientRect().top;
+  const first = Math.max(0, placeBefore(rows.tops.length, (place) => rows.tops[place], -top - 200));
+  const last = placeBefore(rows.tops.length, (place) => rows.tops[place], window.innerHeight - top + 200);
+  for (const [place, row] of rows.made) {
+    if (place < first || place > last) {
+      row.holder.remove();
+      rows.made.delete(place);
+    } else if (all) drawRow(row);
+  }
+  for (let place = first; place <= last; place++) {
+    if (rows.made.has(place)) continue;
+    const row = makeRow(rows.pods[place], place);
+    section.append(row.holder);
+    rows.made.set(place, row);
+    drawRow(row);
+  }
+  for (const [place, row] of rows.made) row.holder.classList.toggle('chosen', place === rows.chosen);
+}
+
+function element(kind, words, className) {
+  const made = document.createElement(kind);
+  if (words !== undefined) made.textContent = words;
+  if (className) made.className = className;
+  return made;
+}
+
+function makeRow(pod, place) {
+  const [holder, head] = [element('div', undefined, 'pod'), element('div', undefined, 'head')];
+  const canvas = element('canvas', undefined, 'plot');
+  holder.style.top = `${rows.tops[place]}px`;
+  const name = element('button', pod.key, 'name');
+  name.title = pod.key;
+  name.addEventListener('click', () => { choose(place); openStory(pod); });
+  head.append(name, metaOf(pod));
+  holder.append(head, canvas);
+  return {holder, canvas, pod, place};
+}
+
+function metaOf(pod) {
+  const meta = element('span', undefined, 'meta');
+  const bad = [];
+  if (pod.eviction) bad.push(`evicted ${moment(pod.eviction.at)}`);
+  else if (pod.phase === 'Failed') bad.push('failed');
+  if (pod.restarts) bad.push(`${pod.restarts} restart${pod.restarts > 1 ? 's' : ''}`);
+  const rest = [pod.eviction ? '' : pod.phase, pod.qos, pod.unready ? `not ready ${seconds(pod.unready)}` : ''];
+  meta.append(element('span', bad.join(' · '), 'bad'), `${bad.length ? ' · ' : ''}${rest.filter(Boolean).join(' · ')}`);
+  meta.title = meta.textContent;
+  return meta;
+}
+
+function endOf(pod) {
+  if (pod.end) return pod.end[0];
+  return typeof pod.gone === 'number' ? pod.gone : data.last;
+}
+
+function readySpans(pod) {
+  const end = endOf(pod);
+  return pod.ready.map(([since, value], place) => {
+    const next = place + 1 < pod.ready.length ? pod.ready[place + 1][0] : end;
+    return [since, Math.min(next, Math.max(end, since)), value ? 'ready' : 'unready'];
+  }).filter((span) => span[1] > span[0] || span[0] < end);
+}
+
+function stateSpans(pod, container) {
+  const end = endOf(pod);
+  return container.spans.map(([since, state, , code], place) => {
+    const until = place + 1 < container.spans.length ? container.spans[place + 1][0] : end;
+    const colour = state === 0 ? 'waiting' : state === 1 ? 'running' : code === 0 ? 'ended' : 'failed';
+    return [since, Math.max(since, Math.min(until, end)), colour];
+  });
+}
+
+// Spans in view alone, by a search for the first: spans come in order and touch each other.
+function inView(spans) {
+  const from = Math.max(0, placeBefore(spans.length, (place) => spans[place][0], view.from));
+  const to = placeBefore(spans.length, (place) => spans[place][0], view.to);
+  return spans.slice(from, to + 1);
+}
+
+function spansOf(pod) {
+  if (!pod.drawn) {
+    const marks = pod.list.filter((event) => event.word in MARKED);
+    pod.drawn = {ready: readySpans(pod), lanes: pod.containers.map((container) => stateSpans(pod, container)),
+      marks: pod.containers.map((_, place) => marks.filter((event) => event.place === place))};
+  }
+  return pod.drawn;
+}
+
+function laneTop(place) {
+  return STRIP + 6 + place * LANE;
+}
+
+function drawRow(row) {
+  const {pod} = row;
+  const area = fit(row.canvas, heightOf(pod) - HEAD - 2);
+  const drawn = spansOf(pod);
+  drawGrid(area);
+  drawName(area, 'Ready', 5);
+  drawBars(area, inView(drawn.ready), 1, STRIP - 2, WEIGHTS);
+  pod.containers.forEach((container, place) => {
+    drawName(area, container.name, laneTop(place) + 6);
+    drawBars(area, inView(drawn.lanes[place]), laneTop(place), BAR, WEIGHTS);
+    drawMarks(area, drawn.marks[place], laneTop(place));
+  });
+  if (pod.end) drawEnd(area, pod);
+}
+
+function drawEnd(area, pod) {
+  const x = xOf(area, pod.end[0]);
+  if (x < area.left || x > area.right + 1) return;
+  const bottom = laneTop(pod.containers.length) - LANE + BAR + 3;
+  area.pen.strokeStyle = colours.mark;
+  area.pen.lineWidth = 1.6;
+  area.pen.beginPath();
+  area.pen.moveTo(x, 0);
+  area.pen.lineTo(x, bottom);
+  area.pen.stroke();
+  if (pod.eviction) drawCross(area.pen, x, bottom / 2, 4.5, colours.failed);
+}
+
+// One mark for each five pixels, the weightiest of those that fall there.
+function drawMarks(area, marks, top) {
+  const first = placeBefore(marks.length, (place) => marks[place].at, view.from - 1) + 1;
+  let kept = null;
+  for (let place = first; place < marks.length && marks[place].at <= view.to; place++) {
+    const x = xOf(area, marks[place].at);
+    if (kept && x - kept.x < 5) {
+      if (MARKED[marks[place].word] > MARKED[kept.word]) kept.word = marks[place].word;
+      continue;
+    }
+    if (kept) drawMark(area.pen, kept, top);
+    kept = {x, word: marks[place].word};
+  }
+  if (kept) drawMark(area.pen, kept, top);
+}
+
+function drawMark(pen, mark, top) {
+  const [x, y] = [mark.x, top + BAR / 2];
+  pen.lineWidth = 1.5;
+  pen.beginPath();
+  if (mark.word === 'kill') {
+    pen.moveTo(x, y + 7);
+    pen.lineTo(x - 5, y - 6);
+    pen.lineTo(x + 5, y - 6);
+    pen.closePath();
+    pen.fillStyle = colours.kill;
+  } else if (mark.word === 'restart') {
+    pen.arc(x, y, 3.6, 0, 7);
+    pen.fillStyle = colours.panel;
+  } else {
+    pen.rect(x - 3, y - 3, 6, 6);
+    pen.fillStyle = colours.waiting;
+  }
+  pen.strokeStyle = mark.word === 'kill' ? colours.panel : colours.mark;
+  pen.fill();
+  pen.stroke();
+}
+
+// The container's place at a height of a row's canvas, -1 for the strip.
+function laneAt(pod, y) {
+  return y < STRIP + 3 ? -1 : Math.min(pod.containers.length - 1, Math.floor((y - STRIP - 3) / LANE));
+}
+
+// What a click or a pointer at a place of a row means: events within some pixels, of that lane before all others.
+function eventsAt(row, area, x, y) {
+  const reach = 6 * (view.to - view.from) / (area.right - area.left);
+  const at = momentAt(area, x);
+  const near = row.pod.list.filter((event) => Math.abs(event.at - at) <= reach);
+  const lane = laneAt(row.pod, y);
+  const own = near.filter((event) => lane < 0 ? ['ready', 'unready', 'phase', 'evicted'].includes(event.word)
+    : event.place === lane || event.word === 'evicted');
+  return own.length ? own : near;
+}
+
+function rowTip(row, area, x, y) {
+  const {pod} = row;
+  const at = momentAt(area, x);
+  const lane = laneAt(pod, y);
+  const lines = [moment(Math.round(at))];
+  if (pod.first === null || at < pod.first) return `${lines[0]}\n${pod.key} is not there yet`;
+  if (at > endOf(pod)) return `${lines[0]}\n${pod.key} ${pod.end ? `has ended as ${pod.end[1]}` : 'is gone'}`;
+  if (lane < 0) {
+    const found = spansOf(pod).ready.find((span) => span[0] <= at && at <= span[1]);
+    lines.push(found ? (found[2] === 'ready' ? 'ready' : 'not ready') : 'Ready is not known here');
+  } else {
+    const {spans, name} = pod.containers[lane];
+    const place = placeBefore(spans.length, (one) => spans[one][0], at);
+    if (place >= 0) lines.push(`${name}: ${stateWords(spans[place])}`);
+  }
+  const events = eventsAt(row, area, x, y);
+  for (const event of events.slice(0, 3)) lines.push(`${moment(event.at)} ${told(event)}`);
+  if (events.length > 3) lines.push(`and ${events.length - 3} more events`);
+  return lines.join('\n');
+}
+
+function stateWords(span) {
+  if (span[1] === 0) return 'waiting';
+  if (span[1] === 1) return `running, attempt ${span[2]}`;
+  return `terminated with code ${span[3]}, attempt ${span[2]}`;
+}

@@ -1,0 +1,75 @@
+"""What --check says: whether each source works, and what is to be done about one that does not."""
+
+from .formats import shown
+from .node import node_line_of
+from .pods import pods_of
+from .probes import counters_of
+from .runtime import inspected_of, instances_of
+from .sources import Failed
+from .summary import summary_of
+
+PROXY = "it wants the permission to get nodes/proxy"
+PORT = "it is at the kubelet's port 10250, and wants the permission to get nodes/{what}"
+
+
+def wish(sources, what):
+    """What a source at the kubelet wants."""
+    return PROXY if sources.kubelet is None else PORT.replace("{what}", what)
+
+
+def runtime_checks(sources):
+    wanted = "it wants root, on the node, and the runtime's socket (crictl --runtime-endpoint, /etc/crictl.yaml)"
+    listed = []
+
+    def list_them():
+        listed.extend(instances_of(sources.listed()))
+        return f"{len(listed)} containers"
+
+    def inspect_one():
+        if not listed:
+            return "not asked: there is no container"
+        newest = listed[-1]
+        started = inspected_of(sources.inspected(newest.id), newest).started
+        return f"{newest.container} " + ("has not started" if started is None else f"started at {int(started)}")
+
+    return [("crictl ps", list_them, wanted), ("crictl inspect", inspect_one, wanted)]
+
+
+def node_checks(sources, node, trace_format):
+    summaries = []
+
+    def summarize():
+        summaries.append(summary_of(sources.summary()))
+        return f"{len(summaries[0].pods)} pods, signals {' '.join(summaries[0].signals)}"
+
+    def configure():
+        if not summaries:
+            raise Failed("/configz: not asked, since the node line needs the capacities of /stats/summary too")
+        made = node_line_of(sources.configuration(), node, summaries[0], trace_format)
+        return f"evictionHard {shown(made.fields['evictionHard'])}"
+
+    own = "; the read-only port 10255 does not serve it; --node-line FILE takes its place"
+    return [("/stats/summary", summarize, wish(sources, "stats")),
+            ("/configz", configure, wish(sources, "proxy") + own)]
+
+
+def checks_of(sources, node, trace_format):
+    """Each source with how it is asked and what it wants: (name, ask, wish)."""
+    pods = wish(sources, "proxy") if sources.kubelet else "it wants the permission to list pods of all namespaces"
+    return [*runtime_checks(sources),
+            (sources.pods_name(), lambda: f"{len(pods_of(sources.pods(), sources.pods_name()))} pods", pods),
+            ("/metrics/probes", lambda: f"{len(counters_of(sources.probes()))} probes with results",
+             wish(sources, "metrics")),
+            *node_checks(sources, node, trace_format)]
+
+
+def check(sources, node, trace_format, show):
+    """Asks each source once and shows a line of each; whether all work."""
+    works = True
+    for name, ask, wanted in checks_of(sources, node, trace_format):
+        try:
+            show(f"works    {name}: {ask()}")
+        except Failed as failed:
+            works = False
+            show(f"missing  {failed}: {wanted}")
+    return works

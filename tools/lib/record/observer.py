@@ -1,0 +1,159 @@
+"""Looks at a node: asks each source as often as it changes, and goes on without one that fails."""
+
+from dataclasses import replace
+
+from .probes import counters_of
+from .recorder import Seen
+from .pods import pods_of
+from .runtime import CREATED, EXITED, RUNNING, inspected_of, instances_of
+from .sources import Failed
+from .summary import summary_of
+
+# the kubelet samples its node and its pods about as often
+SUMMARY_SECONDS = 10
+PODS_SECONDS = 10
+# a list is asked for anew so often where a container has gone between it and `crictl inspect`
+MOST_LISTS = 3
+RUNTIME, PROBES, PODS, SUMMARY = "crictl ps", "/metrics/probes", "the list of pods", "/stats/summary"
+MEANWHILE = {
+    RUNTIME: "ticks wait for it up to 30 s, and then list containers as unknown",
+    PROBES: "ticks wait for it up to 30 s; its results are written once it answers",
+    PODS: "the pods stand as they were",
+    SUMMARY: "signals stand as last sampled, up to 60 s",
+}
+
+
+class Observer:
+    """Asks the sources of a node, the summary every some seconds; `say` takes what is said of those that fail."""
+
+    def __init__(self, sources, summary_seconds, say):
+        self.sources = sources
+        self.say = say
+        self.seconds = {PODS: PODS_SECONDS, SUMMARY: max(SUMMARY_SECONDS, summary_seconds)}
+        self.asked_at = {}
+        self.silent = {}
+        self.details = {}
+        self.states = {}
+        self.known = set()
+        self.strangers = set()
+
+    def first_look(self, moment):
+        """A look that needs all sources; Failed where one of them gives no answer."""
+        counters = counters_of(self.sources.probes())
+        listed = instances_of(self.sources.listed())
+        pods = self.take_pods(moment)
+        summary = self.take_summary(moment)
+        self.may_have_changed_pods(listed)
+        self.pass_over(listed)
+        return Seen(moment, self.resolved(listed, moment), counters, pods, summary)
+
+    def pass_over(self, listed):
+        """Of the pods that are there at the first look no start is asked for, and of instances that were replaced no
+        code: what a tick shows of them is the newest alone."""
+        newest = {(each.uid, each.container): each for each in listed}
+        for each in filter(lambda each: each.uid in self.known, listed):
+            if newest[each.uid, each.container].id != each.id:
+                self.details[each.id] = replace(each, exit_code=0)
+            elif each.state == RUNNING:
+                self.details[each.id] = each
+
+    def look(self, moment):
+        seen = Seen(moment)
+        # the probes come first: a result that is counted was found on an instance that the list then shows
+        seen.counters = self.attempt(PROBES, moment, lambda: counters_of(self.sources.probes()))
+        listed = self.attempt(RUNTIME, moment, lambda: instances_of(self.sources.listed()), is_whole=False)
+        if self.is_due(PODS, moment) or (listed is not None and self.may_have_changed_pods(listed)):
+            seen.pods = self.attempt(PODS, moment, lambda: self.take_pods(moment))
+        if listed is not None:
+            seen.instances = self.attempt(RUNTIME, moment, lambda: self.resolved(listed, moment))
+        if self.is_due(SUMMARY, moment):
+            seen.summary = self.attempt(SUMMARY, moment, lambda: self.take_summary(moment))
+        seen.is_summary_silent = SUMMARY in self.silent
+        return seen
+
+    def attempt(self, source, moment, ask, is_whole=True):
+        """An answer, or None; that a source is silent is said once, and so is that its whole answer is there again."""
+        try:
+            answer = ask()
+        except Failed as failed:
+            if source not in self.silent:
+                self.silent[source] = moment
+                self.say(f"{int(moment)}: {failed}; {MEANWHILE[source]}", (source, moment))
+            return None
+        since = self.silent.pop(source, None) if is_whole else None
+        if since is not None:
+            self.say(f"{int(moment)}: {source} answers again, after {round(moment - since)} s",
+                     (source, moment, "again"))
+        return answer
+
+    def is_due(self, source, moment):
+        """Whether so many whole seconds have passed since a source was asked, also where it gave no answer."""
+        asked = self.asked_at.get(source)
+        return asked is None or int(moment) < int(asked) or int(moment) - int(asked) >= self.seconds[source]
+
+    def take_summary(self, moment):
+        self.asked_at[SUMMARY] = moment
+        return summary_of(self.sources.summary())
+
+    def take_pods(self, moment):
+        self.asked_at[PODS] = moment
+        pods = pods_of(self.sources.pods(), self.sources.pods_name())
+        self.known = {pod.uid for pod in pods}
+        return pods
+
+    def may_have_changed_pods(self, listed):
+        """Whether the runtime has a pod that is not known, or an instance has ended or gone: then pods may have come or
+        gone. Each is asked for once."""
+        uids = {each.uid for each in listed}
+        has_stranger = bool(uids - self.known - self.strangers)
+        self.strangers |= uids
+        now = {each.id: each.state for each in listed}
+        has_ended = any(state in (CREATED, RUNNING) and now.get(identity) not in (CREATED, RUNNING)
+                        for identity, state in self.states.items())
+        has_gone = not set(self.states) <= set(now)
+        self.states = now
+        return has_stranger or has_ended or has_gone
+
+    # --- instances ---
+
+    def resolved(self, listed, moment):
+        """The instances by their pods' uids, with the moments and codes that `crictl inspect` says. One that it does
+        not know is asked for by a fresh list, in which it is no more."""
+        for _ in range(MOST_LISTS):
+            failures = [failed for failed in map(self.inspect, filter(self.wants_inspection, listed)) if failed]
+            if not failures:
+                break
+            listed = instances_of(self.sources.listed())
+        else:
+            self.say(f"{int(moment)}: {failures[0]}; it is asked again at each look", ("inspect", str(failures[0])))
+        there = {each.id for each in listed}
+        self.details = {identity: detail for identity, detail in self.details.items() if identity in there}
+        by_uid = {}
+        for instance in listed:
+            by_uid.setdefault(instance.uid, []).append(self.detailed(instance))
+        return by_uid
+
+    def wants_inspection(self, instance):
+        if instance.uid not in self.known:
+            return False
+        detail = self.details.get(instance.id)
+        if instance.state == EXITED:
+            return detail is None or detail.exit_code is None
+        return instance.state == RUNNING and detail is None
+
+    def inspect(self, instance):
+        """Keeps what the runtime says of an instance; else why not."""
+        try:
+            detail = inspected_of(self.sources.inspected(instance.id), instance)
+        except Failed as failed:
+            return failed
+        self.details[instance.id] = detail
+        return None
+
+    def detailed(self, instance):
+        detail = self.details.get(instance.id)
+        if detail is None:
+            return instance
+        if instance.state == EXITED:
+            return replace(detail, state=EXITED)
+        return replace(instance, started=detail.started)

@@ -1,0 +1,256 @@
+"""The core of the recorder: from what was seen at each look to the lines of a trace. It asks nothing itself."""
+
+from dataclasses import dataclass, field
+from typing import Optional
+
+from .formats import MOST_PODS
+from .probes import PROBES, grown, results_of
+from .runtime import EXITED, RUNNING, Container
+from .timeline import Timeline
+from .trace import line_of
+
+# how long what was seen waits for a source that is silent, since with it the moments can be told
+PATIENCE = 30
+# how long signals stand as last sampled where the summary is silent
+SIGNAL_AGE = 60
+# a tick is written once the second after it has passed, so that what is seen only then still finds its place
+HELD_SECONDS = 1
+ANEW = "was made anew under its name, and is left out from here on"
+
+
+@dataclass
+class Seen:
+    """What one look saw, at a moment in seconds since 1970. None is what was not asked, or gave no answer: `instances`
+    has the instances of each pod's uid, `counters` the counts of probes, `pods` those that are there."""
+    moment: float
+    instances: Optional[dict] = None
+    counters: Optional[dict] = None
+    pods: Optional[list] = None
+    summary: object = None
+    is_summary_silent: bool = False
+
+
+@dataclass
+class Recorded:
+    """A pod of the trace, the second of its line, what was seen of its containers, and what is not planned yet."""
+    pod: object
+    arrived: int
+    containers: dict = field(default_factory=dict)
+    changes: dict = field(default_factory=dict)
+    usage_times: Optional[tuple] = None
+    is_followed: bool = True
+
+
+class Recorder:
+    """Makes the lines of a trace in a format, with a tick at least every some seconds; `say` takes what is said."""
+
+    def __init__(self, trace_format, every, say):
+        self.format = trace_format
+        self.every = every
+        self.say = say
+        self.timeline = Timeline(trace_format)
+        self.recorded = {}
+        self.left_out = set()
+        self.is_first = True
+        self.is_behind = False
+        self.begun = self.planned_at = self.listed_at = self.sampled_at = None
+        self.sample_times = None
+        self.counters = self.planned_counters = {}
+
+    def begin(self, node_line):
+        """The first line."""
+        for note in node_line.notes:
+            self.say(note)
+        return line_of(node_line.fields)
+
+    def take(self, seen):
+        """Takes what a look saw; what happened is planned once the runtime and the probes have both answered."""
+        self.check_clock(seen.moment)
+        if self.is_first:
+            self.begun = self.planned_at = self.listed_at = self.sampled_at = seen.moment
+            self.planned_counters = seen.counters
+            self.timeline.place_look(seen.moment)
+        if seen.pods is not None:
+            self.take_pods(seen)
+        if seen.instances is not None:
+            self.take_instances(seen)
+        self.counters = self.counters if seen.counters is None else seen.counters
+        self.take_summary(seen)
+        has_both = seen.instances is not None and seen.counters is not None
+        if has_both or seen.moment - self.planned_at > PATIENCE:
+            self.plan(seen.moment)
+        if int(seen.moment) - self.timeline.latest >= self.every:
+            self.timeline.place_look(seen.moment)
+        self.is_first = False
+
+    def check_clock(self, moment):
+        is_behind = int(moment) < self.timeline.next_second - 1
+        if is_behind and not self.is_behind:
+            self.say(f"{int(moment)}: the clock is behind the last tick: until it has passed that, what happens is "
+                     "written a second after what came before")
+        self.is_behind = is_behind
+
+    # --- pods ---
+
+    def followed(self):
+        return [recorded for recorded in self.recorded.values() if recorded.is_followed]
+
+    def take_pods(self, seen):
+        there = {pod.uid for pod in seen.pods} | {pod.key for pod in seen.pods}
+        for recorded in self.followed():
+            if recorded.pod.uid not in there and recorded.pod.key not in there:
+                self.miss(recorded, seen)
+        for pod in seen.pods:
+            recorded = self.recorded.get(pod.uid)
+            if recorded is None and pod.uid not in self.left_out:
+                self.arrive(pod, seen)
+            elif pod.is_evicted and recorded is not None and recorded.is_followed:
+                self.see_evicted(recorded, seen.moment)
+
+    def arrive(self, pod, seen):
+        reason = self.reason_to_leave_out(pod)
+        before = next((each for each in self.followed() if each.pod.key == pod.key), None)
+        gone_at = -1
+        if reason is None and before is not None:
+            gone_at = self.depart(before, seen.moment)
+            reason = None if self.format.says_gone else ANEW
+        if reason is not None:
+            self.say(f"{pod.key} {reason}")
+            self.left_out.add(pod.uid)
+            return
+        moment = max(self.arrival_moment(pod, seen), gone_at + 1)
+        self.recorded[pod.uid] = Recorded(pod, self.timeline.place_arrival(pod, moment))
+
+    def reason_to_leave_out(self, pod):
+        """Why a pod has no line, by what came before; None where it can have one."""
+        if pod.fault is not None:
+            return f"is left out: {pod.fault}"
+        if len(self.recorded) >= MOST_PODS:
+            return f"is left out: a trace has at most {MOST_PODS} pods"
+        if self.format.says_gone:
+            return "is left out: the kubelet had evicted it before it was seen" if pod.is_evicted else None
+        was_here = any(each.pod.key == pod.key and not each.is_followed for each in self.recorded.values())
+        return ANEW if was_here else None
+
+    def arrival_moment(self, pod, seen):
+        """A pod that comes late is there from the moment on at which its first container was made."""
+        if self.is_first:
+            return seen.moment
+        created = [each.created / 1e9 for each in (seen.instances or {}).get(pod.uid, []) if each.created]
+        return min([seen.moment, *created])
+
+    def miss(self, recorded, seen):
+        """A pod is no longer listed. It is gone once none of its containers is there to end."""
+        if not self.format.says_gone:
+            self.say(f"{recorded.pod.key} is gone, and the replay goes on with it: cut the trace where pods go")
+        elif seen.instances is not None:
+            instances = seen.instances.get(recorded.pod.uid, [])
+            if all(instance.state == EXITED for instance in instances):
+                self.follow(recorded, seen)
+                self.depart(recorded, seen.moment)
+
+    def see_evicted(self, recorded, moment):
+        self.say(f"{recorded.pod.key} was evicted by the kubelet, seen at {int(moment)}",
+                 ("evicted", recorded.pod.uid))
+        if self.format.says_gone:
+            self.depart(recorded, moment)
+
+    def depart(self, recorded, moment):
+        """A pod goes from the trace; the second behind which it is no more."""
+        self.plan_pod(recorded, moment)
+        recorded.is_followed = False
+        return self.timeline.place_departure(recorded.pod, moment)
+
+    # --- containers and probes ---
+
+    def take_instances(self, seen):
+        self.listed_at = seen.moment
+        for recorded in self.followed():
+            self.follow(recorded, seen)
+
+    def follow(self, recorded, seen):
+        """What became of the containers of one pod since the last look."""
+        pod, names = recorded.pod, recorded.pod.containers()
+        by_name = {name: [] for name in names}
+        for instance in seen.instances.get(pod.uid, []):
+            if instance.container in by_name:
+                by_name[instance.container].append(instance)
+            else:
+                self.say(f"{pod.key} {instance.container} is left out: its pod's manifest has no such container")
+        for name, instances in by_name.items():
+            if name not in recorded.containers:
+                instances = self.without_past(instances)
+            if instances or name in recorded.containers:
+                container = recorded.containers.setdefault(name, Container(f"{pod.key} {name}", self.say))
+                step = container.first_changes if self.is_first else container.changes
+                recorded.changes.setdefault(name, []).extend(step(instances, seen.moment))
+
+    def without_past(self, instances):
+        """The instances of a container that is met: without those that were over before the recording began."""
+        return [each for each in instances if each is instances[-1]
+                or each.finished is None or each.finished >= self.begun]
+
+    def plan(self, moment):
+        for recorded in self.followed():
+            self.plan_pod(recorded, moment)
+        self.planned_counters, self.planned_at = self.counters, moment
+
+    def plan_pod(self, recorded, moment):
+        for name in recorded.pod.containers():
+            changes = recorded.changes.pop(name, [])
+            results = self.results(recorded.pod, name, moment)
+            self.timeline.place_container(recorded.pod, name, changes, results, recorded.arrived)
+
+    def results(self, pod, name, moment):
+        """The results of a container's probes since what was planned last."""
+        found = []
+        for probe in PROBES:
+            series = pod.uid, name, probe
+            growth = grown(self.planned_counters.get(series, {}), self.counters.get(series, {}))
+            results = results_of(probe, growth, pod.period(name, probe), self.planned_at, moment)
+            if len(results) > 1:
+                self.say(f"{pod.key} {name} {probe}: {len(results)} results between two looks: their order and moments "
+                         "are inferred, here and wherever it is so", "results")
+            found += results
+        return found
+
+    # --- what the node has left ---
+
+    def take_summary(self, seen):
+        """A sample of the kubelet's that is new wants a tick; one that it repeats does not."""
+        if seen.summary is None:
+            if seen.is_summary_silent and seen.moment - self.sampled_at > SIGNAL_AGE:
+                self.say(f"{int(seen.moment)}: the signals are older than {SIGNAL_AGE} s, and are left out until "
+                         "/stats/summary answers", ("signals", self.sampled_at))
+                self.timeline.place_sample(seen.moment, {}, {}, False)
+            return
+        is_new = self.sample_times != seen.summary.times
+        self.sample_times, self.sampled_at = seen.summary.times, seen.moment
+        usages = {}
+        for recorded in self.followed():
+            usage = seen.summary.usage(recorded.pod, self.has_running(recorded))
+            if usage is not None and usage.times != recorded.usage_times:
+                recorded.usage_times = usage.times
+                usages[recorded.pod.uid] = usage.amounts
+        self.timeline.place_sample(seen.moment, seen.summary.signals, usages, is_new)
+
+    @staticmethod
+    def has_running(recorded):
+        return any(container.newest is not None and container.newest.state == RUNNING
+                   for container in recorded.containers.values())
+
+    # --- what is written ---
+
+    def due(self, moment):
+        """The lines whose seconds are settled at a moment, as (lines, whether a tick is among them)."""
+        before = min(int(moment) - HELD_SECONDS, int(self.planned_at))
+        return self.timeline.due(before, self.silent_from(moment))
+
+    def rest(self, moment):
+        """All lines that are left, at the end."""
+        if self.planned_at is not None:
+            self.plan(moment)
+        return self.timeline.due(float("inf"), self.silent_from(moment))
+
+    def silent_from(self, moment):
+        return int(self.listed_at) + 1 if self.listed_at is not None and self.listed_at < moment else None

@@ -1,0 +1,105 @@
+"""The commands that are asked, each with a time-out. An answer is a text; one that does not come is Failed."""
+
+import functools
+import json
+import subprocess
+from dataclasses import dataclass
+from typing import Optional
+
+RUNTIME_SECONDS = 10
+ENDPOINT_SECONDS = 10
+
+
+class Failed(Exception):
+    """A source that gave no answer, or none that can be read; its text says which source, and why."""
+
+
+def run_command(words, seconds):
+    """What a command writes on standard output; Failed where it fails or takes longer than so many seconds."""
+    try:
+        done = subprocess.run(words, stdin=subprocess.DEVNULL, capture_output=True, timeout=seconds, check=False)
+    except subprocess.TimeoutExpired:
+        raise Failed(f"gave no answer within {seconds} s") from None
+    except OSError as error:
+        raise Failed(f"can't be started: {error.strerror}") from None
+    if done.returncode != 0:
+        said = done.stderr.decode("utf-8", "replace").split("\n")[0]
+        raise Failed(f"failed with status {done.returncode}: {said}")
+    return done.stdout.decode("utf-8", "replace")
+
+
+def read_json(text, what):
+    try:
+        return json.loads(text)
+    except (ValueError, RecursionError):
+        raise Failed(f"{what}: the answer is no JSON") from None
+
+
+def reads(what):
+    """Marks what reads an answer: one that has another shape than it reads is Failed."""
+    def marked(read):
+        @functools.wraps(read)
+        def checked(*given):
+            try:
+                return read(*given)
+            except (ValueError, TypeError, KeyError, AttributeError, OverflowError):
+                raise Failed(f"{what}: the answer has another shape than is read") from None
+        return checked
+    return marked
+
+
+@dataclass(frozen=True)
+class Sources:
+    """The sources of one node: its runtime by crictl, its kubelet by kubectl or, at an address, by curl."""
+    node: str
+    kubelet: Optional[str] = None
+    curl_file: Optional[str] = None
+    run: callable = run_command
+
+    def commands(self):
+        """The commands that are needed on the PATH."""
+        return ["crictl", "curl" if self.kubelet else "kubectl"]
+
+    def ask(self, what, words, seconds):
+        try:
+            return self.run(words, seconds)
+        except Failed as failed:
+            raise Failed(f"{what} {failed}") from None
+
+    def endpoint_words(self, path):
+        if self.kubelet is None:
+            return ["kubectl", "get", "--raw", f"/api/v1/nodes/{self.node}/proxy/{path}",
+                    f"--request-timeout={ENDPOINT_SECONDS}s"]
+        settings = ["--config", self.curl_file] if self.curl_file else []
+        return ["curl", *settings, "--fail", "--silent", "--show-error", "--max-time", str(ENDPOINT_SECONDS),
+                f"{self.kubelet}/{path}"]
+
+    def endpoint(self, path):
+        # the command's own time-out comes first, and says more
+        return self.ask(f"/{path}", self.endpoint_words(path), ENDPOINT_SECONDS + 5)
+
+    def listed(self):
+        return self.ask("crictl ps", ["crictl", "ps", "-a", "-o", "json"], RUNTIME_SECONDS)
+
+    def inspected(self, container_id):
+        return self.ask(f"crictl inspect {container_id}", ["crictl", "inspect", "-o", "json", container_id],
+                        RUNTIME_SECONDS)
+
+    def pods_name(self):
+        return "/pods" if self.kubelet is not None else "kubectl get pods"
+
+    def pods(self):
+        if self.kubelet is not None:
+            return self.endpoint("pods")
+        words = ["kubectl", "get", "pods", "--all-namespaces", "--field-selector", f"spec.nodeName={self.node}",
+                 "-o", "json", f"--request-timeout={ENDPOINT_SECONDS}s"]
+        return self.ask(self.pods_name(), words, ENDPOINT_SECONDS + 5)
+
+    def summary(self):
+        return self.endpoint("stats/summary")
+
+    def probes(self):
+        return self.endpoint("metrics/probes")
+
+    def configuration(self):
+        return self.endpoint("configz")

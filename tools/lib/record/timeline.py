@@ -1,0 +1,211 @@
+"""Puts what happened on the seconds of a trace.
+
+A tick lists one instance of a container and one result of a probe, and the moments of ticks rise by whole seconds. So
+what happened stands at the second of its moment, with all else of that second, or at the first later one at which the
+formats read it as it was: a start before its end, a result before the end that it led to, a startup's result before
+the others, and each result of one probe at a second of its own.
+
+A success behind as many as its probe wants changes nothing, so it wants no tick: the next one has it, once."""
+
+from dataclasses import dataclass, field, replace
+from typing import Optional
+
+from .runtime import CREATED, EXITED, LOST_CODE, RUNNING, Change
+from .trace import entry_of, gone_line, pod_line, tick_line
+
+# a pod's sync that kills a container starts its successor; what the kubelet shows has nothing between the two
+SYNC_SECONDS = 1.0
+# a start that had to stand later must not bring a result before the probe's initial delay
+ROUNDING_SECONDS = 2
+
+
+@dataclass
+class Tick:
+    """What changes at one second; it is written as a tick if it is wanted, else with the next one."""
+    is_wanted: bool = False
+    arrivals: list = field(default_factory=list)
+    listings: dict = field(default_factory=dict)
+    results: dict = field(default_factory=dict)
+    usages: dict = field(default_factory=dict)
+    signals: Optional[dict] = None
+    departures: list = field(default_factory=list)
+
+
+def is_seamless(item, after):
+    """An end with the code 137 whose successor starts in the same sync: the start's tick says that end and that code
+    too, since it no longer lists the one before, and shows no moment at which the container was not ready."""
+    return (isinstance(item, Change) and isinstance(after, Change) and item.listing is not None
+            and after.listing is not None and item.listing.state == EXITED and item.listing.exit_code == LOST_CODE
+            and after.listing.state == RUNNING and after.moment - item.moment < SYNC_SECONDS)
+
+
+def without_seamless_ends(items):
+    return [item for item, after in zip(items, [*items[1:], None]) if not is_seamless(item, after)]
+
+
+def is_end(change):
+    return change.listing is None or change.listing.state == EXITED
+
+
+def is_start(change):
+    return change.listing is not None and change.listing.state == RUNNING
+
+
+def woven(changes, results):
+    """Changes and results of one container between two looks, in the order in which they are written. Where an
+    instance ended between the looks a failure stands before that end, and where another one started any other result
+    stands behind that start."""
+    first_end = next((place for place, change in enumerate(changes) if is_end(change)), None)
+    if first_end is None:
+        return [*changes, *results]
+    is_followed = any(map(is_start, changes[first_end:]))
+    early = [result for result in results if result.result == "failure" or not is_followed]
+    # the last of them has a second of its own before that of the end
+    over = max((result.moment for result in early), default=0) - (changes[first_end].moment - 1)
+    early = [replace(result, moment=result.moment - max(over, 0)) for result in early]
+    late = [result for result in results if result.result != "failure" and is_followed]
+    return [*changes[:first_end], *early, *changes[first_end:], *late]
+
+
+class Timeline:
+    """The ticks that are not written yet, and what stands at the last one that was."""
+
+    def __init__(self, trace_format):
+        self.format = trace_format
+        self.ticks = {}
+        self.next_second = 0
+        self.latest = None
+        self.last_placed = {}
+        self.successes = {}
+        self.present = []
+        self.listings = {}
+        self.results = {}
+        self.usages = {}
+        self.signals = {}
+
+    def tick(self, second, is_wanted):
+        tick = self.ticks.setdefault(second, Tick())
+        if is_wanted:
+            tick.is_wanted = True
+            self.latest = second if self.latest is None else max(self.latest, second)
+        return tick
+
+    def second_of(self, moment, *after):
+        """The first second that can still be written, at or after a moment and all the seconds given."""
+        return max([int(moment), self.next_second, *after])
+
+    # --- what is placed ---
+
+    def place_look(self, moment):
+        """A tick that is wanted where nothing happened."""
+        self.tick(self.second_of(moment), True)
+
+    def place_arrival(self, pod, moment):
+        second = self.second_of(moment)
+        self.tick(second, True).arrivals.append(pod)
+        return second
+
+    def place_departure(self, pod, moment):
+        """A pod goes, after all that happened in it; the second behind which it is no more."""
+        last = [second for (uid, *_), second in self.last_placed.items() if uid == pod.uid]
+        second = self.second_of(moment, *last)
+        self.tick(second, True).departures.append(pod)
+        return second
+
+    def place_sample(self, moment, signals, usages, is_wanted):
+        tick = self.tick(self.second_of(moment), is_wanted)
+        tick.signals = signals
+        tick.usages.update(usages)
+
+    def place_container(self, pod, container, changes, results, arrived):
+        """What happened to one container of a pod that arrived at a second."""
+        for item in without_seamless_ends(woven(changes, results)):
+            if isinstance(item, Change):
+                self.place_change(pod, container, item, arrived)
+            else:
+                self.place_result(pod, container, item, arrived)
+
+    def place_change(self, pod, container, change, arrived):
+        key = pod.uid, container
+        self.take_back_end(key, change)
+        self.successes = {place: run for place, run in self.successes.items() if place[:2] != key}
+        last = [self.last_placed.get((*key, kind), -1) + 1 for kind in ("listing", "startup", "liveness", "readiness")]
+        second = self.second_of(change.moment, arrived, *last)
+        self.tick(second, not change.is_quiet).listings[key] = change
+        # a start in the same second takes the place of what was only made
+        if change.listing is None or change.listing.state != CREATED:
+            self.last_placed[(*key, "listing")] = second
+
+    def take_back_end(self, key, change):
+        """An end that is not written yet goes where its successor's start, known only now, says it too."""
+        second = self.last_placed.get((*key, "listing"))
+        end = self.ticks[second].listings.get(key) if second in self.ticks else None
+        if end is not None and is_seamless(end, change):
+            del self.ticks[second].listings[key]
+            self.last_placed[(*key, "listing")] = second - 1
+
+    def place_result(self, pod, container, result, arrived):
+        key = pod.uid, container
+        listed = self.last_placed.get((*key, "listing"), 0)
+        after = [listed, self.last_placed.get((*key, result.probe), -1) + 1]
+        if result.probe != "startup":
+            after.append(self.last_placed.get((*key, "startup"), -1) + 1)
+        may_come = listed + pod.initial_delay(container, result.probe)
+        if may_come - result.moment <= ROUNDING_SECONDS:
+            after.append(may_come)
+        second = self.second_of(result.moment, arrived, *after)
+        self.tick(second, not self.is_repeated(pod, key, result)).results[(*key, result.probe)] = result.result
+        self.last_placed[(*key, result.probe)] = second
+
+    def is_repeated(self, pod, key, result):
+        """Whether a result is a success behind as many as its probe wants. Each instance begins at none."""
+        run = self.successes.get((*key, result.probe), 0) + 1 if result.result == "success" else 0
+        self.successes[(*key, result.probe)] = run
+        return run > pod.successes_wanted(key[1], result.probe)
+
+    # --- what is written ---
+
+    def planned(self):
+        """How many ticks are wanted that are not written yet."""
+        return sum(tick.is_wanted for tick in self.ticks.values())
+
+    def due(self, before, silent_from=None):
+        """The lines of each second before one, as (lines, whether a tick is among them). From a second on at which the
+        runtime was silent containers are listed as unknown."""
+        for second in sorted(each for each in self.ticks if each < before):
+            tick = self.ticks.pop(second)
+            self.next_second = second + 1
+            yield self.lines_of(second, tick, silent_from is not None and second >= silent_from), tick.is_wanted
+        self.next_second = max(self.next_second, before)
+
+    def lines_of(self, second, tick, is_silent):
+        lines = [pod_line(pod) for pod in tick.arrivals]
+        self.present += tick.arrivals
+        if not self.format.says_gone:
+            self.depart(tick.departures)
+        for (uid, container), change in tick.listings.items():
+            self.listings.setdefault(uid, {})[container] = change.listing
+            # what was found on an instance that is no more changes nothing, and must not count for the next one
+            self.results = {place: result for place, result in self.results.items() if place[:2] != (uid, container)}
+        self.results.update(tick.results)
+        self.usages.update(tick.usages)
+        self.signals = self.signals if tick.signals is None else tick.signals
+        if tick.is_wanted:
+            entries = [self.entry(pod, is_silent) for pod in self.present]
+            lines.append(tick_line(second, [entry for entry in entries if entry is not None], self.signals))
+            self.results, self.usages = {}, {}
+        if self.format.says_gone:
+            lines += [gone_line(pod) for pod in tick.departures]
+            self.depart(tick.departures)
+        return lines
+
+    def depart(self, pods):
+        for pod in pods:
+            self.present.remove(pod)
+            self.listings.pop(pod.uid, None)
+
+    def entry(self, pod, is_silent):
+        listings = {name: listing for name, listing in self.listings.get(pod.uid, {}).items() if listing is not None}
+        of_pod = {(container, probe): result for (uid, container, probe), result in self.results.items()
+                  if uid == pod.uid}
+        return entry_of(pod, listings, of_pod, self.usages.get(pod.uid), is_silent)

@@ -1,0 +1,164 @@
+"""The words of tools/record: what they mean, what is wrong with them, and its help."""
+
+import json
+import os
+import re
+import shutil
+from dataclasses import dataclass
+from typing import Optional
+
+from . import trace
+from .formats import MOST_TICKS
+
+HELP = """\
+usage: tools/record [--node NAME] [--every SECONDS] [--look SECONDS] [--ticks N] [--for SECONDS]
+                    [--kubelet URL [--curl FILE]] [--node-line FILE] [--standard | --extended [--eviction-pause N]]
+                    > TRACE
+       tools/record --check [--node NAME] [--kubelet URL [--curl FILE]]
+
+Records a node as the lines of a trace (docs/formats.md). It looks at the container runtime and at the results of probes
+every --look seconds (1), and writes a tick for each second in which something happened, and else after --every seconds
+(10). It ends after N ticks (20000, the most that a trace takes), after --for seconds, or at an interrupt, at the end
+of a line. NAME is the node's name in the cluster (uname -n). --check asks each source once, says what works and what
+is missing, and ends.
+
+It needs python3, crictl (as root, on the node) and
+  kubectl  that may get nodes/proxy and list pods; or, with --kubelet,
+  curl     that asks the kubelet at URL, as https://127.0.0.1:10250; FILE is a curl configuration with its token and
+           certificate, as in: header = "Authorization: Bearer .."
+/configz is served at port 10250, which wants a permission, and by the API server's proxy; the read-only port 10255 does
+not serve it. --node-line FILE has a node line in its place.
+
+It asks                                  how often              for
+  crictl ps -a -o json                   --look                 attempts and states
+  crictl inspect                         once a start, an end   startedAt, finishedAt, exitCode
+  /metrics/probes                        --look                 results of probes, as what the counters grew by
+  kubectl get pods -o json, or /pods     10 s, and where an     the pods, without their environment
+                                         instance ended or went
+  /stats/summary                         10 s, or --every       capacity, signals and usage, when the kubelet samples
+  /configz                               once                   thresholds, graces and periods
+
+--standard writes version 2, --extended version 3 with a line for a pod that goes, its new line where its name comes
+again, and evictionPauseSeconds (10, or --eviction-pause); without either it is --{default}.
+
+It leaves out
+  - an instance that came and went between two looks and was removed by then, and the code of an exit that the runtime
+    no longer knows, which counts as 137: standard error names it;
+  - the order of several results of one probe between two looks: failures stand before the success that ends them;
+  - afterReclaim, so no threshold is reclaimed in the replay; thresholds on other signals, and percentages of a signal
+    without a capacity; mergeDefaultEvictionSettings;
+  - ephemeral containers, and of a pod's manifest every field that the formats do not read, as its environment;
+  - a pod that the formats refuse, the 257th pod; in the standard format that a pod has gone, and a pod from the moment
+    on that it was made anew under its name.
+A file system for images of the same size as the node's is taken for the same one. On standard error it says what it
+leaves out, writes otherwise or infers, and each source that gives no answer with what stands in its place.
+
+Status 0: ended as asked, or all that --check asked works; 1: nothing could be recorded, or not written, or a source of
+--check does not work; 2: a bad word; 127: a command is missing.
+"""
+
+# word: what its value is
+NUMBERS = {"--every": 86400, "--look": 3600, "--ticks": MOST_TICKS, "--for": 31622400}
+TEXTS = ("--node", "--kubelet", "--curl", "--node-line", "--eviction-pause", *NUMBERS)
+SWITCHES = ("--standard", "--extended", "--check")
+MOST_PAUSE = 2 ** 31 - 1
+
+
+class BadWord(Exception):
+    """Words that are mistaken; its text says what to do."""
+
+
+@dataclass(frozen=True)
+class Words:
+    """What the operator asked for; moments and periods in seconds."""
+    node: str
+    kubelet: Optional[str]
+    curl_file: Optional[str]
+    node_line: Optional[dict]
+    every: int
+    look: int
+    ticks: int
+    duration: Optional[int]
+    format: trace.Format
+    is_check: bool
+
+
+def help_text():
+    return HELP.replace("{default}", "extended" if trace.DEFAULT.says_gone else "standard")
+
+
+def split(arguments):
+    """The values of words, {word: text or True}."""
+    given, rest = {}, list(arguments)
+    while rest:
+        word = rest.pop(0)
+        if word in SWITCHES:
+            given[word] = True
+        elif word not in TEXTS:
+            raise BadWord(f"{word} is no word of it")
+        elif not rest:
+            raise BadWord(f"{word} wants a value")
+        else:
+            given[word] = rest.pop(0)
+    return given
+
+
+def number(given, word, default):
+    text = given.get(word)
+    if text is None:
+        return default
+    if not re.fullmatch("[1-9][0-9]{0,7}", text) or int(text) > NUMBERS[word]:
+        what = "number" if word == "--ticks" else "number of seconds"
+        raise BadWord(f"{word} takes a whole {what} from 1 to {NUMBERS[word]}, not '{text}'")
+    return int(text)
+
+
+def trace_format(given):
+    text = given.get("--eviction-pause")
+    if "--standard" in given and "--extended" in given:
+        raise BadWord("--standard and --extended are two formats: give one")
+    is_extended = "--extended" in given or ("--standard" not in given and trace.DEFAULT.says_gone)
+    if text is None:
+        return trace.extended() if is_extended else trace.STANDARD
+    if not is_extended:
+        raise BadWord("--eviction-pause goes with --extended")
+    if not re.fullmatch("0|[1-9][0-9]{0,9}", text) or int(text) > MOST_PAUSE:
+        raise BadWord(f"--eviction-pause takes a whole number of seconds from 0 to {MOST_PAUSE}, not '{text}'")
+    return trace.extended(int(text))
+
+
+def node_line(given):
+    """The operator's own node line, or None."""
+    path = given.get("--node-line")
+    if path is None:
+        return None
+    try:
+        with open(path, encoding="utf-8") as file:
+            fields = json.load(file)
+    except OSError:
+        raise BadWord(f"--node-line: '{path}' can't be read") from None
+    except ValueError:
+        fields = None
+    if not isinstance(fields, dict):
+        raise BadWord(f"--node-line: '{path}' has no JSON object, or more than one")
+    return fields
+
+
+def words_of(arguments):
+    """What the arguments ask for; BadWord where they are mistaken."""
+    given = split(arguments)
+    node, curl_file = given.get("--node", os.uname().nodename), given.get("--curl")
+    if not re.fullmatch("[a-z0-9.-]+", node):
+        raise BadWord(f"--node takes a node's name, not '{node}'")
+    if curl_file is not None and "--kubelet" not in given:
+        raise BadWord("--curl goes with --kubelet")
+    if curl_file is not None and not os.access(curl_file, os.R_OK):
+        raise BadWord(f"--curl: '{curl_file}' can't be read")
+    kubelet = given.get("--kubelet")
+    return Words(node, kubelet.rstrip("/") if kubelet else None, curl_file, node_line(given),
+                 number(given, "--every", 10), number(given, "--look", 1), number(given, "--ticks", MOST_TICKS),
+                 number(given, "--for", None), trace_format(given), "--check" in given)
+
+
+def missing_commands(commands):
+    return [command for command in commands if shutil.which(command) is None]

@@ -1,0 +1,273 @@
+"""Drives pages of tools/page in headless Chromium, and writes what it found as JSON lines: a name, what was there, what
+should be. test_page.py runs it with a python3 that has selenium, and counts.
+
+usage: browser.py FOLDER, which has node.html, plain.html, odd.html and big.html
+"""
+
+import json
+import sys
+import time
+
+from selenium import webdriver
+from selenium.webdriver.chrome.options import Options
+from selenium.webdriver.chrome.service import Service
+from selenium.webdriver.common.action_chains import ActionChains
+from selenium.webdriver.common.by import By
+from selenium.webdriver.common.keys import Keys
+
+WIDTH, HEIGHT = 1280, 900
+# the lanes begin behind the names and end before the edge, as lanes.js and draw.js have it
+LEFT, RIGHT = 170, 10
+# of a page that is quick, with a machine that is busy
+LONGEST_STEP, LONGEST_LOAD = 1.5, 8.0
+FOUND = """const done = arguments[arguments.length - 1];
+requestAnimationFrame(() => requestAnimationFrame(() => setTimeout(done, 0)));"""
+
+
+def tell(name, got, wanted):
+    print(json.dumps([name, got, wanted]), flush=True)
+
+
+class Page:
+    """A page in a browser of its own size."""
+
+    def __init__(self, chromedriver, path, width=WIDTH, height=HEIGHT, dark=False):
+        options = Options()
+        for word in ("--headless=new", "--no-sandbox", "--disable-gpu", "--hide-scrollbars"):
+            options.add_argument(word)
+        options.set_capability("goog:loggingPrefs", {"browser": "ALL"})
+        self.driver = webdriver.Chrome(service=Service(chromedriver), options=options)
+        self.driver.execute_cdp_cmd("Emulation.setDeviceMetricsOverride",
+                                    {"width": width, "height": height, "deviceScaleFactor": 1, "mobile": False})
+        self.driver.execute_cdp_cmd("Emulation.setEmulatedMedia", {"features": [
+            {"name": "prefers-color-scheme", "value": "dark" if dark else "light"}]})
+        self.driver.get(f"file://{path}")
+        self.wait()
+
+    def __enter__(self):
+        return self
+
+    def __exit__(self, *_):
+        self.driver.quit()
+
+    def wait(self):
+        """Two frames, behind which what was asked for is drawn."""
+        self.driver.execute_async_script(FOUND)
+
+    def text(self, selector):
+        return self.driver.find_element(By.CSS_SELECTOR, selector).text
+
+    def texts(self, selector):
+        return [found.text for found in self.driver.find_elements(By.CSS_SELECTOR, selector)]
+
+    def click(self, selector, place=0):
+        self.driver.find_elements(By.CSS_SELECTOR, selector)[place].click()
+        self.wait()
+
+    def press(self, *keys):
+        ActionChains(self.driver).send_keys(*keys).perform()
+        self.wait()
+
+    def script(self, words):
+        return self.driver.execute_script(f"return {words}")
+
+    def is_open(self):
+        return not self.script("document.getElementById('panel').hidden")
+
+    def log(self):
+        return [entry["message"] for entry in self.driver.get_log("browser")]
+
+    def point(self, canvas, share, y):
+        """A point of a canvas, at a share of its lanes, from its middle as the driver counts."""
+        box = canvas.rect
+        x = LEFT + share * (box["width"] - LEFT - RIGHT)
+        return round(x - box["width"] / 2), round(y - box["height"] / 2)
+
+    def click_at(self, canvas, share, y):
+        self.driver.execute_script("arguments[0].scrollIntoView({block: 'center'})", canvas)
+        self.wait()
+        ActionChains(self.driver).move_to_element_with_offset(canvas, *self.point(canvas, share, y)).click().perform()
+        self.wait()
+
+    def drag(self, canvas, share, to_share, y):
+        (x, over), (to_x, _) = self.point(canvas, share, y), self.point(canvas, to_share, y)
+        ActionChains(self.driver).move_to_element_with_offset(canvas, x, over).click_and_hold() \
+            .move_by_offset((to_x - x) // 2, 0).move_by_offset(to_x - x - (to_x - x) // 2, 0).release().perform()
+        self.wait()
+
+    def row(self, key):
+        """The canvas of a pod's row."""
+        names = self.texts(".pod .name")
+        return self.driver.find_elements(By.CSS_SELECTOR, ".pod canvas")[names.index(key)]
+
+
+def check_load(page):
+    tell("loads without an error", page.log(), [])
+    tell("has no outside part", page.script("performance.getEntriesByType('resource').length"), 0)
+    tell("names the node", page.text("#node"), "n1")
+    tell("shows the whole span", page.text("#range"), "0 – 40 (40 s)")
+    tell("puts the evicted first", page.texts(".pod .name"),
+         ["default/a", "default/late", "default/b", "default/job"])
+
+
+def check_filter(page):
+    page.click("#filter")
+    page.press("la")
+    tell("filters by name", (page.texts(".pod .name"), page.text("#shown")), (["default/late"], "1 of 4 pods"))
+    page.press(Keys.ESCAPE)
+    tell("clears the filter by a key", len(page.texts(".pod .name")), 4)
+    page.click(".chips button", 1)
+    tell("shows the evicted alone", sorted(page.texts(".pod .name")), ["default/a", "default/late"])
+    page.click(".chips button", 0)
+
+
+def check_zoom(page):
+    axis = page.driver.find_element(By.ID, "axis")
+    page.drag(axis, 0.25, 0.75, 10)
+    tell("zooms by dragging", page.text("#range"), "10 – 30 (20 s)")
+    page.click("#whole")
+    tell("shows the whole span again", page.text("#range"), "0 – 40 (40 s)")
+    page.drag(page.row("default/b"), 0.75, 0.5, 20)
+    tell("zooms by dragging to the left over a lane", page.text("#range"), "20 – 30 (10 s)")
+    page.press("0")
+
+
+def check_story(page):
+    page.click(".pod .name", page.texts(".pod .name").index("default/job"))
+    story = page.text("#panel")
+    tell("opens a story", (page.text("#panel h2"), "ended 10 as Succeeded" in story), ("default/job", True))
+    tell("lists the events", page.texts("#panel .event > button"),
+         ["0\nc started, attempt 0", "0\nc ready", "0\nphase Running", "10\nc died with code 0, attempt 0",
+          "10\nc unready", "10\nphase Succeeded"])
+    page.click("#panel .event > button", 3)
+    tell("unfolds an event's why", page.text("#panel .why"),
+         "This tick listed attempt 0 as CONTAINER_EXITED with code 0.\n"
+         "Until 0 the ticks listed attempt 0 as CONTAINER_RUNNING.")
+    page.press(Keys.ESCAPE)
+    tell("closes a story by a key", page.is_open(), False)
+
+
+def check_why(page):
+    page.click_at(page.row("default/a"), 0.75, 10)
+    why = page.text("#panel")
+    tell("opens the why of an eviction in a lane", [words in why for words in (
+        "nodefs.available soft: below 10Gi (10%), cleared at 11Gi, grace 20 s; active since 10", "after reclaim",
+        "Their order: usage above the request first")], [True] * 3)
+    cells = [row.split() for row in page.texts("#panel tr")]
+    tell("has its samples", [row for row in cells if len(row) == 3],
+         [["10", "9Gi", "-"], ["20", "10.5Gi", "-"], ["30", "8Gi", "9Gi"]])
+    tell("marks the evicted pod", page.text("tr.victim"), "1 default/a 9Gi 4Gi 5Gi 5 BestEffort evicted")
+    page.press(Keys.ESCAPE)
+    chart = page.driver.find_elements(By.CSS_SELECTOR, "#charts canvas")[2]
+    page.click_at(chart, 0.999, 30)
+    tell("opens the why of an eviction in a chart", page.text("tr.victim"),
+         "1 default/late 700 - - -1 BestEffort evicted")
+    page.press(Keys.ESCAPE)
+
+
+def check_theme(page):
+    grounds = [page.script("getComputedStyle(document.body).backgroundColor")]
+    page.click("#theme")
+    grounds.append(page.script("getComputedStyle(document.body).backgroundColor"))
+    page.press("t")
+    grounds.append(page.script("getComputedStyle(document.body).backgroundColor"))
+    tell("is light, dark and light again", grounds, ["rgb(251, 252, 253)", "rgb(16, 22, 29)", "rgb(251, 252, 253)"])
+
+
+def check_keys(page):
+    found = []
+    page.press("j", Keys.ENTER)
+    found.append(page.text("#panel h2"))
+    page.press(Keys.ESCAPE, "k", "n")
+    found.append(page.text("#panel h2"))
+    page.press("n", "n", "n")
+    found.append(page.text("#panel h2"))
+    page.press(Keys.ESCAPE, "+")
+    found.append(page.text("#range"))
+    page.press(Keys.ARROW_RIGHT)
+    found.append(page.text("#range"))
+    page.press("-", "0", "u")
+    found.append(page.text("#range"))
+    page.press("u", "?")
+    found.append(page.text("#panel h2"))
+    page.press(Keys.ESCAPE, "/")
+    found.append(page.script("document.activeElement.id"))
+    tell("is used by keys", found, [
+        "default/late", "why: started, attempt 0", "why: evicted by nodefs.available soft, grace 15 s",
+        "10 – 30 (20 s)", "15 – 35 (20 s)", "1970-01-01 00:00:00 – 1970-01-01 00:00:40 (40 s)", "Keys", "filter"])
+    page.press(Keys.ESCAPE)
+
+
+def check_narrow(chromedriver, path):
+    with Page(chromedriver, path, 360, 740, dark=True) as page:
+        widths = "[document.documentElement.scrollWidth, document.body.scrollWidth]"
+        tell("has no horizontal scroll at 360 px", page.script(widths), [360, 360])
+        tell("is dark where the system is", page.script("document.documentElement.dataset.theme"), "dark")
+        page.click(".pod .name")
+        page.click("#panel .event > button", -1)
+        tell("nor with a story", (page.script(widths), page.script("document.getElementById('panel').scrollWidth")),
+             ([360, 360], 360))
+        tell("and no error there", page.log(), [])
+
+
+def check_plain(chromedriver, path):
+    """A page without a trace."""
+    with Page(chromedriver, path) as page:
+        tell("a page without a trace says what it leaves out", "no trace was given" in page.text("footer"), True)
+        page.press("j", "n")
+        tell("and its why says so too", "made without a trace" in page.text("#panel"), True)
+        tell("and it loads without an error", page.log(), [])
+
+
+def check_odd(chromedriver, path):
+    """Names that would be markup."""
+    with Page(chromedriver, path) as page:
+        tell("a name is no markup", (page.text("#node"), page.texts(".pod .name")),
+             ("</script><script>document.title='x'</script>", ["shop/<img/src=x/onerror=document.title='x'>"]))
+        page.click(".pod .name")
+        tell("nor in a story", page.text("#panel h2"), "shop/<img/src=x/onerror=document.title='x'>")
+        tell("and nothing of it ran", (page.script("document.title") != "x", page.log()), (True, []))
+
+
+def timed(page, act):
+    began = time.monotonic()
+    act()
+    return time.monotonic() - began
+
+
+def check_big(chromedriver, path):
+    """256 pods by 20,000 ticks."""
+    began = time.monotonic()
+    with Page(chromedriver, path) as page:
+        load = time.monotonic() - began
+        axis = page.driver.find_element(By.ID, "axis")
+        steps = [
+            ("drag", lambda: page.drag(axis, 0.4, 0.5, 10)), ("right", lambda: page.press(Keys.ARROW_RIGHT)),
+            ("whole", lambda: page.press("0")), ("filter", lambda: page.press("/", "web-12", Keys.ESCAPE)),
+            ("next", lambda: page.press("j", "j", "j")), ("story", lambda: page.press(Keys.ENTER)),
+            ("why", lambda: page.press("n")),
+        ]
+        times = {name: timed(page, act) for name, act in steps}
+        drawn = float(page.script("document.documentElement.dataset.drawn"))
+        print(f"a page of 256 pods by 20,000 ticks: {load:.1f} s to load with the browser's start, "
+              f"{max(times.values()):.2f} s the longest step, {drawn:.0f} ms the last drawing", file=sys.stderr)
+        slow = {name: took for name, took in times.items() if took > LONGEST_STEP}
+        tell("a page of 256 pods by 20,000 ticks is quick", (slow, load < LONGEST_LOAD), ({}, True))
+        elements = page.script("document.getElementsByTagName('*').length")
+        tell("it has no more rows than are in sight", elements < 1000, True)
+        tell("it has no error", page.log(), [])
+
+
+def main(folder, chromedriver):
+    with Page(chromedriver, f"{folder}/node.html") as page:
+        for check in (check_load, check_filter, check_zoom, check_story, check_why, check_theme, check_keys):
+            check(page)
+        tell("no error came of all that", page.log(), [])
+    check_narrow(chromedriver, f"{folder}/node.html")
+    check_plain(chromedriver, f"{folder}/plain.html")
+    check_odd(chromedriver, f"{folder}/odd.html")
+    check_big(chromedriver, f"{folder}/big.html")
+
+
+if __name__ == "__main__":
+    main(*sys.argv[1:])

@@ -1,0 +1,165 @@
+"""Plays a node to tools/record: by a script of what happens at which moment, or by answers that were captured."""
+
+import gzip
+import json
+import time
+
+from record.sources import Failed
+
+RESULTS = {"success": "successful", "failure": "failed", "unknown": "unknown"}
+
+
+def moment_text(moment):
+    """A moment as Go writes it, to a thousandth; its zero for None."""
+    if moment is None:
+        return "1970-01-01T00:00:00Z"
+    return time.strftime("%Y-%m-%dT%H:%M:%S", time.gmtime(moment)) + f".{round(moment % 1 * 1000):03}Z"
+
+
+def kind_of(words):
+    """Which answer a command asks for, and of which container."""
+    if words[0] == "crictl":
+        return ("ps", None) if words[1] == "ps" else ("inspect", words[-1])
+    text = " ".join(words)
+    kinds = [kind for kind in ("configz", "summary", "probes", "pods") if kind in text]
+    return kinds[0], None
+
+
+class Play:
+    """A script: its moments are seconds from `begin` on. It has
+    clock       what the clock says at each look, where it is no good one, and `true` the moments of these looks
+    pods        {key: {"from", "until", "spec", "evicted"}}; a key may have a list of them, one after the other
+    containers  {"id", "pod", "name", "attempt", "created", "started", "ended", "code", "removed", "lost"}: `lost` is
+                when `crictl inspect` no longer knows it while a list still has it
+    probes      {"pod", "container", "probe", "result", "at": [moments]}
+    samples     {moment: {signal: value}} of the node, as the kubelet takes them
+    fails       {"kind", "from", "until", "text"}: answers that do not come
+    configz     the object `kubeletconfig`
+    """
+
+    def __init__(self, path):
+        with open(path, encoding="utf-8") as file:
+            self.script = json.load(file)
+        self.begin = self.script["begin"]
+        self.clock = [self.begin + moment for moment in self.script.get("clock", [0])]
+        self.said_last, self.look = None, -1
+
+    def answer(self, words, now):
+        moment, (kind, identity) = self.true_moment(now), kind_of(words)
+        for fault in self.script.get("fails", []):
+            if fault["kind"] == kind and fault["from"] <= moment < fault["until"]:
+                raise Failed(fault["text"])
+        if kind == "inspect":
+            return self.inspected(identity, moment)
+        return getattr(self, kind)(moment)
+
+    def true_moment(self, now):
+        """The moment at which the clock says so; a look of its own each time that it says something else."""
+        if "true" not in self.script:
+            return now - self.begin
+        if now != self.said_last:
+            self.said_last = now
+            self.look += 1
+        return self.script["true"][self.look]
+
+    # --- the runtime ---
+
+    def is_there(self, each, moment):
+        """Whether a list has an instance. One that is lost at a moment is in the first list from then on, and in none
+        after it."""
+        if "lost" in each and moment >= each["lost"]:
+            return not each.get("was_listed")
+        return each.get("created", each.get("started", 0)) <= moment < each.get("removed", float("inf"))
+
+    def state(self, each, moment):
+        if each.get("ended", float("inf")) <= moment:
+            return "CONTAINER_EXITED"
+        return "CONTAINER_RUNNING" if each.get("started", float("inf")) <= moment else "CONTAINER_CREATED"
+
+    def uid(self, each):
+        return each.get("uid", f"uid-{each['pod'].split('/')[1]}")
+
+    def ps(self, moment):
+        listed = [each for each in self.script["containers"] if self.is_there(each, moment)]
+        for each in listed:
+            each["was_listed"] = "lost" in each and moment >= each["lost"]
+        return json.dumps({"containers": [{
+            "id": each["id"], "metadata": {"name": each["name"], "attempt": each["attempt"]},
+            "state": self.state(each, moment),
+            "createdAt": str(round((self.begin + each.get("created", each.get("started", 0))) * 1e9)),
+            "labels": {"io.kubernetes.container.name": each["name"], "io.kubernetes.pod.uid": self.uid(each)}}
+            for each in listed]})
+
+    def inspected(self, identity, moment):
+        [each] = [each for each in self.script["containers"] if each["id"] == identity]
+        if "lost" in each and moment >= each["lost"] or not self.is_there(each, moment):
+            raise Failed(f"failed with status 1: container \"{identity}\": not found")
+        state = self.state(each, moment)
+        started, ended = (None if name not in each else self.begin + each[name] for name in ("started", "ended"))
+        status = {"id": identity, "state": state, "startedAt": moment_text(started),
+                  "finishedAt": moment_text(ended if state == "CONTAINER_EXITED" else None)}
+        if state == "CONTAINER_EXITED":
+            status["exitCode"] = each["code"]
+        return json.dumps({"status": status})
+
+    # --- the kubelet ---
+
+    def probes(self, moment):
+        counts = {}
+        for each in self.script.get("probes", []):
+            labels = (each["container"], self.uid(each), each["probe"].capitalize(), RESULTS[each["result"]])
+            counts[labels] = counts.get(labels, 0) + sum(at <= moment for at in each["at"])
+        lines = [f'prober_probe_total{{container="{container}",pod_uid="{uid}",probe_type="{probe}",'
+                 f'result="{result}"}} {count}' for (container, uid, probe, result), count in counts.items() if count]
+        return "".join(f"{line}\n" for line in lines)
+
+    def pods(self, moment):
+        items = []
+        for key, lives in self.script["pods"].items():
+            for life in lives if isinstance(lives, list) else [lives]:
+                if life.get("from", 0) <= moment < life.get("until", float("inf")):
+                    items.append(self.pod(key, life, moment))
+        return json.dumps({"kind": "PodList", "items": items})
+
+    def pod(self, key, life, moment):
+        namespace, name = key.split("/")
+        is_evicted = life.get("evicted", float("inf")) <= moment
+        status = {"phase": "Failed", "reason": "Evicted"} if is_evicted else {"phase": "Running"}
+        return {"metadata": {"namespace": namespace, "name": name, "uid": life.get("uid", f"uid-{name}")},
+                "spec": life["spec"], "status": status}
+
+    def summary(self, moment):
+        samples = {float(at): sample for at, sample in self.script["samples"].items()}
+        newest = max(at for at in samples if at <= moment)
+        sample, sampled = samples[newest], moment_text(self.begin + newest)
+        node = {"memory": {"time": sampled, "availableBytes": sample["memory"], "workingSetBytes": 2 ** 30}}
+        pods = [{"podRef": {"uid": uid}, "memory": {"time": sampled, "workingSetBytes": used}}
+                for uid, used in sample.get("pods", {}).items()]
+        return json.dumps({"node": node, "pods": pods})
+
+    def configz(self, moment):
+        return json.dumps({"kubeletconfig": self.script.get("configz", {})})
+
+
+class Captured:
+    """Answers that were captured, a line of JSON for each look: its moment, and the answers that were others than at
+    the look before: {"at": moment, "answers": {kind or container id: text, or {"failed": text}}}."""
+
+    def __init__(self, path):
+        with gzip.open(path, "rt", encoding="utf-8") as file:
+            self.entries = [json.loads(line) for line in file]
+        self.looks = [entry["at"] for entry in self.entries]
+        self.now = {}
+        self.next = 0
+
+    def answer(self, words, now):
+        kind, identity = kind_of(words)
+        while self.next < len(self.entries) and self.entries[self.next]["at"] <= now:
+            self.now.update(self.entries[self.next]["answers"])
+            self.next += 1
+        answer = self.now.get(identity or kind)
+        if answer is None:
+            raise Failed("failed with status 1: no such answer was captured")
+        if isinstance(answer, dict) and "failed" in answer:
+            raise Failed(answer["failed"])
+        return answer if isinstance(answer, str) else json.dumps(answer)

@@ -1,0 +1,147 @@
+"""The tests of tools/page: what a page is made of, what is refused, and pages driven in headless Chromium where that
+and python3-selenium are there."""
+
+import json
+import os
+import re
+import shutil
+import subprocess
+import sys
+import tempfile
+
+import big_node
+from checks import HERE, TOOLS, TOP, expect, expect_refused, read, run
+
+NODE = f"{HERE}/whys/file_system"
+PROBES = f"{HERE}/whys/probes"
+PODS, TICKS = 256, 20000
+# of the page of so many pods and ticks
+MOST_BYTES = 6000000
+
+
+def page_of(report, *words):
+    return run([f"{TOOLS}/page", *words], report)
+
+
+def data_in(page):
+    """What a page shows, as its scripts read it."""
+    return json.loads(re.search(r'<script type="application/json" id="data">(.*?)</script>', page, re.S)[1])
+
+
+def test_page_is_one_file():
+    for name, answer in (("with a trace", page_of(read(f"{NODE}/report"), f"{NODE}/trace")),
+                         ("without a trace", page_of(read(f"{NODE}/report")))):
+        status, page, said = answer
+        expect(f"page {name}", (status, said, page.startswith("<!DOCTYPE html>"), page.endswith("</html>\n")),
+               (0, "", True, True))
+        outside = re.findall(r"""(?:src|href)\s*=|@import|url\(|https?:""", page)
+        expect(f"page {name}: no outside part", outside, [])
+        expect(f"page {name}: nothing is left to fill in", re.findall(r"\{\{\w*\}\}", page), [])
+
+
+def test_page_data():
+    """Of whys/probes, counted by hand."""
+    data = data_in(page_of(read(f"{PROBES}/report"), f"{PROBES}/trace")[1])
+    [pod] = data["podList"]
+    expect("page: the span", (data["first"], data["last"], data["ticks"]), (0, 700, 14))
+    expect("page: the steps of ticks", data["tickSteps"], [0, 1, 5, 10, 10, 1, 5, 1, 635, 1])
+    expect("page: states", pod["containers"][0]["states"],
+           [0, 0, 0, 0, 5, 1, 0, 0, 40, 1, 1, 0, 5, 2, 1, 3, 15, 1, 2, 0, 635, 2, 2, 0])
+    expect("page: Ready", pod["ready"], [[0, 0], [20, 1], [35, 0]])
+    died = data["words"].index("died")
+    expect("page: deaths with their exits and runs", [event[3:] for event in pod["events"] if event[2] == died],
+           [[0, 137, 1, 40], [1, 3, 2, 5], [2, 0, 1, 635]])
+    readiness = next(probe for probe in pod["probes"] if probe[1] == "readiness")
+    expect("page: a probe", readiness, [0, "readiness", 2, 2, 0, 5, [15, 5, 2, 0, 5, 0, 1, 2, 5, 5, 2, 1]])
+    expect("page: a listing", pod["listings"][0][:12], [0, 0, 0, 0, 5, 0, 1, 0, 40, 1, 1, 0])
+
+
+def test_page_escapes():
+    """Names that would be markup, in the page's text and in its data."""
+    report = read(f"{TOP}/examples/crash_loop.report").replace("node worker-3", "node </script><b>&amp;")
+    status, page, said = page_of(report.replace("shop/api-7f9c", "shop/<!--<script>"))
+    expect("a page of odd names", (status, said), (0, ""))
+    expect("odd names are no markup", [words in page for words in ("</script><b>", "<!--<script>", "<b>&amp;")],
+           [False] * 3)
+    data = data_in(page)
+    expect("odd names are names", (data["node"], data["podList"][0]["key"]), ("</script><b>&amp;", "shop/<!--<script>"))
+
+
+def test_page_of_nothing():
+    empty = "node n1 pods=0 ticks=0\n" + "".join(f"nodecondition {kind}Pressure False 0\n" for kind in
+                                                ("Memory", "Disk", "PID")) + "totals updates=0 events=0 orders=0\n"
+    status, page, said = page_of(empty)
+    expect("a page of a node without pods", (status, said, data_in(page)["podList"]), (0, "", []))
+
+
+def test_refused_pages():
+    report = read(f"{NODE}/report")
+    for name, answer, words in (
+        ("no report", page_of("no report\n"), "line 1 "),
+        ("a trace that is not there", page_of(report, "/nonexistent"), "can't be read"),
+        ("another trace", page_of(report, f"{PROBES}/trace"), "does not belong to the report"),
+        ("two traces", page_of(report, "a", "b"), "one trace, not 2"),
+        ("a strange word", page_of(report, "--wide"), "--wide is no word"),
+    ):
+        expect_refused(f"page of {name}", answer, 2, words)
+    folder = tempfile.mkdtemp()
+    with open(f"{folder}/trace", "w") as file:
+        file.write(read(f"{NODE}/trace").replace('"result"', '"outcome"').replace('"containers":[]', '"containers":7'))
+    expect_refused("page of a trace with a strange tick", page_of(report, f"{folder}/trace"), 2,
+                   "tick line that is none")
+    shutil.rmtree(folder)
+
+
+def selenium_python():
+    """A python3 that has selenium, and chromedriver with its browser; None where one is missing."""
+    chromedriver = shutil.which("chromedriver")
+    if not chromedriver or not (shutil.which("chromium") or shutil.which("google-chrome")):
+        return None
+    for python in (sys.executable, "/usr/bin/python3"):
+        if os.path.exists(python) and subprocess.run([python, "-c", "import selenium"], capture_output=True,
+                                                     check=False).returncode == 0:
+            return python, chromedriver
+    return None
+
+
+def write_pages(folder):
+    report = read(f"{NODE}/report")
+    odd = read(f"{TOP}/examples/crash_loop.report").replace("worker-3", "</script><script>document.title='x'</script>")
+    pages = {
+        "node": page_of(report, f"{NODE}/trace"), "plain": page_of(report),
+        "odd": page_of(odd.replace("shop/api-7f9c", "shop/<img/src=x/onerror=document.title='x'>")),
+        "big": page_of("".join(big_node.report_of(PODS, TICKS, PODS))),
+    }
+    for name, (status, page, said) in pages.items():
+        expect(f"page {name} for the browser", (status, said), (0, ""))
+        with open(f"{folder}/{name}.html", "w", encoding="utf-8") as file:
+            file.write(page)
+    expect(f"the page of {PODS} pods by {TICKS} ticks is small", len(pages["big"][1]) < MOST_BYTES, True)
+
+
+def test_page_in_a_browser():
+    found = selenium_python()
+    if found is None:
+        print("left out: pages in a browser, since chromium, chromium-driver or python3-selenium is missing")
+        return
+    folder = tempfile.mkdtemp()
+    write_pages(folder)
+    done = subprocess.run([found[0], f"{HERE}/browser.py", folder, found[1]], capture_output=True, text=True,
+                          check=False, timeout=300)
+    for line in done.stdout.split("\n")[:-1]:
+        name, got, wanted = json.loads(line)
+        expect(f"in a browser: a page {name}", got, wanted)
+    if done.returncode == 0:
+        print(done.stderr.strip(), file=sys.stderr)
+    expect("the browser's tests end", (done.returncode, done.stderr if done.returncode else ""), (0, ""))
+    shutil.rmtree(folder)
+
+
+def test_page_of_a_great_trace():
+    """A trace of 256 pods by 20,000 ticks, six pods at a time, becomes a page within a minute."""
+    folder = tempfile.mkdtemp()
+    with open(f"{folder}/trace", "w") as file:
+        file.writelines(big_node.trace_of(PODS, TICKS, 6))
+    status, page, said = page_of("".join(big_node.report_of(PODS, TICKS, 6)), f"{folder}/trace")
+    expect("the page of a great trace", (status, said, len(page) < MOST_BYTES), (0, "", True))
+    shutil.rmtree(folder)

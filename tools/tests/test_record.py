@@ -1,0 +1,287 @@
+"""The tests of tools/record: what it makes of answers that were captured, played or written, and of words."""
+
+import gzip
+import json
+import os
+import shutil
+import signal
+import subprocess
+import sys
+import tempfile
+import time
+from concurrent.futures import ThreadPoolExecutor
+
+from checks import HERE, LONGEST, REPLAY, TOOLS, TOP, expect, expect_kept, expect_refused, read, run
+
+sys.path[:0] = [f"{TOOLS}/lib", f"{TOP}/bench/lib/real_node"]
+import beside  # noqa: E402
+from record import formats  # noqa: E402
+from record.node import node_line_of  # noqa: E402
+from record.pods import pods_of  # noqa: E402
+from record.program import Ended, Output  # noqa: E402
+from record.runtime import inspected_of, instances_of  # noqa: E402
+from record.sources import Failed  # noqa: E402
+from record.summary import summary_of  # noqa: E402
+from record.trace import STANDARD  # noqa: E402
+
+RECORDINGS = f"{HERE}/recordings"
+COMMANDS = f"{HERE}/commands"
+TEXTS = f"{TOP}/crates/case_runner/data/texts"
+
+
+class Recorder:
+    """A run of tools/record over recorded answers, by a clock that is played, or by the node's."""
+
+    def __init__(self, name, tool=f"{COMMANDS}/played_record", **settings):
+        self.tool = tool
+        self.folder = os.path.join(RECORDINGS, name)
+        self.run = tempfile.mkdtemp()
+        with open(f"{self.run}/curl", "w") as file:
+            file.write('header = "Authorization: Bearer none"\n')
+        stood_in = {"CURL": f"{self.run}/curl", "NODE": f"{self.folder}/node_line"}
+        self.words = [stood_in.get(word, word) for word in read(f"{self.folder}/words").split()]
+        self.settings = {"PATH": f"{COMMANDS}:{os.environ['PATH']}", "RECORDING": self.folder, "RUN": self.run,
+                         "TMPDIR": self.run, **settings}
+
+    def whole(self):
+        return run([self.tool, *self.words], **self.settings)
+
+    def start(self, *words):
+        """Begins a run in a session of its own, as from a terminal, by the node's clock."""
+        return subprocess.Popen([f"{TOOLS}/record", *words], env={**os.environ, **self.settings},
+                                stdout=subprocess.PIPE, stderr=subprocess.PIPE, start_new_session=True,
+                                preexec_fn=lambda: signal.signal(signal.SIGINT, signal.SIG_DFL))
+
+    def left(self):
+        """The folders for its own use that a run has left."""
+        return [name for name in os.listdir(self.run) if name.startswith("tmp")]
+
+    def clean(self):
+        shutil.rmtree(self.run)
+
+
+def test_recordings():
+    recorders = [Recorder(name) for name in sorted(os.listdir(RECORDINGS))]
+    with ThreadPoolExecutor(4) as threads:
+        answers = list(threads.map(Recorder.whole, recorders))
+    for recorder, (status, trace, said) in zip(recorders, answers):
+        name, folder = os.path.basename(recorder.folder), recorder.folder
+        if not os.path.exists(f"{folder}/answers.jsonl.gz"):
+            expect_kept(f"{name}: the trace", trace, f"{folder}/trace")
+        expect_kept(f"{name}: what is said", f"{said}status {status}\n", f"{folder}/said")
+        if status == 0 and '"version":3' not in trace.split("\n")[0]:
+            status, report, refused = run([REPLAY], trace)
+            expect(f"{name}: the program accepts the trace", (status, refused), (0, ""))
+            expect_kept(f"{name}: the report", report, f"{folder}/report")
+        expect(f"{name}: nothing is left behind", recorder.left(), [])
+        if name == "crash_loop":
+            check_asked(recorder)
+        recorder.clean()
+
+
+def check_asked(recorder):
+    """Each start and each end is asked for once, and the configuration too."""
+    asked = read(f"{recorder.run}/asked").split("\n")
+    inspected = [line for line in asked if line.startswith("crictl inspect")]
+    expect("crash_loop: each start and each end is asked for once", (len(inspected), len(set(inspected))), (3, 2))
+    expect("crash_loop: the configuration is asked for once", len([line for line in asked if "configz" in line]), 1)
+    expect("crash_loop: the runtime is asked each time", asked.count("crictl ps -a -o json"), 5)
+
+
+def test_real_node():
+    """What a real kubelet showed is in its recording's report within two seconds, and docs/real.md has the table."""
+    report = read(f"{RECORDINGS}/real_node/report")
+    with gzip.open(f"{RECORDINGS}/real_node/shown.gz", "rt", encoding="utf-8") as file:
+        facts = beside.facts_from(file.read())
+    lines = []
+    expect("real_node: each fact is near one of the report's", beside.show_beside(facts, report, lines.append), True)
+    table = "".join(f"{line}\n" for text in lines for line in text.split("\n"))
+    before, _, rest = read(f"{TOP}/docs/real.md").partition("<!-- the table -->\n")
+    _, _, after = rest.partition("<!-- end of the table -->\n")
+    expect_kept("real_node: the table in docs", f"{before}<!-- the table -->\n```\n{table.strip()}\n```\n"
+                f"<!-- end of the table -->\n{after}", f"{TOP}/docs/real.md")
+
+
+def test_node_lines():
+    """Configurations that a kubelet answered: the node line, what is said of it, and whether the formats take it as it
+    stands."""
+    folder = f"{HERE}/node_lines"
+    for path in sorted(name for name in os.listdir(folder) if name.endswith(".json")):
+        name, made = path.removesuffix(".json"), tempfile.mkdtemp()
+        answer = {"kubeletconfig": json.loads(read(f"{folder}/{path}"))}
+        shutil.copytree(f"{RECORDINGS}/static_pod", f"{made}/one")
+        shutil.copy(f"{folder}/summary", f"{made}/one/1/summary.json")
+        with open(f"{made}/one/1/configz.json", "w", encoding="utf-8") as file:
+            json.dump(answer, file)
+        recorder = Recorder(f"{made}/one")
+        status, trace, said = recorder.whole()
+        node, rest = trace.split("\n", 1)
+        expect_kept(f"node line {name}", f"{node}\n{said}status {status}\n", f"{folder}/{name}.line")
+        with_line = run([REPLAY], trace)
+        expect(f"node line {name}: the program accepts it", (with_line[0], with_line[2]), (0, ""))
+        whole = {**answer["kubeletconfig"], **{key: json.loads(node)[key] for key in ("kind", "name", "capacity")}}
+        as_it_stands = run([REPLAY], f"{json.dumps(whole)}\n{rest}")
+        wanted = (2, "", "line 1: 36 Config\n") if name in ("finepercent", "fraction") else with_line
+        expect(f"node line {name}: the configuration as it stands", as_it_stands, wanted)
+        recorder.clean()
+        shutil.rmtree(made)
+
+
+def paths_in(value, path=()):
+    """Where there is something in a JSON value."""
+    yield path
+    items = value.items() if isinstance(value, dict) else enumerate(value) if isinstance(value, list) else ()
+    for name, each in items:
+        yield from paths_in(each, (*path, name))
+
+
+def with_other(value, path, other):
+    """A JSON value with another one at a path."""
+    if not path:
+        return other
+    copy = value.copy()
+    copy[path[0]] = with_other(value[path[0]], path[1:], other)
+    return copy
+
+
+def test_odd_answers():
+    """Answers of which one part is another value: each is read, or it is no answer, with one line of why."""
+    with gzip.open(f"{RECORDINGS}/real_static_pods/answers.jsonl.gz", "rt", encoding="utf-8") as file:
+        answers = json.loads(file.readline())["answers"]
+    summary = summary_of(json.dumps(answers["summary"]))
+    identity = next(name for name in answers if len(name) == 64)
+    instance = next(each for each in instances_of(json.dumps(answers["ps"])) if each.id == identity)
+    for kind, reader, answer in (
+        ("ps", instances_of, {"containers": answers["ps"]["containers"][:1]}),
+        ("inspect", lambda text: inspected_of(text, instance), answers[identity]),
+        ("pods", lambda text: pods_of(text, "pods"), {**answers["pods"], "items": answers["pods"]["items"][:2]}),
+        ("summary", summary_of, {**answers["summary"], "pods": answers["summary"]["pods"][:1]}),
+        ("configz", lambda text: node_line_of(text, "n1", summary, STANDARD), answers["configz"]),
+    ):
+        odd = [json.dumps(with_other(answer, path, other)) for path in paths_in(answer)
+               for other in (None, "x", -1.5, 2 ** 70, True, [], {}, [None], ["x"], {"a": 1})]
+        faults = []
+        for text in odd:
+            try:
+                reader(text)
+            except Failed as failed:
+                faults += [text] if "\n" in str(failed) else []
+            except Exception as error:  # noqa: BLE001 what a test looks for
+                faults.append(f"{error!r}: {text}")
+        expect(f"odd answers: {kind}", faults[:1], [])
+
+
+def test_check():
+    """--check says of each source whether it works, and what it wants where it does not."""
+    for name, recording, status in (("all", "crash_loop", 0), ("forbidden", "first_scrape_fails", 1),
+                                    ("silent", "failed_scrape", 1)):
+        recorder = Recorder(recording)
+        if name == "silent":
+            with open(f"{recorder.run}/now", "w", encoding="utf-8") as file:
+                file.write("1767225610\n")
+        answer = run([f"{TOOLS}/record", "--check", "--node", "worker-3"], **recorder.settings)
+        expect(f"--check {name}", (answer[0], answer[2]), (status, ""))
+        expect_kept(f"--check {name}: the lines", answer[1], f"{HERE}/checked/{name}")
+        recorder.clean()
+
+
+def test_nothing_told():
+    """What a manifest tells its containers stays on the node."""
+    for name in ("crash_loop", "whole_node"):
+        trace, pods = read(f"{RECORDINGS}/{name}/trace"), read(f"{RECORDINGS}/{name}/1/pods.json")
+        expect(f"{name}: no environment in the trace", ("secret" in pods, "secret" in trace), (True, False))
+
+
+def test_limits():
+    """A 257th pod, a line above 1 MiB, and a trace above a limit, which is 64 MiB, are not written."""
+    folder = tempfile.mkdtemp()
+    shutil.copytree(f"{RECORDINGS}/static_pod", f"{folder}/many")
+    listed = json.loads(read(f"{folder}/many/1/pods.json"))
+    [pod] = listed["items"]
+    mirrored = pod["metadata"]["annotations"]["kubernetes.io/config.mirror"]
+    listed["items"] = [json.loads(json.dumps(pod).replace(pod["metadata"]["uid"], f"uid-{number}")
+                                  .replace(mirrored, f"mirrored-{number}")
+                                  .replace("kube-proxy-worker-3", f"pod-{number:03}")) for number in range(257)]
+    with open(f"{folder}/many/1/pods.json", "w") as file:
+        json.dump(listed, file)
+    recorder = Recorder(f"{folder}/many")
+    status, trace, said = recorder.whole()
+    expect("257 pods", (status, trace.count('"kind":"pod"'), said),
+           (0, 256, "record: kube-system/pod-256 is left out: a trace has at most 256 pods\n"))
+    recorder.clean()
+
+    shutil.copytree(f"{RECORDINGS}/own_node_line", f"{folder}/long")
+    with open(f"{folder}/long/node_line", "w") as file:
+        json.dump({"name": "n1", "padding": " " * 1048576}, file)
+    recorder = Recorder(f"{folder}/long")
+    expect_refused("a line above 1 MiB", recorder.whole(), 1, "longer than the formats take")
+    recorder.clean()
+
+    shutil.rmtree(folder)
+    try:
+        Output(10, 30).write(["a line", "a line that reaches the limit"])
+        expect("a trace above the limit", "written", "ended")
+    except Ended as end:
+        expect("a trace above the limit", (end.status, end.reason),
+               (0, "the trace has reached 64 MiB, the most that one takes"))
+
+
+def ended(process, name):
+    """What a process that was interrupted leaves: its status, whether its last line is whole, what it said."""
+    try:
+        out, said = process.communicate(timeout=10)
+    except subprocess.TimeoutExpired:
+        os.killpg(process.pid, signal.SIGKILL)
+        process.communicate()
+        return expect(name, "it went on", "it ended")
+    return process.returncode, out.decode(), said.decode()
+
+
+def wait_for(path, words=""):
+    for _ in range(500):
+        if os.path.exists(path) and words in read(path):
+            return
+        time.sleep(0.01)
+
+
+def test_interrupts():
+    """An interrupt ends it at the end of a line: what was seen by then is written."""
+    for name, settings, number, whole_group in (
+        ("an interrupt while it waits", {}, signal.SIGINT, True),
+        ("an end while it waits", {}, signal.SIGTERM, False),
+        ("an interrupt while it asks", {"WAITS": "crictl"}, signal.SIGINT, True),
+    ):
+        recorder = Recorder("crash_loop", **settings)
+        process = recorder.start("--node", "worker-3", "--look", "1" if settings else "60")
+        wait_for(f"{recorder.run}/{'waits' if settings else 'asked'}", "" if settings else "configz")
+        time.sleep(0.5)
+        (os.killpg if whole_group else os.kill)(process.pid, number)
+        answer = ended(process, name)
+        if answer:
+            status, out, said = answer
+            lines = out.split("\n")
+            kinds = [json.loads(line)["kind"] for line in lines[:-1]]
+            expect(name, (status, said, kinds, lines[-1]), (0, "", ["node", "pod", "tick"], ""))
+        expect(f"{name}: nothing is left behind", recorder.left(), [])
+        recorder.clean()
+
+
+def test_closed_output():
+    """A reader that goes away ends the recorder."""
+    recorder = Recorder("crash_loop")
+    process = recorder.start("--node", "worker-3")
+    process.stdout.close()
+    said = process.stderr.read().decode()
+    process.stderr.close()
+    expect("standard output is closed", (process.wait(LONGEST), said), (1, "record: standard output takes no more\n"))
+    recorder.clean()
+
+
+def test_texts():
+    """The recorder takes a text if the program does, by the tables of the program's own tests."""
+    for kind in ("quantity", "percentage", "duration", "name"):
+        rows = [line.split("\t") for line in read(f"{TEXTS}/{kind}.table").split("\n") if line and line[0] != "#"]
+        wanted = [verdict[0].isdigit() or verdict == "true" for _, verdict in rows]
+        got = [getattr(formats, f"{kind}_fault")(text) is None for text, _ in rows]
+        different = [row[0] for row, a, b in zip(rows, got, wanted) if a != b]
+        expect(f"texts of a {kind}", different, [])
