@@ -12,8 +12,8 @@ import distributed
 import entry
 from fleet import on_worker
 
-SECONDS_TO_CONNECT = 10
-SECONDS_TO_WAIT = 60
+SECONDS_TO_CONNECT = 5
+SECONDS_TO_WAIT = 30
 LIB = os.path.dirname(os.path.dirname(os.path.realpath(__file__)))
 
 
