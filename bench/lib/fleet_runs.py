@@ -48,7 +48,7 @@ class Run:
     def __init__(self, name, words, folder, others=()):
         self.name, self.folder, self.others, self.peak = name, folder, list(others), 0
         os.makedirs(folder, exist_ok=True)
-        self.used, self.began = processor_seconds(), time.monotonic()
+        self.used, self.began, self.seconds = processor_seconds(), time.monotonic(), 0.0
         self.process = subprocess.Popen([*words, "--out", f"{folder}/fleet.db"], stdout=subprocess.DEVNULL)
 
     def done(self):
@@ -94,6 +94,10 @@ class Cluster:
     def end_worker(self):
         os.kill(self.processes[-1].pid, signal.SIGKILL)
         self.processes.pop().wait()
+
+    def end_scheduler(self):
+        os.kill(self.processes[0].pid, signal.SIGKILL)
+        self.processes.pop(0).wait()
 
     def end(self):
         for process in reversed(self.processes):

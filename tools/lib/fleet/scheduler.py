@@ -10,7 +10,7 @@ import cloudpickle
 import distributed
 
 import entry
-from fleet import on_worker
+from fleet import on_worker, work
 
 SECONDS_TO_CONNECT = 5
 SECONDS_TO_WAIT = 30
@@ -20,8 +20,7 @@ LIB = os.path.dirname(os.path.dirname(os.path.realpath(__file__)))
 def connected(address):
     """A client of the scheduler of an address, with a worker at least."""
     # what a lost connection means is said in one line
-    for name in ("distributed", "tornado", "asyncio"):
-        logging.getLogger(name).setLevel(logging.CRITICAL + 1)
+    logging.disable(logging.CRITICAL)
     try:
         client = distributed.Client(address, timeout=SECONDS_TO_CONNECT)
     except (OSError, ValueError, TypeError, RuntimeError) as fault:
@@ -56,6 +55,4 @@ def answer_of(future, path):
     fault = future.exception()
     if not isinstance(fault, distributed.KilledWorker):
         raise entry.Fault(str(fault).split("\n")[0])
-    trace = {"record": "trace", "path": os.fsencode(path).decode("utf-8", "replace"), "status": "failed",
-             "fault": "each worker that had it in hand died"}
-    return {"trace": trace, "rows": None, "report": None}
+    return work.failed(path, "each worker that had it in hand died")
