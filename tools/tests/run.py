@@ -14,12 +14,13 @@ sys.dont_write_bytecode = True
 import checks
 import test_fleet
 import test_json
+import test_kubectl
 import test_page
 import test_record
 import test_why
 from checks import HERE, REPLAY, TOOLS, TOP, expect, expect_kept, expect_refused, read, run
 
-MODULES = (test_record, test_json, test_why, test_page, test_fleet)
+MODULES = (test_record, test_json, test_why, test_page, test_fleet, test_kubectl)
 RECORDINGS = f"{HERE}/recordings"
 COMMANDS = f"{HERE}/commands"
 

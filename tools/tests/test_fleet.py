@@ -230,21 +230,22 @@ def python_with(module):
 
 
 def test_fleet_parquet():
-    python = python_with("pyarrow.parquet")
+    """With pyarrow, or with a stand-in for it."""
+    python, settings = python_with("pyarrow.parquet"), {}
     folder = make_traces()
     words = [FLEET, "run", f"{folder}/traces", "--out", f"{folder}/fleet.db", "--parquet", f"{folder}/set"]
     if python is None:
-        print("left out: tools/fleet --parquet, since pyarrow is missing")
+        print("left out: tools/fleet --parquet with pyarrow, since that is missing; a stand-in is in its place")
         expect_refused("fleet without pyarrow", run(words), 127, "pyarrow is missing")
         expect("fleet without pyarrow leaves nothing", os.listdir(folder), ["traces"])
-        shutil.rmtree(folder)
-        return
-    expect("fleet --parquet", run([python, *words])[::2], (0, ""))
+        python, settings = sys.executable, {"PYTHONPATH": f"{KEPT}/stand_in"}
+    expect("fleet --parquet", run([python, *words], **settings)[::2], (0, ""))
     show = "import sys, pyarrow.parquet as p; print([list(row.values()) for row in p.read_table(sys.argv[1]).to_pylist()])"
     connection = sqlite3.connect(f"{folder}/fleet.db")
     for table in ("traces", "nodes", "pods", "containers", "conditions", "evictions"):
         rows = [list(row) for row in connection.execute(f"SELECT * FROM {table} ORDER BY rowid")]
-        expect(f"fleet --parquet: {table}", run([python, "-c", show, f"{folder}/set/{table}.parquet"])[1], f"{rows}\n")
+        shown = run([python, "-c", show, f"{folder}/set/{table}.parquet"], **settings)[1]
+        expect(f"fleet --parquet: {table}", shown, f"{rows}\n")
     connection.close()
     shutil.rmtree(folder)
 
