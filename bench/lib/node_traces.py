@@ -17,8 +17,8 @@ NODE = {
 def trace(seed, number):
     """The lines of a trace, as one text."""
     chance = random.Random(f"{seed}/{number}")
-    pods = [pod(chance, place) for place in range(chance.randint(2, 5))]
-    ticks = chance.randint(6, 18)
+    pods = [pod(chance, place) for place in range(chance.randint(2, 8))]
+    ticks = chance.randint(60, 240)
     pressed = pressure(chance, ticks)
     lines = [{**NODE, "name": f"worker-{number:05}"}, *({"kind": "pod", "pod": made["manifest"]} for made in pods)]
     lines += [tick(chance, pods, at, pressed) for at in range(ticks)]
