@@ -34,25 +34,25 @@ def columns(kind):
     return [column.split()[0] for column in TABLES[kind][1].split(", ")]
 
 
-def create_tables(connection):
-    for name, written in TABLES.values():
+def create_tables(connection, kinds=tuple(TABLES)):
+    for name, written in map(TABLES.get, kinds):
         connection.execute(f"CREATE TABLE {name} (report INTEGER NOT NULL, {written})")
 
 
 def add_records(connection, number, records):
     """Rows for the records of one report, in order; number is that of the report in the file."""
-    rows = {kind: [] for kind in TABLES}
+    rows = {}
     for record in records:
         kind = record["record"]
-        rows[kind].append([number, *map(record.get, columns(kind))])
+        rows.setdefault(kind, []).append([number, *map(record.get, columns(kind))])
     for kind, found in rows.items():
         marks = ", ".join("?" * (len(columns(kind)) + 1))
         connection.executemany(f"INSERT INTO {TABLES[kind][0]} VALUES ({marks})", found)
 
 
-def write_database(path, fill):
-    """A new file with the tables, which `fill` is given to fill. It stands under its name once it is whole. Raises
-    OSError or sqlite3.Error, and then whatever stood there is as it was."""
+def write_database(path, fill, kinds=tuple(TABLES)):
+    """A new file with the tables of these kinds of records, which `fill` is given to fill. It stands under its name
+    once it is whole. Raises OSError or sqlite3.Error, and then whatever stood there is as it was."""
     folder = os.path.dirname(os.path.abspath(path))
     if os.path.isdir(path):
         raise IsADirectoryError("it is a folder")
@@ -61,7 +61,7 @@ def write_database(path, fill):
         connection = sqlite3.connect(made)
         try:
             with connection:
-                create_tables(connection)
+                create_tables(connection, kinds)
                 fill(connection)
         finally:
             connection.close()

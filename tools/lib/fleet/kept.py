@@ -20,9 +20,9 @@ class Kept:
         self.folder, self.program_sum = folder, program_sum
         try:
             os.makedirs(folder, exist_ok=True)
-            # held for as long as the process lives
+            # held for as long as this process lives, and not by what it starts
             self.lock = open(os.path.join(folder, "lock"), "a")
-            fcntl.flock(self.lock, fcntl.LOCK_EX | fcntl.LOCK_NB)
+            fcntl.lockf(self.lock, fcntl.LOCK_EX | fcntl.LOCK_NB)
         except BlockingIOError:
             raise entry.Fault(f"another run writes {folder}; wait until it has ended") from None
         except OSError as fault:

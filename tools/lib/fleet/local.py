@@ -9,32 +9,37 @@ import threading
 import time
 from concurrent.futures.process import BrokenProcessPool
 
-import entry
 from fleet import work
 
-MOST_BREAKS = 3
+# tasks that are handed out for each process, with the one that it has in hand
 WAITING_EACH = 4
 
 
 def answers(tasks, program, program_sum, processes):
     """Path and answer of each task, as they come; tasks are pairs of a path and the sum that is known of it."""
     left = dict(tasks)
-    for _ in range(MOST_BREAKS):
+    while left:
         try:
             for path, answer in answers_of_pool(list(left.items()), program, program_sum, processes):
                 del left[path]
                 yield path, answer
-            return
         except BrokenProcessPool:
-            # a process was ended from outside: what it had in hand is done by new ones
-            continue
-    raise entry.Fault(f"worker processes were ended {MOST_BREAKS} times; what is done is kept, and a further run goes "
-                      "on from there")
+            # a process was ended from outside; each trace that it may have had in hand gets one of its own
+            for path in list(left)[: processes * WAITING_EACH]:
+                yield path, answer_alone(path, left.pop(path), program, program_sum)
+
+
+def answer_alone(path, known, program, program_sum):
+    try:
+        [(_, answer)] = answers_of_pool([(path, known)], program, program_sum, 1)
+        return answer
+    except BrokenProcessPool:
+        return work.failed(path, "each process that had it in hand was ended")
 
 
 def answers_of_pool(tasks, program, program_sum, processes):
     """A few tasks wait beside those in hand, so that answers don't pile up."""
-    with concurrent.futures.ProcessPoolExecutor(processes, initializer=begin, initargs=(os.getpid(),)) as pool:
+    with concurrent.futures.ProcessPoolExecutor(processes, initializer=begin) as pool:
         pending = {}
         try:
             for path, known in tasks:
@@ -54,10 +59,10 @@ def some(pending):
         yield pending.pop(future), future.result()
 
 
-def begin(parent):
+def begin():
     """An interrupt is the parent's to take, and a worker does not outlive it."""
     signal.signal(signal.SIGINT, signal.SIG_IGN)
-    threading.Thread(target=end_with, args=(parent,), daemon=True).start()
+    threading.Thread(target=end_with, args=(os.getppid(),), daemon=True).start()
 
 
 def end_with(parent):

@@ -12,6 +12,7 @@ import re
 import stat
 import subprocess
 
+import entry
 import program as programs
 import records
 import report as reports
@@ -22,7 +23,7 @@ KINDS = ("node", "pod", "container", "condition", "eviction")
 REFUSED_LINE = re.compile(r"line (\d+): (\d+) (\S.*)")
 
 
-class WorkFault(Exception):
+class WorkFault(entry.Fault):
     """This process can't do the work of any trace; the message says why."""
 
 
@@ -34,7 +35,7 @@ def answer(program, program_sum, path, known):
     try:
         text, size = read_trace(path)
     except OSError as fault:
-        return answered(record_of(path, None, None, "failed", fault=f"can't be read: {fault.strerror}"))
+        return failed(path, f"can't be read: {fault.strerror}")
     trace_sum = hashlib.sha256(text).hexdigest()
     if trace_sum == known:
         return answered(record_of(path, trace_sum, size, "known"))
@@ -86,6 +87,11 @@ def refusal(status, said):
 def record_of(path, trace_sum, size, status, line=None, code=None, fault=None):
     return {"record": "trace", "path": os.fsencode(path).decode("utf-8", "replace"), "sha256": trace_sum,
             "bytes": size, "status": status, "line": line, "code": code, "fault": fault}
+
+
+def failed(path, said):
+    """The answer where there is not even a trace to name."""
+    return answered(record_of(path, None, None, "failed", fault=said))
 
 
 def answered(trace, rows=(), report=None):

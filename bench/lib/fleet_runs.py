@@ -1,0 +1,157 @@
+"""Runs of tools/fleet, with what they cost, over processes of its own or workers of Dask distributed on loopback."""
+
+import glob
+import os
+import resource
+import shutil
+import signal
+import subprocess
+import sys
+import tempfile
+import time
+
+PAGE = os.sysconf("SC_PAGE_SIZE")
+
+
+def processes():
+    """The parent of each process and its resident memory in bytes."""
+    found = {}
+    for path in glob.glob("/proc/[0-9]*/stat"):
+        try:
+            with open(path) as file:
+                pid, _, rest = file.read().partition(" (")
+        except OSError:
+            continue
+        words = rest.rpartition(") ")[2].split()
+        found[int(pid)] = int(words[1]), int(words[21]) * PAGE
+    return found
+
+
+def memory(pids):
+    """The resident memory of some processes and all below them; what they share counts for each."""
+    found, below, more = processes(), set(), set(pids)
+    while more:
+        below |= more
+        more = {pid for pid, (parent, _) in found.items() if parent in below} - below
+    return sum(found[pid][1] for pid in below if pid in found)
+
+
+def processor_seconds():
+    """Those of all processes below this one that have ended and were waited for."""
+    used = resource.getrusage(resource.RUSAGE_CHILDREN)
+    return used.ru_utime + used.ru_stime
+
+
+class Run:
+    """A run of tools/fleet into a folder of its own; others are the processes beside it that work for it."""
+
+    def __init__(self, name, words, folder, others=()):
+        self.name, self.folder, self.others, self.peak = name, folder, list(others), 0
+        os.makedirs(folder, exist_ok=True)
+        self.used, self.began, self.seconds = processor_seconds(), time.monotonic(), 0.0
+        self.process = subprocess.Popen([*words, "--out", f"{folder}/fleet.db"], stdout=subprocess.DEVNULL)
+
+    def done(self):
+        return len(glob.glob(f"{self.folder}/fleet.db.done/*.rows.gz"))
+
+    def look_until(self, done=None):
+        """Waits until so many traces are done, or until the end."""
+        while self.process.poll() is None and (done is None or self.done() < done):
+            self.peak = max(self.peak, memory([self.process.pid, *self.others]))
+            time.sleep(0.1)
+        self.seconds = time.monotonic() - self.began
+
+    def told(self):
+        """The database; what the run cost is printed."""
+        used = processor_seconds() - self.used
+        print(f"{self.name:36} status {self.process.returncode}  {self.seconds:6.1f} s  {used:6.1f} processor s  "
+              f"{self.peak >> 20:4} MiB  {self.done()} answers", flush=True)
+        with open(f"{self.folder}/fleet.db", "rb") as file:
+            return file.read()
+
+
+class Cluster:
+    """A scheduler and its workers, each with one thread, on loopback."""
+
+    def __init__(self, python, count, folder):
+        self.file = f"{folder}/scheduler.json"
+        self.processes = [self.start(python, "distributed.cli.dask_scheduler", "--host", "127.0.0.1", "--port", "0",
+                                     "--no-dashboard", "--scheduler-file", self.file)]
+        while not os.path.exists(self.file):
+            time.sleep(0.1)
+        self.processes += [self.start(python, "distributed.cli.dask_worker", "--scheduler-file", self.file,
+                                      "--nthreads", "1", "--no-nanny", "--no-dashboard", "--host", "127.0.0.1",
+                                      "--local-directory", folder) for _ in range(count)]
+        with open(self.file) as file:
+            self.address = file.read().split('"address": "')[1].split('"')[0]
+
+    def start(self, python, module, *words):
+        return subprocess.Popen([python, "-m", module, *words], stdout=subprocess.DEVNULL, stderr=subprocess.DEVNULL)
+
+    def pids(self):
+        return [process.pid for process in self.processes]
+
+    def end_worker(self):
+        os.kill(self.processes[-1].pid, signal.SIGKILL)
+        self.processes.pop().wait()
+
+    def end_scheduler(self):
+        os.kill(self.processes[0].pid, signal.SIGKILL)
+        self.processes.pop(0).wait()
+
+    def end(self):
+        for process in reversed(self.processes):
+            process.terminate()
+            process.wait()
+
+
+def local_runs(fleet, traces, python, work):
+    for count in (1, 2, 4):
+        run = Run(f"{count} processes", [python, fleet, "run", traces, "--processes", str(count)],
+                  f"{work}/local-{count}")
+        run.look_until()
+        yield run.told()
+
+
+def dask_run(fleet, traces, python, work, count, ends=False):
+    name = f"{count} workers of Dask" + (", one of them ended" if ends else "")
+    folder = f"{work}/dask-{count}-{ends}"
+    os.makedirs(folder)
+    cluster = Cluster(python, count, folder)
+    try:
+        run = Run(name, [python, fleet, "run", traces, "--scheduler", cluster.address], folder, cluster.pids())
+        if ends:
+            run.look_until(len(glob.glob(f"{traces}/*.trace")) // 4)
+            cluster.end_worker()
+        run.look_until()
+    finally:
+        cluster.end()
+    return run.told()
+
+
+def stopped_run(fleet, traces, python, work):
+    """A run that is ended in the middle, and a further one."""
+    words = [python, fleet, "run", traces, "--processes", "4"]
+    first = Run("stopped", words, f"{work}/stopped")
+    first.look_until(len(glob.glob(f"{traces}/*.trace")) // 2)
+    os.kill(first.process.pid, signal.SIGKILL)
+    first.process.wait()
+    print(f"{'4 processes, ended in the middle':36} after {first.done()} answers; a database: "
+          f"{os.path.exists(f'{work}/stopped/fleet.db')}", flush=True)
+    again = Run("4 processes, begun again", words, f"{work}/stopped")
+    again.look_until()
+    return again.told()
+
+
+def measure(fleet, traces, python=sys.executable):
+    work = tempfile.mkdtemp()
+    try:
+        alone, *others = local_runs(fleet, traces, python, work)
+        others.append(stopped_run(fleet, traces, python, work))
+        others += [dask_run(fleet, traces, python, work, count) for count in (1, 2, 4)]
+        others.append(dask_run(fleet, traces, python, work, 4, ends=True))
+    finally:
+        shutil.rmtree(work)
+    same = [other == alone for other in others]
+    print(f"{sum(same)} of {len(same)} databases are that of 1 process, of {len(alone)} bytes")
+    return 0 if all(same) else 1

@@ -1,0 +1,38 @@
+"""A line of progress on a terminal."""
+
+from __future__ import annotations
+
+import sys
+import time
+
+EVERY = 0.2
+
+
+class Progress:
+    """Counts answers, and shows how many there are where standard error is a terminal."""
+
+    def __init__(self, total):
+        self.total, self.done, self.refused, self.failed = total, 0, 0, 0
+        self.began = time.monotonic()
+        self.shown = self.began - EVERY
+        self.is_seen = sys.stderr.isatty()
+
+    def step(self, status):
+        self.done += 1
+        self.refused += status == "refused"
+        self.failed += status == "failed"
+        now = time.monotonic()
+        if self.is_seen and now - self.shown >= EVERY:
+            self.shown = now
+            self.show((now - self.began) / self.done * (self.total - self.done))
+
+    def show(self, seconds):
+        sys.stderr.write(f"\r\x1b[K{self.done} of {self.total} traces, {self.refused} refused, {self.failed} failed, "
+                         f"about {seconds:.0f} s left")
+        sys.stderr.flush()
+
+    def end(self):
+        """Takes the line away."""
+        if self.is_seen:
+            sys.stderr.write("\r\x1b[K")
+            sys.stderr.flush()

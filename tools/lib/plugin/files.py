@@ -1,0 +1,92 @@
+"""The file of -f: a trace, of which the report is made, or a report."""
+
+from __future__ import annotations
+
+import json
+import os
+import subprocess
+import sys
+import tempfile
+
+import entry
+import program as programs
+import report as reports
+
+
+def is_report(path):
+    """Whether a file begins as a report. One that can't be read is a fault."""
+    try:
+        with open(path, "rb") as file:
+            return file.read(5) == b"node "
+    except OSError as fault:
+        raise entry.Fault(f"{path} can't be read: {fault.strerror}") from None
+
+
+def open_report(path):
+    """A file that holds the report: of the file that was named, or of standard input without one."""
+    if path is None:
+        if sys.stdin.isatty():
+            raise entry.Fault("it wants -f FILE, a trace or a report, or a report on standard input")
+        return sys.stdin.buffer
+    if is_report(path):
+        return open(path, "rb")
+    return replayed(path)
+
+
+def replayed(path):
+    """The report of a trace, as a file without a name."""
+    program, report = programs.path(), tempfile.TemporaryFile()
+    try:
+        done = subprocess.run([program, "run", path], stdout=report, stderr=subprocess.PIPE, check=False)
+    except OSError as fault:
+        raise entry.Fault(f"{program} is missing or can't be started: {fault.strerror}", 127) from None
+    if done.returncode != 0:
+        said = done.stderr.decode("utf-8", "replace").split("\n")[0] or f"status {done.returncode}"
+        if done.returncode == 2:
+            raise entry.Fault(f"{path} is refused: {said}")
+        raise entry.Fault(f"{path} can't be replayed: {said}", done.returncode if done.returncode == 127 else 1)
+    report.seek(0)
+    return report
+
+
+def pods_in(report, namespace):
+    """The keys of the pods of a namespace in an open report, which can be read once more after that."""
+    try:
+        found = reports.read_report(report.read().decode("utf-8", "replace"))
+    except reports.ReportFault as fault:
+        raise entry.Fault(str(fault)) from None
+    report.seek(0)
+    return [pod.key for pod in found.pods if pod.key.startswith(namespace + "/")]
+
+
+def whole(report):
+    """The same as a file that can be read twice."""
+    copy = tempfile.TemporaryFile()
+    copy.write(report.read())
+    copy.seek(0)
+    return copy
+
+
+def keys_of(path):
+    """The keys of the pods that a trace or a report names, for a completion: without one where it can't be read."""
+    try:
+        if is_report(path):
+            with open(path, encoding="utf-8") as file:
+                return [pod.key for pod in reports.read_report(file.read()).pods]
+        with open(path, encoding="utf-8") as file:
+            manifests = [json.loads(line)["pod"]["metadata"] for line in file if '"metadata"' in line]
+    except (OSError, ValueError, KeyError, TypeError, entry.Fault, reports.ReportFault):
+        return []
+    return [f"{found.get('namespace') or 'default'}/{found.get('name')}" for found in manifests]
+
+
+def run_on(tool, words, report=None):
+    """Becomes a tool, with a file as its standard input. It does not come back."""
+    if report is not None and report.fileno() != 0:
+        os.lseek(report.fileno(), 0, os.SEEK_SET)
+        os.dup2(report.fileno(), 0)
+    sys.stdout.flush()
+    try:
+        os.execv(tool, [tool, *words])
+    except OSError as fault:
+        raise entry.Fault(f"{tool} is missing or can't be started: {fault.strerror}", 127) from None

@@ -1,0 +1,112 @@
+"""Words as kubectl takes them: a namespace, a file, names of pods."""
+
+from __future__ import annotations
+
+import subprocess
+from dataclasses import dataclass, field
+
+import entry
+
+NAMESPACE, FILE = ("-n", "--namespace"), ("-f", "--filename")
+POD_TYPES = ("pod", "pods", "po")
+SECONDS_OF_KUBECTL = 10
+
+
+@dataclass(frozen=True)
+class Command:
+    """One of the plugin's commands. Pods are how many it takes, as "none", "one" or "any"; valued are the words of its
+    tool that have a value; flags are those without one."""
+
+    says: str
+    pods: str = "none"
+    takes_file: bool = True
+    valued: tuple[str, ...] = ()
+    flags: tuple[str, ...] = ()
+
+
+COMMANDS = {
+    "record": Command("record a node", takes_file=False),
+    "run": Command("the report of a trace", valued=("--workers",), flags=("--extended",)),
+    "check": Command("whether a file is a trace", flags=("--extended",)),
+    "story": Command("one pod's story", "one", valued=("--trace",), flags=("--utc",)),
+    "why": Command("what the trace holds around each event of one pod", "one", valued=("--trace",), flags=("--utc",)),
+    "page": Command("a page of a node", flags=("--utc",)),
+    "timeline": Command("a picture of pods", "any", flags=("--utc",)),
+    "json": Command("a report as JSON lines, or tables of SQLite", valued=("--sqlite",)),
+    "what-if": Command("a trace replayed with an edit"),
+    "fleet": Command("the traces of many nodes", takes_file=False),
+}
+
+
+@dataclass
+class Words:
+    """The words of a command: what the plugin takes from them, and what is left for its tool."""
+
+    namespace: str | None = None
+    file: str | None = None
+    plain: list[str] = field(default_factory=list)
+    rest: list[str] = field(default_factory=list)
+    waiting: str | None = None
+    """the last word, where it wants a value"""
+
+
+def words_of(command, given):
+    found, given = Words(), list(given)
+    while given:
+        take(command, given, found)
+    return found
+
+
+def take(command, given, found):
+    """Takes a word, and its value where it has one."""
+    word = given.pop(0)
+    name, value = parts_of(word, command)
+    if name is None and word.startswith("-") and word != "-":
+        found.rest.append(word)
+        return
+    if name is None:
+        found.plain.append(word)
+        return
+    if value is None and not given:
+        found.waiting = name
+        return
+    value = given.pop(0) if value is None else value
+    if name in NAMESPACE and command.pods != "none":
+        found.namespace = value
+    elif name in FILE and command.takes_file:
+        found.file = value
+    else:
+        found.rest += [name, value]
+
+
+def parts_of(word, command):
+    """The name of a word that has a value, and the value that stands in the same word; None where it has none."""
+    name, equals, value = word.partition("=")
+    if name in (*NAMESPACE, *FILE, *command.valued):
+        return name, value if equals else None
+    if word[:2] in (NAMESPACE[0], FILE[0]) and not word.startswith("--"):
+        return word[:2], word[2:].removeprefix("=")
+    return None, None
+
+
+def key_of(name, given, otherwise):
+    """NAMESPACE/NAME of a pod as kubectl names it: web, pod/web, or shop/web. `given` is the namespace that was asked
+    for, `otherwise` answers the one that holds without it."""
+    head, slash, tail = name.partition("/")
+    if slash and head not in POD_TYPES:
+        if given not in (None, head):
+            raise entry.Fault(f"{name} is not in the namespace {given}")
+        return name
+    return f"{given or otherwise()}/{tail if slash else name}"
+
+
+def current_namespace():
+    """That of kubectl's context, else `default`."""
+    words = ["kubectl", "config", "view", "--minify", "--output", "jsonpath={..namespace}"]
+    try:
+        done = subprocess.run(words, capture_output=True, check=False, timeout=SECONDS_OF_KUBECTL,
+                              stdin=subprocess.DEVNULL)
+    except (OSError, subprocess.TimeoutExpired):
+        return "default"
+    said = done.stdout.decode("utf-8", "replace").split()
+    return said[0] if done.returncode == 0 and said else "default"

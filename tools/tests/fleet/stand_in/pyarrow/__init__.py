@@ -1,0 +1,22 @@
+"""Stands in for pyarrow, with the few functions that tools/fleet uses. A table is its names, kinds and columns."""
+
+
+def int64():
+    return "int64"
+
+
+def string():
+    return "string"
+
+
+def schema(fields):
+    return fields
+
+
+def array(column, kind):
+    return [kind, *column]
+
+
+def table(arrays, schema):
+    assert [column[0] for column in arrays] == [kind for _, kind in schema]
+    return {name: column[1:] for (name, _), column in zip(schema, arrays)}

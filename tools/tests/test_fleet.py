@@ -1,0 +1,308 @@
+"""The tests of tools/fleet: its tables, what is kept, runs that end in the middle, what is refused; and Dask distributed
+and pyarrow where they are there."""
+
+import glob
+import os
+import pty
+import re
+import shutil
+import signal
+import sqlite3
+import subprocess
+import sys
+import tempfile
+import time
+
+from checks import HERE, REPLAY, TOOLS, TOP, expect, expect_kept, expect_refused, read, run
+
+sys.path.append(f"{TOP}/bench/lib")
+import fleet_runs
+import node_traces
+
+KEPT = f"{HERE}/fleet"
+FLEET = f"{TOOLS}/fleet"
+COUNTED = {"KUBELET_REPLAY": f"{KEPT}/replay", "PROGRAM": REPLAY}
+
+
+def make_traces():
+    """A folder with the examples and the traces that are kept here."""
+    folder = tempfile.mkdtemp()
+    shutil.copytree(f"{KEPT}/traces", f"{folder}/traces")
+    for path in glob.glob(f"{TOP}/examples/*.trace"):
+        shutil.copy(path, f"{folder}/traces")
+    return folder
+
+
+def content(path):
+    with open(path, "rb") as file:
+        return file.read()
+
+
+def plain(text, folder):
+    """A text without what is another one each time: the folder, and the keys of kept answers."""
+    return re.sub(r"-[0-9a-f]{16}\.report\.gz", "-KEY.report.gz", text.replace(folder, "FOLDER"))
+
+
+def dump(path):
+    connection = sqlite3.connect(path)
+    try:
+        return "".join(f"{line}\n" for line in connection.iterdump())
+    finally:
+        connection.close()
+
+
+def rows_kept(database):
+    return len(glob.glob(f"{database}.done/*.rows.gz"))
+
+
+def runs_counted(folder):
+    """How often the program was run since it was asked last."""
+    count = read(f"{folder}/runs").count("run\n")
+    os.remove(f"{folder}/runs")
+    return count
+
+
+def test_fleet_tables():
+    folder = make_traces()
+    database = f"{folder}/fleet.db"
+    status, told, said = run([FLEET, "run", f"{folder}/traces", "--out", database, "--processes", "3"])
+    expect("fleet run", (status, said), (0, ""))
+    expect_kept("fleet run: what it prints", plain(told, folder), f"{KEPT}/printed")
+    expect_kept("fleet run: the database", plain(dump(database), folder), f"{KEPT}/dump.sql")
+    for by in ("restarts", "unready", "evicted"):
+        status, told, said = run([FLEET, "worst", database, "--by", by, "--top", "3"])
+        expect_kept(f"fleet worst by {by}", plain(told, folder) + said + f"status {status}\n", f"{KEPT}/worst_{by}")
+    check_reports(database, folder)
+    one = f"{folder}/one.db"
+    words = [f"{folder}/traces/**/*.trace", f"{folder}/traces/cut.trace", "--out", one, "--processes", "1"]
+    expect("fleet run by a pattern", run([FLEET, "run", *words])[0], 0)
+    expect("the database of one process", content(one) == content(database), True)
+    shutil.rmtree(folder)
+
+
+def check_reports(database, folder):
+    """The reports beside a database are those of the program."""
+    connection = sqlite3.connect(database)
+    rows = connection.execute("SELECT path, report_file FROM traces WHERE status = 'replayed'").fetchall()
+    connection.close()
+    different = [path for path, name in rows
+                 if run(["zcat", f"{database}.done/{name}"])[1] != run([REPLAY, "run", path])[1]]
+    expect("fleet run: the reports", (len(rows) > 12, different), (True, []))
+
+
+def test_fleet_begins_again():
+    folder = make_traces()
+    settings = {**COUNTED, "RUNS": f"{folder}/runs"}
+    words = [FLEET, "run", f"{folder}/traces", "--out", f"{folder}/fleet.db"]
+    count = len(glob.glob(f"{folder}/traces/**/*.trace", recursive=True))
+    run(words, **settings)
+    first, program_runs = content(f"{folder}/fleet.db"), runs_counted(folder)
+    expect("fleet: each trace is replayed once, after one try", program_runs, count + 1)
+    run(words, **settings)
+    expect("fleet again: nothing is replayed", (runs_counted(folder), content(f"{folder}/fleet.db") == first), (1, True))
+    shutil.copy(f"{folder}/traces/crash_loop.trace", f"{folder}/traces/cut.trace")
+    run(words, **settings)
+    changed = content(f"{folder}/fleet.db")
+    expect("fleet again: a trace that changed is replayed", (runs_counted(folder), changed != first), (2, True))
+    run([*words, "--anew"], **settings)
+    expect("fleet --anew", (runs_counted(folder), content(f"{folder}/fleet.db") == changed), (count + 1, True))
+    shutil.rmtree(folder)
+
+
+def test_fleet_is_stopped():
+    """A run that is ended leaves no database and no process, and a further one does what is left."""
+    folder = make_traces()
+    settings = {**COUNTED, "RUNS": f"{folder}/runs", "WAIT": "0.1"}
+    database = f"{folder}/fleet.db"
+    words = [FLEET, "run", f"{folder}/traces", "--out", database, "--processes", "2"]
+    for number, status in ((signal.SIGKILL, -9), (signal.SIGINT, 130)):
+        before = rows_kept(database)
+        process = subprocess.Popen(words, env={**os.environ, **settings}, stderr=subprocess.PIPE)
+        wait_until(lambda: rows_kept(database) > before + 2)
+        busy = run(words, **settings)
+        process.send_signal(number)
+        said = process.communicate()[1].decode()
+        expect(f"fleet ended by {number.name}", (process.returncode, said, os.path.exists(database)),
+               (status, "", False))
+        expect_refused("fleet: two runs at a time", busy, 2, "another run writes")
+        wait_until(lambda: not children_left(folder))
+        expect(f"fleet ended by {number.name}: no process is left", children_left(folder), [])
+    left = len(glob.glob(f"{folder}/traces/**/*.trace", recursive=True)) - rows_kept(database)
+    os.remove(f"{folder}/runs")
+    status, told, said = run(words, **settings)
+    expect("fleet begun again does what is left", (status, runs_counted(folder)), (0, left + 1))
+    expect("fleet begun again: what it prints", plain(told, folder), read(f"{KEPT}/printed"))
+    shutil.rmtree(folder)
+
+
+def wait_until(holds):
+    for _ in range(1000):
+        if holds():
+            return
+        time.sleep(0.02)
+
+
+def children_left(folder):
+    """Processes that have a folder among their words."""
+    found = []
+    for path in glob.glob("/proc/[0-9]*/cmdline"):
+        try:
+            words = content(path)
+        except OSError:
+            continue
+        if folder.encode() in words:
+            found.append(words)
+    return found
+
+
+def test_fleet_failures():
+    """What is no trace's fault is a row too, and is tried again."""
+    folder = make_traces()
+    os.mkfifo(f"{folder}/traces/pipe.trace")
+    settings = {**COUNTED, "RUNS": f"{folder}/runs", "ENDS": "n5"}
+    words = [FLEET, "run", f"{folder}/traces", "--out", f"{folder}/fleet.db", "--processes", "2"]
+    status, _, said = run(words, **settings)
+    expect("fleet: traces that fail", (status, said), (1, "fleet: 3 traces failed; the table traces says why, and a "
+                                                          "further run tries them again\n"))
+    connection = sqlite3.connect(f"{folder}/fleet.db")
+    rows = connection.execute("SELECT path, fault FROM traces WHERE status = 'failed'").fetchall()
+    connection.close()
+    ended = "each process that had it in hand was ended"
+    expect("fleet: why traces fail", [(os.path.basename(path), fault) for path, fault in rows],
+           [("hour_1.trace", ended), ("hour_2.trace", ended), ("pipe.trace", "can't be read: it is no file")])
+    os.remove(f"{folder}/traces/pipe.trace")
+    os.remove(f"{folder}/runs")
+    status, told, said = run(words, **{**settings, "ENDS": ""})
+    expect("fleet: traces that failed are tried again", (status, said, runs_counted(folder)), (0, "", 3))
+    expect("fleet: what is printed then", plain(told, folder), read(f"{KEPT}/printed"))
+    shutil.rmtree(folder)
+
+
+def test_fleet_progress():
+    folder = make_traces()
+    master, terminal = pty.openpty()
+    process = subprocess.Popen([FLEET, "run", f"{folder}/traces", "--out", f"{folder}/fleet.db"], stderr=terminal,
+                               stdout=subprocess.DEVNULL, env={**os.environ, "KUBELET_REPLAY": REPLAY})
+    os.close(terminal)
+    process.wait()
+    shown = os.read(master, 1 << 16).decode()
+    os.close(master)
+    total = len(glob.glob(f"{folder}/traces/**/*.trace", recursive=True))
+    expect("fleet shows how far it is on a terminal",
+           (bool(re.match(rf"\r\x1b\[K1 of {total} traces, . refused, 0 failed, about \d+ s left", shown)),
+            shown.endswith("\r\x1b[K")), (True, True))
+    shutil.rmtree(folder)
+
+
+def test_fleet_refused():
+    folder = make_traces()
+    stood = {"<TRACES>": f"{folder}/traces", "<NEW>": f"{folder}/new.db", "<OTHER>": f"{folder}/other",
+             "<DB>": f"{folder}/fleet.db", "<SQLITE>": f"{folder}/sqlite", "<EMPTY>": f"{folder}/empty"}
+    os.mkdir(stood["<EMPTY>"])
+    with open(stood["<OTHER>"], "w") as file:
+        file.write("something else\n")
+    connection = sqlite3.connect(stood["<SQLITE>"])
+    connection.execute("CREATE TABLE traces (report INTEGER)")
+    connection.close()
+    run([FLEET, "run", f"{stood['<TRACES>']}/n5", "--out", stood["<DB>"]])
+    there = sorted(os.listdir(folder))
+    for line in read(f"{KEPT}/refused.table").split("\n")[1:-1]:
+        words, status, said = line.split("\t")
+        given = [] if words == "-" else re.sub("|".join(stood), lambda found: stood[found[0]], words).split()
+        answer = run([FLEET, *given])
+        wanted = [re.sub("|".join(stood), lambda found: stood[found[0]], text) for text in said.split("|")]
+        found = next((text for text in wanted if text in answer[2]), wanted[0])
+        expect_refused(f"fleet {words}", answer, answer[0] if status == "*" else int(status), found)
+    expect("fleet: refused words leave nothing", sorted(os.listdir(folder)), there)
+    answer = run([FLEET, "run", stood["<TRACES>"], "--out", stood["<NEW>"]], KUBELET_REPLAY="/nonexistent/program")
+    expect_refused("fleet without the program", answer, 127, "/nonexistent/program is missing")
+    answer = run([FLEET, "run", stood["<TRACES>"], "--out", stood["<NEW>"]], KUBELET_REPLAY="/bin/true")
+    expect_refused("fleet with another program", answer, 127, "/bin/true writes no report")
+    shutil.rmtree(folder)
+
+
+def python_with(module):
+    """A python3 that has a module, or None."""
+    for python in (sys.executable, "/usr/bin/python3"):
+        if os.path.exists(python) and run([python, "-c", f"import {module}"])[0] == 0:
+            return python
+    return None
+
+
+def test_fleet_parquet():
+    """With pyarrow, or with a stand-in for it."""
+    python, settings = python_with("pyarrow.parquet"), {}
+    folder = make_traces()
+    words = [FLEET, "run", f"{folder}/traces", "--out", f"{folder}/fleet.db", "--parquet", f"{folder}/set"]
+    if python is None:
+        print("left out: tools/fleet --parquet with pyarrow, since that is missing; a stand-in is in its place")
+        expect_refused("fleet without pyarrow", run(words), 127, "pyarrow is missing")
+        expect("fleet without pyarrow leaves nothing", os.listdir(folder), ["traces"])
+        python, settings = sys.executable, {"PYTHONPATH": f"{KEPT}/stand_in"}
+    expect("fleet --parquet", run([python, *words], **settings)[::2], (0, ""))
+    show = "import sys, pyarrow.parquet as p; print([list(row.values()) for row in p.read_table(sys.argv[1]).to_pylist()])"
+    connection = sqlite3.connect(f"{folder}/fleet.db")
+    for table in ("traces", "nodes", "pods", "containers", "conditions", "evictions"):
+        rows = [list(row) for row in connection.execute(f"SELECT * FROM {table} ORDER BY rowid")]
+        shown = run([python, "-c", show, f"{folder}/set/{table}.parquet"], **settings)[1]
+        expect(f"fleet --parquet: {table}", shown, f"{rows}\n")
+    connection.close()
+    shutil.rmtree(folder)
+
+
+def test_fleet_on_dask():
+    """Two workers, of which one is ended in the middle; then the scheduler."""
+    python = python_with("distributed")
+    folder = make_traces()
+    words = [FLEET, "run", f"{folder}/traces", "--out"]
+    if python is None:
+        print("left out: tools/fleet --scheduler, since python3-distributed is missing")
+        answer = run([*words, f"{folder}/fleet.db", "--scheduler", "tcp://127.0.0.1:1"])
+        expect_refused("fleet without distributed", answer, 127, "python3-distributed")
+        shutil.rmtree(folder)
+        return
+    settings = {**COUNTED, "RUNS": f"{folder}/runs", "WAIT": "0.2"}
+    run([*words, f"{folder}/one.db", "--processes", "1"], **{**settings, "WAIT": ""})
+    os.environ.update(settings)
+    cluster = fleet_runs.Cluster(python, 2, folder)
+    try:
+        check_dask(python, words, cluster, folder, settings)
+    finally:
+        cluster.end()
+        for name in settings:
+            del os.environ[name]
+    os.environ["KUBELET_REPLAY"] = REPLAY
+    answer = run([python, *words, f"{folder}/none.db", "--scheduler", cluster.address])
+    expect_refused("fleet: a scheduler that does not answer", answer, 2, "does not answer")
+    shutil.rmtree(folder)
+
+
+def check_dask(python, words, cluster, folder, settings):
+    database = f"{folder}/dask.db"
+    started = subprocess.Popen([python, *words, database, "--scheduler", cluster.address], stdout=subprocess.PIPE,
+                               stderr=subprocess.PIPE, env={**os.environ, **settings})
+    wait_until(lambda: rows_kept(database) >= 4)
+    cluster.end_worker()
+    told, said = started.communicate()
+    expect("fleet on Dask", (started.returncode, said.decode()), (0, ""))
+    expect("fleet on Dask: what it prints", plain(told.decode(), folder), read(f"{KEPT}/printed"))
+    expect("fleet on Dask: the database", content(database) == content(f"{folder}/one.db"), True)
+    started = subprocess.Popen([python, *words, f"{folder}/lost.db", "--scheduler", cluster.address],
+                               stdout=subprocess.PIPE, stderr=subprocess.PIPE, env={**os.environ, **settings})
+    wait_until(lambda: rows_kept(f"{folder}/lost.db") >= 3)
+    cluster.end_scheduler()
+    told, said = started.communicate()
+    expect_refused("fleet: a scheduler that goes away", (started.returncode, told.decode(), said.decode()), 2,
+                   "the scheduler went away")
+
+
+def test_generated_traces():
+    """The generator's traces are the same each time, and are refused or replayed as it means them."""
+    folder = tempfile.mkdtemp()
+    run([f"{TOP}/bench/fleet", "traces", f"{folder}/traces", "40", "7"])
+    expect("bench/fleet traces", [read(f"{folder}/traces/worker-{number:05}.trace") for number in (0, 39)],
+           [node_traces.trace(7, number) for number in (0, 39)])
+    status, told, said = run([FLEET, "run", f"{folder}/traces", "--out", f"{folder}/fleet.db"])
+    expect("fleet of generated traces", (status, said, told.split(";")[0]),
+           (0, "", "40 traces: 38 replayed, 2 refused, 0 failed"))
+    shutil.rmtree(folder)

@@ -1,0 +1,110 @@
+"""The tests of kubectl replay: its words and its completion with stand-ins for the tools, and both by a kubectl where
+there is one."""
+
+import json
+import os
+import re
+import shutil
+import subprocess
+import tempfile
+
+from checks import HERE, REPLAY, TOOLS, TOP, expect, expect_refused, read, run
+
+KEPT = f"{HERE}/kubectl"
+TOOL_NAMES = ("record", "story", "why", "timeline", "page", "json", "what-if", "fleet")
+TRACE = ('{"kind":"node","name":"made"}\n'
+         '{"kind":"pod","pod":{"metadata":{"name":"web","namespace":"shop"},"spec":{"containers":[{"name":"app"}]}}}\n'
+         '{"kind":"pod","pod":{"metadata":{"name":"other","namespace":"shop"},"spec":{"containers":[{"name":"app"}]}}}\n'
+         '{"kind":"pod","pod":{"metadata":{"name":"plain"},"spec":{"containers":[{"name":"app"}]}}}\n')
+# a plugin completes its words by itself since then
+FIRST_WITH_COMPLETION = 26
+
+
+def make_folder():
+    """A folder with the plugin beside stand-ins for the tools, a trace, a report, and a text that is refused."""
+    folder = tempfile.mkdtemp()
+    os.makedirs(f"{folder}/tools")
+    os.symlink(f"{TOOLS}/lib", f"{folder}/tools/lib")
+    for name in ("kubectl-replay", "kubectl_complete-replay"):
+        shutil.copy(f"{TOOLS}/{name}", f"{folder}/tools")
+    for name in TOOL_NAMES:
+        shutil.copy(f"{KEPT}/commands/show", f"{folder}/tools/{name}")
+    shutil.copy(f"{KEPT}/commands/show", f"{folder}/kubelet_replay")
+    report = run([REPLAY], TRACE)[1]
+    for name, text in (("trace", TRACE), ("report", report.replace("node made", "node kept")), ("refused", "{}\n")):
+        with open(f"{folder}/{name}", "w") as file:
+            file.write(text)
+    return folder
+
+
+def rows(table):
+    """The rows of a table in which FOLDER stands for a folder."""
+    return [line.split("\t") for line in read(f"{KEPT}/{table}.table").split("\n")[1:-1]]
+
+
+def with_stand_ins(folder, program=None, namespace=""):
+    return {"PATH": f"{KEPT}/commands:{os.environ['PATH']}", "CONTEXT_NAMESPACE": namespace,
+            "KUBELET_REPLAY": program or f"{folder}/kubelet_replay"}
+
+
+def test_kubectl_words():
+    folder = make_folder()
+    report = read(f"{HERE}/lines/came_again.report")
+    for words, called in rows("words"):
+        given = words.replace("FOLDER", folder).split()
+        # a trace of -f is replayed by the program itself, else its stand-in shows what it is called with
+        program = None if given[0] in ("run", "check") else REPLAY
+        status, out, said = run([f"{folder}/tools/kubectl-replay", *given], report, **with_stand_ins(folder, program))
+        expect(f"kubectl replay {words}", (status, out.replace(folder, "FOLDER").strip(), said), (0, called, ""))
+    settings = with_stand_ins(folder, namespace="shop")
+    answer = run([f"{folder}/tools/kubectl-replay", "story", "db"], report, **settings)[1]
+    expect("kubectl replay in the namespace of its context", answer.split(" <")[0], "story [shop/db]")
+    shutil.rmtree(folder)
+
+
+def test_kubectl_refused():
+    folder = make_folder()
+    report = read(f"{HERE}/lines/came_again.report")
+    for words, status, said in rows("refused"):
+        answer = run([f"{folder}/tools/kubectl-replay", *words.replace("FOLDER", folder).split()], report,
+                     **with_stand_ins(folder, REPLAY))
+        expect_refused(f"kubectl replay {words}", answer, int(status), said.replace("FOLDER", folder))
+    answer = run([f"{TOOLS}/kubectl-replay", "story", "-f", f"{folder}/trace", "shop/web"],
+                 KUBELET_REPLAY="/nonexistent/program")
+    expect_refused("kubectl replay without the program", answer, 127, "/nonexistent/program is missing")
+    shutil.rmtree(folder)
+
+
+def test_kubectl_completion():
+    folder = make_folder()
+    settings = with_stand_ins(folder, namespace="shop")
+    for words, candidates in rows("completions"):
+        given = ["" if word == "_" else word.replace("FOLDER", folder) for word in words.split()]
+        status, out, said = run([f"{folder}/tools/kubectl_complete-replay", *given], **settings)
+        shown = " ".join(out.split()).replace(folder, "FOLDER")
+        expect(f"completion of {words}", (status, shown, said), (0, candidates, ""))
+    shutil.rmtree(folder)
+
+
+def test_real_kubectl():
+    """By a kubectl that runs the plugin itself."""
+    path = f"{TOOLS}:{os.environ['PATH']}"
+    kubectl = shutil.which("kubectl")
+    if kubectl is None:
+        print("left out: kubectl replay by kubectl itself, since that is missing")
+        return
+    trace = f"{TOP}/examples/liveness_kill.trace"
+    report = read(f"{TOP}/examples/liveness_kill.report")
+    by_kubectl = run([kubectl, "replay", "story", "-f", trace, "-n", "shop", "pod/web-0"], PATH=path)
+    expect("a kubectl tells a story", by_kubectl, run([f"{TOOLS}/story", "shop/web-0"], report))
+    by_kubectl = run([kubectl, "replay", "run", trace], PATH=path)
+    expect("a kubectl replays a trace", by_kubectl, (0, report, ""))
+    answer = run([kubectl, "replay", "story", "shop/web"], report, PATH=path)
+    expect_refused("a kubectl refuses a pod", answer, 2, "no pod shop/web; the nearest: shop/web-0")
+    version = json.loads(run([kubectl, "version", "--client", "--output", "json"])[1])["clientVersion"]
+    if int(re.match(r"\d+", version["minor"])[0]) < FIRST_WITH_COMPLETION:
+        print(f"left out: completion by kubectl itself, which 1.{version['minor']} does not do for plugins")
+        return
+    words = [kubectl, "__complete", "replay", "story", "-f", trace, "-n", "shop", "w"]
+    done = subprocess.run(words, capture_output=True, check=False, env={**os.environ, "PATH": path})
+    expect("a kubectl completes a pod", done.stdout.decode(), "web-0\n:4\n")
