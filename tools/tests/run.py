@@ -21,11 +21,7 @@ import test_record
 import test_why
 from checks import HERE, REPLAY, TOOLS, TOP, expect, expect_kept, expect_refused, read, run
 
-<<<<<<< HEAD
-MODULES = (test_record, test_plays, test_json, test_why, test_page)
-=======
-MODULES = (test_record, test_json, test_why, test_page, test_fleet, test_kubectl)
->>>>>>> d4dd5ab6d33399ddda507bc034c39a4851cb9aa2
+MODULES = (test_record, test_plays, test_json, test_why, test_page, test_fleet, test_kubectl)
 RECORDINGS = f"{HERE}/recordings"
 COMMANDS = f"{HERE}/commands"
 
