@@ -1,5 +1,6 @@
 -- What the ticks show of one pod and of one container.
 use Rattle.std.specs.Prelude.{ℕ, List, map, Option, option_and_then, slice_get}
+use Rattle.std.specs.Option.{option_flatten}
 use Rattle.std.specs.List.{filter_map}
 use Rattle.histories.specs.Histories.{recorded}
 use Rattle.state_diff.specs.declared.seen.Seen.{Seen}
@@ -8,9 +9,9 @@ use Rattle.observations.specs.declared.container.ContainerObs.{ContainerObs}
 use Rattle.observations.specs.Pods.{PodObs}
 use Rattle.observations.specs.declared.tick.TickObs.{TickObs}
 
--- a tick's observation of a pod, by number, if it has one
+-- a tick's observation of a pod, by number, if the pod is present
 abbrev pub shown_of : TickObs → ℕ → Option PodObs
-shown_of tick pod = slice_get tick.pods pod
+shown_of tick pod = option_flatten (slice_get tick.pods pod)
 
 -- what an observation of a pod lists of a container, by number
 abbrev pub listed_in : PodObs → ℕ → Option Seen

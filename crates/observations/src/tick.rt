@@ -7,13 +7,13 @@ use sequence::Sequence;
 use signals::BySignal;
 use state_diff::Seen;
 
-/// One tick. A pod of which it has no entry lists none of its containers.
+/// One tick. A pod that is present and of which it has no entry lists none of its containers.
 #[derive(Drop)]
 pub struct TickObs {
     /// The moment, in seconds, below 2^40 and later than the last tick's.
     pub at: u64,
-    /// One observation for each pod that is present, by number.
-    pub pods: Sequence<PodObs>,
+    /// For each pod that has arrived, by number, what is shown of it; none of one that is gone.
+    pub pods: Sequence<Option<PodObs>>,
     /// The values of the node's signals, where the tick has one.
     pub signals: BySignal<Option<Quantity>>,
     /// The values of the file system signals after space was reclaimed, where the tick has one.
@@ -24,7 +24,8 @@ pub struct TickObs {
 pub fn seen_of(tick: &TickObs, pod: usize, container: usize) -> Option<Seen>
     ensures { result ≡ seen_of tick.now pod container }
 {
-    let pod = tick.pods.as_slice().get(pod)?;
-    let observed = pod.container(container)?;
+    let shown = tick.pods.as_slice().get(pod)?;
+    let shown = shown.as_ref()?;
+    let observed = shown.container(container)?;
     observed.seen
 }

@@ -3,15 +3,17 @@
 #![tactic(auto)]
 
 mod fault;
+mod progress;
 
 ghost use Rattle.std.specs.Prelude.{◌<◌, ◌≤◌, ◌^◌};
 ghost use Rattle.replay_program.specs.Jobs.{HasFewWorkers};
 
 use fault::Fault;
 use kubelet_replay::{
-    Counted, Format, Job, NoGate, Sink, Source, Step, check_in, job_of, read_steps, replay,
-    replay_in, replay_play_in,
+    Counted, Format, Job, Sink, Source, Step, check_in, job_of, read_steps, replay, replay_in,
+    replay_play_in,
 };
+use progress::{Input, Output, Progress};
 use replay_stream::read_all;
 use std::alloc::AllocError;
 use std::env;
@@ -38,8 +40,9 @@ fn words_of(rt: &(impl Env + AllocGlobal)) -> Result<Vec<String>, Fault> {
 }
 
 /// Replays the file of this path by so many workers.
-fn run<H: Files + AllocGlobal + Threads + Wait + Sync, W: Sink>(
+fn run<H: Files + Eprint + AllocGlobal + Threads + Wait + Sync, W: Sink>(
     rt: &H,
+    progress: &Progress<'_, H>,
     format: Format,
     path: &str,
     workers: usize,
@@ -49,22 +52,23 @@ fn run<H: Files + AllocGlobal + Threads + Wait + Sync, W: Sink>(
     requires most { workers ≤ 64 }
     requires writes { W.failures output.old < 2 ^ 63 }
 {
-    let mut input = Counted::new(File::open(rt, path)?);
-    let done = replay_in(rt, format, &mut input, output, workers, &NoGate);
+    let mut input = Counted::new(Input::new(progress, File::open(rt, path)?));
+    let done = replay_in(rt, format, &mut input, output, workers, progress);
     drop(input);
     done.map_err(Fault::from)
 }
 
 /// Says whether the file of this path is a trace.
-fn look<H: Files + AllocGlobal, W: Sink>(
+fn look<H: Files + Eprint + AllocGlobal, W: Sink>(
     rt: &H,
+    progress: &Progress<'_, H>,
     format: Format,
     path: &str,
     output: &mut W,
 ) -> Result<(), Fault>
     requires { W.failures output.old < 2 ^ 63 }
 {
-    let mut input = Counted::new(File::open(rt, path)?);
+    let mut input = Counted::new(Input::new(progress, File::open(rt, path)?));
     let done = check_in(rt.alloc(), format, &mut input, output);
     drop(input);
     done.map_err(Fault::from)
@@ -98,8 +102,9 @@ fn play<H: Files + AllocGlobal, W: Sink>(
 }
 
 /// Does what the words ask for, and writes the answer.
-fn work<H: Files + AllocGlobal + Threads + Wait + Sync, W: Sink>(
+fn work<H: Files + Eprint + AllocGlobal + Threads + Wait + Sync, W: Sink>(
     rt: &H,
+    progress: &Progress<'_, H>,
     job: Job<'_>,
     output: &mut W,
 ) -> Result<(), Fault>
@@ -111,8 +116,8 @@ fn work<H: Files + AllocGlobal + Threads + Wait + Sync, W: Sink>(
             trace,
             workers,
             format,
-        } => run(rt, format, trace, workers, output),
-        Job::Check { trace, format } => look(rt, format, trace, output),
+        } => run(rt, progress, format, trace, workers, output),
+        Job::Check { trace, format } => look(rt, progress, format, trace, output),
         Job::Play {
             trace,
             steps,
@@ -129,20 +134,22 @@ fn work<H: Files + AllocGlobal + Threads + Wait + Sync, W: Sink>(
 }
 
 /// Does what the words ask for, and writes the answer.
-fn do_asked<H: Files + AllocGlobal + Threads + Wait + Sync, W: Sink>(
+fn do_asked<H: Files + Eprint + AllocGlobal + Threads + Wait + Sync, W: Sink>(
     rt: &H,
+    progress: &Progress<'_, H>,
     words: &[String],
     output: &mut W,
 ) -> Result<(), Fault>
     requires { W.failures output.old < 2 ^ 63 }
 {
     let job = job_of(rt.alloc(), words)?;
-    work(rt, job, output)
+    work(rt, progress, job, output)
 }
 
 /// Does what the program's words ask for. Without any it replays what the input has.
-fn answer<H: Files + Env + AllocGlobal + Threads + Wait + Sync, R: Source, W: Sink>(
+fn answer<H: Files + Env + Eprint + AllocGlobal + Threads + Wait + Sync, R: Source, W: Sink>(
     rt: &H,
+    progress: &Progress<'_, H>,
     input: &mut R,
     output: &mut W,
 ) -> Result<(), Fault>
@@ -151,19 +158,22 @@ fn answer<H: Files + Env + AllocGlobal + Threads + Wait + Sync, R: Source, W: Si
 {
     let words = words_of(rt)?;
     if words.len() > 1 {
-        do_asked(rt, &words, output)
+        do_asked(rt, progress, &words, output)
     } else {
-        replay(rt, input, output, WORKERS, &NoGate).map_err(Fault::from)
+        replay(rt, input, output, WORKERS, progress).map_err(Fault::from)
     }
 }
 
 /// Ends with status 0 where the whole answer was written, and with 1, 2 or 3 otherwise. (An entry
 /// function can have no clause.)
 fn main(rt: HostRuntime) -> ExitCode {
-    let (mut input, mut output) = (Counted::new(rt.stdin()), Counted::new(rt.stdout()));
-    match answer(&rt, &mut input, &mut output) {
+    let progress = Progress::new(&rt, &rt.stderr());
+    let mut input = Counted::new(Input::new(&progress, rt.stdin()));
+    let mut output = Counted::new(Output::new(&progress, rt.stdout()));
+    match answer(&rt, &progress, &mut input, &mut output) {
         Ok(()) => ExitCode::SUCCESS,
         Err(fault) => {
+            progress.clear();
             let code = fault.told(&rt);
             drop(fault);
             code

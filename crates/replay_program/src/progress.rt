@@ -1,0 +1,137 @@
+//! How far a replay of a long input has come, told on a terminal.
+
+use kubelet_replay::Gate;
+use std::io::{self, IsTerminal, Read, Write};
+use std::sync::atomic::{AtomicUsize, Ordering};
+
+/// Shorter inputs are read and replayed before a line could be read, 8 MiB.
+const WORTH_TELLING: usize = 8 << 20;
+
+/// A line is told for so many bytes more, 1 MiB.
+const BYTES_A_LINE: usize = 1 << 20;
+
+/// A line is told for so many ticks more.
+const TICKS_A_LINE: usize = 1_000;
+
+/// How many bytes were read and how many ticks begun. It is told where standard error is a terminal and the input is
+/// long, each line in the place of the one before.
+#[derive(Drop)]
+pub(crate) struct Progress<'h, E> {
+    rt: &'h E,
+    is_shown: bool,
+    read: AtomicUsize,
+    ticks: AtomicUsize,
+}
+
+impl<'h, E: Eprint> Progress<'h, E> {
+    /// Nothing was read yet.
+    pub(crate) fn new(rt: &'h E, terminal: &impl IsTerminal) -> Progress<'h, E> {
+        Progress {
+            rt,
+            is_shown: terminal.is_terminal(),
+            read: AtomicUsize::new(0),
+            ticks: AtomicUsize::new(0),
+        }
+    }
+
+    fn is_long(&self) -> bool {
+        self.is_shown && self.read.load(Ordering::SeqCst) >= WORTH_TELLING
+    }
+
+    /// So many bytes more were read.
+    fn add_bytes(&self, count: usize) {
+        let before = self.read.fetch_add(count, Ordering::SeqCst);
+        let now = before.wrapping_add(count);
+        if now / BYTES_A_LINE != before / BYTES_A_LINE && self.is_long() {
+            let _told = eprint!(self.rt; "\r{} MiB read", now / BYTES_A_LINE);
+        }
+    }
+
+    /// One tick more has begun.
+    fn add_tick(&self) {
+        let ticks = self.ticks.fetch_add(1, Ordering::SeqCst).wrapping_add(1);
+        if ticks % TICKS_A_LINE == 0 && self.is_long() {
+            let read = self.read.load(Ordering::SeqCst);
+            let _told = eprint!(self.rt; "\r{} MiB read, {} ticks replayed", read / BYTES_A_LINE, ticks);
+        }
+    }
+
+    /// The line goes, so that what is told next stands on a line of its own.
+    pub(crate) fn clear(&self) {
+        if self.is_long() {
+            let _told = eprint!(self.rt; "\r\x1b[K");
+        }
+    }
+}
+
+/// It counts a tick by the first of its updates.
+impl<E: Eprint + Sync> Gate for Progress<'_, E> {
+    fn waits(&self) -> bool {
+        false
+    }
+
+    fn enter(&self, pod: usize) {
+        if pod == 0 {
+            self.add_tick();
+        }
+    }
+
+    fn leave(&self, _pod: usize) {}
+}
+
+/// A reader whose bytes are counted.
+#[derive(Drop)]
+pub(crate) struct Input<'p, E, R: Drop> {
+    progress: &'p Progress<'p, E>,
+    inner: R,
+}
+
+impl<'p, E, R: Drop> Input<'p, E, R> {
+    pub(crate) fn new(progress: &'p Progress<'p, E>, inner: R) -> Input<'p, E, R> {
+        Input { progress, inner }
+    }
+}
+
+impl<E: Eprint, R: Read + Drop> Read for Input<'_, E, R> {
+    ghost remaining = { λ s. R.remaining s.inner };
+
+    fn read(&mut self, buffer: &mut [u8]) -> io::Result<usize> {
+        let count = self.inner.read(buffer)?;
+        self.progress.add_bytes(count);
+        Ok(count)
+    }
+}
+
+/// A writer before whose first bytes the line of progress goes.
+#[derive(Drop)]
+pub(crate) struct Output<'p, E, W: Drop> {
+    progress: &'p Progress<'p, E>,
+    inner: W,
+    has_begun: bool,
+}
+
+impl<'p, E, W: Drop> Output<'p, E, W> {
+    pub(crate) fn new(progress: &'p Progress<'p, E>, inner: W) -> Output<'p, E, W> {
+        Output {
+            progress,
+            inner,
+            has_begun: false,
+        }
+    }
+}
+
+impl<E: Eprint, W: Write + Drop> Write for Output<'_, E, W> {
+    ghost contents = { λ s. W.contents s.inner };
+
+    fn write(&mut self, bytes: &[u8]) -> io::Result<usize> {
+        if !self.has_begun {
+            self.progress.clear();
+            self.has_begun = true;
+        }
+        self.inner.write(bytes)
+    }
+
+    fn flush(&mut self) -> io::Result<()> {
+        self.inner.flush()
+    }
+}
