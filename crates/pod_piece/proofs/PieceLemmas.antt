@@ -29,6 +29,7 @@ use Rattle.pod_piece.specs.declared.piece.Eviction.{Eviction}
 use Rattle.pod_piece.specs.declared.status.PodStatus.{PodStatus}
 use Rattle.pod_piece.specs.Listings.{listed_in, IsNextTick, AreListed, AllFollow}
 use Rattle.pod_piece.specs.Piece.{Piece, piece, before_last, last_of, taken, ticks, place_of, evicted_at, Lives}
+use Rattle.pod_piece.specs.Piece.{with_number}
 use Rattle.pod_piece.specs.Piece.{evicted_before, new_piece, with_tick, updated, with_eviction}
 use Rattle.pod_piece.specs.Status.{IsStatusAfter, IsStatusOf, AreEventsAfter}
 use Rattle.pod_piece.specs.Kept.{MayBe, EndsAt, IsStateAfter, IsKept}
@@ -156,6 +157,40 @@ kept_handed p tick old new state status events free next listed kept =
       shown = subst (λ (h : List PodTick). IsStatusAfter p.number p.pod p.eviction h status) same kept.shown;
       made = subst (λ (h : List PodTick). AreEventsAfter p.pod p.greatest (evicted_at p) h events) same kept.made;
     }
+
+abbrev numbered : PodStatus → ℕ → PodStatus
+numbered status n = record {
+  number = n;
+  phase = status.phase;
+  conditions = status.conditions;
+  containers = status.containers;
+  class = status.class;
+  requests = status.requests;
+  usage = status.usage;
+  priority = status.priority;
+  order = status.order;
+}
+
+-- one that has another number
+pub kept_numbered : (p : Piece) (n : ℕ) (differs : List Differ) (state : PodState) (status : PodStatus)
+    (events : List PodEvent) → IsKept p differs state status events
+    → IsKept (with_number p n) differs state (numbered status n) events
+kept_numbered p n differs state status events kept = record {
+  listed = kept.listed;
+  next = kept.next;
+  after = kept.after;
+  shown = record {
+    number_is = refl;
+    lifecycle = kept.shown.lifecycle;
+    containers = kept.shown.containers;
+    class = kept.shown.class;
+    requests = kept.shown.requests;
+    usage = kept.shown.usage;
+    priority = kept.shown.priority;
+    order = kept.shown.order;
+  };
+  made = kept.made;
+}
 
 -- whether it ended by its eviction
 pub by_eviction : (o end : Option ℕ) (b : Bool) → (IsTrue b ↔ IsSome o) → IfSome o (λ place. end ≡ Some place)

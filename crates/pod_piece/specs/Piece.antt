@@ -108,3 +108,14 @@ with_eviction p order = record {
   is_pending = p.is_pending;
   eviction = Some (record { place = length p.handed - 1; order = order });
 }
+
+-- it has another number
+abbrev pub with_number : Piece → ℕ → Piece
+with_number p number = record {
+  number = number;
+  pod = p.pod;
+  greatest = p.greatest;
+  handed = p.handed;
+  is_pending = p.is_pending;
+  eviction = p.eviction;
+}

@@ -7,6 +7,7 @@ ghost use Rattle.pod_state.specs.Pods.{pod_tick};
 ghost use Rattle.pod_state.specs.States.{IsStateOf};
 ghost use Rattle.pod_piece.specs.Listings.{MayComeNext, IsNextTick};
 ghost use Rattle.pod_piece.specs.Piece.{Piece, ticks, Lives, new_piece, with_tick, updated, with_eviction};
+ghost use Rattle.pod_piece.specs.Piece.{with_number};
 ghost use Rattle.pod_piece.specs.Status.{IsStatusOf, AreLastEvents};
 
 use crate::listings::{are_acceptable, first_differs, follow};
@@ -245,6 +246,14 @@ impl PodPiece {
         self.status.order = Some(order);
         let place = self.history.len() - 1;
         self.eviction = Some(Eviction { place, order });
+    }
+
+    /// Gives it this number in the place of its own. It takes no memory.
+    pub fn renumber(&mut self, number: usize)
+        ensures { self.new ≡ with_number self.old number }
+    {
+        self.number = number;
+        self.status.number = number;
     }
 
     /// Its status after the last update, or eviction.
