@@ -13,6 +13,10 @@ use Rattle.observations.specs.declared.tick.TickObs.{TickObs}
 abbrev pub shown_of : TickObs → ℕ → Option PodObs
 shown_of tick pod = option_flatten (slice_get tick.pods pod)
 
+-- what a tick shows of the pods that are present, by their numbers
+abbrev pub all_shown : TickObs → List PodObs
+all_shown tick = filter_map (λ (shown : Option PodObs). shown) tick.pods
+
 -- what an observation of a pod lists of a container, by number
 abbrev pub listed_in : PodObs → ℕ → Option Seen
 listed_in shown container = option_and_then (λ (o : ContainerObs). o.seen) (slice_get shown.containers container)
