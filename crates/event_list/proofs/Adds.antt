@@ -6,11 +6,10 @@ use Rattle.histories.proofs.Places.{length-more}
 use Rattle.histories.proofs.Lists.{place_split, take_more, map_more}
 use Rattle.pod_state.specs.declared.events.PodEvent.{PodEvent}
 use Rattle.pod_piece.specs.Piece.{Piece}
-use Rattle.pod_piece.specs.Status.{AreLastEvents}
 use Rattle.event_list.specs.declared.event.Event.{Event}
 use Rattle.event_list.specs.declared.event.EventKind.TheVariants.{Pod}
 use Rattle.event_list.specs.Events.{event, of_pods}
-use Rattle.event_list.specs.Tick.{AreMadeBy}
+use Rattle.event_list.specs.Tick.{IsMadeAt, AreMadeBy}
 
 -- one more of these items is added
 pub added_more : {A : Type 0} (f : A → Event) (old now new : List Event) (xs : List A) (i : ℕ) (x : A)
@@ -40,7 +39,7 @@ pub record AreAddedBelow (at : ℕ) (pieces : List Piece) (i : ℕ) (old now : L
   pub made : List (List PodEvent)
   pub as_many : length made ≡ i
   pub each : (n : ℕ) (piece : Piece) (events : List PodEvent) → slice_get pieces n ≡ Some piece
-      → slice_get made n ≡ Some events → AreLastEvents piece events
+      → slice_get made n ≡ Some events → IsMadeAt at piece events
   pub added : now ≡ old ++ of_pods at 0 made
 
 pub none_added : (at : ℕ) (pieces : List Piece) (old : List Event) → AreAddedBelow at pieces 0 old old
@@ -53,7 +52,7 @@ none_added at pieces old = record {
 
 pub one_added : (at : ℕ) (pieces : List Piece) (i : ℕ) (old now new : List Event) (piece : Piece)
     (events : List PodEvent) → AreAddedBelow at pieces i old now → slice_get pieces i ≡ Some piece
-    → AreLastEvents piece events → new ≡ now ++ map (λ (e : PodEvent). event at (Pod i e)) events
+    → IsMadeAt at piece events → new ≡ now ++ map (λ (e : PodEvent). event at (Pod i e)) events
     → AreAddedBelow at pieces (i + 1) old new
 one_added at pieces i old now new piece events so_far there are more = record {
   made = so_far.made ++ events ∷ [];
@@ -66,7 +65,7 @@ one_added at pieces i old now new piece events so_far there are more = record {
         let here : n ≡ i = w.0 ∙ so_far.as_many in
         let both : Some piece ≡ Some p = sym there ∙ subst (λ (k : ℕ). slice_get pieces k ≡ Some p) here is in
         let same : piece ≡ p = cc in
-        subst (λ (q : Piece). AreLastEvents q es) same (subst (λ (l : List PodEvent). AreLastEvents piece l) w.1 are)
+        subst (λ (q : Piece). IsMadeAt at q es) same (subst (λ (l : List PodEvent). IsMadeAt at piece l) w.1 are)
   ];
   added =
       let number : i ≡ 0 + length so_far.made = omega (arith, so_far.as_many) in
@@ -77,7 +76,7 @@ one_added at pieces i old now new piece events so_far there are more = record {
 }
 
 pub all_added : (at : ℕ) (pieces : List Piece) (i : ℕ) (old now : List Event) → AreAddedBelow at pieces i old now
-    → i ≡ length pieces → (made : List (List PodEvent)) × AreMadeBy pieces made × (now ≡ old ++ of_pods at 0 made)
+    → i ≡ length pieces → (made : List (List PodEvent)) × AreMadeBy at pieces made × (now ≡ old ++ of_pods at 0 made)
 all_added at pieces i old now are end =
     (are.made, record { as_many = are.as_many ∙ end; each = are.each }, are.added)
 

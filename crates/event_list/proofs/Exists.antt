@@ -30,32 +30,42 @@ all_at : {A : Type 0} (P : A → Type 0) (xs : List A) (n : ℕ) (x : A) → All
 all_at P xs n x all here =
     subst P (get_or_from_slice_get xs n x x here) (all n x (slice_get_within xs n x here))
 
--- of a pod that a tick shows
-abbrev AreOfPod : NodeConfig → List PodSpec → List TickObs → TickObs → List (Option Eviction) → ℕ → List PodEvent
-    → Type 0
-AreOfPod config pods before tick es n events =
-    (pod : PodSpec) (shown : PodObs) → slice_get pods n ≡ Some pod → shown_of tick n ≡ Some shown
-    → AreEventsOf pod config.max_restart_delay (place_of (own_eviction n before es)) (pod_ticks before n)
-    (pod_tick shown) events
+-- of a pod that has arrived: those of what the tick shows, or none
+pub record AreOfPod (config : NodeConfig) (pods : List PodSpec) (before : List TickObs) (tick : TickObs)
+    (es : List (Option Eviction)) (n : ℕ) (events : List PodEvent) : Type 0 where
+  pub present : (pod : PodSpec) (shown : PodObs) → slice_get pods n ≡ Some pod → shown_of tick n ≡ Some shown
+      → AreEventsOf pod config.max_restart_delay (place_of (own_eviction n before es)) (pod_ticks before n)
+      (pod_tick shown) events
+  pub absent : shown_of tick n ≡ None → events ≡ []
 
 of_pod : (config : NodeConfig) (pods : List PodSpec) (before : List TickObs) (tick : TickObs)
     (es : List (Option Eviction))
     → HaveProbesInRange pods → ShowsKnownPods pods tick → (n : ℕ) → n < length tick.pods
     → (events : List PodEvent) × AreOfPod config pods before tick es n events
-of_pod config pods before tick es range known n lt =
-    let pod = given_at pods n (omega arith) in
-    let shown = given_at tick.pods n lt in
-    let evicted = place_of (own_eviction n before es) in
-    let h = pod_ticks before n in
-    let events = some_of_pod pod.0 config.max_restart_delay evicted h (pod_tick shown.0)
-    (all_at HasProbesInRange pods n pod.0 range pod.1) in
-    let Of : PodSpec → PodObs → Type 0 =
-    λ p s. AreEventsOf p config.max_restart_delay evicted h (pod_tick s) events.0 in (
-      events.0,
-      (λ p s here there.
-          subst (Of p) (same_Some shown.0 s (sym shown.1 ∙ there))
-          (subst (λ q. Of q shown.0) (same_Some pod.0 p (sym pod.1 ∙ here)) events.1)),
-    )
+of_pod config pods before tick es range known n lt = by (shown_of tick n) refl
+  where
+    by : (o : Option PodObs) → shown_of tick n ≡ o
+        → (events : List PodEvent) × AreOfPod config pods before tick es n events
+    by None is = ([], record {
+      present = λ p s here there. absurd (let w : None ≡ Some s = sym is ∙ there in cc);
+      absent = λ none. refl;
+    })
+    by (Some shown) is =
+        let pod = given_at pods n (omega arith) in
+        let evicted = place_of (own_eviction n before es) in
+        let h = pod_ticks before n in
+        let events = some_of_pod pod.0 config.max_restart_delay evicted h (pod_tick shown)
+        (all_at HasProbesInRange pods n pod.0 range pod.1) in
+        let Of : PodSpec → PodObs → Type 0 =
+        λ p s. AreEventsOf p config.max_restart_delay evicted h (pod_tick s) events.0 in (
+          events.0,
+          record {
+            present = λ p s here there.
+                subst (Of p) (same_Some shown s (sym is ∙ there))
+                (subst (λ q. Of q shown) (same_Some pod.0 p (sym pod.1 ∙ here)) events.1);
+            absent = λ none. absurd (let w : Some shown ≡ None = sym is ∙ none in cc);
+          },
+        )
 
 some_pod_events : (config : NodeConfig) (pods : List PodSpec) (before : List TickObs) (tick : TickObs)
     (es : List (Option Eviction))
@@ -63,14 +73,17 @@ some_pod_events : (config : NodeConfig) (pods : List PodSpec) (before : List Tic
     → (made : List (List PodEvent)) × ArePodEvents config pods before tick es made
 some_pod_events config pods before tick es range known =
     let Of : ℕ → List PodEvent → Type 0 = AreOfPod config pods before tick es in
-    let made = list_of Of (length tick.pods) (of_pod config pods before tick es range known) in (
+    let made = list_of Of (length tick.pods) (of_pod config pods before tick es range known) in
+    let at : (n : ℕ) (events : List PodEvent) → slice_get made.0 n ≡ Some events → Of n events = λ n events is.
+    let lt : n < length made.0 = slice_get_within made.0 n events is in
+    let many : length made.0 ≡ length tick.pods = made.1 in
+    subst (Of n) (get_or_from_slice_get made.0 n events events is) (made.2 n events (omega (arith, lt, many))) in (
       made.0,
       record {
         known = known;
         as_many = made.1;
-        each = λ n pod shown events here there is.
-            let lt = slice_get_within tick.pods n shown there in
-            subst (Of n) (get_or_from_slice_get made.0 n events events is) (made.2 n events lt) pod shown here there;
+        each = λ n pod shown events here there is. (at n events is).present pod shown here there;
+        absent = λ n events none is. (at n events is).absent none;
       },
     )
 

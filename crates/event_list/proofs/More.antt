@@ -1,7 +1,9 @@
 -- Events and totals after one more tick, and one more pod.
-use Rattle.std.proofs.Common.{◌≡◌, ◌∙◌, inl, inr, ℕ, ◌+◌, ◌<◌, ◌≤◌, List, [], ◌∷◌, ◌++◌, length, map, take, Option}
-use Rattle.std.proofs.Common.{Some, None, refl, ap, sym, subst, arith, append-nil}
-use Rattle.std.specs.List.{filter, flat_map, sum_by}
+use Rattle.std.proofs.Common.{◌≡◌, ◌∙◌, inl, inr, ℕ, zero, suc, ◌+◌, ◌<◌, ◌≤◌, List, [], ◌∷◌, ◌++◌, length, map, take}
+use Rattle.std.proofs.Common.{Option, Some, None, refl, ap, sym, subst, arith, append-nil}
+use Rattle.std.specs.Prelude.{slice_get}
+use Rattle.std.specs.Option.{option_flatten}
+use Rattle.std.specs.List.{filter, filter_map, flat_map, sum_by}
 use Rattle.std.proofs.lemmas.List.{take-append-le, length-append, length-map}
 use Rattle.std.proofs.lemmas.Grind.{flat_map-append}
 use Rattle.std.proofs.lemmas.List.Elements.{filter-append, filter_map-append}
@@ -11,7 +13,9 @@ use Rattle.histories.proofs.Places.{length-more}
 use Rattle.histories.proofs.Lists.{place_split, take_old}
 use Rattle.manifest.specs.declared.pod.PodSpec.{PodSpec}
 use Rattle.node_config.specs.declared.node.NodeConfig.{NodeConfig}
+use Rattle.observations.specs.Pods.{PodObs}
 use Rattle.observations.specs.declared.tick.TickObs.{TickObs}
+use Rattle.observations.specs.Observations.{all_shown}
 use Rattle.node_signals.specs.declared.event.NodeEvent.{NodeEvent}
 use Rattle.pod_state.specs.declared.events.PodEvent.{PodEvent}
 use Rattle.eviction.specs.declared.eviction.Eviction.{Eviction}
@@ -92,6 +96,13 @@ events_more config pods ticks es evs part x e many are now = record {
         subst P (sym (take_old ticks x t last)) (subst Q (sym (take_old es e t evicted))
         (subst R same (subst S same' (subst T same'' now))))
 
+-- what is shown of a pod stands at its number
+shown_within : (shown : List (Option PodObs)) (n : ℕ) (observed : PodObs)
+    → option_flatten (slice_get shown n) ≡ Some observed → n < length shown
+shown_within [] n observed is = absurd (cc)
+shown_within (o ∷ os) zero observed is = omega arith
+shown_within (o ∷ os) (suc n) observed is = let lt = shown_within os n observed is in omega (arith, lt)
+
 -- one pod more, that no tick shows yet
 pub events_arrived : (config : NodeConfig) (pods : List PodSpec) (pod : PodSpec) (ticks : List TickObs)
     (es : List (Option Eviction)) (evs : List Event)
@@ -107,9 +118,10 @@ events_arrived config pods pod ticks es evs are = record {
               let few : length tick.pods ≤ length pods = now.are_made.known in
               omega (arith, length-more pods pod);
           as_many = now.are_made.as_many;
+          absent = now.are_made.absent;
           each = λ n p o events found seen made.
               let few : length tick.pods ≤ length pods = now.are_made.known in
-              let lt : n < length tick.pods = slice_get_within tick.pods n o seen in
+              let lt : n < length tick.pods = shown_within tick.pods n o seen in
               elim (place_split pods pod p n found) [
                 | inl old ↦ now.are_made.each n p o events old seen made
                 | inr v ↦ let same : n ≡ length pods = v.0 in absurd (omega arith)
@@ -161,26 +173,60 @@ pods_alone at made news e =
     ∙ (ap (λ (es : List PodEvent). pod_events (of_pods at 0 made) ++ es) rest
     ∙ (append-nil (pod_events (of_pods at 0 made)) ∙ of_all at 0 made))
 
-counts : (made : List (List PodEvent)) (entries : List Entry) → entries ≡ map entry_of made
-    → (length (flat_map (λ (events : List PodEvent). events) made) ≡ sum_by (λ (e : Entry). e.events) entries)
-    × (length (filter is_order (flat_map (λ (events : List PodEvent). events) made)) ≡ sum_by
-    (λ (e : Entry). e.orders) entries)
-counts [] [] is = (refl, refl)
-counts [] (entry ∷ entries) is = absurd (cc)
-counts (events ∷ made) [] is = absurd (cc)
-counts (events ∷ made) (entry ∷ entries) is =
-    let first : entry ≡ entry_of events = cc in
-    let others : entries ≡ map entry_of made = cc in
-    let rest = counts made entries others in
-    let flat = flat_map (λ (es : List PodEvent). es) made in (
-      length-append events flat ∙ (ap (λ (n : ℕ). length events + n) rest.0
+-- the pods that are shown are entered by their events, and the others have none
+abbrev pub AreEnteredFor : List (Option PodObs) → List (List PodEvent) → List Entry → Type 0
+AreEnteredFor [] [] [] = Unit {0}
+AreEnteredFor (None ∷ shown) (events ∷ made) entries = (events ≡ []) × AreEnteredFor shown made entries
+AreEnteredFor (Some observed ∷ shown) (events ∷ made) (entry ∷ entries) =
+    (entry ≡ entry_of events) × AreEnteredFor shown made entries
+AreEnteredFor shown made entries = ⊥
+
+abbrev shown_in : List (Option PodObs) → List PodObs
+shown_in shown = filter_map (λ (o : Option PodObs). o) shown
+
+-- their numbers
+pub record AreCounted (shown : List (Option PodObs)) (made : List (List PodEvent)) (entries : List Entry) : Type 0 where
+  pub updates : length entries ≡ length (shown_in shown)
+  pub events : length (flat_map (λ (events : List PodEvent). events) made)
+      ≡ sum_by (λ (e : Entry). e.events) entries
+  pub orders : length (filter is_order (flat_map (λ (events : List PodEvent). events) made))
+      ≡ sum_by (λ (e : Entry). e.orders) entries
+
+counted_more : (observed : PodObs) (shown : List (Option PodObs)) (events : List PodEvent)
+    (made : List (List PodEvent)) (entry : Entry) (entries : List Entry) → entry ≡ entry_of events
+    → AreCounted shown made entries → AreCounted (Some observed ∷ shown) (events ∷ made) (entry ∷ entries)
+counted_more observed shown events made entry entries first rest =
+    let flat = flat_map (λ (es : List PodEvent). es) made in
+    record {
+      updates = ap suc rest.updates;
+      events = length-append events flat ∙ (ap (λ (n : ℕ). length events + n) rest.events
           ∙ (ap (λ (e : Entry). e.events + sum_by (λ (f : Entry). f.events) entries) (sym first)
-          ∙ sym (sum_by-cons (λ (f : Entry). f.events) entry entries))),
-      ap length (filter-append is_order events flat) ∙ (length-append (filter is_order events) (filter is_order flat)
-          ∙ (ap (λ (n : ℕ). length (filter is_order events) + n) rest.1
+          ∙ sym (sum_by-cons (λ (f : Entry). f.events) entry entries)));
+      orders = ap length (filter-append is_order events flat)
+          ∙ (length-append (filter is_order events) (filter is_order flat)
+          ∙ (ap (λ (n : ℕ). length (filter is_order events) + n) rest.orders
           ∙ (ap (λ (e : Entry). e.orders + sum_by (λ (f : Entry). f.orders) entries) (sym first)
-          ∙ sym (sum_by-cons (λ (f : Entry). f.orders) entry entries)))),
-    )
+          ∙ sym (sum_by-cons (λ (f : Entry). f.orders) entry entries))));
+    }
+
+counts : (shown : List (Option PodObs)) (made : List (List PodEvent)) (entries : List Entry)
+    → AreEnteredFor shown made entries → AreCounted shown made entries
+counts [] [] [] are = record { updates = refl; events = refl; orders = refl }
+counts [] [] (entry ∷ entries) are = absurd are
+counts [] (events ∷ made) entries are = absurd are
+counts (None ∷ shown) [] entries are = absurd are
+counts (None ∷ shown) (events ∷ made) entries are =
+    let rest = counts shown made entries are.1 in
+    let flat = λ (es : List PodEvent). es ++ flat_map (λ (fs : List PodEvent). fs) made in
+    record {
+      updates = rest.updates;
+      events = ap (λ (es : List PodEvent). length (flat es)) are.0 ∙ rest.events;
+      orders = ap (λ (es : List PodEvent). length (filter is_order (flat es))) are.0 ∙ rest.orders;
+    }
+counts (Some observed ∷ shown) [] entries are = absurd are
+counts (Some observed ∷ shown) (events ∷ made) [] are = absurd are
+counts (Some observed ∷ shown) (events ∷ made) (entry ∷ entries) are =
+    counted_more observed shown events made entry entries are.0 (counts shown made entries are.1)
 
 abbrev made_of : ℕ → ℕ → ℕ → Totals
 made_of updates events orders = record { updates = updates; events = events; orders = orders }
@@ -191,26 +237,26 @@ same_totals a b c d e f ab be cf = cc
 -- the totals after one more tick, whose pods made these events
 pub totals_more : (ticks : List TickObs) (x : TickObs) (evs : List Event) (at : ℕ) (made : List (List PodEvent))
     (news : List NodeEvent) (e : Option Eviction) (entries : List Entry)
-    → length made ≡ length x.pods → entries ≡ map entry_of made
+    → AreEnteredFor x.pods made entries
     → totals_of (ticks ++ x ∷ []) (evs ++ (of_pods at 0 made ++ (of_node at news ++ of_eviction at e)))
     ≡ plus (totals_of ticks evs) (sums_of entries)
-totals_more ticks x evs at made news e entries many are =
-    let f : TickObs → ℕ = λ (tick : TickObs). length tick.pods in
+totals_more ticks x evs at made news e entries are =
+    let f : TickObs → ℕ = λ (tick : TickObs). length (all_shown tick) in
     let part = of_pods at 0 made ++ (of_node at news ++ of_eviction at e) in
     let flat = flat_map (λ (es : List PodEvent). es) made in
     let split : pod_events (evs ++ part) ≡ pod_events evs ++ flat =
     pod_events-append evs part ∙ ap (λ (es : List PodEvent). pod_events evs ++ es) (pods_alone at made news e) in
-    let count = counts made entries are in
+    let count = counts x.pods made entries are in
     let one : sum_by f (x ∷ []) ≡ f x + 0 = sum_by-cons f x [] in
-    let as_many : length entries ≡ length made = ap length are ∙ length-map made entry_of in
+    let many : length entries ≡ f x = count.updates in
     let sums : sum_by f (ticks ++ x ∷ []) ≡ sum_by f ticks + sum_by f (x ∷ []) = sum_by-append f ticks (x ∷ []) in
     same_totals (sum_by f (ticks ++ x ∷ [])) (length (pod_events (evs ++ part)))
     (length (filter is_order (pod_events (evs ++ part))))
     (sum_by f ticks + length entries) (length (pod_events evs) + sum_by (λ (n : Entry). n.events) entries)
     (length (filter is_order (pod_events evs)) + sum_by (λ (n : Entry). n.orders) entries)
-    (omega (arith, sums, one, as_many, many))
-    (ap length split ∙ (length-append (pod_events evs) flat ∙ ap (λ (n : ℕ). length (pod_events evs) + n) count.0))
+    (omega (arith, sums, one, many))
+    (ap length split ∙ (length-append (pod_events evs) flat ∙ ap (λ (n : ℕ). length (pod_events evs) + n) count.events))
     (ap (λ (es : List PodEvent). length (filter is_order es)) split
     ∙ (ap length (filter-append is_order (pod_events evs) flat)
     ∙ (length-append (filter is_order (pod_events evs)) (filter is_order flat)
-    ∙ ap (λ (n : ℕ). length (filter is_order (pod_events evs)) + n) count.1)))
+    ∙ ap (λ (n : ℕ). length (filter is_order (pod_events evs)) + n) count.orders)))

@@ -1,12 +1,15 @@
 -- There is one list of events.
-use Rattle.std.proofs.Common.{◌≡◌, ◌∙◌, ◌<◌, ◌≤◌, List, ◌++◌, length, take, Option}
+use Rattle.std.proofs.Common.{◌≡◌, ◌∙◌, ℕ, ◌<◌, ◌≤◌, List, ◌++◌, length, take, Option, Some, None, refl}
+use Rattle.std.specs.Prelude.{slice_get}
 use Rattle.std.proofs.Common.{ap, sym, arith}
 use Rattle.std.specs.List.{flat_map}
 use Rattle.std.proofs.lemmas.Option.{slice_get_within}
 use Rattle.histories.proofs.Lists.{same_places, given_at}
 use Rattle.manifest.specs.declared.pod.PodSpec.{PodSpec}
 use Rattle.node_config.specs.declared.node.NodeConfig.{NodeConfig}
+use Rattle.observations.specs.Pods.{PodObs}
 use Rattle.observations.specs.declared.tick.TickObs.{TickObs}
+use Rattle.observations.specs.Observations.{shown_of}
 use Rattle.node_signals.specs.declared.event.NodeEvent.{NodeEvent}
 use Rattle.node_signals.proofs.LawLemmas.{one_list_of_node_events}
 use Rattle.pod_state.specs.declared.events.PodEvent.{PodEvent}
@@ -29,10 +32,14 @@ pods_one config pods before tick es made others are were =
     let many : length made ≡ length tick.pods = are.as_many in
     let few : length tick.pods ≤ length pods = are.known in
     let pod = given_at pods n (omega arith) in
-    let shown = given_at tick.pods n (omega arith) in
-    one_list_of_pod_events pod.0 config.max_restart_delay (place_of (own_eviction n before es)) (pod_ticks before n)
-    (pod_tick shown.0) x y (are.each n pod.0 shown.0 x pod.1 shown.1 here)
-    (were.each n pod.0 shown.0 y pod.1 shown.1 there))
+    by n pod.0 pod.1 x y here there (shown_of tick n) refl)
+  where
+    by : (n : ℕ) (pod : PodSpec) → slice_get pods n ≡ Some pod → (x y : List PodEvent)
+        → slice_get made n ≡ Some x → slice_get others n ≡ Some y → (o : Option PodObs) → shown_of tick n ≡ o → x ≡ y
+    by n pod at x y here there None is = are.absent n x is here ∙ sym (were.absent n y is there)
+    by n pod at x y here there (Some shown) is =
+        one_list_of_pod_events pod config.max_restart_delay (place_of (own_eviction n before es)) (pod_ticks before n)
+        (pod_tick shown) x y (are.each n pod shown x at is here) (were.each n pod shown y at is there)
 
 -- of a tick
 tick_one : (config : NodeConfig) (pods : List PodSpec) (before : List TickObs) (tick : TickObs)

@@ -19,8 +19,8 @@ use Rattle.event_list.specs.declared.event.Event.{Event}
 use Rattle.event_list.specs.declared.event.EventKind.{EventKind}
 use Rattle.event_list.specs.declared.event.EventKind.TheVariants.{Pod, Node, Evicted}
 
--- the events of each pod that a tick shows, where the tick comes after these ticks with these evictions;
--- it shows none but the pods that there are
+-- the events of each pod that a tick shows, where the tick comes after these ticks with these evictions; a pod that
+-- is not present has none, and the tick shows none but the pods that there are
 pub record ArePodEvents (config : NodeConfig) (pods : List PodSpec) (before : List TickObs) (tick : TickObs)
     (evictions : List (Option Eviction)) (made : List (List PodEvent)) : Type 0 where
   pub known : length tick.pods ≤ length pods
@@ -29,6 +29,8 @@ pub record ArePodEvents (config : NodeConfig) (pods : List PodSpec) (before : Li
       → shown_of tick n ≡ Some shown → slice_get made n ≡ Some events
       → AreEventsOf pod config.max_restart_delay (place_of (own_eviction n before evictions))
       (pod_ticks before n) (pod_tick shown) events
+  pub absent : (n : ℕ) (events : List PodEvent) → shown_of tick n ≡ None → slice_get made n ≡ Some events
+      → events ≡ []
 
 -- an event at a moment
 abbrev pub event : ℕ → EventKind → Event

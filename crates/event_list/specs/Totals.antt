@@ -2,6 +2,7 @@
 use Rattle.std.specs.Prelude.{List, length, Option, Some, None}
 use Rattle.std.specs.List.{filter, filter_map, sum_by}
 use Rattle.observations.specs.declared.tick.TickObs.{TickObs}
+use Rattle.observations.specs.Observations.{all_shown}
 use Rattle.pod_state.specs.declared.events.PodEvent.{PodEvent}
 use Rattle.event_book.specs.declared.totals.Totals.{Totals}
 use Rattle.event_book.specs.Totals.{is_order}
@@ -23,7 +24,7 @@ pod_events events = filter_map (λ (e : Event). pod_event_in e.what) events
 -- and the orders among them
 abbrev pub totals_of : List TickObs → List Event → Totals
 totals_of ticks events = record {
-  updates = sum_by (λ (tick : TickObs). length tick.pods) ticks;
+  updates = sum_by (λ (tick : TickObs). length (all_shown tick)) ticks;
   events = length (pod_events events);
   orders = length (filter is_order (pod_events events));
 }

@@ -4,7 +4,7 @@ ghost use Rattle.std.specs.Prelude.{◌≡◌, ◌<◌, ◌++◌, List, length, 
 ghost use Rattle.pod_state.specs.declared.events.PodEvent.{PodEvent as APodEvent};
 ghost use Rattle.event_list.specs.declared.event.EventKind.TheVariants.{Pod};
 ghost use Rattle.event_list.specs.Events.{event, of_pods, of_node, of_eviction};
-ghost use Rattle.event_list.specs.Tick.{AreMadeBy, AddsEvents};
+ghost use Rattle.event_list.specs.Tick.{IsMadeAt, AreMadeBy, AddsEvents};
 
 use crate::event::{Event, EventKind};
 use eviction::Eviction;
@@ -39,17 +39,29 @@ fn piece_at(pieces: &[PodPiece], number: usize) -> &PodPiece
     &pieces[number]
 }
 
-/// Adds the events of the last ticks of all pods, by number.
+/// The events of the pod's last tick, if that was the tick of the moment, in seconds.
+fn events_at(piece: &PodPiece, at: u64) -> &[PodEvent]
+    ensures { IsMadeAt at piece.now result.now }
+{
+    if piece.last_at() == Some(at) {
+        piece.events()
+    } else {
+        &[]
+    }
+}
+
+/// Adds the events that the tick of the moment made of the pods that are present, by number.
 fn add_events_of_pods(
     events: &mut Vec<Event>,
     at: u64,
     pieces: &[PodPiece],
 ) -> Result<(), AllocError>
-    ensures { OnOk result ((made : List (List APodEvent)) × AreMadeBy pieces.now made
+    ensures { OnOk result ((made : List (List APodEvent)) × AreMadeBy at pieces.now made
         × (events.new.items ≡ events.old.items ++ of_pods at 0 made)) }
 {
     for number in 0..pieces.len() {
-        add_events_of_pod(events, at, number, piece_at(pieces, number).events())?;
+        let made = events_at(piece_at(pieces, number), at);
+        add_events_of_pod(events, at, number, made)?;
     }
     Ok(())
 }
@@ -88,7 +100,8 @@ fn add_event_of_eviction(
     Ok(())
 }
 
-/// Adds the events of a tick, at its moment: its pods' by their numbers, the node's, and the eviction.
+/// Adds the events of a tick, at its moment: those of the pods that are present by their numbers, the node's, and the
+/// eviction.
 pub fn add_events(
     events: &mut Vec<Event>,
     at: u64,

@@ -1,7 +1,8 @@
 -- What the pods of a node keep, from call to call.
-use Rattle.std.proofs.Common.{◌≡◌, ◌∙◌, inl, inr, ℕ, Bool, List, [], ◌∷◌, ◌++◌, length, map}
+use Rattle.std.proofs.Common.{◌≡◌, ◌∙◌, inl, inr, ℕ, ◌<◌, Bool, List, [], ◌∷◌, ◌++◌, length, map}
 use Rattle.std.proofs.Common.{Option, Some, None, refl, ap, sym, subst, arith}
-use Rattle.std.specs.Prelude.{◌≢◌, slice_get, Result, Ok, Err, OnErr}
+use Rattle.std.specs.Prelude.{◌≢◌, slice_get, IfSome, IsSome}
+use Rattle.std.specs.Option.{option_flatten}
 use Rattle.std.proofs.lemmas.Bool.{cases_eq, cases_order}
 use Rattle.std.proofs.lemmas.Option.{slice_get_within, slice_get_past}
 use Rattle.histories.specs.Histories.{last_moment}
@@ -10,14 +11,15 @@ use Rattle.histories.proofs.Places.{length-more}
 use Rattle.histories.proofs.Lists.{slice_get-old, slice_get-new, given_at}
 use Rattle.manifest.specs.declared.pod.PodSpec.{PodSpec}
 use Rattle.observations.specs.Pods.{PodObs}
+use Rattle.observations.specs.declared.tick.TickObs.{TickObs}
 use Rattle.pod_state.specs.Pods.{pod_tick}
 use Rattle.pod_piece.specs.declared.order.EvictOrder.{EvictOrder}
 use Rattle.pod_piece.specs.declared.status.PodStatus.{PodStatus}
 use Rattle.pod_piece.specs.Piece.{Piece, new_piece, with_tick, updated, with_eviction}
 use Rattle.pod_piece.specs.Status.{IsStatusOf}
-use Rattle.node_pods.specs.Pods.{pods_of, IsPlaced, ArePlaced, AreNext, AreHanded, AreAfter, awaited, AreAwaited}
-use Rattle.node_pods.specs.Pods.{AreEvicted}
-use Rattle.node_pods.specs.Laws.{CandidateIsEvictable}
+use Rattle.node_pods.specs.Pods.{Pods, pods_of, IsPlaced, ArePlaced, AreNext, Fits, handed_from, kept_of, joined_from}
+use Rattle.node_pods.specs.Pods.{AreAfter, awaited, joined, AreEvicted}
+use Rattle.node_pods.specs.Laws.{CandidateIsShown}
 use Rattle.node_pods.specs.Steps.{AreFree}
 use Rattle.node_pods.proofs.Candidates.{same_piece}
 use Rattle.node_pods.proofs.Steps.{after_handed}
@@ -52,28 +54,44 @@ placed_arrived pieces greatest dedicated pod placed n piece at = elim (cases_eq 
 ]
 
 -- after a tick
-pub placed_after : (old : List Piece) (greatest : ℕ) (dedicated : Bool) (shown : List PodObs) (new : List Piece)
-    → ArePlaced (pods_of old greatest dedicated) → AreNext old shown → AreAfter old shown new
+pub placed_after : (old : List Piece) (greatest : ℕ) (dedicated : Bool) (shown : List (Option PodObs))
+    (new : List Piece) → ArePlaced (pods_of old greatest dedicated) → AreNext old shown → AreAfter old shown new
     → ArePlaced (pods_of new greatest dedicated)
 placed_after old greatest dedicated shown new placed next are n piece at =
     let lt = slice_get_within new n piece at in
     let p = given_at old n (omega (arith, lt, are.as_many)) in
     let o = given_at shown n (omega (arith, lt, are.as_many, next.as_many)) in
-    let was = placed n p.0 p.1 in
-    subst (λ (q : Piece). IsPlaced greatest n q)
-    (same_piece new n (updated (with_tick p.0 (pod_tick o.0))) piece (are.each n p.0 o.0 p.1 o.1) at)
-    (record { number_is = was.number_is; greatest_is = was.greatest_is; free = refl })
+    by p.0 p.1 o.0 o.1
+  where
+    by : (p : Piece) → slice_get old n ≡ Some p → (o : Option PodObs) → slice_get shown n ≡ Some o
+        → IsPlaced greatest n piece
+    by p was None there =
+        subst (λ (q : Piece). IsPlaced greatest n q) (same_piece new n p piece (are.absent n p was there) at)
+        (placed n p was)
+    by p was (Some o) there =
+        let before = placed n p was in
+        subst (λ (q : Piece). IsPlaced greatest n q)
+        (same_piece new n (updated (with_tick p (pod_tick o))) piece (are.each n p o was there) at)
+        (record { number_is = before.number_is; greatest_is = before.greatest_is; free = refl })
 
--- while the pieces are updated
-pub awaited_after : (old : List Piece) (greatest : ℕ) (dedicated : Bool) (shown : List PodObs) (pending : List Piece)
-    → ArePlaced (pods_of old greatest dedicated) → AreNext old shown → AreHanded old shown pending
-    → AreAwaited (awaited (length old) greatest dedicated) (map updated pending)
-awaited_after old greatest dedicated shown pending placed next are =
-    let after = after_handed old shown pending are in
-    record {
-      as_many = after.as_many;
-      placed = placed_after old greatest dedicated shown (map updated pending) placed next after;
-    }
+-- once the pieces that went out have come back
+pub placed_joined : (old : List Piece) (greatest : ℕ) (dedicated : Bool) (shown : List (Option PodObs))
+    → ArePlaced (pods_of old greatest dedicated) → AreNext old shown
+    → ArePlaced (joined (awaited (kept_of old shown) greatest dedicated) (map updated (handed_from 0 old shown)))
+placed_joined old greatest dedicated shown placed next =
+    placed_after old greatest dedicated shown
+    (joined_from 0 (kept_of old shown) (map updated (handed_from 0 old shown))) placed next
+    (after_handed old shown next.as_many (λ n piece at. (placed n piece at).number_is))
+
+pub placed_as_joined : (old : List Piece) (greatest : ℕ) (dedicated : Bool) (shown : List (Option PodObs))
+    (out : List Piece) (kept : List (Option Piece)) → ArePlaced (pods_of old greatest dedicated) → AreNext old shown
+    → out ≡ handed_from 0 old shown → kept ≡ kept_of old shown
+    → ArePlaced (joined (awaited kept greatest dedicated) (map updated out))
+placed_as_joined old greatest dedicated shown out kept placed next out_is kept_is =
+    subst (λ (k : List (Option Piece)). ArePlaced (joined (awaited k greatest dedicated) (map updated out)))
+    (sym kept_is)
+    (subst (λ (o : List Piece). ArePlaced (joined (awaited (kept_of old shown) greatest dedicated) (map updated o)))
+    (sym out_is) (placed_joined old greatest dedicated shown placed next))
 
 -- after an eviction
 pub placed_evicted : (old : List Piece) (greatest : ℕ) (dedicated : Bool) (number : ℕ) (order : EvictOrder)
@@ -91,15 +109,46 @@ placed_evicted old greatest dedicated number order new placed are n piece at = e
   | inr apart ↦ placed n piece (sym (are.others n apart) ∙ at)
 ]
 
-pub candidate_is_evictable : CandidateIsEvictable
-candidate_is_evictable pods tick new n status fits are c =
-    let lt = slice_get_within new n c.piece c.at in
+-- a pod that is present after a tick, by its last moment, is shown by the tick
+pub present_shown : (pods : Pods) (tick : TickObs) (new : List Piece) (n : ℕ) (piece : Piece) → Fits pods tick
+    → AreAfter pods.pieces tick.pods new → slice_get new n ≡ Some piece
+    → last_moment piece.handed ≡ Some tick.at
+    → (observed : PodObs) × (slice_get tick.pods n ≡ Some (Some observed))
+present_shown pods tick new n piece fits are at last =
+    let lt = slice_get_within new n piece at in
     let p = given_at pods.pieces n (omega (arith, lt, are.as_many)) in
     let o = given_at tick.pods n (omega (arith, lt, are.as_many, fits.next.as_many)) in
-    let here = are.each n p.0 o.0 p.1 o.1 in
-    let P : Piece → Type 0 = λ q. last_moment q.handed ≡ Some tick.at in
-    let last = last_moment-more (p.0).handed (pod_tick o.0) ∙ ap Some (fits.at_its_moment n o.0 o.1) in
-    record {
-      candidate = (status, c);
-      last = λ piece at. subst P (same_piece new n (updated (with_tick p.0 (pod_tick o.0))) piece here at) last;
-    }
+    by p.0 p.1 o.0 o.1
+  where
+    never : (o : Option ℕ) → IfSome o (λ m. m < tick.at) → o ≡ Some tick.at → ⊥
+    never None before is = let w : None ≡ Some tick.at = is in cc
+    never (Some m) before is =
+        let same : m ≡ tick.at = cc in
+        let less : m < tick.at = before in
+        omega (arith, less, same)
+
+    by : (p : Piece) → slice_get pods.pieces n ≡ Some p → (o : Option PodObs) → slice_get tick.pods n ≡ Some o
+        → (observed : PodObs) × (slice_get tick.pods n ≡ Some (Some observed))
+    by p was None there =
+        let same = same_piece new n p piece (are.absent n p was there) at in
+        absurd (never (last_moment p.handed) (fits.later n p was)
+        (ap (λ (q : Piece). last_moment q.handed) same ∙ last))
+    by p was (Some o) there = (o, there)
+
+-- and one that it shows is present
+pub shown_present : (pods : Pods) (tick : TickObs) (new : List Piece) (n : ℕ) (piece : Piece) (observed : PodObs)
+    → Fits pods tick → AreAfter pods.pieces tick.pods new → slice_get new n ≡ Some piece
+    → slice_get tick.pods n ≡ Some (Some observed) → last_moment piece.handed ≡ Some tick.at
+shown_present pods tick new n piece observed fits are at there =
+    let lt = slice_get_within new n piece at in
+    let p = given_at pods.pieces n (omega (arith, lt, are.as_many)) in
+    let here = are.each n p.0 observed p.1 there in
+    ap (λ (q : Piece). last_moment q.handed)
+    (sym (same_piece new n (updated (with_tick p.0 (pod_tick observed))) piece here at))
+    ∙ last_moment-more (p.0).handed (pod_tick observed)
+    ∙ ap Some (fits.at_its_moment n observed (ap option_flatten there))
+
+pub candidate_is_shown : CandidateIsShown
+candidate_is_shown pods tick new n status fits are c =
+    let shown = present_shown pods tick new n c.piece fits are c.at c.present in
+    subst (λ (o : Option PodObs). IsSome o) (sym (ap option_flatten shown.1)) refl

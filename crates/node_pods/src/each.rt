@@ -1,11 +1,14 @@
 //! All pods of a node at one tick.
 
-ghost use Rattle.std.specs.Prelude.{◌≡◌, ◌↔◌, ℕ, ◌<◌, false, length, slice_get, Option, Some};
-ghost use Rattle.std.specs.Prelude.{IsTrue, IfSome, IfOk, OnOk};
+ghost use Rattle.std.specs.Prelude.{◌≡◌, ◌↔◌, ℕ, ◌<◌, ◌++◌, ◌∷◌, [], false, length, slice_get, Option, Some, None};
+ghost use Rattle.std.specs.Prelude.{IsTrue, IfSome, IfOk, OnOk, option_map, option_to_list};
+ghost use Rattle.histories.specs.Histories.{last_moment, EndsBefore};
+ghost use Rattle.pod_state.specs.Pods.{pod_tick};
 ghost use Rattle.pod_piece.specs.declared.status.PodStatus.{PodStatus};
-ghost use Rattle.pod_piece.specs.Piece.{Piece};
-ghost use Rattle.node_pods.specs.Pods.{AreNext, AreHanded, IsEvictable, AreEvicted};
-ghost use Rattle.node_pods.specs.Steps.{AreFree, IsNextAt, AreNextBelow, MayTake, with_shown};
+ghost use Rattle.pod_piece.specs.Listings.{IsNextTick};
+ghost use Rattle.pod_piece.specs.Piece.{Piece, with_tick, with_number};
+ghost use Rattle.node_pods.specs.Pods.{AreNext, handed_from, kept_of, joined_from, IsEvictable, AreEvicted};
+ghost use Rattle.node_pods.specs.Steps.{AreFree, IsShownNext, IsNextAt, AreNextBelow, MayTake, going, staying};
 ghost use Rattle.node_pods.specs.Ranked.{AreHeldBelow};
 ghost use Rattle.ranking.specs.Index.{IsIndexOf};
 
@@ -17,12 +20,12 @@ use std::alloc::{AllocError, Global};
 /// Moments are below this.
 const END_OF_TIME: u64 = 1 << 40;
 
-/// What is shown of the pod with the number.
-fn shown_at(shown: &[PodObs], number: usize) -> &PodObs
+/// What is shown of the pod with the number, or nothing.
+fn shown_at(shown: &[Option<PodObs>], number: usize) -> Option<&PodObs>
     requires { number < length shown.now }
-    ensures { slice_get shown.now number ≡ Some result.now }
+    ensures { slice_get shown.now number ≡ Some (option_map (λ o. o.now) result) }
 {
-    &shown[number]
+    shown[number].as_ref()
 }
 
 /// The piece of the pod with the number.
@@ -43,19 +46,33 @@ fn is_before(last: Option<u64>, at: u64) -> bool
     }
 }
 
-/// Whether what is shown of the pod is of this moment, and may be handed to it.
-fn is_next(piece: &PodPiece, observed: &PodObs, at: u64) -> bool
-    requires { piece.now.is_pending ≡ false }
-    ensures { IsTrue result ↔ IsNextAt at piece.now observed.now }
+/// Whether the observation is of this moment, and may be handed to the pod.
+fn may_be_handed(piece: &PodPiece, observed: &PodObs, at: u64) -> bool
+    requires free { piece.now.is_pending ≡ false }
+    requires later { EndsBefore piece.now.handed at }
+    ensures { IsTrue result ↔ IsShownNext at piece.now observed.now }
 {
-    observed.at() == at
-        && at < END_OF_TIME
-        && is_before(piece.last_at(), at)
-        && piece.accepts(observed)
+    observed.at() == at && at < END_OF_TIME && piece.accepts(observed)
 }
 
-/// Whether each pod is shown at this moment, and may be handed what is shown of it.
-pub(crate) fn are_next(pieces: &[PodPiece], shown: &[PodObs], at: u64) -> bool
+/// Whether the moment is later than all that was handed to the pod, and what is shown of it, if anything, is of this
+/// moment and may be handed to it.
+fn is_next(piece: &PodPiece, shown: Option<&PodObs>, at: u64) -> bool
+    requires { piece.now.is_pending ≡ false }
+    ensures { IsTrue result ↔ IsNextAt at piece.now (option_map (λ o. o.now) shown) }
+{
+    if !is_before(piece.last_at(), at) {
+        return false;
+    }
+    match shown {
+        Some(observed) => may_be_handed(piece, observed, at),
+        None => true,
+    }
+}
+
+/// Whether the moment is later than all that was handed to the pods, and what is shown of each, if anything, is of this
+/// moment and may be handed to it.
+pub(crate) fn are_next(pieces: &[PodPiece], shown: &[Option<PodObs>], at: u64) -> bool
     requires many { length shown.now ≡ length pieces.now }
     requires free { AreFree pieces.now }
     ensures { IsTrue result ↔ AreNextBelow at pieces.now shown.now (length pieces.now) }
@@ -68,48 +85,127 @@ pub(crate) fn are_next(pieces: &[PodPiece], shown: &[PodObs], at: u64) -> bool
     true
 }
 
-/// The piece once it was handed what a tick shows of its pod, if the tick shows the pod.
-fn handed(piece: PodPiece, observed: Option<PodObs>) -> Result<PodPiece, AllocError>
-    requires { MayTake piece observed }
-    ensures { IfOk result (λ p. p ≡ with_shown piece observed) }
+/// The piece once it was handed the observation, under another number.
+fn handed(piece: PodPiece, observed: PodObs, number: usize) -> Result<PodPiece, AllocError>
+    requires free { piece.is_pending ≡ false }
+    requires next { IsNextTick piece.pod piece.handed (pod_tick observed) }
+    ensures { IfOk result (λ p. p ≡ with_number (with_tick piece (pod_tick observed)) number) }
 {
     let mut piece = piece;
-    if let Some(observed) = observed {
-        piece.hand(observed)?;
-    }
+    piece.hand(observed)?;
+    piece.renumber(number);
     Ok(piece)
 }
 
-/// The pieces once each was handed what a tick shows of its pod, by number.
+/// The piece goes out once it was handed what is shown of its pod, or is kept where nothing is.
+fn hand_or_keep(
+    out: &mut Vec<PodPiece>,
+    kept: &mut Vec<Option<PodPiece>>,
+    piece: PodPiece,
+    shown: Option<PodObs>,
+) -> Result<(), AllocError>
+    requires { MayTake piece shown }
+    ensures out { OnOk result (out.new.items ≡ out.old.items ++ going (length out.old.items) piece shown) }
+    ensures kept { OnOk result (kept.new.items ≡ kept.old.items ++ staying piece shown ∷ []) }
+{
+    match shown {
+        Some(observed) => {
+            let number = out.len();
+            out.push(handed(piece, observed, number)?)?;
+            kept.push(None)?;
+        }
+        None => kept.push(Some(piece))?,
+    }
+    Ok(())
+}
+
+/// The pieces of the pods that are shown, once each was handed what is shown of it, and those that are kept.
 pub(crate) fn all_handed(
     alloc: Global,
     pieces: Vec<PodPiece>,
-    shown: Vec<PodObs>,
-) -> Result<Vec<PodPiece>, AllocError>
+    shown: Vec<Option<PodObs>>,
+) -> Result<(Vec<PodPiece>, Vec<Option<PodPiece>>), AllocError>
     requires free { AreFree pieces.items }
     requires next { AreNext pieces.items shown.items }
-    ensures { IfOk result (λ v. AreHanded pieces.items shown.items v.items) }
+    ensures out { IfOk result (λ r. r.0.items ≡ handed_from 0 pieces.items shown.items) }
+    ensures kept { IfOk result (λ r. r.1.items ≡ kept_of pieces.items shown.items) }
 {
-    let mut all = Vec::with_capacity(alloc, pieces.len())?;
+    let mut out = Vec::with_capacity(alloc, pieces.len())?;
+    let mut kept = Vec::with_capacity(alloc, pieces.len())?;
     let mut observations = shown.into_iter();
     for piece in pieces {
-        let observed = observations.next();
-        all.push(handed(piece, observed)?)?;
+        let shown = observations.next().flatten();
+        hand_or_keep(&mut out, &mut kept, piece, shown)?;
+    }
+    Ok((out, kept))
+}
+
+/// The piece, if there is one, with this number.
+fn numbered(piece: Option<PodPiece>, number: usize) -> Option<PodPiece>
+    ensures { result ≡ option_map (λ p. with_number p number) piece }
+{
+    let mut piece = piece?;
+    piece.renumber(number);
+    Some(piece)
+}
+
+/// Adds the piece, if there is one.
+fn add(all: &mut Vec<PodPiece>, piece: Option<PodPiece>) -> Result<(), AllocError>
+    ensures { OnOk result (all.new.items ≡ all.old.items ++ option_to_list piece) }
+{
+    if let Some(piece) = piece {
+        all.push(piece)?;
+    }
+    Ok(())
+}
+
+/// All pieces: those that were kept, and in the places of the others those that come back.
+pub(crate) fn all_joined(
+    alloc: Global,
+    kept: Vec<Option<PodPiece>>,
+    back: Vec<PodPiece>,
+) -> Result<Vec<PodPiece>, AllocError>
+    ensures { IfOk result (λ v. v.items ≡ joined_from 0 kept.items back.items) }
+{
+    let mut all = Vec::with_capacity(alloc, kept.len())?;
+    let mut back = back.into_iter();
+    for place in kept {
+        let piece = match place {
+            Some(piece) => Some(piece),
+            None => numbered(back.next(), all.len()),
+        };
+        add(&mut all, piece)?;
     }
     Ok(all)
 }
 
-/// Gives each pod its present place in the index.
-pub(crate) fn rank_all(index: &mut RankIndex, pieces: &[PodPiece]) -> Result<(), AllocError>
-    requires { (n : ℕ) (piece : Piece) → slice_get pieces.now n ≡ Some piece → piece.number ≡ n }
+/// Whether the tick of the moment, in seconds, was handed to the pod.
+fn is_present(piece: &PodPiece, moment: u64) -> bool
+    requires { piece.now.is_pending ≡ false }
+    ensures { IsTrue result ↔ (last_moment piece.now.handed ≡ Some moment) }
+{
+    piece.last_at() == Some(moment)
+}
+
+/// Gives each pod that is present at the moment its place in an index that holds none.
+pub(crate) fn rank_all(
+    index: &mut RankIndex,
+    pieces: &[PodPiece],
+    moment: u64,
+) -> Result<(), AllocError>
+    requires free { AreFree pieces.now }
+    requires numbered { (n : ℕ) (piece : Piece) → slice_get pieces.now n ≡ Some piece → piece.number ≡ n }
     ensures signal { index.new.signal ≡ index.old.signal }
     ensures dedicated { index.new.has_dedicated_imagefs ≡ index.old.has_dedicated_imagefs }
-    ensures held { OnOk result ((before : ℕ → Option PodStatus) → IsIndexOf before index.old
+    ensures held { OnOk result (IsIndexOf (λ n. None) index.old
         → (held : ℕ → Option PodStatus) × IsIndexOf held index.new
-        × AreHeldBelow pieces.now (length pieces.now) before held) }
+        × AreHeldBelow pieces.now moment (length pieces.now) held) }
 {
     for number in 0..pieces.len() {
-        index.update(piece_at(pieces, number).status())?;
+        let piece = piece_at(pieces, number);
+        if is_present(piece, moment) {
+            index.update(piece.status())?;
+        }
     }
     Ok(())
 }

@@ -1,6 +1,6 @@
 //! What is true of the pods of every node. The functions do nothing; their contracts are the laws.
 
-ghost use Rattle.node_pods.specs.Laws.{CandidatesAreAlike, OneVictim, CandidateIsEvictable, EvictedIsNoCandidate};
+ghost use Rattle.node_pods.specs.Laws.{CandidatesAreAlike, OneVictim, CandidateIsShown, EvictedIsNoCandidate};
 ghost use Rattle.node_pods.specs.Laws.{OneIsAfter, OneIsEvicted};
 
 /// All statuses of a candidate are one in what ranks it, and so there is one victim at most.
@@ -9,9 +9,9 @@ pub fn candidates_are_alike()
     ensures victim { OneVictim }
 {}
 
-/// A candidate after a tick may be evicted by that tick.
-pub fn candidate_is_evictable()
-    ensures { CandidateIsEvictable }
+/// A candidate after a tick is a pod that the tick shows.
+pub fn candidate_is_shown()
+    ensures { CandidateIsShown }
 {}
 
 /// The pod that was evicted is no candidate any more.

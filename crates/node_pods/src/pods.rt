@@ -3,10 +3,10 @@
 ghost use Rattle.std.specs.Prelude.{◌≡◌, ◌↔◌, [], length, map, IsTrue, IfOk, OnOk, OnErr};
 ghost use Rattle.pod_piece.specs.Piece.{updated};
 ghost use Rattle.ranking.specs.Order.{IsVictim};
-ghost use Rattle.node_pods.specs.Pods.{pods_of, with_pod, ArePlaced, IsCandidate, AreNext, Fits, AreHanded};
-ghost use Rattle.node_pods.specs.Pods.{awaited, AreAwaited, IsEvictable, AreEvicted};
+ghost use Rattle.node_pods.specs.Pods.{pods_of, with_pod, ArePlaced, IsCandidate, AreNext, Fits, handed_from, kept_of};
+ghost use Rattle.node_pods.specs.Pods.{awaited, joined, IsEvictable, AreEvicted};
 
-use crate::each::{all_handed, are_next, evict_at, rank_all};
+use crate::each::{all_handed, all_joined, are_next, evict_at, rank_all};
 use manifest::{MaxRestartDelay, PodSpec};
 use observations::{PodObs, TickObs};
 use pod_piece::{EvictOrder, PodPiece};
@@ -15,7 +15,7 @@ use signals::Signal;
 use std::alloc::{AllocError, Global};
 use std::marker::Model;
 
-/// The pods that are present on a node, by their numbers. (Kubernetes, "Pod Lifecycle" and
+/// The pods that have arrived on a node, by their numbers. (Kubernetes, "Pod Lifecycle" and
 /// "Node-pressure Eviction".)
 #[derive(Drop)]
 pub struct NodePods {
@@ -69,9 +69,9 @@ impl NodePods {
         Ok(())
     }
 
-    /// Whether the tick shows each pod, at its own moment, and each may be handed what it shows: the
-    /// moment is later than the pod's last one and below 2^40, and each container's listing may come
-    /// after its earlier ones. It takes no memory.
+    /// Whether the tick says of each pod what it shows, at its own moment, or that it is not present; the moment is
+    /// later than that of each pod's last tick, and each may be handed what is shown of it: the moment is below 2^40,
+    /// and each container's listing may come after its earlier ones. It takes no memory.
     pub fn fits(&self, tick: &TickObs) -> bool
         ensures { IsTrue result ↔ Fits self.now tick.now }
     {
@@ -79,15 +79,18 @@ impl NodePods {
         shown.len() == self.pieces.len() && are_next(&self.pieces, shown, tick.at)
     }
 
-    /// Hands each pod what a tick shows of it, by number. The pieces, which are still to take it into
-    /// their statuses, go out of the node's hands, and come back by `AwaitedPods::with`. An `Err` says
-    /// that memory was refused.
-    pub fn hand(self, shown: Vec<PodObs>) -> Result<(Vec<PodPiece>, AwaitedPods), AllocError>
+    /// Hands each pod that is present what a tick shows of it, by number. Their pieces, which are still to take it into
+    /// their statuses, go out of the node's hands, the place of each as its number, and come back by
+    /// `AwaitedPods::with`. An `Err` says that memory was refused.
+    pub fn hand(
+        self,
+        shown: Vec<Option<PodObs>>,
+    ) -> Result<(Vec<PodPiece>, AwaitedPods), AllocError>
         requires { AreNext self.pieces shown.items }
-        ensures handed { IfOk result (λ r. AreHanded self.pieces shown.items r.0.items) }
+        ensures handed { IfOk result (λ r. r.0.items ≡ handed_from 0 self.pieces shown.items) }
         ensures awaited { IfOk result (λ r. r.1
-            ≡ awaited (length self.pieces) self.greatest self.has_dedicated_imagefs) }
-        ensures updated { IfOk result (λ r. AreAwaited r.1 (map updated r.0.items)) }
+            ≡ awaited (kept_of self.pieces shown.items) self.greatest self.has_dedicated_imagefs) }
+        ensures updated { IfOk result (λ r. ArePlaced (joined r.1 (map updated r.0.items))) }
     {
         let NodePods {
             alloc,
@@ -95,28 +98,28 @@ impl NodePods {
             has_dedicated_imagefs,
             pieces,
         } = self;
-        let count = pieces.len();
-        let pieces = all_handed(alloc, pieces, shown)?;
+        let (out, kept) = all_handed(alloc, pieces, shown)?;
         Ok((
-            pieces,
+            out,
             AwaitedPods {
                 alloc,
                 greatest,
                 has_dedicated_imagefs,
-                count,
+                kept,
             },
         ))
     }
 
-    /// The number of the pod that is evicted first under the signal; none, where all pods have ended. The
-    /// index of the signal is made here, so that a signal that serves no threshold costs nothing. An `Err`
-    /// says that memory was refused. (Kubernetes, "Node-pressure Eviction", "Pod selection for kubelet
-    /// eviction".)
-    pub fn first(&self, signal: Signal) -> Result<Option<usize>, AllocError>
-        ensures { IfOk result (IsVictim signal self.now.has_dedicated_imagefs (IsCandidate self.now.pieces)) }
+    /// The number of the pod that is evicted first under the signal by the tick of the moment, in seconds; none, where
+    /// all pods that are present have ended. The index of the signal is made here, so that a signal that serves no
+    /// threshold costs nothing. An `Err` says that memory was refused. (Kubernetes, "Node-pressure Eviction", "Pod
+    /// selection for kubelet eviction".)
+    pub fn first(&self, signal: Signal, moment: u64) -> Result<Option<usize>, AllocError>
+        ensures { IfOk result
+            (IsVictim signal self.now.has_dedicated_imagefs (IsCandidate self.now.pieces moment)) }
     {
         let mut index = RankIndex::new(self.alloc, signal, self.has_dedicated_imagefs);
-        rank_all(&mut index, &self.pieces)?;
+        rank_all(&mut index, &self.pieces, moment)?;
         Ok(index.first())
     }
 
@@ -131,13 +134,13 @@ impl NodePods {
     }
 }
 
-/// What a node keeps of its pods while their pieces take a tick into their statuses.
+/// What a node keeps of its pods while the pieces of those that are present take a tick into their statuses.
 #[derive(Drop)]
 pub struct AwaitedPods {
     alloc: Global,
     greatest: MaxRestartDelay,
     has_dedicated_imagefs: bool,
-    count: usize,
+    kept: Vec<Option<PodPiece>>,
 }
 
 impl Model for AwaitedPods {
@@ -145,26 +148,28 @@ impl Model for AwaitedPods {
 
     ghost Value = { Awaited };
 
-    ghost view = { λ a. awaited a.count a.greatest a.has_dedicated_imagefs };
+    ghost view = { λ a. awaited a.kept.items a.greatest a.has_dedicated_imagefs };
 }
 
 impl AwaitedPods {
-    /// The pods of the node with these pieces. It takes no memory.
-    pub fn with(self, pieces: Vec<PodPiece>) -> NodePods
-        requires { AreAwaited self pieces.items }
-        ensures { result ≡ pods_of pieces.items self.greatest self.has_dedicated_imagefs }
+    /// The pods of the node with the pieces that come back, each with its number. An `Err` says that memory was
+    /// refused.
+    pub fn with(self, back: Vec<PodPiece>) -> Result<NodePods, AllocError>
+        requires { ArePlaced (joined self back.items) }
+        ensures { IfOk result (λ pods. pods ≡ joined self back.items) }
     {
         let AwaitedPods {
             alloc,
             greatest,
             has_dedicated_imagefs,
-            count: _,
+            kept,
         } = self;
-        NodePods {
+        let pieces = all_joined(alloc, kept, back)?;
+        Ok(NodePods {
             alloc,
             greatest,
             has_dedicated_imagefs,
             pieces,
-        }
+        })
     }
 }

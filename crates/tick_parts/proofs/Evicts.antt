@@ -22,35 +22,35 @@ get_pod (p ∷ pieces) (suc n) piece e = get_pod pieces n piece e
 -- the first of the candidates is evicted
 pub evicts_first : (config : NodeConfig) (pieces : List Piece) (at : ℕ) (key : ThresholdKey) (victim : Option ℕ)
     (n : ℕ) (piece : Piece) (order : EvictOrder)
-    → IsVictim key.signal config.has_dedicated_imagefs (IsCandidate pieces) victim → victim ≡ Some n
+    → IsVictim key.signal config.has_dedicated_imagefs (IsCandidate pieces at) victim → victim ≡ Some n
     → slice_get pieces n ≡ Some piece → order ≡ order_of config piece.pod at key
     → IsEvictionAt config pieces at (Some key) (Some (record { pod = n; order = order }))
 evicts_first config pieces at key victim n piece order first is found by = (
   Some n,
-  subst (λ (v : Option ℕ). IsVictim key.signal config.has_dedicated_imagefs (IsCandidate pieces) v) is first,
+  subst (λ (v : Option ℕ). IsVictim key.signal config.has_dedicated_imagefs (IsCandidate pieces at) v) is first,
   record { pod = piece.pod; is_pod = get_pod pieces n piece found; number = refl; order = by },
 )
 
 -- without candidates nobody is
 pub evicts_none : (config : NodeConfig) (pieces : List Piece) (at : ℕ) (key : ThresholdKey) (victim : Option ℕ)
-    → IsVictim key.signal config.has_dedicated_imagefs (IsCandidate pieces) victim → victim ≡ None
+    → IsVictim key.signal config.has_dedicated_imagefs (IsCandidate pieces at) victim → victim ≡ None
     → IsEvictionAt config pieces at (Some key) None
 evicts_none config pieces at key victim first is = (
   None,
-  subst (λ (v : Option ℕ). IsVictim key.signal config.has_dedicated_imagefs (IsCandidate pieces) v) is first,
+  subst (λ (v : Option ℕ). IsVictim key.signal config.has_dedicated_imagefs (IsCandidate pieces at) v) is first,
   refl,
 )
 
 -- the first of the candidates is one of the pods
-pub victim_there : (pieces : List Piece) (key : ThresholdKey) (dedicated : Bool) (victim : Option ℕ) (n : ℕ)
-    → IsVictim key.signal dedicated (IsCandidate pieces) victim → victim ≡ Some n
+pub victim_there : (pieces : List Piece) (at : ℕ) (key : ThresholdKey) (dedicated : Bool) (victim : Option ℕ) (n : ℕ)
+    → IsVictim key.signal dedicated (IsCandidate pieces at) victim → victim ≡ Some n
     → slice_get pieces n ≡ None → ⊥
-victim_there pieces key dedicated None n first is none = absurd (let e : None ≡ Some n = is in cc)
-victim_there pieces key dedicated (Some m) n (status, candidate, before) is none =
+victim_there pieces at key dedicated None n first is none = absurd (let e : None ≡ Some n = is in cc)
+victim_there pieces at key dedicated (Some m) n (status, candidate, before) is none =
     let same : m ≡ n = cc in
-    let at : slice_get pieces n ≡ Some candidate.piece =
+    let here : slice_get pieces n ≡ Some candidate.piece =
     subst (λ (k : ℕ). slice_get pieces k ≡ Some candidate.piece) same candidate.at in
-    let both : Some candidate.piece ≡ None = sym at ∙ none in absurd (cc)
+    let both : Some candidate.piece ≡ None = sym here ∙ none in absurd (cc)
 
 -- what is found at a place is there
 pub get_here : (pieces now : List Piece) (n : ℕ) (piece : Piece) → now ≡ pieces → true ≡ nat_lt n (length now)

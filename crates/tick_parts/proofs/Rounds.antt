@@ -1,14 +1,15 @@
 -- A round that workers play, or update by threads.
-use Rattle.std.proofs.Common.{◌≡◌, ◌∙◌, ℕ, zero, suc, ◌<◌, List, [], ◌∷◌, length, map, get_or, Some, refl, ap, arith}
-use Rattle.std.specs.Prelude.{slice_get, option_map, IsTrue}
+use Rattle.std.proofs.Common.{◌≡◌, ◌∙◌, ℕ, zero, suc, ◌<◌, List, [], ◌∷◌, length, map, get_or, Option, Some, refl, ap, subst, arith}
+use Rattle.std.specs.Prelude.{slice_get, IsTrue}
 use Rattle.std.specs.List.{All}
-use Rattle.std.proofs.lemmas.Option.{slice_get-map}
-use Rattle.pod_piece.specs.Piece.{Piece, updated}
+use Rattle.observations.specs.Pods.{PodObs}
+use Rattle.pod_piece.specs.Piece.{Piece}
 use Rattle.event_book.specs.declared.totals.Totals.{Totals}
 use Rattle.event_book.specs.declared.totals.Entry.{Entry}
 use Rattle.event_book.specs.Totals.{AreEntriesOf, sums_of, plus}
 use Rattle.piece_deques.specs.Rule.{AreNumbered}
-use Rattle.node_pods.specs.Pods.{Awaited, AreAwaited}
+use Rattle.node_pods.specs.Pods.{handed_from}
+use Rattle.node_pods.proofs.Handed.{handed_at}
 use Rattle.tick_parts.specs.Update.{MayUpdate, AreEntered}
 
 item_at : (pieces : List Piece) (n : ℕ) (d : Piece) → n < length pieces → slice_get pieces n ≡ Some (get_or pieces n d)
@@ -28,7 +29,10 @@ pub are_entered : (pieces : List Piece) (old new : Totals)
     → AreEntered pieces old new
 are_entered pieces old new is = record { entries = is.0; are_entries = is.1; totals = is.2 }
 
--- pieces that come back once they are updated stand under their numbers
-pub are_numbered : (a : Awaited) (pieces : List Piece) → AreAwaited a (map updated pieces) → AreNumbered pieces
-are_numbered a pieces awaited = λ n piece at.
-    (awaited.placed n (updated piece) (slice_get-map updated pieces n ∙ ap (option_map updated) at)).number_is
+-- the pieces that go out for a tick stand under their numbers
+pub are_numbered : (old : List Piece) (shown : List (Option PodObs)) (pieces : List Piece)
+    → pieces ≡ handed_from 0 old shown → AreNumbered pieces
+are_numbered old shown pieces is n piece at =
+    let here = subst (λ (ps : List Piece). slice_get ps n ≡ Some piece) is at in
+    let w = handed_at 0 old shown n piece here in
+    ap (λ (p : Piece). p.number) w.is

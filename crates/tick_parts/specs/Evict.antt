@@ -12,7 +12,7 @@ use Rattle.node_pods.specs.Pods.{IsCandidate, IsEvictable, AreEvicted}
 abbrev pub IsEvictionAt : NodeConfig → List Piece → ℕ → Option ThresholdKey → Option Eviction → Type 0
 IsEvictionAt config pieces at None eviction = eviction ≡ None
 IsEvictionAt config pieces at (Some key) eviction =
-    (victim : Option ℕ) × IsVictim key.signal config.has_dedicated_imagefs (IsCandidate pieces) victim
+    (victim : Option ℕ) × IsVictim key.signal config.has_dedicated_imagefs (IsCandidate pieces at) victim
     × IsOfVictim config (pods_in pieces) at key victim eviction
 
 -- the eviction may be carried out

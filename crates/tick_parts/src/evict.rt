@@ -20,7 +20,7 @@ fn eviction_of(
     key: ThresholdKey,
     victim: Option<usize>,
 ) -> Option<Eviction>
-    requires { IsVictim key.signal config.now.has_dedicated_imagefs (IsCandidate pieces.now) victim }
+    requires { IsVictim key.signal config.now.has_dedicated_imagefs (IsCandidate pieces.now at) victim }
     ensures { IsEvictionAt config.now pieces.now at (Some key) result }
 {
     let number = victim?;
@@ -45,7 +45,7 @@ pub fn eviction_for(
     let Some(key) = served else {
         return Ok(None);
     };
-    let victim = pods.first(key.signal)?;
+    let victim = pods.first(key.signal, at)?;
     Ok(eviction_of(config, pods.pieces(), at, key, victim))
 }
 

@@ -1,23 +1,23 @@
 -- What a tick's updates make of events and totals, by the pods' histories.
-use Rattle.std.proofs.Common.{◌≡◌, ◌∙◌, inl, inr, ℕ, suc, ◌<◌, ◌≤◌, Bool, List, [], ◌∷◌, ◌++◌, length, map}
+use Rattle.std.proofs.Common.{◌≡◌, ◌∙◌, inl, inr, ℕ, suc, ◌+◌, ◌<◌, ◌≤◌, Bool, List, [], ◌∷◌, ◌++◌, length, map}
 use Rattle.std.proofs.Common.{take, cond, Option, Some, None, refl, sym, ap, subst, arith}
-use Rattle.std.specs.Prelude.{slice_get, IfSome, option_map}
-use Rattle.std.specs.Prelude.{MatchOption}
-use Rattle.std.proofs.lemmas.List.{length-map}
-use Rattle.std.proofs.lemmas.Option.{slice_get-map, slice_get_within}
+use Rattle.std.specs.Prelude.{slice_get, IfSome, IsSome, MatchOption, option_map}
+use Rattle.std.specs.Option.{option_flatten}
+use Rattle.std.proofs.lemmas.Option.{slice_get_within}
 use Rattle.std.proofs.lemmas.Bool.Decides.{eqb_tells}
 use Rattle.histories.proofs.Places.{length-more}
-use Rattle.histories.proofs.Lists.{take_more, given_at, some_given, same_at}
+use Rattle.histories.proofs.Lists.{take_more, given_at, some_given}
 use Rattle.manifest.specs.declared.pod.PodSpec.{PodSpec}
 use Rattle.node_config.specs.declared.node.NodeConfig.{NodeConfig}
+use Rattle.observations.specs.Pods.{PodObs}
 use Rattle.observations.specs.declared.tick.TickObs.{TickObs}
 use Rattle.observations.specs.Observations.{shown_of}
 use Rattle.pod_state.specs.declared.events.PodEvent.{PodEvent}
 use Rattle.pod_state.specs.Pods.{PodTick, pod_tick}
 use Rattle.pod_state.specs.Events.{AreEventsOf}
 use Rattle.pod_piece.specs.declared.piece.Eviction.{Eviction as EvictionOfPod}
-use Rattle.pod_piece.specs.Piece.{Piece, last_of, place_of, evicted_before}
-use Rattle.pod_piece.specs.Status.{AreEventsAfter}
+use Rattle.pod_piece.specs.Piece.{Piece, last_of, place_of, evicted_before, with_tick, updated, with_number}
+use Rattle.pod_piece.specs.Status.{AreEventsAfter, AreLastEvents}
 use Rattle.pod_piece.proofs.PieceLemmas.{before_is}
 use Rattle.pod_piece.proofs.LastTicks.{front_more, last_more}
 use Rattle.eviction.specs.declared.eviction.Eviction.{Eviction}
@@ -29,8 +29,11 @@ use Rattle.event_book.specs.Totals.{entry_of, AreEntriesOf}
 use Rattle.event_book.proofs.Low.{one_last}
 use Rattle.event_list.specs.Events.{ArePodEvents}
 use Rattle.event_list.specs.Tick.{AreMadeBy}
-use Rattle.tick_round.specs.Node.{piece_after, ArePieces}
+use Rattle.event_list.proofs.More.{AreEnteredFor}
+use Rattle.node_pods.specs.Pods.{AreAfter, handed_from}
+use Rattle.tick_round.specs.Node.{State, piece_after, ArePieces, Fits}
 use Rattle.tick_round.proofs.Pieces.{fewer}
+use Rattle.tick_round.proofs.Candidates.{ArePresent}
 
 -- the events of a pod's newest tick
 events_of_last : (pod : PodSpec) (greatest : ℕ) (evicted : Option ℕ) (before : List PodTick) (tick : PodTick)
@@ -116,15 +119,17 @@ evicted_by_own config pods ticks es n replay = by (evicted_at n es) (found_is n 
 -- the events of the pods' last ticks are those of the tick
 pub made_by : (config : NodeConfig) (pods : List PodSpec) (ticks : List TickObs) (es : List (Option Eviction))
     (x : TickObs) (pieces : List Piece) (made : List (List PodEvent)) → IsReplay config pods ticks es
-    → length x.pods ≡ length pods → ArePieces config pods (ticks ++ x ∷ []) es pieces → AreMadeBy pieces made
-    → ArePodEvents config pods ticks x es made
-made_by config pods ticks es x pieces made replay shown are by = record {
+    → length x.pods ≡ length pods → ArePresent pieces x → ArePieces config pods (ticks ++ x ∷ []) es pieces
+    → AreMadeBy x.at pieces made → ArePodEvents config pods ticks x es made
+made_by config pods ticks es x pieces made replay shown present are by = record {
   known = omega (arith, shown);
   as_many = by.as_many ∙ are.as_many ∙ sym shown;
   each = λ n pod observed events at is found.
       let own : own_eviction n (ticks ++ x ∷ []) es ≡ own_eviction n ticks es =
       own_eviction-longer n ticks x es replay.as_many in
-      let last = by.each n (piece_after config (ticks ++ x ∷ []) es n pod) events (are.each n pod at) found in
+      let piece = piece_after config (ticks ++ x ∷ []) es n pod in
+      let now = (present n piece (are.each n pod at)).1 (subst (λ (o : Option PodObs). IsSome o) (sym is) refl) in
+      let last = (by.each n piece events (are.each n pod at) found).present now in
       let evicted = place_of (own_eviction n (ticks ++ x ∷ []) es) in
       let whole = pod_ticks ticks n ++ pod_tick observed ∷ [] in
       let handed : AreEventsAfter pod config.max_restart_delay evicted whole events =
@@ -134,19 +139,72 @@ made_by config pods ticks es x pieces made replay shown are by = record {
       (pod_tick observed) events (evicted_by_own config pods ticks es n replay)
       (subst (λ (e : Option EvictionOfPod). AreEventsAfter pod config.max_restart_delay (place_of e) whole events) own
       handed);
+  absent = λ n events none found.
+      let lt : n < length made = slice_get_within made n events found in
+      let many : length made ≡ length pieces = by.as_many in
+      let piece = given_at pieces n (omega (arith, lt, many)) in
+      (by.each n piece.0 events piece.1 found).absent (λ last.
+      let is : IsSome (shown_of x n) = (present n piece.0 piece.1).0 last in
+      let not : IsSome None = subst (λ (o : Option PodObs). IsSome o) none is in cc);
 }
 
--- the entries are those of these events
-pub entries_by : (pieces : List Piece) (made : List (List PodEvent)) (entries : List Entry) → AreMadeBy pieces made
-    → AreEntriesOf pieces entries → entries ≡ map entry_of made
-entries_by pieces made entries by are =
-    same_at entries (map entry_of made) (are.as_many ∙ sym by.as_many ∙ sym (length-map made entry_of)) (λ n lt.
-    let many : length entries ≡ length pieces = are.as_many in
-    let as_many : length made ≡ length pieces = by.as_many in
-    let entry = given_at entries n lt in
-    let piece = given_at pieces n (omega (arith, lt, many)) in
-    let events = given_at made n (omega (arith, lt, many, as_many)) in
-    let is = are.each n piece.0 entry.0 piece.1 entry.1 in
-    let same = one_last piece.0 is.0 events.0 is.1 (by.each n piece.0 events.0 piece.1 events.1) in
-    entry.1 ∙ ap Some is.2 ∙ ap (λ (list : List PodEvent). Some (entry_of list)) same
-    ∙ sym (slice_get-map entry_of made n ∙ ap (option_map entry_of) events.1))
+-- the entries of the pods that went out are those of these events
+pub entered_for : (old : List Piece) (shown : List (Option PodObs)) (k : ℕ) (made : List (List PodEvent))
+    (entries : List Entry) → length shown ≡ length old → length made ≡ length old
+    → ((n : ℕ) (p : Piece) (o : PodObs) (events : List PodEvent) → slice_get old n ≡ Some p
+    → slice_get shown n ≡ Some (Some o) → slice_get made n ≡ Some events
+    → AreLastEvents (updated (with_tick p (pod_tick o))) events)
+    → ((n : ℕ) (events : List PodEvent) → slice_get shown n ≡ Some None → slice_get made n ≡ Some events
+    → events ≡ [])
+    → AreEntriesOf (map updated (handed_from k old shown)) entries → AreEnteredFor shown made entries
+entered_for [] [] k [] [] long many each absent are = tt
+entered_for [] [] k [] (entry ∷ entries) long many each absent are = absurd (omega (arith, are.as_many))
+entered_for [] [] k (events ∷ made) entries long many each absent are = absurd (omega arith)
+entered_for [] (o ∷ os) k made entries long many each absent are = absurd (omega arith)
+entered_for (p ∷ ps) [] k made entries long many each absent are = absurd (omega arith)
+entered_for (p ∷ ps) (o ∷ os) k [] entries long many each absent are = absurd (omega arith)
+entered_for (p ∷ ps) (None ∷ os) k (events ∷ made) entries long many each absent are = (
+  absent 0 events refl refl,
+  entered_for ps os k made entries (omega (arith, long)) (omega (arith, many))
+      (λ n q o es at there found. each (suc n) q o es at there found)
+      (λ n es there found. absent (suc n) es there found) are,
+)
+entered_for (p ∷ ps) (Some o ∷ os) k (events ∷ made) [] long many each absent are =
+    absurd (omega (arith, are.as_many))
+entered_for (p ∷ ps) (Some o ∷ os) k (events ∷ made) (entry ∷ entries) long many each absent are = (
+  first,
+  entered_for ps os (k + 1) made entries (omega (arith, long)) (omega (arith, many))
+      (λ n q x es at there found. each (suc n) q x es at there found)
+      (λ n es there found. absent (suc n) es there found)
+      (record { as_many = omega (arith, are.as_many); each = λ n q e at there. are.each (suc n) q e at there }),
+)
+  where
+    out : Piece
+    out = updated (with_number (with_tick p (pod_tick o)) k)
+
+    first : entry ≡ entry_of events
+    first =
+        let is = are.each 0 out entry refl refl in
+        let same = one_last out is.0 events is.1 (each 0 p o events refl refl refl) in
+        is.2 ∙ ap (λ (list : List PodEvent). entry_of list) same
+
+-- so are those of a tick
+pub entries_by : (s : State) (x : TickObs) (mid back : List Piece) (made : List (List PodEvent))
+    (entries : List Entry) → Fits s x → AreAfter s.pods.pieces x.pods mid → ArePresent mid x
+    → AreMadeBy x.at mid made → back ≡ map updated (handed_from 0 s.pods.pieces x.pods)
+    → AreEntriesOf back entries → AreEnteredFor x.pods made entries
+entries_by s x mid back made entries fits after present by is are =
+    entered_for s.pods.pieces x.pods 0 made entries fits.pods.next.as_many (by.as_many ∙ after.as_many)
+    (λ n p o events at there found.
+    let here = after.each n p o at there in
+    (by.each n (updated (with_tick p (pod_tick o))) events here found).present
+    ((present n (updated (with_tick p (pod_tick o))) here).1
+    (subst (λ (q : Option PodObs). IsSome q) (sym (ap option_flatten there)) refl)))
+    (λ n events none found.
+    let lt : n < length made = slice_get_within made n events found in
+    let many : length made ≡ length mid = by.as_many in
+    let piece = given_at mid n (omega (arith, lt, many)) in
+    (by.each n piece.0 events piece.1 found).absent (λ last.
+    let shown : IsSome (shown_of x n) = (present n piece.0 piece.1).0 last in
+    let not : IsSome None = subst (λ (o : Option PodObs). IsSome o) (ap option_flatten none) shown in cc))
+    (subst (λ (ps : List Piece). AreEntriesOf ps entries) is are)

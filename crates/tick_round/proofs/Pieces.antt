@@ -3,6 +3,7 @@ use Rattle.std.proofs.Common.{◌≡◌, inl, inr, ℕ, zero, suc, ◌-◌, ◌<
 use Rattle.std.proofs.Common.{false, Option, Some, None, refl, sym, ap, subst, ◌∙◌, arith}
 use Rattle.std.specs.Prelude.{slice_get, option_map}
 use Rattle.std.specs.List.{cons_option}
+use Rattle.std.specs.Option.{option_flatten}
 use Rattle.std.proofs.lemmas.Bool.{cases_eq}
 use Rattle.std.proofs.lemmas.List.{length-take-le}
 use Rattle.std.proofs.lemmas.Option.{slice_get_within}
@@ -25,7 +26,8 @@ use Rattle.pod_piece.specs.Piece.{Piece}
 use Rattle.pod_piece.specs.Status.{IsStatusOf}
 use Rattle.eviction.specs.declared.eviction.Eviction.{Eviction}
 use Rattle.eviction.specs.Replay.{EvictedAt, pod_ticks, evicted_at, own_eviction}
-use Rattle.eviction.proofs.Own.{pod_ticks-more, own_eviction-longer, own_eviction-other, own_eviction-now}
+use Rattle.eviction.proofs.Own.{pod_ticks-more, pod_ticks-rest, own_eviction-longer, own_eviction-other}
+use Rattle.eviction.proofs.Own.{own_eviction-now}
 use Rattle.node_pods.specs.Pods.{IsCandidate, AreAfter, AreEvicted}
 use Rattle.tick_round.specs.Node.{piece_after, ArePieces}
 
@@ -56,14 +58,28 @@ pieces_updated config pods ticks es x old new len shown are after = record {
   each = λ n pod at.
       let lt : n < length pods = slice_get_within pods n pod at in
       let o = given_at x.pods n (omega arith) in
-      let handed : pod_ticks ticks n ++ pod_tick o.0 ∷ [] ≡ pod_ticks (ticks ++ x ∷ []) n =
-      sym (pod_ticks-more ticks x n o.0 o.1) in
-      let eviction : own_eviction n ticks es ≡ own_eviction n (ticks ++ x ∷ []) es =
-      sym (own_eviction-longer n ticks x es len) in
-      after.each n (piece_after config ticks es n pod) o.0 (are.each n pod at) o.1
-      ∙ ap (λ h. Some (made n pod config.max_restart_delay h (own_eviction n ticks es))) handed
-      ∙ ap (λ e. Some (made n pod config.max_restart_delay (pod_ticks (ticks ++ x ∷ []) n) e)) eviction;
+      by n pod at o.0 o.1;
 }
+  where
+    eviction : (n : ℕ) → own_eviction n ticks es ≡ own_eviction n (ticks ++ x ∷ []) es
+    eviction n = sym (own_eviction-longer n ticks x es len)
+
+    grown : (n : ℕ) (pod : PodSpec) (h : List PodTick) → h ≡ pod_ticks (ticks ++ x ∷ []) n
+        → Some (made n pod config.max_restart_delay h (own_eviction n ticks es))
+        ≡ Some (piece_after config (ticks ++ x ∷ []) es n pod)
+    grown n pod h handed =
+        ap (λ k. Some (made n pod config.max_restart_delay k (own_eviction n ticks es))) handed
+        ∙ ap (λ e. Some (made n pod config.max_restart_delay (pod_ticks (ticks ++ x ∷ []) n) e)) (eviction n)
+
+    by : (n : ℕ) (pod : PodSpec) → slice_get pods n ≡ Some pod → (o : Option PodObs) → slice_get x.pods n ≡ Some o
+        → slice_get new n ≡ Some (piece_after config (ticks ++ x ∷ []) es n pod)
+    by n pod at None none =
+        after.absent n (piece_after config ticks es n pod) (are.each n pod at) none
+        ∙ grown n pod (pod_ticks ticks n) (sym (pod_ticks-rest ticks x n (ap option_flatten none)))
+    by n pod at (Some o) there =
+        after.each n (piece_after config ticks es n pod) o (are.each n pod at) there
+        ∙ grown n pod (pod_ticks ticks n ++ pod_tick o ∷ [])
+        (sym (pod_ticks-more ticks x n o (ap option_flatten there)))
 
 -- a pod whose eviction was at one of its ticks has ended
 evicted_ends : (pod : PodSpec) (place : ℕ) (h : List PodTick) (p : Phase) → IsPhase pod (Some place) h p
@@ -90,17 +106,15 @@ fewer (x ∷ ticks) (suc k) n = by (shown_of x n) (fewer ticks k n)
 
 -- a candidate was not evicted before
 pub candidate_not_evicted : (config : NodeConfig) (pods : List PodSpec) (ticks : List TickObs)
-    (es : List (Option Eviction)) (x : TickObs) (pieces : List Piece) (n : ℕ) (status : PodStatus)
-    → length es ≡ length ticks → length x.pods ≡ length pods → ArePieces config pods (ticks ++ x ∷ []) es pieces
-    → IsCandidate pieces n status
+    (es : List (Option Eviction)) (x : TickObs) (pieces : List Piece) (n : ℕ) (status : PodStatus) (shown : PodObs)
+    → length es ≡ length ticks → shown_of x n ≡ Some shown → ArePieces config pods (ticks ++ x ∷ []) es pieces
+    → IsCandidate pieces x.at n status
     → own_eviction n (ticks ++ x ∷ []) es ≡ None
-candidate_not_evicted config pods ticks es x pieces n status len shown are candidate =
+candidate_not_evicted config pods ticks es x pieces n status shown len present are candidate =
     let here = pod_at config pods (ticks ++ x ∷ []) es pieces n candidate.piece are candidate.at in
     let is : IsStatusOf (piece_after config (ticks ++ x ∷ []) es n here.0) status =
     subst (λ (p : Piece). IsStatusOf p status) here.2 candidate.is_status in
-    let lt : n < length pods = slice_get_within pods n here.0 here.1 in
-    let o = given_at x.pods n (omega arith) in
-    none here.0 o.0 o.1 (own_eviction n ticks es) (λ e found. before e found)
+    none here.0 shown present (own_eviction n ticks es) (λ e found. before e found)
     (own_eviction-longer n ticks x es len) is.lifecycle.phase
   where
     before : (e : EvictionOfPod) → own_eviction n ticks es ≡ Some e → e.place ≤ length (pod_ticks ticks n)
@@ -136,21 +150,21 @@ candidate_not_evicted config pods ticks es x pieces n status len shown are candi
 
 -- after the eviction
 pub pieces_evicted : (config : NodeConfig) (pods : List PodSpec) (ticks : List TickObs) (es : List (Option Eviction))
-    (x : TickObs) (e : Eviction) (old new : List Piece) (status : PodStatus)
-    → length es ≡ length ticks → length x.pods ≡ length pods
-    → ArePieces config pods (ticks ++ x ∷ []) es old → IsCandidate old e.pod status → AreEvicted old e.pod e.order new
-    → ArePieces config pods (ticks ++ x ∷ []) (es ++ Some e ∷ []) new
-pieces_evicted config pods ticks es x e old new status len shown are candidate evicted = record {
+    (x : TickObs) (e : Eviction) (old new : List Piece) (status : PodStatus) (shown : PodObs)
+    → length es ≡ length ticks → shown_of x e.pod ≡ Some shown
+    → ArePieces config pods (ticks ++ x ∷ []) es old → IsCandidate old x.at e.pod status
+    → AreEvicted old e.pod e.order new → ArePieces config pods (ticks ++ x ∷ []) (es ++ Some e ∷ []) new
+pieces_evicted config pods ticks es x e old new status shown len present are candidate evicted = record {
   as_many = evicted.as_many ∙ are.as_many;
   each = λ n pod at. elim (cases_eq n e.pod) [
     | inl here ↦
         let at' : slice_get pods e.pod ≡ Some pod = subst (λ (k : ℕ). slice_get pods k ≡ Some pod) here at in
-        let lt : e.pod < length pods = slice_get_within pods e.pod pod at' in
-        let o = given_at x.pods e.pod (omega arith) in
         let grown : length (pod_ticks (ticks ++ x ∷ []) e.pod) ≡ suc (length (pod_ticks ticks e.pod)) =
-        ap length (pod_ticks-more ticks x e.pod o.0 o.1) ∙ length-more (pod_ticks ticks e.pod) (pod_tick o.0) in
+        ap length (pod_ticks-more ticks x e.pod shown present)
+        ∙ length-more (pod_ticks ticks e.pod) (pod_tick shown) in
         let last : length (pod_ticks (ticks ++ x ∷ []) e.pod) - 1 ≡ length (pod_ticks ticks e.pod) = omega arith in
-        let never = candidate_not_evicted config pods ticks es x old e.pod status len shown are candidate in
+        let never =
+        candidate_not_evicted config pods ticks es x old e.pod status shown len present are candidate in
         let now = own_eviction-now e.pod ticks x es e len never refl in
         let done : slice_get new e.pod ≡ Some (piece_after config (ticks ++ x ∷ []) (es ++ Some e ∷ []) e.pod pod) =
         evicted.here (piece_after config (ticks ++ x ∷ []) es e.pod pod) (are.each e.pod pod at')

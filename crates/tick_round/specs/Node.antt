@@ -78,8 +78,8 @@ pub record HasTaken (pods : List PodSpec) (ticks : List TickObs) (s : State) : T
   pub few_ticks : length ticks ≤ most_ticks
   pub few_pods : length pods ≤ most_pods
 
--- the tick may come next: one more may be taken, it is later than the last, and it shows each pod so
--- that it may be handed to it
+-- the tick may come next: one more may be taken, it is later than the last, and it says of each pod that it is not
+-- present, or shows it so that it may be handed to it
 pub record Fits (s : State) (tick : TickObs) : Type 0 where
   pub few : length s.evictions < most_ticks
   pub later : IfSome s.last (λ last. last < tick.at)

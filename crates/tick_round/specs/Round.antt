@@ -1,5 +1,5 @@
 -- A tick of a node: what comes before the update of its pods, and what comes after it.
-use Rattle.std.specs.Prelude.{◌≡◌, ℕ, ◌*◌, ◌≤◌, List, [], ◌∷◌, ◌++◌, length, slice_get, Option, Some}
+use Rattle.std.specs.Prelude.{◌≡◌, ℕ, ◌*◌, ◌≤◌, List, [], ◌∷◌, ◌++◌, length, map, slice_get, Option, Some}
 use Rattle.manifest.specs.declared.pod.PodSpec.{PodSpec}
 use Rattle.node_config.specs.declared.node.NodeConfig.{NodeConfig}
 use Rattle.observations.specs.declared.tick.TickObs.{TickObs}
@@ -9,9 +9,9 @@ use Rattle.node_signals.specs.declared.key.ThresholdKey.{ThresholdKey}
 use Rattle.node_signals.specs.Events.{AreNodeEvents}
 use Rattle.node_signals.specs.Node.{IsStateOf}
 use Rattle.node_signals.specs.Thresholds.{IsServed}
-use Rattle.pod_piece.specs.Piece.{Piece, pods_in}
+use Rattle.pod_piece.specs.Piece.{Piece, updated, pods_in}
 use Rattle.event_book.specs.declared.totals.Totals.{Totals}
-use Rattle.node_pods.specs.Pods.{AreAfter, awaited}
+use Rattle.node_pods.specs.Pods.{handed_from, kept_of, awaited}
 use Rattle.tick_parts.specs.Update.{AreUpTo, AreEntered}
 use Rattle.tick_round.specs.declared.begun.Begun.{Begun}
 use Rattle.tick_round.specs.Node.{State, HasTaken, Fits}
@@ -49,19 +49,19 @@ pub record IsSampled (config : NodeConfig) (old : NodeSignals) (tick : TickObs) 
 pub record HasBegun (s : State) (tick : TickObs) (begun : Begun) : Type 0 where
   pub config : begun.config ≡ s.config
   pub sampled : IsSampled s.config s.signals tick begun.signals begun.news.items begun.served
-  pub pods : begun.pods ≡ awaited (length s.pods.pieces) s.pods.greatest s.pods.has_dedicated_imagefs
+  pub pods : begun.pods ≡ awaited (kept_of s.pods.pieces tick.pods) s.pods.greatest s.pods.has_dedicated_imagefs
   pub evictions : begun.evictions.items ≡ s.evictions
   pub events : begun.events.items ≡ s.events
   pub at : begun.at ≡ tick.at
 
--- its pods have taken the tick, and were entered
-pub record AreUpdated (s : State) (tick : TickObs) (pieces : List Piece) (totals : Totals) : Type 0 where
-  pub after : AreAfter s.pods.pieces tick.pods pieces
-  pub entered : AreEntered pieces s.totals totals
+-- its pods that are present have taken the tick, and were entered
+pub record AreUpdated (s : State) (tick : TickObs) (back : List Piece) (totals : Totals) : Type 0 where
+  pub back_are : back ≡ map updated (handed_from 0 s.pods.pieces tick.pods)
+  pub entered : AreEntered back s.totals totals
 
 -- the node may end the tick
-pub record MayEnd (s : State) (tick : TickObs) (begun : Begun) (pieces : List Piece)
+pub record MayEnd (s : State) (tick : TickObs) (begun : Begun) (back : List Piece)
     (totals : Totals) : Type 0 where
   pub fits : Fits s tick
   pub has_begun : HasBegun s tick begun
-  pub updated : AreUpdated s tick pieces totals
+  pub updated : AreUpdated s tick back totals

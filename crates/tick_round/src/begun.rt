@@ -4,7 +4,7 @@ ghost use Rattle.std.specs.Prelude.{◌≡◌, ◌++◌, ◌∷◌, [], List, If
 ghost use Rattle.manifest.specs.declared.pod.PodSpec.{PodSpec};
 ghost use Rattle.observations.specs.declared.tick.TickObs.{TickObs};
 ghost use Rattle.event_list.specs.Tick.{AddsEvents};
-ghost use Rattle.node_pods.specs.Pods.{AreAwaited};
+ghost use Rattle.node_pods.specs.Pods.{ArePlaced, joined};
 ghost use Rattle.tick_round.specs.Node.{State, HasTaken};
 ghost use Rattle.tick_round.specs.Round.{IsKept, MayEnd};
 
@@ -53,19 +53,19 @@ fn add_tick(
 }
 
 impl Begun {
-    /// The node after the tick, with these pieces, which have taken it into their statuses, and this
-    /// book, in which they were entered: one pod at most is evicted. A refused growth of memory gives
+    /// The node after the tick, with the pieces that come back, which have taken it into their statuses, and
+    /// this book, in which they were entered: one pod at most is evicted. A refused growth of memory gives
     /// the node up.
     pub(crate) fn end<U: Ledger, E: Ledger, O: Ledger>(
         self,
-        pieces: Vec<PodPiece>,
+        back: Vec<PodPiece>,
         book: WholeBook<U, E, O>,
     ) -> Result<Running<U, E, O>, AllocError>
-        requires awaited { AreAwaited self.pods pieces.items }
-        requires taken { (s : State) × (tick : TickObs) × IsKept s × MayEnd s tick self pieces.items book }
+        requires placed { ArePlaced (joined self.pods back.items) }
+        requires taken { (s : State) × (tick : TickObs) × IsKept s × MayEnd s tick self back.items book }
         ensures config { IfOk result (λ next. next.config ≡ self.config) }
         ensures taken { (s : State) (tick : TickObs) (pods : List PodSpec) (ticks : List TickObs)
-            → MayEnd s tick self pieces.items book → HasTaken pods ticks s
+            → MayEnd s tick self back.items book → HasTaken pods ticks s
             → IfOk result (HasTaken pods (ticks ++ tick ∷ [])) }
     {
         let Begun {
@@ -79,7 +79,13 @@ impl Begun {
             mut events,
             at,
         } = self;
-        let mut pods = pods.with(pieces);
+        let mut pods = match pods.with(back) {
+            Ok(pods) => pods,
+            Err(fault) => {
+                drop((config, signals, news, evictions, events, book));
+                return Err(fault);
+            }
+        };
         let heeded = unless_paused(&config, at, &evictions, served);
         let eviction = match eviction_for(&config, &pods, at, heeded) {
             Ok(eviction) => eviction,

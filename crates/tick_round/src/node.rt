@@ -5,6 +5,7 @@ ghost use Rattle.std.specs.Prelude.{List, length, map, None, IsTrue, IfOk, IfErr
 ghost use Rattle.manifest.specs.declared.pod.PodSpec.{PodSpec};
 ghost use Rattle.node_config.specs.declared.node.NodeConfig.{NodeConfig};
 ghost use Rattle.observations.specs.declared.tick.TickObs.{TickObs};
+ghost use Rattle.observations.specs.Observations.{all_shown};
 ghost use Rattle.observations.specs.Limits.{most_pods};
 ghost use Rattle.event_book.specs.Totals.{nothing};
 ghost use Rattle.event_book.specs.Limits.{most_workers};
@@ -88,9 +89,9 @@ impl<U: Ledger, E: Ledger, O: Ledger> Node<U, E, O> {
         }
     }
 
-    /// Whether the tick may come next: fewer than 20,000 were taken, it is later than the last and below
-    /// 2^40, and it shows each pod, with a listing of each container that may come after all earlier
-    /// ones. Of a halted node it is true. It takes no memory.
+    /// Whether the tick may come next: fewer than 20,000 were taken, it is later than the last and below 2^40, and it
+    /// says of each pod that it is not present, or shows it with a listing of each container that may come after all
+    /// earlier ones. Of a halted node it is true. It takes no memory.
     pub fn fits(&self, tick: &TickObs) -> bool
         ensures { IsTrue result ↔ MayTake self.now tick.now }
     {
@@ -100,8 +101,9 @@ impl<U: Ledger, E: Ledger, O: Ledger> Node<U, E, O> {
         }
     }
 
-    /// Takes one tick, on one thread: each pod takes what the tick shows of it, then one pod at most is
-    /// evicted. An `Err` says that memory was refused, or that the node was halted; it is halted then.
+    /// Takes one tick, on one thread: each pod that is present takes what the tick shows of it, then one of them at
+    /// most is evicted. A pod that is not present stays as it is. An `Err` says that memory was refused, or that the
+    /// node was halted; it is halted then.
     pub fn tick_alone(&mut self, tick: TickObs) -> Result<(), TickFault>
         requires { MayTake self.old tick }
         ensures taken { (config : NodeConfig) (pods : List PodSpec) (ticks : List TickObs)
@@ -124,8 +126,9 @@ impl<U: Ledger, E: Ledger, O: Ledger> Node<U, E, O> {
 
     /// Takes one tick, whose round is played on one thread: so many workers, 1 to 64, update the pods by
     /// these steps, then each finishes what it has. A step that is not possible is skipped. It answers
-    /// the numbers of the pods that each worker finished. The node is as after `tick_alone`, whatever the
-    /// steps are. An `Err` says that memory was refused, or that the node was halted; it is halted then.
+    /// the places, among the pods that are present, of those that each worker finished. The node is as after
+    /// `tick_alone`, whatever the steps are. An `Err` says that memory was refused, or that the node was halted;
+    /// it is halted then.
     pub fn tick_play(
         &mut self,
         tick: TickObs,
@@ -138,10 +141,8 @@ impl<U: Ledger, E: Ledger, O: Ledger> Node<U, E, O> {
         ensures taken { (config : NodeConfig) (pods : List PodSpec) (ticks : List TickObs)
             → IsAfter config pods ticks self.old
             → OnOk result (IsAfter config pods (ticks ++ tick ∷ []) self.new) }
-        ensures finished { (config : NodeConfig) (pods : List PodSpec) (ticks : List TickObs)
-            → IsAfter config pods ticks self.old
-            → IfOk result (λ lists.
-            AreFinished (length pods) workers steps.now (map (λ list. list.items) lists.items)) }
+        ensures finished { IfOk result (λ lists.
+            AreFinished (length (all_shown tick)) workers steps.now (map (λ list. list.items) lists.items)) }
         ensures err { OnErr result (self.new ≡ None) }
         ensures halted { IsErrOf result Halted ↔ (self.old ≡ None) }
     {
@@ -173,9 +174,9 @@ impl<U: Ledger, E: Ledger, O: Ledger> Node<U, E, O> {
 }
 
 impl<U: Ledger + Send, E: Ledger + Send, O: Ledger + Send> Node<U, E, O> {
-    /// Takes one tick, whose pods so many workers, 1 to 64, update in threads of their own: each pod takes what
-    /// the tick shows of it, then one pod at most is evicted. The gate is told of each update. The node is as
-    /// after `tick_alone`, whatever the threads do. An `Err` says that memory was refused, or that the node was
+    /// Takes one tick, whose pods so many workers, 1 to 64, update in threads of their own: each pod that is present
+    /// takes what the tick shows of it, then one of them at most is evicted. The gate is told of each update. The node
+    /// is as after `tick_alone`, whatever the threads do. An `Err` says that memory was refused, or that the node was
     /// halted; it is halted then.
     pub fn tick<R: Threads + Wait + Sync, G: Gate>(
         &mut self,

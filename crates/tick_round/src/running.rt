@@ -8,11 +8,12 @@ ghost use Rattle.std.specs.Prelude.{List, length, map, IsTrue, IfSome, IfOk, OnO
 ghost use Rattle.manifest.specs.declared.pod.PodSpec.{PodSpec};
 ghost use Rattle.node_config.specs.declared.node.NodeConfig.{NodeConfig};
 ghost use Rattle.observations.specs.declared.tick.TickObs.{TickObs};
+ghost use Rattle.observations.specs.Observations.{all_shown};
 ghost use Rattle.observations.specs.Limits.{most_pods};
 ghost use Rattle.pod_piece.specs.Piece.{updated};
 ghost use Rattle.event_book.specs.Totals.{nothing};
 ghost use Rattle.event_book.specs.Limits.{most_workers};
-ghost use Rattle.node_pods.specs.Pods.{AreHanded, AreAwaited};
+ghost use Rattle.node_pods.specs.Pods.{handed_from, ArePlaced, joined};
 ghost use Rattle.tick_parts.specs.Update.{MayUpdate};
 ghost use Rattle.tick_round.specs.Node.{HasTaken, Fits};
 ghost use Rattle.tick_parts.specs.Played.{AreFinished};
@@ -131,20 +132,20 @@ impl<U: Ledger, E: Ledger, O: Ledger> Running<U, E, O> {
             && self.pods.fits(tick)
     }
 
-    /// Takes the samples of a tick, and hands each pod what the tick shows of it. The pieces, which are
-    /// still to take it into their statuses, and the book go out for the updates, beside what is left
-    /// of the node. A refused growth of memory gives the node up.
+    /// Takes the samples of a tick, and hands each pod that is present what the tick shows of it. Their pieces, which
+    /// are still to take it into their statuses, and the book go out for the updates, beside what is left of the
+    /// node. A refused growth of memory gives the node up.
     pub(crate) fn begin(
         self,
         tick: TickObs,
     ) -> Result<(Vec<PodPiece>, WholeBook<U, E, O>, Begun), AllocError>
         requires { Fits self tick }
         ensures kept { IfOk result (λ r. IsKept self) }
-        ensures handed { IfOk result (λ r. AreHanded self.pods.pieces tick.pods r.0.items) }
+        ensures handed { IfOk result (λ r. r.0.items ≡ handed_from 0 self.pods.pieces tick.pods) }
         ensures may_update { IfOk result (λ r. MayUpdate r.0.items r.1) }
         ensures book { IfOk result (λ r. r.1 ≡ self.totals) }
         ensures begun { IfOk result (λ r. HasBegun self tick r.2) }
-        ensures awaited { IfOk result (λ r. AreAwaited r.2.pods (map updated r.0.items)) }
+        ensures placed { IfOk result (λ r. ArePlaced (joined r.2.pods (map updated r.0.items))) }
     {
         let Running {
             alloc,
@@ -204,8 +205,8 @@ impl<U: Ledger, E: Ledger, O: Ledger> Running<U, E, O> {
         }
     }
 
-    /// The node after one more tick, whose round so many workers play by these steps, and the numbers of
-    /// the pods that each of them finished. A refused growth of memory gives the node up.
+    /// The node after one more tick, whose round so many workers play by these steps, and the places, among the pods
+    /// that are present, of those that each of them finished. A refused growth of memory gives the node up.
     pub(crate) fn after_played(
         self,
         tick: TickObs,
@@ -219,7 +220,7 @@ impl<U: Ledger, E: Ledger, O: Ledger> Running<U, E, O> {
         ensures taken { (pods : List PodSpec) (ticks : List TickObs) → HasTaken pods ticks self
             → IfOk result (λ r. HasTaken pods (ticks ++ tick ∷ []) r.0) }
         ensures finished { IfOk result (λ r.
-            AreFinished (length self.pods.pieces) workers steps.now (map (λ list. list.items) r.1.items)) }
+            AreFinished (length (all_shown tick)) workers steps.now (map (λ list. list.items) r.1.items)) }
     {
         let alloc = self.alloc;
         let (pieces, book, begun) = self.begin(tick)?;

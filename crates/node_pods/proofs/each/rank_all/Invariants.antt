@@ -1,4 +1,4 @@
-use Rattle.std.proofs.Common.{◌≡◌, ℕ, Option}
+use Rattle.std.proofs.Common.{◌≡◌, ℕ, Option, None}
 use Rattle.pod_piece.specs.declared.status.PodStatus.{PodStatus}
 use Rattle.ranking.specs.Index.{IsIndexOf}
 use Rattle.node_pods.specs.Ranked.{AreHeldBelow}
@@ -8,6 +8,6 @@ abbrev pub invariant-loop-number : goal.invariant-loop-number
 invariant-loop-number l = record {
   signal : l.index.signal ≡ l.fn.index.signal;
   dedicated : l.index.has_dedicated_imagefs ≡ l.fn.index.has_dedicated_imagefs;
-  held : (before : ℕ → Option PodStatus) → IsIndexOf before l.fn.index
-      → (held : ℕ → Option PodStatus) × IsIndexOf held l.index × AreHeldBelow l.pieces l.number before held;
+  held : IsIndexOf (λ n. None) l.fn.index
+      → (held : ℕ → Option PodStatus) × IsIndexOf held l.index × AreHeldBelow l.pieces l.moment l.number held;
 }

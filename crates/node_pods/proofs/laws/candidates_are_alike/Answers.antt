@@ -7,4 +7,5 @@ pub returns-clause-alike : goal.returns-clause-alike
 returns-clause-alike c = candidates_alike
 
 pub returns-clause-victim : goal.returns-clause-victim
-returns-clause-victim c = λ pieces signal dedicated. victim_unique signal dedicated (IsCandidate pieces)
+returns-clause-victim c = λ pieces moment signal dedicated.
+    victim_unique signal dedicated (IsCandidate pieces moment)

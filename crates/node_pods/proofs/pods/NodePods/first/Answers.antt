@@ -1,4 +1,4 @@
-use Rattle.std.proofs.Common.{◌∙◌, None, ap}
+use Rattle.std.proofs.Common.{◌∙◌, ap}
 use Rattle.ranking.specs.Index.{Ranks}
 use Rattle.node_pods.specs.Pods.{Pods}
 use Rattle.node_pods.proofs.Candidates.{victim_of_all}
@@ -7,8 +7,8 @@ use Rattle.node_pods.proofs.pods.NodePods.first.Goals as goal
 pub returns : goal.returns
 returns c =
     let made = c.new-index.ensures in
-    let given = c.in_ok-rank_all.ensures.held (λ n. None) made.none in
-    victim_of_all c.args.self.now c.deref.result.now c.args.signal c.rank_all.new.index.signal
+    let given = c.in_ok-rank_all.ensures.held made.none in
+    victim_of_all c.args.self.now c.deref.result.now c.args.moment c.args.signal c.rank_all.new.index.signal
     c.rank_all.new.index.has_dedicated_imagefs given.0 c.first.result
     (c.deref.ensures.value ∙ ap (λ (p : Pods). p.pieces) c.self.view_is)
     (c.rank_all.ensures.signal ∙ ap (λ (r : Ranks). r.signal) made.value)

@@ -1,14 +1,14 @@
 use Rattle.std.proofs.Common.{Some, refl}
 use Rattle.pod_piece.specs.Piece.{pods_in}
 use Rattle.tick_round.specs.Node.{state}
-use Rattle.tick_round.proofs.GoesOn.{adds_as, ends, ends_kept, heeds_as, may_carry_out}
+use Rattle.tick_round.proofs.Candidates.{may_be_evicted}
+use Rattle.tick_round.proofs.GoesOn.{adds_as, ends, ends_kept, heeds_as}
 use Rattle.tick_round.proofs.begun.Begun.end.Goals as goal
 
 pub carry_out-requires : goal.carry_out-requires
 carry_out-requires g c =
-    let by = c.requires.taken in
-    may_carry_out by.0 by.1 c.args.self c.args.pieces.items c.args.book c.with-pods.result
-    c.unless_paused-heeded.result c.in-Ok.eviction by.3 c.with-pods.ensures c.in-Ok.ensures
+    may_be_evicted c.args.self.config c.in-Ok-2.pods.pieces c.args.self.at c.unless_paused-heeded.result
+    c.in-Ok.eviction c.in-Ok.ensures
 
 pub invariant_of-result : goal.invariant_of-result
 invariant_of-result g c =
@@ -18,9 +18,9 @@ invariant_of-result g c =
     let b = c.args.self in
     let evs = c.add_tick-added.new.events.items in
     let es = c.add_tick-added.new.evictions.items in
-    ends_kept s by.1 b c.args.pieces.items c.args.book
+    ends_kept s by.1 b c.args.back.items c.args.book
     (state b.config b.signals c.carry_out.new.pods es evs c.args.book (Some b.at)) kept by.3
-    (ends (pods_in s.pods.pieces) kept.ticks s by.1 b c.args.pieces.items c.args.book c.with-pods.result
+    (ends (pods_in s.pods.pieces) kept.ticks s by.1 b c.args.back.items c.args.book c.with-pods.result
     c.carry_out.new.pods c.unless_paused-heeded.result c.in-Ok.eviction evs es kept.taken by.3 c.with-pods.ensures
     (heeds_as b.config b.at c.deref.result.now b.evictions.items b.served c.unless_paused-heeded.result
     c.deref.ensures.value c.unless_paused-heeded.ensures) c.in-Ok.ensures
@@ -36,7 +36,7 @@ returns-in-Ok-added-clause-taken g c = λ s tick pods ticks may taken.
     let b = c.args.self in
     let evs = c.add_tick-added.new.events.items in
     let es = c.add_tick-added.new.evictions.items in
-    ends pods ticks s tick b c.args.pieces.items c.args.book c.with-pods.result c.carry_out.new.pods
+    ends pods ticks s tick b c.args.back.items c.args.book c.with-pods.result c.carry_out.new.pods
     c.unless_paused-heeded.result c.in-Ok.eviction evs es taken may c.with-pods.ensures
     (heeds_as b.config b.at c.deref.result.now b.evictions.items b.served c.unless_paused-heeded.result
     c.deref.ensures.value c.unless_paused-heeded.ensures) c.in-Ok.ensures

@@ -4,7 +4,7 @@ use Rattle.tick_round.proofs.running.Running.after.Goals as goal
 
 pub update_by_workers-requires-clause-numbered : goal.update_by_workers-requires-clause-numbered
 update_by_workers-requires-clause-numbered g c κs within =
-    are_numbered c.in_ok-pieces.begun.pods c.in_ok-pieces.pieces.items c.in_ok-pieces.ensures.awaited
+    are_numbered c.args.self.pods.pieces c.args.tick.pods c.in_ok-pieces.pieces.items c.in_ok-pieces.ensures.handed
 
 pub end-requires-clause-taken : goal.end-requires-clause-taken
 end-requires-clause-taken g c = (

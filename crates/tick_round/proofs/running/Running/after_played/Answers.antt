@@ -1,4 +1,5 @@
-use Rattle.std.proofs.Common.{◌∙◌, sym}
+use Rattle.std.proofs.Common.{◌∙◌, length, ap, sym}
+use Rattle.node_pods.proofs.Handed.{handed_count}
 use Rattle.tick_round.proofs.GoesOn.{updated_by}
 use Rattle.tick_round.proofs.running.Running.after_played.Goals as goal
 
@@ -28,4 +29,5 @@ returns-in_ok-next-in-Ok-clause-taken g c = λ pods ticks taken.
 
 pub returns-in_ok-next-in-Ok-clause-finished : goal.returns-in_ok-next-in-Ok-clause-finished
 returns-in_ok-next-in-Ok-clause-finished g c = λ entries many.
-    c.in-Ok.ensures.finished entries (many ∙ sym c.in_ok-pieces.ensures.handed.as_many)
+    c.in-Ok.ensures.finished entries (many ∙ sym (ap length c.in_ok-pieces.ensures.handed
+    ∙ handed_count 0 c.args.self.pods.pieces c.args.tick.pods c.requires.fits.pods.next.as_many))

@@ -11,10 +11,7 @@ pub returns-in-Ok-hand-clause-may_update : goal.returns-in-Ok-hand-clause-may_up
 returns-in-Ok-hand-clause-may_update g c =
     let i = c.self.inside in
     may_update (state i.config i.signals i.pods i.evictions.items i.events.items i.book i.last) c.into_vec.result.items
-    c.in-Ok-hand.pieces.items c.self.invariant
-    (ap length c.into_vec.ensures ∙ c.requires.pods.next.as_many
-    ∙ ap (λ (s : State). length s.pods.pieces) (sym c.self.view_is))
-    c.in-Ok-hand.ensures.handed
+    c.in-Ok-hand.pieces.items c.self.invariant c.in-Ok-hand.ensures.handed
 
 pub returns-in-Ok-hand-clause-begun : goal.returns-in-Ok-hand-clause-begun
 returns-in-Ok-hand-clause-begun g c =

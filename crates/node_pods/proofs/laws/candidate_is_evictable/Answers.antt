@@ -1,5 +1,0 @@
-use Rattle.node_pods.proofs.Kept as kept
-use Rattle.node_pods.proofs.laws.candidate_is_evictable.Goals as goal
-
-pub returns : goal.returns
-returns c = kept.candidate_is_evictable
