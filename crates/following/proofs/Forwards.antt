@@ -1,7 +1,8 @@
 -- A tick that doesn't go back, container by container.
-use Rattle.std.proofs.Common.{◌≡◌, ℕ, zero, suc, ◌+◌, ◌||◌, not, true, false, Bool, List, [], ◌∷◌, Option, Some, refl}
+use Rattle.std.proofs.Common.{◌≡◌, ℕ, zero, suc, ◌+◌, ◌||◌, not, true, false, Bool, List, [], ◌∷◌, Option, Some, None, refl}
 use Rattle.std.proofs.Common.{sym, subst, arith}
 use Rattle.std.specs.Prelude.{slice_get, option_and_then}
+use Rattle.std.specs.Option.{option_flatten}
 use Rattle.std.proofs.lemmas.Bool.{or_parts}
 use Rattle.state_diff.specs.declared.seen.Seen.{Seen}
 use Rattle.state_diff.specs.Acceptable.{is_acceptable}
@@ -37,18 +38,24 @@ containers_forwards ticks pod n (o ∷ os) e (suc c) =
 abbrev pub seen_in_pod : Option PodObs → ℕ → Option Seen
 seen_in_pod p c = option_and_then (λ (shown : PodObs). listed_in shown c) p
 
-pub pods_forwards : (ticks : List TickObs) (n : ℕ) (ps : List PodObs) → some_pod_backwards ticks n ps ≡ false
-    → (p c : ℕ) → is_acceptable (history ticks (n + p) c) (seen_in_pod (slice_get ps p) c) ≡ true
+pub pods_forwards : (ticks : List TickObs) (n : ℕ) (shown : List (Option PodObs))
+    → some_pod_backwards ticks n shown ≡ false
+    → (p c : ℕ) → is_acceptable (history ticks (n + p) c) (seen_in_pod (option_flatten (slice_get shown p)) c) ≡ true
 pods_forwards ticks n [] e p c = refl
-pods_forwards ticks n (q ∷ qs) e zero c =
+pods_forwards ticks n (None ∷ qs) e zero c = refl
+pods_forwards ticks n (None ∷ qs) e (suc p) c =
+    let same : n + 1 + p ≡ n + suc p = omega arith in
+    subst (λ (k : ℕ). is_acceptable (history ticks k c) (seen_in_pod (option_flatten (slice_get qs p)) c) ≡ true) same
+    (pods_forwards ticks (n + 1) qs e p c)
+pods_forwards ticks n (Some q ∷ qs) e zero c =
     let here = containers_forwards ticks n 0 q.containers
     (or_parts (some_container_backwards ticks n 0 q.containers) (some_pod_backwards ticks (n + 1) qs) e).0 c in
     let same : n + 0 ≡ n = omega arith in
     let place : 0 + c ≡ c = omega arith in
     subst (λ (k : ℕ). is_acceptable (history ticks k c) (seen_in_pod (Some q) c) ≡ true) (sym same)
     (subst (λ (k : ℕ). is_acceptable (history ticks n k) (seen_in_pod (Some q) c) ≡ true) place here)
-pods_forwards ticks n (q ∷ qs) e (suc p) c =
+pods_forwards ticks n (Some q ∷ qs) e (suc p) c =
     let rest = (or_parts (some_container_backwards ticks n 0 q.containers) (some_pod_backwards ticks (n + 1) qs) e).1 in
     let same : n + 1 + p ≡ n + suc p = omega arith in
-    subst (λ (k : ℕ). is_acceptable (history ticks k c) (seen_in_pod (slice_get qs p) c) ≡ true) same
+    subst (λ (k : ℕ). is_acceptable (history ticks k c) (seen_in_pod (option_flatten (slice_get qs p)) c) ≡ true) same
     (pods_forwards ticks (n + 1) qs rest p c)

@@ -1,6 +1,6 @@
 -- Whether a tick's listings go back behind those of earlier ticks. What came before a listing is
 -- what its pod's own ticks list.
-use Rattle.std.specs.Prelude.{ℕ, ◌+◌, ◌||◌, Bool, false, not, List, [], ◌∷◌}
+use Rattle.std.specs.Prelude.{ℕ, ◌+◌, ◌||◌, Bool, false, not, List, [], ◌∷◌, Option, Some, None}
 use Rattle.state_diff.specs.Acceptable.{is_acceptable}
 use Rattle.observations.specs.declared.container.ContainerObs.{ContainerObs}
 use Rattle.observations.specs.Pods.{PodObs}
@@ -13,11 +13,12 @@ some_container_backwards ticks pod n [] = false
 some_container_backwards ticks pod n (o ∷ os) =
     not (is_acceptable (history ticks pod n) o.seen) || some_container_backwards ticks pod (n + 1) os
 
--- the same of pods, numbered from n on
-abbrev pub some_pod_backwards : List TickObs → ℕ → List PodObs → Bool
+-- the same of the pods that are shown, numbered from n on
+abbrev pub some_pod_backwards : List TickObs → ℕ → List (Option PodObs) → Bool
 some_pod_backwards ticks n [] = false
-some_pod_backwards ticks n (p ∷ ps) =
-    some_container_backwards ticks n 0 p.containers || some_pod_backwards ticks (n + 1) ps
+some_pod_backwards ticks n (None ∷ shown) = some_pod_backwards ticks (n + 1) shown
+some_pod_backwards ticks n (Some pod ∷ shown) =
+    some_container_backwards ticks n 0 pod.containers || some_pod_backwards ticks (n + 1) shown
 
 -- some listing of the tick may not come after these ticks
 abbrev pub is_backwards : List TickObs → TickObs → Bool

@@ -1,22 +1,22 @@
 //! The differs that follow the containers, one tick after the other.
 
-ghost use Rattle.std.specs.List.{All};
-ghost use Rattle.std.specs.Prelude.{◌≡◌, [], length, IfOk, IfErr};
-ghost use Rattle.following.specs.Followed.{HasFollowed, HasNewPod, MayFollow, HasNewTick, GoesBack, AreNew, AreBefore};
-ghost use Rattle.following.specs.Followed.{Takes, Refuses, HaveTaken, PodsHaveTaken, SomeRefuses, SomePodRefuses};
-ghost use Rattle.following.specs.Followed.{IsRefusal};
-ghost use Rattle.state_diff.specs.Differ.{IsBefore};
+ghost use Rattle.std.specs.Prelude.{◌≡◌, ◌↔◌, ℕ, ◌<◌, List, [], length, IsTrue, IfOk, IsSome, slice_get, Some};
+ghost use Rattle.std.specs.Prelude.{Vec};
+ghost use Rattle.std.specs.Global.{Global as AGlobal};
+ghost use Rattle.observations.specs.Observations.{shown_of};
+ghost use Rattle.state_diff.specs.declared.differ.Differ.{Differ as ADiffer};
+ghost use Rattle.following.specs.Followed.{HasFollowed, HasNewPod, MayFollow, HasNewTick, Tells};
+ghost use Rattle.following.specs.Steps.{AreNew, AreAccepted, PodsAreAccepted, Follow, HaveTaken, PodHasTaken};
+ghost use Rattle.following.specs.Steps.{PodsFollow, PodsHaveTaken, Takes, Follows};
 
-use crate::error::FollowError;
 use observations::{TickObs, seen_of};
-use sequence::Sequence;
 use state_diff::{Differ, Seen};
 use std::alloc::{AllocError, Global};
 
-/// Follows each container of each pod, as the ticks so far leave it.
+/// Follows each container of each pod, as the pod's own ticks leave it.
 #[derive(Drop)]
 pub struct Following {
-    differs: Sequence<Sequence<Differ>>,
+    differs: Vec<Vec<Differ>>,
 }
 
 impl Following {
@@ -25,33 +25,33 @@ impl Following {
         ensures { HasFollowed [] [] result }
     {
         Following {
-            differs: Sequence::new(alloc),
+            differs: Vec::new(alloc),
         }
     }
 
-    /// Takes in a pod with so many containers, behind the others. No tick so far has an observation
-    /// of it.
+    /// Takes in a pod with so many containers, behind the others. No tick so far shows it.
     pub fn with_pod(self, alloc: Global, containers: usize) -> Result<Following, AllocError>
         ensures { IfOk result (HasNewPod self containers) }
     {
         let new = new_differs(alloc, containers)?;
         let mut differs = self.differs;
-        differs.push(Sequence::from_vec(new))?;
+        differs.push(new)?;
         Ok(Following { differs })
     }
 
-    /// What a tick more makes of it. It answers `Backwards` exactly where the listing of some
-    /// container may not come after all its earlier ones, and `OutOfMemory` where a growth of memory
-    /// is refused.
-    pub fn with_tick(&self, alloc: Global, tick: &TickObs) -> Result<Following, FollowError>
-        requires { MayFollow self.now tick.now }
-        ensures taken { IfOk result (HasNewTick self.now tick.now) }
-        ensures refused { IfErr result (λ e. e ≡ FollowError.Backwards → GoesBack self.now tick.now) }
+    /// Whether each listing of the tick may come after its container's earlier ones. It takes no memory.
+    pub fn accepts(&self, tick: &TickObs) -> bool
+        ensures { Tells result self.now tick.now }
     {
-        let next = pods_after(alloc, self.differs.as_slice(), tick)?;
-        Ok(Following {
-            differs: Sequence::from_vec(next),
-        })
+        pods_accept(&self.differs, tick)
+    }
+
+    /// Follows the tick, each of whose listings may come next. It takes no memory.
+    pub fn step(&mut self, tick: &TickObs)
+        requires { MayFollow self.old tick.now }
+        ensures { HasNewTick self.old tick.now self.new }
+    {
+        step_pods(&mut self.differs, tick);
     }
 }
 
@@ -62,51 +62,77 @@ fn new_differs(alloc: Global, count: usize) -> Result<Vec<Differ>, AllocError>
     Ok(vec![in alloc; Differ::new(); count]?)
 }
 
-/// The differ after a tick that lists this, if that may come next.
-fn differ_after(differ: Differ, at: u64, seen: Option<Seen>) -> Result<Differ, FollowError>
-    requires { IsBefore differ at }
-    ensures taken { IfOk result (λ next. Takes at seen differ next) }
-    ensures refused { IfErr result (λ e. (e ≡ FollowError.Backwards) × Refuses seen differ) }
+/// Whether each listing of the pod with the number may come next.
+fn pod_accepts(differs: &[Differ], tick: &TickObs, pod: usize) -> bool
+    ensures { IsTrue result ↔ AreAccepted tick.now pod differs.now (length differs.now) }
 {
-    if !differ.accepts(seen) {
-        return Err(FollowError::Backwards);
+    for (container, differ) in differs.iter().enumerate() {
+        if !differ.accepts(seen_of(tick, pod, container)) {
+            return false;
+        }
     }
+    true
+}
+
+/// Whether each listing of each pod may come next.
+fn pods_accept(differs: &[Vec<Differ>], tick: &TickObs) -> bool
+    ensures { IsTrue result ↔ PodsAreAccepted tick.now differs.now (length differs.now) }
+{
+    for (pod, of_pod) in differs.iter().enumerate() {
+        if !pod_accepts(of_pod.as_slice(), tick, pod) {
+            return false;
+        }
+    }
+    true
+}
+
+/// Whether the tick shows the pod with the number.
+fn is_shown(tick: &TickObs, pod: usize) -> bool
+    ensures { IsTrue result ↔ IsSome (shown_of tick.now pod) }
+{
+    match tick.pods.as_slice().get(pod) {
+        Some(shown) => shown.is_some(),
+        None => false,
+    }
+}
+
+/// The differ after a tick that lists this.
+fn differ_after(differ: Differ, at: u64, seen: Option<Seen>) -> Differ
+    requires { Follows at seen differ }
+    ensures { Takes at seen differ result }
+{
     let mut next = differ;
     next.step(at, seen);
-    Ok(next)
+    next
 }
 
-fn pod_after(
-    alloc: Global,
-    differs: &[Differ],
-    tick: &TickObs,
-    pod: usize,
-) -> Result<Vec<Differ>, FollowError>
-    requires { AreBefore differs.now tick.now.at }
-    ensures taken { IfOk result (λ v. HaveTaken (length differs.now) tick.now pod differs.now v.items) }
-    ensures refused { IfErr result (λ e. IsRefusal (SomeRefuses tick.now pod differs.now) e) }
+/// The differs of the pod with the number follow the tick.
+fn step_pod(differs: &mut Vec<Differ>, tick: &TickObs, pod: usize)
+    requires { Follow tick.now pod differs.old.items }
+    ensures { HaveTaken tick.now pod differs.old.items differs.new.items }
 {
-    let mut all = Vec::with_capacity(alloc, differs.len())?;
-    for (container, differ) in differs.iter().enumerate() {
-        let next = differ_after(*differ, tick.at, seen_of(tick, pod, container))?;
-        all.push(next)?;
+    for container in 0..differs.len() {
+        let seen = seen_of(tick, pod, container);
+        differs[container] = differ_after(differs[container], tick.at, seen);
     }
-    Ok(all)
 }
 
-fn pods_after(
-    alloc: Global,
-    differs: &[Sequence<Differ>],
-    tick: &TickObs,
-) -> Result<Vec<Sequence<Differ>>, FollowError>
-    requires { All (λ ds. AreBefore ds tick.now.at) differs.now }
-    ensures taken { IfOk result (λ v. PodsHaveTaken (length differs.now) tick.now differs.now v.items) }
-    ensures refused { IfErr result (λ e. IsRefusal (SomePodRefuses tick.now differs.now) e) }
+/// They do where the tick shows the pod.
+fn step_shown(differs: &mut Vec<Differ>, tick: &TickObs, pod: usize)
+    requires { IsSome (shown_of tick.now pod) → Follow tick.now pod differs.old.items }
+    ensures { PodHasTaken tick.now pod differs.old.items differs.new.items }
 {
-    let mut all = Vec::with_capacity(alloc, differs.len())?;
-    for (pod, of_pod) in differs.iter().enumerate() {
-        let next = pod_after(alloc, of_pod.as_slice(), tick, pod)?;
-        all.push(Sequence::from_vec(next))?;
+    if is_shown(tick, pod) {
+        step_pod(differs, tick, pod);
     }
-    Ok(all)
+}
+
+/// The differs of each pod that the tick shows follow it.
+fn step_pods(differs: &mut Vec<Vec<Differ>>, tick: &TickObs)
+    requires { PodsFollow tick.now differs.old.items }
+    ensures { PodsHaveTaken tick.now (length differs.old.items) differs.old.items differs.new.items }
+{
+    for pod in 0..differs.len() {
+        step_shown(&mut differs[pod], tick, pod);
+    }
 }

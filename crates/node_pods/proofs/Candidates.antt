@@ -17,7 +17,7 @@ use Rattle.ranking.specs.Index.{AreHeldAfter}
 use Rattle.ranking.proofs.LawLemmas.{RankAlike, before_alike}
 use Rattle.node_pods.specs.Laws.{AreAlike, EvictedIsNoCandidate}
 use Rattle.node_pods.specs.Pods.{Pods, IsCandidate}
-use Rattle.node_pods.specs.Ranked.{IsHeldAt, AreHeld, AreHeldBelow}
+use Rattle.node_pods.specs.Ranked.{IsHeldAt, AreHeld, AreHeldBelow, IsRanked}
 use Rattle.node_pods.proofs.Statuses.{alike, rank_alike, evicted_ended}
 
 -- a place has one piece
@@ -93,7 +93,7 @@ pub none_held : (pieces : List Piece) (moment : ℕ) → AreHeldBelow pieces mom
 none_held pieces moment = record { below = λ n lt. absurd (omega arith); rest = λ n le. refl }
 
 -- one pod more that is present has its place
-pub below_more : (pieces : List Piece) (moment i : ℕ) (piece : Piece) (status : PodStatus)
+below_more : (pieces : List Piece) (moment i : ℕ) (piece : Piece) (status : PodStatus)
     (held after : ℕ → Option PodStatus) → slice_get pieces i ≡ Some piece → last_moment piece.handed ≡ Some moment
     → IsStatusOf piece status → status.number ≡ i → AreHeldAfter held status after
     → AreHeldBelow pieces moment i held → AreHeldBelow pieces moment (i + 1) after
@@ -111,20 +111,30 @@ below_more pieces moment i piece status held after at present is number are so_f
 }
 
 -- one more that is not present has none
-pub below_absent : (pieces : List Piece) (moment i : ℕ) (piece : Piece) (held : ℕ → Option PodStatus)
+below_absent : (pieces : List Piece) (moment i : ℕ) (piece : Piece) (held after : ℕ → Option PodStatus)
     → slice_get pieces i ≡ Some piece → (last_moment piece.handed ≡ Some moment → ⊥)
-    → AreHeldBelow pieces moment i held → AreHeldBelow pieces moment (i + 1) held
-below_absent pieces moment i piece held at absent so_far = record {
+    → ((n : ℕ) → after n ≡ held n) → AreHeldBelow pieces moment i held → AreHeldBelow pieces moment (i + 1) after
+below_absent pieces moment i piece held after at absent same so_far = record {
   below = λ n lt. elim (cases_eq n i) [
-    | inl same ↦ subst (λ (k : ℕ). IsHeldAt pieces moment held k) (sym same) (record {
-      sound = λ p e. absurd (let w : None ≡ Some p = sym (so_far.rest i (omega arith)) ∙ e in cc);
+    | inl here ↦ subst (λ (k : ℕ). IsHeldAt pieces moment after k) (sym here) (record {
+      sound = λ p e. absurd (let w : None ≡ Some p = sym (so_far.rest i (omega arith)) ∙ sym (same i) ∙ e in cc);
       complete = λ p c. absurd (absent (ap (λ (q : Piece). last_moment q.handed)
           (sym (same_piece pieces i c.piece piece c.at at)) ∙ c.present));
     })
-    | inr apart ↦ so_far.below n (let not : n ≡ i → ⊥ = apart in omega arith)
+    | inr apart ↦ held_same pieces moment held after n (same n)
+        (so_far.below n (let not : n ≡ i → ⊥ = apart in omega arith))
   ];
-  rest = λ n le. so_far.rest n (omega arith);
+  rest = λ n le. same n ∙ so_far.rest n (omega arith);
 }
+
+-- one more, present or not
+pub ranked_more : (pieces : List Piece) (moment i : ℕ) (piece : Piece) (held after : ℕ → Option PodStatus)
+    → slice_get pieces i ≡ Some piece → piece.number ≡ i → IsRanked moment piece held after
+    → AreHeldBelow pieces moment i held → AreHeldBelow pieces moment (i + 1) after
+ranked_more pieces moment i piece held after at number (inl (present, status, is, are)) so_far =
+    below_more pieces moment i piece status held after at present is (is.number_is ∙ number) are so_far
+ranked_more pieces moment i piece held after at number (inr (absent, same)) so_far =
+    below_absent pieces moment i piece held after at absent same so_far
 
 -- all have it
 pub all_below : (pieces : List Piece) (moment : ℕ) (held : ℕ → Option PodStatus)

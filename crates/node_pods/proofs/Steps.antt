@@ -1,6 +1,7 @@
 -- The pods of a node, one after the other: which tick may come, and what it makes of them.
 use Rattle.std.proofs.Common.{◌≡◌, ◌∙◌, inl, inr, ℕ, zero, suc, ◌+◌, Bool, List, [], ◌∷◌, ◌++◌, length, map}
-use Rattle.std.proofs.Common.{Option, Some, None, refl, ap, sym, subst, arith}
+use Rattle.std.proofs.Common.{Option, Some, None, refl, ap, sym, subst, arith, append_assoc}
+use Rattle.std.proofs.lemmas.List.{length-append}
 use Rattle.std.specs.Prelude.{◌≢◌, ◌↔◌, IsTrue, IfSome, MatchOption, option_map, slice_get, slice_set}
 use Rattle.std.specs.Option.{option_to_list, option_flatten}
 use Rattle.std.proofs.lemmas.Bool.{cases_eq}
@@ -111,7 +112,7 @@ pub after_handed : (old : List Piece) (shown : List (Option PodObs)) → length 
     → AreAfter old shown (joined_from 0 (kept_of old shown) (map updated (handed_from 0 old shown)))
 after_handed old shown long numbered =
     subst (λ (ps : List Piece). AreAfter old shown ps)
-    (sym (joined_is 0 0 old shown long (λ i piece at. numbered i piece at))) (after_is old shown long)
+    (sym (joined_is 0 0 old shown long (λ i piece at. numbered i piece at ∙ omega arith))) (after_is old shown long)
 
 pub after_unique : (old : List Piece) (shown : List (Option PodObs)) (one other : List Piece) → AreNext old shown
     → AreAfter old shown one → AreAfter old shown other → one ≡ other
@@ -301,6 +302,33 @@ next_staying p ps os rest None is ends =
     ap (kept_of (p ∷ ps)) (is ∙ ends refl) ∙ ap (λ (xs : List (Option PodObs)). Some p ∷ kept_of ps xs) (sym (ends refl))
 next_staying p ps os rest (Some None) is ends = ap (kept_of (p ∷ ps)) is
 next_staying p ps os rest (Some (Some o)) is ends = ap (kept_of (p ∷ ps)) is
+
+-- so far, and with the next pod
+pub out_more : (all out new ps : List Piece) (p : Piece) (rest_ps : List Piece) (os rest : List (Option PodObs))
+    (o : Option (Option PodObs)) (shown : Option PodObs) → all ≡ out ++ handed_from (length out) ps os
+    → ps ≡ p ∷ rest_ps → shown ≡ option_flatten o → os ≡ option_to_list o ++ rest → (o ≡ None → rest ≡ [])
+    → new ≡ out ++ going (length out) p shown → all ≡ new ++ handed_from (length new) rest_ps rest
+out_more all out new ps p rest_ps os rest o shown so_far next is items ends more =
+    let given : new ≡ out ++ going (length out) p (option_flatten o) =
+    more ∙ ap (λ (x : Option PodObs). out ++ going (length out) p x) is in
+    let long : length new ≡ length out + length (going (length out) p (option_flatten o)) =
+    ap length given ∙ length-append out (going (length out) p (option_flatten o)) in
+    so_far ∙ ap (λ (qs : List Piece). out ++ handed_from (length out) qs os) next
+    ∙ ap (λ (qs : List Piece). out ++ qs)
+    (next_going (length out) (length new) p rest_ps os rest o items ends long)
+    ∙ sym (append_assoc out (going (length out) p (option_flatten o)) (handed_from (length new) rest_ps rest))
+    ∙ ap (λ (qs : List Piece). qs ++ handed_from (length new) rest_ps rest) (sym given)
+
+pub kept_more : (all kept new : List (Option Piece)) (ps : List Piece) (p : Piece) (rest_ps : List Piece)
+    (os rest : List (Option PodObs)) (o : Option (Option PodObs)) (shown : Option PodObs)
+    → all ≡ kept ++ kept_of ps os → ps ≡ p ∷ rest_ps → shown ≡ option_flatten o → os ≡ option_to_list o ++ rest
+    → (o ≡ None → rest ≡ []) → new ≡ kept ++ staying p shown ∷ [] → all ≡ new ++ kept_of rest_ps rest
+kept_more all kept new ps p rest_ps os rest o shown so_far next is items ends more =
+    so_far ∙ ap (λ (qs : List Piece). kept ++ kept_of qs os) next
+    ∙ ap (λ (qs : List (Option Piece)). kept ++ qs) (next_staying p rest_ps os rest o items ends)
+    ∙ ap (λ (x : Option PodObs). kept ++ staying p x ∷ kept_of rest_ps rest) (sym is)
+    ∙ sym (append_assoc kept (staying p shown ∷ []) (kept_of rest_ps rest))
+    ∙ ap (λ (qs : List (Option Piece)). qs ++ kept_of rest_ps rest) (sym more)
 
 -- the next place, and the piece that comes back to it
 abbrev pub back_at : ℕ → Option Piece → Option Piece

@@ -1,7 +1,10 @@
 -- What an index of a node's pods holds.
-use Rattle.std.specs.Prelude.{◌≡◌, ℕ, ◌<◌, ◌≤◌, List, Option, Some, None, IsSome}
+use Rattle.std.specs.Prelude.{◌≡◌, ◌⊎◌, ℕ, ◌<◌, ◌≤◌, List, Option, Some, None, IsSome}
+use Rattle.histories.specs.Histories.{last_moment}
 use Rattle.pod_piece.specs.declared.status.PodStatus.{PodStatus}
 use Rattle.pod_piece.specs.Piece.{Piece}
+use Rattle.pod_piece.specs.Status.{IsStatusOf}
+use Rattle.ranking.specs.Index.{AreHeldAfter}
 use Rattle.node_pods.specs.Pods.{IsCandidate}
 
 -- what is held under a number is the pod of that number, if it is a candidate at the moment
@@ -17,3 +20,10 @@ AreHeld pieces moment held = (n : ℕ) → IsHeldAt pieces moment held n
 pub record AreHeldBelow (pieces : List Piece) (moment i : ℕ) (held : ℕ → Option PodStatus) : Type 0 where
   pub below : (n : ℕ) → n < i → IsHeldAt pieces moment held n
   pub rest : (n : ℕ) → i ≤ n → held n ≡ None
+
+-- the pod has its place, if it is present at the moment; else the same pods are held as before
+abbrev pub IsRanked : ℕ → Piece → (ℕ → Option PodStatus) → (ℕ → Option PodStatus) → Type 0
+IsRanked moment piece held after =
+    ((last_moment piece.handed ≡ Some moment)
+    × (status : PodStatus) × IsStatusOf piece status × AreHeldAfter held status after)
+    ⊎ ((last_moment piece.handed ≡ Some moment → ⊥) × ((n : ℕ) → after n ≡ held n))

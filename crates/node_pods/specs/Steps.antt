@@ -17,9 +17,9 @@ pub record IsShownNext (at : ℕ) (piece : Piece) (observed : PodObs) : Type 0 w
 
 -- the moment is later than all that was handed to the pod, and what is shown of it, if it is present, has this moment
 -- and may be handed to it
-pub record IsNextAt (at : ℕ) (piece : Piece) (shown : Option PodObs) : Type 0 where
+pub record IsNextAt (at : ℕ) (piece : Piece) (observed : Option PodObs) : Type 0 where
   pub later : EndsBefore piece.handed at
-  pub shown : IfSome shown (IsShownNext at piece)
+  pub shown : IfSome observed (IsShownNext at piece)
 
 -- the same of the pods below a number
 abbrev pub AreNextBelow : ℕ → List Piece → List (Option PodObs) → ℕ → Type 0

@@ -9,7 +9,7 @@ ghost use Rattle.pod_piece.specs.Listings.{IsNextTick};
 ghost use Rattle.pod_piece.specs.Piece.{Piece, with_tick, with_number};
 ghost use Rattle.node_pods.specs.Pods.{AreNext, handed_from, kept_of, joined_from, IsEvictable, AreEvicted};
 ghost use Rattle.node_pods.specs.Steps.{AreFree, IsShownNext, IsNextAt, AreNextBelow, MayTake, going, staying};
-ghost use Rattle.node_pods.specs.Ranked.{AreHeldBelow};
+ghost use Rattle.node_pods.specs.Ranked.{IsRanked, AreHeldBelow};
 ghost use Rattle.ranking.specs.Index.{IsIndexOf};
 
 use observations::PodObs;
@@ -59,7 +59,7 @@ fn may_be_handed(piece: &PodPiece, observed: &PodObs, at: u64) -> bool
 /// moment and may be handed to it.
 fn is_next(piece: &PodPiece, shown: Option<&PodObs>, at: u64) -> bool
     requires { piece.now.is_pending ≡ false }
-    ensures { IsTrue result ↔ IsNextAt at piece.now (option_map (λ o. o.now) shown) }
+    ensures { IsTrue result ↔ IsNextAt at piece.now (option_map (λ o. o.now) shown.entry) }
 {
     if !is_before(piece.last_at(), at) {
         return false;
@@ -187,6 +187,20 @@ fn is_present(piece: &PodPiece, moment: u64) -> bool
     piece.last_at() == Some(moment)
 }
 
+/// Gives the pod its place in the index, if it is present at the moment.
+fn rank_one(index: &mut RankIndex, piece: &PodPiece, moment: u64) -> Result<(), AllocError>
+    requires { piece.now.is_pending ≡ false }
+    ensures signal { index.new.signal ≡ index.old.signal }
+    ensures dedicated { index.new.has_dedicated_imagefs ≡ index.old.has_dedicated_imagefs }
+    ensures held { OnOk result ((held : ℕ → Option PodStatus) → IsIndexOf held index.old
+        → (after : ℕ → Option PodStatus) × IsIndexOf after index.new × IsRanked moment piece.now held after) }
+{
+    if is_present(piece, moment) {
+        index.update(piece.status())?;
+    }
+    Ok(())
+}
+
 /// Gives each pod that is present at the moment its place in an index that holds none.
 pub(crate) fn rank_all(
     index: &mut RankIndex,
@@ -202,10 +216,7 @@ pub(crate) fn rank_all(
         × AreHeldBelow pieces.now moment (length pieces.now) held) }
 {
     for number in 0..pieces.len() {
-        let piece = piece_at(pieces, number);
-        if is_present(piece, moment) {
-            index.update(piece.status())?;
-        }
+        rank_one(index, piece_at(pieces, number), moment)?;
     }
     Ok(())
 }

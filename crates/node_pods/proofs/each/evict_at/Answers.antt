@@ -36,3 +36,12 @@ returns c =
     let within = slice_get_within items n was.1.piece was.1.at in
     set_evicted items n c.args.order piece c.evict.new.self
     (slice_get_read items (length items) n piece refl within c.index_mut.ensures.value) c.evict.ensures
+
+pub evict-requires-clause-free : goal.evict-requires-clause-free
+evict-requires-clause-free c =
+    let items = c.args.pieces.now.items in
+    let n = c.args.number in
+    let piece = c.index_mut.result.now in
+    let was = c.requires.evictable in
+    let within = slice_get_within items n was.1.piece was.1.at in
+    c.requires.free n piece (slice_get_read items (length items) n piece refl within c.index_mut.ensures.value)
