@@ -1,12 +1,13 @@
 -- The shape of a trace.
-use Rattle.std.proofs.Common.{◌≡◌, ◌∙◌, ℕ, zero, suc, ◌+◌, ◌≤◌, ◌<◌, List, [], ◌∷◌, ◌++◌, length, Some, Result}
+use Rattle.std.proofs.Common.{◌≡◌, ◌∙◌, ℕ, zero, suc, ◌+◌, ◌≤◌, ◌<◌, List, [], ◌∷◌, ◌++◌, length, Option, Some, Result}
 use Rattle.std.proofs.Common.{Ok, Err, refl, ap, sym, subst, inl, inr, arith}
-use Rattle.std.specs.Prelude.{slice_get, ◌^◌, codes, IfOk}
+use Rattle.std.specs.Prelude.{slice_get, ◌^◌, codes, IfOk, IsSome}
 use Rattle.std.proofs.lemmas.List.{length-append}
 use Rattle.std.proofs.lemmas.Option.{slice_get_within}
 use Rattle.histories.proofs.Lists.{place_split}
 use Rattle.json_fields.specs.Fields.{field_at}
 use Rattle.manifest.specs.declared.pod.PodSpec.{PodSpec}
+use Rattle.observations.specs.Pods.{PodObs}
 use Rattle.observations.specs.declared.tick.TickObs.{TickObs}
 use Rattle.observations.specs.Limits.{most_pods, most_ticks}
 use Rattle.node_config.specs.declared.node.Format.{Format}
@@ -23,7 +24,7 @@ use Rattle.trace.specs.Sound.{IsPresent, ShowsEach, AreArrivals, HaveOwnKeys, Ha
 use Rattle.trace.specs.Trace.{trace_of}
 use Rattle.trace.proofs.Moments.{rising-more, moment_later, moment_low}
 use Rattle.trace.proofs.Said.{IsKept, of_trace}
-use Rattle.trace.proofs.Shown.{as_many, moment_shown, count_shown}
+use Rattle.trace.proofs.Shown.{as_many, some_shown, moment_shown, count_shown}
 
 one_more : {A : Type 0} (xs : List A) (x : A) (most : ℕ) → length xs < most → length (xs ++ x ∷ []) ≤ most
 one_more xs x most room = let more = length-append xs (x ∷ []) in omega arith
@@ -56,9 +57,17 @@ present_before (a ∷ rest) arrival t (suc n) lt is = present_before rest arriva
 shows_each : (at : ℕ) (written : TickLine) (es : List PlacedEntry) (pods : List PodSpec) (arrivals : List ℕ) (t : ℕ)
     → AreArrivals (length pods) t arrivals → ShowsEach pods arrivals t (observed at written es pods)
 shows_each at written es pods arrivals t all = record {
-  present = λ n. (
+  told = λ n. (
     λ lt. present_all arrivals t n all.in_range (omega (arith, as_many at es 0 pods, all.as_many)),
     λ is. let within = present_within arrivals t n is in omega (arith, as_many at es 0 pods, all.as_many),
+  );
+  present = λ n. (
+    λ some.
+        let lt = (some_shown at es 0 pods n).0 some in
+        present_all arrivals t n all.in_range (omega (arith, lt, all.as_many)),
+    λ is.
+        let within = present_within arrivals t n is in
+        (some_shown at es 0 pods n).1 (omega (arith, within, all.as_many)),
   );
   moment = moment_shown at es 0 pods;
   containers = count_shown at es 0 pods;
@@ -69,15 +78,20 @@ shows_more : (pods : List PodSpec) (arrivals : List ℕ) (t : ℕ) (tick : TickO
     → t < arrival → length arrivals ≡ length pods
     → ShowsEach pods arrivals t tick → ShowsEach (pods ++ pod ∷ []) (arrivals ++ arrival ∷ []) t tick
 shows_more pods arrivals t tick pod arrival lt as_many all = record {
+  told = λ n. (
+    λ within. present_more arrivals arrival t n ((all.told n).0 within),
+    λ is. (all.told n).1 (present_before arrivals arrival t n lt is),
+  );
   present = λ n. (
-    λ within. present_more arrivals arrival t n ((all.present n).0 within),
+    λ some. present_more arrivals arrival t n ((all.present n).0 some),
     λ is. (all.present n).1 (present_before arrivals arrival t n lt is),
   );
   moment = all.moment;
   containers = λ n q shown here there. elim (place_split pods pod q n here) [
     | inl before ↦ all.containers n q shown before there
     | inr last ↦
-        let within = present_within arrivals t n ((all.present n).0 (slice_get_within tick.pods n shown there)) in
+        let some = subst (λ (o : Option PodObs). IsSome o) (sym there) refl in
+        let within = present_within arrivals t n ((all.present n).0 some) in
         absurd (omega (arith, last.0, as_many))
   ];
 }

@@ -1,6 +1,9 @@
 -- What a tick line shows of the pods.
-use Rattle.std.proofs.Common.{◌≡◌, ◌∙◌, ℕ, zero, suc, ◌+◌, List, [], ◌∷◌, length, map, Some, refl, ap, sym}
-use Rattle.std.specs.Prelude.{slice_get}
+use Rattle.std.proofs.Common.{◌≡◌, ◌∙◌, ℕ, zero, suc, ◌+◌, ◌<◌, true, false, List, [], ◌∷◌, length, Some, refl, ap}
+use Rattle.std.proofs.Common.{sym, arith}
+use Rattle.std.specs.Prelude.{◌↔◌, IsSome, slice_get}
+use Rattle.std.specs.Option.{option_flatten}
+use Rattle.std.proofs.lemmas.List.{length-map}
 use Rattle.manifest.specs.declared.pod.ContainerSpec.{ContainerSpec}
 use Rattle.manifest.specs.declared.pod.PodSpec.{PodSpec}
 use Rattle.observations.specs.Pods.{PodObs}
@@ -18,22 +21,13 @@ pub containers_shown : (ls : List PlacedListing) (rs : List PlacedResult) (n : �
 containers_shown ls rs n [] = refl
 containers_shown ls rs n (c ∷ cs) = ap suc (containers_shown ls rs (n + 1) cs)
 
-pods_shown : (at : ℕ) (es : List PlacedEntry) (n : ℕ) (pods : List PodSpec)
-    → map (λ (p : PodObs). length p.containers) (pods_from at es n pods) ≡ container_counts pods
-pods_shown at es n [] = refl
-pods_shown at es n (p ∷ ps) = rw (
-  containers_shown (listings_of (entry_for es n)) (results_of (entry_for es n)) 0
-      p.containers,
-  pods_shown at es (n + 1) ps,
-) refl
-
 pub as_many : (at : ℕ) (es : List PlacedEntry) (n : ℕ) (pods : List PodSpec)
     → length (pods_from at es n pods) ≡ length pods
 as_many at es n [] = refl
 as_many at es n (p ∷ ps) = ap suc (as_many at es (n + 1) ps)
 
 pub moment_shown : (at : ℕ) (es : List PlacedEntry) (n : ℕ) (pods : List PodSpec) (k : ℕ) (shown : PodObs)
-    → slice_get (pods_from at es n pods) k ≡ Some shown → shown.at ≡ at
+    → option_flatten (slice_get (pods_from at es n pods) k) ≡ Some shown → shown.at ≡ at
 moment_shown at es n [] k shown e = absurd (cc)
 moment_shown at es n (p ∷ ps) zero shown e =
     let is : pod_observed at (entry_for es n) p ≡ shown = cc in
@@ -42,7 +36,8 @@ moment_shown at es n (p ∷ ps) (suc k) shown e = moment_shown at es (n + 1) ps 
 
 pub count_shown : (at : ℕ) (es : List PlacedEntry) (n : ℕ) (pods : List PodSpec) (k : ℕ) (pod : PodSpec)
     (shown : PodObs) → slice_get pods k ≡ Some pod
-    → slice_get (pods_from at es n pods) k ≡ Some shown → length shown.containers ≡ length pod.containers
+    → option_flatten (slice_get (pods_from at es n pods) k) ≡ Some shown
+    → length shown.containers ≡ length pod.containers
 count_shown at es n [] k pod shown here e = absurd (cc)
 count_shown at es n (p ∷ ps) zero pod shown here e =
     let is : pod_observed at (entry_for es n) p ≡ shown = cc in
@@ -52,9 +47,32 @@ count_shown at es n (p ∷ ps) zero pod shown here e =
     ∙ ap (λ (q : PodSpec). length q.containers) same
 count_shown at es n (p ∷ ps) (suc k) pod shown here e = count_shown at es (n + 1) ps k pod shown here e
 
+-- each of the pods is shown
+pub some_shown : (at : ℕ) (es : List PlacedEntry) (n : ℕ) (pods : List PodSpec) (k : ℕ)
+    → (IsSome (option_flatten (slice_get (pods_from at es n pods) k)) ↔ k < length pods)
+some_shown at es n [] k = ((λ e. let w : false ≡ true = e in absurd (cc)), (λ lt. absurd (omega arith)))
+some_shown at es n (p ∷ ps) zero = ((λ e. omega arith), (λ lt. refl))
+some_shown at es n (p ∷ ps) (suc k) =
+    let rest = some_shown at es (n + 1) ps k in
+    ((λ e. let lt = rest.0 e in omega (arith, lt)), (λ lt. rest.1 (omega (arith, lt))))
+
+counts_at : (pods : List PodSpec) (k count : ℕ) → slice_get (container_counts pods) k ≡ Some count
+    → (pod : PodSpec) × (slice_get pods k ≡ Some pod) × (length pod.containers ≡ count)
+counts_at [] k count e = absurd (cc)
+counts_at (p ∷ ps) zero count e = (p, refl, let same : length p.containers ≡ count = cc in same)
+counts_at (p ∷ ps) (suc k) count e = counts_at ps k count e
+
 -- it may stand behind ticks of these pods that end before it
 pub comes_next : (ticks : List TickObs) (at : ℕ) (written : TickLine) (es : List PlacedEntry) (pods : List PodSpec)
     → EndBefore ticks at
     → ComesNext ticks (container_counts pods) (observed at written es pods)
 comes_next ticks at written es pods later =
-    record { containers = pods_shown at es 0 pods; moment = moment_shown at es 0 pods; later = later }
+    record {
+      as_many = as_many at es 0 pods
+          ∙ sym (length-map pods (λ (p : PodSpec). length p.containers));
+      containers = λ k count shown here is.
+          let pod = counts_at pods k count here in
+          count_shown at es 0 pods k pod.0 shown pod.1 is ∙ pod.2;
+      moment = moment_shown at es 0 pods;
+      later = later;
+    }

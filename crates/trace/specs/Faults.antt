@@ -1,8 +1,6 @@
 -- The numbers and words by which a refusal names the kind of a faulty line, and the kinds of the
 -- faults that a manifest, a node line and a tick line have by themselves.
 use Rattle.std.specs.Prelude.{ℕ, List, codes}
-use Rattle.following.specs.declared.error.FollowError.{FollowError}
-use Rattle.following.specs.declared.error.FollowError.TheVariants as follow_errors
 use Rattle.manifest_fields.specs.declared.fault.ManifestFault.{ManifestFault}
 use Rattle.manifest_fields.specs.declared.fault.ManifestFault.TheVariants as manifest_faults
 use Rattle.node_lines.specs.declared.fault.NodeFault.{NodeFault}
@@ -56,10 +54,6 @@ word_of OutOfMemory = codes "OutOfMemory"
 abbrev pub kind_of_manifest_fault : ManifestFault → FaultKind
 kind_of_manifest_fault manifest_faults.OutOfMemory = OutOfMemory
 kind_of_manifest_fault fault = Manifest fault
-
-abbrev pub kind_of_follow_error : FollowError → FaultKind
-kind_of_follow_error follow_errors.Backwards = Backwards
-kind_of_follow_error follow_errors.OutOfMemory = OutOfMemory
 
 abbrev pub kind_of_node_fault : NodeFault → FaultKind
 kind_of_node_fault node_faults.Config = Config

@@ -41,7 +41,7 @@ use Rattle.manifest.specs.declared.pod.PodSpec.{PodSpec}
 use Rattle.observations.specs.Pods.{PodObs}
 use Rattle.observations.specs.declared.tick.TickObs.{TickObs}
 use Rattle.observations.specs.declared.usage.Usage.{Usage as PodUsage}
-use Rattle.observations.specs.Observations.{seen_of, history}
+use Rattle.observations.specs.Observations.{shown_of, seen_of, history}
 use Rattle.observations.specs.Limits.{most_pods, most_ticks}
 use Rattle.state_diff.specs.declared.seen.Seen.{Seen}
 use Rattle.state_diff.specs.Instances.{IsAcceptable}
@@ -311,7 +311,7 @@ Tells es pod usage = (k : ℕ) × (entry : PlacedEntry) × (slice_get es k ≡ S
 
 -- what the tick shows of the use of the pod with the number
 abbrev pub usage_shown_of : TickObs → ℕ → Option PodUsage
-usage_shown_of tick n = option_and_then (λ (p : PodObs). p.usage) (slice_get tick.pods n)
+usage_shown_of tick n = option_and_then (λ (p : PodObs). p.usage) (shown_of tick n)
 
 -- where no pod is listed twice, what a tick shows of a pod's use is exactly what the pod's entry
 -- tells, wherever it stands

@@ -86,9 +86,9 @@ pod_observed at entry pod = record {
 }
 
 -- what the entries say of each of the pods, numbered from n on
-abbrev pub pods_from : ℕ → List PlacedEntry → ℕ → List PodSpec → List PodObs
+abbrev pub pods_from : ℕ → List PlacedEntry → ℕ → List PodSpec → List (Option PodObs)
 pods_from at es n [] = []
-pods_from at es n (p ∷ ps) = pod_observed at (entry_for es n) p ∷ pods_from at es (n + 1) ps
+pods_from at es n (p ∷ ps) = Some (pod_observed at (entry_for es n) p) ∷ pods_from at es (n + 1) ps
 
 -- the whole tick: its entries, placed, and the line's samples of the node's signals
 abbrev pub observed : ℕ → TickLine → List PlacedEntry → List PodSpec → TickObs

@@ -1,10 +1,10 @@
 -- What holds of every trace.
-use Rattle.std.specs.Prelude.{◌≡◌, ◌↔◌, IsSomeAnd, ℕ, ◌<◌, ◌≤◌, ◌^◌, List, length, slice_get, Some}
+use Rattle.std.specs.Prelude.{◌≡◌, ◌↔◌, IsSome, IsSomeAnd, ℕ, ◌<◌, ◌≤◌, ◌^◌, List, length, slice_get, Some}
 use Rattle.state_diff.specs.Instances.{IsAcceptableHistory}
 use Rattle.manifest.specs.declared.pod.PodSpec.{PodSpec}
 use Rattle.observations.specs.Pods.{PodObs}
 use Rattle.observations.specs.declared.tick.TickObs.{TickObs}
-use Rattle.observations.specs.Observations.{history}
+use Rattle.observations.specs.Observations.{shown_of, history}
 use Rattle.observations.specs.Limits.{most_pods, most_ticks}
 use Rattle.trace.specs.Pod.{key_of_pod}
 
@@ -24,10 +24,11 @@ IsPresent arrivals t n = IsSomeAnd (slice_get arrivals n) (λ arrival. arrival �
 -- of exactly the pods that are present at tick t one observation, at the tick's moment, with one
 -- entry for each of its containers
 pub record ShowsEach (pods : List PodSpec) (arrivals : List ℕ) (t : ℕ) (tick : TickObs) : Type 0 where
-  pub present : (n : ℕ) → (n < length tick.pods ↔ IsPresent arrivals t n)
-  pub moment : (n : ℕ) (shown : PodObs) → slice_get tick.pods n ≡ Some shown → shown.at ≡ tick.at
+  pub told : (n : ℕ) → (n < length tick.pods ↔ IsPresent arrivals t n)
+  pub present : (n : ℕ) → (IsSome (shown_of tick n) ↔ IsPresent arrivals t n)
+  pub moment : (n : ℕ) (shown : PodObs) → shown_of tick n ≡ Some shown → shown.at ≡ tick.at
   pub containers : (n : ℕ) (pod : PodSpec) (shown : PodObs) → slice_get pods n ≡ Some pod
-      → slice_get tick.pods n ≡ Some shown
+      → shown_of tick n ≡ Some shown
       → length shown.containers ≡ length pod.containers
 
 -- no two pods have one key

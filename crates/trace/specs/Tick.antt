@@ -1,6 +1,6 @@
 -- What a tick line says after the lines before it: each check is made over the whole line before
 -- the next.
-use Rattle.std.specs.Prelude.{ℕ, ⊤, ◌++◌, ◌∷◌, [], ◌-◌, ◌^◌, ◌&&◌, Bool, true, List, length, nat_lt, nat_le}
+use Rattle.std.specs.Prelude.{◌≡◌, ℕ, ⊤, ◌-◌, ◌^◌, ◌&&◌, Bool, true, false, List, length, nat_lt, nat_le}
 use Rattle.std.specs.Prelude.{slice_get, Option, Some, None, option_and_then, if◌then◌else◌, Result, Ok, Err, codes}
 use Rattle.serde_json.specs.Data.{Data}
 use Rattle.serde_json.specs.Find.{as_number, as_u64}
@@ -17,8 +17,7 @@ use Rattle.trace.specs.Written.{tick_line_in}
 use Rattle.trace.specs.Placing.{placed_of, is_doubled}
 use Rattle.trace.specs.Observed.{observed, some_code_missing}
 use Rattle.following.specs.Backwards.{is_backwards}
-use Rattle.following.specs.Followed.{HasFollowed}
-use Rattle.following.specs.declared.following.Following.{Following}
+use Rattle.following.specs.Followed.{ComesNext}
 use Rattle.trace.specs.Pod.{container_counts}
 
 abbrev pub is_later : Option TickObs → ℕ → Bool
@@ -42,10 +41,10 @@ moment_in ticks d = moment_of ticks (field_at (codes "at") d)
 abbrev pub room_for_tick : List TickObs → Result ⊤ FaultKind
 room_for_tick ticks = refused_if (nat_le most_ticks (length ticks)) TooMany
 
--- the containers of all pods are followed through the ticks so far, and through this one
-abbrev pub HasFollowedTo : Past → TickObs → Following → Type 0
-HasFollowedTo past tick following =
-    HasFollowed (past.ticks ++ tick ∷ []) (container_counts past.pods) following
+-- the tick shows the pods that there are, behind the ticks so far, and none of its listings goes back
+pub record MayStandBehind (past : Past) (tick : TickObs) : Type 0 where
+  pub comes_next : ComesNext past.ticks (container_counts past.pods) tick
+  pub forwards : is_backwards past.ticks tick ≡ false
 
 -- the tick that the line shows with its entries placed, after the ticks before it
 unfoldable pub observed_in : Past → ℕ → TickLine → List PlacedEntry → Result TickObs FaultKind

@@ -4,10 +4,8 @@ ghost use Rattle.std.specs.Prelude.{◌≡◌};
 ghost use Rattle.trace.specs.declared.fault.FaultKind.TheVariants.{OutOfMemory};
 ghost use Rattle.json_fields.specs.Reading.{refused_if, GivesExactly};
 ghost use Rattle.trace.specs.Trace.{at_line};
-ghost use Rattle.trace.specs.Faults.{kind_of_follow_error, kind_of_manifest_fault};
-ghost use Rattle.trace.specs.Faults.{kind_of_node_fault, kind_of_tick_fault};
+ghost use Rattle.trace.specs.Faults.{kind_of_manifest_fault, kind_of_node_fault, kind_of_tick_fault};
 
-use following::FollowError;
 use manifest_reader::ManifestFault;
 use node_lines::NodeFault;
 use std::alloc::{AllocError, AllocFailed};
@@ -131,17 +129,6 @@ impl From<ManifestFault> for FaultKind {
         match fault {
             ManifestFault::OutOfMemory => FaultKind::OutOfMemory,
             fault => FaultKind::Manifest(fault),
-        }
-    }
-}
-
-impl From<FollowError> for FaultKind {
-    ghost from_gives = { λ error kind. kind ≡ kind_of_follow_error error };
-
-    fn from(error: FollowError) -> FaultKind {
-        match error {
-            FollowError::Backwards => FaultKind::Backwards,
-            FollowError::OutOfMemory => FaultKind::OutOfMemory,
         }
     }
 }

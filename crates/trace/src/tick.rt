@@ -14,7 +14,7 @@ ghost use Rattle.following.specs.Backwards.{is_backwards};
 ghost use Rattle.following.specs.Followed.{EndBefore, ComesNext};
 ghost use Rattle.trace.specs.Pod.{container_counts};
 ghost use Rattle.trace.specs.Taken.{tick_of, tick_after};
-ghost use Rattle.trace.specs.Tick.{moment_from, room_for_tick, HasFollowedTo, observed_in};
+ghost use Rattle.trace.specs.Tick.{moment_from, room_for_tick, MayStandBehind, observed_in};
 ghost use Rattle.trace.specs.Written.{of_tick_line};
 
 use crate::by_pod::{EntriesByPod, entries_by_pod, entry_for};
@@ -24,7 +24,6 @@ use crate::placing::{
     PlacedEntry, PlacedListing, PlacedResult, entries_of_pods, is_of_probe, pod_numbers,
     some_entry_repeats,
 };
-use following::Following;
 use json_lines::TickRecord;
 use manifest::{ContainerSpec, Outcome, PodSpec, ProbeKind};
 use observations::{ContainerObs, MOST_TICKS, PodObs, TickObs, Usage};
@@ -156,7 +155,7 @@ fn pods_observed(
     entries: &[PlacedEntry],
     first: &[Option<usize>],
     pods: &[PodSpec],
-) -> Result<Vec<PodObs>, AllocError>
+) -> Result<Vec<Option<PodObs>>, AllocError>
     requires { AreFirst entries.now (length pods.now) first.now }
     ensures { IfOk result (λ v. v.items ≡ pods_from at entries.now 0 pods.now) }
 {
@@ -164,7 +163,7 @@ fn pods_observed(
     for (number, pod) in pods.iter().enumerate() {
         let entry = entry_for(entries, first, number);
         let observed = pod_observed(alloc, at, entry, pod)?;
-        all.push(observed)?;
+        all.push(Some(observed))?;
     }
     Ok(all)
 }
@@ -264,17 +263,15 @@ fn by_pod(alloc: Global, reader: &Reader, placed: &[PlacedEntry]) -> Result<Entr
     Ok(found)
 }
 
-/// What follows the containers after the tick, unless some listing of it may not come after those of
-/// the earlier ticks.
-fn following_after(alloc: Global, reader: &Reader, tick: &TickObs) -> Result<Following, FaultKind>
+/// Whether some listing of the tick may not come after those of the earlier ticks.
+fn is_backwards(reader: &Reader, tick: &TickObs) -> bool
     requires { ComesNext reader.now.ticks (container_counts reader.now.pods) tick.now }
-    ensures gives { Gives (λ _. tt) result (refused_if (is_backwards reader.now.ticks tick.now) FaultKind.Backwards) }
-    ensures followed { IfOk result (HasFollowedTo reader.now tick.now) }
+    ensures { result ≡ is_backwards reader.now.ticks tick.now }
 {
-    Ok(reader.following.with_tick(alloc, tick)?)
+    !reader.following.accepts(tick)
 }
 
-/// The tick, checked against the earlier ticks, and what follows the containers after it.
+/// The tick, checked against the earlier ticks.
 #[tactic(auto, unfolding(crate::specs::Tick::observed_in))]
 fn observed_in(
     alloc: Global,
@@ -282,22 +279,22 @@ fn observed_in(
     at: u64,
     written: &TickLine,
     placed: &[PlacedEntry],
-) -> Result<(TickObs, Following), FaultKind>
+) -> Result<TickObs, FaultKind>
     requires later { EndBefore reader.now.ticks at }
     requires known { All (λ e. e.pod < length reader.now.pods) placed.now }
-    ensures gives { Gives (λ r. r.0) result (observed_in reader.now at written.now placed.now) }
-    ensures followed { IfOk result (λ r. HasFollowedTo reader.now r.0 r.1) }
+    ensures gives { Gives (λ t. t) result (observed_in reader.now at written.now placed.now) }
+    ensures follows { IfOk result (MayStandBehind reader.now) }
 {
     let by_pod = by_pod(alloc, reader, placed)?;
     let pods = reader.pods.as_slice();
     let tick = observed(alloc, at, written, placed, &by_pod.first, pods)?;
-    let following = following_after(alloc, reader, &tick)?;
+    refused_if(is_backwards(reader, &tick), FaultKind::Backwards)?;
     refused_if(some_code_missing(placed), FaultKind::ExitCode)?;
-    Ok((tick, following))
+    Ok(tick)
 }
 
-fn with_tick(reader: Reader, tick: TickObs, following: Following) -> Result<Reader, FaultKind>
-    requires { HasFollowedTo reader tick following }
+fn with_tick(reader: Reader, tick: TickObs) -> Result<Reader, FaultKind>
+    requires { MayStandBehind reader tick }
     ensures { Gives (λ r. r) result (Ok (with_tick reader tick)) }
 {
     let Reader {
@@ -307,8 +304,9 @@ fn with_tick(reader: Reader, tick: TickObs, following: Following) -> Result<Read
         arrivals,
         mut ticks,
         keys,
-        ..
+        mut following,
     } = reader;
+    following.step(&tick);
     match ticks.push(tick) {
         Ok(()) => Ok(Reader {
             format,
@@ -326,15 +324,15 @@ fn with_tick(reader: Reader, tick: TickObs, following: Following) -> Result<Read
     }
 }
 
-/// The tick that a tick line says, and what follows the containers after it.
+/// The tick that a tick line says.
 #[tactic(auto, unfolding(crate::specs::Taken::tick_of))]
 fn tick_of(
     alloc: Global,
     reader: &Reader,
     line: &TickRecord,
-) -> Result<(TickObs, Following), FaultKind>
-    ensures gives { Gives (λ r. r.0) result (tick_of reader.now line.now.at line.now.written) }
-    ensures followed { IfOk result (λ r. HasFollowedTo reader.now r.0 r.1) }
+) -> Result<TickObs, FaultKind>
+    ensures gives { Gives (λ t. t) result (tick_of reader.now line.now.at line.now.written) }
+    ensures follows { IfOk result (MayStandBehind reader.now) }
 {
     room(reader)?;
     let at = moment_in(reader, line.at)?;
@@ -353,7 +351,7 @@ pub(crate) fn take_tick(
     ensures { Gives (λ r. r) result (tick_after reader line.now.at line.now.written) }
 {
     match tick_of(alloc, &reader, line) {
-        Ok((tick, following)) => with_tick(reader, tick, following),
+        Ok(tick) => with_tick(reader, tick),
         Err(kind) => {
             drop(reader);
             Err(kind)

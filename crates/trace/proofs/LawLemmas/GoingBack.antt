@@ -2,6 +2,7 @@
 use Rattle.std.proofs.Common.{◌≡◌, ◌⊎◌, ℕ, suc, ◌+◌, ◌||◌, not, Bool, true, false, List, [], ◌∷◌, Option, Some, None}
 use Rattle.std.proofs.Common.{refl, sym, subst, inl, inr, arith}
 use Rattle.std.specs.Prelude.{slice_get, option_and_then}
+use Rattle.std.specs.Option.{option_flatten}
 use Rattle.std.proofs.lemmas.Bool.{cases_Bool}
 use Rattle.state_diff.specs.declared.seen.Seen.{Seen}
 use Rattle.state_diff.specs.Acceptable.{is_acceptable}
@@ -52,10 +53,22 @@ container_back ticks pod n (o ∷ os) e =
           )
     ]
 
-pod_back : (ticks : List TickObs) (n : ℕ) (ps : List PodObs) → some_pod_backwards ticks n ps ≡ true
-    → (p c : ℕ) × Refused (history ticks (n + p) c) (seen_in_pod (slice_get ps p) c)
+pod_later : (ticks : List TickObs) (n : ℕ) (q : Option PodObs) (qs : List (Option PodObs))
+    → (p c : ℕ) × Refused (history ticks (n + 1 + p) c) (seen_in_pod (option_flatten (slice_get qs p)) c)
+    → (p c : ℕ) × Refused (history ticks (n + p) c) (seen_in_pod (option_flatten (slice_get (q ∷ qs) p)) c)
+pod_later ticks n q qs later =
+    let same : n + 1 + later.0 ≡ n + suc later.0 = omega arith in (
+      suc later.0,
+      later.1,
+      subst (λ (k : ℕ). Refused (history ticks k later.1)
+          (seen_in_pod (option_flatten (slice_get qs later.0)) later.1)) same later.2,
+    )
+
+pod_back : (ticks : List TickObs) (n : ℕ) (ps : List (Option PodObs)) → some_pod_backwards ticks n ps ≡ true
+    → (p c : ℕ) × Refused (history ticks (n + p) c) (seen_in_pod (option_flatten (slice_get ps p)) c)
 pod_back ticks n [] e = absurd (cc)
-pod_back ticks n (q ∷ qs) e = elim (here_or_later (some_container_backwards ticks n 0 q.containers)
+pod_back ticks n (None ∷ qs) e = pod_later ticks n None qs (pod_back ticks (n + 1) qs e)
+pod_back ticks n (Some q ∷ qs) e = elim (here_or_later (some_container_backwards ticks n 0 q.containers)
     (some_pod_backwards ticks (n + 1) qs) e) [
       | inl here ↦
           let found = container_back ticks n 0 q.containers here in
@@ -66,14 +79,7 @@ pod_back ticks n (q ∷ qs) e = elim (here_or_later (some_container_backwards ti
             subst (λ (k : ℕ). Refused (history ticks k found.0) (seen_in_pod (Some q) found.0)) (sym same)
                 (subst (λ (k : ℕ). Refused (history ticks n k) (seen_in_pod (Some q) found.0)) place found.1),
           )
-      | inr rest ↦
-          let later = pod_back ticks (n + 1) qs rest in
-          let same : n + 1 + later.0 ≡ n + suc later.0 = omega arith in (
-            suc later.0,
-            later.1,
-            subst (λ (k : ℕ). Refused (history ticks k later.1)
-                (seen_in_pod (slice_get qs later.0) later.1)) same later.2,
-          )
+      | inr rest ↦ pod_later ticks n (Some q) qs (pod_back ticks (n + 1) qs rest)
     ]
 
 goes_back : (ticks : List TickObs) (tick : TickObs) → is_backwards ticks tick ≡ true → GoesBack ticks tick

@@ -3,6 +3,7 @@ use Rattle.std.proofs.Common.{◌≡◌, ◌∙◌, ℕ, zero, suc, ◌+◌, ◌
 use Rattle.std.proofs.Common.{Some, None, refl, ap, sym, inl, inr, arith}
 use Rattle.std.specs.Prelude.{◌==◌, option_and_then}
 use Rattle.std.specs.List.{list_any}
+use Rattle.std.specs.Option.{option_flatten}
 use Rattle.std.proofs.lemmas.Bool.{cases_Bool, or_parts, eqb-true, eq-eqb}
 use Rattle.std.proofs.lemmas.Map.Keys.{any_passes_from_place}
 use Rattle.state_diff.specs.declared.seen.Seen.{Seen}
@@ -120,7 +121,7 @@ container_at ls rs n (x ∷ xs) (suc c) lt =
 
 pub pod_at : (at : ℕ) (es : List PlacedEntry) (n : ℕ) (pods : List PodSpec) (p : ℕ) (pod : PodSpec)
     → slice_get pods p ≡ Some pod
-    → slice_get (pods_from at es n pods) p ≡ Some (pod_observed at (entry_for es (n + p)) pod)
+    → option_flatten (slice_get (pods_from at es n pods) p) ≡ Some (pod_observed at (entry_for es (n + p)) pod)
 pod_at at es n [] p pod here = absurd (cc)
 pod_at at es n (x ∷ xs) zero pod here =
     let same : x ≡ pod = cc in

@@ -7,8 +7,8 @@ use Rattle.trace.specs.Pod.{container_counts}
 use Rattle.trace.proofs.Shown.{comes_next}
 use Rattle.trace.proofs.tick.observed_in.Goals as goal
 
-pub following_after-requires : goal.following_after-requires
-following_after-requires c =
+pub is_backwards-requires : goal.is_backwards-requires
+is_backwards-requires c =
     let past = c.args.reader.now in
     let same : c.as_slice-pods.result.now ≡ past.pods = c.as_slice-pods.ensures ∙ ap (λ (p : Past). p.pods)
     c.reader.view_is in
