@@ -3,6 +3,8 @@ use Rattle.std.proofs.Common.{◌≡◌, ◌∙◌, ℕ, suc, zero, ◌+◌, ◌
 use Rattle.std.proofs.Common.{length, take, drop, append_assoc, append-nil, Option, Some, None, refl, ap}
 use Rattle.std.proofs.Common.{sym, subst, arith}
 use Rattle.std.specs.Prelude.{slice_get, MatchOption, IfSome}
+use Rattle.std.specs.Option.{option_flatten}
+use Rattle.histories.specs.Histories.{EndsBefore}
 use Rattle.std.proofs.lemmas.List.{length-take-le, take_all, length-append}
 use Rattle.std.proofs.Math.Seq.{take-append_seam}
 use Rattle.histories.proofs.Lists.{rest_more, slice_get-kept}
@@ -84,10 +86,15 @@ fits_next pods ticks before tick rest s may whole taken =
               let pod : slice_get pods n ≡ Some here.0 = taken_at n (length tick.pods) pods here.0 here.1 in
               let next : IsNextTick here.0 (pod_ticks before n) (pod_tick shown) =
               subst (λ (h : List TickObs). IsNextTick here.0 (pod_ticks h n) (pod_tick shown)) cut
-              (may.next t n tick here.0 shown at pod there) in
+              (may.next t n tick here.0 shown at pod (ap option_flatten there)) in
               subst (λ (p : Piece). IsNextTick p.pod p.handed (pod_tick shown)) (sym here.2) next;
         };
         at_its_moment = λ n shown is. may.moments t n tick shown at is;
+        later = λ n piece is.
+            let here = pod_at s.config (take (length tick.pods) pods) before s.evictions s.pods.pieces n piece
+            taken.pieces is in
+            subst (λ (p : Piece). EndsBefore p.handed tick.at) (sym here.2)
+            (subst (λ (h : List TickObs). EndsBefore (pod_ticks h n) tick.at) cut (may.ends t n tick at));
       };
     }
 
@@ -322,24 +329,24 @@ Arrive config old new arriving = (ps : List PodSpec) (ts : List TickObs) → IsA
     → IsAfter config (ps ++ arriving) ts new
 
 pub may_take_shown : (config : NodeConfig) (pods : List PodSpec) (ticks before : List TickObs) (tick : TickObs)
-    (rest : List TickObs) (shown : List PodObs) (arrived : ℕ) (left : List PodSpec) (old new : Option State)
+    (rest : List TickObs) (shown : List (Option PodObs)) (arrived : ℕ) (left : List PodSpec) (old new : Option State)
     → AreReplayable pods ticks → IsSoFar config pods ticks before (tick ∷ rest) arrived left old → shown ≡ tick.pods
     → Arrive config old new (take (length shown - arrived) left) → MayTake new tick
 may_take_shown config pods ticks before tick rest shown arrived left old new may s is arrives =
     may_take_next config pods ticks before tick rest arrived left old new may s
-    (subst (λ (os : List PodObs). Arrive config old new (take (length os - arrived) left)) is arrives)
+    (subst (λ (os : List (Option PodObs)). Arrive config old new (take (length os - arrived) left)) is arrives)
 
 pub one_more_shown : (config : NodeConfig) (pods : List PodSpec) (ticks before : List TickObs) (tick : TickObs)
-    (rest : List TickObs) (shown : List PodObs) (arrived : ℕ) (left left' : List PodSpec) (old mid new : Option State)
+    (rest : List TickObs) (shown : List (Option PodObs)) (arrived : ℕ) (left left' : List PodSpec) (old mid new : Option State)
     → AreReplayable pods ticks → IsSoFar config pods ticks before (tick ∷ rest) arrived left old → shown ≡ tick.pods
     → Arrive config old mid (take (length shown - arrived) left) → left' ≡ drop (length shown - arrived) left
     → ((ps : List PodSpec) (ts : List TickObs) → IsAfter config ps ts mid → IsAfter config ps (ts ++ tick ∷ []) new)
     → IsSoFar config pods ticks (before ++ tick ∷ []) rest (length shown) left' new
 one_more_shown config pods ticks before tick rest shown arrived left left' old mid new may s is arrives left_is takes =
-    subst (λ (os : List PodObs). IsSoFar config pods ticks (before ++ tick ∷ []) rest (length os) left' new) (sym is)
+    subst (λ (os : List (Option PodObs)). IsSoFar config pods ticks (before ++ tick ∷ []) rest (length os) left' new) (sym is)
     (one_more config pods ticks before tick rest arrived left left' old mid new may s
-    (subst (λ (os : List PodObs). Arrive config old mid (take (length os - arrived) left)) is arrives)
-    (subst (λ (os : List PodObs). left' ≡ drop (length os - arrived) left) is left_is) takes)
+    (subst (λ (os : List (Option PodObs)). Arrive config old mid (take (length os - arrived) left)) is arrives)
+    (subst (λ (os : List (Option PodObs)). left' ≡ drop (length os - arrived) left) is left_is) takes)
 
 -- the pods that the next tick shows may arrive
 pub may_arrive : (config : NodeConfig) (pods : List PodSpec) (ticks before rest : List TickObs) (arrived more : ℕ)
@@ -358,7 +365,7 @@ may_arrive config pods ticks before rest arrived more left node may s le = recor
 
 -- those that the next tick shows
 pub may_arrive_shown : (config : NodeConfig) (pods : List PodSpec) (ticks before : List TickObs) (tick : TickObs)
-    (rest : List TickObs) (shown : List PodObs) (arrived : ℕ) (left : List PodSpec) (old : Option State)
+    (rest : List TickObs) (shown : List (Option PodObs)) (arrived : ℕ) (left : List PodSpec) (old : Option State)
     → AreReplayable pods ticks → IsSoFar config pods ticks before (tick ∷ rest) arrived left old → shown ≡ tick.pods
     → MayArrive (length shown - arrived) old
 may_arrive_shown config pods ticks before tick rest shown arrived left old may s is =

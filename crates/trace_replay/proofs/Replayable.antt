@@ -61,9 +61,9 @@ grows pods arrivals ticks shape t u earlier later lt at there =
     elim (cases_lt (length later.pods) (length earlier.pods)) [
       | inl fewer ↦
           let n = length later.pods in
-          let present = ((shape.shown t earlier at).present n).0 fewer in
+          let present = ((shape.shown t earlier at).told n).0 fewer in
           let still = before (slice_get arrivals n) present in
-          let shown : n < length later.pods = ((shape.shown u later there).present n).1 still in
+          let shown : n < length later.pods = ((shape.shown u later there).told n).1 still in
           absurd (omega arith)
       | inr ge ↦ ge
     ]
@@ -78,7 +78,7 @@ no_more : (pods : List PodSpec) (arrivals : List ℕ) (ticks : List TickObs) →
     → length tick.pods ≤ length pods
 no_more pods arrivals ticks shape t tick at = elim (cases_lt (length pods) (length tick.pods)) [
   | inl more ↦
-      let present = ((shape.shown t tick at).present (length pods)).0 more in
+      let present = ((shape.shown t tick at).told (length pods)).0 more in
       let below : length pods < length arrivals = some_below arrivals (length pods) present in
       let many : length arrivals ≡ length pods = shape.arrived.as_many in
       absurd (omega arith)
@@ -94,6 +94,7 @@ pub are_replayable : (pods : List PodSpec) (arrivals : List ℕ) (ticks : List T
     → HasShape pods arrivals ticks → AreReplayable pods ticks
 are_replayable pods arrivals ticks acceptable shape = record {
   next = next;
+  ends = ends;
   moments = λ t n tick shown at is. (shape.shown t tick at).moment n shown is;
   rising = shape.rising;
   below = shape.below;
@@ -103,6 +104,17 @@ are_replayable pods arrivals ticks acceptable shape = record {
   within = no_more pods arrivals ticks shape;
 }
   where
+    ends : (t n : ℕ) (tick : TickObs) → slice_get ticks t ≡ Some tick → EndsBefore (pod_ticks (take t ticks) n) tick.at
+    ends t n tick here =
+        let before : AreBefore (take t ticks) n tick.at = λ u earlier seen e is.
+        let w = kept t u ticks earlier e in
+        let then : seen.at ≡ earlier.at = (shape.shown u earlier w.1).moment n seen is in
+        let rising : earlier.at < tick.at = shape.rising u t earlier tick w.0 w.1 here in
+        omega (arith, then, rising) in
+        ends_so (map pod_tick (own_ticks (take t ticks) n)) tick.at
+        (subst (λ (h : List Tick). EndsBefore h tick.at) (sym (same_history (own_ticks (take t ticks) n) 0))
+        (history_ends_before (take t ticks) n 0 tick.at before))
+
     next : (t n : ℕ) (tick : TickObs) (pod : PodSpec) (observed : PodObs) → slice_get ticks t ≡ Some tick
         → slice_get pods n ≡ Some pod → shown_of tick n ≡ Some observed
         → IsNextTick pod (pod_ticks (take t ticks) n) (pod_tick observed)
@@ -110,11 +122,6 @@ are_replayable pods arrivals ticks acceptable shape = record {
         let each = shape.shown t tick here in
         let own = own_ticks (take t ticks) n in
         let moment : observed.at ≡ tick.at = each.moment n observed shown in
-        let before : AreBefore (take t ticks) n observed.at = λ u earlier seen e is.
-        let w = kept t u ticks earlier e in
-        let then : seen.at ≡ earlier.at = (shape.shown u earlier w.1).moment n seen is in
-        let rising : earlier.at < tick.at = shape.rising u t earlier tick w.0 w.1 here in
-        omega (arith, moment, then, rising) in
         record {
           shown = record {
             as_many = each.containers n pod observed at shown;
@@ -125,8 +132,6 @@ are_replayable pods arrivals ticks acceptable shape = record {
                 (sym (listed (slice_get observed.containers c)))
                 (acceptable_at ticks t n c tick observed here shown (acceptable n c)));
           };
-          later = ends_so (map pod_tick own) observed.at
-              (subst (λ (h : List Tick). EndsBefore h observed.at) (sym (same_history own 0))
-              (history_ends_before (take t ticks) n 0 observed.at before));
+          later = subst (λ (m : ℕ). EndsBefore (pod_ticks (take t ticks) n) m) (sym moment) (ends t n tick here);
           bounded = subst (λ (m : ℕ). m < 2 ^ 40) (sym moment) (shape.below t tick here);
         }

@@ -1,5 +1,6 @@
 -- Which ticks a node with these pods can take one after the other.
 use Rattle.std.specs.Prelude.{◌≡◌, ℕ, ◌+◌, ◌<◌, ◌≤◌, ◌^◌, List, [], length, take, slice_get, Option, Some}
+use Rattle.histories.specs.Histories.{EndsBefore}
 use Rattle.manifest.specs.declared.pod.PodSpec.{PodSpec}
 use Rattle.node_config.specs.declared.node.NodeConfig.{NodeConfig}
 use Rattle.observations.specs.Pods.{PodObs}
@@ -12,12 +13,14 @@ use Rattle.eviction.specs.Replay.{pod_ticks}
 use Rattle.tick_round.specs.Node.{State, IsAfter}
 
 -- there are not too many of either; what each tick shows of a pod may come after the pod's own ticks before, at
--- the tick's moment; the moments rise and are in range; and no tick shows fewer pods than one before it, or more
--- than there are
+-- the tick's moment; the moments rise and are in range; and no tick tells of fewer pods than one before it, or of
+-- more than there are
 pub record AreReplayable (pods : List PodSpec) (ticks : List TickObs) : Type 0 where
   pub next : (t n : ℕ) (tick : TickObs) (pod : PodSpec) (shown : PodObs) → slice_get ticks t ≡ Some tick
       → slice_get pods n ≡ Some pod → shown_of tick n ≡ Some shown
       → IsNextTick pod (pod_ticks (take t ticks) n) (pod_tick shown)
+  pub ends : (t n : ℕ) (tick : TickObs) → slice_get ticks t ≡ Some tick
+      → EndsBefore (pod_ticks (take t ticks) n) tick.at
   pub moments : (t n : ℕ) (tick : TickObs) (shown : PodObs) → slice_get ticks t ≡ Some tick
       → shown_of tick n ≡ Some shown
       → shown.at ≡ tick.at
