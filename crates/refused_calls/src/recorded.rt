@@ -94,5 +94,6 @@ pub(crate) fn shown(alloc: Global, number: usize) -> Result<PodObs, Unprepared> 
         .into_vec()
         .into_iter()
         .nth(number)
+        .flatten()
         .ok_or(Unprepared)
 }

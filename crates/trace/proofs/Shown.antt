@@ -1,7 +1,7 @@
 -- What a tick line shows of the pods.
 use Rattle.std.proofs.Common.{◌≡◌, ◌∙◌, ℕ, zero, suc, ◌+◌, ◌<◌, true, false, List, [], ◌∷◌, length, Some, refl, ap}
 use Rattle.std.proofs.Common.{sym, arith}
-use Rattle.std.specs.Prelude.{◌↔◌, IsSome, slice_get}
+use Rattle.std.specs.Prelude.{◌↔◌, ⊤, Bool, Ok, IsSome, slice_get}
 use Rattle.std.specs.Option.{option_flatten}
 use Rattle.std.proofs.lemmas.List.{length-map}
 use Rattle.manifest.specs.declared.pod.ContainerSpec.{ContainerSpec}
@@ -13,6 +13,8 @@ use Rattle.tick_lines.specs.declared.line.TickLine.{TickLine}
 use Rattle.trace.specs.declared.placing.PlacedEntry.{PlacedEntry}
 use Rattle.trace.specs.declared.placing.PlacedListing.{PlacedListing}
 use Rattle.trace.specs.declared.placing.PlacedResult.{PlacedResult}
+use Rattle.json_fields.specs.Reading.{refused_if}
+use Rattle.trace.specs.declared.fault.FaultKind.{FaultKind}
 use Rattle.trace.specs.Observed.{entry_for, listings_of, results_of, pod_observed, pods_from, containers_from, observed}
 use Rattle.trace.specs.Pod.{container_counts}
 
@@ -76,3 +78,8 @@ comes_next ticks at written es pods later =
       moment = moment_shown at es 0 pods;
       later = later;
     }
+
+-- a test that refused nothing
+pub went_on : (test : Bool) (kind : FaultKind) (u : ⊤) → refused_if test kind ≡ Ok u → test ≡ false
+went_on true kind u e = absurd (cc)
+went_on false kind u e = refl
