@@ -206,8 +206,10 @@ class Recorder:
         found = []
         for probe in PROBES:
             series = pod.uid, name, probe
-            growth = grown(self.planned_counters.get(series, {}), self.counters.get(series, {}))
-            results = results_of(probe, growth, pod.period(name, probe), self.planned_at, moment)
+            before, now = self.planned_counters.get(series, {}), self.counters.get(series, {})
+            if now == before:
+                continue
+            results = results_of(probe, grown(before, now), pod.period(name, probe), self.planned_at, moment)
             if len(results) > 1:
                 self.say(f"{pod.key} {name} {probe}: {len(results)} results between two looks: their order and moments "
                          "are inferred, here and wherever it is so", "results")
