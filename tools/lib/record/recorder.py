@@ -5,7 +5,7 @@ from typing import Optional
 
 from .formats import MOST_PODS
 from .probes import PROBES, grown, results_of
-from .runtime import EXITED, RUNNING, Container
+from .runtime import RUNNING, Container
 from .timeline import Timeline
 from .trace import line_of
 
@@ -140,12 +140,13 @@ class Recorder:
         return min([seen.moment, *created])
 
     def miss(self, recorded, seen):
-        """A pod is no longer listed. It is gone once none of its containers is there to exit."""
+        """A pod is no longer listed. It is gone once each of its containers has exited with a code that is
+        known, or is no more."""
         if not self.format.says_gone:
             self.say(f"{recorded.pod.key} is gone, and the replay goes on with it: cut the trace where pods go")
         elif seen.instances is not None:
             instances = seen.instances.get(recorded.pod.uid, [])
-            if all(instance.state == EXITED for instance in instances):
+            if all(instance.exit_code is not None for instance in instances):
                 self.follow(recorded, seen)
                 self.depart(recorded, seen.moment)
 
