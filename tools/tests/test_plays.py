@@ -4,7 +4,6 @@ the extended format also each pod for as long as it was there. And an hour of a 
 import json
 import os
 import random
-import re
 import shutil
 import sys
 import tempfile
@@ -199,3 +198,37 @@ def test_plays():
     with ThreadPoolExecutor(4) as threads:
         faults_found = [fault for fault in threads.map(fault_of, range(PLAYS)) if fault is not None]
     expect("plays made by chance", faults_found[:1], [])
+
+
+# --- a quiet node ---
+
+
+def quiet_node(pods, seconds):
+    """A node on which nothing happens: each pod has one container with two probes, which pass each 10 s."""
+    probe = {"periodSeconds": 10}
+    spec = {"containers": [{"name": "app", "livenessProbe": probe, "readinessProbe": probe}]}
+    names = [f"web-{number}" for number in range(pods)]
+    moments = {name: [number % 10 + 10 * turn for turn in range(-10, seconds // 10 + 1)]
+               for number, name in enumerate(names)}
+    return {"begin": BEGIN, "pods": {f"shop/{name}": {"spec": spec} for name in names},
+            "containers": [{"id": f"c{number}", "pod": f"shop/{name}", "name": "app", "attempt": 0, "created": -101,
+                            "started": -100} for number, name in enumerate(names)],
+            "probes": [{"pod": f"shop/{name}", "container": "app", "probe": kind, "result": "success",
+                        "at": moments[name]} for name in names for kind in ("liveness", "readiness")],
+            "samples": {str(10 * turn - 5): {"memory": 4294967296 - 4096 * turn, "pods": {
+                f"uid-{name}": 100000000 + 4096 * turn for name in names}} for turn in range(seconds // 10 + 2)}}
+
+
+def size_of(every):
+    """What an hour of a quiet node with 30 pods makes, as tools/README.md says it."""
+    status, trace, said = recorded(quiet_node(30, 3600), "--for", "3600", "--every", str(every), "--standard")
+    expect(f"an hour of a quiet node, every {every} s", (status, said), (0, ""))
+    ticks = trace.count('"kind":"tick"')
+    return f"{ticks} ticks and {len(trace.encode()) / 10 ** 6:.1f} MB with `--every {every}`"
+
+
+def test_quiet_hour():
+    with ThreadPoolExecutor(2) as threads:
+        sizes = list(threads.map(size_of, (10, 60)))
+    page = " ".join(read(f"{TOOLS}/README.md").split())
+    expect("an hour of a quiet node: its size in tools/README.md", [size for size in sizes if size not in page], [])
