@@ -17,11 +17,12 @@ import test_json
 import test_kubectl
 import test_page
 import test_plays
+import test_real_node
 import test_record
 import test_why
 from checks import HERE, REPLAY, TOOLS, TOP, expect, expect_kept, expect_refused, read, run
 
-MODULES = (test_record, test_plays, test_json, test_why, test_page, test_fleet, test_kubectl)
+MODULES = (test_record, test_plays, test_real_node, test_json, test_why, test_page, test_fleet, test_kubectl)
 RECORDINGS = f"{HERE}/recordings"
 COMMANDS = f"{HERE}/commands"
 
