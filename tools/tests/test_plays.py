@@ -150,6 +150,21 @@ def missing_in(said, play, look, is_extended):
     return None
 
 
+def unnamed_137(report, play, warnings):
+    """An exit that counts as 137 and had another code, and that standard error does not name; or one that it names
+    though all sources answered."""
+    codes = {(life["named"], each["name"], f"died {each['attempt']} 137"): each.get("code") for life, each in
+             ((lives_in(play)[each["uid"]], each) for each in play["containers"])}
+    for place in said_in(report):
+        pod, container, words = place
+        if words.endswith(" 137") and codes[place] != 137:
+            key, attempt = pod.rpartition("-")[0], words.split()[1]
+            if f"record: {key} {container}: attempt {attempt} was removed" not in warnings:
+                return f"{' '.join(place)} is not named"
+    named_one = next((line for line in warnings.split("\n") if "was removed" in line or "unseen" in line), None)
+    return None if play["fails"] else named_one
+
+
 def end_of(play, life):
     """When a pod is gone: it is not listed and nothing of it runs, or it was evicted; None where it stays."""
     exits = [each["exited"] for each in play["containers"] if each["uid"] == life["uid"] and "exited" in each]
@@ -181,13 +196,14 @@ def fault_of(seed):
     play = play_of(chance, look)
     for word in ("--standard", "--extended"):
         is_extended = word == "--extended"
-        text = recorded(play, "--look", str(look), "--for", str(SECONDS), word)[1]
+        _, text, warnings = recorded(play, "--look", str(look), "--for", str(SECONDS), word)
         status, report, refused = report_of(text)
         if status != 0:
             return f"play {seed} {word}: {refused.strip()}"
         trace = read_text(text)
         fault = missing_in(said_in(report), play, look, is_extended)
         fault = fault or missing_in(steps_in(trace), play, look, is_extended)
+        fault = fault or unnamed_137(report, play, warnings)
         fault = fault or (presence_fault(trace, play, look) if is_extended and not play["fails"] else None)
         if fault is not None:
             return f"play {seed} {word}: {fault}"
