@@ -108,10 +108,11 @@ def lives_of(chance, play, number, look):
         containers = [container_of(chance, name) for name in ("app", "side")[:chance.randint(1, 2)]]
         life = {"uid": f"uid-{number}-{len(lives)}", "key": f"shop/p{number}", "from": since,
                 "spec": {"containers": containers}}
-        fate = "stays" if play["fails"] else chance.choice(["stays", "stays", "goes", "goes", "evicted"])
+        fate = chance.choice(["stays", "stays", "goes", "goes", "evicted"])
         made = live(chance, play, life, look, fate)
         lives.append(life)
-        if fate != "goes" or chance.random() < 0.4:
+        # where a source is silent the first of them may not be seen
+        if fate != "goes" or play["fails"] or chance.random() < 0.4:
             break
         since = max(life["until"], end_of(made)) + chance.uniform(0.1, 4)
     return lives

@@ -160,6 +160,8 @@ def test_words():
         (["record", "--node", "Worker 3"], "--node takes"),
         (["record", "--node", ""], "--node takes"),
         (["record", "--curl", f"{HERE}/run.py"], "--curl goes with --kubelet"),
+        (["record", "--kubelet", "127.0.0.1:10250"], "--kubelet takes"),
+        (["record", "--kubelet", "--check"], "--kubelet takes"),
         (["record", "--kubelet", "https://127.0.0.1:10250", "--curl", "/nonexistent"], "can't be read"),
         (["record", "--node-line", "/nonexistent"], "can't be read"),
         (["record", "--node-line", f"{HERE}/run.py"], "no JSON object"),

@@ -45,9 +45,12 @@ def named(key, number):
     return f"{key}-{number}"
 
 
-def last_moment(life, is_extended):
+def last_moment(play, life, is_extended):
     """Up to when what happens in a pod is wanted. In the extended format an evicted pod is gone when that is seen, and
-    in the standard one a pod that was made anew under its name has no line."""
+    in the standard one a pod that was made anew under its name has no line. Where a source is silent, what goes
+    meanwhile is not seen."""
+    if play["fails"] and ("until" in life or "evicted" in life or not life["named"].endswith("-0")):
+        return 0
     if is_extended:
         return life.get("evicted", SECONDS + PODS_SECONDS) - PODS_SECONDS
     return SECONDS if life["named"].endswith("-0") else 0
@@ -56,9 +59,12 @@ def last_moment(life, is_extended):
 def wanted_of(play, look, is_extended):
     """What a recording has to say of the instances, but of the last seconds: {(pod, container, words): moment}."""
     wanted, lives = {}, lives_in(play)
+    # a runtime that is silent to the end has not said what happened meanwhile
+    silent = [fault["from"] for fault in play["fails"] if fault["kind"] == "ps" and fault["until"] > SECONDS - look]
     for each in play["containers"]:
         life = lives[each["uid"]]
-        latest = min(SECONDS - 2 * look, last_moment(life, is_extended))
+        latest = min([SECONDS, *silent]) - 2 * look
+        latest = min(latest, last_moment(play, life, is_extended))
         for word, moment in (("started", each.get("started", SECONDS)), ("died", each.get("exited", SECONDS))):
             if 1 < moment < latest:
                 words = f"{word} {each['attempt']}" + (f" {each['code']}" if word == "died" else "")

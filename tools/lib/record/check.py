@@ -8,7 +8,7 @@ from .runtime import inspected_of, instances_of
 from .sources import Failed
 from .summary import Summary, summary_of
 
-PROXY = "it wants the permission to get nodes/proxy"
+PROXY = "it wants the permission to get nodes/proxy, and the node's name in the cluster as --node"
 PORT = "it is at the kubelet's port 10250, and wants the permission to get nodes/{what}"
 
 
