@@ -52,7 +52,7 @@ def last_moment(play, life, is_extended):
     if play["fails"] and ("until" in life or "evicted" in life or not life["named"].endswith("-0")):
         return 0
     if is_extended:
-        return life.get("evicted", SECONDS + PODS_SECONDS) - PODS_SECONDS
+        return life.get("evicted", SECONDS)
     return SECONDS if life["named"].endswith("-0") else 0
 
 
@@ -128,12 +128,11 @@ def steps_of(trace, pod, container):
         is_other = before is not None and (listing is None or listing.attempt != before.attempt)
         if is_other and before.state != "CONTAINER_EXITED":
             yield f"died {before.attempt} 137", moment
-        if listing is not None and listing.state == "CONTAINER_RUNNING" and (is_other or before is None
-                                                                             or before.state != listing.state):
-            yield f"started {listing.attempt}", moment
-        if listing is not None and listing.state == "CONTAINER_EXITED" and (is_other or before is None
-                                                                            or before.state != listing.state):
-            yield f"died {listing.attempt} {listing.code}", moment
+        if listing is not None and (is_other or before is None or before.state != listing.state):
+            if listing.state == "CONTAINER_RUNNING":
+                yield f"started {listing.attempt}", moment
+            elif listing.state == "CONTAINER_EXITED":
+                yield f"died {listing.attempt} {listing.code}", moment
         before = listing
 
 
@@ -180,18 +179,19 @@ def end_of(play, life):
 def presence_fault(trace, play, look):
     """What is wrong with when the pods of a trace come and go; the runtime shows their ends, or the list of pods does
     at its next turn."""
-    found = dict(zip(names_of(trace), trace.pods))
+    found, late = dict(zip(names_of(trace), trace.pods)), PODS_SECONDS + 2 * look
     for life in lives_in(play).values():
         end, name = end_of(play, life), life["named"]
+        if life["from"] >= SECONDS - late:
+            continue
         if name not in found:
-            return f"there is no {name}" if life["from"] < SECONDS - PODS_SECONDS - 2 * look else None
+            return f"there is no {name}"
         gone = found[name].gone
+        last = None if gone is None else trace.ticks[gone - 1].at - BEGIN
         if end is None and gone is not None:
-            return f"{name} goes, which stays"
-        if end is not None and end < SECONDS - PODS_SECONDS - 2 * look:
-            last = None if gone is None else trace.ticks[gone - 1].at - BEGIN
-            if last is None or not int(end) <= last <= end + PODS_SECONDS + 2 * look:
-                return f"{name} goes behind {last}, not at {end}"
+            return f"{name} goes behind {last}, and should stay"
+        if end is not None and end < SECONDS - late and (last is None or not int(end) <= last <= end + late):
+            return f"{name} goes behind {last}, not at {end}"
     return None
 
 
