@@ -10,7 +10,7 @@ import tempfile
 from concurrent.futures import ThreadPoolExecutor
 
 from chance import BEGIN, SECONDS, play_of
-from checks import HERE, REPLAY, TOOLS, expect, read, run
+from checks import HERE, LONGEST, REPLAY, TOOLS, expect, read, run
 
 sys.path.insert(0, f"{TOOLS}/lib")
 from trace import read_trace  # noqa: E402
@@ -21,13 +21,13 @@ LATEST = 5
 PODS_SECONDS = 10
 
 
-def recorded(play, *words):
+def recorded(play, *words, longest=LONGEST):
     """The status of a recording of a play, its trace, and what was said."""
     folder = tempfile.mkdtemp()
     with open(f"{folder}/play.json", "w", encoding="utf-8") as file:
         json.dump(play, file)
     answer = run([f"{HERE}/commands/played_record", "--node", "n1", *words],
-                 PATH=f"{HERE}/commands:{os.environ['PATH']}", RECORDING=folder, RUN=folder)
+                 longest=longest, PATH=f"{HERE}/commands:{os.environ['PATH']}", RECORDING=folder, RUN=folder)
     shutil.rmtree(folder)
     return answer
 
@@ -243,7 +243,9 @@ def quiet_node(pods, seconds):
 
 def size_of(every):
     """What an hour of a quiet node with 30 pods makes, as tools/README.md says it."""
-    status, trace, said = recorded(quiet_node(30, 3600), "--for", "3600", "--every", str(every), "--standard")
+    # some 8 s on a machine that does nothing else
+    status, trace, said = recorded(quiet_node(30, 3600), "--for", "3600", "--every", str(every), "--standard",
+                                   longest=5 * LONGEST)
     expect(f"an hour of a quiet node, every {every} s", (status, said), (0, ""))
     ticks = trace.count('"kind":"tick"')
     return f"{ticks} ticks and {len(trace.encode()) / 10 ** 6:.1f} MB with `--every {every}`"

@@ -102,7 +102,7 @@ def interrupted(folder, numbers, **settings):
     words = [sys.executable, f"{TOP}/bench/real_node", folder]
     process = subprocess.Popen(words, stdout=subprocess.PIPE, stderr=subprocess.PIPE, text=True, env={
         **os.environ, "PATH": f"{os.environ['PATH']}:{folder}/host", "KUBELET_REPLAY": REPLAY, **settings})
-    for _ in range(1000):
+    for _ in range(3000):
         if os.path.exists(f"{folder}/waits"):
             break
         time.sleep(0.02)
