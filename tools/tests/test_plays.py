@@ -15,7 +15,7 @@ from checks import HERE, LONGEST, REPLAY, TOOLS, expect, read, run
 sys.path.insert(0, f"{TOOLS}/lib")
 from trace import read_trace  # noqa: E402
 
-PLAYS = 48
+PLAYS = 32
 # how late a start or an exit may stand where all sources answer, as what shares a second stands in those after it
 LATEST = 5
 PODS_SECONDS = 10
