@@ -72,11 +72,11 @@ class Recorder:
             self.begun = self.planned_at = self.listed_at = self.sampled_at = seen.moment
             self.planned_counters = seen.counters
             self.timeline.place_look(seen.moment)
+        self.counters = self.counters if seen.counters is None else seen.counters
         if seen.pods is not None:
             self.take_pods(seen)
         if seen.instances is not None:
             self.take_instances(seen)
-        self.counters = self.counters if seen.counters is None else seen.counters
         self.take_summary(seen)
         has_both = seen.instances is not None and seen.counters is not None
         if has_both or seen.moment - self.planned_at > PATIENCE:
