@@ -42,13 +42,13 @@ def read(path):
         return file.read()
 
 
-def run(words, given="", **settings):
-    """The status, the output and the errors of a command."""
+def run(words, given="", longest=LONGEST, **settings):
+    """The status, the output and the errors of a command that may take so many seconds."""
     try:
-        done = subprocess.run(words, input=given.encode(), capture_output=True, timeout=LONGEST, check=False,
+        done = subprocess.run(words, input=given.encode(), capture_output=True, timeout=longest, check=False,
                               env={**os.environ, "KUBELET_REPLAY": REPLAY, **settings})
     except subprocess.TimeoutExpired:
-        return None, "", f"it went on for {LONGEST} s"
+        return None, "", f"it went on for {longest} s"
     return done.returncode, done.stdout.decode("utf-8", "replace"), done.stderr.decode("utf-8", "replace")
 
 

@@ -17,11 +17,12 @@ import test_json
 import test_kubectl
 import test_page
 import test_plays
+import test_real_node
 import test_record
 import test_why
 from checks import HERE, REPLAY, TOOLS, TOP, expect, expect_kept, expect_refused, read, run
 
-MODULES = (test_record, test_plays, test_json, test_why, test_page, test_fleet, test_kubectl)
+MODULES = (test_record, test_plays, test_real_node, test_json, test_why, test_page, test_fleet, test_kubectl)
 RECORDINGS = f"{HERE}/recordings"
 COMMANDS = f"{HERE}/commands"
 
@@ -159,6 +160,8 @@ def test_words():
         (["record", "--node", "Worker 3"], "--node takes"),
         (["record", "--node", ""], "--node takes"),
         (["record", "--curl", f"{HERE}/run.py"], "--curl goes with --kubelet"),
+        (["record", "--kubelet", "127.0.0.1:10250"], "--kubelet takes"),
+        (["record", "--kubelet", "--check"], "--kubelet takes"),
         (["record", "--kubelet", "https://127.0.0.1:10250", "--curl", "/nonexistent"], "can't be read"),
         (["record", "--node-line", "/nonexistent"], "can't be read"),
         (["record", "--node-line", f"{HERE}/run.py"], "no JSON object"),

@@ -1,107 +1,102 @@
-"""Plays made by chance: the program accepts each trace, and the report has each start and each exit with its code."""
+"""Plays made by chance, in each format: the trace is accepted, and it has each start and each exit with its code; in
+the extended format also each pod for as long as it was there. And an hour of a quiet node, with its bytes."""
 
 import json
 import os
 import random
 import shutil
+import sys
 import tempfile
 from concurrent.futures import ThreadPoolExecutor
 
-from checks import HERE, REPLAY, expect, run
+from chance import BEGIN, SECONDS, play_of
+from checks import HERE, LONGEST, REPLAY, TOOLS, expect, read, run
 
-BEGIN = 1767225600
-SECONDS = 60
+sys.path.insert(0, f"{TOOLS}/lib")
+from trace import read_trace  # noqa: E402
+
 PLAYS = 32
 # how late a start or an exit may stand where all sources answer, as what shares a second stands in those after it
 LATEST = 5
+PODS_SECONDS = 10
 
 
-def instances(chance, pod, name, first, identity):
-    """The instances of one container, one after the other, from a moment on."""
-    made, moment = [], first
-    for attempt in range(chance.randint(1, 7)):
-        each = {"id": f"{identity}x{attempt}", "pod": pod, "name": name, "attempt": attempt, "created": moment}
-        started = moment + chance.uniform(0.05, 0.5)
-        made.append(each)
-        if chance.random() < 0.1:
-            each.update(exited=started, code=128)
-        else:
-            each["started"] = started
-            if chance.random() < 0.15:
-                break
-            each.update(exited=started + chance.choice([chance.uniform(0.1, 1), chance.uniform(1, 9)]),
-                        code=chance.choice([0, 1, 2, 137, 137, 143]))
-        moment = each["exited"] + chance.choice([chance.uniform(0.05, 0.6), chance.uniform(1, 8)])
-    return made
-
-
-def results(chance, each, container):
-    """Results of the probes of one instance, at their periods."""
-    made = []
-    for field, probe in (("livenessProbe", "liveness"), ("readinessProbe", "readiness")):
-        period = container.get(field, {}).get("periodSeconds")
-        run_seconds = each["exited"] - each["started"] if {"started", "exited"} <= set(each) else 0
-        count = int(run_seconds / period) if period else 0
-        made += [{"pod": each["pod"], "container": each["name"], "probe": probe, "at": [each["started"] + period * turn],
-                  "result": chance.choice(["success", "success", "failure"])} for turn in range(1, count + 1)]
-    return made
-
-
-def container_of(chance, name):
-    container = {"name": name}
-    if chance.random() < 0.6:
-        container["livenessProbe"] = {"periodSeconds": chance.randint(1, 3), "failureThreshold": chance.randint(1, 3)}
-        container["readinessProbe"] = {"periodSeconds": chance.randint(1, 3), "successThreshold": chance.randint(1, 2)}
-    return container
-
-
-def faults(chance):
-    """Sources that are silent for a while."""
-    made = []
-    for kind in ("ps", "probes", "summary", "pods"):
-        since = chance.uniform(3, 30)
-        if chance.random() < 0.2:
-            made.append({"kind": kind, "from": since, "until": since + chance.uniform(1, chance.choice([5, 40])),
-                         "text": "failed with status 1: no answer"})
-    return made
-
-
-def play_of(chance):
-    play = {"begin": BEGIN, "pods": {}, "containers": [], "probes": [], "fails": faults(chance),
-            "samples": {"-1": {"memory": 4294967296}, "9": {"memory": 4294967290}}}
-    for number in range(chance.randint(1, 4)):
-        key, since = f"shop/p{number}", chance.choice([0, 0, 0, chance.uniform(1, 20)])
-        containers = [container_of(chance, name) for name in ("app", "side")[:chance.randint(1, 2)]]
-        play["pods"][key] = {"from": since, "spec": {"containers": containers}}
-        for container in containers:
-            first = since + chance.uniform(0.1, 3) if since else chance.uniform(-20, 3)
-            made = instances(chance, key, container["name"], first, f"p{number}{container['name']}")
-            play["containers"] += made
-            play["probes"] += [result for each in made for result in results(chance, each, container)]
-    return play
-
-
-def recorded(play, look):
-    """The trace of a play, and the program's answer to it."""
+def recorded(play, *words, longest=LONGEST):
+    """The status of a recording of a play, its trace, and what was said."""
     folder = tempfile.mkdtemp()
     with open(f"{folder}/play.json", "w", encoding="utf-8") as file:
         json.dump(play, file)
-    words = [f"{HERE}/commands/played_record", "--node", "n1", "--look", str(look), "--for", str(SECONDS), "--standard"]
-    trace = run(words, PATH=f"{HERE}/commands:{os.environ['PATH']}", RECORDING=folder, RUN=folder)[1]
+    answer = run([f"{HERE}/commands/played_record", "--node", "n1", *words],
+                 longest=longest, PATH=f"{HERE}/commands:{os.environ['PATH']}", RECORDING=folder, RUN=folder)
     shutil.rmtree(folder)
-    return run([REPLAY], trace)
+    return answer
 
 
-def wanted_of(play, look):
-    """What the report has to say of the instances, but of the last seconds: {(pod, container, words): moment}."""
-    wanted = {}
+# --- what a play did ---
+
+
+def lives_in(play):
+    """The lives of a play's pods by their uids, each with its name in `one_name_each`."""
+    return {life["uid"]: {**life, "named": named(key, number)} for key, lives in play["pods"].items()
+            for number, life in enumerate(lives)}
+
+
+def named(key, number):
+    return f"{key}-{number}"
+
+
+def last_moment(play, life, is_extended):
+    """Up to when what happens in a pod is wanted. In the extended format an evicted pod is gone when that is seen, and
+    in the standard one a pod that was made anew under its name has no line. Where a source is silent, what goes
+    meanwhile is not seen."""
+    if play["fails"] and ("until" in life or "evicted" in life or not life["named"].endswith("-0")):
+        return 0
+    if is_extended:
+        return life.get("evicted", SECONDS)
+    return SECONDS if life["named"].endswith("-0") else 0
+
+
+def wanted_of(play, look, is_extended):
+    """What a recording has to say of the instances, but of the last seconds: {(pod, container, words): moment}."""
+    wanted, lives = {}, lives_in(play)
+    # a runtime that is silent to the end has not said what happened meanwhile
+    silent = [fault["from"] for fault in play["fails"] if fault["kind"] == "ps" and fault["until"] > SECONDS - look]
     for each in play["containers"]:
-        place, latest = (each["pod"], each["name"]), SECONDS - 2 * look
-        if 1 < each.get("started", SECONDS) < latest:
-            wanted[(*place, f"started {each['attempt']}")] = int(each["started"])
-        if 1 < each.get("exited", SECONDS) < latest:
-            wanted[(*place, f"died {each['attempt']} {each['code']}")] = int(each["exited"])
+        life = lives[each["uid"]]
+        latest = min([SECONDS, *silent]) - 2 * look
+        latest = min(latest, last_moment(play, life, is_extended))
+        for word, moment in (("started", each.get("started", SECONDS)), ("died", each.get("exited", SECONDS))):
+            if 1 < moment < latest:
+                words = f"{word} {each['attempt']}" + (f" {each['code']}" if word == "died" else "")
+                wanted[life["named"], each["name"], words] = int(moment)
     return wanted
+
+
+# --- what a recording says ---
+
+
+def one_name_each(text):
+    """A trace without the lines of pods that go, in which each pod has a name of its own: the program reads that."""
+    lines, counts = [], {}
+    for line in map(json.loads, text.splitlines()):
+        if line["kind"] == "pod":
+            metadata = line["pod"]["metadata"]
+            key = f"{metadata['namespace']}/{metadata['name']}"
+            counts[key] = counts.get(key, -1) + 1
+            metadata["name"] = named(metadata["name"], counts[key])
+        for entry in line.get("pods", []):
+            entry["pod"] = named(entry["pod"], counts[entry["pod"]])
+        if line["kind"] != "gone":
+            lines.append(json.dumps(line))
+    return "".join(f"{line}\n" for line in lines)
+
+
+def report_of(text):
+    """The program's report of a trace, or why it is refused."""
+    with tempfile.NamedTemporaryFile("w", suffix=".trace") as file:
+        file.write(one_name_each(text))
+        file.flush()
+        return run([REPLAY, "run", file.name, "--extended"])
 
 
 def said_in(report):
@@ -109,19 +104,115 @@ def said_in(report):
     return {(pod, container, words): int(moment) - BEGIN for _, moment, pod, container, words in events}
 
 
-def fault_of(seed):
-    """What is wrong with the recording of one play, or None."""
-    chance = random.Random(seed)
-    play, look = play_of(chance), chance.choice([1, 1, 1, 2, 5])
-    status, report, refused = recorded(play, look)
-    if status != 0:
-        return f"play {seed}: {refused.strip()}"
-    said = said_in(report)
-    for place, moment in wanted_of(play, look).items():
+def read_text(text):
+    with tempfile.NamedTemporaryFile("w", suffix=".trace") as file:
+        file.write(text)
+        file.flush()
+        return read_trace(file.name)
+
+
+def names_of(trace):
+    """The names of a trace's pods in `one_name_each`, in their order."""
+    counts, names = {}, []
+    for pod in trace.pods:
+        counts[pod.key] = counts.get(pod.key, -1) + 1
+        names.append(named(pod.key, counts[pod.key]))
+    return names
+
+
+def steps_of(trace, pod, container):
+    """What the ticks of a trace say of one container: its starts and its exits, as (words, moment)."""
+    before = None
+    for place in range(pod.first, len(trace.ticks) if pod.gone is None else pod.gone):
+        listing, moment = trace.listing(pod, container, place), trace.ticks[place].at - BEGIN
+        is_other = before is not None and (listing is None or listing.attempt != before.attempt)
+        if is_other and before.state != "CONTAINER_EXITED":
+            yield f"died {before.attempt} 137", moment
+        if listing is not None and (is_other or before is None or before.state != listing.state):
+            if listing.state == "CONTAINER_RUNNING":
+                yield f"started {listing.attempt}", moment
+            elif listing.state == "CONTAINER_EXITED":
+                yield f"died {listing.attempt} {listing.code}", moment
+        before = listing
+
+
+def steps_in(trace):
+    return {(name, container.name, words): moment for name, pod in zip(names_of(trace), trace.pods)
+            for container in pod.containers for words, moment in steps_of(trace, pod, container.name)}
+
+
+# --- the comparison ---
+
+
+def missing_in(said, play, look, is_extended):
+    """What a recording does not say, or not when it happened; None where it says all."""
+    for place, moment in wanted_of(play, look, is_extended).items():
         if place not in said:
-            return f"play {seed}: the report has no {' '.join(place)}"
-        if not play["fails"] and not 0 <= said[place] - moment <= LATEST:
-            return f"play {seed}: {' '.join(place)} at {said[place]}, not at {moment}"
+            return f"there is no {' '.join(place)}"
+        latest = LATEST if place[0].endswith("-0") else LATEST + look
+        if not play["fails"] and not 0 <= said[place] - moment <= latest:
+            return f"{' '.join(place)} at {said[place]}, not at {moment}"
+    return None
+
+
+def unnamed_137(report, play, warnings):
+    """An exit that counts as 137 and had another code, and that standard error does not name; or one that it names
+    though all sources answered."""
+    codes = {(life["named"], each["name"], f"died {each['attempt']} 137"): each.get("code") for life, each in
+             ((lives_in(play)[each["uid"]], each) for each in play["containers"])}
+    for place in said_in(report):
+        pod, container, words = place
+        if words.endswith(" 137") and codes[place] != 137:
+            key, attempt = pod.rpartition("-")[0], words.split()[1]
+            if f"record: {key} {container}: attempt {attempt} was removed" not in warnings:
+                return f"{' '.join(place)} is not named"
+    named_one = next((line for line in warnings.split("\n") if "was removed" in line or "unseen" in line), None)
+    return None if play["fails"] else named_one
+
+
+def end_of(play, life):
+    """When a pod is gone: it is not listed and nothing of it runs, or it was evicted; None where it stays."""
+    exits = [each["exited"] for each in play["containers"] if each["uid"] == life["uid"] and "exited" in each]
+    return life["evicted"] if "evicted" in life else max(life["until"], *exits) if "until" in life else None
+
+
+def presence_fault(trace, play, look):
+    """What is wrong with when the pods of a trace come and go; the runtime shows their ends, or the list of pods does
+    at its next turn."""
+    found, late = dict(zip(names_of(trace), trace.pods)), PODS_SECONDS + 2 * look
+    for life in lives_in(play).values():
+        end, name = end_of(play, life), life["named"]
+        if life["from"] >= SECONDS - late:
+            continue
+        if name not in found:
+            return f"there is no {name}"
+        gone = found[name].gone
+        last = None if gone is None else trace.ticks[gone - 1].at - BEGIN
+        if end is None and gone is not None:
+            return f"{name} goes behind {last}, and should stay"
+        if end is not None and end < SECONDS - late and (last is None or not int(end) <= last <= end + late):
+            return f"{name} goes behind {last}, not at {end}"
+    return None
+
+
+def fault_of(seed):
+    """What is wrong with the recordings of one play, or None."""
+    chance = random.Random(seed)
+    look = chance.choice([1, 1, 1, 2, 5])
+    play = play_of(chance, look)
+    for word in ("--standard", "--extended"):
+        is_extended = word == "--extended"
+        _, text, warnings = recorded(play, "--look", str(look), "--for", str(SECONDS), word)
+        status, report, refused = report_of(text)
+        if status != 0:
+            return f"play {seed} {word}: {refused.strip()}"
+        trace = read_text(text)
+        fault = missing_in(said_in(report), play, look, is_extended)
+        fault = fault or missing_in(steps_in(trace), play, look, is_extended)
+        fault = fault or unnamed_137(report, play, warnings)
+        fault = fault or (presence_fault(trace, play, look) if is_extended and not play["fails"] else None)
+        if fault is not None:
+            return f"play {seed} {word}: {fault}"
     return None
 
 
@@ -129,3 +220,39 @@ def test_plays():
     with ThreadPoolExecutor(4) as threads:
         faults_found = [fault for fault in threads.map(fault_of, range(PLAYS)) if fault is not None]
     expect("plays made by chance", faults_found[:1], [])
+
+
+# --- a quiet node ---
+
+
+def quiet_node(pods, seconds):
+    """A node on which nothing happens: each pod has one container with two probes, which pass each 10 s."""
+    probe = {"periodSeconds": 10}
+    spec = {"containers": [{"name": "app", "livenessProbe": probe, "readinessProbe": probe}]}
+    names = [f"web-{number}" for number in range(pods)]
+    moments = {name: [number % 10 + 10 * turn for turn in range(-10, seconds // 10 + 1)]
+               for number, name in enumerate(names)}
+    return {"begin": BEGIN, "pods": {f"shop/{name}": {"spec": spec} for name in names},
+            "containers": [{"id": f"c{number}", "pod": f"shop/{name}", "name": "app", "attempt": 0, "created": -101,
+                            "started": -100} for number, name in enumerate(names)],
+            "probes": [{"pod": f"shop/{name}", "container": "app", "probe": kind, "result": "success",
+                        "at": moments[name]} for name in names for kind in ("liveness", "readiness")],
+            "samples": {str(10 * turn - 5): {"memory": 4294967296 - 4096 * turn, "pods": {
+                f"uid-{name}": 100000000 + 4096 * turn for name in names}} for turn in range(seconds // 10 + 2)}}
+
+
+def size_of(every):
+    """What an hour of a quiet node with 30 pods makes, as tools/README.md says it."""
+    # some 8 s on a machine that does nothing else
+    status, trace, said = recorded(quiet_node(30, 3600), "--for", "3600", "--every", str(every), "--standard",
+                                   longest=5 * LONGEST)
+    expect(f"an hour of a quiet node, every {every} s", (status, said), (0, ""))
+    ticks = trace.count('"kind":"tick"')
+    return f"{ticks} ticks and {len(trace.encode()) / 10 ** 6:.1f} MB with `--every {every}`"
+
+
+def test_quiet_hour():
+    with ThreadPoolExecutor(2) as threads:
+        sizes = list(threads.map(size_of, (10, 60)))
+    page = " ".join(read(f"{TOOLS}/README.md").split())
+    expect("an hour of a quiet node: its size in tools/README.md", [size for size in sizes if size not in page], [])

@@ -13,8 +13,7 @@ from concurrent.futures import ThreadPoolExecutor
 
 from checks import HERE, LONGEST, REPLAY, TOOLS, TOP, expect, expect_kept, expect_refused, read, run
 
-sys.path[:0] = [f"{TOOLS}/lib", f"{TOP}/bench/lib/real_node"]
-import beside  # noqa: E402
+sys.path.insert(0, f"{TOOLS}/lib")
 from record import formats  # noqa: E402
 from record.node import node_line_of  # noqa: E402
 from record.pods import pods_of  # noqa: E402
@@ -86,20 +85,6 @@ def check_asked(recorder):
     expect("crash_loop: each start and each end is asked for once", (len(inspected), len(set(inspected))), (3, 2))
     expect("crash_loop: the configuration is asked for once", len([line for line in asked if "configz" in line]), 1)
     expect("crash_loop: the runtime is asked each time", asked.count("crictl ps -a -o json"), 5)
-
-
-def test_real_node():
-    """What a real kubelet showed is in its recording's report within two seconds, and docs/real.md has the table."""
-    report = read(f"{RECORDINGS}/real_node/report")
-    with gzip.open(f"{RECORDINGS}/real_node/shown.gz", "rt", encoding="utf-8") as file:
-        facts = beside.facts_from(file.read())
-    lines = []
-    expect("real_node: each fact is near one of the report's", beside.show_beside(facts, report, lines.append), True)
-    table = "".join(f"{line}\n" for text in lines for line in text.split("\n"))
-    before, _, rest = read(f"{TOP}/docs/real.md").partition("<!-- the table -->\n")
-    _, _, after = rest.partition("<!-- end of the table -->\n")
-    expect_kept("real_node: the table in docs", f"{before}<!-- the table -->\n```\n{table.strip()}\n```\n"
-                f"<!-- end of the table -->\n{after}", f"{TOP}/docs/real.md")
 
 
 def test_node_lines():

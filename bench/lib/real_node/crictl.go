@@ -24,7 +24,8 @@ const socket = "/run/containerd/containerd.sock"
 type object map[string]interface{}
 
 func fail(what string, err error) {
-	fmt.Fprintf(os.Stderr, "time=%q level=fatal msg=%q\n", time.Now().Format(time.RFC3339), fmt.Sprintf("%s: %v", what, err))
+	said := fmt.Sprintf("%s: %v", what, err)
+	fmt.Fprintf(os.Stderr, "time=%q level=fatal msg=%q\n", time.Now().Format(time.RFC3339), said)
 	os.Exit(1)
 }
 

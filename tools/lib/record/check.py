@@ -8,8 +8,12 @@ from .runtime import inspected_of, instances_of
 from .sources import Failed
 from .summary import Summary, summary_of
 
-PROXY = "it wants the permission to get nodes/proxy"
+PROXY = "it wants the permission to get nodes/proxy, and the node's name in the cluster as --node"
 PORT = "it is at the kubelet's port 10250, and wants the permission to get nodes/{what}"
+
+
+class NotAsked(Exception):
+    """A source that can't be asked; its text says why."""
 
 
 def wish(sources, what):
@@ -27,7 +31,7 @@ def runtime_checks(sources):
 
     def inspect_one():
         if not listed:
-            return "not asked: there is no container"
+            raise NotAsked("there is no container to ask for")
         newest = listed[-1]
         started = inspected_of(sources.inspected(newest.id), newest).started
         return f"{newest.container} " + ("has not started" if started is None else f"started at {int(started)}")
@@ -67,6 +71,8 @@ def check(sources, node, trace_format, show):
     for name, ask, wanted in checks_of(sources, node, trace_format):
         try:
             show(f"works    {name}: {ask()}")
+        except NotAsked as reason:
+            show(f"unasked  {name}: {reason}")
         except Failed as failed:
             works = False
             show(f"missing  {failed}; {wanted}")

@@ -98,7 +98,8 @@ class Observer:
     def take_pods(self, moment):
         self.asked_at[PODS] = moment
         pods = pods_of(self.sources.pods(), self.sources.pods_name())
-        self.known = {pod.uid for pod in pods}
+        # a pod that is no longer listed stays known, since its containers may have yet to exit
+        self.known |= {pod.uid for pod in pods}
         return pods
 
     def may_have_changed_pods(self, listed):

@@ -5,7 +5,7 @@ from typing import Optional
 
 from .formats import MOST_PODS
 from .probes import PROBES, grown, results_of
-from .runtime import EXITED, RUNNING, Container
+from .runtime import RUNNING, Container
 from .timeline import Timeline
 from .trace import line_of
 
@@ -51,6 +51,8 @@ class Recorder:
         self.timeline = Timeline(trace_format)
         self.recorded = {}
         self.left_out = set()
+        # the second behind which the last pod of a name is no more
+        self.gone_at = {}
         self.is_first = True
         self.is_behind = False
         self.begun = self.planned_at = self.listed_at = self.sampled_at = None
@@ -70,11 +72,11 @@ class Recorder:
             self.begun = self.planned_at = self.listed_at = self.sampled_at = seen.moment
             self.planned_counters = seen.counters
             self.timeline.place_look(seen.moment)
+        self.counters = self.counters if seen.counters is None else seen.counters
         if seen.pods is not None:
             self.take_pods(seen)
         if seen.instances is not None:
             self.take_instances(seen)
-        self.counters = self.counters if seen.counters is None else seen.counters
         self.take_summary(seen)
         has_both = seen.instances is not None and seen.counters is not None
         if has_both or seen.moment - self.planned_at > PATIENCE:
@@ -105,20 +107,20 @@ class Recorder:
             if recorded is None and pod.uid not in self.left_out:
                 self.arrive(pod, seen)
             elif pod.is_evicted and recorded is not None and recorded.is_followed:
-                self.see_evicted(recorded, seen.moment)
+                self.see_evicted(recorded, seen)
 
     def arrive(self, pod, seen):
         reason = self.reason_to_leave_out(pod)
         before = next((each for each in self.followed() if each.pod.key == pod.key), None)
-        gone_at = -1
         if reason is None and before is not None:
-            gone_at = self.depart(before, seen.moment)
+            self.depart(before, seen)
             reason = None if self.format.says_gone else ANEW
         if reason is not None:
             self.say(f"{pod.key} {reason}")
             self.left_out.add(pod.uid)
             return
-        moment = max(self.arrival_moment(pod, seen), gone_at + 1)
+        # its first container may have been made in the second in which the one before it went
+        moment = max(self.arrival_moment(pod, seen), self.gone_at.get(pod.key, -1) + 1)
         self.recorded[pod.uid] = Recorded(pod, self.timeline.place_arrival(pod, moment))
 
     def reason_to_leave_out(self, pod):
@@ -140,26 +142,35 @@ class Recorder:
         return min([seen.moment, *created])
 
     def miss(self, recorded, seen):
-        """A pod is no longer listed. It is gone once none of its containers is there to exit."""
+        """A pod is no longer listed. It is gone once each of its containers has exited with a code that is
+        known, or is no more."""
         if not self.format.says_gone:
             self.say(f"{recorded.pod.key} is gone, and the replay goes on with it: cut the trace where pods go")
         elif seen.instances is not None:
             instances = seen.instances.get(recorded.pod.uid, [])
-            if all(instance.state == EXITED for instance in instances):
-                self.follow(recorded, seen)
-                self.depart(recorded, seen.moment)
+            if all(instance.exit_code is not None for instance in instances):
+                self.depart(recorded, seen)
 
-    def see_evicted(self, recorded, moment):
-        self.say(f"{recorded.pod.key} was evicted by the kubelet, seen at {int(moment)}",
+    def see_evicted(self, recorded, seen):
+        self.say(f"{recorded.pod.key} was evicted by the kubelet, seen at {int(seen.moment)}",
                  ("evicted", recorded.pod.uid))
         if self.format.says_gone:
-            self.depart(recorded, moment)
+            self.depart(recorded, seen)
 
-    def depart(self, recorded, moment):
-        """A pod goes from the trace; the second behind which it is no more."""
-        self.plan_pod(recorded, moment)
+    def depart(self, recorded, seen):
+        """A pod goes from the trace, behind what the same look saw of its containers."""
+        if seen.instances is not None:
+            self.follow(recorded, seen)
+            recorded.changes = {name: self.last_changes(changes) for name, changes in recorded.changes.items()}
+        self.plan_pod(recorded, seen.moment)
         recorded.is_followed = False
-        return self.timeline.place_departure(recorded.pod, moment)
+        self.gone_at[recorded.pod.key] = self.timeline.place_departure(recorded.pod, seen.moment)
+
+    def last_changes(self, changes):
+        """The changes of a container whose pod goes. That it is no longer listed is said by that its pod goes, but for
+        a code that is lost: a line of a pod that goes ends no container."""
+        return [change for change in changes
+                if change.listing is not None or (self.format.says_gone and not change.is_quiet)]
 
     # --- containers and probes ---
 
@@ -206,8 +217,10 @@ class Recorder:
         found = []
         for probe in PROBES:
             series = pod.uid, name, probe
-            growth = grown(self.planned_counters.get(series, {}), self.counters.get(series, {}))
-            results = results_of(probe, growth, pod.period(name, probe), self.planned_at, moment)
+            before, now = self.planned_counters.get(series, {}), self.counters.get(series, {})
+            if now == before:
+                continue
+            results = results_of(probe, grown(before, now), pod.period(name, probe), self.planned_at, moment)
             if len(results) > 1:
                 self.say(f"{pod.key} {name} {probe}: {len(results)} results between two looks: their order and moments "
                          "are inferred, here and wherever it is so", "results")

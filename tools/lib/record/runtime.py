@@ -155,6 +155,10 @@ class Container:
         if self.attempt is not None and number <= self.attempt:
             self.say(f"{self.place}: attempt {instance.attempt} after {self.attempt} is written as {self.attempt + 1}")
             number = self.attempt + 1
+        missed = 0 if self.attempt is None else number - self.attempt - 1
+        if missed:
+            self.say(f"{self.place}: {missed} {'instance' if missed == 1 else 'instances'} before attempt {number} came "
+                     "and went unseen")
         self.shift = number - instance.attempt
         self.attempt = number
         self.newest, self.is_listed = replace(instance, state=CREATED), True

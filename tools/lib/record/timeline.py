@@ -107,7 +107,9 @@ class Timeline:
 
     def place_departure(self, pod, moment):
         """A pod goes, after all that happened in it; the second behind which it is no more."""
-        last = [second for (uid, *_), second in self.last_placed.items() if uid == pod.uid]
+        # where no line says it, the pod is in no tick of that second any more
+        behind = 0 if self.format.says_gone else 1
+        last = [second + behind for (uid, *_), second in self.last_placed.items() if uid == pod.uid]
         second = self.second_of(moment, *last)
         self.tick(second, True).departures.append(pod)
         return second

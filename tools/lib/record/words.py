@@ -24,8 +24,8 @@ is missing, and ends.
 
 It needs python3, crictl (as root, on the node) and
   kubectl  that may get nodes/proxy and list pods; or, with --kubelet,
-  curl     that asks the kubelet at URL, as https://127.0.0.1:10250; FILE is a curl configuration with its token and
-           certificate, as in: header = "Authorization: Bearer .."
+  curl     that asks the kubelet at URL, as https://127.0.0.1:10250; FILE is a curl configuration, with a line for the
+           token, as in: header = "Authorization: Bearer ..", and one for the certificate: cacert = "..", or insecure
 /configz is served at port 10250, which wants a permission, and by the API server's proxy; the read-only port 10255 does
 not serve it. --node-line FILE has a node line in its place.
 
@@ -155,6 +155,8 @@ def words_of(arguments):
     if curl_file is not None and not os.access(curl_file, os.R_OK):
         raise BadWord(f"--curl: '{curl_file}' can't be read")
     kubelet = given.get("--kubelet")
+    if kubelet is not None and not re.fullmatch("https?://[^/ ]+/?", kubelet):
+        raise BadWord(f"--kubelet takes a URL as https://127.0.0.1:10250, not '{kubelet}'")
     return Words(node, kubelet.rstrip("/") if kubelet else None, curl_file, node_line(given),
                  number(given, "--every", 10), number(given, "--look", 1), number(given, "--ticks", MOST_TICKS),
                  number(given, "--for", None), trace_format(given), "--check" in given)

@@ -3,6 +3,7 @@
 import gzip
 import json
 import time
+from bisect import bisect
 
 from record.sources import Failed
 
@@ -31,7 +32,7 @@ class Play:
     pods        {key: {"from", "until", "spec", "evicted"}}; a key may have a list of them, one after the other
     containers  {"id", "pod", "name", "attempt", "created", "started", "exited", "code", "removed", "lost"}: `lost` is
                 when `crictl inspect` no longer knows it while a list still has it
-    probes      {"pod", "container", "probe", "result", "at": [moments]}
+    probes      {"pod", "container", "probe", "result", "at": [moments that rise]}
     samples     {moment: {signal: value}} of the node, as the kubelet takes them
     fails       {"kind", "from", "until", "text"}: answers that do not come
     configz     the object `kubeletconfig`
@@ -108,7 +109,7 @@ class Play:
         counts = {}
         for each in self.script.get("probes", []):
             labels = (each["container"], self.uid(each), each["probe"].capitalize(), RESULTS[each["result"]])
-            counts[labels] = counts.get(labels, 0) + sum(at <= moment for at in each["at"])
+            counts[labels] = counts.get(labels, 0) + bisect(each["at"], moment)
         lines = [f'prober_probe_total{{container="{container}",pod_uid="{uid}",probe_type="{probe}",'
                  f'result="{result}"}} {count}' for (container, uid, probe, result), count in counts.items() if count]
         return "".join(f"{line}\n" for line in lines)

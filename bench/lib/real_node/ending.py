@@ -1,0 +1,121 @@
+"""How a run ends: it leaves no process and no mount behind, also when it is interrupted."""
+
+import ctypes
+import os
+import re
+import signal
+import subprocess
+import time
+from collections import Counter
+
+INTERRUPTS = (signal.SIGINT, signal.SIGTERM, signal.SIGHUP)
+PR_SET_CHILD_SUBREAPER = 36
+MOUNTS = "/proc/self/mountinfo"
+ESCAPED = re.compile(r"\\([0-7]{3})")
+
+
+class Interrupted(Exception):
+    """An interrupt; its text names the signal."""
+
+
+def hear_interrupts():
+    """From now on an interrupt is raised where the run is. Those after it are not heard, so that the end is whole."""
+    for number in INTERRUPTS:
+        signal.signal(number, interrupt)
+
+
+def interrupt(number, _):
+    hear_no_interrupts()
+    raise Interrupted(signal.Signals(number).name)
+
+
+def hear_no_interrupts():
+    for number in INTERRUPTS:
+        signal.signal(number, signal.SIG_IGN)
+
+
+# --- processes ---
+
+
+def adopt_orphans():
+    """From now on what descends from this process and loses its parent becomes its child, as the shims of a runtime
+    do: so each can be found and ended at the end."""
+    ctypes.CDLL(None, use_errno=True).prctl(PR_SET_CHILD_SUBREAPER, 1, 0, 0, 0)
+
+
+def parents():
+    """The parent of each process of the machine, by ids."""
+    found = {}
+    for name in filter(str.isdigit, os.listdir("/proc")):
+        try:
+            with open(f"/proc/{name}/stat", encoding="utf-8", errors="replace") as file:
+                # behind the command's name, which may have any characters: state, parent ..
+                found[int(name)] = int(file.read().rpartition(")")[2].split()[1])
+        except OSError:
+            continue
+    return found
+
+
+def descendants(root):
+    """The ids of all that descends from a process."""
+    of, found, wanted = parents(), set(), {root}
+    while wanted:
+        wanted = {child for child, parent in of.items() if parent in wanted} - found
+        found |= wanted
+    return found
+
+
+def end_descendants(seconds=20):
+    """Kills all that descends from this process; the ids of what is there after so many seconds."""
+    until = time.monotonic() + seconds
+    while True:
+        reap()
+        left = descendants(os.getpid())
+        if not left or time.monotonic() > until:
+            return left
+        for identity in left:
+            try:
+                os.kill(identity, signal.SIGKILL)
+            except ProcessLookupError:
+                pass
+        time.sleep(0.05)
+
+
+def reap():
+    """Takes the statuses of the children that have ended."""
+    try:
+        while os.waitpid(-1, os.WNOHANG)[0]:
+            pass
+    except ChildProcessError:
+        pass
+
+
+# --- mounts ---
+
+
+def mount_points(text=None):
+    """The places of mounts, in the order in which they were made."""
+    if text is None:
+        with open(MOUNTS, encoding="utf-8", errors="surrogateescape") as file:
+            text = file.read()
+    return [ESCAPED.sub(lambda found: chr(int(found[1], 8)), line.split(" ")[4]) for line in text.splitlines()]
+
+
+def made_since(before, now, folders):
+    """The mounts at or below some folders that were not there before, the newest first."""
+    old, made = Counter(before), []
+    for point in now:
+        if old[point]:
+            old[point] -= 1
+        elif any(point == folder or point.startswith(f"{folder}/") for folder in folders):
+            made.append(point)
+    return made[::-1]
+
+
+def unmount(before, folders):
+    """Takes away the mounts that a run has made at or below some folders; those that are left."""
+    for point in made_since(before, mount_points(), folders):
+        words = ["umount", point]
+        if subprocess.run(words, capture_output=True, check=False).returncode != 0:
+            subprocess.run([*words, "--lazy"], capture_output=True, check=False)
+    return made_since(before, mount_points(), folders)
