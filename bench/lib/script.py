@@ -60,3 +60,16 @@ def program_of(words):
     if not os.access(words[0], os.X_OK):
         raise Fault(f"there is no program {words[0]}", 2)
     return os.path.realpath(words[0])
+
+
+def write(path, text):
+    """Writes a file under another name first, so that a run that is stopped leaves no half of it."""
+    part = path + ".part"
+    with open(part, "w", encoding="utf-8") as file:
+        file.write(text)
+    os.replace(part, path)
+
+
+def output_of(words):
+    """What a command writes on standard output."""
+    return subprocess.run(words, stdin=subprocess.DEVNULL, stdout=subprocess.PIPE, text=True, check=False).stdout
