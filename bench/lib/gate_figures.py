@@ -6,6 +6,7 @@ import re
 from typing import NamedTuple
 
 import script
+from edits import paths_of
 
 KINDS = ("proof", "tests", "edits")
 COLUMNS = ("crate", "part", "seconds", "peak bytes", "dearest edit")
@@ -41,8 +42,7 @@ def made_anew(log):
 
 def edits_of(top, name):
     """How many edits the gate tries of a crate."""
-    folder = f"{top}/crates/{name}/must-fail"
-    return sum(it.endswith(".edit") for it in os.listdir(folder)) if os.path.isdir(folder) else 0
+    return len(paths_of(top, name, "must-fail"))
 
 
 def kept_with(top, measured, anew):

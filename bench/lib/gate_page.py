@@ -103,7 +103,8 @@ def text_of(top, below, found, run, machine, ticks):
     rows, sums = table(top, below, found)
     seconds = {task: figure.seconds for task, figure in found.items()}
     length, chain = longest_chain(seconds, below)
-    steps = [f"the {kind} of {name} ({minutes(seconds[name, kind])})" for name, kind in chain if (name, kind) in seconds]
+    steps = [f"the {kind} of {name} ({minutes(seconds[name, kind])})" for name, kind in chain
+             if (name, kind) in seconds]
     proofs, tests, edits = map(minutes, sums)
     head = HEAD.format(
         machine=machine, whole=minutes(sum(sums)), proofs=proofs, tests=tests, edits=edits, last=run.last,

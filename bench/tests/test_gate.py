@@ -1,5 +1,5 @@
-"""Tests of bench/gate: its parts with what was recorded, and the whole over theorem/small, where stand-ins are the gate,
-the kit and bench/ticks. gate/log has lines of a gate's log: those of proofs as a run of the kit wrote them, with other
+"""Tests of bench/gate: its parts with what was recorded, and the whole over theorem/small, where stand-ins take the
+place of the gate, the kit and bench/ticks. gate/log has lines of a gate's log: those of proofs as a run of the kit wrote them, with other
 names, those of edits and tests by the kit's words. gate/gate.md is the page for gate/gate.tsv and wrong_bodies.tsv."""
 import os
 import shutil
@@ -142,7 +142,8 @@ class Figures(Case):
         seconds = {("a", "proof"): 1, ("b", "proof"): 5, ("c", "proof"): 2, ("c", "tests"): 9, ("d", "proof"): 2}
         self.assertEqual(gate_figures.longest_chain(seconds, below), (10, [("a", "proof"), ("c", "tests")]))
         seconds["c", "tests"] = 1
-        self.assertEqual(gate_figures.longest_chain(seconds, below), (8, [("a", "proof"), ("b", "proof"), ("d", "proof")]))
+        self.assertEqual(gate_figures.longest_chain(seconds, below),
+                         (8, [("a", "proof"), ("b", "proof"), ("d", "proof")]))
 
 
 class Page(Case):
