@@ -9,6 +9,9 @@ TESTS = os.path.dirname(os.path.realpath(__file__))
 TOP = os.path.dirname(os.path.dirname(TESTS))
 sys.path.insert(0, os.path.join(TOP, "bench/lib"))
 SMALL = os.path.join(TESTS, "theorem/small")
+# stand-ins
+COMMANDS = os.path.join(TESTS, "commands")
+PATH_WITH_COMMANDS = f"{COMMANDS}:{os.environ['PATH']}"
 # a script that goes on by mistake ends all the same
 LONGEST = 60
 

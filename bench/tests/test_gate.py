@@ -1,6 +1,7 @@
 """Tests of bench/gate: its parts with what was recorded, and the whole over theorem/small, where stand-ins take the
-place of the gate, the kit and bench/ticks. gate/log has lines of a gate's log: those of proofs as a run of the kit wrote them, with other
-names, those of edits and tests by the kit's words. gate/gate.md is the page for gate/gate.tsv and wrong_bodies.tsv."""
+place of the gate, the kit and bench/ticks. gate/log has lines of a gate's log: those of proofs as a run of the kit
+wrote them, with other names, those of edits and tests by the kit's words. gate/gate.md is the page for gate/gate.tsv
+and gate/wrong_bodies.tsv."""
 import os
 import shutil
 import subprocess
@@ -67,6 +68,9 @@ class Words(Case):
             os.symlink("/bin/true", os.path.join(path, "rt"))
             self.assertEqual(run("gate", PATH=path), (
                 127, "", "bench/gate: a C compiler (cc) is missing; the gate needs it\n"))
+            os.symlink("/bin/true", os.path.join(path, "cc"))
+            self.assertEqual(run("gate", "--costs", PATH=path), (
+                127, "", "bench/gate: hyperfine is missing: apt-get install hyperfine; it measures the seconds\n"))
 
     def test_a_crate_that_is_none_is_refused(self):
         with tempfile.TemporaryDirectory() as top:

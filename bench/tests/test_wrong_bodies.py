@@ -1,5 +1,6 @@
 """Tests of bench/wrong_bodies: its parts, and the whole over theorem/small with the edits of wrong_bodies/edits, where
-wrong_bodies/rt takes the place of the kit. Its words have the form of a check's, and follow from what the edits write."""
+wrong_bodies/rt takes the place of the kit. Its words have the form of a check's, and follow from what the edits
+write."""
 import os
 import shutil
 import subprocess
