@@ -2,7 +2,7 @@
 import os
 import tempfile
 
-from common import COMMANDS, PATH_WITH_COMMANDS, Case, commands_in, run, write
+from common import PATH_WITH_COMMANDS, Case, commands_in, run, write
 import script
 import timing
 
@@ -28,7 +28,7 @@ class Timing(Case):
 
 class Ticks(Case):
     def test_the_tables(self):
-        status, said, fault = run("ticks", f"{COMMANDS}/replay", PATH=PATH_WITH_COMMANDS)
+        status, said, fault = run("ticks", "/bin/true", PATH=PATH_WITH_COMMANDS)
         self.assertEqual((status, fault), (0, ""))
         lines = said.splitlines()
         self.assertEqual(lines[0], " ticks      bytes  seconds    MB/s  peak MB")

@@ -36,11 +36,11 @@ class Helgrind(Case):
 class Workers(Case):
     def test_reports_that_are_the_same(self):
         self.assertEqual(run("workers", "--same", "2", REPLAY), (
-            0, "2 runs with 4 workers and 2 with 64: each report is that of 1 worker, 1340 bytes\n", ""))
+            0, "2 runs with 4 workers and 2 with 64: each report is that of 1 worker, 58 bytes\n", ""))
 
     def test_reports_that_differ(self):
         self.assertEqual(run("workers", "--same", OTHER), (
-            1, "", "run 1 with workers=4 differs from 1 worker at line 131:\nb''\nb'more\\n'\n"))
+            1, "", "run 1 with workers=4 differs from 1 worker at line 3:\nb''\nb'more\\n'\n"))
 
     def test_costs(self):
         status, said, fault = run("workers", REPLAY)
