@@ -47,7 +47,7 @@ def commands_in(room, *names):
     folder = os.path.join(room, "commands")
     os.makedirs(folder)
     for name in names:
-        os.symlink(shutil.which(name), os.path.join(folder, name))
+        os.symlink(sys.executable if name == "python3" else shutil.which(name), os.path.join(folder, name))
     return folder
 
 

@@ -81,6 +81,8 @@ class Words(Case):
 
 
 class Watched(Case):
+    """The crates of these tests are none of the repository's: bench/gate may be watching them."""
+
     def start(self, *words, cwd="/"):
         child = subprocess.Popen([sys.executable, "-c", "import sys\nprint(flush=True)\nsys.stdin.read()", *words],
                                  stdin=subprocess.PIPE, stdout=subprocess.PIPE, cwd=cwd)
@@ -91,24 +93,24 @@ class Watched(Case):
     def test_what_a_process_works_for(self):
         with tempfile.TemporaryDirectory(prefix="rt-edit-") as folder:
             for words, cwd, task in (
-                (["--crate-name", "phase"], "/", ("phase", "proof")),
-                (["--test", "--crate-name", "phase"], "/", ("phase", "tests")),
-                (["--crate-name", "phase"], folder, ("phase", "edits")),
-                (["/tmp/rt-run-x1/bin/case_runner"], "/", ("case_runner", "tests")),
-                (["/tmp/rt-run-x1/bin/phase_tests"], "/", ("phase", "tests")),
+                (["--crate-name", "marks"], "/", ("marks", "proof")),
+                (["--test", "--crate-name", "marks"], "/", ("marks", "tests")),
+                (["--crate-name", "marks"], folder, ("marks", "edits")),
+                (["/tmp/rt-run-x1/bin/mark_tests"], "/", ("mark_tests", "tests")),
+                (["/tmp/rt-run-x1/bin/marks_tests"], "/", ("marks", "tests")),
                 (["bench/refused_memory"], "/", ("replay_program", "tests")),
                 (["--crates"], "/", None),
             ):
                 pid = self.start(*words, cwd=cwd)
-                self.assertEqual(gate_watch.task_of(pid, ["phase", "case_runner"]), task, words)
+                self.assertEqual(gate_watch.task_of(pid, ["marks", "mark_tests"]), task, words)
 
     def test_processes_below_a_task_work_for_it(self):
         child = f"import subprocess, sys\nsubprocess.run([sys.executable, '-c', '''{WORK}'''])\n"
-        with subprocess.Popen(["sh", "-c", f'{sys.executable} -c "$0" --crate-name phase; true', child]) as gate_:
-            measured = gate_watch.measure(gate_, ["phase"])
-        self.assertEqual(list(measured), [("phase", "proof")])
-        self.assertGreater(measured["phase", "proof"].seconds, 0.2)
-        self.assertGreater(measured["phase", "proof"].peak, 1 << 20)
+        with subprocess.Popen(["sh", "-c", f'{sys.executable} -c "$0" --crate-name marks; true', child]) as gate_:
+            measured = gate_watch.measure(gate_, ["marks"])
+        self.assertEqual(list(measured), [("marks", "proof")])
+        self.assertGreater(measured["marks", "proof"].seconds, 0.2)
+        self.assertGreater(measured["marks", "proof"].peak, 1 << 20)
 
 
 class Figures(Case):
@@ -201,7 +203,8 @@ class Whole(Case):
         self.assertFalse(os.path.exists(f"{self.top}/docs/gate.md"))
 
     def test_a_gate_of_some_crates(self):
-        self.assertEqual(gate(self.top, "text", GATE_ENDS="0"), (0, "104 passed, 0 failed\nbench/gate.tsv is written\n", ""))
+        self.assertEqual(gate(self.top, "text", GATE_ENDS="0"), (
+            0, "104 passed, 0 failed\nbench/gate.tsv is written\n", ""))
         self.assertFalse(os.path.exists(f"{self.top}/docs/gate.md"))
 
     def test_costs(self):

@@ -1,7 +1,9 @@
 """Tests of bench/lint over a small repository, where stand-ins take the place of shellcheck and pyflakes3."""
 import os
+import shutil
 import subprocess
 import tempfile
+import unittest
 
 from common import PATH_WITH_COMMANDS, Case, commands_in, run, write
 
@@ -13,6 +15,7 @@ OTHERS = {"k": "", "l.md": "#!/bin/sh\n"[1:], "m": "sh\n", "n": "#!/usr/bin/awk 
 ALL = "9 files were looked at: 6 of shell, 3 of Python\n"
 
 
+@unittest.skipUnless(shutil.which("git"), "git is missing")
 class Lint(Case):
     def setUp(self):
         self.top = self.enterContext(tempfile.TemporaryDirectory())
