@@ -1,4 +1,6 @@
 """What the tests of the scripts share: where things are, a run of a script, and a small repository to run it over."""
+import importlib.machinery
+import importlib.util
 import os
 import shutil
 import subprocess
@@ -21,6 +23,14 @@ def run(script, *words, **settings):
     done = subprocess.run([os.path.join(TOP, "bench", script), *words], stdin=subprocess.DEVNULL, capture_output=True,
                           text=True, check=False, timeout=LONGEST, env={**os.environ, **settings})
     return done.returncode, done.stdout, done.stderr
+
+
+def loaded(script):
+    """A script of bench/ as a module."""
+    loader = importlib.machinery.SourceFileLoader(script, os.path.join(TOP, "bench", script))
+    module = importlib.util.module_from_spec(importlib.util.spec_from_loader(script, loader))
+    loader.exec_module(module)
+    return module
 
 
 def read(*path):

@@ -7,7 +7,7 @@ import os
 import re
 import tempfile
 
-from common import COMMANDS, TOP, Case, read, run, write
+from common import COMMANDS, TOP, Case, loaded, read, run, write
 import answers
 import mutations
 import shapes
@@ -97,6 +97,32 @@ class Shapes(Case):
         line = shapes.filled(b"<", b"[0", b",0", b"]", b">")
         self.assertTrue(shapes.MIB - 2 < len(line) <= shapes.MIB)
         self.assertTrue(line.startswith(b"<[0,0") and line.endswith(b",0]>"))
+
+
+class ShapeAnswers(Case):
+    def test_what_a_shape_was_answered(self):
+        hostile = loaded("hostile")
+        with tempfile.TemporaryDirectory() as room:
+            runner = hostile.Runner("/bin/true", room)
+            for status, written, said, answer in (
+                (0, REPORT.decode(), "", ("report, 58 bytes", True)),
+                (0, REPORT.decode().replace("totals", "x\n" * 9000 + "totals"), "", ("report, 18058 bytes", True)),
+                (0, "x\n" * 9000, "", ("!status 0 without a whole report", False)),
+                (1, "", "input too long\n", ("input too long", True)),
+                (2, "", "line 7: 34 Order\n", ("line 7: 34 Order", True)),
+                (-9, "", "", ("!ended by SIGKILL", False)),
+            ):
+                write(written, runner.written)
+                write(said, runner.said)
+                self.assertEqual(hostile.shape_answer(runner, status, FAULTS), answer)
+
+    def test_a_run_has_its_answer_and_its_end(self):
+        hostile = loaded("hostile")
+        with tempfile.TemporaryDirectory() as room:
+            runner = hostile.Runner("/bin/sh", room)
+            self.assertEqual(runner.answer(["-c", "echo a; echo b >&2; exit 3"]), (3, b"a\n", b"b\n"))
+            self.assertEqual(runner.run(["-c", "sleep 20"], seconds=1)[0], -9)
+            self.assertEqual(runner.answer(["-c", "ulimit -d"], kib=40_000), (0, b"40000\n", b""))
 
 
 class Whole(Case):

@@ -3,7 +3,7 @@ instructions, of which core::fmt::write takes 200, a quarter of its calls' by ku
 import os
 import tempfile
 
-from common import TESTS, Case, commands_in, read, run
+from common import COMMANDS, PATH_WITH_COMMANDS, TESTS, Case, commands_in, read, run
 import callgrind
 import profile_tables
 
@@ -66,6 +66,20 @@ class Tables(Case):
         lines = read(TESTS, "profile/costs").splitlines(True)
         profiles = {name: callgrind.Profile(lines, OURS) for name in ("both", "once")}
         self.assertEqual("\n".join(profile_tables.tables(profiles)) + "\n", TABLES)
+
+    def test_the_whole(self):
+        program = f"{COMMANDS}/replay"
+        status, said, told = run("profile", program, PATH=PATH_WITH_COMMANDS)
+        self.assertEqual((status, told), (
+            0, f"bench/profile: callgrind runs {program} over small_pods small_ticks small_lines\n"))
+        # kubelet_replay and trace are crates of the repository too
+        self.assertEqual(said.splitlines()[2:4], ["all of them                small_pods  small_ticks  small_lines",
+                                                  "our crates                      44.0%        44.0%        44.0%"])
+
+    def test_a_run_that_fails(self):
+        status, said, told = run("profile", "/bin/false", PATH=PATH_WITH_COMMANDS)
+        self.assertEqual((status, said, told.splitlines()[-1]), (
+            1, "", "bench/profile: the run over small_pods failed"))
 
     def test_words(self):
         for words in (("--all",), ("/bin/true", "2")):

@@ -1,8 +1,11 @@
-"""Tests of bench/speed: its page, speed/speed.md, from given figures."""
+"""Tests of bench/speed: its runs, and its page, speed/speed.md, from given figures."""
+import contextlib
+import io
 import os
 import tempfile
 
-from common import TESTS, Case, commands_in, read, run
+from common import COMMANDS, TESTS, Case, commands_in, loaded, read, run, write
+import script
 import speed_page
 from speed_page import Trace
 
@@ -20,6 +23,44 @@ SECONDS = {
 PEAKS = {key: 16_000_000 if key[1] == 0 else 100_000_000 + 1_000_000 * key[1] for key in SECONDS}
 MEASURED = speed_page.Measured(TRACES, 5, SECONDS, PEAKS, 15_500_000)
 MACHINE = speed_page.Machine("4 processors, 24 GB", "kit", "rustc 1.95.0", "1.0.87")
+
+
+BASELINE = "#!/bin/sh\nwc -l <\"$1\"\n"
+
+
+class Runs(Case):
+    """The runs of bench/speed over traces of some lines, where stand-ins are the program and the baseline."""
+
+    def setUp(self):
+        self.speed, self.work = loaded("speed"), self.enterContext(tempfile.TemporaryDirectory())
+        self.speed.ROUNDS = 2
+        os.makedirs(os.path.dirname(f"{self.work}/{self.speed.BASELINE}"))
+        write(BASELINE, self.work, self.speed.BASELINE)
+        os.chmod(f"{self.work}/{self.speed.BASELINE}", 0o755)
+        for name in TRACES:
+            write("one\ntwo\n", self.work, f"{name}.trace")
+
+    def measured(self, program):
+        with contextlib.redirect_stderr(io.StringIO()) as said:
+            return self.speed.Runs(program, self.work).measure(), said.getvalue()
+
+    def test_what_is_measured(self):
+        measured, said = self.measured(f"{COMMANDS}/replay")
+        self.assertEqual(said, "bench/speed: round 1 of 2\nbench/speed: round 2 of 2\n")
+        self.assertEqual(measured.traces["many_pods"], Trace(1, 2, 0, 8, 2))
+        self.assertEqual(measured.traces["ticks_6000"], Trace(1, 2, 0, 8, None))
+        self.assertEqual({*measured.seconds}, {*SECONDS})
+        self.assertEqual({*measured.peaks}, {*PEAKS})
+        self.assertGreater(measured.floor, 1 << 20)
+
+    def test_runs_that_end_it(self):
+        with self.assertRaises(script.Fault) as fault:
+            self.measured(f"{COMMANDS}/other_replay")
+        self.assertEqual(str(fault.exception), "the report of many_pods with workers=2 is not that of 1 worker")
+        with self.assertRaises(script.Fault) as fault:
+            self.measured("/bin/false")
+        self.assertEqual(str(fault.exception),
+                         f"/bin/false run {self.work}/ticks_2000.trace --workers 1 ended with 1")
 
 
 class Page(Case):
