@@ -1,5 +1,6 @@
 """The crates of crates.txt, storey by storey: a line `## Rules` begins a storey, and the line above a crate's own
-says in some words what it has."""
+says in some words what it has. All of bench/ that is Python reads them here; bench/lib/current.sh reads which crate
+stands on which by itself, since ./kubelet_replay wants no python3."""
 import os
 from typing import NamedTuple
 
@@ -15,21 +16,40 @@ class Crate(NamedTuple):
 
 def read_crates(top):
     """The crates in the order of the file. A file without storeys, or with one of another name, is a ValueError."""
-    found, storey, words = [], None, ""
     with open(os.path.join(top, "crates.txt"), encoding="utf-8") as file:
-        lines = file.read().split("\n")
-    for number, line in enumerate(lines, 1):
+        return crates_in(file.read())
+
+
+def crates_in(text):
+    found, storey, words = [], None, ""
+    for number, line in enumerate(text.split("\n"), 1):
+        name, colon, below = line.partition("#")[0].partition(":")
         if line.startswith("## "):
             storey, words = line[3:].strip(), ""
             if storey not in STOREYS:
                 raise ValueError(f"crates.txt:{number}: no storey is called {storey}; they are {', '.join(STOREYS)}")
         elif line.startswith("#"):
             words = line[1:].strip()
-        elif ":" in line:
-            name, _, below = line.partition("#")[0].partition(":")
+        elif colon:
             if storey is None:
                 raise ValueError(f"crates.txt:{number}: {name.strip()} stands in no storey; '## Base' begins one")
-            found.append(Crate(name.split()[0], storey, words, below.split()))
+            found.append(Crate(name.strip(), storey, words, below.split()))
             words = ""
     names = {crate.name for crate in found}
     return [crate._replace(below=[name for name in crate.below if name in names]) for crate in found]
+
+
+def below_of(top):
+    """Of each crate, in the order of the file, the crates of the repository that it names."""
+    return {crate.name: crate.below for crate in read_crates(top)}
+
+
+def standing_below(below, name):
+    """The crate and all that it stands on; each is looked at once, since there are many ways down to it."""
+    found, left = set(), [name]
+    while left:
+        name = left.pop()
+        if name not in found:
+            found.add(name)
+            left += below[name]
+    return found

@@ -1,0 +1,110 @@
+"""What processes cost: the processor seconds and the peak memory of one that this one ran, of those that there are,
+and of the machine."""
+import os
+import re
+import resource
+import subprocess
+import threading
+import time
+from typing import NamedTuple
+
+TICK = os.sysconf("SC_CLK_TCK")
+
+
+class Cost(NamedTuple):
+    """Of a run."""
+    status: int    # negative by a signal
+    seconds: float
+    peak: int      # bytes; never below what this process had when it began the run
+
+
+class Process(NamedTuple):
+    """Of a process that there is."""
+    parent: int
+    seconds: float  # of processors, with those of children that it waited for
+    start: str
+
+
+def peak_of(used):
+    """The most memory that an ended process has held, in bytes, by what the system says that it used."""
+    return used.ru_maxrss * 1024
+
+
+def run(words, given=subprocess.DEVNULL, written=subprocess.DEVNULL, longest=None):
+    """Runs a command from its begin to its end, which comes after so many seconds at the latest."""
+    started = time.monotonic()
+    child = subprocess.Popen(words, stdin=given, stdout=written)
+    timer = threading.Timer(longest, child.kill) if longest else None
+    if timer:
+        timer.daemon = True
+        timer.start()
+    _, status, used = os.wait4(child.pid, 0)
+    seconds = time.monotonic() - started
+    if timer:
+        timer.cancel()
+    child.returncode = os.waitstatus_to_exitcode(status)
+    return Cost(child.returncode, seconds, peak_of(used))
+
+
+def children_seconds():
+    """The processor seconds of all processes below this one that have ended and were waited for."""
+    used = resource.getrusage(resource.RUSAGE_CHILDREN)
+    return used.ru_utime + used.ru_stime
+
+
+def own_seconds():
+    """The processor seconds of this process."""
+    used = resource.getrusage(resource.RUSAGE_SELF)
+    return used.ru_utime + used.ru_stime
+
+
+def machine_seconds():
+    """The processor seconds that the whole machine has worked."""
+    with open("/proc/stat", encoding="ascii") as file:
+        words = file.readline().split()[1:]
+    return sum(int(words[at]) for at in (0, 1, 2, 5, 6)) / TICK
+
+
+def all_processes():
+    """Every process by its number."""
+    found = {}
+    for pid in filter(str.isdigit, os.listdir("/proc")):
+        if text := read(pid, "stat"):
+            found[int(pid)] = process_of(text)
+    return found
+
+
+def process_of(text):
+    """A process by its file stat, in which a name with blanks and brackets may stand."""
+    words = text.rpartition(")")[2].split()
+    return Process(int(words[1]), sum(map(int, words[11:15])) / TICK, words[19])
+
+
+def children_in(found):
+    """Of each process its children."""
+    children = {}
+    for pid, process in found.items():
+        children.setdefault(process.parent, []).append(pid)
+    return children
+
+
+def read(pid, name):
+    """A file of a process, empty where it has ended."""
+    try:
+        with open(f"/proc/{pid}/{name}", encoding="utf-8", errors="replace") as file:
+            return file.read()
+    except OSError:
+        return ""
+
+
+def memory_of(pid):
+    """The most memory that a process has held, in bytes; 0 where it has ended."""
+    held = re.search(r"VmHWM:\s+(\d+)", read(pid, "status"))
+    return 1024 * int(held[1]) if held else 0
+
+
+def machine():
+    """What the machine has, in words."""
+    with open("/proc/meminfo", encoding="ascii") as file:
+        memory = int(file.readline().split()[1]) / 1024 ** 2
+    return f"{len(os.sched_getaffinity(0))} processors, {memory:.0f} GB"

@@ -1,0 +1,65 @@
+"""What the tests of the scripts share: where things are, a run of a script, and a small repository to run it over."""
+import importlib.machinery
+import importlib.util
+import os
+import shutil
+import subprocess
+import sys
+import unittest
+
+TESTS = os.path.dirname(os.path.realpath(__file__))
+TOP = os.path.dirname(os.path.dirname(TESTS))
+sys.path.insert(0, os.path.join(TOP, "bench/lib"))
+SMALL = os.path.join(TESTS, "theorem/small")
+# stand-ins
+COMMANDS = os.path.join(TESTS, "commands")
+PATH_WITH_COMMANDS = f"{COMMANDS}:{os.environ['PATH']}"
+# a script that goes on by mistake ends all the same
+LONGEST = 60
+
+
+def run(script, *words, **settings):
+    """The status, the output and the errors of a script of bench/."""
+    done = subprocess.run([os.path.join(TOP, "bench", script), *words], stdin=subprocess.DEVNULL, capture_output=True,
+                          text=True, check=False, timeout=LONGEST, env={**os.environ, **settings})
+    return done.returncode, done.stdout, done.stderr
+
+
+def loaded(script):
+    """A script of bench/ as a module."""
+    loader = importlib.machinery.SourceFileLoader(script, os.path.join(TOP, "bench", script))
+    module = importlib.util.module_from_spec(importlib.util.spec_from_loader(script, loader))
+    loader.exec_module(module)
+    return module
+
+
+def read(*path):
+    with open(os.path.join(*path), encoding="utf-8") as file:
+        return file.read()
+
+
+def write(text, *path):
+    with open(os.path.join(*path), "w", encoding="utf-8") as file:
+        file.write(text)
+
+
+def lay_over(folder, copy):
+    """The files of the folder in the copy, each by its name without `.text`."""
+    for at, _, names in os.walk(folder):
+        room = os.path.join(copy, os.path.relpath(at, folder))
+        os.makedirs(room, exist_ok=True)
+        for name in names:
+            shutil.copyfile(os.path.join(at, name), os.path.join(room, name.removesuffix(".text")))
+
+
+def commands_in(room, *names):
+    """A PATH with these commands of the machine alone."""
+    folder = os.path.join(room, "commands")
+    os.makedirs(folder)
+    for name in names:
+        os.symlink(sys.executable if name == "python3" else shutil.which(name), os.path.join(folder, name))
+    return folder
+
+
+class Case(unittest.TestCase):
+    maxDiff = 2000

@@ -1,0 +1,56 @@
+"""Tests of what measures processes."""
+import os
+import subprocess
+import sys
+import tempfile
+
+from common import Case
+import processes
+
+STAT = "77 (a) b (c) S 12 77 77 0 -1 4194304 90 5 0 0 150 50 25 75 20 0 1 0 4321 8192 100 0 0"
+# holds 64 MiB, and works for some tenths of a second
+WORK = "import time\nheld = bytearray(64 << 20)\nwhile time.process_time() < 0.2: pass"
+
+
+class Processes(Case):
+    def test_a_run_is_measured(self):
+        before = processes.children_seconds()
+        cost = processes.run([sys.executable, "-c", WORK])
+        self.assertEqual(cost.status, 0)
+        self.assertGreater(cost.seconds, 0.15)
+        self.assertGreater(cost.peak, 64 << 20)
+        self.assertGreater(processes.children_seconds() - before, 0.15)
+
+    def test_a_run_is_given_a_file_and_writes_one(self):
+        with tempfile.TemporaryFile() as given, tempfile.TemporaryFile() as written:
+            given.write(b"text")
+            given.seek(0)
+            self.assertEqual(processes.run(["cat"], given, written).status, 0)
+            written.seek(0)
+            self.assertEqual(written.read(), b"text")
+
+    def test_a_run_is_ended(self):
+        cost = processes.run(["sleep", "20"], longest=0.1)
+        self.assertEqual(cost.status, -9)
+        self.assertLess(cost.seconds, 10)
+
+    def test_processes_that_there_are(self):
+        with subprocess.Popen([sys.executable, "-c", WORK + "\nprint(1, flush=True)\nopen(0).read()"],
+                              stdin=subprocess.PIPE, stdout=subprocess.PIPE) as child:
+            child.stdout.readline()
+            found = processes.all_processes()
+            held = processes.memory_of(child.pid)
+            child.stdin.close()
+        self.assertEqual(found[child.pid].parent, os.getpid())
+        self.assertIn(child.pid, processes.children_in(found)[os.getpid()])
+        self.assertGreater(found[child.pid].seconds, 0.15)
+        self.assertGreater(held, 64 << 20)
+        self.assertEqual((processes.memory_of(child.pid), processes.read(child.pid, "stat")), (0, ""))
+
+    def test_a_process_by_its_file(self):
+        self.assertEqual(processes.process_of(STAT), processes.Process(12, 300 / processes.TICK, "4321"))
+
+    def test_the_machine(self):
+        self.assertRegex(processes.machine(), r"^\d+ processors, \d+ GB$")
+        self.assertGreater(processes.machine_seconds(), 0)
+        self.assertGreater(processes.own_seconds(), 0)
