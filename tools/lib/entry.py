@@ -16,10 +16,17 @@ class Fault(Exception):
         self.status = status
 
 
+def standard_input():
+    """Standard input as bytes, where the shell has not closed it."""
+    if sys.stdin is None:
+        raise Fault("standard input is closed")
+    return sys.stdin.buffer
+
+
 def read_report():
     """The report of standard input."""
     try:
-        return reports.read_report(sys.stdin.buffer.read().decode("utf-8", "replace"))
+        return reports.read_report(standard_input().read().decode("utf-8", "replace"))
     except reports.ReportFault as fault:
         raise Fault(str(fault)) from None
     except OSError as fault:
@@ -28,6 +35,11 @@ def read_report():
 
 def run(tool, main):
     """The status of a tool: that of main, or of a fault, 1 where standard output takes no more."""
+    if sys.stderr is None:
+        sys.stderr = open(os.devnull, "w", encoding="utf-8")
+    if sys.stdout is None:
+        print(f"{tool}: standard output is closed", file=sys.stderr)
+        return 1
     try:
         status = main(sys.argv[1:])
         sys.stdout.flush()

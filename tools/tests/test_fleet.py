@@ -197,8 +197,10 @@ def test_fleet_progress():
 def test_fleet_refused():
     folder = make_traces()
     stood = {"<TRACES>": f"{folder}/traces", "<NEW>": f"{folder}/new.db", "<OTHER>": f"{folder}/other",
-             "<DB>": f"{folder}/fleet.db", "<SQLITE>": f"{folder}/sqlite", "<EMPTY>": f"{folder}/empty"}
+             "<DB>": f"{folder}/fleet.db", "<SQLITE>": f"{folder}/sqlite", "<EMPTY>": f"{folder}/empty",
+             "<PIPE>": f"{folder}/pipe"}
     os.mkdir(stood["<EMPTY>"])
+    os.mkfifo(stood["<PIPE>"])
     with open(stood["<OTHER>"], "w") as file:
         file.write("something else\n")
     connection = sqlite3.connect(stood["<SQLITE>"])
@@ -218,6 +220,24 @@ def test_fleet_refused():
     expect_refused("fleet without the program", answer, 127, "/nonexistent/program is missing")
     answer = run([FLEET, "run", stood["<TRACES>"], "--out", stood["<NEW>"]], KUBELET_REPLAY="/bin/true")
     expect_refused("fleet with another program", answer, 127, "/bin/true writes no report")
+    shutil.rmtree(folder)
+
+
+def test_program_of_a_checkout():
+    """What many processes run is the program that ./kubelet_replay of a checkout built, not that script."""
+    folder = tempfile.mkdtemp()
+    built = f"{folder}/crates/replay_program/out/replay_program"
+    os.makedirs(os.path.dirname(built))
+    shutil.copytree(f"{TOOLS}/lib", f"{folder}/tools/lib")
+    for path in (f"{folder}/kubelet_replay", built):
+        with open(path, "w") as file:
+            file.write("#!/bin/sh\nprintf 'node n1 pods=0 ticks=0\\n'\n")
+        os.chmod(path, 0o755)
+    ask = [sys.executable, "-c", "import program; print(program.checked_path())"]
+    settings = {"PYTHONPATH": f"{folder}/tools/lib", "KUBELET_REPLAY": ""}
+    expect("the program of a checkout", run(ask, **settings), (0, f"{built}\n", ""))
+    os.remove(built)
+    expect("the program of a release", run(ask, **settings), (0, f"{folder}/kubelet_replay\n", ""))
     shutil.rmtree(folder)
 
 

@@ -34,6 +34,7 @@ def make_folder():
     for name, text in (("trace", TRACE), ("report", report.replace("node made", "node kept")), ("refused", "{}\n")):
         with open(f"{folder}/{name}", "w") as file:
             file.write(text)
+    os.mkfifo(f"{folder}/pipe")
     return folder
 
 

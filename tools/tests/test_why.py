@@ -150,6 +150,9 @@ def test_refused_whys():
         for tool in ("why", "story"):
             answer = run([f"{TOOLS}/{tool}", "shop/web", "--trace", f"{folder}/trace"], read(report))
             expect_refused(f"{tool}: a trace {name}", answer, 2, words)
+    os.truncate(f"{folder}/trace", (64 << 20) + 1)
+    answer = run([f"{TOOLS}/why", "shop/web", "--trace", f"{folder}/trace"], read(report))
+    expect_refused("why: a trace that is too long", answer, 2, "it has more than 64 MiB")
     shutil.rmtree(folder)
     expect_refused("why: a trace that is not there",
                    run([f"{TOOLS}/why", "shop/web", "--trace", "/nonexistent"], read(report)), 2, "can't be read")

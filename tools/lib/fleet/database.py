@@ -28,6 +28,8 @@ def check_replaceable(path):
 
 def open_database(path):
     """A connection that reads."""
+    if os.path.exists(path) and not (os.path.isfile(path) or os.path.isdir(path)):
+        raise entry.Fault(f"{path} is a device or a pipe, and no database of tools/fleet")
     try:
         with open(path, "rb"):
             pass
