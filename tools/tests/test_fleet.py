@@ -1,5 +1,5 @@
-"""The tests of tools/fleet: its tables, what is kept, runs that end in the middle, what is refused; and Dask distributed
-and pyarrow where they are there."""
+"""The tests of tools/fleet: its tables, what is kept, runs that end in the middle, what is refused; and Dask
+distributed and pyarrow where they are there."""
 
 import glob
 import os
@@ -99,7 +99,8 @@ def test_fleet_begins_again():
     first, program_runs = content(f"{folder}/fleet.db"), runs_counted(folder)
     expect("fleet: each trace is replayed once, after one try", program_runs, count + 1)
     run(words, **settings)
-    expect("fleet again: nothing is replayed", (runs_counted(folder), content(f"{folder}/fleet.db") == first), (1, True))
+    again = content(f"{folder}/fleet.db")
+    expect("fleet again: nothing is replayed", (runs_counted(folder), again == first), (1, True))
     shutil.copy(f"{folder}/traces/crash_loop.trace", f"{folder}/traces/cut.trace")
     run(words, **settings)
     changed = content(f"{folder}/fleet.db")
@@ -260,7 +261,8 @@ def test_fleet_parquet():
         expect("fleet without pyarrow leaves nothing", os.listdir(folder), ["traces"])
         python, settings = sys.executable, {"PYTHONPATH": f"{KEPT}/stand_in"}
     expect("fleet --parquet", run([python, *words], **settings)[::2], (0, ""))
-    show = "import sys, pyarrow.parquet as p; print([list(row.values()) for row in p.read_table(sys.argv[1]).to_pylist()])"
+    show = ("import sys, pyarrow.parquet as parquet\n"
+            "print([list(row.values()) for row in parquet.read_table(sys.argv[1]).to_pylist()])")
     connection = sqlite3.connect(f"{folder}/fleet.db")
     for table in ("traces", "nodes", "pods", "containers", "conditions", "evictions"):
         rows = [list(row) for row in connection.execute(f"SELECT * FROM {table} ORDER BY rowid")]

@@ -14,7 +14,8 @@ KEPT = f"{HERE}/kubectl"
 TOOL_NAMES = ("record", "story", "why", "timeline", "page", "json", "what-if", "fleet")
 TRACE = ('{"kind":"node","name":"made"}\n'
          '{"kind":"pod","pod":{"metadata":{"name":"web","namespace":"shop"},"spec":{"containers":[{"name":"app"}]}}}\n'
-         '{"kind":"pod","pod":{"metadata":{"name":"other","namespace":"shop"},"spec":{"containers":[{"name":"app"}]}}}\n'
+         '{"kind":"pod","pod":{"metadata":{"name":"other","namespace":"shop"},'
+         '"spec":{"containers":[{"name":"app"}]}}}\n'
          '{"kind":"pod","pod":{"metadata":{"name":"plain"},"spec":{"containers":[{"name":"app"}]}}}\n')
 # a plugin completes its words by itself since then
 FIRST_WITH_COMPLETION = 26

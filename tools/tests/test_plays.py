@@ -42,7 +42,8 @@ def results(chance, each, container):
         period = container.get(field, {}).get("periodSeconds")
         run_seconds = each["exited"] - each["started"] if {"started", "exited"} <= set(each) else 0
         count = int(run_seconds / period) if period else 0
-        made += [{"pod": each["pod"], "container": each["name"], "probe": probe, "at": [each["started"] + period * turn],
+        made += [{"pod": each["pod"], "container": each["name"], "probe": probe,
+                  "at": [each["started"] + period * turn],
                   "result": chance.choice(["success", "success", "failure"])} for turn in range(1, count + 1)]
     return made
 
