@@ -179,19 +179,30 @@ def test_fleet_failures():
     shutil.rmtree(folder)
 
 
-def test_fleet_progress():
-    folder = make_traces()
+def shown_on_terminal(words):
+    """What a run shows on standard error, which is a terminal."""
     master, terminal = pty.openpty()
-    process = subprocess.Popen([FLEET, "run", f"{folder}/traces", "--out", f"{folder}/fleet.db"], stderr=terminal,
-                               stdout=subprocess.DEVNULL, env={**os.environ, "KUBELET_REPLAY": REPLAY})
+    process = subprocess.Popen(words, stderr=terminal, stdout=subprocess.DEVNULL,
+                               env={**os.environ, "KUBELET_REPLAY": REPLAY})
     os.close(terminal)
     process.wait()
     shown = os.read(master, 1 << 16).decode()
     os.close(master)
+    return shown
+
+
+def test_fleet_progress():
+    folder = make_traces()
+    words = [FLEET, "run", f"{folder}/traces", "--out", f"{folder}/fleet.db"]
     total = len(glob.glob(f"{folder}/traces/**/*.trace", recursive=True))
+    shown = shown_on_terminal(words)
     expect("fleet shows how far it is on a terminal",
            (bool(re.match(rf"\r\x1b\[K1 of {total} traces, . refused, 0 failed, about \d+ s left", shown)),
             shown.endswith("\r\x1b[K")), (True, True))
+    os.remove(next(iter(glob.glob(f"{folder}/fleet.db.done/first_tick-*.rows.gz"))))
+    shown = shown_on_terminal(words)
+    expect("fleet shows what is kept from before", shown.split("\r\x1b[K")[1],
+           f"1 of {total} traces, 1 kept from before, 0 refused, 0 failed")
     shutil.rmtree(folder)
 
 

@@ -39,6 +39,8 @@ def run(order):
     program_sum = programs.sum_of(order.program)
     store = kept.Kept(order.database + ".done", program_sum)
     tasks = [(path, None if order.anew else store.known(path)) for path in order.paths]
+    # what is kept comes first, so that the time which is left is that of the others
+    tasks.sort(key=lambda task: task[1] is None)
     if scheduler:
         with scheduler.connected(order.scheduler) as client:
             failed = taken(scheduler.answers(tasks, order.program, program_sum, client), store, len(tasks))
