@@ -2,6 +2,7 @@
 
 from __future__ import annotations
 
+import io
 import os
 import sys
 
@@ -33,13 +34,39 @@ def read_report():
         raise Fault(f"standard input can't be read: {fault.strerror}") from None
 
 
+class OutputFault(OSError):
+    """Standard output takes no more."""
+
+
+class Output(io.FileIO):
+    """Standard output, with faults that can be told from those of other files."""
+
+    def write(self, data):
+        try:
+            return super().write(data)
+        except BrokenPipeError:
+            raise
+        except OSError as fault:
+            raise OutputFault(fault.errno, fault.strerror) from None
+
+
+def standard_output():
+    """Standard output with a buffer also where PYTHONUNBUFFERED takes it away: without one a write that is cut short,
+    as on a full disk, would be no fault."""
+    plain = sys.stdout
+    buffer = io.BufferedWriter(Output(plain.fileno(), "wb", closefd=False))
+    return io.TextIOWrapper(buffer, plain.encoding, plain.errors, line_buffering=plain.isatty())
+
+
 def run(tool, main):
-    """The status of a tool: that of main, or of a fault, 1 where standard output takes no more."""
+    """The status of a tool: that of main, or of a fault, 1 where standard output takes no more or the system refuses
+    something that no tool expects."""
     if sys.stderr is None:
         sys.stderr = open(os.devnull, "w", encoding="utf-8")
     if sys.stdout is None:
         print(f"{tool}: standard output is closed", file=sys.stderr)
         return 1
+    sys.stdout = standard_output()
     try:
         status = main(sys.argv[1:])
         sys.stdout.flush()
@@ -52,8 +79,9 @@ def run(tool, main):
         os.dup2(os.open(os.devnull, os.O_WRONLY), sys.stdout.fileno())
         return 1
     except OSError as fault:
+        output = "standard output takes no more: " if isinstance(fault, OutputFault) else ""
         os.dup2(os.open(os.devnull, os.O_WRONLY), sys.stdout.fileno())
-        print(f"{tool}: standard output takes no more: {fault.strerror}", file=sys.stderr)
+        print(f"{tool}: {output}{fault.strerror or fault}", file=sys.stderr)
         return 1
     except KeyboardInterrupt:
         return 130

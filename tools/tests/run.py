@@ -194,6 +194,18 @@ def test_closed_streams():
         expect_refused(f"{words}, with standard output closed", answer, 1, "standard output is closed")
 
 
+def test_full_disks():
+    """What does not fit is said, also where Python is told not to buffer; a limit of a file's size is the full disk."""
+    report, folder = f"{TOP}/examples/liveness_kill.report", tempfile.mkdtemp()
+    for words in ("story shop/web-0", "timeline", "page", "json", "kubectl-replay json",
+                  f"why shop/web-0 --trace {TOP}/examples/liveness_kill.trace"):
+        for unbuffered in ("", "1"):
+            answer = run(["sh", "-c", f"ulimit -f 1; exec '{TOOLS}'/{words} <'{report}' >'{folder}/out'"],
+                         PYTHONUNBUFFERED=unbuffered)
+            expect_refused(f"{words}, on a full disk {unbuffered}", answer, 1, "standard output takes no more")
+    shutil.rmtree(folder)
+
+
 def test_help():
     for tool in ("record", "story", "timeline", "what-if", "json", "why", "page", "fleet"):
         status, help_text, said = run([f"{TOOLS}/{tool}", "--help"])

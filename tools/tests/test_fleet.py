@@ -307,6 +307,7 @@ def test_fleet_on_dask():
     os.environ["KUBELET_REPLAY"] = REPLAY
     answer = run([python, *words, f"{folder}/none.db", "--scheduler", cluster.address])
     expect_refused("fleet: a scheduler that does not answer", answer, 2, "does not answer")
+    expect("it leaves nothing", glob.glob(f"{folder}/none.db*"), [])
     shutil.rmtree(folder)
 
 

@@ -71,6 +71,9 @@ def test_kubectl_refused():
         answer = run([f"{folder}/tools/kubectl-replay", *words.replace("FOLDER", folder).split()], report,
                      **with_stand_ins(folder, REPLAY))
         expect_refused(f"kubectl replay {words}", answer, int(status), said.replace("FOLDER", folder))
+    answer = run(["sh", "-c", f"ulimit -f 0; exec '{TOOLS}/kubectl-replay' story -f '{folder}/trace' shop/web"],
+                 TMPDIR="/nonexistent")
+    expect_refused("kubectl replay without a place for a report", answer, 1, "No usable temporary directory")
     answer = run([f"{TOOLS}/kubectl-replay", "story", "-f", f"{folder}/trace", "shop/web"],
                  KUBELET_REPLAY="/nonexistent/program")
     expect_refused("kubectl replay without the program", answer, 127, "/nonexistent/program is missing")

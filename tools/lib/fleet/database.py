@@ -19,6 +19,8 @@ TABLES = ("traces", *(tables.TABLES[kind][0] for kind in work.KINDS))
 
 def check_replaceable(path):
     """Only a fleet's database is replaced by another."""
+    if not os.path.basename(path) and not os.path.isdir(path):
+        raise entry.Fault(f"'{path}' can't be written: it names no file")
     if os.path.exists(path):
         open_database(path).close()
     folder = os.path.dirname(os.path.abspath(path))
