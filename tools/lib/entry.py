@@ -72,7 +72,8 @@ def run(tool, main):
         sys.stdout.flush()
         return status
     except Fault as fault:
-        print(f"{tool}: {fault}", file=sys.stderr)
+        # a word that was given may have the end of a line in it
+        print(f"{tool}: {fault}".replace("\n", "\\n"), file=sys.stderr)
         return fault.status
     except BrokenPipeError:
         # what is still held must not be written once more as the interpreter ends
