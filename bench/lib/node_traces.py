@@ -6,6 +6,8 @@ import random
 
 EVERY = 10
 """seconds between two ticks"""
+MOST_TICKS = 240
+"""of a trace, whose ticks are a quarter of them at least"""
 REFUSED_EVERY = 20
 SIGNALS = {"memory.available": ("4Gi", "50Mi"), "nodefs.available": ("60Gi", "4Gi"), "pid.available": ("20000", "90")}
 NODE = {
@@ -14,11 +16,11 @@ NODE = {
 }
 
 
-def trace(seed, number):
+def trace(seed, number, most_ticks=MOST_TICKS):
     """The lines of a trace, as one text."""
     chance = random.Random(f"{seed}/{number}")
     pods = [pod(chance, place) for place in range(chance.randint(2, 8))]
-    ticks = chance.randint(60, 240)
+    ticks = chance.randint(most_ticks // 4, most_ticks)
     pressed = pressure(chance, ticks)
     lines = [{**NODE, "name": f"worker-{number:05}"}, *({"kind": "pod", "pod": made["manifest"]} for made in pods)]
     lines += [tick(chance, pods, at, pressed) for at in range(ticks)]

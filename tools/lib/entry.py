@@ -2,6 +2,7 @@
 
 from __future__ import annotations
 
+import io
 import os
 import sys
 
@@ -16,32 +17,72 @@ class Fault(Exception):
         self.status = status
 
 
+def standard_input():
+    """Standard input as bytes, where the shell has not closed it."""
+    if sys.stdin is None:
+        raise Fault("standard input is closed")
+    return sys.stdin.buffer
+
+
 def read_report():
     """The report of standard input."""
     try:
-        return reports.read_report(sys.stdin.buffer.read().decode("utf-8", "replace"))
+        return reports.read_report(standard_input().read().decode("utf-8", "replace"))
     except reports.ReportFault as fault:
         raise Fault(str(fault)) from None
     except OSError as fault:
         raise Fault(f"standard input can't be read: {fault.strerror}") from None
 
 
+class OutputFault(OSError):
+    """Standard output takes no more."""
+
+
+class Output(io.FileIO):
+    """Standard output, with faults that can be told from those of other files."""
+
+    def write(self, data):
+        try:
+            return super().write(data)
+        except BrokenPipeError:
+            raise
+        except OSError as fault:
+            raise OutputFault(fault.errno, fault.strerror) from None
+
+
+def standard_output():
+    """Standard output with a buffer also where PYTHONUNBUFFERED takes it away: without one a write that is cut short,
+    as on a full disk, would be no fault."""
+    plain = sys.stdout
+    buffer = io.BufferedWriter(Output(plain.fileno(), "wb", closefd=False))
+    return io.TextIOWrapper(buffer, plain.encoding, plain.errors, line_buffering=plain.isatty())
+
+
 def run(tool, main):
-    """The status of a tool: that of main, or of a fault, 1 where standard output takes no more."""
+    """The status of a tool: that of main, or of a fault, 1 where standard output takes no more or the system refuses
+    something that no tool expects."""
+    if sys.stderr is None:
+        sys.stderr = open(os.devnull, "w", encoding="utf-8")
+    if sys.stdout is None:
+        print(f"{tool}: standard output is closed", file=sys.stderr)
+        return 1
+    sys.stdout = standard_output()
     try:
         status = main(sys.argv[1:])
         sys.stdout.flush()
         return status
     except Fault as fault:
-        print(f"{tool}: {fault}", file=sys.stderr)
+        # a word that was given may have the end of a line in it
+        print(f"{tool}: {fault}".replace("\n", "\\n"), file=sys.stderr)
         return fault.status
     except BrokenPipeError:
         # what is still held must not be written once more as the interpreter ends
         os.dup2(os.open(os.devnull, os.O_WRONLY), sys.stdout.fileno())
         return 1
     except OSError as fault:
+        output = "standard output takes no more: " if isinstance(fault, OutputFault) else ""
         os.dup2(os.open(os.devnull, os.O_WRONLY), sys.stdout.fileno())
-        print(f"{tool}: standard output takes no more: {fault.strerror}", file=sys.stderr)
+        print(f"{tool}: {output}{fault.strerror or fault}", file=sys.stderr)
         return 1
     except KeyboardInterrupt:
         return 130

@@ -9,6 +9,8 @@ import subprocess
 import entry
 
 TOP = os.path.dirname(os.path.dirname(os.path.dirname(os.path.realpath(__file__))))
+# in a checkout ./kubelet_replay is a script that builds this program, and looks at each run whether it is current
+BUILT = "crates/replay_program/out/replay_program"
 SMALLEST = b'{"kind":"node","name":"n1"}\n'
 
 
@@ -19,7 +21,8 @@ def path():
 
 def checked_path():
     """The path of a program that writes reports. In a checkout this builds it where that is due, once and before
-    many processes ask for it; so what it says is not held back."""
+    many processes ask for it; so what it says is not held back. What is given is then the built program itself, whose
+    sum is another one where it is another program."""
     found = path()
     try:
         done = subprocess.run([found, "run", "/dev/stdin"], input=SMALLEST, stdout=subprocess.PIPE, check=False)
@@ -27,7 +30,8 @@ def checked_path():
         raise entry.Fault(f"{found} is missing or can't be started: {fault.strerror}", 127) from None
     if done.returncode != 0 or not done.stdout.startswith(b"node n1 "):
         raise entry.Fault(f"{found} writes no report (status {done.returncode})", 127)
-    return found
+    built = os.path.join(TOP, BUILT)
+    return built if found == os.path.join(TOP, "kubelet_replay") and os.access(built, os.X_OK) else found
 
 
 def sum_of(found):

@@ -56,6 +56,9 @@ def write_database(path, fill, kinds=tuple(TABLES)):
     folder = os.path.dirname(os.path.abspath(path))
     if os.path.isdir(path):
         raise IsADirectoryError("it is a folder")
+    if os.path.exists(path) and not os.path.isfile(path):
+        # a new file in its place would take a device away, /dev/null from all
+        raise OSError("it is a device or a pipe")
     with tempfile.TemporaryDirectory(dir=folder, prefix=".tables-") as work:
         made = os.path.join(work, "tables")
         connection = sqlite3.connect(made)

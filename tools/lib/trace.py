@@ -16,6 +16,8 @@ SIGNALS = ("memory.available", "nodefs.available", "imagefs.available", "nodefs.
 BYTE_SIGNALS = SIGNALS[:3]
 DEFAULT_HARD = {"memory.available": "100Mi", "nodefs.available": "10%", "imagefs.available": "15%",
                 "nodefs.inodesFree": "5%", "imagefs.inodesFree": "5%"}
+# what the program takes
+LONGEST_TRACE = 64 << 20
 USAGES = ("memory", "volumes", "logs", "writable", "inodes", "pids")
 
 
@@ -187,9 +189,11 @@ def read_trace(path):
     """The trace of a file. Raises TraceFault."""
     try:
         with open(path, "rb") as file:
-            text = file.read()
+            text = file.read(LONGEST_TRACE + 1)
     except OSError as fault:
         raise TraceFault(f"{path} can't be read: {fault.strerror}") from None
+    if len(text) > LONGEST_TRACE:
+        raise TraceFault(f"{path} is no trace: it has more than 64 MiB")
     trace, present = None, {}
     for number, line in enumerate(text.split(b"\n"), 1):
         if not line.strip(b" \t\r"):

@@ -186,8 +186,31 @@ def test_words():
         expect_refused(f"{tool} of a strange pod", strange, 2, "no pod shop/strange")
 
 
+def test_closed_streams():
+    report = f"{TOP}/examples/liveness_kill.report"
+    asked = ["story shop/web-0", f"why shop/web-0 --trace {TOP}/examples/liveness_kill.trace", "timeline", "page",
+             "json", "kubectl-replay json"]
+    for words in asked:
+        answer = run(["sh", "-c", f"exec '{TOOLS}'/{words} <&-"])
+        expect_refused(f"{words}, with standard input closed", answer, 2, "standard input is closed")
+        answer = run(["sh", "-c", f"exec '{TOOLS}'/{words} <'{report}' >&-"])
+        expect_refused(f"{words}, with standard output closed", answer, 1, "standard output is closed")
+
+
+def test_full_disks():
+    """What does not fit is said, also where Python is told not to buffer; a limit of a file's size is the full disk."""
+    report, folder = f"{TOP}/examples/liveness_kill.report", tempfile.mkdtemp()
+    for words in ("story shop/web-0", "timeline", "page", "json", "kubectl-replay json",
+                  f"why shop/web-0 --trace {TOP}/examples/liveness_kill.trace"):
+        for unbuffered in ("", "1"):
+            answer = run(["sh", "-c", f"ulimit -f 1; exec '{TOOLS}'/{words} <'{report}' >'{folder}/out'"],
+                         PYTHONUNBUFFERED=unbuffered)
+            expect_refused(f"{words}, on a full disk {unbuffered}", answer, 1, "standard output takes no more")
+    shutil.rmtree(folder)
+
+
 def test_help():
-    for tool in ("record", "story", "timeline", "what-if", "json", "why", "page"):
+    for tool in ("record", "story", "timeline", "what-if", "json", "why", "page", "fleet"):
         status, help_text, said = run([f"{TOOLS}/{tool}", "--help"])
         found = [words in help_text for words in (f"usage: tools/{tool} ", "It needs", "leaves out", "Status 0")]
         expect(f"{tool} --help", (status, said, found), (0, "", [True] * 4))
@@ -205,6 +228,7 @@ def test_missing_commands():
         ("what-if", ["."], "jq"), ("what-if", ["."], "diff"),
         ("story", ["a/b"], "python3"), ("timeline", [], "python3"),
         ("json", [], "python3"), ("why", ["a/b"], "python3"), ("page", [], "python3"),
+        ("fleet", [], "python3"), ("kubectl-replay", [], "python3"), ("kubectl_complete-replay", [], "python3"),
         ("test", [], "python3"), ("test", [], "jq"),
     ):
         folder = tempfile.mkdtemp()

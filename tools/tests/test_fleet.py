@@ -1,5 +1,5 @@
-"""The tests of tools/fleet: its tables, what is kept, runs that end in the middle, what is refused; and Dask distributed
-and pyarrow where they are there."""
+"""The tests of tools/fleet: its tables, what is kept, runs that end in the middle, what is refused; and Dask
+distributed and pyarrow where they are there."""
 
 import glob
 import os
@@ -99,7 +99,8 @@ def test_fleet_begins_again():
     first, program_runs = content(f"{folder}/fleet.db"), runs_counted(folder)
     expect("fleet: each trace is replayed once, after one try", program_runs, count + 1)
     run(words, **settings)
-    expect("fleet again: nothing is replayed", (runs_counted(folder), content(f"{folder}/fleet.db") == first), (1, True))
+    again = content(f"{folder}/fleet.db")
+    expect("fleet again: nothing is replayed", (runs_counted(folder), again == first), (1, True))
     shutil.copy(f"{folder}/traces/crash_loop.trace", f"{folder}/traces/cut.trace")
     run(words, **settings)
     changed = content(f"{folder}/fleet.db")
@@ -178,27 +179,40 @@ def test_fleet_failures():
     shutil.rmtree(folder)
 
 
-def test_fleet_progress():
-    folder = make_traces()
+def shown_on_terminal(words):
+    """What a run shows on standard error, which is a terminal."""
     master, terminal = pty.openpty()
-    process = subprocess.Popen([FLEET, "run", f"{folder}/traces", "--out", f"{folder}/fleet.db"], stderr=terminal,
-                               stdout=subprocess.DEVNULL, env={**os.environ, "KUBELET_REPLAY": REPLAY})
+    process = subprocess.Popen(words, stderr=terminal, stdout=subprocess.DEVNULL,
+                               env={**os.environ, "KUBELET_REPLAY": REPLAY})
     os.close(terminal)
     process.wait()
     shown = os.read(master, 1 << 16).decode()
     os.close(master)
+    return shown
+
+
+def test_fleet_progress():
+    folder = make_traces()
+    words = [FLEET, "run", f"{folder}/traces", "--out", f"{folder}/fleet.db"]
     total = len(glob.glob(f"{folder}/traces/**/*.trace", recursive=True))
+    shown = shown_on_terminal(words)
     expect("fleet shows how far it is on a terminal",
            (bool(re.match(rf"\r\x1b\[K1 of {total} traces, . refused, 0 failed, about \d+ s left", shown)),
             shown.endswith("\r\x1b[K")), (True, True))
+    os.remove(next(iter(glob.glob(f"{folder}/fleet.db.done/first_tick-*.rows.gz"))))
+    shown = shown_on_terminal(words)
+    expect("fleet shows what is kept from before", shown.split("\r\x1b[K")[1],
+           f"1 of {total} traces, 1 kept from before, 0 refused, 0 failed")
     shutil.rmtree(folder)
 
 
 def test_fleet_refused():
     folder = make_traces()
     stood = {"<TRACES>": f"{folder}/traces", "<NEW>": f"{folder}/new.db", "<OTHER>": f"{folder}/other",
-             "<DB>": f"{folder}/fleet.db", "<SQLITE>": f"{folder}/sqlite", "<EMPTY>": f"{folder}/empty"}
+             "<DB>": f"{folder}/fleet.db", "<SQLITE>": f"{folder}/sqlite", "<EMPTY>": f"{folder}/empty",
+             "<PIPE>": f"{folder}/pipe"}
     os.mkdir(stood["<EMPTY>"])
+    os.mkfifo(stood["<PIPE>"])
     with open(stood["<OTHER>"], "w") as file:
         file.write("something else\n")
     connection = sqlite3.connect(stood["<SQLITE>"])
@@ -221,6 +235,24 @@ def test_fleet_refused():
     shutil.rmtree(folder)
 
 
+def test_program_of_a_checkout():
+    """What many processes run is the program that ./kubelet_replay of a checkout built, not that script."""
+    folder = tempfile.mkdtemp()
+    built = f"{folder}/crates/replay_program/out/replay_program"
+    os.makedirs(os.path.dirname(built))
+    shutil.copytree(f"{TOOLS}/lib", f"{folder}/tools/lib")
+    for path in (f"{folder}/kubelet_replay", built):
+        with open(path, "w") as file:
+            file.write("#!/bin/sh\nprintf 'node n1 pods=0 ticks=0\\n'\n")
+        os.chmod(path, 0o755)
+    ask = [sys.executable, "-c", "import program; print(program.checked_path())"]
+    settings = {"PYTHONPATH": f"{folder}/tools/lib", "KUBELET_REPLAY": ""}
+    expect("the program of a checkout", run(ask, **settings), (0, f"{built}\n", ""))
+    os.remove(built)
+    expect("the program of a release", run(ask, **settings), (0, f"{folder}/kubelet_replay\n", ""))
+    shutil.rmtree(folder)
+
+
 def python_with(module):
     """A python3 that has a module, or None."""
     for python in (sys.executable, "/usr/bin/python3"):
@@ -240,7 +272,8 @@ def test_fleet_parquet():
         expect("fleet without pyarrow leaves nothing", os.listdir(folder), ["traces"])
         python, settings = sys.executable, {"PYTHONPATH": f"{KEPT}/stand_in"}
     expect("fleet --parquet", run([python, *words], **settings)[::2], (0, ""))
-    show = "import sys, pyarrow.parquet as p; print([list(row.values()) for row in p.read_table(sys.argv[1]).to_pylist()])"
+    show = ("import sys, pyarrow.parquet as parquet\n"
+            "print([list(row.values()) for row in parquet.read_table(sys.argv[1]).to_pylist()])")
     connection = sqlite3.connect(f"{folder}/fleet.db")
     for table in ("traces", "nodes", "pods", "containers", "conditions", "evictions"):
         rows = [list(row) for row in connection.execute(f"SELECT * FROM {table} ORDER BY rowid")]
@@ -274,6 +307,7 @@ def test_fleet_on_dask():
     os.environ["KUBELET_REPLAY"] = REPLAY
     answer = run([python, *words, f"{folder}/none.db", "--scheduler", cluster.address])
     expect_refused("fleet: a scheduler that does not answer", answer, 2, "does not answer")
+    expect("it leaves nothing", glob.glob(f"{folder}/none.db*"), [])
     shutil.rmtree(folder)
 
 

@@ -5,6 +5,7 @@ import json
 import os
 import shutil
 import sqlite3
+import stat
 import tempfile
 
 from checks import HERE, TOOLS, TOP, expect, expect_kept, expect_refused, read, run
@@ -91,9 +92,14 @@ def test_tables():
 def test_unwritable_tables():
     folder = tempfile.mkdtemp()
     report = read(f"{LINES}/came_again.report")
-    for name, path in (("no folder", f"{folder}/none/node.db"), ("a folder", folder), ("/proc", "/proc/node.db")):
+    pipe = f"{folder}/pipe"
+    os.mkfifo(pipe)
+    for name, path in (("no folder", f"{folder}/none/node.db"), ("a folder", folder), ("/proc", "/proc/node.db"),
+                       ("a pipe", pipe)):
         expect_refused(f"json --sqlite to {name}", run([f"{TOOLS}/json", "--sqlite", path], report), 2,
                        "can't be written")
+    expect("json --sqlite takes no pipe away", stat.S_ISFIFO(os.stat(pipe).st_mode), True)
+    os.remove(pipe)
     kept = f"{folder}/kept.db"
     with open(kept, "w") as file:
         file.write("kept")

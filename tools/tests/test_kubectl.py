@@ -14,7 +14,8 @@ KEPT = f"{HERE}/kubectl"
 TOOL_NAMES = ("record", "story", "why", "timeline", "page", "json", "what-if", "fleet")
 TRACE = ('{"kind":"node","name":"made"}\n'
          '{"kind":"pod","pod":{"metadata":{"name":"web","namespace":"shop"},"spec":{"containers":[{"name":"app"}]}}}\n'
-         '{"kind":"pod","pod":{"metadata":{"name":"other","namespace":"shop"},"spec":{"containers":[{"name":"app"}]}}}\n'
+         '{"kind":"pod","pod":{"metadata":{"name":"other","namespace":"shop"},'
+         '"spec":{"containers":[{"name":"app"}]}}}\n'
          '{"kind":"pod","pod":{"metadata":{"name":"plain"},"spec":{"containers":[{"name":"app"}]}}}\n')
 # a plugin completes its words by itself since then
 FIRST_WITH_COMPLETION = 26
@@ -34,6 +35,7 @@ def make_folder():
     for name, text in (("trace", TRACE), ("report", report.replace("node made", "node kept")), ("refused", "{}\n")):
         with open(f"{folder}/{name}", "w") as file:
             file.write(text)
+    os.mkfifo(f"{folder}/pipe")
     return folder
 
 
@@ -69,6 +71,9 @@ def test_kubectl_refused():
         answer = run([f"{folder}/tools/kubectl-replay", *words.replace("FOLDER", folder).split()], report,
                      **with_stand_ins(folder, REPLAY))
         expect_refused(f"kubectl replay {words}", answer, int(status), said.replace("FOLDER", folder))
+    answer = run(["sh", "-c", f"ulimit -f 0; exec '{TOOLS}/kubectl-replay' story -f '{folder}/trace' shop/web"],
+                 TMPDIR="/nonexistent")
+    expect_refused("kubectl replay without a place for a report", answer, 1, "No usable temporary directory")
     answer = run([f"{TOOLS}/kubectl-replay", "story", "-f", f"{folder}/trace", "shop/web"],
                  KUBELET_REPLAY="/nonexistent/program")
     expect_refused("kubectl replay without the program", answer, 127, "/nonexistent/program is missing")

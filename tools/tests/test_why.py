@@ -150,6 +150,9 @@ def test_refused_whys():
         for tool in ("why", "story"):
             answer = run([f"{TOOLS}/{tool}", "shop/web", "--trace", f"{folder}/trace"], read(report))
             expect_refused(f"{tool}: a trace {name}", answer, 2, words)
+    os.truncate(f"{folder}/trace", (64 << 20) + 1)
+    answer = run([f"{TOOLS}/why", "shop/web", "--trace", f"{folder}/trace"], read(report))
+    expect_refused("why: a trace that is too long", answer, 2, "it has more than 64 MiB")
     shutil.rmtree(folder)
     expect_refused("why: a trace that is not there",
                    run([f"{TOOLS}/why", "shop/web", "--trace", "/nonexistent"], read(report)), 2, "can't be read")
@@ -158,7 +161,7 @@ def test_refused_whys():
 def test_refused_words_of_why():
     trace, report = trace_and_report("file_system")
     for pod, said in (("default/lat", "nearest: default/late"), ("late", "nearest: default/late"),
-                      ("zzzzz", "a pod is NAMESPACE/NAME")):
+                      ("zzzzz", "a pod is NAMESPACE/NAME"), ("zz\nzz", "no pod zz\\nzz; a pod is")):
         expect_refused(f"why {pod}", run([f"{TOOLS}/why", pod, "--trace", trace], read(report)), 2, said)
         expect_refused(f"story {pod}", run([f"{TOOLS}/story", pod], read(report)), 2, said)
     for words, said in (([], "one pod, not 0"), (["a/b", "c/d", "--trace", trace], "one pod, not 2"),

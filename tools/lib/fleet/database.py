@@ -19,6 +19,8 @@ TABLES = ("traces", *(tables.TABLES[kind][0] for kind in work.KINDS))
 
 def check_replaceable(path):
     """Only a fleet's database is replaced by another."""
+    if not os.path.basename(path) and not os.path.isdir(path):
+        raise entry.Fault(f"'{path}' can't be written: it names no file")
     if os.path.exists(path):
         open_database(path).close()
     folder = os.path.dirname(os.path.abspath(path))
@@ -28,6 +30,8 @@ def check_replaceable(path):
 
 def open_database(path):
     """A connection that reads."""
+    if os.path.exists(path) and not (os.path.isfile(path) or os.path.isdir(path)):
+        raise entry.Fault(f"{path} is a device or a pipe, and no database of tools/fleet")
     try:
         with open(path, "rb"):
             pass

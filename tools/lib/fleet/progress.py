@@ -12,7 +12,7 @@ class Progress:
     """Counts answers, and shows how many there are where standard error is a terminal."""
 
     def __init__(self, total):
-        self.total, self.done, self.refused, self.failed = total, 0, 0, 0
+        self.total, self.done, self.kept, self.refused, self.failed = total, 0, 0, 0, 0
         self.began = time.monotonic()
         self.shown = self.began - EVERY
         self.is_seen = sys.stderr.isatty()
@@ -22,13 +22,20 @@ class Progress:
         self.refused += status == "refused"
         self.failed += status == "failed"
         now = time.monotonic()
+        if status == "known":
+            # what was kept says nothing of how long the rest takes
+            self.kept, self.began = self.kept + 1, now
         if self.is_seen and now - self.shown >= EVERY:
             self.shown = now
-            self.show((now - self.began) / self.done * (self.total - self.done))
+            self.show(now - self.began)
 
     def show(self, seconds):
-        sys.stderr.write(f"\r\x1b[K{self.done} of {self.total} traces, {self.refused} refused, {self.failed} failed, "
-                         f"about {seconds:.0f} s left")
+        replayed = self.done - self.kept
+        said = f"{self.done} of {self.total} traces"
+        said += f", {self.kept} kept from before" if self.kept else ""
+        said += f", {self.refused} refused, {self.failed} failed"
+        said += f", about {seconds / replayed * (self.total - self.done):.0f} s left" if replayed else ""
+        sys.stderr.write(f"\r\x1b[K{said}")
         sys.stderr.flush()
 
     def end(self):

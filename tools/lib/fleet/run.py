@@ -2,6 +2,7 @@
 
 from __future__ import annotations
 
+import contextlib
 import importlib
 from dataclasses import dataclass
 
@@ -34,16 +35,17 @@ def run(order):
     database.check_replaceable(order.database)
     scheduler = part("scheduler") if order.scheduler else None
     parquet = part("parquet") if order.parquet else None
-    if parquet:
-        parquet.make_folder(order.parquet)
     program_sum = programs.sum_of(order.program)
-    store = kept.Kept(order.database + ".done", program_sum)
-    tasks = [(path, None if order.anew else store.known(path)) for path in order.paths]
-    if scheduler:
-        with scheduler.connected(order.scheduler) as client:
-            failed = taken(scheduler.answers(tasks, order.program, program_sum, client), store, len(tasks))
-    else:
-        failed = taken(local.answers(tasks, order.program, program_sum, order.processes), store, len(tasks))
+    with scheduler.connected(order.scheduler) if scheduler else contextlib.nullcontext() as client:
+        if parquet:
+            parquet.make_folder(order.parquet)
+        store = kept.Kept(order.database + ".done", program_sum)
+        tasks = [(path, None if order.anew else store.known(path)) for path in order.paths]
+        # what is kept comes first, so that the time which is left is that of the others
+        tasks.sort(key=lambda task: task[1] is None)
+        coming = (scheduler.answers(tasks, order.program, program_sum, client) if scheduler else
+                  local.answers(tasks, order.program, program_sum, order.processes))
+        failed = taken(coming, store, len(tasks))
     database.write(order.database, order.paths, store, failed)
     if parquet:
         parquet.write(order.database, order.parquet)

@@ -7,6 +7,8 @@ from plugin import files, words
 # kubectl's directives: the shell offers no files, or its files
 NO_FILES, FILES = 4, 0
 MEASURES = ("restarts", "unready", "evicted")
+# words whose value is no file
+COUNTS = ("--workers", "--processes", "--scheduler", "--top")
 
 
 def candidates(given):
@@ -21,7 +23,7 @@ def candidates(given):
     if found.waiting in words.NAMESPACE:
         return beginning(namespaces(found), last), NO_FILES
     if found.waiting:
-        return [], FILES
+        return [], FILES if found.waiting not in COUNTS else NO_FILES
     if before[0] == "fleet":
         return fleet_words(before, last)
     if last.startswith("-"):
@@ -62,6 +64,8 @@ def fleet_words(before, last):
         return beginning(("run", "worst"), last), NO_FILES
     if before[-1] == "--by":
         return beginning(MEASURES, last), NO_FILES
+    if before[-1] in COUNTS:
+        return [], NO_FILES
     if last.startswith("-"):
         own = ("--out", "--processes", "--scheduler", "--parquet", "--anew") * (before[1] == "run")
         return beginning((*own, "--by", "--top"), last), NO_FILES

@@ -14,7 +14,9 @@ import report as reports
 
 
 def is_report(path):
-    """Whether a file begins as a report. One that can't be read is a fault."""
+    """Whether a file begins as a report. One that can't be read, or not twice, is a fault."""
+    if os.path.exists(path) and not (os.path.isfile(path) or os.path.isdir(path)):
+        raise entry.Fault(f"{path} is a device or a pipe; a report may come on standard input")
     try:
         with open(path, "rb") as file:
             return file.read(5) == b"node "
@@ -25,9 +27,10 @@ def is_report(path):
 def open_report(path):
     """A file that holds the report: of the file that was named, or of standard input without one."""
     if path is None:
-        if sys.stdin.isatty():
+        given = entry.standard_input()
+        if given.isatty():
             raise entry.Fault("it wants -f FILE, a trace or a report, or a report on standard input")
-        return sys.stdin.buffer
+        return given
     if is_report(path):
         return open(path, "rb")
     return replayed(path)
