@@ -28,7 +28,7 @@ use Rattle.manifest_fields.specs.ProbeFields.{some_probes, unprobed, probes_of}
 use Rattle.manifest_fields.specs.ResourceFields.{resources_of}
 use Rattle.node_config.specs.declared.node.Format.{Format}
 use Rattle.trace.specs.declared.past.Trace.{Trace}
-use Rattle.trace.specs.Laws.{Says, says_node, says_pod, says_tick}
+use Rattle.trace.specs.Laws.{Says, says_node, says_pod, says_gone, says_tick}
 use Rattle.trace.specs.Past.{Past}
 use Rattle.trace.specs.Pod.{of_manifest, manifest_of}
 use Rattle.trace.specs.Trace.{trace_of}
@@ -206,19 +206,20 @@ read : (r : Result PodSpec ManifestFault) (pod : PodSpec) → of_manifest r ≡ 
 read (Ok p) pod e = ap Ok (same_value _ _ e)
 read (Err fault) pod e = absurd (cc)
 
-line_keeps : (past : Past) (line : List ℕ) (next : Past) → HaveProbesInRange past.pods → Says past line next
-    → HaveProbesInRange next.pods
+line_keeps : (past : Past) (line : List ℕ) (next : Past) → HaveProbesInRange past.roll.pods → Says past line next
+    → HaveProbesInRange next.roll.pods
 line_keeps past line _ all (says_node d node is e) = all
 line_keeps past line _ all (says_pod d pod is new) =
     let found = field_at (codes "pod") d in
     let given = bind_ok (manifest_of found) (λ m. of_manifest (pod_at m)) pod is.pod_is in
-    All-push (λ (p : PodSpec). All HasProbesInRange p.containers) past.pods pod all
+    All-push (λ (p : PodSpec). All HasProbesInRange p.containers) past.roll.pods pod all
     (pod_given given.0 pod (read (pod_at given.0) pod given.2))
+line_keeps past line _ all (says_gone d number is named) = all
 line_keeps past line _ all (says_tick d at written placed is coded) = all
 
-kept : IsKept (λ past. HaveProbesInRange past.pods)
+kept : IsKept (λ past. HaveProbesInRange past.roll.pods)
 kept = record { first = λ format. All-nil (λ (p : PodSpec). All HasProbesInRange p.containers); line = line_keeps }
 
 pub probes_in_range : (format : Format) (text : List ℕ) (trace : Trace) → trace_of format text ≡ Ok trace
     → HaveProbesInRange trace.pods
-probes_in_range format text trace e = (of_trace (λ past. HaveProbesInRange past.pods) kept format text trace e).1
+probes_in_range format text trace e = (of_trace (λ past. HaveProbesInRange past.roll.pods) kept format text trace e).1

@@ -35,7 +35,8 @@ use Rattle.tick_lines.specs.declared.line.TickLine.{TickLine}
 use Rattle.trace.specs.declared.placing.PlacedEntry.{PlacedEntry}
 use Rattle.json_lines.specs.Lines.{lines_of, is_blank, longest_line}
 use Rattle.trace.specs.Written.{node_in, tick_line_in}
-use Rattle.trace.specs.Pod.{key_of_pod, has_key, pod_from}
+use Rattle.roster.specs.Roll.{key_of_pod}
+use Rattle.trace.specs.Pod.{has_key, pod_from}
 use Rattle.trace.specs.Placing.{placed_of}
 use Rattle.node_config.specs.declared.node.Format.{Format}
 use Rattle.node_config.specs.declared.node.Version.{Version}
@@ -139,15 +140,15 @@ pod_line_keeps : (version : Version) (past : Past) (d : Data) (next : Past) → 
     → past.node ≡ next.node
 pod_line_keeps version past d next e =
     let last : PodSpec → ⊤ → Result Past FaultKind = λ pod u. Ok (with_pod past pod) in
-    let keyed : PodSpec → Result Past FaultKind = λ pod. refused_if (has_key past.pods (key_of_pod pod)) DuplicatePod
+    let keyed : PodSpec → Result Past FaultKind = λ pod. refused_if (has_key past.roll (key_of_pod pod)) DuplicatePod
     >>= last pod in
     let read : ⊤ → Result Past FaultKind = λ u. pod_from (field_at (codes "pod") d) >>= keyed in
-    let first : ⊤ → Result Past FaultKind = λ u. refused_if (nat_le most_pods (length past.pods)) TooMany >>= read in
+    let first : ⊤ → Result Past FaultKind = λ u. refused_if (nat_le most_pods (length past.roll.pods)) TooMany >>= read in
     let before = bind_ok (refused_if (is_late version past.ticks) Order) first next (sym (pod_whole version past d)
     ∙ e) in
-    let room = bind_ok (refused_if (nat_le most_pods (length past.pods)) TooMany) read next before.2 in
+    let room = bind_ok (refused_if (nat_le most_pods (length past.roll.pods)) TooMany) read next before.2 in
     let pod = bind_ok (pod_from (field_at (codes "pod") d)) keyed next room.2 in
-    let new = bind_ok (refused_if (has_key past.pods (key_of_pod pod.0)) DuplicatePod) (last pod.0) next pod.2 in
+    let new = bind_ok (refused_if (has_key past.roll (key_of_pod pod.0)) DuplicatePod) (last pod.0) next pod.2 in
     let given : Ok (with_pod past pod.0) ≡ Ok next = new.2 in
     let is_next : with_pod past pod.0 ≡ next = cc in
     ap (λ (p : Past). p.node) {x = with_pod past pod.0} is_next
@@ -156,14 +157,14 @@ tick_line_keeps : (past : Past) (d : Data) (next : Past) → tick_at past d ≡ 
 tick_line_keeps past d next e =
     let last : TickObs → Result Past FaultKind = λ t. Ok (with_tick past t) in
     let seen : ℕ → TickLine → List PlacedEntry → Result Past FaultKind = λ at w ps. observed_in past at w ps >>= last in
-    let place : ℕ → TickLine → Result Past FaultKind = λ at w. placed_of past.pods w.entries >>= seen at w in
+    let place : ℕ → TickLine → Result Past FaultKind = λ at w. placed_of past.roll w.entries >>= seen at w in
     let list : ℕ → Result Past FaultKind = λ at. tick_line_in d >>= place at in
     let moment : ⊤ → Result Past FaultKind = λ u. moment_of past.ticks (field_at (codes "at") d) >>= list in
     let room = bind_ok (refused_if (nat_le most_ticks (length past.ticks)) TooMany) moment next
     (sym (tick_whole past d) ∙ e) in
     let at = bind_ok (moment_of past.ticks (field_at (codes "at") d)) list next room.2 in
     let written = bind_ok (tick_line_in d) (place at.0) next at.2 in
-    let placed = bind_ok (placed_of past.pods written.0.entries) (seen at.0 written.0) next written.2 in
+    let placed = bind_ok (placed_of past.roll written.0.entries) (seen at.0 written.0) next written.2 in
     let tick = bind_ok (observed_in past at.0 written.0 placed.0) last next placed.2 in
     let given : Ok (with_tick past tick.0) ≡ Ok next = tick.2 in
     let is_next : with_tick past tick.0 ≡ next = cc in
@@ -184,13 +185,13 @@ in_order_some (Some version) past kinds.Tick d next is e =
 line_some : (past : Past) (line : List ℕ) (next : Past) → line_at past line ≡ Ok next → is_some next.node ≡ true
 line_some past line next e =
     let take : Data → LineKind → Result Past FaultKind = λ d line_kind. in_order (version_in past) past line_kind d in
-    let kind : Data → Result Past FaultKind = λ d. some_or UnknownKind (kind_from (text_at (codes "kind") d))
+    let kind : Data → Result Past FaultKind = λ d. some_or UnknownKind (kind_from (version_in past) (text_at (codes "kind") d))
     >>= take d in
     let parse : ⊤ → Result Past FaultKind = λ u. json_of line >>= kind in
     let short = bind_ok (refused_if (nat_lt longest_line (length line)) TooLong) parse next
     (sym (line_whole past line) ∙ e) in
     let json = bind_ok (json_of line) kind next short.2 in
-    let line_kind = bind_ok (some_or UnknownKind (kind_from (text_at (codes "kind") json.0))) (take json.0) next
+    let line_kind = bind_ok (some_or UnknownKind (kind_from (version_in past) (text_at (codes "kind") json.0))) (take json.0) next
     json.2 in
     in_order_some (version_in past) past line_kind.0 json.0 next refl line_kind.2
 

@@ -14,7 +14,7 @@ use Rattle.trace.specs.declared.placing.PlacedListing.{PlacedListing}
 use Rattle.trace.specs.declared.placing.PlacedResult.{PlacedResult}
 use Rattle.trace.specs.declared.placing.PlacedEntry.{PlacedEntry}
 use Rattle.trace.specs.Gives.{Gives}
-use Rattle.trace.specs.Pod.{keys_of}
+use Rattle.roster.specs.Roll.{Roll}
 use Rattle.trace.specs.Placing.{number_in, pod_numbered, placed_listing, placed_result}
 use Rattle.trace.specs.Placing.{entry_of_pod, placed_entry, entries_of_pods, placed_of}
 
@@ -37,28 +37,28 @@ then_all : {A B E : Type 0} (r : Result A E) (f : A → Result B E) (x : A) (res
     → ((r >>= f) >>= λ y. rest >>= λ ys. Ok (y ∷ ys)) ≡ (f x >>= λ y. rest >>= λ ys. Ok (y ∷ ys))
 then_all r f x rest e = rw e refl
 
-entry_by_number : (keys : List (List ℕ)) (pods : List PodSpec) (x : Entry) (n : ℕ)
-    (rest : Result (List PlacedEntry) FaultKind) → number_in keys x ≡ Ok n
-    → (placed_entry keys pods x >>= λ y. rest >>= λ ys. Ok (y ∷ ys))
-    ≡ (entry_of_pod pods n x >>= λ y. rest >>= λ ys. Ok (y ∷ ys))
+entry_by_number : (roll : Roll) (x : Entry) (n : ℕ) (rest : Result (List PlacedEntry) FaultKind)
+    → number_in roll x ≡ Ok n
+    → (placed_entry roll x >>= λ y. rest >>= λ ys. Ok (y ∷ ys))
+    ≡ (entry_of_pod roll.pods n x >>= λ y. rest >>= λ ys. Ok (y ∷ ys))
 unfolding placed_entry
-entry_by_number keys pods x n rest e = then_all (number_in keys x) (λ number. entry_of_pod pods number x) n rest e
+entry_by_number roll x n rest e = then_all (number_in roll x) (λ number. entry_of_pod roll.pods number x) n rest e
 
 -- once the numbers of all pods are known, each entry is placed by its own
-pub by_numbers : (keys : List (List ℕ)) (pods : List PodSpec) (es : List Entry) (ns : List ℕ)
-    → each (number_in keys) es ≡ Ok ns → each (placed_entry keys pods) es ≡ entries_of_pods pods ns es
-by_numbers keys pods [] ns e =
-    subst (λ (ks : List ℕ). each (placed_entry keys pods) [] ≡ entries_of_pods pods ks [])
+pub by_numbers : (roll : Roll) (es : List Entry) (ns : List ℕ)
+    → each (number_in roll) es ≡ Ok ns → each (placed_entry roll) es ≡ entries_of_pods roll.pods ns es
+by_numbers roll [] ns e =
+    subst (λ (ks : List ℕ). each (placed_entry roll) [] ≡ entries_of_pods roll.pods ks [])
     (same_value {E = FaultKind} [] ns e) refl
-by_numbers keys pods (x ∷ xs) ns e =
-    let one = bind_ok (number_in keys x) (λ n. each (number_in keys) xs >>= λ ms. Ok (n ∷ ms)) ns e in
-    let rest = bind_ok (each (number_in keys) xs) (λ ms. Ok (one.0 ∷ ms)) ns one.2 in
+by_numbers roll (x ∷ xs) ns e =
+    let one = bind_ok (number_in roll x) (λ n. each (number_in roll) xs >>= λ ms. Ok (n ∷ ms)) ns e in
+    let rest = bind_ok (each (number_in roll) xs) (λ ms. Ok (one.0 ∷ ms)) ns one.2 in
     let add : Result (List PlacedEntry) FaultKind → Result (List PlacedEntry) FaultKind =
-    λ read. entry_of_pod pods one.0 x >>= λ y. read >>= λ ys. Ok (y ∷ ys) in
-    subst (λ (ks : List ℕ). each (placed_entry keys pods) (x ∷ xs) ≡ entries_of_pods pods ks (x ∷ xs))
+    λ read. entry_of_pod roll.pods one.0 x >>= λ y. read >>= λ ys. Ok (y ∷ ys) in
+    subst (λ (ks : List ℕ). each (placed_entry roll) (x ∷ xs) ≡ entries_of_pods roll.pods ks (x ∷ xs))
     (same_value {E = FaultKind} (one.0 ∷ rest.0) ns rest.2)
-    (entry_by_number keys pods x one.0 (each (placed_entry keys pods) xs) one.1
-    ∙ ap add (by_numbers keys pods xs rest.0 rest.1))
+    (entry_by_number roll x one.0 (each (placed_entry roll) xs) one.1
+    ∙ ap add (by_numbers roll xs rest.0 rest.1))
 
 -- so many entries, so many numbers
 pub as_many : {A B E : Type 0} (f : A → Result B E) (xs : List A) (ys : List B) → each f xs ≡ Ok ys
@@ -100,21 +100,20 @@ all_known pods (n ∷ ns) (x ∷ xs) placed is =
     (all_known pods ns xs rest.0 rest.1))
 
 -- entries placed by the numbers of their pods are the entries placed by their names
-pub by_names : {X : Type 0} (view : X → List PlacedEntry) (r : Result X FaultKind) (keys : List (List ℕ))
-    (pods past : List PodSpec) (ns numbers : List ℕ) (es entries : List Entry) → pods ≡ past → keys ≡ keys_of past
-    → ns ≡ numbers → es ≡ entries → each (number_in keys) es ≡ Ok numbers → Gives view r (entries_of_pods pods ns es)
+pub by_names : {X : Type 0} (view : X → List PlacedEntry) (r : Result X FaultKind) (roll past : Roll)
+    (pods : List PodSpec) (ns numbers : List ℕ) (es entries : List Entry) → pods ≡ past.pods → roll ≡ past
+    → ns ≡ numbers → es ≡ entries → each (number_in roll) es ≡ Ok numbers → Gives view r (entries_of_pods pods ns es)
     → Gives view r (placed_of past entries)
 unfolding placed_of
-by_names view r keys pods past ns numbers es entries pods_are keys_are ns_are es_are e gives =
-    let known : each (number_in (keys_of past)) es ≡ Ok numbers =
-    ap (λ (ks : List (List ℕ)). each (number_in ks) es) (sym keys_are) ∙ e in
+by_names view r roll past pods ns numbers es entries pods_are is ns_are es_are e gives =
+    let known : each (number_in past) es ≡ Ok numbers = ap (λ (l : Roll). each (number_in l) es) (sym is) ∙ e in
     let names : List Entry → Result (List PlacedEntry) FaultKind =
-    λ xs. each (number_in (keys_of past)) xs >>= λ _. each (placed_entry (keys_of past) past) xs in
-    let whole : names es ≡ each (placed_entry (keys_of past) past) es =
-    then_ok (each (number_in (keys_of past)) es) (λ _. each (placed_entry (keys_of past) past) es) numbers known in
+    λ xs. each (number_in past) xs >>= λ _. each (placed_entry past) xs in
+    let whole : names es ≡ each (placed_entry past) es =
+    then_ok (each (number_in past) es) (λ _. each (placed_entry past) es) numbers known in
     subst (Gives view r) (ap (λ (ps : List PodSpec). entries_of_pods ps ns es) pods_are
-    ∙ ap (λ (ms : List ℕ). entries_of_pods past ms es) ns_are
-    ∙ sym (whole ∙ by_numbers (keys_of past) past es numbers known) ∙ ap names es_are) gives
+    ∙ ap (λ (ms : List ℕ). entries_of_pods past.pods ms es) ns_are
+    ∙ sym (whole ∙ by_numbers past es numbers known) ∙ ap names es_are) gives
 
 pub known_pods : {X : Type 0} (view : X → List PlacedEntry) (r : Result X FaultKind) (pods past : List PodSpec)
     (ns : List ℕ) (es : List Entry) → pods ≡ past → Gives view r (entries_of_pods pods ns es)

@@ -6,6 +6,7 @@ use Rattle.node_config.specs.declared.node.Format.{Format}
 use Rattle.node_config.specs.declared.node.NodeConfig.{NodeConfig}
 use Rattle.trace.specs.declared.past.Trace.{Trace}
 use Rattle.json_lines.specs.Lines.{lines_of}
+use Rattle.roster.specs.Roll.{roll}
 use Rattle.trace.specs.Past.{Past}
 use Rattle.trace.specs.Trace.{nothing, trace_of}
 use Rattle.trace.specs.Laws.{AreSaid, Says}
@@ -22,8 +23,7 @@ abbrev pub past_of : Format → Trace → Past
 past_of format trace = record {
   format = format;
   node = Some trace.node;
-  pods = trace.pods;
-  arrivals = trace.arrivals;
+  roll = roll trace.pods trace.arrivals trace.departures;
   ticks = trace.ticks;
 }
 
@@ -42,20 +42,20 @@ of_trace P kept format text trace e =
     let past = whole.past in
     let by = past.format in
     let holds : P past = all_said P kept format (lines_of text) (length (lines_of text)) past whole.said in
-    let node =
-    subst (λ (o : Option NodeConfig).
-    P (record { format = by; node = o; pods = past.pods; arrivals = past.arrivals; ticks = past.ticks })) whole.node
-    holds in
-    let pods =
-    subst (λ (ps : List PodSpec). P
-    (record { format = by; node = Some trace.node; pods = ps; arrivals = past.arrivals; ticks = past.ticks }))
+    let of : Option NodeConfig → List PodSpec → List ℕ → List (Option ℕ) → List TickObs → Past =
+    λ node pods arrivals departures ticks.
+    record { format = by; node = node; roll = roll pods arrivals departures; ticks = ticks } in
+    let r = past.roll in
+    let node = subst (λ (o : Option NodeConfig). P (of o r.pods r.arrivals r.departures past.ticks)) whole.node holds in
+    let pods = subst (λ (ps : List PodSpec). P (of (Some trace.node) ps r.arrivals r.departures past.ticks))
     whole.pods node in
     let arrivals =
-    subst (λ (arrivals : List ℕ). P
-    (record { format = by; node = Some trace.node; pods = trace.pods; arrivals = arrivals; ticks = past.ticks }))
-    whole.arrivals pods in (
+    subst (λ (arrived : List ℕ). P (of (Some trace.node) trace.pods arrived r.departures past.ticks))
+    whole.arrivals pods in
+    let departures =
+    subst (λ (ds : List (Option ℕ)). P (of (Some trace.node) trace.pods trace.arrivals ds past.ticks))
+    whole.departures arrivals in (
       by,
-      subst (λ (ts : List TickObs). P
-          (record { format = by; node = Some trace.node; pods = trace.pods; arrivals = trace.arrivals; ticks = ts }))
-          whole.ticks arrivals,
+      subst (λ (ts : List TickObs). P (of (Some trace.node) trace.pods trace.arrivals trace.departures ts))
+          whole.ticks departures,
     )

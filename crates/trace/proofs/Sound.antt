@@ -18,7 +18,7 @@ use Rattle.trace.specs.declared.fault.LineFault.{LineFault}
 use Rattle.trace.specs.declared.past.Trace.{Trace}
 use Rattle.following.specs.Backwards.{is_backwards}
 use Rattle.trace.specs.Gives.{GivesAt}
-use Rattle.trace.specs.Laws.{Says, says_node, says_pod, says_tick}
+use Rattle.trace.specs.Laws.{Says, says_node, says_pod, says_gone, says_tick}
 use Rattle.trace.specs.Observed.{observed}
 use Rattle.trace.specs.Past.{Past}
 use Rattle.trace.specs.Sound.{AreAcceptable, AreRising}
@@ -59,8 +59,10 @@ tick_acceptable ticks tick all e pod container = after (shown_of tick pod) refl
 line_sound : (past : Past) (line : List ℕ) (next : Past) → IsSound past → Says past line next → IsSound next
 line_sound past line _ all (says_node d node is e) = record { acceptable = all.acceptable; rising = all.rising }
 line_sound past line _ all (says_pod d pod is new) = record { acceptable = all.acceptable; rising = all.rising }
+line_sound past line _ all (says_gone d number is named) =
+    record { acceptable = all.acceptable; rising = all.rising }
 line_sound past line _ all (says_tick d at written placed is coded) =
-    let tick = observed at written placed past.pods in
+    let tick = observed at written placed past.roll in
     let later = moment_later past.ticks (field_at (codes "at") d) at
     is.is_apart.has_places.has_written.has_moment.moment in
     record {

@@ -69,7 +69,8 @@ of_value past d moment said at written =
 
 -- in the place of a line whose kind is this text
 abbrev named : Past → Data → Option Version → Option (List ℕ) → Result Past FaultKind
-named past d version kind = some_or UnknownKind (kind_from kind) >>= λ line_kind. in_order version past line_kind d
+named past d version kind =
+    some_or UnknownKind (kind_from version kind) >>= λ line_kind. in_order version past line_kind d
 
 abbrev by_record : Past → Data → Option Version → Result Past FaultKind
 by_record past d version =
@@ -100,7 +101,8 @@ value_taken : (past : Past) (line : List ℕ) (found : Option Data) → json_in 
 unfolding json_of kind_and_value line_at value_at
 value_taken past line None here short = rw (short, here) refl
 value_taken past line (Some d) here short =
-    let kind : value_at past d ≡ line_at past line = rw (short, here) (sym (kind_taken past d (kind_of_line d))) in
+    let kind : value_at past d ≡ line_at past line =
+    rw (short, here) (sym (kind_taken past d (kind_of_line (version_in past) d))) in
     value_said past d ∙ kind
 
 line_taken : (past : Past) (line : List ℕ) → is_blank line ≡ false

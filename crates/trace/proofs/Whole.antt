@@ -12,17 +12,18 @@ use Rattle.observations.specs.Limits.{most_pods, most_ticks}
 use Rattle.tick_lines.specs.declared.line.TickLine.{TickLine}
 use Rattle.trace.specs.declared.fault.FaultKind.{FaultKind}
 use Rattle.trace.specs.declared.fault.FaultKind.TheVariants.{TooLong, UnknownKind, Order, TooMany, DuplicatePod}
-use Rattle.trace.specs.declared.fault.FaultKind.TheVariants.{Backwards, ExitCode}
+use Rattle.trace.specs.declared.fault.FaultKind.TheVariants.{Backwards, ExitCode, StrangerPod}
 use Rattle.trace.specs.declared.past.LineKind.{LineKind}
 use Rattle.trace.specs.declared.placing.PlacedEntry.{PlacedEntry}
 use Rattle.json_lines.specs.Lines.{longest_line}
 use Rattle.trace.specs.Observed.{observed, some_code_missing}
-use Rattle.trace.specs.Past.{Past, version_in, with_pod, with_tick}
+use Rattle.trace.specs.Past.{Past, version_in, with_pod, without, with_tick}
 use Rattle.trace.specs.Placing.{placed_of}
-use Rattle.trace.specs.Pod.{key_of_pod, has_key, pod_from}
+use Rattle.roster.specs.Roll.{key_of_pod}
+use Rattle.trace.specs.Pod.{has_key, pod_from, named_in}
 use Rattle.trace.specs.Tick.{moment_of, observed_in, tick_in, tick_at}
-use Rattle.trace.specs.Trace.{json_of, kind_from, kind_of_line, is_late, pod_in, pod_line_at}
-use Rattle.trace.specs.Trace.{in_order, kind_and_value, line_at}
+use Rattle.trace.specs.Trace.{json_of, kind_from, kind_of_line, is_late, pod_in, pod_line_at, gone_line_at, in_order}
+use Rattle.trace.specs.Trace.{kind_and_value, line_at}
 use Rattle.trace.specs.Written.{tick_line_in}
 
 -- the steps of a line, each with those after it
@@ -33,7 +34,7 @@ abbrev pub with_kind : Past → Data → Option LineKind → Result Past FaultKi
 with_kind past d kind = some_or UnknownKind kind >>= in_place past d
 
 abbrev pub with_json : Past → Data → Result Past FaultKind
-with_json past d = with_kind past d (kind_from (text_at (codes "kind") d))
+with_json past d = with_kind past d (kind_from (version_in past) (text_at (codes "kind") d))
 
 abbrev pub with_tick_seen : Past → TickObs → Result Past FaultKind
 with_tick_seen past tick = Ok (with_tick past tick)
@@ -42,7 +43,7 @@ abbrev pub with_places : Past → ℕ → TickLine → List PlacedEntry → Resu
 with_places past at written placed = observed_in past at written placed >>= with_tick_seen past
 
 abbrev pub with_written : Past → ℕ → TickLine → Result Past FaultKind
-with_written past at written = placed_of past.pods written.entries >>= with_places past at written
+with_written past at written = placed_of past.roll written.entries >>= with_places past at written
 
 abbrev pub with_moment : Past → Data → ℕ → Result Past FaultKind
 with_moment past d at = tick_line_in d >>= with_written past at
@@ -51,7 +52,7 @@ abbrev pub with_room : Past → Data → ⊤ → Result Past FaultKind
 with_room past d u = moment_of past.ticks (field_at (codes "at") d) >>= with_moment past d
 
 abbrev pub with_code : Past → ℕ → TickLine → List PlacedEntry → ⊤ → Result TickObs FaultKind
-with_code past at written placed u = Ok (observed at written placed past.pods)
+with_code past at written placed u = Ok (observed at written placed past.roll)
 
 abbrev pub with_forwards : Past → ℕ → TickLine → List PlacedEntry → ⊤ → Result TickObs FaultKind
 with_forwards past at written placed u =
@@ -59,20 +60,31 @@ with_forwards past at written placed u =
 
 abbrev pub with_apart : Past → ℕ → TickLine → List PlacedEntry → ⊤ → Result TickObs FaultKind
 with_apart past at written placed u =
-    refused_if (is_backwards past.ticks (observed at written placed past.pods)) Backwards >>= with_forwards past at
+    refused_if (is_backwards past.ticks (observed at written placed past.roll)) Backwards >>= with_forwards past at
     written placed
+
+abbrev pub gone_said : Past → ℕ → Result Past FaultKind
+gone_said past number = Ok (without past number)
+
+abbrev pub gone_named : Past → Option ℕ → Result Past FaultKind
+gone_named past named = some_or StrangerPod named >>= gone_said past
+
+pub gone_whole : (past : Past) (d : Data)
+    → gone_line_at past d ≡ gone_named past (named_in past.roll (text_at (codes "pod") d))
+unfolding gone_line_at
+gone_whole past d = refl
 
 abbrev pub pod_new : Past → PodSpec → ⊤ → Result Past FaultKind
 pod_new past pod u = Ok (with_pod past pod)
 
 abbrev pub pod_said : Past → PodSpec → Result Past FaultKind
-pod_said past pod = refused_if (has_key past.pods (key_of_pod pod)) DuplicatePod >>= pod_new past pod
+pod_said past pod = refused_if (has_key past.roll (key_of_pod pod)) DuplicatePod >>= pod_new past pod
 
 abbrev pub pod_read : Past → Data → ⊤ → Result Past FaultKind
 pod_read past d u = pod_from (field_at (codes "pod") d) >>= pod_said past
 
 abbrev pub pod_early : Past → Data → ⊤ → Result Past FaultKind
-pod_early past d u = refused_if (nat_le most_pods (length past.pods)) TooMany >>= pod_read past d
+pod_early past d u = refused_if (nat_le most_pods (length past.roll.pods)) TooMany >>= pod_read past d
 
 -- steps in two rows, and in one
 in_a_row : {A B C E : Type 0} (r : Result A E) (f : A → Result B E) (g : B → Result C E) (h : A → Result C E)
@@ -82,7 +94,7 @@ in_a_row (Err fault) f g h same = refl
 
 -- of a tick line, up to the tick
 abbrev said_placed : Past → ℕ → TickLine → Result TickObs FaultKind
-said_placed past at written = placed_of past.pods written.entries >>= observed_in past at written
+said_placed past at written = placed_of past.roll written.entries >>= observed_in past at written
 
 abbrev said_written : Past → Data → ℕ → Result TickObs FaultKind
 said_written past d at = tick_line_in d >>= said_placed past at
@@ -99,7 +111,7 @@ tick_whole past d =
     (λ room.
     in_a_row (moment_of past.ticks (field_at (codes "at") d)) (said_written past d) last (with_moment past d) (λ at.
     in_a_row (tick_line_in d) (said_placed past at) last (with_written past at) (λ written.
-    in_a_row (placed_of past.pods written.entries) (observed_in past at written) last (with_places past at written)
+    in_a_row (placed_of past.roll written.entries) (observed_in past at written) last (with_places past at written)
     (λ placed. refl))))
 
 -- of a pod line, up to the pod
@@ -107,7 +119,7 @@ abbrev said_pod : Data → ⊤ → Result PodSpec FaultKind
 said_pod d room = pod_from (field_at (codes "pod") d)
 
 abbrev said_early : Past → Data → ⊤ → Result PodSpec FaultKind
-said_early past d in_time = refused_if (nat_le most_pods (length past.pods)) TooMany >>= said_pod d
+said_early past d in_time = refused_if (nat_le most_pods (length past.roll.pods)) TooMany >>= said_pod d
 
 pub pod_whole : (version : Version) (past : Past) (d : Data)
     → pod_line_at version past d ≡ (refused_if (is_late version past.ticks) Order >>= pod_early past d)
@@ -115,15 +127,15 @@ unfolding pod_line_at pod_in
 pod_whole version past d =
     let last = pod_said past in
     in_a_row (refused_if (is_late version past.ticks) Order) (said_early past d) last (pod_early past d) (λ in_time.
-    in_a_row (refused_if (nat_le most_pods (length past.pods)) TooMany) (said_pod d) last (pod_read past d)
+    in_a_row (refused_if (nat_le most_pods (length past.roll.pods)) TooMany) (said_pod d) last (pod_read past d)
     (λ room. refl))
 
 -- of any line, up to its kind and its value
-abbrev said_kind : Data → Result (LineKind × Data) FaultKind
-said_kind d = kind_of_line d >>= λ line_kind. Ok (line_kind, d)
+abbrev said_kind : Past → Data → Result (LineKind × Data) FaultKind
+said_kind past d = kind_of_line (version_in past) d >>= λ line_kind. Ok (line_kind, d)
 
-abbrev said_json : List ℕ → ⊤ → Result (LineKind × Data) FaultKind
-said_json line short = json_of line >>= said_kind
+abbrev said_json : Past → List ℕ → ⊤ → Result (LineKind × Data) FaultKind
+said_json past line short = json_of line >>= said_kind past
 
 abbrev of_said : Past → LineKind × Data → Result Past FaultKind
 of_said past said = in_order (version_in past) past said.0 said.1
@@ -136,7 +148,8 @@ pub line_whole : (past : Past) (line : List ℕ)
 unfolding line_at kind_and_value
 line_whole past line =
     let last = of_said past in
-    in_a_row (refused_if (nat_lt longest_line (length line)) TooLong) (said_json line) last (json_read past line)
+    in_a_row (refused_if (nat_lt longest_line (length line)) TooLong) (said_json past line) last (json_read past line)
     (λ short.
-    in_a_row (json_of line) said_kind last (with_json past) (λ d.
-    in_a_row (kind_of_line d) (λ line_kind. Ok (line_kind, d)) last (in_place past d) (λ line_kind. refl)))
+    in_a_row (json_of line) (said_kind past) last (with_json past) (λ d.
+    in_a_row (kind_of_line (version_in past) d) (λ line_kind. Ok (line_kind, d)) last (in_place past d)
+    (λ line_kind. refl)))

@@ -17,6 +17,7 @@ use Rattle.tick_lines.specs.declared.listing.Listing.{Listing}
 use Rattle.tick_lines.specs.declared.entry.Entry.{Entry}
 use Rattle.tick_lines.specs.declared.probing.ProbeResult.{ProbeResult}
 use Rattle.name_list.specs.Names.{place_of}
+use Rattle.roster.specs.Roll.{Roll, key_of_pod, number_of, is_present}
 use Rattle.manifest.specs.Containers.{names_of}
 use Rattle.manifest.specs.declared.outcome.Outcome.{Outcome}
 use Rattle.manifest.specs.declared.outcome.ProbeKind.{ProbeKind}
@@ -31,7 +32,7 @@ use Rattle.trace.specs.declared.placing.PlacedResult.{PlacedResult}
 use Rattle.trace.specs.declared.placing.PlacedEntry.{PlacedEntry}
 use Rattle.json_lines.specs.Lines.{lines_of, is_blank, longest_line}
 use Rattle.trace.specs.Written.{node_in, tick_line_in}
-use Rattle.trace.specs.Pod.{key_of_pod, keys_of, pod_from}
+use Rattle.trace.specs.Pod.{pod_from, named_in}
 use Rattle.trace.specs.Placing.{placed_of, has_twice, are_of_one_pod, are_of_one_probe, is_doubled}
 use Rattle.trace.specs.Observed.{seen_listed, outcome_in, observed, some_code_missing}
 use Rattle.following.specs.Backwards.{is_backwards}
@@ -50,7 +51,7 @@ use Rattle.node_config.specs.declared.node.Format.{Format}
 use Rattle.node_config.specs.declared.node.Format.TheVariants.{Standard, Extended}
 use Rattle.node_config.specs.declared.node.Version.{Version}
 use Rattle.node_config.specs.declared.node.Version.TheVariants.{One, Two, Three}
-use Rattle.trace.specs.Past.{Past, version_in, of_node, with_pod, with_tick}
+use Rattle.trace.specs.Past.{Past, version_in, of_node, with_pod, without, with_tick}
 use Rattle.trace.specs.Tick.{moment_of}
 use Rattle.trace.specs.Trace.{json_of, kind_from, line_at, nothing, trace_of}
 
@@ -91,8 +92,9 @@ pub record IsWhole (format : Format) (lines : List (List ℕ)) (trace : Trace) :
   pub past : Past
   pub said : AreSaid format lines (length lines) past
   pub node : past.node ≡ Some trace.node
-  pub pods : past.pods ≡ trace.pods
-  pub arrivals : past.arrivals ≡ trace.arrivals
+  pub pods : past.roll.pods ≡ trace.pods
+  pub arrivals : past.roll.arrivals ≡ trace.arrivals
+  pub departures : past.roll.departures ≡ trace.departures
   pub ticks : past.ticks ≡ trace.ticks
 
 -- a text is refused exactly with its first fault
@@ -119,9 +121,9 @@ pub record IsJson (line : List ℕ) (d : Data) : Type 0 where
   pub json : json_of line ≡ Ok d
 
 -- and of this kind
-pub record IsOfKind (line : List ℕ) (line_kind : LineKind) (d : Data) : Type 0 where
+pub record IsOfKind (past : Past) (line : List ℕ) (line_kind : LineKind) (d : Data) : Type 0 where
   pub json : IsJson line d
-  pub kind : kind_from (text_at (codes "kind") d) ≡ Some line_kind
+  pub kind : kind_from (version_in past) (text_at (codes "kind") d) ≡ Some line_kind
 
 -- in version 1 a pod line stands before all tick lines; in later ones it may follow one
 abbrev pub TakesPods : List TickObs → Version → Type 0
@@ -134,21 +136,29 @@ abbrev pub MayStand : Past → LineKind → Type 0
 MayStand past kinds.Node = past.node ≡ None
 MayStand past kinds.Pod = IsSomeAnd (version_in past) (TakesPods past.ticks)
 MayStand past kinds.Tick = is_some past.node ≡ true
+MayStand past kinds.Gone = is_some past.node ≡ true
 
 -- the line is of this kind, and may stand where it does
 pub record Stands (past : Past) (line : List ℕ) (line_kind : LineKind) (d : Data) : Type 0 where
-  pub of_kind : IsOfKind line line_kind d
+  pub of_kind : IsOfKind past line line_kind d
   pub here : MayStand past line_kind
 
 -- a pod line for which there is room, with this pod
 pub record HasPod (past : Past) (line : List ℕ) (d : Data) (pod : PodSpec) : Type 0 where
   pub stands : Stands past line kinds.Pod d
-  pub room : length past.pods < most_pods
+  pub room : length past.roll.pods < most_pods
   pub pod_is : pod_from (field_at (codes "pod") d) ≡ Ok pod
 
--- one of the pods has this key
-abbrev pub HasKey : List PodSpec → List ℕ → Type 0
-HasKey pods key = (n : ℕ) × (pod : PodSpec) × (slice_get pods n ≡ Some pod) × (key_of_pod pod ≡ key)
+-- the pod with the number is present, and has this key
+pub record IsNamed (roll : Roll) (n : ℕ) (key : List ℕ) : Type 0 where
+  pub pod : PodSpec
+  pub at : slice_get roll.pods n ≡ Some pod
+  pub present : is_present roll.departures n ≡ true
+  pub key_is : key_of_pod pod ≡ key
+
+-- a pod that is present has this key
+abbrev pub HasKey : Roll → List ℕ → Type 0
+HasKey roll key = (n : ℕ) × IsNamed roll n key
 
 -- a tick line for which there is room, at this moment
 pub record HasMoment (past : Past) (line : List ℕ) (d : Data) (at : ℕ) : Type 0 where
@@ -161,11 +171,11 @@ pub record HasWritten (past : Past) (line : List ℕ) (d : Data) (at : ℕ) (wri
   pub has_moment : HasMoment past line d at
   pub written_is : tick_line_in d ≡ Ok written
 
--- whose entries are of pods and containers that are known
+-- whose entries are of pods that are present and of containers that are known
 pub record HasPlaces (past : Past) (line : List ℕ) (d : Data) (at : ℕ) (written : TickLine)
     (placed : List PlacedEntry) : Type 0 where
   pub has_written : HasWritten past line d at written
-  pub placed_are : placed_of past.pods written.entries ≡ Ok placed
+  pub placed_are : placed_of past.roll written.entries ≡ Ok placed
 
 -- no two of them are of one pod, and none has a container or a probe twice
 pub record IsApart (past : Past) (line : List ℕ) (d : Data) (at : ℕ) (written : TickLine)
@@ -177,34 +187,39 @@ pub record IsApart (past : Past) (line : List ℕ) (d : Data) (at : ℕ) (writte
 pub record IsForwards (past : Past) (line : List ℕ) (d : Data) (at : ℕ) (written : TickLine)
     (placed : List PlacedEntry) : Type 0 where
   pub is_apart : IsApart past line d at written placed
-  pub forwards : is_backwards past.ticks (observed at written placed past.pods) ≡ false
+  pub forwards : is_backwards past.ticks (observed at written placed past.roll) ≡ false
 
 -- the first check that a line fails after what is said before it, with the fault that it answers:
--- the checks of every line, and then those of a node line, of a pod line, or of a tick line
+-- the checks of every line, and then those of a node line, of a pod line, of a line by which a pod leaves, or of a
+-- tick line
 pub data Fails (past : Past) (line : List ℕ) : FaultKind → Type 0 where
   too_long : longest_line < length line → Fails past line TooLong
   not_json : (kind : FaultKind) → length line ≤ longest_line → json_of line ≡ Err kind → Fails past line kind
-  unknown_kind : (d : Data) → IsJson line d → kind_from (text_at (codes "kind") d) ≡ None → Fails past line UnknownKind
-  misplaced : (line_kind : LineKind) (d : Data) → IsOfKind line line_kind d → (MayStand past line_kind → ⊥)
+  unknown_kind : (d : Data) → IsJson line d → kind_from (version_in past) (text_at (codes "kind") d) ≡ None
+      → Fails past line UnknownKind
+  misplaced : (line_kind : LineKind) (d : Data) → IsOfKind past line line_kind d → (MayStand past line_kind → ⊥)
       → Fails past line Order
   wrong_node : (d : Data) (kind : FaultKind) → Stands past line kinds.Node d → node_in past.format d ≡ Err kind
       → Fails past line kind
-  many_pods : (d : Data) → Stands past line kinds.Pod d → most_pods ≤ length past.pods → Fails past line TooMany
-  wrong_pod : (d : Data) (kind : FaultKind) → Stands past line kinds.Pod d → length past.pods < most_pods
+  many_pods : (d : Data) → Stands past line kinds.Pod d → most_pods ≤ length past.roll.pods
+      → Fails past line TooMany
+  wrong_pod : (d : Data) (kind : FaultKind) → Stands past line kinds.Pod d → length past.roll.pods < most_pods
       → pod_from (field_at (codes "pod") d) ≡ Err kind → Fails past line kind
-  duplicate_pod : (d : Data) (pod : PodSpec) → HasPod past line d pod → HasKey past.pods (key_of_pod pod)
+  duplicate_pod : (d : Data) (pod : PodSpec) → HasPod past line d pod → HasKey past.roll (key_of_pod pod)
       → Fails past line DuplicatePod
+  nobody_gone : (d : Data) → Stands past line kinds.Gone d → named_in past.roll (text_at (codes "pod") d) ≡ None
+      → Fails past line StrangerPod
   many_ticks : (d : Data) → Stands past line kinds.Tick d → most_ticks ≤ length past.ticks → Fails past line TooMany
   wrong_moment : (d : Data) (kind : FaultKind) → Stands past line kinds.Tick d → length past.ticks < most_ticks
       → moment_of past.ticks (field_at (codes "at") d) ≡ Err kind → Fails past line kind
   wrong_field : (d : Data) (at : ℕ) (kind : FaultKind) → HasMoment past line d at → tick_line_in d ≡ Err kind
       → Fails past line kind
   stranger : (d : Data) (at : ℕ) (written : TickLine) (kind : FaultKind) → HasWritten past line d at written
-      → placed_of past.pods written.entries ≡ Err kind → Fails past line kind
+      → placed_of past.roll written.entries ≡ Err kind → Fails past line kind
   doubled : (d : Data) (at : ℕ) (written : TickLine) (placed : List PlacedEntry)
       → HasPlaces past line d at written placed → is_doubled placed ≡ true → Fails past line Doubled
   backwards : (d : Data) (at : ℕ) (written : TickLine) (placed : List PlacedEntry)
-      → IsApart past line d at written placed → is_backwards past.ticks (observed at written placed past.pods) ≡ true
+      → IsApart past line d at written placed → is_backwards past.ticks (observed at written placed past.roll) ≡ true
       → Fails past line Backwards
   no_code : (d : Data) (at : ℕ) (written : TickLine) (placed : List PlacedEntry)
       → IsForwards past line d at written placed → some_code_missing placed ≡ true → Fails past line ExitCode
@@ -217,13 +232,15 @@ FirstCheck = (past : Past) (line : List ℕ) (kind : FaultKind) → (line_at pas
 pub data Says (past : Past) (line : List ℕ) : Past → Type 0 where
   says_node : (d : Data) (node : NodeConfig) → Stands past line kinds.Node d → node_in past.format d ≡ Ok node
       → Says past line (of_node past node)
-  says_pod : (d : Data) (pod : PodSpec) → HasPod past line d pod → (HasKey past.pods (key_of_pod pod) → ⊥)
+  says_pod : (d : Data) (pod : PodSpec) → HasPod past line d pod → (HasKey past.roll (key_of_pod pod) → ⊥)
       → Says past line (with_pod past pod)
+  says_gone : (d : Data) (number : ℕ) → Stands past line kinds.Gone d
+      → named_in past.roll (text_at (codes "pod") d) ≡ Some number → Says past line (without past number)
   says_tick : (d : Data) (at : ℕ) (written : TickLine) (placed : List PlacedEntry)
       → IsForwards past line d at written placed → some_code_missing placed ≡ false
-      → Says past line (with_tick past (observed at written placed past.pods))
+      → Says past line (with_tick past (observed at written placed past.roll))
 
--- a line without a fault says its node, its pod or its tick, behind what is said before it
+-- a line without a fault says its node, its pod, that a pod is gone, or its tick, behind what is said before it
 abbrev pub AllChecks : Type 0
 AllChecks = (past : Past) (line : List ℕ) (next : Past) → (line_at past line ≡ Ok next ↔ Says past line next)
 
@@ -237,15 +254,15 @@ pub record KindsOfChecks : Type 0 where
   pub moment : (ticks : List TickObs) (found : Option Data) (kind : FaultKind) → moment_of ticks found ≡ Err kind
       → kind ≡ Moment
   pub tick : (d : Data) (kind : FaultKind) → tick_line_in d ≡ Err kind → kind ≡ Usage
-  pub places : (pods : List PodSpec) (es : List Entry) (kind : FaultKind) → placed_of pods es ≡ Err kind
+  pub places : (roll : Roll) (es : List Entry) (kind : FaultKind) → placed_of roll es ≡ Err kind
       → (kind ≡ StrangerPod) ⊎ (kind ≡ StrangerContainer)
 
--- an entry names a pod that isn't known
-pub record NamesStranger (pods : List PodSpec) (es : List Entry) : Type 0 where
+-- an entry names a pod that isn't present
+pub record NamesStranger (roll : Roll) (es : List Entry) : Type 0 where
   pub n : ℕ
   pub entry : Entry
   pub here : slice_get es n ≡ Some entry
-  pub unknown : place_of (keys_of pods) entry.key ≡ None
+  pub unknown : number_of roll entry.key ≡ None
 
 -- the pod has no container of this name
 abbrev pub HasNo : PodSpec → List ℕ → Type 0
@@ -257,22 +274,25 @@ NamesOther pod entry =
     ((m : ℕ) × (listing : Listing) × (slice_get entry.listings m ≡ Some listing) × HasNo pod listing.name)
     ⊎ ((m : ℕ) × (r : ProbeResult) × (slice_get entry.results m ≡ Some r) × HasNo pod r.container)
 
--- an entry of a known pod names a container that isn't the pod's
-pub record NamesStrangerContainer (pods : List PodSpec) (es : List Entry) : Type 0 where
+-- an entry of a pod that is present names a container that isn't the pod's
+pub record NamesStrangerContainer (roll : Roll) (es : List Entry) : Type 0 where
   pub n : ℕ
   pub entry : Entry
   pub number : ℕ
   pub pod : PodSpec
   pub here : slice_get es n ≡ Some entry
-  pub known : place_of (keys_of pods) entry.key ≡ Some number
-  pub pod_is : slice_get pods number ≡ Some pod
+  pub known : number_of roll entry.key ≡ Some number
+  pub pod_is : slice_get roll.pods number ≡ Some pod
   pub other : NamesOther pod entry
 
--- every pod of the line has to be known before any of its containers is looked for
+-- every pod of the line has to be present before any of its containers is looked for; a key is of the pod that is
+-- present and has it, and of none where there is no such pod
 pub record Strangers : Type 0 where
-  pub pod : (pods : List PodSpec) (es : List Entry) → (placed_of pods es ≡ Err StrangerPod ↔ NamesStranger pods es)
-  pub container : (pods : List PodSpec) (es : List Entry)
-      → (placed_of pods es ≡ Err StrangerContainer ↔ ((NamesStranger pods es → ⊥) × NamesStrangerContainer pods es))
+  pub pod : (roll : Roll) (es : List Entry) → (placed_of roll es ≡ Err StrangerPod ↔ NamesStranger roll es)
+  pub container : (roll : Roll) (es : List Entry)
+      → (placed_of roll es ≡ Err StrangerContainer ↔ ((NamesStranger roll es → ⊥) × NamesStrangerContainer roll es))
+  pub named : (roll : Roll) (key : List ℕ) (n : ℕ) → number_of roll key ≡ Some n → IsNamed roll n key
+  pub unnamed : (roll : Roll) (key : List ℕ) → (number_of roll key ≡ None ↔ (HasKey roll key → ⊥))
 
 -- one of the results is of this probe of the container with the number, and has this outcome
 abbrev pub IsGiven : List PlacedResult → ℕ → ProbeKind → Outcome → Type 0
@@ -299,10 +319,10 @@ Lists es pod container seen = (k : ℕ) × (entry : PlacedEntry) × (slice_get e
 -- where no pod and no container is listed twice, what a tick shows of a container is exactly what
 -- its line lists, wherever it stands
 abbrev pub ListingsShown : Type 0
-ListingsShown = (at : ℕ) (written : TickLine) (es : List PlacedEntry) (pods : List PodSpec) (n c : ℕ) (pod : PodSpec)
+ListingsShown = (at : ℕ) (written : TickLine) (es : List PlacedEntry) (roll : Roll) (n c : ℕ) (pod : PodSpec)
     (seen : Seen) → is_doubled es ≡ false
-    → slice_get pods n ≡ Some pod → c < length pod.containers
-    → (seen_of (observed at written es pods) n c ≡ Some seen ↔ Lists es n c seen)
+    → slice_get roll.pods n ≡ Some pod → is_present roll.departures n ≡ true → c < length pod.containers
+    → (seen_of (observed at written es roll) n c ≡ Some seen ↔ Lists es n c seen)
 
 -- one of the entries is of the pod with the number, and tells this use
 abbrev pub Tells : List PlacedEntry → ℕ → PodUsage → Type 0
@@ -316,19 +336,20 @@ usage_shown_of tick n = option_and_then (λ (p : PodObs). p.usage) (shown_of tic
 -- where no pod is listed twice, what a tick shows of a pod's use is exactly what the pod's entry
 -- tells, wherever it stands
 abbrev pub UsageShown : Type 0
-UsageShown = (at : ℕ) (written : TickLine) (es : List PlacedEntry) (pods : List PodSpec) (n : ℕ) (pod : PodSpec)
+UsageShown = (at : ℕ) (written : TickLine) (es : List PlacedEntry) (roll : Roll) (n : ℕ) (pod : PodSpec)
     (usage : PodUsage) → has_twice are_of_one_pod es ≡ false
-    → slice_get pods n ≡ Some pod → (usage_shown_of (observed at written es pods) n ≡ Some usage ↔ Tells es n usage)
+    → slice_get roll.pods n ≡ Some pod → is_present roll.departures n ≡ true
+    → (usage_shown_of (observed at written es roll) n ≡ Some usage ↔ Tells es n usage)
 
 -- what a tick shows of a signal is exactly the quantity that its line has under the signal's name
 pub record SignalsShown : Type 0 where
-  pub signals : (d : Data) (at : ℕ) (written : TickLine) (placed : List PlacedEntry) (pods : List PodSpec)
+  pub signals : (d : Data) (at : ℕ) (written : TickLine) (placed : List PlacedEntry) (roll : Roll)
       (signal : Signal) → tick_line_in d ≡ Ok written
-      → IsSample (field_at (codes "signals") d) (name_of signal) (of (observed at written placed pods).signals signal)
-  pub after_reclaim : (d : Data) (at : ℕ) (written : TickLine) (placed : List PlacedEntry) (pods : List PodSpec)
+      → IsSample (field_at (codes "signals") d) (name_of signal) (of (observed at written placed roll).signals signal)
+  pub after_reclaim : (d : Data) (at : ℕ) (written : TickLine) (placed : List PlacedEntry) (roll : Roll)
       (signal : Signal) → tick_line_in d ≡ Ok written
       → IsSample (field_at (codes "afterReclaim") d) (name_of signal)
-      (of (observed at written placed pods).after_reclaim signal)
+      (of (observed at written placed roll).after_reclaim signal)
 
 -- of some container of some pod, both by number, the tick has a listing that may not come after all
 -- those of the earlier ticks

@@ -20,6 +20,7 @@ use Rattle.observations.specs.Pods.{PodObs}
 use Rattle.observations.specs.declared.tick.TickObs.{TickObs}
 use Rattle.observations.specs.declared.usage.Usage.{Usage}
 use Rattle.tick_lines.specs.declared.line.TickLine.{TickLine}
+use Rattle.roster.specs.Roll.{Roll, is_present}
 use Rattle.trace.specs.Placing.{is_of_probe}
 
 abbrev pub seen_as : CriState → ListedInstance → Seen
@@ -85,16 +86,18 @@ pod_observed at entry pod = record {
   usage = usage_of entry;
 }
 
--- what the entries say of each of the pods, numbered from n on
-abbrev pub pods_from : ℕ → List PlacedEntry → ℕ → List PodSpec → List (Option PodObs)
-pods_from at es n [] = []
-pods_from at es n (p ∷ ps) = Some (pod_observed at (entry_for es n) p) ∷ pods_from at es (n + 1) ps
+-- what the entries say of each of the pods, numbered from n on; of one that is not present nothing
+abbrev pub pods_from : ℕ → List PlacedEntry → List (Option ℕ) → ℕ → List PodSpec → List (Option PodObs)
+pods_from at es departures n [] = []
+pods_from at es departures n (p ∷ ps) =
+    (if is_present departures n then Some (pod_observed at (entry_for es n) p) else None)
+    ∷ pods_from at es departures (n + 1) ps
 
 -- the whole tick: its entries, placed, and the line's samples of the node's signals
-abbrev pub observed : ℕ → TickLine → List PlacedEntry → List PodSpec → TickObs
-observed at written placed pods = record {
+abbrev pub observed : ℕ → TickLine → List PlacedEntry → Roll → TickObs
+observed at written placed roll = record {
   at = at;
-  pods = pods_from at placed 0 pods;
+  pods = pods_from at placed roll.departures 0 roll.pods;
   signals = written.signals;
   after_reclaim = written.after_reclaim;
 }

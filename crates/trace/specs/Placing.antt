@@ -14,12 +14,12 @@ use Rattle.manifest.specs.declared.outcome.ProbeKind.{ProbeKind}
 use Rattle.trace.specs.declared.placing.PlacedListing.{PlacedListing}
 use Rattle.trace.specs.declared.placing.PlacedResult.{PlacedResult}
 use Rattle.trace.specs.declared.placing.PlacedEntry.{PlacedEntry}
-use Rattle.trace.specs.Pod.{keys_of}
+use Rattle.roster.specs.Roll.{Roll, number_of}
 use Rattle.manifest.specs.ProbeKinds.{place}
 
 -- the number of the pod that an entry names
-abbrev pub number_in : List (List ℕ) → Entry → Result ℕ FaultKind
-number_in keys entry = some_or StrangerPod (place_of keys entry.key)
+abbrev pub number_in : Roll → Entry → Result ℕ FaultKind
+number_in roll entry = some_or StrangerPod (number_of roll entry.key)
 
 abbrev pub pod_numbered : List PodSpec → ℕ → Result PodSpec FaultKind
 pod_numbered pods number = some_or StrangerPod (slice_get pods number)
@@ -46,8 +46,8 @@ entry_of_pod pods number entry = do
   results ← each (placed_result pod) entry.results
   Ok (record { pod = number; listings = listings; results = results; usage = entry.usage })
 
-unfoldable pub placed_entry : List (List ℕ) → List PodSpec → Entry → Result PlacedEntry FaultKind
-placed_entry keys pods entry = number_in keys entry >>= λ number. entry_of_pod pods number entry
+unfoldable pub placed_entry : Roll → Entry → Result PlacedEntry FaultKind
+placed_entry roll entry = number_in roll entry >>= λ number. entry_of_pod roll.pods number entry
 
 -- the entries, each of the pod with its number
 abbrev pub entries_of_pods : List PodSpec → List ℕ → List Entry → Result (List PlacedEntry) FaultKind
@@ -56,11 +56,11 @@ entries_of_pods pods (n ∷ ns) [] = Ok []
 entries_of_pods pods (n ∷ ns) (e ∷ es) =
     entry_of_pod pods n e >>= λ placed. entries_of_pods pods ns es >>= λ rest. Ok (placed ∷ rest)
 
--- all entries: first every pod has to be known, then every container
-unfoldable pub placed_of : List PodSpec → List Entry → Result (List PlacedEntry) FaultKind
-placed_of pods entries = do
-  numbers ← each (number_in (keys_of pods)) entries
-  each (placed_entry (keys_of pods) pods) entries
+-- all entries: first every pod has to be known and present, then every container
+unfoldable pub placed_of : Roll → List Entry → Result (List PlacedEntry) FaultKind
+placed_of roll entries = do
+  numbers ← each (number_in roll) entries
+  each (placed_entry roll) entries
 
 -- two of the items are alike
 abbrev pub has_twice : {A : Type 0} → (A → A → Bool) → List A → Bool

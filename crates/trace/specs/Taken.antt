@@ -18,7 +18,7 @@ use Rattle.trace.specs.Written.{of_tick_line}
 
 -- a JSON value after those that say what is past
 unfoldable pub value_at : Past → Data → Result Past FaultKind
-value_at past d = kind_of_line d >>= λ line_kind. in_order (version_in past) past line_kind d
+value_at past d = kind_of_line (version_in past) d >>= λ line_kind. in_order (version_in past) past line_kind d
 
 -- the tick of a line with this moment that says this beside it, after those that say what is past
 unfoldable pub tick_of : Past → Option ℕ → Result TickLine TickLineFault → Result TickObs FaultKind
@@ -26,7 +26,7 @@ tick_of past moment said = do
   room ← room_for_tick past.ticks
   at ← moment_from past.ticks moment
   written ← of_tick_line said
-  placed ← placed_of past.pods written.entries
+  placed ← placed_of past.roll written.entries
   observed_in past at written placed
 
 unfoldable pub tick_after : Past → Option ℕ → Result TickLine TickLineFault → Result Past FaultKind

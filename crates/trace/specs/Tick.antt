@@ -43,16 +43,16 @@ room_for_tick ticks = refused_if (nat_le most_ticks (length ticks)) TooMany
 
 -- the tick shows the pods that there are, behind the ticks so far, and none of its listings goes back
 pub record MayStandBehind (past : Past) (tick : TickObs) : Type 0 where
-  pub comes_next : ComesNext past.ticks (container_counts past.pods) tick
+  pub comes_next : ComesNext past.ticks (container_counts past.roll.pods) tick
   pub forwards : is_backwards past.ticks tick ≡ false
 
 -- the tick that the line shows with its entries placed, after the ticks before it
 unfoldable pub observed_in : Past → ℕ → TickLine → List PlacedEntry → Result TickObs FaultKind
 observed_in past at written placed = do
   apart ← refused_if (is_doubled placed) Doubled
-  forwards ← refused_if (is_backwards past.ticks (observed at written placed past.pods)) Backwards
+  forwards ← refused_if (is_backwards past.ticks (observed at written placed past.roll)) Backwards
   coded ← refused_if (some_code_missing placed) ExitCode
-  Ok (observed at written placed past.pods)
+  Ok (observed at written placed past.roll)
 
 -- the tick that a tick line says after those that say what is past
 unfoldable pub tick_in : Past → Data → Result TickObs FaultKind
@@ -60,7 +60,7 @@ tick_in past d = do
   room ← room_for_tick past.ticks
   at ← moment_in past.ticks d
   written ← tick_line_in d
-  placed ← placed_of past.pods written.entries
+  placed ← placed_of past.roll written.entries
   observed_in past at written placed
 
 unfoldable pub tick_at : Past → Data → Result Past FaultKind

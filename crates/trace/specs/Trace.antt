@@ -7,7 +7,7 @@ use Rattle.manifest.specs.declared.pod.PodSpec.{PodSpec}
 use Rattle.observations.specs.declared.tick.TickObs.{TickObs}
 use Rattle.json_fields.specs.Reading.{◌>>=◌, refused_if, some_or}
 use Rattle.trace.specs.declared.fault.FaultKind.{FaultKind}
-use Rattle.trace.specs.declared.fault.FaultKind.TheVariants.{TooLong, NotJson, UnknownKind, Order}
+use Rattle.trace.specs.declared.fault.FaultKind.TheVariants.{TooLong, NotJson, UnknownKind, Order, StrangerPod}
 use Rattle.trace.specs.declared.fault.LineFault.{LineFault}
 use Rattle.node_config.specs.declared.node.NodeConfig.{NodeConfig}
 use Rattle.node_config.specs.declared.node.Format.{Format}
@@ -20,33 +20,42 @@ use Rattle.trace.specs.declared.past.Turn.{Turn}
 use Rattle.trace.specs.declared.past.Turn.TheVariants as turns
 use Rattle.json_lines.specs.Lines.{lines_of, is_blank, json_in, longest_line}
 use Rattle.trace.specs.Written.{node_in}
-use Rattle.trace.specs.Pod.{new_key, room_for_pod, pod_from}
-use Rattle.trace.specs.Past.{Past, version_in, of_node, with_pod}
+use Rattle.roster.specs.Roll.{Roll, nothing as no_pods}
+use Rattle.trace.specs.Pod.{new_key, room_for_pod, pod_from, named_in}
+use Rattle.trace.specs.Past.{Past, version_in, of_node, with_pod, without}
 use Rattle.trace.specs.Tick.{tick_at}
 
 -- a line's JSON value
 unfoldable pub json_of : List ℕ → Result Data FaultKind
 json_of line = some_or NotJson (json_in line)
 
-abbrev pub kind_from : Option (List ℕ) → Option LineKind
-kind_from None = None
-kind_from (Some s) =
+-- lines by which a pod leaves are of version 3
+abbrev pub gone_in : Option Version → Option LineKind
+gone_in None = None
+gone_in (Some One) = None
+gone_in (Some Two) = None
+gone_in (Some Three) = Some kinds.Gone
+
+abbrev pub kind_from : Option Version → Option (List ℕ) → Option LineKind
+kind_from version None = None
+kind_from version (Some s) =
     if bytes_eq s (codes "node") then Some kinds.Node
     else (if bytes_eq s (codes "pod") then Some kinds.Pod
-    else (if bytes_eq s (codes "tick") then Some kinds.Tick else None))
+    else (if bytes_eq s (codes "tick") then Some kinds.Tick
+    else (if bytes_eq s (codes "gone") then gone_in version else None)))
 
--- the kind that a line says it is of
-abbrev pub kind_of_line : Data → Result LineKind FaultKind
-kind_of_line d = some_or UnknownKind (kind_from (text_at (codes "kind") d))
+-- the kind that a line says it is of, in a text of this version
+abbrev pub kind_of_line : Option Version → Data → Result LineKind FaultKind
+kind_of_line version d = some_or UnknownKind (kind_from version (text_at (codes "kind") d))
 
 unfoldable pub with_node : Past → Data → Result Past FaultKind
 with_node past d = do
   node ← node_in past.format d
   Ok (of_node past node)
 
--- a pod goes behind the earlier ones, if none of them has its key
+-- a pod goes behind the earlier ones, if none that is present has its key
 abbrev pub with_new_pod : Past → PodSpec → Result Past FaultKind
-with_new_pod past pod = new_key past.pods pod >>= λ new. Ok (with_pod past pod)
+with_new_pod past pod = new_key past.roll pod >>= λ new. Ok (with_pod past pod)
 
 -- in version 1 a pod line stands before all tick lines; in later ones it may follow one
 abbrev pub is_late : Version → List TickObs → Bool
@@ -58,7 +67,7 @@ is_late Three ticks = false
 unfoldable pub pod_in : Version → Past → Data → Result PodSpec FaultKind
 pod_in version past d = do
   in_time ← refused_if (is_late version past.ticks) Order
-  room ← room_for_pod past.pods
+  room ← room_for_pod past.roll.pods
   pod_from (field_at (codes "pod") d)
 
 unfoldable pub pod_line_at : Version → Past → Data → Result Past FaultKind
@@ -66,19 +75,28 @@ pod_line_at version past d = do
   pod ← pod_in version past d
   with_new_pod past pod
 
+-- a pod leaves, if it is present
+unfoldable pub gone_line_at : Past → Data → Result Past FaultKind
+gone_line_at past d = do
+  number ← some_or StrangerPod (named_in past.roll (text_at (codes "pod") d))
+  Ok (without past number)
+
 -- a node line stands first, and nowhere else
 abbrev pub turn_of : Option Version → LineKind → Result Turn FaultKind
 turn_of None kinds.Node = Ok turns.Node
 turn_of None kinds.Pod = Err Order
 turn_of None kinds.Tick = Err Order
+turn_of None kinds.Gone = Err Order
 turn_of (Some version) kinds.Node = Err Order
 turn_of (Some version) kinds.Pod = Ok (turns.Pod version)
 turn_of (Some version) kinds.Tick = Ok turns.Tick
+turn_of (Some version) kinds.Gone = Ok turns.Gone
 
 abbrev pub in_turn : Past → Turn → Data → Result Past FaultKind
 in_turn past turns.Node d = with_node past d
 in_turn past (turns.Pod version) d = pod_line_at version past d
 in_turn past turns.Tick d = tick_at past d
+in_turn past turns.Gone d = gone_line_at past d
 
 abbrev pub in_order : Option Version → Past → LineKind → Data → Result Past FaultKind
 in_order version past line_kind d = turn_of version line_kind >>= λ turn. in_turn past turn d
@@ -86,29 +104,38 @@ in_order version past line_kind d = turn_of version line_kind >>= λ turn. in_tu
 abbrev pub line_length : List ℕ → Result ⊤ FaultKind
 line_length line = refused_if (nat_lt longest_line (length line)) TooLong
 
--- the kind of a line, and its JSON value
-unfoldable pub kind_and_value : List ℕ → Result (LineKind × Data) FaultKind
-kind_and_value line = do
+-- the kind of a line in a text of this version, and its JSON value
+unfoldable pub kind_and_value : Option Version → List ℕ → Result (LineKind × Data) FaultKind
+kind_and_value version line = do
   short ← line_length line
   d ← json_of line
-  line_kind ← kind_of_line d
+  line_kind ← kind_of_line version d
   Ok (line_kind, d)
 
 -- a line after those that say what is past
 unfoldable pub line_at : Past → List ℕ → Result Past FaultKind
 line_at past line = do
-  said ← kind_and_value line
+  said ← kind_and_value (version_in past) line
   in_order (version_in past) past said.0 said.1
 
 abbrev pub at_line : {A : Type 0} → ℕ → Result A FaultKind → Result A LineFault
 at_line n (Ok x) = Ok x
 at_line n (Err kind) = Err (record { line = n; kind = kind })
 
+abbrev pub trace_in : NodeConfig → Roll → List TickObs → Trace
+trace_in node roll ticks = record {
+  node = node;
+  pods = roll.pods;
+  arrivals = roll.arrivals;
+  departures = roll.departures;
+  ticks = ticks;
+}
+
 -- a text without a line that counts lacks a node line at its end
 abbrev pub finished : ℕ → Past → Option NodeConfig → Result Trace LineFault
 finished n past None = Err (record { line = n; kind = Order })
 finished n past (Some node) = Ok
-    (record { node = node; pods = past.pods; arrivals = past.arrivals; ticks = past.ticks })
+    (trace_in node past.roll past.ticks)
 
 -- the lines from the nth on, after those that say what is past
 abbrev pub read_on : ℕ → Past → List (List ℕ) → Result Trace LineFault
@@ -119,7 +146,7 @@ read_on n past (line ∷ lines) =
 
 -- no line was read yet
 abbrev pub nothing : Format → Past
-nothing format = record { format = format; node = None; pods = []; arrivals = []; ticks = [] }
+nothing format = record { format = format; node = None; roll = no_pods; ticks = [] }
 
 -- the trace of a text in a format
 unfoldable pub trace_of : Format → List ℕ → Result Trace LineFault

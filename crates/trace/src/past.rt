@@ -2,9 +2,9 @@
 
 use following::Following;
 use manifest::PodSpec;
-use name_list::NameList;
 use node_config::{Format, NodeConfig, Version};
 use observations::TickObs;
+use roster::Roster;
 use sequence::Sequence;
 use std::marker::Model;
 
@@ -14,6 +14,8 @@ pub(crate) enum LineKind {
     Node,
     Pod,
     Tick,
+    /// By which a pod leaves: of version 3 alone.
+    Gone,
 }
 
 /// As what a line is taken that may stand where it does.
@@ -23,45 +25,34 @@ pub(crate) enum Turn {
     /// A pod line, in a text of this version.
     Pod(Version),
     Tick,
+    Gone,
 }
 
-/// What the lines so far say, with the pods' keys by number, and what follows their containers.
+/// What the lines so far say, and what follows the pods' containers.
 #[derive(Drop)]
 pub(crate) struct Reader {
     pub(crate) format: Format,
     pub(crate) node: Option<NodeConfig>,
-    pub(crate) pods: Sequence<PodSpec>,
-    pub(crate) arrivals: Sequence<usize>,
+    pub(crate) roster: Roster,
     pub(crate) ticks: Sequence<TickObs>,
-    pub(crate) keys: NameList,
     pub(crate) following: Following,
 }
 
-/// The pods, by number, with the ticks before each, and their keys.
-#[derive(Drop)]
-pub(crate) struct Roster {
-    pub(crate) pods: Sequence<PodSpec>,
-    pub(crate) arrivals: Sequence<usize>,
-    pub(crate) keys: NameList,
-}
-
 impl Model for Reader {
-    ghost use Rattle.std.specs.Prelude.{◌≡◌};
     ghost use Rattle.following.specs.Followed.{HasFollowed};
     ghost use Rattle.trace.specs.Past.{Past};
-    ghost use Rattle.trace.specs.Pod.{container_counts, keys_of};
+    ghost use Rattle.trace.specs.Pod.{container_counts};
 
     ghost Value = { Past };
 
     ghost view = { λ r. record {
       format = r.format;
       node = r.node;
-      pods = r.pods;
-      arrivals = r.arrivals;
+      roll = r.roster;
       ticks = r.ticks;
     } };
 
-    ghost invariant = { λ r. (r.keys ≡ keys_of r.pods) × HasFollowed r.ticks (container_counts r.pods) r.following };
+    ghost invariant = { λ r. HasFollowed r.ticks (container_counts r.roster.pods) r.following };
 }
 
 /// A whole trace: the node, its pods, and what was recorded of them tick by tick.
@@ -72,6 +63,9 @@ pub struct Trace {
     pub pods: Sequence<PodSpec>,
     /// For each pod how many ticks stand before its line; the pod is present from the next tick on.
     pub arrivals: Sequence<usize>,
+    /// For each pod how many ticks stand before the line by which it is gone, if it has one; it is not present from
+    /// the next tick on.
+    pub departures: Sequence<Option<usize>>,
     /// The ticks, in the order of their moments.
     pub ticks: Sequence<TickObs>,
 }

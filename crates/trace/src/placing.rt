@@ -1,10 +1,8 @@
 //! The entries of a tick line, with numbers in the place of names.
 
 ghost use Rattle.std.specs.Prelude.{◌≡◌, ◌==◌, length};
-ghost use Rattle.name_list.specs.Names.{place_of};
 ghost use Rattle.json_fields.specs.Reading.{each, some_or, GivesExactly};
 ghost use Rattle.trace.specs.Gives.{Gives};
-ghost use Rattle.trace.specs.Pod.{keys_of};
 ghost use Rattle.trace.specs.Placing.{number_in, container_number, placed_listing, placed_result, pod_numbered};
 ghost use Rattle.trace.specs.Placing.{entry_of_pod, entries_of_pods, has_twice, are_of_one_container, is_of_probe};
 ghost use Rattle.trace.specs.Placing.{are_of_one_probe, repeats};
@@ -12,8 +10,8 @@ ghost use Rattle.std.specs.List.{list_any};
 
 use crate::fault::FaultKind;
 use manifest::{Outcome, PodSpec, ProbeKind};
-use name_list::NameList;
 use observations::Usage;
+use roster::Roster;
 use sequence::Sequence;
 use std::alloc::Global;
 use tick_lines::{Entry, ListedInstance, Listing, ProbeResult};
@@ -42,10 +40,10 @@ pub(crate) struct PlacedEntry {
     pub(crate) usage: Option<Usage>,
 }
 
-fn pod_number(keys: &NameList, entry: &Entry) -> Result<usize, FaultKind>
-    ensures { GivesExactly (λ n. n) result (number_in keys.now entry.now) }
+fn pod_number(roster: &Roster, entry: &Entry) -> Result<usize, FaultKind>
+    ensures { GivesExactly (λ n. n) result (number_in roster.now entry.now) }
 {
-    match keys.number_of(entry.key.as_str()) {
+    match roster.number_of(entry.key.as_str()) {
         None => Err(FaultKind::StrangerPod),
         Some(number) => Ok(number),
     }
@@ -54,14 +52,14 @@ fn pod_number(keys: &NameList, entry: &Entry) -> Result<usize, FaultKind>
 /// The numbers of the pods of all entries.
 pub(crate) fn pod_numbers(
     alloc: Global,
-    keys: &NameList,
+    roster: &Roster,
     entries: &[Entry],
 ) -> Result<Vec<usize>, FaultKind>
-    ensures { Gives (λ v. v.items) result (each (number_in keys.now) entries.now) }
+    ensures { Gives (λ v. v.items) result (each (number_in roster.now) entries.now) }
 {
     let mut all = Vec::new(alloc);
     for entry in entries {
-        let number = pod_number(keys, entry)?;
+        let number = pod_number(roster, entry)?;
         all.push(number)?;
     }
     Ok(all)

@@ -1,18 +1,18 @@
 //! Pod lines.
 
-ghost use Rattle.std.specs.Prelude.{◌≡◌, option_map, is_some, None, IfOk, string_bytes};
+ghost use Rattle.std.specs.Prelude.{◌≡◌, option_map, None, IfOk, string_bytes};
 ghost use Rattle.serde_json.specs.View.{view};
 ghost use Rattle.json_fields.specs.Reading.{GivesExactly};
-ghost use Rattle.name_list.specs.Names.{place_of};
+ghost use Rattle.roster.specs.Roll.{key_of_pod, number_of};
 ghost use Rattle.trace.specs.Gives.{Gives};
-ghost use Rattle.trace.specs.Pod.{key_of_pod, keys_of, new_key, room_for_pod, manifest_of, pod_from};
+ghost use Rattle.trace.specs.Pod.{has_key, new_key, room_for_pod, manifest_of, pod_from};
 
 use crate::fault::{FaultKind, refused_if};
 use crate::past::Reader;
 use manifest::PodSpec;
 use manifest_reader::{Field, ManifestFault, read_pod};
-use name_list::NameList;
 use observations::MOST_PODS;
+use roster::Roster;
 use serde_json::Value;
 use std::alloc::{AllocError, Global};
 
@@ -45,29 +45,29 @@ fn key_text(alloc: Global, pod: &PodSpec) -> Result<String, AllocError>
 
 /// There is room for one pod more.
 pub(crate) fn room_for_pod(reader: &Reader) -> Result<(), FaultKind>
-    ensures { GivesExactly (λ t. t) result (room_for_pod reader.now.pods) }
+    ensures { GivesExactly (λ t. t) result (room_for_pod reader.now.roll.pods) }
 {
     refused_if(
-        reader.pods.as_slice().len() >= MOST_PODS,
+        reader.roster.pods().len() >= MOST_PODS,
         FaultKind::TooMany,
     )
 }
 
-fn is_known(keys: &NameList, key: &str) -> bool
-    ensures { result ≡ is_some (place_of keys.now key.now) }
+fn has_key(roster: &Roster, key: &str) -> bool
+    ensures { result ≡ has_key roster.now key.now }
 {
-    keys.number_of(key).is_some()
+    roster.number_of(key).is_some()
 }
 
-/// The key of a pod, if no earlier pod has it.
+/// The key of a pod, if no pod that is present has it.
 pub(crate) fn new_key(alloc: Global, reader: &Reader, pod: &PodSpec) -> Result<String, FaultKind>
-    ensures gives { Gives (λ _. tt) result (new_key reader.now.pods pod.now) }
+    ensures gives { Gives (λ _. tt) result (new_key reader.now.roll pod.now) }
     ensures key { IfOk result (λ s. string_bytes s ≡ key_of_pod pod.now) }
-    ensures new { IfOk result (λ s. place_of (keys_of reader.now.pods) (string_bytes s) ≡ None) }
+    ensures new { IfOk result (λ s. number_of reader.now.roll (string_bytes s) ≡ None) }
 {
     let key = key_text(alloc, pod)?;
     refused_if(
-        is_known(&reader.keys, key.as_str()),
+        has_key(&reader.roster, key.as_str()),
         FaultKind::DuplicatePod,
     )?;
     Ok(key)

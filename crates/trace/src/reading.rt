@@ -7,17 +7,17 @@ ghost use Rattle.serde_json.specs.View.{view};
 ghost use Rattle.json_fields.specs.Reading.{GivesExactly};
 ghost use Rattle.json_lines.specs.Lines.{data_of};
 ghost use Rattle.trace.specs.Gives.{Gives};
-ghost use Rattle.name_list.specs.Names.{place_of};
+ghost use Rattle.roster.specs.Roll.{key_of_pod, number_of};
 ghost use Rattle.trace.specs.Written.{is_foreign, node_in};
-ghost use Rattle.trace.specs.Past.{IsEnlisted, version_in, with_pod};
-ghost use Rattle.trace.specs.Pod.{key_of_pod, keys_of};
+ghost use Rattle.trace.specs.Past.{version_in, with_pod, without};
+ghost use Rattle.trace.specs.Pod.{named_in};
 ghost use Rattle.trace.specs.Taken.{tick_line_at, value_at, any_line_at};
-ghost use Rattle.trace.specs.Trace.{kind_from, kind_of_line, with_node, with_new_pod, is_late, pod_in};
-ghost use Rattle.trace.specs.Trace.{pod_line_at, turn_of, in_order};
+ghost use Rattle.trace.specs.Trace.{gone_in, kind_from, kind_of_line, with_node, with_new_pod, is_late, pod_in};
+ghost use Rattle.trace.specs.Trace.{pod_line_at, gone_line_at, turn_of, in_order};
 ghost use Rattle.trace.specs.Tick.{tick_at};
 
 use crate::fault::{FaultKind, refused_if};
-use crate::past::{LineKind, Reader, Roster, Turn};
+use crate::past::{LineKind, Reader, Turn};
 use crate::pod::{new_key, pod_from, room_for_pod};
 use crate::tick::take_tick;
 use json_fields::{field, text_at};
@@ -25,8 +25,9 @@ use json_lines::{TextLine, TickRecord, tick_record};
 use manifest::PodSpec;
 use node_config::{Format, NodeConfig, Version};
 use node_lines::node_of;
+use roster::Roster;
 use serde_json::Value;
-use std::alloc::{AllocError, Global};
+use std::alloc::Global;
 
 /// The whole number in a field, if it has one.
 fn whole_number_at(line: &Value, name: &str) -> Option<u64>
@@ -35,22 +36,33 @@ fn whole_number_at(line: &Value, name: &str) -> Option<u64>
     field(line, name)?.as_u64()
 }
 
-fn kind_from(kind: Option<&str>) -> Option<LineKind>
-    ensures { result ≡ kind_from (option_map (λ s. s.now) kind.entry) }
+/// Lines by which a pod leaves are of version 3.
+fn gone_in(version: Option<Version>) -> Option<LineKind>
+    ensures { result ≡ gone_in version }
+{
+    match version {
+        Some(Version::Three) => Some(LineKind::Gone),
+        _ => None,
+    }
+}
+
+fn kind_from(version: Option<Version>, kind: Option<&str>) -> Option<LineKind>
+    ensures { result ≡ kind_from version (option_map (λ s. s.now) kind.entry) }
 {
     match kind {
         Some("node") => Some(LineKind::Node),
         Some("pod") => Some(LineKind::Pod),
         Some("tick") => Some(LineKind::Tick),
+        Some("gone") => gone_in(version),
         _ => None,
     }
 }
 
-/// The kind that a line says it is of.
-fn kind_of_line(line: &Value) -> Result<LineKind, FaultKind>
-    ensures { GivesExactly (λ k. k) result (kind_of_line (view line.now)) }
+/// The kind that a line says it is of, in a text of this version.
+fn kind_of_line(version: Option<Version>, line: &Value) -> Result<LineKind, FaultKind>
+    ensures { GivesExactly (λ k. k) result (kind_of_line version (view line.now)) }
 {
-    match kind_from(text_at(line, "kind")) {
+    match kind_from(version, text_at(line, "kind")) {
         None => Err(FaultKind::UnknownKind),
         Some(line_kind) => Ok(line_kind),
     }
@@ -88,79 +100,56 @@ fn take_node(alloc: Global, reader: Reader, line: &Value) -> Result<Reader, Faul
     };
     let Reader {
         format,
-        pods,
-        arrivals,
+        roster,
         ticks,
-        keys,
         following,
         ..
     } = reader;
     Ok(Reader {
         format,
         node: Some(node),
-        pods,
-        arrivals,
+        roster,
         ticks,
-        keys,
         following,
     })
-}
-
-/// Adds a pod with its key, and the number of ticks before it.
-fn enlist(roster: &mut Roster, pod: PodSpec, key: String, ticks: usize) -> Result<(), AllocError>
-    requires { place_of roster.old.keys (string_bytes key) ≡ None }
-    ensures { OnOk result (IsEnlisted roster.old pod (string_bytes key) ticks roster.new) }
-{
-    roster.keys.push(key)?;
-    roster.pods.push(pod)?;
-    roster.arrivals.push(ticks)
 }
 
 /// Adds a pod of a new key.
 fn with_pod(alloc: Global, reader: Reader, pod: PodSpec, key: String) -> Result<Reader, FaultKind>
     requires key { string_bytes key ≡ key_of_pod pod }
-    requires new { place_of (keys_of reader.pods) (string_bytes key) ≡ None }
+    requires new { number_of reader.roll (string_bytes key) ≡ None }
     ensures { Gives (λ r. r) result (Ok (with_pod reader pod)) }
 {
     let Reader {
         format,
         node,
-        pods,
-        arrivals,
+        roster,
         ticks,
-        keys,
         following,
     } = reader;
     let following = match following.with_pod(alloc, pod.containers.as_slice().len()) {
         Ok(following) => following,
         Err(error) => {
-            drop((node, pods, arrivals, ticks, keys, pod, key));
+            drop((node, roster, ticks, pod, key));
             return Err(FaultKind::from(error));
         }
     };
-    let mut roster = Roster {
-        pods,
-        arrivals,
-        keys,
-    };
-    match enlist(&mut roster, pod, key, ticks.as_slice().len()) {
-        Ok(()) => Ok(Reader {
+    match roster.with_pod(pod, key, ticks.as_slice().len()) {
+        Ok(roster) => Ok(Reader {
             format,
             node,
-            pods: roster.pods,
-            arrivals: roster.arrivals,
+            roster,
             ticks,
-            keys: roster.keys,
             following,
         }),
         Err(error) => {
-            drop((node, ticks, roster, following));
+            drop((node, ticks, following));
             Err(FaultKind::from(error))
         }
     }
 }
 
-/// Adds a pod, if its key is new.
+/// Adds a pod, if no pod that is present has its key.
 fn with_new_pod(alloc: Global, reader: Reader, pod: PodSpec) -> Result<Reader, FaultKind>
     ensures { Gives (λ r. r) result (with_new_pod reader pod) }
 {
@@ -217,6 +206,50 @@ fn take_pod(
     }
 }
 
+/// The number of the pod that is present and whose key a line has.
+fn named_in(roster: &Roster, key: Option<&str>) -> Option<usize>
+    ensures { result ≡ named_in roster.now (option_map (λ s. s.now) key.entry) }
+{
+    roster.number_of(key?)
+}
+
+/// The pod with the number, which has this key, is gone.
+fn without(reader: Reader, number: usize, key: &str) -> Reader
+    requires { number_of reader.roll key.now ≡ Some number }
+    ensures { result ≡ without reader number }
+{
+    let Reader {
+        format,
+        node,
+        mut roster,
+        ticks,
+        following,
+    } = reader;
+    roster.leave(number, key, ticks.as_slice().len());
+    Reader {
+        format,
+        node,
+        roster,
+        ticks,
+        following,
+    }
+}
+
+/// Takes a line by which a pod leaves.
+#[tactic(auto, unfolding(crate::specs::Trace::gone_line_at))]
+fn take_gone(reader: Reader, line: &Value) -> Result<Reader, FaultKind>
+    ensures { GivesExactly (λ r. r) result (gone_line_at reader (view line.now)) }
+{
+    let key = text_at(line, "pod");
+    match (named_in(&reader.roster, key), key) {
+        (Some(number), Some(key)) => Ok(without(reader, number, key)),
+        _ => {
+            drop(reader);
+            Err(FaultKind::StrangerPod)
+        }
+    }
+}
+
 /// The version of the format, once there is a node.
 fn version_in(reader: &Reader) -> Option<Version>
     ensures { result ≡ version_in reader.now }
@@ -235,6 +268,7 @@ fn turn_of(version: Option<Version>, line_kind: LineKind) -> Result<Turn, FaultK
         (None, LineKind::Node) => Ok(Turn::Node),
         (Some(version), LineKind::Pod) => Ok(Turn::Pod(version)),
         (Some(_), LineKind::Tick) => Ok(Turn::Tick),
+        (Some(_), LineKind::Gone) => Ok(Turn::Gone),
         _ => Err(FaultKind::Order),
     }
 }
@@ -264,6 +298,7 @@ fn take_in_order(
         Ok(Turn::Node) => take_node(alloc, reader, line),
         Ok(Turn::Pod(version)) => take_pod(alloc, version, reader, line),
         Ok(Turn::Tick) => take_tick_value(alloc, reader, line),
+        Ok(Turn::Gone) => take_gone(reader, line),
         Err(kind) => {
             drop(reader);
             Err(kind)
@@ -276,7 +311,7 @@ fn take_in_order(
 fn take_value(alloc: Global, reader: Reader, line: &Value) -> Result<Reader, FaultKind>
     ensures { Gives (λ r. r) result (value_at reader (view line.now)) }
 {
-    match kind_of_line(line) {
+    match kind_of_line(version_in(&reader), line) {
         Ok(line_kind) => take_in_order(alloc, reader, line_kind, line),
         Err(kind) => {
             drop(reader);

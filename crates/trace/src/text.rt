@@ -13,8 +13,8 @@ use crate::past::{Reader, Trace};
 use crate::reading::take_line;
 use following::Following;
 use json_lines::{TextLine, window_alone, window_by_workers};
-use name_list::NameList;
 use node_config::Format;
+use roster::Roster;
 use sequence::Sequence;
 use std::alloc::Global;
 use std::thread::Threads;
@@ -26,10 +26,8 @@ fn nothing(alloc: Global, format: Format) -> Reader
     Reader {
         format,
         node: None,
-        pods: Sequence::new(alloc),
-        arrivals: Sequence::new(alloc),
+        roster: Roster::new(alloc),
         ticks: Sequence::new(alloc),
-        keys: NameList::new(alloc),
         following: Following::new(alloc),
     }
 }
@@ -68,25 +66,28 @@ fn finished(line: u64, reader: Reader) -> Result<Trace, LineFault>
 {
     let Reader {
         node,
-        pods,
-        arrivals,
+        roster,
         ticks,
         ..
     } = reader;
     match node {
         None => {
-            drop((pods, arrivals, ticks));
+            drop((roster, ticks));
             Err(LineFault {
                 line,
                 kind: FaultKind::Order,
             })
         }
-        Some(node) => Ok(Trace {
-            node,
-            pods,
-            arrivals,
-            ticks,
-        }),
+        Some(node) => {
+            let (pods, arrivals, departures) = roster.into_parts();
+            Ok(Trace {
+                node,
+                pods,
+                arrivals,
+                departures,
+                ticks,
+            })
+        }
     }
 }
 
@@ -115,7 +116,7 @@ pub fn read_trace(alloc: Global, format: Format, text: &[u8]) -> Result<Trace, L
     ensures gives { GivesAt (λ t. t) result (trace_of format text.now) }
     ensures acceptable { IfOk result (λ t. AreAcceptable t.ticks) }
     ensures rising { IfOk result (λ t. AreRising t.ticks) }
-    ensures shape { IfOk result (λ t. HasShape t.pods t.arrivals t.ticks) }
+    ensures shape { IfOk result (λ t. HasShape t.pods t.arrivals t.departures t.ticks) }
 {
     read_alone(alloc, format, text)
 }
@@ -158,7 +159,7 @@ pub fn read_trace_by_workers<R: Threads + Sync>(
     ensures gives { GivesAt (λ t. t) result (trace_of format text.now) }
     ensures acceptable { IfOk result (λ t. AreAcceptable t.ticks) }
     ensures rising { IfOk result (λ t. AreRising t.ticks) }
-    ensures shape { IfOk result (λ t. HasShape t.pods t.arrivals t.ticks) }
+    ensures shape { IfOk result (λ t. HasShape t.pods t.arrivals t.departures t.ticks) }
 {
     read_by_workers(rt, alloc, format, text, workers)
 }

@@ -1,6 +1,6 @@
 //! Tick lines.
 
-ghost use Rattle.std.specs.Prelude.{◌≡◌, ◌<◌, All, length, option_map, Ok, IfOk};
+ghost use Rattle.std.specs.Prelude.{◌≡◌, ◌<◌, All, length, option_map, Some, None, if◌then◌else◌, Ok, IfOk};
 ghost use Rattle.std.specs.List.{list_any};
 ghost use Rattle.json_fields.specs.Reading.{refused_if, GivesExactly};
 ghost use Rattle.trace.specs.Gives.{Gives};
@@ -27,6 +27,7 @@ use crate::placing::{
 use json_lines::TickRecord;
 use manifest::{ContainerSpec, Outcome, PodSpec, ProbeKind};
 use observations::{ContainerObs, MOST_TICKS, PodObs, TickObs, Usage};
+use roster::Roster;
 use sequence::Sequence;
 use state_diff::{CriState, Seen};
 use std::alloc::{AllocError, Global};
@@ -149,21 +150,39 @@ fn pod_observed(
     PodObs::new(alloc, at, &containers, usage_of(entry))
 }
 
+/// The same, if the pod is present.
+fn shown(
+    alloc: Global,
+    at: u64,
+    entry: Option<&PlacedEntry>,
+    pod: &PodSpec,
+    is_present: bool,
+) -> Result<Option<PodObs>, AllocError>
+    ensures { IfOk result (λ o. o
+        ≡ (if is_present then Some (pod_observed at (option_map (λ e. e.now) entry.entry) pod.now) else None)) }
+{
+    if !is_present {
+        return Ok(None);
+    }
+    let observed = pod_observed(alloc, at, entry, pod)?;
+    Ok(Some(observed))
+}
+
 fn pods_observed(
     alloc: Global,
     at: u64,
     entries: &[PlacedEntry],
     first: &[Option<usize>],
-    pods: &[PodSpec],
+    roster: &Roster,
 ) -> Result<Vec<Option<PodObs>>, AllocError>
-    requires { AreFirst entries.now (length pods.now) first.now }
-    ensures { IfOk result (λ v. v.items ≡ pods_from at entries.now 0 pods.now) }
+    requires { AreFirst entries.now (length roster.now.pods) first.now }
+    ensures { IfOk result (λ v. v.items ≡ pods_from at entries.now roster.now.departures 0 roster.now.pods) }
 {
+    let pods = roster.pods();
     let mut all = Vec::with_capacity(alloc, pods.len())?;
     for (number, pod) in pods.iter().enumerate() {
         let entry = entry_for(entries, first, number);
-        let observed = pod_observed(alloc, at, entry, pod)?;
-        all.push(Some(observed))?;
+        all.push(shown(alloc, at, entry, pod, roster.is_present(number))?)?;
     }
     Ok(all)
 }
@@ -174,12 +193,12 @@ fn observed(
     written: &TickLine,
     placed: &[PlacedEntry],
     first: &[Option<usize>],
-    pods: &[PodSpec],
+    roster: &Roster,
 ) -> Result<TickObs, AllocError>
-    requires { AreFirst placed.now (length pods.now) first.now }
-    ensures { IfOk result (λ t. t ≡ observed at written.now placed.now pods.now) }
+    requires { AreFirst placed.now (length roster.now.pods) first.now }
+    ensures { IfOk result (λ t. t ≡ observed at written.now placed.now roster.now) }
 {
-    let pods = pods_observed(alloc, at, placed, first, pods)?;
+    let pods = pods_observed(alloc, at, placed, first, roster)?;
     Ok(TickObs {
         at,
         pods: Sequence::from_vec(pods),
@@ -241,21 +260,21 @@ fn placed_of(
     reader: &Reader,
     written: &TickLine,
 ) -> Result<Vec<PlacedEntry>, FaultKind>
-    ensures gives { Gives (λ v. v.items) result (placed_of reader.now.pods written.now.entries) }
-    ensures known { IfOk result (λ v. All (λ e. e.pod < length reader.now.pods) v.items) }
+    ensures gives { Gives (λ v. v.items) result (placed_of reader.now.roll written.now.entries) }
+    ensures known { IfOk result (λ v. All (λ e. e.pod < length reader.now.roll.pods) v.items) }
 {
     let entries = written.entries.as_slice();
-    let numbers = pod_numbers(alloc, &reader.keys, entries)?;
-    entries_of_pods(alloc, reader.pods.as_slice(), &numbers, entries)
+    let numbers = pod_numbers(alloc, &reader.roster, entries)?;
+    entries_of_pods(alloc, reader.roster.pods(), &numbers, entries)
 }
 
 /// Where the entries of each pod of the reader stand.
 fn by_pod(alloc: Global, reader: &Reader, placed: &[PlacedEntry]) -> Result<EntriesByPod, FaultKind>
-    requires { All (λ e. e.pod < length reader.now.pods) placed.now }
+    requires { All (λ e. e.pod < length reader.now.roll.pods) placed.now }
     ensures apart { Gives (λ _. tt) result (refused_if (is_doubled placed.now) FaultKind.Doubled) }
-    ensures first { IfOk result (λ found. AreFirst placed.now (length reader.now.pods) found.first.items) }
+    ensures first { IfOk result (λ found. AreFirst placed.now (length reader.now.roll.pods) found.first.items) }
 {
-    let found = entries_by_pod(alloc, placed, reader.pods.as_slice().len())?;
+    let found = entries_by_pod(alloc, placed, reader.roster.pods().len())?;
     refused_if(
         found.has_pod_twice || some_entry_repeats(placed),
         FaultKind::Doubled,
@@ -265,7 +284,7 @@ fn by_pod(alloc: Global, reader: &Reader, placed: &[PlacedEntry]) -> Result<Entr
 
 /// Whether some listing of the tick may not come after those of the earlier ticks.
 fn is_backwards(reader: &Reader, tick: &TickObs) -> bool
-    requires { ComesNext reader.now.ticks (container_counts reader.now.pods) tick.now }
+    requires { ComesNext reader.now.ticks (container_counts reader.now.roll.pods) tick.now }
     ensures { result ≡ is_backwards reader.now.ticks tick.now }
 {
     !reader.following.accepts(tick)
@@ -281,13 +300,12 @@ fn observed_in(
     placed: &[PlacedEntry],
 ) -> Result<TickObs, FaultKind>
     requires later { EndBefore reader.now.ticks at }
-    requires known { All (λ e. e.pod < length reader.now.pods) placed.now }
+    requires known { All (λ e. e.pod < length reader.now.roll.pods) placed.now }
     ensures gives { Gives (λ t. t) result (observed_in reader.now at written.now placed.now) }
     ensures follows { IfOk result (MayStandBehind reader.now) }
 {
     let by_pod = by_pod(alloc, reader, placed)?;
-    let pods = reader.pods.as_slice();
-    let tick = observed(alloc, at, written, placed, &by_pod.first, pods)?;
+    let tick = observed(alloc, at, written, placed, &by_pod.first, &reader.roster)?;
     refused_if(is_backwards(reader, &tick), FaultKind::Backwards)?;
     refused_if(some_code_missing(placed), FaultKind::ExitCode)?;
     Ok(tick)
@@ -300,10 +318,8 @@ fn with_tick(reader: Reader, tick: TickObs) -> Result<Reader, FaultKind>
     let Reader {
         format,
         node,
-        pods,
-        arrivals,
+        roster,
         mut ticks,
-        keys,
         mut following,
     } = reader;
     following.step(&tick);
@@ -311,14 +327,12 @@ fn with_tick(reader: Reader, tick: TickObs) -> Result<Reader, FaultKind>
         Ok(()) => Ok(Reader {
             format,
             node,
-            pods,
-            arrivals,
+            roster,
             ticks,
-            keys,
             following,
         }),
         Err(error) => {
-            drop((node, pods, arrivals, ticks, keys, following));
+            drop((node, roster, ticks, following));
             Err(FaultKind::from(error))
         }
     }

@@ -54,10 +54,11 @@ kept (suc i) zero (x ∷ xs) tick e = (omega arith, e)
 kept (suc i) (suc t) (x ∷ xs) tick e = let w = kept i t xs tick e in (omega (arith, w.0), w.1)
 
 -- no tick shows fewer pods than one before it
-grows : (pods : List PodSpec) (arrivals : List ℕ) (ticks : List TickObs) → HasShape pods arrivals ticks
+grows : (pods : List PodSpec) (arrivals : List ℕ) (departures : List (Option ℕ)) (ticks : List TickObs)
+    → HasShape pods arrivals departures ticks
     → (t u : ℕ) (earlier later : TickObs) → t < u → slice_get ticks t ≡ Some earlier → slice_get ticks u ≡ Some later
     → length earlier.pods ≤ length later.pods
-grows pods arrivals ticks shape t u earlier later lt at there =
+grows pods arrivals departures ticks shape t u earlier later lt at there =
     elim (cases_lt (length later.pods) (length earlier.pods)) [
       | inl fewer ↦
           let n = length later.pods in
@@ -73,10 +74,10 @@ grows pods arrivals ticks shape t u earlier later lt at there =
     before (Some arrival) p = let le : arrival ≤ t = p in omega arith
 
 -- and none shows more than there are
-no_more : (pods : List PodSpec) (arrivals : List ℕ) (ticks : List TickObs) → HasShape pods arrivals ticks → (t : ℕ)
-    (tick : TickObs) → slice_get ticks t ≡ Some tick
+no_more : (pods : List PodSpec) (arrivals : List ℕ) (departures : List (Option ℕ)) (ticks : List TickObs)
+    → HasShape pods arrivals departures ticks → (t : ℕ) (tick : TickObs) → slice_get ticks t ≡ Some tick
     → length tick.pods ≤ length pods
-no_more pods arrivals ticks shape t tick at = elim (cases_lt (length pods) (length tick.pods)) [
+no_more pods arrivals departures ticks shape t tick at = elim (cases_lt (length pods) (length tick.pods)) [
   | inl more ↦
       let present = ((shape.shown t tick at).told (length pods)).0 more in
       let below : length pods < length arrivals = some_below arrivals (length pods) present in
@@ -90,18 +91,18 @@ no_more pods arrivals ticks shape t tick at = elim (cases_lt (length pods) (leng
     some_below (x ∷ xs) zero p = omega arith
     some_below (x ∷ xs) (suc n) p = let lt : n < length xs = some_below xs n p in omega arith
 
-pub are_replayable : (pods : List PodSpec) (arrivals : List ℕ) (ticks : List TickObs) → AreAcceptable ticks
-    → HasShape pods arrivals ticks → AreReplayable pods ticks
-are_replayable pods arrivals ticks acceptable shape = record {
+pub are_replayable : (pods : List PodSpec) (arrivals : List ℕ) (departures : List (Option ℕ)) (ticks : List TickObs)
+    → AreAcceptable ticks → HasShape pods arrivals departures ticks → AreReplayable pods ticks
+are_replayable pods arrivals departures ticks acceptable shape = record {
   next = next;
   ends = ends;
   moments = λ t n tick shown at is. (shape.shown t tick at).moment n shown is;
   rising = shape.rising;
   below = shape.below;
-  growing = grows pods arrivals ticks shape;
+  growing = grows pods arrivals departures ticks shape;
   few_ticks = shape.few_ticks;
   few_pods = shape.few_pods;
-  within = no_more pods arrivals ticks shape;
+  within = no_more pods arrivals departures ticks shape;
 }
   where
     ends : (t n : ℕ) (tick : TickObs) → slice_get ticks t ≡ Some tick → EndsBefore (pod_ticks (take t ticks) n) tick.at

@@ -12,10 +12,10 @@ use Rattle.trace_replay.specs.Report.{IsReportOf}
 use Rattle.trace_replay.proofs.Replayable.{are_replayable}
 
 -- a trace shows none but its pods
-known : (trace : Trace) → AreAcceptable trace.ticks → HasShape trace.pods trace.arrivals trace.ticks
+known : (trace : Trace) → AreAcceptable trace.ticks → HasShape trace.pods trace.arrivals trace.departures trace.ticks
     → All (ShowsKnownPods trace.pods) trace.ticks
 known trace acceptable shape =
-    let replayable = are_replayable trace.pods trace.arrivals trace.ticks acceptable shape in
+    let replayable = are_replayable trace.pods trace.arrivals trace.departures trace.ticks acceptable shape in
     λ t d lt. replayable.within t (get_or trace.ticks t d) (slice_get-get_or trace.ticks t d lt)
 
 in_range : (pods : List PodSpec) → HaveNumbersInRange pods → HaveProbesInRange pods
@@ -23,7 +23,7 @@ in_range pods each n d lt c e within =
     let are = each n d lt c e within in
     record { startup = are.0; liveness = are.1; readiness = are.2 }
 
-pub some_report_of : (trace : Trace) → AreAcceptable trace.ticks → HasShape trace.pods trace.arrivals trace.ticks
+pub some_report_of : (trace : Trace) → AreAcceptable trace.ticks → HasShape trace.pods trace.arrivals trace.departures trace.ticks
     → HaveNumbersInRange trace.pods → (bytes : List ℕ) × IsReportOf trace bytes
 some_report_of trace acceptable shape range =
     some_report trace.node trace.ticks trace.pods (known trace acceptable shape) (in_range trace.pods range)

@@ -88,7 +88,7 @@ fn played<U: Ledger, E: Ledger, O: Ledger>(
     steps: &[Step],
 ) -> Result<String, AllocError>
     requires acceptable { AreAcceptable trace.ticks }
-    requires shape { HasShape trace.pods trace.arrivals trace.ticks }
+    requires shape { HasShape trace.pods trace.arrivals trace.departures trace.ticks }
     requires names { (blanks.updates.name ≡ U.name) × (blanks.events.name ≡ E.name) × (blanks.orders.name ≡ O.name) }
     requires parts { (blanks.updates.parts ≡ U.parts) × (blanks.events.parts ≡ E.parts)
         × (blanks.orders.parts ≡ O.parts) }
@@ -128,7 +128,7 @@ fn shared<U: Ledger + Send, E: Ledger + Send, O: Ledger + Send, R: Threads + Wai
     gate: &G,
 ) -> Result<String, AllocError>
     requires acceptable { AreAcceptable trace.ticks }
-    requires shape { HasShape trace.pods trace.arrivals trace.ticks }
+    requires shape { HasShape trace.pods trace.arrivals trace.departures trace.ticks }
     requires names { (blanks.updates.name ≡ U.name) × (blanks.events.name ≡ E.name) × (blanks.orders.name ≡ O.name) }
     requires parts { (blanks.updates.parts ≡ U.parts) × (blanks.events.parts ≡ E.parts)
         × (blanks.orders.parts ≡ O.parts) }
@@ -166,7 +166,7 @@ pub fn report_by_steps(
     steps: &[Step],
 ) -> Result<String, AllocError>
     requires acceptable { AreAcceptable trace.ticks }
-    requires shape { HasShape trace.pods trace.arrivals trace.ticks }
+    requires shape { HasShape trace.pods trace.arrivals trace.departures trace.ticks }
     requires some { 0 < workers }
     requires most { workers ≤ most_workers }
     ensures { IfOk result (λ s. IsReportOf trace (string_bytes s)) }
@@ -183,7 +183,7 @@ pub fn report_by_workers<R: Threads + Wait + Sync, G: Gate>(
     gate: &G,
 ) -> Result<String, AllocError>
     requires acceptable { AreAcceptable trace.ticks }
-    requires shape { HasShape trace.pods trace.arrivals trace.ticks }
+    requires shape { HasShape trace.pods trace.arrivals trace.departures trace.ticks }
     requires some { 0 < workers }
     requires most { workers ≤ most_workers }
     ensures { IfOk result (λ s. IsReportOf trace (string_bytes s)) }

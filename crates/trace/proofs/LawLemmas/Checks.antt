@@ -23,7 +23,8 @@ use Rattle.tick_lines.specs.declared.line.TickLine.{TickLine}
 use Rattle.trace.specs.declared.placing.PlacedEntry.{PlacedEntry}
 use Rattle.json_lines.specs.Lines.{longest_line}
 use Rattle.trace.specs.Written.{node_in, tick_line_in}
-use Rattle.trace.specs.Pod.{key_of_pod, has_key, pod_from}
+use Rattle.roster.specs.Roll.{key_of_pod}
+use Rattle.trace.specs.Pod.{has_key, pod_from}
 use Rattle.trace.proofs.Whole.{with_kind, with_json, with_tick_seen, with_places, with_written, with_moment}
 use Rattle.trace.proofs.Whole.{with_room, with_code, with_forwards, with_apart, pod_new, pod_said, pod_read}
 use Rattle.trace.proofs.Whole.{pod_early, tick_whole, pod_whole, line_whole}
@@ -102,14 +103,14 @@ code_fails : (past : Past) (line : List ℕ) (d : Data) (at : ℕ) (written : Ti
 code_fails past line d at written placed kind is e =
     elim (tested (some_code_missing placed) ExitCode (with_code past at written placed) kind e) [
       | inl here ↦ subst (λ (k : FaultKind). Fails past line k) here.1 (no_code d at written placed is here.0)
-      | inr later ↦ absurd (no_fault (observed at written placed past.pods) kind later.1)
+      | inr later ↦ absurd (no_fault (observed at written placed past.roll) kind later.1)
     ]
 
 order_fails : (past : Past) (line : List ℕ) (d : Data) (at : ℕ) (written : TickLine) (placed : List PlacedEntry)
     (kind : FaultKind) → IsApart past line d at written placed → with_apart past at written placed tt ≡ Err kind
     → Fails past line kind
 order_fails past line d at written placed kind is e =
-    elim (tested (is_backwards past.ticks (observed at written placed past.pods)) Backwards
+    elim (tested (is_backwards past.ticks (observed at written placed past.roll)) Backwards
     (with_forwards past at written placed) kind e) [
       | inl here ↦ subst (λ (k : FaultKind). Fails past line k) here.1 (backwards d at written placed is here.0)
       | inr later ↦ code_fails past line d at written placed kind (record { is_apart = is; forwards = later.0 }) later.1
@@ -137,7 +138,7 @@ places_fails past line d at written placed kind is e =
 written_fails : (past : Past) (line : List ℕ) (d : Data) (at : ℕ) (written : TickLine) (kind : FaultKind)
     → HasWritten past line d at written → with_written past at written ≡ Err kind → Fails past line kind
 written_fails past line d at written kind is e =
-    elim (bind_err (placed_of past.pods written.entries) (with_places past at written) kind e) [
+    elim (bind_err (placed_of past.roll written.entries) (with_places past at written) kind e) [
       | inl here ↦ stranger d at written kind is here
       | inr later ↦ places_fails past line d at written later.0 kind (record { has_written = is; placed_are = later.1 })
           later.2
@@ -172,14 +173,14 @@ tick_fails past line d kind is e =
 said_fails : (past : Past) (line : List ℕ) (d : Data) (pod : PodSpec) (kind : FaultKind) → HasPod past line d pod
     → pod_said past pod ≡ Err kind → Fails past line kind
 said_fails past line d pod kind is e =
-    elim (tested (has_key past.pods (key_of_pod pod)) DuplicatePod (pod_new past pod) kind e) [
+    elim (tested (has_key past.roll (key_of_pod pod)) DuplicatePod (pod_new past pod) kind e) [
       | inl here ↦ subst (λ (k : FaultKind). Fails past line k) here.1
-          (duplicate_pod d pod is (key_there past.pods (key_of_pod pod) here.0))
+          (duplicate_pod d pod is (key_there past.roll (key_of_pod pod) here.0))
       | inr later ↦ absurd (no_fault (with_pod past pod) kind later.1)
     ]
 
 read_fails : (past : Past) (line : List ℕ) (d : Data) (kind : FaultKind) → Stands past line kinds.Pod d
-    → length past.pods < most_pods → pod_read past d tt ≡ Err kind → Fails past line kind
+    → length past.roll.pods < most_pods → pod_read past d tt ≡ Err kind → Fails past line kind
 read_fails past line d kind is room e = elim (bind_err (pod_from (field_at (codes "pod") d)) (pod_said past) kind e) [
   | inl here ↦ wrong_pod d kind is room here
   | inr later ↦ said_fails past line d later.0 kind (record { stands = is; room = room; pod_is = later.1 }) later.2
@@ -188,14 +189,14 @@ read_fails past line d kind is room e = elim (bind_err (pod_from (field_at (code
 early_fails : (past : Past) (line : List ℕ) (d : Data) (kind : FaultKind) → Stands past line kinds.Pod d
     → pod_early past d tt ≡ Err kind → Fails past line kind
 early_fails past line d kind is e =
-    elim (tested (nat_le most_pods (length past.pods)) TooMany (pod_read past d) kind e) [
+    elim (tested (nat_le most_pods (length past.roll.pods)) TooMany (pod_read past d) kind e) [
       | inl here ↦ subst (λ (k : FaultKind). Fails past line k) here.1
-          (many_pods d is (leb-true most_pods (length past.pods) here.0))
-      | inr later ↦ read_fails past line d kind is (leb-false most_pods (length past.pods) later.0) later.1
+          (many_pods d is (leb-true most_pods (length past.roll.pods) here.0))
+      | inr later ↦ read_fails past line d kind is (leb-false most_pods (length past.roll.pods) later.0) later.1
     ]
 
 pod_fails : (version : Version) (past : Past) (line : List ℕ) (d : Data) (kind : FaultKind)
-    → version_in past ≡ Some version → IsOfKind line kinds.Pod d → pod_line_at version past d ≡ Err kind
+    → version_in past ≡ Some version → IsOfKind past line kinds.Pod d → pod_line_at version past d ≡ Err kind
     → Fails past line kind
 pod_fails version past line d kind some is e =
     elim (tested (is_late version past.ticks) Order (pod_early past d) kind (sym (pod_whole version past d) ∙ e)) [
@@ -221,7 +222,7 @@ not_some None none some = absurd (cc)
 not_some (Some node) none some = absurd (cc)
 
 place_fails : (found : Option Version) (past : Past) (line : List ℕ) (line_kind : LineKind) (d : Data)
-    (kind : FaultKind) → version_in past ≡ found → IsOfKind line line_kind d
+    (kind : FaultKind) → version_in past ≡ found → IsOfKind past line line_kind d
     → in_order found past line_kind d ≡ Err kind → Fails past line kind
 place_fails None past line kinds.Node d kind none is e =
     node_fails past line d kind (record { of_kind = is; here = no_node past.node none }) e
@@ -239,7 +240,7 @@ place_fails (Some version) past line kinds.Tick d kind some is e =
     tick_fails past line d kind (record { of_kind = is; here = some_node past.node version some }) e
 
 kind_fails : (past : Past) (line : List ℕ) (d : Data) (found : Option LineKind) (kind : FaultKind) → IsJson line d
-    → kind_from (text_at (codes "kind") d) ≡ found → with_kind past d found ≡ Err kind → Fails past line kind
+    → kind_from (version_in past) (text_at (codes "kind") d) ≡ found → with_kind past d found ≡ Err kind → Fails past line kind
 kind_fails past line d None kind is found e =
     subst (λ (k : FaultKind). Fails past line k) (same_fault {A = Past} UnknownKind kind e) (unknown_kind d is found)
 kind_fails past line d (Some line_kind) kind is found e =
@@ -249,7 +250,7 @@ json_fails : (past : Past) (line : List ℕ) (kind : FaultKind) → length line 
     → (json_of line >>= with_json past) ≡ Err kind → Fails past line kind
 json_fails past line kind short e = elim (bind_err (json_of line) (with_json past) kind e) [
   | inl here ↦ not_json kind short here
-  | inr later ↦ kind_fails past line later.0 (kind_from (text_at (codes "kind") later.0)) kind
+  | inr later ↦ kind_fails past line later.0 (kind_from (version_in past) (text_at (codes "kind") later.0)) kind
       (record { short = short; json = later.1 }) refl later.2
 ]
 
@@ -277,7 +278,7 @@ of_long past line long = line_whole past line
 of_json : (past : Past) (line : List ℕ) (d : Data) → IsJson line d → line_at past line ≡ with_json past d
 of_json past line d is = of_short past line is.short ∙ then_ok (json_of line) (with_json past) d is.json
 
-pub of_kind : (past : Past) (line : List ℕ) (line_kind : LineKind) (d : Data) → IsOfKind line line_kind d
+pub of_kind : (past : Past) (line : List ℕ) (line_kind : LineKind) (d : Data) → IsOfKind past line line_kind d
     → line_at past line ≡ in_order (version_in past) past line_kind d
 of_kind past line line_kind d is =
     of_json past line d is.json ∙ ap (λ (found : Option LineKind). with_kind past d found) is.kind
@@ -322,11 +323,11 @@ of_pod : (past : Past) (line : List ℕ) (d : Data) → Stands past line kinds.P
     → line_at past line ≡ pod_early past d tt
 of_pod past line d is = of_kind past line kinds.Pod d is.of_kind ∙ pod_in_order (version_in past) past d is.here
 
-of_pod_room : (past : Past) (line : List ℕ) (d : Data) → Stands past line kinds.Pod d → length past.pods < most_pods
+of_pod_room : (past : Past) (line : List ℕ) (d : Data) → Stands past line kinds.Pod d → length past.roll.pods < most_pods
     → line_at past line ≡ pod_read past d tt
 of_pod_room past line d is room =
-    of_pod past line d is ∙ passed (nat_le most_pods (length past.pods)) TooMany (pod_read past d)
-    (lt-leb most_pods (length past.pods) room)
+    of_pod past line d is ∙ passed (nat_le most_pods (length past.roll.pods)) TooMany (pod_read past d)
+    (lt-leb most_pods (length past.roll.pods) room)
 
 pub of_pod_said : (past : Past) (line : List ℕ) (d : Data) (pod : PodSpec) → HasPod past line d pod
     → line_at past line ≡ pod_said past pod
@@ -357,7 +358,7 @@ of_written past line d at written is = of_moment past line d at is.has_moment
 pub of_places : (past : Past) (line : List ℕ) (d : Data) (at : ℕ) (written : TickLine) (placed : List PlacedEntry)
     → HasPlaces past line d at written placed → line_at past line ≡ with_places past at written placed
 of_places past line d at written placed is = of_written past line d at written is.has_written
-    ∙ then_ok (placed_of past.pods written.entries) (with_places past at written) placed is.placed_are
+    ∙ then_ok (placed_of past.roll written.entries) (with_places past at written) placed is.placed_are
 
 of_observed : (past : Past) (line : List ℕ) (d : Data) (at : ℕ) (written : TickLine) (placed : List PlacedEntry)
     (kind : FaultKind) → HasPlaces past line d at written placed
@@ -379,7 +380,7 @@ of_forwards : (past : Past) (line : List ℕ) (d : Data) (at : ℕ) (written : T
     → with_forwards past at written placed tt ≡ Err kind → line_at past line ≡ Err kind
 of_forwards past line d at written placed kind is e =
     of_apart past line d at written placed kind is.is_apart
-    (passed (is_backwards past.ticks (observed at written placed past.pods)) Backwards
+    (passed (is_backwards past.ticks (observed at written placed past.roll)) Backwards
     (with_forwards past at written placed) is.forwards ∙ e)
 
 fails_line : (past : Past) (line : List ℕ) (kind : FaultKind) → Fails past line kind → line_at past line ≡ Err kind
@@ -392,13 +393,13 @@ fails_line past line _ (misplaced line_kind d is never) = of_kind past line line
     ∙ misplaced_kind (version_in past) past line_kind d refl never
 fails_line past line _ (wrong_node d kind is e) = of_wrong_node past line d kind is e
 fails_line past line _ (many_pods d is many) =
-    of_pod past line d is ∙ failed (nat_le most_pods (length past.pods)) TooMany (pod_read past d)
-    (le-leb most_pods (length past.pods) many)
+    of_pod past line d is ∙ failed (nat_le most_pods (length past.roll.pods)) TooMany (pod_read past d)
+    (le-leb most_pods (length past.roll.pods) many)
 fails_line past line _ (wrong_pod d kind is room e) = of_pod_room past line d is room
     ∙ then_err (pod_from (field_at (codes "pod") d)) (pod_said past) kind e
 fails_line past line _ (duplicate_pod d pod is known) = of_pod_said past line d pod is
-    ∙ failed (has_key past.pods (key_of_pod pod)) DuplicatePod (pod_new past pod)
-    (there_key past.pods (key_of_pod pod) known)
+    ∙ failed (has_key past.roll (key_of_pod pod)) DuplicatePod (pod_new past pod)
+    (there_key past.roll (key_of_pod pod) known)
 fails_line past line _ (many_ticks d is many) =
     of_tick past line d is ∙ failed (nat_le most_ticks (length past.ticks)) TooMany (with_room past d)
     (le-leb most_ticks (length past.ticks) many)
@@ -407,13 +408,13 @@ fails_line past line _ (wrong_moment d kind is room e) =
 fails_line past line _ (wrong_field d at kind is e) =
     of_moment past line d at is ∙ then_err (tick_line_in d) (with_written past at) kind e
 fails_line past line _ (stranger d at written kind is e) = of_written past line d at written is
-    ∙ then_err (placed_of past.pods written.entries) (with_places past at written) kind e
+    ∙ then_err (placed_of past.roll written.entries) (with_places past at written) kind e
 fails_line past line _ (doubled d at written placed is twice) =
     of_observed past line d at written placed Doubled is
     (failed (is_doubled placed) Doubled (with_apart past at written placed) twice)
 fails_line past line _ (backwards d at written placed is back) =
     of_apart past line d at written placed Backwards is
-    (failed (is_backwards past.ticks (observed at written placed past.pods)) Backwards
+    (failed (is_backwards past.ticks (observed at written placed past.roll)) Backwards
     (with_forwards past at written placed) back)
 fails_line past line _ (no_code d at written placed is missing) =
     of_forwards past line d at written placed ExitCode is

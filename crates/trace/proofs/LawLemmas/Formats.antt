@@ -15,7 +15,7 @@ use Rattle.trace.specs.declared.past.LineKind.TheVariants as kinds
 use Rattle.trace.specs.declared.past.Trace.{Trace}
 use Rattle.trace.specs.declared.placing.PlacedEntry.{PlacedEntry}
 use Rattle.trace.specs.Laws.{Leaves, AreSaid, MayStand, Stands, HasPod, HasMoment, HasWritten, HasPlaces, IsApart}
-use Rattle.trace.specs.Laws.{IsForwards, Says, says_node, says_pod, says_tick, StandardIsExtended}
+use Rattle.trace.specs.Laws.{IsForwards, Says, says_node, says_pod, says_gone, says_tick, StandardIsExtended}
 use Rattle.trace.specs.Past.{Past}
 use Rattle.trace.specs.Written.{is_foreign, of_node_line, node_in}
 use Rattle.trace.proofs.LawLemmas.{whole_trace}
@@ -26,8 +26,7 @@ abbrev extended : Past → Past
 extended past = record {
   format = Extended;
   node = past.node;
-  pods = past.pods;
-  arrivals = past.arrivals;
+  roll = past.roll;
   ticks = past.ticks;
 }
 
@@ -44,10 +43,14 @@ may_stand : (past : Past) (line_kind : LineKind) → MayStand past line_kind →
 may_stand past kinds.Node is = is
 may_stand past kinds.Pod is = is
 may_stand past kinds.Tick is = is
+may_stand past kinds.Gone is = is
 
 stands : (past : Past) (line : List ℕ) (line_kind : LineKind) (d : Data) → Stands past line line_kind d
     → Stands (extended past) line line_kind d
-stands past line line_kind d is = record { of_kind = is.of_kind; here = may_stand past line_kind is.here }
+stands past line line_kind d is = record {
+  of_kind = record { json = is.of_kind.json; kind = is.of_kind.kind };
+  here = may_stand past line_kind is.here;
+}
 
 has_pod : (past : Past) (line : List ℕ) (d : Data) (pod : PodSpec) → HasPod past line d pod
     → HasPod (extended past) line d pod
@@ -83,6 +86,7 @@ says : (past : Past) (line : List ℕ) (next : Past) → Says past line next →
 says past line _ (says_node d node is e) =
     says_node d node (stands past line kinds.Node d is) (node_extended past.format d node e)
 says past line _ (says_pod d pod is new) = says_pod d pod (has_pod past line d pod is) new
+says past line _ (says_gone d number is named) = says_gone d number (stands past line kinds.Gone d is) named
 says past line _ (says_tick d at written placed is coded) =
     says_tick d at written placed (is_forwards past line d at written placed is) coded
 
@@ -109,5 +113,6 @@ standard_is_extended text trace is =
       node = whole.node;
       pods = whole.pods;
       arrivals = whole.arrivals;
+      departures = whole.departures;
       ticks = whole.ticks;
     })

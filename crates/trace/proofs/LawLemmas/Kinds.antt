@@ -22,7 +22,8 @@ use Rattle.manifest_fields.specs.declared.fault.Field.TheVariants as fields
 use Rattle.manifest.specs.Containers.{names_of}
 use Rattle.name_list.specs.Names.{place_of}
 use Rattle.tick_lines.specs.declared.listing.Listing.{Listing}
-use Rattle.trace.specs.Pod.{keys_of, of_manifest, pod_from}
+use Rattle.roster.specs.Roll.{Roll, number_of}
+use Rattle.trace.specs.Pod.{of_manifest, pod_from}
 use Rattle.manifest_reader.specs.Manifest.{pod_at}
 use Rattle.trace.specs.Placing.{number_in, container_number, placed_listing, placed_result, entry_of_pod}
 use Rattle.trace.specs.Placing.{placed_entry, placed_of}
@@ -30,7 +31,7 @@ use Rattle.trace.specs.Past.{Past}
 use Rattle.trace.specs.Tick.{is_later, moment_from}
 use Rattle.trace.specs.Trace.{json_of}
 use Rattle.trace.specs.Laws.{IsFirstFault, Fails, too_long, not_json, unknown_kind, misplaced, wrong_node, many_pods}
-use Rattle.trace.specs.Laws.{wrong_pod, duplicate_pod, many_ticks, wrong_moment, wrong_field, stranger, doubled}
+use Rattle.trace.specs.Laws.{wrong_pod, duplicate_pod, nobody_gone, many_ticks, wrong_moment, wrong_field, stranger, doubled}
 use Rattle.trace.specs.Laws.{backwards, no_code, KindsOfChecks, IsNotMemory, NeverMemory}
 use Rattle.trace.proofs.LawLemmas.{first_fault}
 use Rattle.trace.proofs.LawLemmas.Checks.{line_fails}
@@ -100,8 +101,8 @@ tick_only d = of_tick_only (tick_line_of d) (record { has = one_kind d })
 abbrev IsStranger : FaultKind → Type 0
 IsStranger kind = (kind ≡ StrangerPod) ⊎ (kind ≡ StrangerContainer)
 
-number_only : (keys : List (List ℕ)) (entry : Entry) → Only IsStranger (number_in keys entry)
-number_only keys entry = only_some IsStranger StrangerPod (place_of keys entry.key) (inl refl)
+number_only : (roll : Roll) (entry : Entry) → Only IsStranger (number_in roll entry)
+number_only roll entry = only_some IsStranger StrangerPod (number_of roll entry.key) (inl refl)
 
 container_number_only : (pod : PodSpec) (name : List ℕ) → Only IsStranger (container_number pod name)
 container_number_only pod name =
@@ -115,22 +116,21 @@ placed_result_only : (pod : PodSpec) (r : ProbeResult) → Only IsStranger (plac
 placed_result_only pod r = only_bind IsStranger _ _ (container_number_only pod r.container)
     (λ number. only_ok IsStranger _)
 
-placed_entry_only : (keys : List (List ℕ)) (pods : List PodSpec) (entry : Entry)
-    → Only IsStranger (placed_entry keys pods entry)
+placed_entry_only : (roll : Roll) (entry : Entry) → Only IsStranger (placed_entry roll entry)
 unfolding placed_entry entry_of_pod
-placed_entry_only keys pods entry =
+placed_entry_only roll entry =
     let P = IsStranger in
-    only_bind P _ _ (number_only keys entry) (λ number.
-    only_bind P _ _ (only_some P StrangerPod (slice_get pods number) (inl refl)) (λ pod.
+    only_bind P _ _ (number_only roll entry) (λ number.
+    only_bind P _ _ (only_some P StrangerPod (slice_get roll.pods number) (inl refl)) (λ pod.
     only_bind P _ _ (only_each P (placed_listing pod) (placed_listing_only pod) entry.listings) (λ listings.
     only_bind P _ _ (only_each P (placed_result pod) (placed_result_only pod) entry.results) (λ results. only_ok P _))))
 
-placed_only : (pods : List PodSpec) (es : List Entry) → Only IsStranger (placed_of pods es)
+placed_only : (roll : Roll) (es : List Entry) → Only IsStranger (placed_of roll es)
 unfolding placed_of
-placed_only pods es =
+placed_only roll es =
     let P = IsStranger in
-    only_bind P _ _ (only_each P (number_in (keys_of pods)) (number_only (keys_of pods)) es) (λ numbers.
-    only_each P (placed_entry (keys_of pods) pods) (placed_entry_only (keys_of pods) pods) es)
+    only_bind P _ _ (only_each P (number_in roll) (number_only roll) es) (λ numbers.
+    only_each P (placed_entry roll) (placed_entry_only roll) es)
 
 pub kinds_of_checks : KindsOfChecks
 kinds_of_checks = record {
@@ -140,7 +140,7 @@ kinds_of_checks = record {
   moment = λ ticks found kind e. (moment_only ticks (option_and_then as_u64 (option_and_then as_number found))).has
       kind e;
   tick = λ d kind e. (tick_only d).has kind e;
-  places = λ pods es kind e. (placed_only pods es).has kind e;
+  places = λ roll es kind e. (placed_only roll es).has kind e;
 }
 
 -- a kind that isn't for want of memory
@@ -168,6 +168,7 @@ fails_not_memory past line _ (wrong_pod d kind is none e) =
           cc in absurd (found same),
     )
 fails_not_memory past line _ (duplicate_pod d pod is known) = (λ memory. absurd (cc), λ memory. absurd (cc))
+fails_not_memory past line _ (nobody_gone d is none) = (λ memory. absurd (cc), λ memory. absurd (cc))
 fails_not_memory past line _ (many_ticks d is many) = (λ memory. absurd (cc), λ memory. absurd (cc))
 fails_not_memory past line _ (wrong_moment d kind is room e) =
     is_not kind Moment (kinds_of_checks.moment past.ticks (field_at (codes "at") d) kind e)
@@ -175,7 +176,7 @@ fails_not_memory past line _ (wrong_moment d kind is room e) =
 fails_not_memory past line _ (wrong_field d at kind is e) =
     is_not kind Usage ((tick_only d).has kind e) (λ memory. absurd (cc), λ memory. absurd (cc))
 fails_not_memory past line _ (stranger d at written kind is e) =
-    elim ((placed_only past.pods written.entries).has kind e) [
+    elim ((placed_only past.roll written.entries).has kind e) [
       | inl pod ↦ is_not kind StrangerPod pod (λ memory. absurd (cc), λ memory. absurd (cc))
       | inr container ↦ is_not kind StrangerContainer container (λ memory. absurd (cc), λ memory. absurd (cc))
     ]

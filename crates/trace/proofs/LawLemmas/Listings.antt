@@ -1,7 +1,7 @@
 -- What a tick shows of a container is what is listed.
-use Rattle.std.proofs.Common.{◌≡◌, ◌∙◌, ℕ, zero, suc, ◌+◌, ◌<◌, true, false, List, [], ◌∷◌, length, slice_get, Option}
-use Rattle.std.proofs.Common.{Some, None, refl, ap, sym, inl, inr, arith}
-use Rattle.std.specs.Prelude.{◌==◌, option_and_then}
+use Rattle.std.proofs.Common.{◌≡◌, ◌∙◌, ℕ, zero, suc, ◌+◌, ◌<◌, Bool, true, false, List, [], ◌∷◌, length, slice_get}
+use Rattle.std.proofs.Common.{Option, Some, None, refl, ap, sym, subst, inl, inr, arith}
+use Rattle.std.specs.Prelude.{◌==◌, option_and_then, if◌then◌else◌}
 use Rattle.std.specs.List.{list_any}
 use Rattle.std.specs.Option.{option_flatten}
 use Rattle.std.proofs.lemmas.Bool.{cases_Bool, or_parts, eqb-true, eq-eqb}
@@ -14,7 +14,8 @@ use Rattle.manifest.specs.declared.pod.ContainerSpec.{ContainerSpec}
 use Rattle.manifest.specs.declared.pod.PodSpec.{PodSpec}
 use Rattle.observations.specs.declared.container.ContainerObs.{ContainerObs}
 use Rattle.observations.specs.Pods.{PodObs}
-use Rattle.observations.specs.Observations.{listed_in, seen_of}
+use Rattle.observations.specs.Observations.{listed_in, shown_of, seen_of}
+use Rattle.roster.specs.Roll.{Roll, is_present}
 use Rattle.trace.specs.declared.placing.PlacedEntry.{PlacedEntry}
 use Rattle.trace.specs.declared.placing.PlacedResult.{PlacedResult}
 use Rattle.trace.specs.Placing.{has_twice, are_of_one_pod, are_of_one_container, repeats, is_doubled}
@@ -119,28 +120,50 @@ container_at ls rs n (x ∷ xs) (suc c) lt =
     let same : n + 1 + c ≡ n + suc c = omega arith in
     container_at ls rs (n + 1) xs c (omega arith) ∙ ap (seen_in ls) same
 
-pub pod_at : (at : ℕ) (es : List PlacedEntry) (n : ℕ) (pods : List PodSpec) (p : ℕ) (pod : PodSpec)
-    → slice_get pods p ≡ Some pod
-    → option_flatten (slice_get (pods_from at es n pods) p) ≡ Some (pod_observed at (entry_for es (n + p)) pod)
-pod_at at es n [] p pod here = absurd (cc)
-pod_at at es n (x ∷ xs) zero pod here =
-    let same : x ≡ pod = cc in
-    let place : n ≡ n + 0 = omega arith in
-    ap (λ (q : PodSpec). Some (pod_observed at (entry_for es n) q)) same
-    ∙ ap (λ (k : ℕ). Some (pod_observed at (entry_for es k) pod)) place
-pod_at at es n (x ∷ xs) (suc p) pod here =
-    let place : n + 1 + p ≡ n + suc p = omega arith in
-    pod_at at es (n + 1) xs p pod here ∙ ap (λ (k : ℕ). Some (pod_observed at (entry_for es k) pod)) place
+-- a pod that is present is shown
+shown_at : (present : Bool) (observed : PodObs) → present ≡ true
+    → (if present then Some observed else None) ≡ Some observed
+shown_at present observed is = rw is refl
 
-seen_is : (at : ℕ) (written : TickLine) (es : List PlacedEntry) (pods : List PodSpec) (n c : ℕ) (pod : PodSpec)
-    → slice_get pods n ≡ Some pod → c < length pod.containers
-    → seen_of (observed at written es pods) n c ≡ seen_in (listings_of (entry_for es n)) c
-seen_is at written es pods n c pod here lt =
+pub pod_at : (at : ℕ) (es : List PlacedEntry) (departures : List (Option ℕ)) (n : ℕ) (pods : List PodSpec) (p : ℕ)
+    (pod : PodSpec) → slice_get pods p ≡ Some pod → is_present departures (n + p) ≡ true
+    → option_flatten (slice_get (pods_from at es departures n pods) p)
+    ≡ Some (pod_observed at (entry_for es (n + p)) pod)
+pod_at at es departures n [] p pod here present = absurd (cc)
+pod_at at es departures n (x ∷ xs) zero pod here present =
+    let same : x ≡ pod = cc in
+    let place : n + 0 ≡ n = omega arith in
+    let stays : is_present departures n ≡ true =
+    subst (λ (k : ℕ). is_present departures k ≡ true) place present in
+    shown_at (is_present departures n) (pod_observed at (entry_for es n) x) stays
+    ∙ ap (λ (q : PodSpec). Some (pod_observed at (entry_for es n) q)) same
+    ∙ ap (λ (k : ℕ). Some (pod_observed at (entry_for es k) pod)) (sym place)
+pod_at at es departures n (x ∷ xs) (suc p) pod here present =
+    let place : n + 1 + p ≡ n + suc p = omega arith in
+    let stays : is_present departures (n + 1 + p) ≡ true =
+    subst (λ (k : ℕ). is_present departures k ≡ true) (sym place) present in
+    pod_at at es departures (n + 1) xs p pod here stays
+    ∙ ap (λ (k : ℕ). Some (pod_observed at (entry_for es k) pod)) place
+
+-- a pod that is present, in the whole tick
+pub pod_shown : (at : ℕ) (written : TickLine) (es : List PlacedEntry) (roll : Roll) (n : ℕ) (pod : PodSpec)
+    → slice_get roll.pods n ≡ Some pod → is_present roll.departures n ≡ true
+    → shown_of (observed at written es roll) n ≡ Some (pod_observed at (entry_for es n) pod)
+pod_shown at written es roll n pod here present =
     let zeroth : 0 + n ≡ n = omega arith in
+    let stays : is_present roll.departures (0 + n) ≡ true =
+    subst (λ (k : ℕ). is_present roll.departures k ≡ true) (sym zeroth) present in
+    pod_at at es roll.departures 0 roll.pods n pod here stays
+    ∙ ap (λ (k : ℕ). Some (pod_observed at (entry_for es k) pod)) zeroth
+
+seen_is : (at : ℕ) (written : TickLine) (es : List PlacedEntry) (roll : Roll) (n c : ℕ) (pod : PodSpec)
+    → slice_get roll.pods n ≡ Some pod → is_present roll.departures n ≡ true → c < length pod.containers
+    → seen_of (observed at written es roll) n c ≡ seen_in (listings_of (entry_for es n)) c
+seen_is at written es roll n c pod here present lt =
     let first : 0 + c ≡ c = omega arith in
     let entry = entry_for es n in
-    let shown = pod_at at es 0 pods n pod here ∙ ap (λ (k : ℕ). Some (pod_observed at (entry_for es k) pod)) zeroth in
-    ap (λ (o : Option PodObs). option_and_then (λ (p : PodObs). listed_in p c) o) shown
+    ap (λ (o : Option PodObs). option_and_then (λ (p : PodObs). listed_in p c) o)
+    (pod_shown at written es roll n pod here present)
     ∙ container_at (listings_of entry) (results_of entry) 0 pod.containers c lt
     ∙ ap (seen_in (listings_of entry)) first
 
@@ -160,6 +183,6 @@ listed es n c seen apart (k, entry, here, is, given) =
     ∙ is_given entry.listings c seen (once_in es k entry parts.1 here) given
 
 pub listings_shown : ListingsShown
-listings_shown at written es pods n c pod seen apart here lt =
-    let is = seen_is at written es pods n c pod here lt in
+listings_shown at written es roll n c pod seen apart here present lt =
+    let is = seen_is at written es roll n c pod here present lt in
     (λ e. lists es n c seen (entry_for es n) refl (sym is ∙ e), λ given. is ∙ listed es n c seen apart given)

@@ -24,7 +24,8 @@ use Rattle.tick_lines.specs.declared.line.TickLine.{TickLine}
 use Rattle.trace.specs.declared.placing.PlacedEntry.{PlacedEntry}
 use Rattle.json_lines.specs.Lines.{longest_line}
 use Rattle.trace.specs.Written.{node_in, tick_line_in}
-use Rattle.trace.specs.Pod.{key_of_pod, has_key, pod_from}
+use Rattle.roster.specs.Roll.{key_of_pod}
+use Rattle.trace.specs.Pod.{has_key, pod_from}
 use Rattle.trace.proofs.Versions.{no_node, some_node}
 use Rattle.trace.proofs.Keys.{key_nowhere, nowhere_key}
 use Rattle.trace.specs.Placing.{placed_of, is_doubled}
@@ -54,15 +55,15 @@ tick_says past line d next is e =
     (sym (tick_whole past d) ∙ e) in
     let at = bind_ok (moment_of past.ticks (field_at (codes "at") d)) (with_moment past d) next room.1 in
     let written = bind_ok (tick_line_in d) (with_written past at.0) next at.2 in
-    let placed = bind_ok (placed_of past.pods written.0.entries) (with_places past at.0 written.0) next written.2 in
+    let placed = bind_ok (placed_of past.roll written.0.entries) (with_places past at.0 written.0) next written.2 in
     let tick = bind_ok (observed_in past at.0 written.0 placed.0) (with_tick_seen past) next placed.2 in
     let apart = cleared (is_doubled placed.0) Doubled (with_apart past at.0 written.0 placed.0) tick.0 tick.1 in
-    let forwards = cleared (is_backwards past.ticks (observed at.0 written.0 placed.0 past.pods)) Backwards
+    let forwards = cleared (is_backwards past.ticks (observed at.0 written.0 placed.0 past.roll)) Backwards
     (with_forwards past at.0 written.0 placed.0) tick.0 apart.1 in
     let coded = cleared (some_code_missing placed.0) ExitCode (with_code past at.0 written.0 placed.0) tick.0
     forwards.1 in
-    let is_tick : observed at.0 written.0 placed.0 past.pods ≡ tick.0 =
-    same_value {E = FaultKind} (observed at.0 written.0 placed.0 past.pods) tick.0 coded.1 in
+    let is_tick : observed at.0 written.0 placed.0 past.roll ≡ tick.0 =
+    same_value {E = FaultKind} (observed at.0 written.0 placed.0 past.roll) tick.0 coded.1 in
     let is_next : with_tick past tick.0 ≡ next = same_value {E = FaultKind} (with_tick past tick.0) next tick.2 in
     let has_moment : HasMoment past line d at.0 =
     record { stands = is; room = leb-false most_ticks (length past.ticks) room.0; moment = at.1 } in
@@ -73,27 +74,27 @@ tick_says past line d next is e =
     let is_apart : IsApart past line d at.0 written.0 placed.0 = record { has_places = has_places; apart = apart.0 } in
     let is_forwards : IsForwards past line d at.0 written.0 placed.0 =
     record { is_apart = is_apart; forwards = forwards.0 } in
-    let says : Says past line (with_tick past (observed at.0 written.0 placed.0 past.pods)) =
+    let says : Says past line (with_tick past (observed at.0 written.0 placed.0 past.roll)) =
     says_tick d at.0 written.0 placed.0 is_forwards coded.0 in
     subst (λ (p : Past). Says past line p) {x = with_tick past tick.0} {y = next} is_next
-    (subst (λ (t : TickObs). Says past line (with_tick past t)) {x = observed at.0 written.0 placed.0 past.pods} {y =
+    (subst (λ (t : TickObs). Says past line (with_tick past t)) {x = observed at.0 written.0 placed.0 past.roll} {y =
     tick.0} is_tick says)
 
 pod_says : (version : Version) (past : Past) (line : List ℕ) (d : Data) (next : Past) → version_in past ≡ Some version
-    → IsOfKind line kinds.Pod d → pod_line_at version past d ≡ Ok next → Says past line next
+    → IsOfKind past line kinds.Pod d → pod_line_at version past d ≡ Ok next → Says past line next
 pod_says version past line d next some is e =
     let before = cleared (is_late version past.ticks) Order (pod_early past d) next
     (sym (pod_whole version past d) ∙ e) in
-    let room = cleared (nat_le most_pods (length past.pods)) TooMany (pod_read past d) next before.1 in
+    let room = cleared (nat_le most_pods (length past.roll.pods)) TooMany (pod_read past d) next before.1 in
     let pod = bind_ok (pod_from (field_at (codes "pod") d)) (pod_said past) next room.1 in
-    let new = cleared (has_key past.pods (key_of_pod pod.0)) DuplicatePod (pod_new past pod.0) next pod.2 in
+    let new = cleared (has_key past.roll (key_of_pod pod.0)) DuplicatePod (pod_new past pod.0) next pod.2 in
     let is_next : with_pod past pod.0 ≡ next = same_value {E = FaultKind} (with_pod past pod.0) next new.1 in
     let stands : Stands past line kinds.Pod d =
     record { of_kind = is; here = subst (PodStands past) (sym some) (takes_pods version past.ticks before.0) } in
     let has_pod : HasPod past line d pod.0 =
-    record { stands = stands; room = leb-false most_pods (length past.pods) room.0; pod_is = pod.1 } in
+    record { stands = stands; room = leb-false most_pods (length past.roll.pods) room.0; pod_is = pod.1 } in
     subst (λ (p : Past). Says past line p) {x = with_pod past pod.0} is_next
-    (says_pod d pod.0 has_pod (key_nowhere past.pods (key_of_pod pod.0) new.0))
+    (says_pod d pod.0 has_pod (key_nowhere past.roll (key_of_pod pod.0) new.0))
 
 node_says : (past : Past) (line : List ℕ) (d : Data) (next : Past) → Stands past line kinds.Node d
     → with_node past d ≡ Ok next → Says past line next
@@ -106,7 +107,7 @@ node_says past line d next is e =
     subst (λ (p : Past). Says past line p) {x = said node.0} is_next (says_node d node.0 is node.1)
 
 place_says : (found : Option Version) (past : Past) (line : List ℕ) (line_kind : LineKind) (d : Data) (next : Past)
-    → version_in past ≡ found → IsOfKind line line_kind d → in_order found past line_kind d ≡ Ok next
+    → version_in past ≡ found → IsOfKind past line line_kind d → in_order found past line_kind d ≡ Ok next
     → Says past line next
 place_says None past line kinds.Node d next none is e =
     node_says past line d next (record { of_kind = is; here = no_node past.node none }) e
@@ -118,7 +119,7 @@ place_says (Some version) past line kinds.Tick d next some is e =
     tick_says past line d next (record { of_kind = is; here = some_node past.node version some }) e
 
 kind_says : (past : Past) (line : List ℕ) (d : Data) (found : Option LineKind) (next : Past) → IsJson line d
-    → kind_from (text_at (codes "kind") d) ≡ found → with_kind past d found ≡ Ok next → Says past line next
+    → kind_from (version_in past) (text_at (codes "kind") d) ≡ found → with_kind past d found ≡ Ok next → Says past line next
 kind_says past line d None next is found e = absurd (no_fault next UnknownKind (sym e))
 kind_says past line d (Some line_kind) next is found e =
     place_says (version_in past) past line line_kind d next refl (record { json = is; kind = found }) e
@@ -129,7 +130,7 @@ line_says_it past line next e =
     (sym (line_whole past line) ∙ e) in
     let json = bind_ok (json_of line) (with_json past) next short.1 in
     let is : IsJson line json.0 = record { short = ltb-false longest_line (length line) short.0; json = json.1 } in
-    kind_says past line json.0 (kind_from (text_at (codes "kind") json.0)) next is refl json.2
+    kind_says past line json.0 (kind_from (version_in past) (text_at (codes "kind") json.0)) next is refl json.2
 
 -- from what a line says to what it leaves
 node_line : (past : Past) (line : List ℕ) (d : Data) (node : NodeConfig) → Stands past line kinds.Node d
@@ -143,10 +144,10 @@ node_line past line d node is e =
 
 tick_line : (past : Past) (line : List ℕ) (d : Data) (at : ℕ) (written : TickLine) (placed : List PlacedEntry)
     → IsForwards past line d at written placed → some_code_missing placed ≡ false
-    → line_at past line ≡ Ok (with_tick past (observed at written placed past.pods))
+    → line_at past line ≡ Ok (with_tick past (observed at written placed past.roll))
 unfolding observed_in
 tick_line past line d at written placed is coded =
-    let seen = observed at written placed past.pods in
+    let seen = observed at written placed past.roll in
     let given : observed_in past at written placed ≡ Ok seen =
     passed (is_doubled placed) Doubled (with_apart past at written placed) is.is_apart.apart
     ∙ passed (is_backwards past.ticks seen) Backwards (with_forwards past at written placed) is.forwards
@@ -157,8 +158,8 @@ tick_line past line d at written placed is coded =
 says_line : (past : Past) (line : List ℕ) (next : Past) → Says past line next → line_at past line ≡ Ok next
 says_line past line _ (says_node d node is e) = node_line past line d node is e
 says_line past line _ (says_pod d pod is new) =
-    of_pod_said past line d pod is ∙ passed (has_key past.pods (key_of_pod pod)) DuplicatePod (pod_new past pod)
-    (nowhere_key past.pods (key_of_pod pod) new)
+    of_pod_said past line d pod is ∙ passed (has_key past.roll (key_of_pod pod)) DuplicatePod (pod_new past pod)
+    (nowhere_key past.roll (key_of_pod pod) new)
 says_line past line _ (says_tick d at written placed is coded) = tick_line past line d at written placed is coded
 
 pub all_checks : AllChecks

@@ -2,9 +2,6 @@
 use Rattle.std.proofs.Common.{◌≡◌, ◌∙◌, ◌⊎◌, ℕ, zero, suc, ◌+◌, ◌<◌, Bool, true, false, List, [], ◌∷◌, length}
 use Rattle.std.proofs.Common.{slice_get, Option, Some, None, Result, Ok, Err, refl, ap, sym, inl, inr, arith}
 use Rattle.std.specs.Prelude.{option_map, if◌then◌else◌, bytes_eq}
-use Rattle.std.proofs.Common.{get_or}
-use Rattle.std.proofs.lemmas.Option.{slice_get-get_or}
-use Rattle.std.proofs.lemmas.List.{length-map}
 use Rattle.json_fields.specs.Reading.{◌>>=◌, some_or, each}
 use Rattle.json_fields.proofs.Only.{no_fault, same_fault}
 use Rattle.json_fields.proofs.Steps.{bind_err, then_ok, there_is}
@@ -19,7 +16,8 @@ use Rattle.tick_lines.specs.declared.probing.ProbeResult.{ProbeResult}
 use Rattle.trace.specs.declared.placing.PlacedListing.{PlacedListing}
 use Rattle.trace.specs.declared.placing.PlacedResult.{PlacedResult}
 use Rattle.trace.specs.declared.placing.PlacedEntry.{PlacedEntry}
-use Rattle.trace.specs.Pod.{keys_of}
+use Rattle.roster.specs.Roll.{Roll, number_of}
+use Rattle.trace.proofs.Keys.{named, unnamed}
 use Rattle.trace.specs.Placing.{number_in, pod_numbered, container_number, placed_listing, placed_result}
 use Rattle.trace.specs.Placing.{entry_of_pod, placed_entry, placed_of}
 use Rattle.trace.specs.Laws.{HasNo, NamesOther, NamesStranger, NamesStrangerContainer, Strangers}
@@ -62,26 +60,6 @@ missing_is : {A E : Type 0} (fault given : E) (found : Option A) → some_or fau
     × (given ≡ fault)
 missing_is fault given None e = (refl, sym (same_fault fault given e))
 missing_is fault given (Some x) e = absurd (no_fault x given e)
-
-within_one : (here : Bool) (ks : List (List ℕ)) (n : ℕ) (later : Option ℕ)
-    → ((m : ℕ) → later ≡ Some m → m < length ks) → (if here then Some 0 else option_map (λ i. i + 1) later) ≡ Some n
-    → n < suc (length ks)
-within_one true ks n later rest e = let is : 0 ≡ n = cc in omega arith
-within_one false ks n None rest e = absurd (cc)
-within_one false ks n (Some m) rest e = let is : m + 1 ≡ n = cc in let lt = rest m refl in omega arith
-
-place_within : (ks : List (List ℕ)) (name : List ℕ) (n : ℕ) → place_of ks name ≡ Some n → n < length ks
-place_within [] name n e = absurd (cc)
-place_within (k ∷ ks) name n e =
-    within_one (bytes_eq name k) ks n (place_of ks name) (λ m is. place_within ks name m is) e
-
-pod_is_there : (pods : List PodSpec) (key : List ℕ) (n : ℕ) → place_of (keys_of pods) key ≡ Some n → (pod : PodSpec)
-    × (slice_get pods n ≡ Some pod)
-pod_is_there [] key n e = absurd (cc)
-pod_is_there (pod ∷ pods) key n e =
-    let within : n < length (keys_of (pod ∷ pods)) = place_within (keys_of (pod ∷ pods)) key n e in
-    let same : length (keys_of (pod ∷ pods)) ≡ length (pod ∷ pods) = simp length-map in
-    (get_or (pod ∷ pods) n pod, slice_get-get_or (pod ∷ pods) n pod (omega arith))
 
 container_fault : (pod : PodSpec) (name : List ℕ) (kind : FaultKind) → container_number pod name ≡ Err kind
     → HasNo pod name × (kind ≡ StrangerContainer)
@@ -162,29 +140,29 @@ known_is entry number pod (inr other) (Err kind) e =
     (e ∙ ap Err (listing_fault pod at.1 kind at.3).1)
 
 -- a fault of one entry: its pod isn't known, or a container isn't its pod's
-entry_fault : (pods : List PodSpec) (es : List Entry) (n : ℕ) (entry : Entry) (kind : FaultKind)
-    → slice_get es n ≡ Some entry → placed_entry (keys_of pods) pods entry ≡ Err kind
-    → NamesStranger pods es ⊎ ((kind ≡ StrangerContainer) × NamesStrangerContainer pods es)
+entry_fault : (roll : Roll) (es : List Entry) (n : ℕ) (entry : Entry) (kind : FaultKind)
+    → slice_get es n ≡ Some entry → placed_entry roll entry ≡ Err kind
+    → NamesStranger roll es ⊎ ((kind ≡ StrangerContainer) × NamesStrangerContainer roll es)
 unfolding placed_entry entry_of_pod
-entry_fault pods es n entry kind here e =
-    elim (bind_err (number_in (keys_of pods) entry) (with_number pods entry) kind e) [
+entry_fault roll es n entry kind here e =
+    elim (bind_err (number_in roll entry) (with_number roll.pods entry) kind e) [
       | inl unknown ↦ inl (record {
         n = n;
         entry = entry;
         here = here;
         unknown =
-            (missing_is StrangerPod kind (place_of (keys_of pods) entry.key) unknown).0;
+            (missing_is StrangerPod kind (number_of roll entry.key) unknown).0;
       })
       | inr number ↦
-          let known = there_is StrangerPod (place_of (keys_of pods) entry.key) number.0 number.1 in
-          let pod = pod_is_there pods entry.key number.0 known in
-          elim (bind_err (pod_numbered pods number.0) (with_pod entry number.0) kind number.2) [
+          let known = there_is StrangerPod (number_of roll entry.key) number.0 number.1 in
+          let pod = named roll entry.key number.0 known in
+          elim (bind_err (pod_numbered roll.pods number.0) (with_pod entry number.0) kind number.2) [
             | inl gone ↦
-                let none = (missing_is StrangerPod kind (slice_get pods number.0) gone).0 in
-                let some = pod.1 in
+                let none = (missing_is StrangerPod kind (slice_get roll.pods number.0) gone).0 in
+                let some = pod.at in
                 absurd (cc)
             | inr found ↦
-                let is = there_is StrangerPod (slice_get pods number.0) found.0 found.1 in
+                let is = there_is StrangerPod (slice_get roll.pods number.0) found.0 found.1 in
                 let why = known_fault entry number.0 found.0 kind found.2 in
                 inr (
                   why.0,
@@ -203,79 +181,79 @@ entry_fault pods es n entry kind here e =
           ]
     ]
 
-unknown_pod : (pods : List PodSpec) (es : List Entry) → NamesStranger pods es
-    → each (number_in (keys_of pods)) es ≡ Err StrangerPod
-unknown_pod pods es is =
-    each_meets (number_in (keys_of pods)) StrangerPod es is.n is.entry is.here
+unknown_pod : (roll : Roll) (es : List Entry) → NamesStranger roll es
+    → each (number_in roll) es ≡ Err StrangerPod
+unknown_pod roll es is =
+    each_meets (number_in roll) StrangerPod es is.n is.entry is.here
     (ap (λ (found : Option ℕ). some_or StrangerPod found) is.unknown)
-    (λ m z other at e. (missing_is StrangerPod other (place_of (keys_of pods) z.key) e).1)
+    (λ m z other at e. (missing_is StrangerPod other (number_of roll z.key) e).1)
 
 -- where every number is found, no entry names a stranger
-all_known : (pods : List PodSpec) (es : List Entry) (numbers : List ℕ)
-    → each (number_in (keys_of pods)) es ≡ Ok numbers → NamesStranger pods es → ⊥
-all_known pods es numbers e is = no_fault numbers StrangerPod (sym e ∙ unknown_pod pods es is)
+all_known : (roll : Roll) (es : List Entry) (numbers : List ℕ)
+    → each (number_in roll) es ≡ Ok numbers → NamesStranger roll es → ⊥
+all_known roll es numbers e is = no_fault numbers StrangerPod (sym e ∙ unknown_pod roll es is)
 
-entries_fault : (pods : List PodSpec) (es : List Entry) (kind : FaultKind) → placed_of pods es ≡ Err kind
-    → ((kind ≡ StrangerPod) × NamesStranger pods es) ⊎ ((kind ≡ StrangerContainer) × NamesStrangerContainer pods es)
+entries_fault : (roll : Roll) (es : List Entry) (kind : FaultKind) → placed_of roll es ≡ Err kind
+    → ((kind ≡ StrangerPod) × NamesStranger roll es) ⊎ ((kind ≡ StrangerContainer) × NamesStrangerContainer roll es)
 unfolding placed_of
-entries_fault pods es kind e =
-    elim (bind_err (each (number_in (keys_of pods)) es) (λ numbers. each (placed_entry (keys_of pods) pods) es) kind
+entries_fault roll es kind e =
+    elim (bind_err (each (number_in roll) es) (λ numbers. each (placed_entry roll) es) kind
     e) [
       | inl unknown ↦
-          let at = each_at (number_in (keys_of pods)) es kind unknown in
-          let why = missing_is StrangerPod kind (place_of (keys_of pods) at.1.key) at.3 in
+          let at = each_at (number_in roll) es kind unknown in
+          let why = missing_is StrangerPod kind (number_of roll at.1.key) at.3 in
           inl (why.1, record { n = at.0; entry = at.1; here = at.2; unknown = why.0 })
       | inr numbers ↦
-          let at = each_at (placed_entry (keys_of pods) pods) es kind numbers.2 in
-          elim (entry_fault pods es at.0 at.1 kind at.2 at.3) [
-            | inl stranger ↦ absurd (all_known pods es numbers.0 numbers.1 stranger)
+          let at = each_at (placed_entry roll) es kind numbers.2 in
+          elim (entry_fault roll es at.0 at.1 kind at.2 at.3) [
+            | inl stranger ↦ absurd (all_known roll es numbers.0 numbers.1 stranger)
             | inr container ↦ inr container
           ]
     ]
 
-pod_is : (pods : List PodSpec) (es : List Entry) → NamesStranger pods es → placed_of pods es ≡ Err StrangerPod
+pod_is : (roll : Roll) (es : List Entry) → NamesStranger roll es → placed_of roll es ≡ Err StrangerPod
 unfolding placed_of
-pod_is pods es is = then_err (each (number_in (keys_of pods)) es)
-    (λ numbers. each (placed_entry (keys_of pods) pods) es) StrangerPod (unknown_pod pods es is)
+pod_is roll es is = then_err (each (number_in roll) es)
+    (λ numbers. each (placed_entry roll) es) StrangerPod (unknown_pod roll es is)
 
-one_entry : (pods : List PodSpec) (es : List Entry) → (is : NamesStrangerContainer pods es)
-    → placed_entry (keys_of pods) pods is.entry ≡ Err StrangerContainer
+one_entry : (roll : Roll) (es : List Entry) → (is : NamesStrangerContainer roll es)
+    → placed_entry roll is.entry ≡ Err StrangerContainer
 unfolding placed_entry entry_of_pod
-one_entry pods es is =
-    then_ok (number_in (keys_of pods) is.entry) (with_number pods is.entry) is.number
+one_entry roll es is =
+    then_ok (number_in roll is.entry) (with_number roll.pods is.entry) is.number
     (ap (λ (found : Option ℕ). some_or StrangerPod found) is.known)
-    ∙ then_ok (pod_numbered pods is.number) (with_pod is.entry is.number) is.pod
+    ∙ then_ok (pod_numbered roll.pods is.number) (with_pod is.entry is.number) is.pod
     (ap (λ (found : Option PodSpec). some_or StrangerPod found) is.pod_is)
     ∙ known_is is.entry is.number is.pod is.other (each (placed_listing is.pod) is.entry.listings) refl
 
-only_container : (pods : List PodSpec) (es : List Entry) → (NamesStranger pods es → ⊥)
+only_container : (roll : Roll) (es : List Entry) → (NamesStranger roll es → ⊥)
     → (m : ℕ) (z : Entry) (other : FaultKind) → slice_get es m ≡ Some z
-    → placed_entry (keys_of pods) pods z ≡ Err other → other ≡ StrangerContainer
-only_container pods es none m z other at faulty = elim (entry_fault pods es m z other at faulty) [
+    → placed_entry roll z ≡ Err other → other ≡ StrangerContainer
+only_container roll es none m z other at faulty = elim (entry_fault roll es m z other at faulty) [
   | inl stranger ↦ absurd (none stranger)
   | inr container ↦ container.0
 ]
 
-container_is : (pods : List PodSpec) (es : List Entry) → (NamesStranger pods es → ⊥) → NamesStrangerContainer pods es
-    → (r : Result (List ℕ) FaultKind) → each (number_in (keys_of pods)) es ≡ r
-    → placed_of pods es ≡ Err StrangerContainer
+container_is : (roll : Roll) (es : List Entry) → (NamesStranger roll es → ⊥) → NamesStrangerContainer roll es
+    → (r : Result (List ℕ) FaultKind) → each (number_in roll) es ≡ r
+    → placed_of roll es ≡ Err StrangerContainer
 unfolding placed_of
-container_is pods es none is (Ok numbers) e =
-    then_ok (each (number_in (keys_of pods)) es) (λ numbers. each (placed_entry (keys_of pods) pods) es) numbers e
-    ∙ each_meets (placed_entry (keys_of pods) pods) StrangerContainer es is.n is.entry is.here (one_entry pods es is)
-    (λ m z other at faulty. only_container pods es none m z other at faulty)
-container_is pods es none is (Err kind) e =
-    let at = each_at (number_in (keys_of pods)) es kind e in
+container_is roll es none is (Ok numbers) e =
+    then_ok (each (number_in roll) es) (λ numbers. each (placed_entry roll) es) numbers e
+    ∙ each_meets (placed_entry roll) StrangerContainer es is.n is.entry is.here (one_entry roll es is)
+    (λ m z other at faulty. only_container roll es none m z other at faulty)
+container_is roll es none is (Err kind) e =
+    let at = each_at (number_in roll) es kind e in
     absurd (none (record {
       n = at.0;
       entry = at.1;
       here = at.2;
       unknown =
-          (missing_is StrangerPod kind (place_of (keys_of pods) at.1.key) at.3).0;
+          (missing_is StrangerPod kind (number_of roll at.1.key) at.3).0;
     }))
 
-pod_of : (pods : List PodSpec) (es : List Entry) → placed_of pods es ≡ Err StrangerPod → NamesStranger pods es
-pod_of pods es e = elim (entries_fault pods es StrangerPod e) [
+pod_of : (roll : Roll) (es : List Entry) → placed_of roll es ≡ Err StrangerPod → NamesStranger roll es
+pod_of roll es e = elim (entries_fault roll es StrangerPod e) [
   | inl pod ↦ pod.1
   | inr container ↦ let other : StrangerPod ≡ StrangerContainer = container.0 in absurd (cc)
 ]
@@ -283,19 +261,21 @@ pod_of pods es e = elim (entries_fault pods es StrangerPod e) [
 apart : ◌≡◌ {A = Result (List PlacedEntry) FaultKind} (Err StrangerPod) (Err StrangerContainer) → ⊥
 apart e = let same = same_fault {A = List PlacedEntry} StrangerPod StrangerContainer e in absurd (cc)
 
-container_of : (pods : List PodSpec) (es : List Entry) → placed_of pods es ≡ Err StrangerContainer
-    → (NamesStranger pods es → ⊥) × NamesStrangerContainer pods es
-container_of pods es e = elim (entries_fault pods es StrangerContainer e) [
+container_of : (roll : Roll) (es : List Entry) → placed_of roll es ≡ Err StrangerContainer
+    → (NamesStranger roll es → ⊥) × NamesStrangerContainer roll es
+container_of roll es e = elim (entries_fault roll es StrangerContainer e) [
   | inl pod ↦ let other : StrangerContainer ≡ StrangerPod = pod.0 in absurd (cc)
-  | inr container ↦ (λ is. apart (sym (pod_is pods es is) ∙ e), container.1)
+  | inr container ↦ (λ is. apart (sym (pod_is roll es is) ∙ e), container.1)
 ]
 
 pub strangers : Strangers
 strangers = record {
-  pod = λ pods es. (pod_of pods es, pod_is pods es);
-  container = λ pods es. (
-    container_of pods es,
-    λ is. container_is pods es is.0 is.1
-        (each (number_in (keys_of pods)) es) refl,
+  pod = λ roll es. (pod_of roll es, pod_is roll es);
+  named = named;
+  unnamed = unnamed;
+  container = λ roll es. (
+    container_of roll es,
+    λ is. container_is roll es is.0 is.1
+        (each (number_in roll) es) refl,
   );
 }

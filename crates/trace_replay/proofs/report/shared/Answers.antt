@@ -10,4 +10,4 @@ take_by_workers-taken-requires-clause-replayable g c κs within =
     let trace = c.args.trace in
     subst (λ (ts : List TickObs). AreReplayable c.into_vec-pods.result.items ts) (sym c.into_vec-ticks.ensures)
     (subst (λ (ps : List PodSpec). AreReplayable ps trace.ticks) (sym c.into_vec-pods.ensures)
-    (are_replayable trace.pods trace.arrivals trace.ticks c.requires.acceptable c.requires.shape))
+    (are_replayable trace.pods trace.arrivals trace.departures trace.ticks c.requires.acceptable c.requires.shape))

@@ -1,0 +1,4 @@
+pub mod Found
+pub mod Held
+pub mod Present
+pub mod Kept
