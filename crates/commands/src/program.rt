@@ -27,7 +27,7 @@ const WORKERS_HELP: &str =
     to 64; their number never changes the report";
 
 const EXTENDED_HELP: &str =
-    "Takes version 3 of the trace's format as well, which has pauses between evictions";
+    "Takes version 3 of the trace's format as well, in which pods can leave and evictions can pause";
 
 fn trace_arg<'a>(alloc: Global) -> Arg<'a>
     ensures rule { rule_of result ≡ trace_rule }

@@ -19,11 +19,12 @@ use Rattle.serde_json.specs.Data.{Data}
 use Rattle.json_fields.specs.Fields.{field_at, text_at}
 use Rattle.json_fields.specs.Reading.{◌>>=◌, refused_if, some_or}
 use Rattle.json_fields.proofs.Steps.{bind_ok}
-use Rattle.trace.proofs.Whole.{tick_whole, pod_whole, line_whole}
+use Rattle.trace.proofs.Whole.{gone_said, gone_whole, tick_whole, pod_whole, line_whole}
 use Rattle.trace.proofs.Versions.{some_node}
 use Rattle.manifest.specs.declared.pod.PodSpec.{PodSpec}
 use Rattle.trace.specs.declared.fault.FaultKind.{FaultKind}
 use Rattle.trace.specs.declared.fault.FaultKind.TheVariants.{TooLong, DuplicatePod, UnknownKind, Order, TooMany}
+use Rattle.trace.specs.declared.fault.FaultKind.TheVariants.{StrangerPod}
 use Rattle.trace.specs.declared.fault.LineFault.{LineFault}
 use Rattle.node_config.specs.declared.node.NodeConfig.{NodeConfig}
 use Rattle.trace.specs.declared.past.Trace.{Trace}
@@ -35,15 +36,15 @@ use Rattle.tick_lines.specs.declared.line.TickLine.{TickLine}
 use Rattle.trace.specs.declared.placing.PlacedEntry.{PlacedEntry}
 use Rattle.json_lines.specs.Lines.{lines_of, is_blank, longest_line}
 use Rattle.trace.specs.Written.{node_in, tick_line_in}
-use Rattle.roster.specs.Roll.{key_of_pod}
-use Rattle.trace.specs.Pod.{has_key, pod_from}
+use Rattle.roster.specs.Roll.{roll, key_of_pod}
+use Rattle.trace.specs.Pod.{has_key, pod_from, named_in}
 use Rattle.trace.specs.Placing.{placed_of}
 use Rattle.node_config.specs.declared.node.Format.{Format}
 use Rattle.node_config.specs.declared.node.Version.{Version}
-use Rattle.trace.specs.Past.{Past, version_in, of_node, with_pod, with_tick}
+use Rattle.trace.specs.Past.{Past, version_in, of_node, with_pod, without, with_tick}
 use Rattle.trace.specs.Tick.{moment_of, observed_in, tick_at}
-use Rattle.trace.specs.Trace.{json_of, kind_from, with_node, is_late, pod_line_at, in_order, line_at, at_line}
-use Rattle.trace.specs.Trace.{finished, read_on, nothing, trace_of}
+use Rattle.trace.specs.Trace.{json_of, kind_from, with_node, is_late, pod_line_at, gone_line_at, in_order, line_at}
+use Rattle.trace.specs.Trace.{at_line, trace_in, finished, read_on, nothing, trace_of}
 use Rattle.trace.specs.Laws.{Leaves, AreSaid, IsFaultAt, NoneCounts, IsFirstFault, IsWhole, FirstFault, WholeTrace}
 use Rattle.trace.specs.Laws.{OneFault}
 
@@ -143,7 +144,8 @@ pod_line_keeps version past d next e =
     let keyed : PodSpec → Result Past FaultKind = λ pod. refused_if (has_key past.roll (key_of_pod pod)) DuplicatePod
     >>= last pod in
     let read : ⊤ → Result Past FaultKind = λ u. pod_from (field_at (codes "pod") d) >>= keyed in
-    let first : ⊤ → Result Past FaultKind = λ u. refused_if (nat_le most_pods (length past.roll.pods)) TooMany >>= read in
+    let first : ⊤ → Result Past FaultKind =
+    λ u. refused_if (nat_le most_pods (length past.roll.pods)) TooMany >>= read in
     let before = bind_ok (refused_if (is_late version past.ticks) Order) first next (sym (pod_whole version past d)
     ∙ e) in
     let room = bind_ok (refused_if (nat_le most_pods (length past.roll.pods)) TooMany) read next before.2 in
@@ -170,29 +172,40 @@ tick_line_keeps past d next e =
     let is_next : with_tick past tick.0 ≡ next = cc in
     ap (λ (p : Past). p.node) {x = with_tick past tick.0} is_next
 
+gone_line_keeps : (past : Past) (d : Data) (next : Past) → gone_line_at past d ≡ Ok next → past.node ≡ next.node
+gone_line_keeps past d next e =
+    let named = named_in past.roll (text_at (codes "pod") d) in
+    let number = bind_ok (some_or StrangerPod named) (gone_said past) next (sym (gone_whole past d) ∙ e) in
+    let given : Ok (without past number.0) ≡ Ok next = number.2 in
+    let is_next : without past number.0 ≡ next = cc in
+    ap (λ (p : Past). p.node) {x = without past number.0} is_next
+
 in_order_some : (found : Option Version) (past : Past) (line_kind : LineKind) (d : Data) (next : Past)
     → version_in past ≡ found → in_order found past line_kind d ≡ Ok next → is_some next.node ≡ true
 in_order_some None past kinds.Node d next is e = with_node_some past d next e
 in_order_some None past kinds.Pod d next is e = absurd (cc)
 in_order_some None past kinds.Tick d next is e = absurd (cc)
+in_order_some None past kinds.Gone d next is e = absurd (cc)
 in_order_some (Some version) past kinds.Node d next is e = absurd (cc)
 in_order_some (Some version) past kinds.Pod d next is e =
     subst (λ (o : Option NodeConfig). is_some o ≡ true) (pod_line_keeps version past d next e)
     (some_node past.node version is)
 in_order_some (Some version) past kinds.Tick d next is e =
     subst (λ (o : Option NodeConfig). is_some o ≡ true) (tick_line_keeps past d next e) (some_node past.node version is)
+in_order_some (Some version) past kinds.Gone d next is e =
+    subst (λ (o : Option NodeConfig). is_some o ≡ true) (gone_line_keeps past d next e) (some_node past.node version is)
 
 line_some : (past : Past) (line : List ℕ) (next : Past) → line_at past line ≡ Ok next → is_some next.node ≡ true
 line_some past line next e =
     let take : Data → LineKind → Result Past FaultKind = λ d line_kind. in_order (version_in past) past line_kind d in
-    let kind : Data → Result Past FaultKind = λ d. some_or UnknownKind (kind_from (version_in past) (text_at (codes "kind") d))
-    >>= take d in
+    let kind : Data → Result Past FaultKind =
+    λ d. some_or UnknownKind (kind_from (version_in past) (text_at (codes "kind") d)) >>= take d in
     let parse : ⊤ → Result Past FaultKind = λ u. json_of line >>= kind in
     let short = bind_ok (refused_if (nat_lt longest_line (length line)) TooLong) parse next
     (sym (line_whole past line) ∙ e) in
     let json = bind_ok (json_of line) kind next short.2 in
-    let line_kind = bind_ok (some_or UnknownKind (kind_from (version_in past) (text_at (codes "kind") json.0))) (take json.0) next
-    json.2 in
+    let line_kind = bind_ok (some_or UnknownKind (kind_from (version_in past) (text_at (codes "kind") json.0)))
+    (take json.0) next json.2 in
     in_order_some (version_in past) past line_kind.0 json.0 next refl line_kind.2
 
 earlier : (n m : ℕ) → m < suc n → (m < n) ⊎ (m ≡ n)
@@ -251,13 +264,14 @@ end_whole : (format : Format) (lines : List (List ℕ)) (trace : Trace) (past : 
     → finished (length lines + 1) past node ≡ Ok trace → IsWhole format lines trace
 end_whole format lines trace past None said none e = absurd (cc)
 end_whole format lines trace past (Some node) said some e =
-    let is : record { node = node; pods = past.pods; arrivals = past.arrivals; ticks = past.ticks } ≡ trace = cc in
+    let is : trace_in node past.roll past.ticks ≡ trace = cc in
     record {
       past = past;
       said = said;
       node = some ∙ ap (λ (t : Trace). Some t.node) is;
       pods = ap (λ (t : Trace). t.pods) is;
       arrivals = ap (λ (t : Trace). t.arrivals) is;
+      departures = ap (λ (t : Trace). t.departures) is;
       ticks = ap (λ (t : Trace). t.ticks) is;
     }
 
@@ -303,14 +317,15 @@ whole_is : (format : Format) (lines : List (List ℕ)) (trace : Trace) → IsWho
 whole_is format lines trace is =
     let n = length lines + 1 in
     let past = is.past in
+    let r = past.roll in
+    let of : List PodSpec → List ℕ → List (Option ℕ) → List TickObs → Result Trace LineFault =
+    λ pods arrivals departures ticks. Ok (trace_in trace.node (roll pods arrivals departures) ticks) in
     ended format lines past is.said
     ∙ ap (λ (o : Option NodeConfig). finished n past o) is.node
-    ∙ ap (λ (ps : List PodSpec). Ok
-    (record { node = trace.node; pods = ps; arrivals = past.arrivals; ticks = past.ticks })) is.pods
-    ∙ ap (λ (arrivals : List ℕ). Ok
-    (record { node = trace.node; pods = trace.pods; arrivals = arrivals; ticks = past.ticks })) is.arrivals
-    ∙ ap (λ (ts : List TickObs). Ok
-    (record { node = trace.node; pods = trace.pods; arrivals = trace.arrivals; ticks = ts })) is.ticks
+    ∙ ap (λ (ps : List PodSpec). of ps r.arrivals r.departures past.ticks) is.pods
+    ∙ ap (λ (arrivals : List ℕ). of trace.pods arrivals r.departures past.ticks) is.arrivals
+    ∙ ap (λ (departures : List (Option ℕ)). of trace.pods trace.arrivals departures past.ticks) is.departures
+    ∙ ap (λ (ts : List TickObs). of trace.pods trace.arrivals trace.departures ts) is.ticks
 
 -- lines say one thing at most
 one_left : (before past past' : Past) (line : List ℕ) → Leaves before line past → Leaves before line past'

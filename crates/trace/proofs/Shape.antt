@@ -129,8 +129,7 @@ shows_each at written es roll t all left = record {
   present = λ n. (
     λ some.
         let is = (some_shown at es roll.departures 0 roll.pods n).0 some in
-        let lt = is.0 in
-        (
+        let lt = is.0 in (
           arrived_all roll.arrivals t n all.in_range (omega (arith, lt, all.as_many)),
           present_stays roll.departures t n (ap (is_present roll.departures) (zeroth n) ∙ is.1),
         ),
@@ -280,8 +279,7 @@ apart_more roll pod ticks came left own new n m p q arrival lt here there at sam
               let within = slice_get_within roll.pods n p a in
               let found = given_at roll.departures n (omega (arith, within, left.as_many)) in
               let w = by a (same ∙ sym (ap key_of_pod b.1)) found.0 found.1 in
-              let low = left.in_range n w.0 w.1 in
-              (
+              let low = left.in_range n w.0 w.1 in (
                 w.0,
                 slice_get-kept roll.departures (None ∷ []) n (Some w.0) w.1,
                 omega (arith, low, c.1),
@@ -419,6 +417,7 @@ kept = record {
 
 -- what a call answers that gives this trace
 pub given_shape : (format : Format) (text : List ℕ) (answer : Result Trace LineFault)
-    → GivesAt (λ t. t) answer (trace_of format text) → IfOk answer (λ t. HasShape t.pods t.arrivals t.departures t.ticks)
+    → GivesAt (λ t. t) answer (trace_of format text)
+    → IfOk answer (λ t. HasShape t.pods t.arrivals t.departures t.ticks)
 given_shape format text (Ok trace) given = (of_trace IsShaped kept format text trace given).1
 given_shape format text (Err fault) given = tt

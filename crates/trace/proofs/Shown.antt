@@ -70,15 +70,13 @@ some_shown at es departures n [] k = (
 )
 some_shown at es departures n (p ∷ ps) zero =
     let here : n + 0 ≡ n = omega arith in
-    let one = shown_if (is_present departures n) (pod_observed at (entry_for es n) p) in
-    (
+    let one = shown_if (is_present departures n) (pod_observed at (entry_for es n) p) in (
       (λ e. (omega arith, ap (is_present departures) here ∙ one.0 e)),
       (λ is. one.1 (ap (is_present departures) (sym here) ∙ is.1)),
     )
 some_shown at es departures n (p ∷ ps) (suc k) =
     let there : n + 1 + k ≡ n + suc k = omega arith in
-    let rest = some_shown at es departures (n + 1) ps k in
-    (
+    let rest = some_shown at es departures (n + 1) ps k in (
       (λ e. let w = rest.0 e in
           let lt = w.0 in
           (omega (arith, lt), ap (is_present departures) (sym there) ∙ w.1)),

@@ -47,10 +47,7 @@ fn key_text(alloc: Global, pod: &PodSpec) -> Result<String, AllocError>
 pub(crate) fn room_for_pod(reader: &Reader) -> Result<(), FaultKind>
     ensures { GivesExactly (λ t. t) result (room_for_pod reader.now.roll.pods) }
 {
-    refused_if(
-        reader.roster.pods().len() >= MOST_PODS,
-        FaultKind::TooMany,
-    )
+    refused_if(reader.roster.pods().len() >= MOST_PODS, FaultKind::TooMany)
 }
 
 fn has_key(roster: &Roster, key: &str) -> bool

@@ -340,11 +340,7 @@ fn with_tick(reader: Reader, tick: TickObs) -> Result<Reader, FaultKind>
 
 /// The tick that a tick line says.
 #[tactic(auto, unfolding(crate::specs::Taken::tick_of))]
-fn tick_of(
-    alloc: Global,
-    reader: &Reader,
-    line: &TickRecord,
-) -> Result<TickObs, FaultKind>
+fn tick_of(alloc: Global, reader: &Reader, line: &TickRecord) -> Result<TickObs, FaultKind>
     ensures gives { Gives (λ t. t) result (tick_of reader.now line.now.at line.now.written) }
     ensures follows { IfOk result (MayStandBehind reader.now) }
 {

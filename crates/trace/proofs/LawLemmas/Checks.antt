@@ -11,7 +11,7 @@ use Rattle.json_fields.proofs.Steps.{bind_err, then_ok}
 use Rattle.manifest.specs.declared.pod.PodSpec.{PodSpec}
 use Rattle.trace.specs.declared.fault.FaultKind.{FaultKind}
 use Rattle.trace.specs.declared.fault.FaultKind.TheVariants.{TooLong, UnknownKind, Order, TooMany, DuplicatePod}
-use Rattle.trace.specs.declared.fault.FaultKind.TheVariants.{Doubled, Backwards, ExitCode}
+use Rattle.trace.specs.declared.fault.FaultKind.TheVariants.{Doubled, Backwards, ExitCode, StrangerPod}
 use Rattle.node_config.specs.declared.node.NodeConfig.{NodeConfig}
 use Rattle.node_config.specs.declared.node.Version.{Version}
 use Rattle.node_config.specs.declared.node.Version.TheVariants.{One, Two, Three}
@@ -24,22 +24,22 @@ use Rattle.trace.specs.declared.placing.PlacedEntry.{PlacedEntry}
 use Rattle.json_lines.specs.Lines.{longest_line}
 use Rattle.trace.specs.Written.{node_in, tick_line_in}
 use Rattle.roster.specs.Roll.{key_of_pod}
-use Rattle.trace.specs.Pod.{has_key, pod_from}
+use Rattle.trace.specs.Pod.{has_key, pod_from, named_in}
 use Rattle.trace.proofs.Whole.{with_kind, with_json, with_tick_seen, with_places, with_written, with_moment}
 use Rattle.trace.proofs.Whole.{with_room, with_code, with_forwards, with_apart, pod_new, pod_said, pod_read}
-use Rattle.trace.proofs.Whole.{pod_early, tick_whole, pod_whole, line_whole}
+use Rattle.trace.proofs.Whole.{pod_early, gone_named, gone_whole, tick_whole, pod_whole, line_whole}
 use Rattle.trace.proofs.Versions.{no_node, some_node}
 use Rattle.trace.proofs.Keys.{key_there, there_key}
 use Rattle.trace.specs.Placing.{placed_of, is_doubled}
 use Rattle.trace.specs.Observed.{observed, some_code_missing}
 use Rattle.following.specs.Backwards.{is_backwards}
-use Rattle.trace.specs.Past.{Past, version_in, of_node, with_pod, with_tick}
+use Rattle.trace.specs.Past.{Past, version_in, of_node, with_pod, without, with_tick}
 use Rattle.trace.specs.Tick.{moment_of, observed_in, tick_at}
-use Rattle.trace.specs.Trace.{json_of, kind_from, with_node, is_late, pod_line_at, in_order, line_at}
+use Rattle.trace.specs.Trace.{json_of, kind_from, with_node, is_late, pod_line_at, gone_line_at, in_order, line_at}
 use Rattle.trace.specs.Laws.{IsJson, IsOfKind, TakesPods, MayStand, Stands, HasPod, HasMoment, HasWritten, HasPlaces}
 use Rattle.trace.specs.Laws.{IsApart, IsForwards, Fails, too_long, not_json, unknown_kind, misplaced, wrong_node}
-use Rattle.trace.specs.Laws.{many_pods, wrong_pod, duplicate_pod, many_ticks, wrong_moment, wrong_field, stranger}
-use Rattle.trace.specs.Laws.{doubled, backwards, no_code, FirstCheck}
+use Rattle.trace.specs.Laws.{many_pods, wrong_pod, duplicate_pod, nobody_gone, many_ticks, wrong_moment, wrong_field}
+use Rattle.trace.specs.Laws.{stranger, doubled, backwards, no_code, FirstCheck}
 
 pub then_err : {A B E : Type 0} (r : Result A E) (f : A → Result B E) (fault : E) → r ≡ Err fault
     → (r >>= f) ≡ Err fault
@@ -217,6 +217,18 @@ node_fails past line d kind is e =
       | inr later ↦ absurd (no_fault (of_node past later.0) kind later.2)
     ]
 
+named_fails : (past : Past) (line : List ℕ) (d : Data) (named : Option ℕ) (kind : FaultKind)
+    → Stands past line kinds.Gone d → named_in past.roll (text_at (codes "pod") d) ≡ named
+    → gone_named past named ≡ Err kind → Fails past line kind
+named_fails past line d None kind is none e =
+    subst (λ (k : FaultKind). Fails past line k) (same_fault {A = Past} StrangerPod kind e) (nobody_gone d is none)
+named_fails past line d (Some number) kind is named e = absurd (no_fault (without past number) kind e)
+
+gone_fails : (past : Past) (line : List ℕ) (d : Data) (kind : FaultKind) → Stands past line kinds.Gone d
+    → gone_line_at past d ≡ Err kind → Fails past line kind
+gone_fails past line d kind is e =
+    named_fails past line d (named_in past.roll (text_at (codes "pod") d)) kind is refl (sym (gone_whole past d) ∙ e)
+
 not_some : (node : Option NodeConfig) → node ≡ None → is_some node ≡ true → ⊥
 not_some None none some = absurd (cc)
 not_some (Some node) none some = absurd (cc)
@@ -232,15 +244,21 @@ place_fails None past line kinds.Pod d kind none is e =
 place_fails None past line kinds.Tick d kind none is e =
     subst (λ (k : FaultKind). Fails past line k) (same_fault {A = Past} Order kind e)
     (misplaced kinds.Tick d is (λ may. not_some past.node (no_node past.node none) may))
+place_fails None past line kinds.Gone d kind none is e =
+    subst (λ (k : FaultKind). Fails past line k) (same_fault {A = Past} Order kind e)
+    (misplaced kinds.Gone d is (λ may. not_some past.node (no_node past.node none) may))
 place_fails (Some version) past line kinds.Node d kind some is e =
     subst (λ (k : FaultKind). Fails past line k) (same_fault {A = Past} Order kind e)
     (misplaced kinds.Node d is (λ may. not_some past.node may (some_node past.node version some)))
 place_fails (Some version) past line kinds.Pod d kind some is e = pod_fails version past line d kind some is e
 place_fails (Some version) past line kinds.Tick d kind some is e =
     tick_fails past line d kind (record { of_kind = is; here = some_node past.node version some }) e
+place_fails (Some version) past line kinds.Gone d kind some is e =
+    gone_fails past line d kind (record { of_kind = is; here = some_node past.node version some }) e
 
 kind_fails : (past : Past) (line : List ℕ) (d : Data) (found : Option LineKind) (kind : FaultKind) → IsJson line d
-    → kind_from (version_in past) (text_at (codes "kind") d) ≡ found → with_kind past d found ≡ Err kind → Fails past line kind
+    → kind_from (version_in past) (text_at (codes "kind") d) ≡ found → with_kind past d found ≡ Err kind
+    → Fails past line kind
 kind_fails past line d None kind is found e =
     subst (λ (k : FaultKind). Fails past line k) (same_fault {A = Past} UnknownKind kind e) (unknown_kind d is found)
 kind_fails past line d (Some line_kind) kind is found e =
@@ -288,11 +306,13 @@ misplaced_kind : (found : Option Version) (past : Past) (line_kind : LineKind) (
 misplaced_kind None past kinds.Node d none never = absurd (never (no_node past.node none))
 misplaced_kind None past kinds.Pod d none never = refl
 misplaced_kind None past kinds.Tick d none never = refl
+misplaced_kind None past kinds.Gone d none never = refl
 misplaced_kind (Some version) past kinds.Node d some never = refl
 misplaced_kind (Some version) past kinds.Pod d some never =
     let late = comes_late version past.ticks (λ may. never (subst (PodStands past) (sym some) may)) in
     pod_whole version past d ∙ failed (is_late version past.ticks) Order (pod_early past d) late
 misplaced_kind (Some version) past kinds.Tick d some never = absurd (never (some_node past.node version some))
+misplaced_kind (Some version) past kinds.Gone d some never = absurd (never (some_node past.node version some))
 
 pub node_in_order : (node : Option NodeConfig) (past : Past) (d : Data) → node ≡ None
     → in_order (option_map (λ (n : NodeConfig). n.version) node) past kinds.Node d ≡ with_node past d
@@ -311,6 +331,11 @@ tick_in_order : (node : Option NodeConfig) (past : Past) (d : Data) → is_some 
 tick_in_order None past d is = absurd (cc)
 tick_in_order (Some node) past d is = refl
 
+gone_in_order : (node : Option NodeConfig) (past : Past) (d : Data) → is_some node ≡ true
+    → in_order (option_map (λ (n : NodeConfig). n.version) node) past kinds.Gone d ≡ gone_line_at past d
+gone_in_order None past d is = absurd (cc)
+gone_in_order (Some node) past d is = refl
+
 of_wrong_node : (past : Past) (line : List ℕ) (d : Data) (kind : FaultKind) → Stands past line kinds.Node d
     → node_in past.format d ≡ Err kind → line_at past line ≡ Err kind
 unfolding with_node
@@ -323,8 +348,8 @@ of_pod : (past : Past) (line : List ℕ) (d : Data) → Stands past line kinds.P
     → line_at past line ≡ pod_early past d tt
 of_pod past line d is = of_kind past line kinds.Pod d is.of_kind ∙ pod_in_order (version_in past) past d is.here
 
-of_pod_room : (past : Past) (line : List ℕ) (d : Data) → Stands past line kinds.Pod d → length past.roll.pods < most_pods
-    → line_at past line ≡ pod_read past d tt
+of_pod_room : (past : Past) (line : List ℕ) (d : Data) → Stands past line kinds.Pod d
+    → length past.roll.pods < most_pods → line_at past line ≡ pod_read past d tt
 of_pod_room past line d is room =
     of_pod past line d is ∙ passed (nat_le most_pods (length past.roll.pods)) TooMany (pod_read past d)
     (lt-leb most_pods (length past.roll.pods) room)
@@ -333,6 +358,11 @@ pub of_pod_said : (past : Past) (line : List ℕ) (d : Data) (pod : PodSpec) →
     → line_at past line ≡ pod_said past pod
 of_pod_said past line d pod is = of_pod_room past line d is.stands is.room
     ∙ then_ok (pod_from (field_at (codes "pod") d)) (pod_said past) pod is.pod_is
+
+pub of_gone : (past : Past) (line : List ℕ) (d : Data) → Stands past line kinds.Gone d
+    → line_at past line ≡ gone_named past (named_in past.roll (text_at (codes "pod") d))
+of_gone past line d is = of_kind past line kinds.Gone d is.of_kind ∙ gone_in_order past.node past d is.here
+    ∙ gone_whole past d
 
 of_tick : (past : Past) (line : List ℕ) (d : Data) → Stands past line kinds.Tick d
     → line_at past line ≡ (refused_if (nat_le most_ticks (length past.ticks)) TooMany >>= with_room past d)
@@ -400,6 +430,7 @@ fails_line past line _ (wrong_pod d kind is room e) = of_pod_room past line d is
 fails_line past line _ (duplicate_pod d pod is known) = of_pod_said past line d pod is
     ∙ failed (has_key past.roll (key_of_pod pod)) DuplicatePod (pod_new past pod)
     (there_key past.roll (key_of_pod pod) known)
+fails_line past line _ (nobody_gone d is none) = of_gone past line d is ∙ ap (gone_named past) none
 fails_line past line _ (many_ticks d is many) =
     of_tick past line d is ∙ failed (nat_le most_ticks (length past.ticks)) TooMany (with_room past d)
     (le-leb most_ticks (length past.ticks) many)

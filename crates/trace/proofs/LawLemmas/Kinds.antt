@@ -31,8 +31,8 @@ use Rattle.trace.specs.Past.{Past}
 use Rattle.trace.specs.Tick.{is_later, moment_from}
 use Rattle.trace.specs.Trace.{json_of}
 use Rattle.trace.specs.Laws.{IsFirstFault, Fails, too_long, not_json, unknown_kind, misplaced, wrong_node, many_pods}
-use Rattle.trace.specs.Laws.{wrong_pod, duplicate_pod, nobody_gone, many_ticks, wrong_moment, wrong_field, stranger, doubled}
-use Rattle.trace.specs.Laws.{backwards, no_code, KindsOfChecks, IsNotMemory, NeverMemory}
+use Rattle.trace.specs.Laws.{wrong_pod, duplicate_pod, nobody_gone, many_ticks, wrong_moment, wrong_field, stranger}
+use Rattle.trace.specs.Laws.{doubled, backwards, no_code, KindsOfChecks, IsNotMemory, NeverMemory}
 use Rattle.trace.proofs.LawLemmas.{first_fault}
 use Rattle.trace.proofs.LawLemmas.Checks.{line_fails}
 use Rattle.json_fields.proofs.Only.{Only, only_ok, only_err, only_bind, only_if, only_some, only_each}

@@ -1,6 +1,6 @@
--- A line without a fault says its node, its pod or its tick.
+-- A line without a fault says its node, its pod, that a pod is gone, or its tick.
 use Rattle.std.proofs.Common.{◌≡◌, ◌∙◌, ℕ, Bool, true, false, List, length, Option, Some}
-use Rattle.std.proofs.Common.{None, Result, Ok, refl, sym, subst}
+use Rattle.std.proofs.Common.{None, Result, Ok, refl, ap, sym, subst}
 use Rattle.std.specs.Prelude.{⊤, nat_lt, nat_le, codes}
 use Rattle.std.proofs.lemmas.Bool.{ltb-false, leb-false}
 use Rattle.serde_json.specs.Data.{Data}
@@ -10,10 +10,10 @@ use Rattle.json_fields.proofs.Steps.{bind_ok, then_ok}
 use Rattle.json_fields.proofs.Only.{same_value, no_fault}
 use Rattle.trace.proofs.Whole.{with_kind, with_json, with_tick_seen, with_places, with_written, with_moment}
 use Rattle.trace.proofs.Whole.{with_room, with_code, with_forwards, with_apart, pod_new, pod_said, pod_read}
-use Rattle.trace.proofs.Whole.{pod_early, tick_whole, pod_whole, line_whole}
+use Rattle.trace.proofs.Whole.{pod_early, gone_named, gone_whole, tick_whole, pod_whole, line_whole}
 use Rattle.trace.specs.declared.fault.FaultKind.{FaultKind}
 use Rattle.trace.specs.declared.fault.FaultKind.TheVariants.{TooLong, UnknownKind, Order, TooMany, DuplicatePod}
-use Rattle.trace.specs.declared.fault.FaultKind.TheVariants.{Doubled, Backwards, ExitCode}
+use Rattle.trace.specs.declared.fault.FaultKind.TheVariants.{Doubled, Backwards, ExitCode, StrangerPod}
 use Rattle.node_config.specs.declared.node.NodeConfig.{NodeConfig}
 use Rattle.node_config.specs.declared.node.Version.{Version}
 use Rattle.trace.specs.declared.past.LineKind.{LineKind}
@@ -25,20 +25,20 @@ use Rattle.trace.specs.declared.placing.PlacedEntry.{PlacedEntry}
 use Rattle.json_lines.specs.Lines.{longest_line}
 use Rattle.trace.specs.Written.{node_in, tick_line_in}
 use Rattle.roster.specs.Roll.{key_of_pod}
-use Rattle.trace.specs.Pod.{has_key, pod_from}
+use Rattle.trace.specs.Pod.{has_key, pod_from, named_in}
 use Rattle.trace.proofs.Versions.{no_node, some_node}
 use Rattle.trace.proofs.Keys.{key_nowhere, nowhere_key}
 use Rattle.trace.specs.Placing.{placed_of, is_doubled}
 use Rattle.trace.specs.Observed.{observed, some_code_missing}
 use Rattle.following.specs.Backwards.{is_backwards}
-use Rattle.trace.specs.Past.{Past, version_in, of_node, with_pod, with_tick}
+use Rattle.trace.specs.Past.{Past, version_in, of_node, with_pod, without, with_tick}
 use Rattle.trace.specs.Tick.{moment_of, observed_in, tick_at}
-use Rattle.trace.specs.Trace.{json_of, kind_from, with_node, is_late, pod_line_at, in_order, line_at}
+use Rattle.trace.specs.Trace.{json_of, kind_from, with_node, is_late, pod_line_at, gone_line_at, in_order, line_at}
 use Rattle.trace.specs.Laws.{IsJson, IsOfKind, Stands, HasPod, HasMoment, HasWritten, HasPlaces}
 use Rattle.trace.specs.Laws.{IsApart, IsForwards}
-use Rattle.trace.specs.Laws.{Says, says_node, says_pod, says_tick, AllChecks}
-use Rattle.trace.proofs.LawLemmas.Checks.{PodStands, node_in_order, of_kind, of_places, of_pod_said, passed}
-use Rattle.trace.proofs.LawLemmas.Checks.{takes_pods}
+use Rattle.trace.specs.Laws.{Says, says_node, says_pod, says_gone, says_tick, AllChecks}
+use Rattle.trace.proofs.LawLemmas.Checks.{PodStands, node_in_order, of_kind, of_gone, of_places, of_pod_said}
+use Rattle.trace.proofs.LawLemmas.Checks.{passed, takes_pods}
 
 -- a test that refuses nothing, and what follows it
 cleared : {B E : Type 0} (b : Bool) (fault : E) (f : ⊤ → Result B E) (y : B) → (refused_if b fault >>= f) ≡ Ok y
@@ -106,6 +106,18 @@ node_says past line d next is e =
     let is_next : said node.0 ≡ next = same_value {E = FaultKind} (said node.0) next node.2 in
     subst (λ (p : Past). Says past line p) {x = said node.0} is_next (says_node d node.0 is node.1)
 
+named_says : (past : Past) (line : List ℕ) (d : Data) (named : Option ℕ) (next : Past) → Stands past line kinds.Gone d
+    → named_in past.roll (text_at (codes "pod") d) ≡ named → gone_named past named ≡ Ok next → Says past line next
+named_says past line d None next is named e = absurd (no_fault next StrangerPod (sym e))
+named_says past line d (Some number) next is named e =
+    let is_next : without past number ≡ next = same_value {E = FaultKind} (without past number) next e in
+    subst (λ (p : Past). Says past line p) {x = without past number} is_next (says_gone d number is named)
+
+gone_says : (past : Past) (line : List ℕ) (d : Data) (next : Past) → Stands past line kinds.Gone d
+    → gone_line_at past d ≡ Ok next → Says past line next
+gone_says past line d next is e =
+    named_says past line d (named_in past.roll (text_at (codes "pod") d)) next is refl (sym (gone_whole past d) ∙ e)
+
 place_says : (found : Option Version) (past : Past) (line : List ℕ) (line_kind : LineKind) (d : Data) (next : Past)
     → version_in past ≡ found → IsOfKind past line line_kind d → in_order found past line_kind d ≡ Ok next
     → Says past line next
@@ -113,13 +125,17 @@ place_says None past line kinds.Node d next none is e =
     node_says past line d next (record { of_kind = is; here = no_node past.node none }) e
 place_says None past line kinds.Pod d next none is e = absurd (no_fault next Order (sym e))
 place_says None past line kinds.Tick d next none is e = absurd (no_fault next Order (sym e))
+place_says None past line kinds.Gone d next none is e = absurd (no_fault next Order (sym e))
 place_says (Some version) past line kinds.Node d next some is e = absurd (no_fault next Order (sym e))
 place_says (Some version) past line kinds.Pod d next some is e = pod_says version past line d next some is e
 place_says (Some version) past line kinds.Tick d next some is e =
     tick_says past line d next (record { of_kind = is; here = some_node past.node version some }) e
+place_says (Some version) past line kinds.Gone d next some is e =
+    gone_says past line d next (record { of_kind = is; here = some_node past.node version some }) e
 
 kind_says : (past : Past) (line : List ℕ) (d : Data) (found : Option LineKind) (next : Past) → IsJson line d
-    → kind_from (version_in past) (text_at (codes "kind") d) ≡ found → with_kind past d found ≡ Ok next → Says past line next
+    → kind_from (version_in past) (text_at (codes "kind") d) ≡ found → with_kind past d found ≡ Ok next
+    → Says past line next
 kind_says past line d None next is found e = absurd (no_fault next UnknownKind (sym e))
 kind_says past line d (Some line_kind) next is found e =
     place_says (version_in past) past line line_kind d next refl (record { json = is; kind = found }) e
@@ -160,6 +176,7 @@ says_line past line _ (says_node d node is e) = node_line past line d node is e
 says_line past line _ (says_pod d pod is new) =
     of_pod_said past line d pod is ∙ passed (has_key past.roll (key_of_pod pod)) DuplicatePod (pod_new past pod)
     (nowhere_key past.roll (key_of_pod pod) new)
+says_line past line _ (says_gone d number is named) = of_gone past line d is ∙ ap (gone_named past) named
 says_line past line _ (says_tick d at written placed is coded) = tick_line past line d at written placed is coded
 
 pub all_checks : AllChecks

@@ -1,7 +1,6 @@
 -- Which entries of a tick line name what isn't known.
-use Rattle.std.proofs.Common.{◌≡◌, ◌∙◌, ◌⊎◌, ℕ, zero, suc, ◌+◌, ◌<◌, Bool, true, false, List, [], ◌∷◌, length}
-use Rattle.std.proofs.Common.{slice_get, Option, Some, None, Result, Ok, Err, refl, ap, sym, inl, inr, arith}
-use Rattle.std.specs.Prelude.{option_map, if◌then◌else◌, bytes_eq}
+use Rattle.std.proofs.Common.{◌≡◌, ◌∙◌, ◌⊎◌, ℕ, zero, suc, List, [], ◌∷◌, slice_get, Option, Some, None, Result, Ok}
+use Rattle.std.proofs.Common.{Err, refl, ap, sym, inl, inr}
 use Rattle.json_fields.specs.Reading.{◌>>=◌, some_or, each}
 use Rattle.json_fields.proofs.Only.{no_fault, same_fault}
 use Rattle.json_fields.proofs.Steps.{bind_err, then_ok, there_is}
