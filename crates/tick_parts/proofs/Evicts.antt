@@ -41,17 +41,6 @@ evicts_none config pieces at key victim first is = (
   refl,
 )
 
--- the first of the candidates is one of the pods
-pub victim_there : (pieces : List Piece) (at : ℕ) (key : ThresholdKey) (dedicated : Bool) (victim : Option ℕ) (n : ℕ)
-    → IsVictim key.signal dedicated (IsCandidate pieces at) victim → victim ≡ Some n
-    → slice_get pieces n ≡ None → ⊥
-victim_there pieces at key dedicated None n first is none = absurd (let e : None ≡ Some n = is in cc)
-victim_there pieces at key dedicated (Some m) n (status, candidate, before) is none =
-    let same : m ≡ n = cc in
-    let here : slice_get pieces n ≡ Some candidate.piece =
-    subst (λ (k : ℕ). slice_get pieces k ≡ Some candidate.piece) same candidate.at in
-    let both : Some candidate.piece ≡ None = sym here ∙ none in absurd (cc)
-
 -- what is found at a place is there
 pub get_here : (pieces now : List Piece) (n : ℕ) (piece : Piece) → now ≡ pieces → true ≡ nat_lt n (length now)
     → piece ≡ get_or now n piece → slice_get pieces n ≡ Some piece

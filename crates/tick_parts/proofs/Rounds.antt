@@ -1,5 +1,6 @@
 -- A round that workers play, or update by threads.
-use Rattle.std.proofs.Common.{◌≡◌, ◌∙◌, ℕ, zero, suc, ◌<◌, List, [], ◌∷◌, length, map, get_or, Option, Some, refl, ap, subst, arith}
+use Rattle.std.proofs.Common.{◌≡◌, ◌∙◌, ℕ, zero, suc, ◌+◌, ◌<◌, List, [], ◌∷◌, length, map, get_or, Option, Some}
+use Rattle.std.proofs.Common.{refl, ap, subst, arith}
 use Rattle.std.specs.Prelude.{slice_get, IsTrue}
 use Rattle.std.specs.List.{All}
 use Rattle.observations.specs.Pods.{PodObs}
@@ -35,4 +36,5 @@ pub are_numbered : (old : List Piece) (shown : List (Option PodObs)) (pieces : L
 are_numbered old shown pieces is n piece at =
     let here = subst (λ (ps : List Piece). slice_get ps n ≡ Some piece) is at in
     let w = handed_at 0 old shown n piece here in
-    ap (λ (p : Piece). p.number) w.is
+    let same : 0 + n ≡ n = omega arith in
+    ap (λ (p : Piece). p.number) w.is ∙ same
