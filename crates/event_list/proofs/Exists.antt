@@ -46,10 +46,13 @@ of_pod config pods before tick es range known n lt = by (shown_of tick n) refl
   where
     by : (o : Option PodObs) → shown_of tick n ≡ o
         → (events : List PodEvent) × AreOfPod config pods before tick es n events
-    by None is = ([], record {
-      present = λ p s here there. absurd (let w : None ≡ Some s = sym is ∙ there in cc);
-      absent = λ none. refl;
-    })
+    by None is = (
+      [],
+      record {
+        present = λ p s here there. absurd (let w : None ≡ Some s = sym is ∙ there in cc);
+        absent = λ none. refl;
+      },
+    )
     by (Some shown) is =
         let pod = given_at pods n (omega arith) in
         let evicted = place_of (own_eviction n before es) in

@@ -52,7 +52,11 @@ impl<'h, E: Eprint> Progress<'h, E> {
         let ticks = self.ticks.fetch_add(1, Ordering::SeqCst).wrapping_add(1);
         if ticks % TICKS_A_LINE == 0 && self.is_long() {
             let read = self.read.load(Ordering::SeqCst);
-            let _told = eprint!(self.rt; "\r{} MiB read, {} ticks replayed", read / BYTES_A_LINE, ticks);
+            let _told = eprint!(self.rt;
+                "\r{} MiB read, {} ticks replayed",
+                read / BYTES_A_LINE,
+                ticks
+            );
         }
     }
 
