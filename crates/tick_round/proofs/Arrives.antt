@@ -2,6 +2,7 @@
 use Rattle.std.proofs.Common.{◌≡◌, inl, inr, ℕ, zero, suc, ◌<◌, ◌≤◌, List, [], ◌∷◌, ◌++◌, length, map}
 use Rattle.std.proofs.Common.{take, true, false, Option, Some, None, refl, sym, ap, subst, ◌∙◌, arith}
 use Rattle.std.specs.List.{cons_option}
+use Rattle.std.specs.Option.{option_flatten}
 use Rattle.std.specs.Prelude.{◌↔◌, slice_get, IsSome, option_map}
 use Rattle.std.proofs.lemmas.Option.{slice_get_within, slice_get_past}
 use Rattle.histories.proofs.Places.{length-more}
@@ -34,7 +35,7 @@ get_left [] y n x e = absurd (cc)
 get_left (z ∷ xs) y zero x e = e
 get_left (z ∷ xs) y (suc n) x e = get_left xs y n x e
 
-present_below : (xs : List PodObs) (n : ℕ) → IsSome (slice_get xs n) → n < length xs
+present_below : (xs : List (Option PodObs)) (n : ℕ) → IsSome (option_flatten (slice_get xs n)) → n < length xs
 present_below [] n e = let f : false ≡ true = e in absurd (cc)
 present_below (x ∷ xs) zero e = omega arith
 present_below (x ∷ xs) (suc n) e = let lt : n < length xs = present_below xs n e in omega arith
@@ -45,7 +46,7 @@ unshown : (ticks : List TickObs) (n : ℕ)
 unshown [] n none = refl
 unshown (x ∷ ticks) n none =
     ap (λ (o : Option PodObs). map pod_tick (cons_option o (own_ticks ticks n)))
-    (slice_get_past x.pods n (none 0 x refl))
+    (ap option_flatten (slice_get_past x.pods n (none 0 x refl)))
     ∙ unshown ticks n (λ t tick at. none (suc t) tick at)
 
 abbrev piece_of : ℕ → PodSpec → ℕ → List PodTick → Option EvictionOfPod → Piece

@@ -155,8 +155,8 @@ goes_on pods ticks s x begun back totals mid new eviction evs taken may after by
       }));
   totals = may.updated.entered.totals ∙ ap (λ (t : Totals). plus t (sums_of entries)) taken.totals
       ∙ sym (totals_more ticks x s.events x.at adds.made begun.news.items eviction entries
-      (entries_by s x mid back adds.made entries may.fits after present adds.are_made may.updated.back_are
-      may.updated.entered.are_entries))
+      (entries_by pods ticks s x mid back adds.made entries may.fits after now_pieces present adds.are_made
+      may.updated.back_are may.updated.entered.are_entries))
       ∙ ap (λ (es : List Event). totals_of (ticks ++ x ∷ []) es) (sym adds.added);
   signals = now;
   greatest = greatest ∙ taken.greatest;
@@ -297,34 +297,6 @@ begun_as s t x b same config sampled pods evictions events at =
       at = at;
     })
 
--- what the updates of a tick add to the totals
-few_piece : (pieces : List Piece) (n : ℕ) (piece : Piece) → AreFew (pods_in pieces) → slice_get pieces n ≡ Some piece
-    → length piece.pod.containers ≤ 16
-few_piece pieces n piece few at = few n piece.pod (get_pod pieces n piece at)
-
-room_more : (n : ℕ) (pieces : List Piece) (old new : Totals) → AreUpTo (n * most_of_tick) old
-    → AreEntered pieces old new → AreFew (pods_in pieces) → length pieces ≤ most_pods
-    → AreUpTo ((n + 1) * most_of_tick) new
-room_more n pieces old new room entered few many =
-    let entries = entered.entries in
-    let as_many : length entries ≡ length pieces = entered.are_entries.as_many in
-    let are_low : (k : ℕ) (entry : Entry) → slice_get entries k ≡ Some entry → IsLow entry = λ k entry at.
-    let lt : k < length entries = slice_get_within entries k entry at in
-    let piece = given_at pieces k (omega (arith, lt, as_many)) in
-    let is = entered.are_entries.each k piece.0 entry piece.1 at in
-    low piece.0 entry (few_piece pieces k piece.0 few piece.1) is in
-    let sums = sums_low entries are_low in
-    let events : (sums_of entries).events ≤ length entries * 129 = sums.events in
-    let orders : (sums_of entries).orders ≤ length entries * 129 = sums.orders in
-    let u : new.updates ≡ old.updates + length entries = ap (λ (t : Totals). t.updates) entered.totals in
-    let e : new.events ≡ old.events + (sums_of entries).events = ap (λ (t : Totals). t.events) entered.totals in
-    let o : new.orders ≡ old.orders + (sums_of entries).orders = ap (λ (t : Totals). t.orders) entered.totals in
-    record {
-      updates = omega (arith, room.updates, u, as_many, many);
-      events = omega (arith, room.events, e, events, as_many, many);
-      orders = omega (arith, room.orders, o, orders, as_many, many);
-    }
-
 -- the pods that go out have few containers
 few_handed : (s : State) (x : TickObs) (back : List Piece) → back ≡ map updated (handed_from 0 s.pods.pieces x.pods)
     → AreFew (pods_in s.pods.pieces) → (n : ℕ) (piece : Piece) → slice_get back n ≡ Some piece
@@ -346,6 +318,7 @@ few_handed s x back is few n piece at =
         subst (λ (p : PodSpec). length p.containers ≤ 16) (sym pod)
         (few w.n w.piece.pod (get_pod s.pods.pieces w.n w.piece w.at))
 
+-- what the updates of a tick add to the totals
 room_more : (n : ℕ) (pieces : List Piece) (old new : Totals) → AreUpTo (n * most_of_tick) old
     → AreEntered pieces old new
     → ((k : ℕ) (piece : Piece) → slice_get pieces k ≡ Some piece → length piece.pod.containers ≤ 16)

@@ -1,6 +1,6 @@
 -- What a tick's updates make of events and totals, by the pods' histories.
 use Rattle.std.proofs.Common.{◌≡◌, ◌∙◌, inl, inr, ℕ, suc, ◌+◌, ◌<◌, ◌≤◌, Bool, List, [], ◌∷◌, ◌++◌, length, map}
-use Rattle.std.proofs.Common.{take, cond, Option, Some, None, refl, sym, ap, subst, arith}
+use Rattle.std.proofs.Common.{take, cond, true, false, Option, Some, None, refl, sym, ap, subst, arith}
 use Rattle.std.specs.Prelude.{slice_get, IfSome, IsSome, MatchOption, option_map}
 use Rattle.std.specs.Option.{option_flatten}
 use Rattle.std.proofs.lemmas.Option.{slice_get_within}
@@ -141,11 +141,12 @@ made_by config pods ticks es x pieces made replay shown present are by = record 
       handed);
   absent = λ n events none found.
       let lt : n < length made = slice_get_within made n events found in
-      let many : length made ≡ length pieces = by.as_many in
-      let piece = given_at pieces n (omega (arith, lt, many)) in
-      (by.each n piece.0 events piece.1 found).absent (λ last.
-      let is : IsSome (shown_of x n) = (present n piece.0 piece.1).0 last in
-      let not : IsSome None = subst (λ (o : Option PodObs). IsSome o) none is in cc);
+      let pod = given_at pods n (omega (arith, lt, by.as_many, are.as_many)) in
+      let piece = piece_after config (ticks ++ x ∷ []) es n pod.0 in
+      let here = are.each n pod.0 pod.1 in
+      (by.each n piece events here found).absent (λ last.
+      let is : IsSome (shown_of x n) = (present n piece here).0 last in
+      let not : false ≡ true = subst (λ (o : Option PodObs). IsSome o) none is in absurd (cc));
 }
 
 -- the entries of the pods that went out are those of these events
@@ -189,11 +190,11 @@ entered_for (p ∷ ps) (Some o ∷ os) k (events ∷ made) (entry ∷ entries) l
         is.2 ∙ ap (λ (list : List PodEvent). entry_of list) same
 
 -- so are those of a tick
-pub entries_by : (s : State) (x : TickObs) (mid back : List Piece) (made : List (List PodEvent))
-    (entries : List Entry) → Fits s x → AreAfter s.pods.pieces x.pods mid → ArePresent mid x
-    → AreMadeBy x.at mid made → back ≡ map updated (handed_from 0 s.pods.pieces x.pods)
+pub entries_by : (pods : List PodSpec) (ticks : List TickObs) (s : State) (x : TickObs) (mid back : List Piece)
+    (made : List (List PodEvent)) (entries : List Entry) → Fits s x → AreAfter s.pods.pieces x.pods mid
+    → ArePieces s.config pods (ticks ++ x ∷ []) s.evictions mid → ArePresent mid x → AreMadeBy x.at mid made → back ≡ map updated (handed_from 0 s.pods.pieces x.pods)
     → AreEntriesOf back entries → AreEnteredFor x.pods made entries
-entries_by s x mid back made entries fits after present by is are =
+entries_by pods ticks s x mid back made entries fits after pieces present by is are =
     entered_for s.pods.pieces x.pods 0 made entries fits.pods.next.as_many (by.as_many ∙ after.as_many)
     (λ n p o events at there found.
     let here = after.each n p o at there in
@@ -202,9 +203,10 @@ entries_by s x mid back made entries fits after present by is are =
     (subst (λ (q : Option PodObs). IsSome q) (sym (ap option_flatten there)) refl)))
     (λ n events none found.
     let lt : n < length made = slice_get_within made n events found in
-    let many : length made ≡ length mid = by.as_many in
-    let piece = given_at mid n (omega (arith, lt, many)) in
-    (by.each n piece.0 events piece.1 found).absent (λ last.
-    let shown : IsSome (shown_of x n) = (present n piece.0 piece.1).0 last in
-    let not : IsSome None = subst (λ (o : Option PodObs). IsSome o) (ap option_flatten none) shown in cc))
+    let pod = given_at pods n (omega (arith, lt, by.as_many, pieces.as_many)) in
+    let piece = piece_after s.config (ticks ++ x ∷ []) s.evictions n pod.0 in
+    let here = pieces.each n pod.0 pod.1 in
+    (by.each n piece events here found).absent (λ last.
+    let shown : IsSome (shown_of x n) = (present n piece here).0 last in
+    let not : false ≡ true = subst (λ (o : Option PodObs). IsSome o) (ap option_flatten none) shown in absurd (cc)))
     (subst (λ (ps : List Piece). AreEntriesOf ps entries) is are)

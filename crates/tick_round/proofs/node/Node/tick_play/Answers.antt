@@ -10,7 +10,4 @@ returns-in-Ok-clause-taken g c = λ config pods ticks after.
     (c.in-Ok.ensures.taken pods ticks was.1)
 
 pub returns-in-Ok-clause-finished : goal.returns-in-Ok-clause-finished
-returns-in-Ok-clause-finished g c = λ config pods ticks after.
-    let was = of_some config pods ticks c.args.self.now c.in-Some.running
-    (sym c.self.view_is ∙ sym c.take.ensures.value ∙ c.in-Some.is) after in
-    (λ entries many. c.in-Ok.ensures.finished entries (many ∙ sym was.1.pieces.as_many))
+returns-in-Ok-clause-finished g c = c.in-Ok.ensures.finished

@@ -1,10 +1,15 @@
 use Rattle.tick_parts.proofs.Rounds.{are_numbered}
-use Rattle.tick_round.proofs.GoesOn.{updated_by}
+use Rattle.tick_round.proofs.GoesOn.{placed_back, updated_by}
 use Rattle.tick_round.proofs.running.Running.after.Goals as goal
 
 pub update_by_workers-requires-clause-numbered : goal.update_by_workers-requires-clause-numbered
 update_by_workers-requires-clause-numbered g c κs within =
     are_numbered c.args.self.pods.pieces c.args.tick.pods c.in_ok-pieces.pieces.items c.in_ok-pieces.ensures.handed
+
+pub end-requires-clause-placed : goal.end-requires-clause-placed
+end-requires-clause-placed g c =
+    placed_back c.in_ok-pieces.begun.pods c.in_ok-pieces.pieces.items c.in-Ok.pieces.items c.in-Ok.ensures.pieces
+    c.in_ok-pieces.ensures.placed
 
 pub end-requires-clause-taken : goal.end-requires-clause-taken
 end-requires-clause-taken g c = (

@@ -1,7 +1,12 @@
 use Rattle.std.proofs.Common.{◌∙◌, length, ap, sym}
 use Rattle.node_pods.proofs.Handed.{handed_count}
-use Rattle.tick_round.proofs.GoesOn.{updated_by}
+use Rattle.tick_round.proofs.GoesOn.{placed_back, updated_by}
 use Rattle.tick_round.proofs.running.Running.after_played.Goals as goal
+
+pub end-requires-clause-placed : goal.end-requires-clause-placed
+end-requires-clause-placed g c =
+    placed_back c.in_ok-pieces.begun.pods c.in_ok-pieces.pieces.items c.in-Ok.played.pieces.items c.in-Ok.ensures.pieces
+    c.in_ok-pieces.ensures.placed
 
 pub end-requires-clause-taken : goal.end-requires-clause-taken
 end-requires-clause-taken g c = (

@@ -1,4 +1,6 @@
-use Rattle.std.proofs.Common.{◌∙◌, length, refl, ap, sym, subst}
+use Rattle.std.proofs.Common.{◌∙◌, List, Option, refl, ap, sym, subst}
+use Rattle.observations.specs.Pods.{PodObs}
+use Rattle.node_pods.specs.Pods.{awaited, kept_of}
 use Rattle.tick_round.specs.Node.{State, state}
 use Rattle.tick_round.specs.Round.{IsKept}
 use Rattle.tick_round.proofs.GoesOn.{begun_as, may_update}
@@ -23,4 +25,6 @@ returns-in-Ok-hand-clause-begun g c =
       news_are = λ before is. c.in-Ok.ensures.events period before is;
       serves = λ before is. c.served-served.ensures period before is;
     })
-    c.in-Ok-hand.ensures.awaited refl refl refl
+    (c.in-Ok-hand.ensures.awaited
+    ∙ ap (λ (shown : List (Option PodObs)). awaited (kept_of i.pods.pieces shown) i.pods.greatest
+    i.pods.has_dedicated_imagefs) c.into_vec.ensures) refl refl refl
