@@ -1,7 +1,7 @@
 -- A tick whose listings the differs accept doesn't go back, and no other does.
 use Rattle.std.proofs.Common.{◌≡◌, ◌∙◌, ℕ, zero, suc, ◌+◌, ◌<◌, ◌≤◌, ◌||◌, not, Bool, true, false, List, [], ◌∷◌}
-use Rattle.std.proofs.Common.{length, map, get_or, Option, Some, None, refl, ap, sym, subst, inl, inr, arith}
-use Rattle.std.specs.Prelude.{◌↔◌, IsTrue, IsSome, slice_get, option_and_then, Vec}
+use Rattle.std.proofs.Common.{length, get_or, Option, Some, None, refl, ap, sym, subst, inl, inr, arith}
+use Rattle.std.specs.Prelude.{◌↔◌, IsTrue, slice_get, option_and_then, Vec}
 use Rattle.std.specs.Global.{Global}
 use Rattle.std.specs.Option.{option_flatten}
 use Rattle.std.proofs.lemmas.Bool.{cases_lt, or_from}
@@ -17,7 +17,7 @@ use Rattle.state_diff.proofs.Steps.{is_before}
 use Rattle.observations.specs.declared.container.ContainerObs.{ContainerObs}
 use Rattle.observations.specs.Pods.{PodObs}
 use Rattle.observations.specs.declared.tick.TickObs.{TickObs}
-use Rattle.observations.specs.Observations.{shown_of, listed_in, seen_of, history}
+use Rattle.observations.specs.Observations.{shown_of, seen_of, history}
 use Rattle.observations.proofs.OwnTicks.{seen_shown, seen_nowhere}
 use Rattle.following.specs.Backwards.{some_container_backwards, some_pod_backwards, is_backwards}
 use Rattle.following.specs.Followed.{counts_of, AreFollowed, ComesNext}

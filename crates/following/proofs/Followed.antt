@@ -1,5 +1,5 @@
 -- The differs after one pod more, or one tick more.
-use Rattle.std.proofs.Common.{◌≡◌, ◌∙◌, ℕ, zero, suc, ◌-◌, ◌<◌, List, [], ◌∷◌, ◌++◌, length, map, get_or}
+use Rattle.std.proofs.Common.{◌≡◌, ◌∙◌, ℕ, suc, ◌-◌, ◌<◌, List, [], ◌∷◌, ◌++◌, length, map, get_or}
 use Rattle.std.proofs.Common.{slice_get, Option, Some, None, refl, ap, sym, subst, arith}
 use Rattle.std.specs.Prelude.{IfSome, IsSome, Vec}
 use Rattle.std.specs.Global.{Global}
@@ -16,7 +16,7 @@ use Rattle.observations.specs.Pods.{PodObs}
 use Rattle.observations.specs.declared.tick.TickObs.{TickObs}
 use Rattle.observations.specs.Observations.{shown_of, listed_in, seen_of, own_ticks, history}
 use Rattle.observations.proofs.OwnTicks.{own_rests, history_more, history_rests}
-use Rattle.following.specs.Followed.{EndBefore, AreOfPods, counts_of, AreFollowed, ComesNext}
+use Rattle.following.specs.Followed.{AreOfPods, counts_of, AreFollowed, ComesNext}
 use Rattle.following.specs.Steps.{AreNew, PodHasTaken, PodsHaveTaken}
 
 pub none_followed : AreFollowed [] [] []

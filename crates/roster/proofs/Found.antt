@@ -1,8 +1,7 @@
 -- Where a key is found.
-use Rattle.std.proofs.Common.{◌≡◌, ◌∙◌, ℕ, zero, suc, ◌+◌, ◌<◌, Bool, true, false, List, [], ◌∷◌, ◌++◌, length}
-use Rattle.std.proofs.Common.{Option, Some, None, refl, ap, sym, inl, inr, arith, option_map}
+use Rattle.std.proofs.Common.{◌≡◌, ◌∙◌, ℕ, zero, suc, ◌+◌, Bool, true, false, List, [], ◌∷◌, ◌++◌, length}
+use Rattle.std.proofs.Common.{Option, Some, None, refl, ap, sym, arith, option_map}
 use Rattle.std.specs.Prelude.{bytes_eq, slice_get, slice_set, if◌then◌else◌}
-use Rattle.std.proofs.lemmas.Bool.{cases_Bool}
 use Rattle.std.proofs.lemmas.Slice.Eq.{bytes_eq-Decides}
 use Rattle.name_list.specs.Names.{place_of}
 use Rattle.roster.specs.Roll.{number_in}
@@ -42,7 +41,8 @@ pub place_old : (names ys : List (List ℕ)) (name : List ℕ) (n : ℕ) → pla
 place_old [] ys name n e = absurd (cc)
 place_old (x ∷ xs) ys name n e = by (place_old xs ys name) (bytes_eq name x) e
   where
-    by : ((m : ℕ) → place_of xs name ≡ Some m → place_of (xs ++ ys) name ≡ Some m) → (b : Bool) → (if b then Some 0 else option_map (λ i. i + 1) (place_of xs name)) ≡ Some n
+    by : ((m : ℕ) → place_of xs name ≡ Some m → place_of (xs ++ ys) name ≡ Some m) → (b : Bool)
+        → (if b then Some 0 else option_map (λ i. i + 1) (place_of xs name)) ≡ Some n
         → (if b then Some 0 else option_map (λ i. i + 1) (place_of (xs ++ ys) name)) ≡ Some n
     by rest true first = first
     by rest false later =
@@ -117,7 +117,8 @@ number_old (None ∷ xs) ys key n e =
     ap (option_map (λ i. i + 1)) (number_old xs ys key w.0 w.1) ∙ ap (option_map (λ i. i + 1)) (sym w.1) ∙ e
 number_old (Some x ∷ xs) ys key n e = by (number_old xs ys key) (bytes_eq key x) e
   where
-    by : ((m : ℕ) → number_in xs key ≡ Some m → number_in (xs ++ ys) key ≡ Some m) → (b : Bool) → (if b then Some 0 else option_map (λ i. i + 1) (number_in xs key)) ≡ Some n
+    by : ((m : ℕ) → number_in xs key ≡ Some m → number_in (xs ++ ys) key ≡ Some m) → (b : Bool)
+        → (if b then Some 0 else option_map (λ i. i + 1) (number_in xs key)) ≡ Some n
         → (if b then Some 0 else option_map (λ i. i + 1) (number_in (xs ++ ys) key)) ≡ Some n
     by rest true first = first
     by rest false later =

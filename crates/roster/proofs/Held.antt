@@ -1,6 +1,6 @@
 -- The pod of each key, once one key has another pod.
 use Rattle.std.proofs.Common.{◌≡◌, ◌≢◌, ◌∙◌, ℕ, ◌<◌, Bool, true, false, List, [], ◌∷◌, ◌++◌, length, Option, Some}
-use Rattle.std.proofs.Common.{None, refl, ap, sym, subst, arith}
+use Rattle.std.proofs.Common.{None, refl, ap, sym, arith}
 use Rattle.std.specs.Prelude.{bytes_eq, slice_get, slice_set, option_and_then, if◌then◌else◌}
 use Rattle.std.specs.Option.{option_flatten}
 use Rattle.std.proofs.lemmas.List.{length-append}

@@ -1,13 +1,14 @@
 -- What a roster keeps, from call to call.
-use Rattle.std.proofs.Common.{◌≡◌, ◌∙◌, ℕ, ◌<◌, Bool, List, [], ◌∷◌, ◌++◌, length, Option, Some, None, refl, ap, sym, subst}
+use Rattle.std.proofs.Common.{◌≡◌, ◌∙◌, ℕ, ◌<◌, List, [], ◌∷◌, ◌++◌, length, Option, Some, None, refl, ap, sym}
+use Rattle.std.proofs.Common.{subst}
 use Rattle.std.proofs.Common.{arith}
-use Rattle.std.specs.Prelude.{bytes_eq, slice_get, slice_set, if◌then◌else◌}
+use Rattle.std.specs.Prelude.{bytes_eq, slice_set, if◌then◌else◌}
 use Rattle.std.proofs.lemmas.List.{length-append}
 use Rattle.std.proofs.lemmas.Option.{slice_get_within}
 use Rattle.histories.proofs.Lists.{set_length}
 use Rattle.manifest.specs.declared.pod.PodSpec.{PodSpec}
-use Rattle.roster.specs.Roll.{Roll, key_of_pod, present_keys, number_in, number_of}
-use Rattle.roster.specs.Holders.{holder_of, HasHeld, AreApart, IsKept}
+use Rattle.roster.specs.Roll.{key_of_pod, present_keys, number_in}
+use Rattle.roster.specs.Holders.{HasHeld, AreApart, IsKept}
 use Rattle.roster.proofs.Found.{number_there, number_push}
 use Rattle.roster.proofs.Present.{present_length, present_push, present_set, apart_push, apart_set, number_without}
 

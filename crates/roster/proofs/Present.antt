@@ -2,7 +2,6 @@
 use Rattle.std.proofs.Common.{◌≡◌, ◌∙◌, ℕ, zero, suc, Bool, true, false, List, [], ◌∷◌, ◌++◌, length, Option, Some}
 use Rattle.std.proofs.Common.{None, refl, ap, sym, subst, inl, inr, arith}
 use Rattle.std.specs.Prelude.{bytes_eq, slice_get, slice_set, if◌then◌else◌}
-use Rattle.std.proofs.lemmas.Option.{slice_get_within}
 use Rattle.histories.proofs.Lists.{place_split, set_split}
 use Rattle.manifest.specs.declared.pod.PodSpec.{PodSpec}
 use Rattle.roster.specs.Roll.{key_of_pod, present_keys, number_in}

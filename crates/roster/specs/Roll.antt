@@ -1,5 +1,5 @@
 -- The pods of a trace, and which of them are present.
-use Rattle.std.specs.Prelude.{◌≡◌, ℕ, ◌+◌, Bool, false, List, [], ◌∷◌, ◌++◌, slice_get, slice_set}
+use Rattle.std.specs.Prelude.{ℕ, ◌+◌, Bool, false, List, [], ◌∷◌, ◌++◌, slice_get, slice_set}
 use Rattle.std.specs.Prelude.{Option, Some, None, option_map, is_none, if◌then◌else◌, bytes_eq}
 use Rattle.manifest.specs.declared.pod.PodSpec.{PodSpec}
 

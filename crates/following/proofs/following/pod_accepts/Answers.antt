@@ -1,4 +1,4 @@
-use Rattle.std.proofs.Common.{◌≡◌, true, false, refl, arith}
+use Rattle.std.proofs.Common.{◌≡◌, true, false}
 use Rattle.following.proofs.Steps.{accepts_read, accepted_more}
 use Rattle.following.proofs.following.pod_accepts.Goals as goal
 

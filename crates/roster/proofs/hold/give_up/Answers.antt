@@ -10,4 +10,5 @@ index_mut-requires c =
 
 pub returns-in-Some : goal.returns-in-Some
 returns-in-Some c =
-    held_set c.args.keys.now c.args.holders.now.items c.args.key.now c.in-Some.place _ c.requires (sym c.in-Some.ensures)
+    held_set c.args.keys.now c.args.holders.now.items c.args.key.now c.in-Some.place _ c.requires
+    (sym c.in-Some.ensures)

@@ -1,4 +1,4 @@
-use Rattle.std.proofs.Common.{◌≡◌, List, length, subst}
+use Rattle.std.proofs.Common.{List, length, subst}
 use Rattle.std.specs.Prelude.{◌↔◌, IsTrue, Vec}
 use Rattle.std.specs.Global.{Global}
 use Rattle.state_diff.specs.declared.differ.Differ.{Differ}

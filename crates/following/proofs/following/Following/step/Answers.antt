@@ -5,7 +5,8 @@ use Rattle.following.proofs.following.Following.step.Goals as goal
 pub step_pods-requires : goal.step_pods-requires
 step_pods-requires c =
     let may = c.requires in
-    all_follow may.ticks c.args.tick.now may.counts c.args.self.now.differs.items may.followed may.comes_next may.forwards
+    all_follow may.ticks c.args.tick.now may.counts c.args.self.now.differs.items may.followed
+    may.comes_next may.forwards
 
 pub returns : goal.returns
 returns c = λ ticks counts followed comes.
