@@ -1,7 +1,7 @@
 -- The candidates that are held, and their victim.
-use Rattle.std.proofs.Common.{◌≡◌, ◌∙◌, inl, inr, ℕ, ◌+◌, ◌<◌, ◌≤◌, Bool, List, [], length, Option}
+use Rattle.std.proofs.Common.{◌≡◌, ◌∙◌, inl, inr, ℕ, ◌+◌, ◌<◌, Bool, List, length, Option}
 use Rattle.std.proofs.Common.{Some, None, refl, ap, sym, subst, arith}
-use Rattle.std.specs.Prelude.{◌≢◌, IsSome, slice_get}
+use Rattle.std.specs.Prelude.{IsSome, slice_get}
 use Rattle.std.proofs.lemmas.Bool.{cases_eq, cases_lt}
 use Rattle.std.proofs.lemmas.Option.{slice_get_within}
 use Rattle.histories.specs.Histories.{last_moment}

@@ -14,9 +14,7 @@ use Rattle.observations.specs.Pods.{PodObs}
 use Rattle.observations.specs.declared.tick.TickObs.{TickObs}
 use Rattle.pod_state.specs.Pods.{pod_tick}
 use Rattle.pod_piece.specs.declared.order.EvictOrder.{EvictOrder}
-use Rattle.pod_piece.specs.declared.status.PodStatus.{PodStatus}
 use Rattle.pod_piece.specs.Piece.{Piece, new_piece, with_tick, updated, with_eviction}
-use Rattle.pod_piece.specs.Status.{IsStatusOf}
 use Rattle.node_pods.specs.Pods.{Pods, pods_of, IsPlaced, ArePlaced, AreNext, Fits, handed_from, kept_of, joined_from}
 use Rattle.node_pods.specs.Pods.{AreAfter, awaited, joined, AreEvicted}
 use Rattle.node_pods.specs.Laws.{CandidateIsShown}

@@ -299,7 +299,8 @@ pub next_staying : (p : Piece) (ps : List Piece) (os rest : List (Option PodObs)
     → os ≡ option_to_list o ++ rest → (o ≡ None → rest ≡ [])
     → kept_of (p ∷ ps) os ≡ staying p (option_flatten o) ∷ kept_of ps rest
 next_staying p ps os rest None is ends =
-    ap (kept_of (p ∷ ps)) (is ∙ ends refl) ∙ ap (λ (xs : List (Option PodObs)). Some p ∷ kept_of ps xs) (sym (ends refl))
+    ap (kept_of (p ∷ ps)) (is ∙ ends refl)
+    ∙ ap (λ (xs : List (Option PodObs)). Some p ∷ kept_of ps xs) (sym (ends refl))
 next_staying p ps os rest (Some None) is ends = ap (kept_of (p ∷ ps)) is
 next_staying p ps os rest (Some (Some o)) is ends = ap (kept_of (p ∷ ps)) is
 

@@ -55,8 +55,8 @@ pub record AreNext (pieces : List Piece) (shown : List (Option PodObs)) : Type 0
   pub each : (n : ℕ) (piece : Piece) (observed : PodObs) → slice_get pieces n ≡ Some piece
       → slice_get shown n ≡ Some (Some observed) → IsNextTick piece.pod piece.handed (pod_tick observed)
 
--- the tick says of each pod what it shows or that it is not present, at its own moment, which is later than all that was
--- handed to the pods, and each may be handed what it shows
+-- the tick says of each pod what it shows or that it is not present, at its own moment, which is later than all that
+-- was handed to the pods, and each may be handed what it shows
 pub record Fits (pods : Pods) (tick : TickObs) : Type 0 where
   pub next : AreNext pods.pieces tick.pods
   pub at_its_moment : (n : ℕ) (observed : PodObs) → shown_of tick n ≡ Some observed → observed.at ≡ tick.at
@@ -85,12 +85,13 @@ joined_from n (Some p ∷ kept) back = p ∷ joined_from (n + 1) kept back
 joined_from n (None ∷ kept) [] = joined_from n kept []
 joined_from n (None ∷ kept) (q ∷ back) = with_number q n ∷ joined_from (n + 1) kept back
 
--- the pieces once each pod that is present was handed what is shown of it, and has taken it into its status. One that is
--- not present stays as it was
+-- the pieces once each pod that is present was handed what is shown of it, and has taken it into its status. One that
+-- is not present stays as it was
 pub record AreAfter (old : List Piece) (shown : List (Option PodObs)) (new : List Piece) : Type 0 where
   pub as_many : length new ≡ length old
   pub each : (n : ℕ) (piece : Piece) (observed : PodObs) → slice_get old n ≡ Some piece
-      → slice_get shown n ≡ Some (Some observed) → slice_get new n ≡ Some (updated (with_tick piece (pod_tick observed)))
+      → slice_get shown n ≡ Some (Some observed)
+      → slice_get new n ≡ Some (updated (with_tick piece (pod_tick observed)))
   pub absent : (n : ℕ) (piece : Piece) → slice_get old n ≡ Some piece → slice_get shown n ≡ Some None
       → slice_get new n ≡ Some piece
 

@@ -1,11 +1,9 @@
-use Rattle.std.proofs.Common.{◌≡◌, ◌∙◌, ◌++◌, ◌∷◌, [], ◌+◌, List, Option, length, append-nil, append_assoc}
+use Rattle.std.proofs.Common.{◌∙◌, ◌++◌, List, Option, length, append-nil}
 use Rattle.std.proofs.Common.{rules, ap, sym, subst, arith}
-use Rattle.std.specs.Option.{option_flatten}
-use Rattle.std.proofs.lemmas.List.{length-append}
 use Rattle.observations.specs.Pods.{PodObs}
 use Rattle.pod_piece.specs.Piece.{Piece}
 use Rattle.node_pods.specs.Pods.{handed_from, kept_of}
-use Rattle.node_pods.specs.Steps.{MayTake, going, staying}
+use Rattle.node_pods.specs.Steps.{MayTake}
 use Rattle.node_pods.proofs.Steps.{MayTakeAll, may_take_all, none_left, nothing_left, next_may, out_more, kept_more}
 use Rattle.node_pods.proofs.each.all_handed.Goals as goal
 

@@ -1,4 +1,4 @@
-use Rattle.std.proofs.Common.{◌≡◌, inl, inr, true, false, refl}
+use Rattle.std.proofs.Common.{inl}
 use Rattle.ranking.proofs.LawLemmas.{one_is_held_after}
 use Rattle.node_pods.proofs.each.rank_one.Goals as goal
 

@@ -1,6 +1,5 @@
-use Rattle.std.proofs.Common.{◌≡◌, ap, map, sym, subst}
-use Rattle.pod_piece.specs.Piece.{Piece, updated}
-use Rattle.node_pods.specs.Pods.{Pods, AreNext, ArePlaced, awaited, joined}
+use Rattle.std.proofs.Common.{sym, subst}
+use Rattle.node_pods.specs.Pods.{Pods, AreNext}
 use Rattle.node_pods.proofs.Kept.{placed_as_joined}
 use Rattle.node_pods.proofs.pods.NodePods.hand.Goals as goal
 
