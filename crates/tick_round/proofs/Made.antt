@@ -192,7 +192,8 @@ entered_for (p ∷ ps) (Some o ∷ os) k (events ∷ made) (entry ∷ entries) l
 -- so are those of a tick
 pub entries_by : (pods : List PodSpec) (ticks : List TickObs) (s : State) (x : TickObs) (mid back : List Piece)
     (made : List (List PodEvent)) (entries : List Entry) → Fits s x → AreAfter s.pods.pieces x.pods mid
-    → ArePieces s.config pods (ticks ++ x ∷ []) s.evictions mid → ArePresent mid x → AreMadeBy x.at mid made → back ≡ map updated (handed_from 0 s.pods.pieces x.pods)
+    → ArePieces s.config pods (ticks ++ x ∷ []) s.evictions mid → ArePresent mid x → AreMadeBy x.at mid made
+    → back ≡ map updated (handed_from 0 s.pods.pieces x.pods)
     → AreEntriesOf back entries → AreEnteredFor x.pods made entries
 entries_by pods ticks s x mid back made entries fits after pieces present by is are =
     entered_for s.pods.pieces x.pods 0 made entries fits.pods.next.as_many (by.as_many ∙ after.as_many)

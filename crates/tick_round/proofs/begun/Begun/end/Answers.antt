@@ -21,7 +21,8 @@ invariant_of-result g c =
     ends_kept s by.1 b c.args.back.items c.args.book
     (state b.config b.signals c.carry_out.new.pods es evs c.args.book (Some b.at)) kept by.3
     (ends (pods_in s.pods.pieces) kept.ticks s by.1 b c.args.back.items c.args.book c.in-Ok.pods
-    c.carry_out.new.pods c.unless_paused-heeded.result c.in-Ok-eviction_for.eviction evs es kept.taken by.3 c.in-Ok.ensures
+    c.carry_out.new.pods c.unless_paused-heeded.result c.in-Ok-eviction_for.eviction evs es kept.taken by.3
+    c.in-Ok.ensures
     (heeds_as b.config b.at c.deref.result.now b.evictions.items b.served c.unless_paused-heeded.result
     c.deref.ensures.value c.unless_paused-heeded.ensures) c.in-Ok-eviction_for.ensures
     (adds_as b.at c.pieces.result.now c.in-Ok.pods.pieces c.deref-2.result.now b.news.items

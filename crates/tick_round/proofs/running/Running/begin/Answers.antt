@@ -1,4 +1,4 @@
-use Rattle.std.proofs.Common.{◌∙◌, List, Option, refl, ap, sym, subst}
+use Rattle.std.proofs.Common.{◌∙◌, List, Option, refl, ap, subst}
 use Rattle.observations.specs.Pods.{PodObs}
 use Rattle.node_pods.specs.Pods.{awaited, kept_of}
 use Rattle.tick_round.specs.Node.{State, state}
