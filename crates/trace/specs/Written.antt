@@ -1,6 +1,6 @@
 -- What a node line and a tick line say by themselves, with the fault as the kind of a line's.
 use Rattle.std.specs.Prelude.{ℕ, ◌==◌, option_and_then, Bool, false, Option, Some, None, Result, Ok, Err}
-use Rattle.std.specs.Prelude.{if◌then◌else◌, codes}
+use Rattle.std.specs.Prelude.{codes}
 use Rattle.serde_json.specs.Data.{Data}
 use Rattle.json_fields.specs.Fields.{field_at}
 use Rattle.json_fields.specs.Reading.{◌>>=◌, refused_if}

@@ -1,5 +1,5 @@
 -- What the standard format takes says the same in the extended one.
-use Rattle.std.proofs.Common.{◌≡◌, ℕ, zero, suc, Bool, true, false, List, length, Option, Ok, refl, ap, inl, inr}
+use Rattle.std.proofs.Common.{◌≡◌, ℕ, zero, suc, Bool, true, false, List, length, Ok, ap, inl, inr}
 use Rattle.serde_json.specs.Data.{Data}
 use Rattle.json_fields.specs.Reading.{◌>>=◌, refused_if}
 use Rattle.json_lines.specs.Lines.{lines_of}
@@ -12,7 +12,6 @@ use Rattle.tick_lines.specs.declared.line.TickLine.{TickLine}
 use Rattle.trace.specs.declared.fault.FaultKind.TheVariants.{Config}
 use Rattle.trace.specs.declared.past.LineKind.{LineKind}
 use Rattle.trace.specs.declared.past.LineKind.TheVariants as kinds
-use Rattle.trace.specs.declared.past.Trace.{Trace}
 use Rattle.trace.specs.declared.placing.PlacedEntry.{PlacedEntry}
 use Rattle.trace.specs.Laws.{Leaves, AreSaid, MayStand, Stands, HasPod, HasMoment, HasWritten, HasPlaces, IsApart}
 use Rattle.trace.specs.Laws.{IsForwards, Says, says_node, says_pod, says_gone, says_tick, StandardIsExtended}

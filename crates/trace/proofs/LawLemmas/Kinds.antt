@@ -5,7 +5,7 @@ use Rattle.std.specs.Prelude.{◌&&◌, ◌-◌, ◌^◌, option_and_then, nat_l
 use Rattle.serde_json.specs.Data.{Data}
 use Rattle.serde_json.specs.Find.{as_number, as_u64}
 use Rattle.json_fields.specs.Fields.{field_at}
-use Rattle.json_fields.specs.Reading.{◌>>=◌, refused_if}
+use Rattle.json_fields.specs.Reading.{refused_if}
 use Rattle.manifest.specs.declared.pod.PodSpec.{PodSpec}
 use Rattle.trace.specs.declared.fault.FaultKind.{FaultKind}
 use Rattle.trace.specs.declared.fault.FaultKind.TheVariants.{NotJson, Config, SoftWithoutGrace, Manifest, Moment}

@@ -1,4 +1,4 @@
-use Rattle.std.proofs.Common.{◌≡◌, ◌∙◌, List, ap, sym, subst}
+use Rattle.std.proofs.Common.{◌≡◌, ◌∙◌, ap, sym, subst}
 use Rattle.following.specs.Followed.{ComesNext}
 use Rattle.roster.specs.Roll.{Roll}
 use Rattle.trace.specs.Observed.{observed}
