@@ -337,13 +337,15 @@ may_take_shown config pods ticks before tick rest shown arrived left old new may
     (subst (λ (os : List (Option PodObs)). Arrive config old new (take (length os - arrived) left)) is arrives)
 
 pub one_more_shown : (config : NodeConfig) (pods : List PodSpec) (ticks before : List TickObs) (tick : TickObs)
-    (rest : List TickObs) (shown : List (Option PodObs)) (arrived : ℕ) (left left' : List PodSpec) (old mid new : Option State)
+    (rest : List TickObs) (shown : List (Option PodObs)) (arrived : ℕ) (left left' : List PodSpec)
+    (old mid new : Option State)
     → AreReplayable pods ticks → IsSoFar config pods ticks before (tick ∷ rest) arrived left old → shown ≡ tick.pods
     → Arrive config old mid (take (length shown - arrived) left) → left' ≡ drop (length shown - arrived) left
     → ((ps : List PodSpec) (ts : List TickObs) → IsAfter config ps ts mid → IsAfter config ps (ts ++ tick ∷ []) new)
     → IsSoFar config pods ticks (before ++ tick ∷ []) rest (length shown) left' new
 one_more_shown config pods ticks before tick rest shown arrived left left' old mid new may s is arrives left_is takes =
-    subst (λ (os : List (Option PodObs)). IsSoFar config pods ticks (before ++ tick ∷ []) rest (length os) left' new) (sym is)
+    subst (λ (os : List (Option PodObs)). IsSoFar config pods ticks (before ++ tick ∷ []) rest (length os) left' new)
+    (sym is)
     (one_more config pods ticks before tick rest arrived left left' old mid new may s
     (subst (λ (os : List (Option PodObs)). Arrive config old mid (take (length os - arrived) left)) is arrives)
     (subst (λ (os : List (Option PodObs)). left' ≡ drop (length os - arrived) left) is left_is) takes)

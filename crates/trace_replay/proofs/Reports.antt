@@ -23,7 +23,8 @@ in_range pods each n d lt c e within =
     let are = each n d lt c e within in
     record { startup = are.0; liveness = are.1; readiness = are.2 }
 
-pub some_report_of : (trace : Trace) → AreAcceptable trace.ticks → HasShape trace.pods trace.arrivals trace.departures trace.ticks
+pub some_report_of : (trace : Trace) → AreAcceptable trace.ticks
+    → HasShape trace.pods trace.arrivals trace.departures trace.ticks
     → HaveNumbersInRange trace.pods → (bytes : List ℕ) × IsReportOf trace bytes
 some_report_of trace acceptable shape range =
     some_report trace.node trace.ticks trace.pods (known trace acceptable shape) (in_range trace.pods range)
