@@ -6,7 +6,7 @@ import shutil
 import sys
 import tempfile
 
-from checks import HERE, REPLAY, TOOLS, TOP, expect, expect_kept, expect_refused, read, run
+from checks import HERE, REPLAY, TOOLS, TOP, expect, expect_kept, expect_refused, read, replayed, run
 
 sys.path.insert(0, f"{TOOLS}/lib")
 import amounts  # noqa: E402
@@ -17,8 +17,6 @@ import why  # noqa: E402
 WHYS = f"{HERE}/whys"
 TEXTS = f"{TOP}/crates/case_runner/data/texts"
 CASES = f"{TOP}/crates/case_runner/data/traces"
-# the program's standard format has no line that lets a pod go: that report is by hand
-BY_HAND = "came_again"
 
 
 def trace_and_report(name):
@@ -31,8 +29,7 @@ def trace_and_report(name):
 def test_whys():
     for name in sorted(os.listdir(WHYS)):
         trace, report = trace_and_report(name)
-        if name != BY_HAND:
-            expect(f"why {name}: the report is the trace's", run([REPLAY], read(trace))[1], read(report))
+        expect(f"why {name}: the report is the trace's", replayed(read(trace)), (0, read(report), ""))
         answers = [answer for answer in os.listdir(f"{WHYS}/{name}") if answer.startswith("of_")]
         for answer in sorted(answers):
             pod = answer.removeprefix("of_").replace("_", "/", 1)
