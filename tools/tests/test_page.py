@@ -56,6 +56,20 @@ def test_page_data():
     expect("page: a listing", pod["listings"][0][:12], [0, 0, 0, 0, 5, 0, 1, 0, 40, 1, 1, 0])
 
 
+def test_page_of_pods_of_one_name():
+    """From the report alone a pod is gone by the first tick of the next one of its name; with the trace by the first
+    tick without it, and it is known whether it had a tick at all."""
+    again = f"{HERE}/recordings/names_come_again_extended"
+    for words, gone in (([f"{again}/trace"], [7, 12, 11, 15, None]), ([], [7, None, None, 15, None])):
+        found = data_in(page_of(read(f"{again}/report"), *words)[1])["podList"]
+        expect(f"page: when pods were gone, with {len(words)} traces", [pod["gone"] for pod in found], gone)
+    expect("page: unready seconds of pods of one name", [pod["unready"] for pod in found if pod["key"] == "shop/db-0"],
+           [3, 3, 0])
+    between = f"{TOP}/crates/case_runner/data/traces/extended/pod_that_comes_and_goes_between_two_ticks"
+    found = data_in(page_of(read(f"{between}.report"), f"{between}.trace")[1])["podList"]
+    expect("page: a pod without a tick", [[pod["key"], pod["first"]] for pod in found], [["shop/a", 0], ["shop/b", None]])
+
+
 def test_page_escapes():
     """Names that would be markup, in the page's text and in its data."""
     report = read(f"{TOP}/examples/crash_loop.report").replace("node worker-3", "node </script><b>&amp;")

@@ -38,6 +38,14 @@ def test_whys():
             expect_kept(f"why {name} {pod}: the text", told, f"{WHYS}/{name}/{answer}")
 
 
+def moved_in(report, trace):
+    """Events and evictions that the report alone gives to another pod than the one that was there."""
+    for said in (*report.events, *report.evictions):
+        pod = None if said.number is None else trace.pods[said.number]
+        if said.pod and (pod is None or pod.key != said.pod or not pod.is_present(trace.places[said.at])):
+            yield f"{said.at} {said.pod} of {said.number}"
+
+
 def test_amounts():
     """Each text that the program takes has the value that its own tests have for it."""
     for kind, value_of in (("quantity", amounts.quantity), ("percentage", amounts.hundredths),
@@ -73,12 +81,14 @@ def doubts_of(around):
 
 
 def test_cases():
-    """In each case of the program an event of a probe has its results, and an evicted pod comes first in its table."""
+    """In each case of the program an event of a probe has its results, an evicted pod comes first in its table, and
+    each event is of the pod of its key that was there."""
     doubts, kinds, count = [], {"kill": 0, "unready": 0, "ready": 0, "evicted": 0}, 0
     for path in sorted(glob.glob(f"{CASES}/**/*.report", recursive=True)):
         report = reports.read_report(read(path))
         trace = traces.read_trace(path.removesuffix("report") + "trace")
         traces.check_belongs(trace, report, path)
+        doubts += [f"{path} {moved}" for moved in moved_in(report, trace)]
         count += 1
         for pod in report.pods:
             for around in why.around_events(trace, report, pod):
