@@ -14,6 +14,7 @@ from checks import HERE, TOOLS, TOP, expect, expect_refused, read, run
 
 NODE = f"{HERE}/whys/file_system"
 PROBES = f"{HERE}/whys/probes"
+AGAIN = f"{TOP}/crates/case_runner/data/traces/extended"
 PODS, TICKS = 256, 20000
 # of the page of so many pods and ticks
 MOST_BYTES = 6000000
@@ -65,9 +66,10 @@ def test_page_of_pods_of_one_name():
         expect(f"page: when pods were gone, with {len(words)} traces", [pod["gone"] for pod in found], gone)
     expect("page: unready seconds of pods of one name", [pod["unready"] for pod in found if pod["key"] == "shop/db-0"],
            [3, 3, 0])
-    between = f"{TOP}/crates/case_runner/data/traces/extended/pod_that_comes_and_goes_between_two_ticks"
+    between = f"{AGAIN}/pod_that_comes_and_goes_between_two_ticks"
     found = data_in(page_of(read(f"{between}.report"), f"{between}.trace")[1])["podList"]
-    expect("page: a pod without a tick", [[pod["key"], pod["first"]] for pod in found], [["shop/a", 0], ["shop/b", None]])
+    firsts = [[pod["key"], pod["first"]] for pod in found]
+    expect("page: a pod without a tick", firsts, [["shop/a", 0], ["shop/b", None]])
 
 
 def test_page_escapes():
@@ -124,6 +126,7 @@ def write_pages(folder):
     pages = {
         "node": page_of(report, f"{NODE}/trace"), "plain": page_of(report),
         "odd": page_of(odd.replace("shop/api-7f9c", "shop/<img/src=x/onerror=document.title='x'>")),
+        "again": page_of(read(f"{AGAIN}/evicted_pod_comes_again_and_is_evicted_again.report")),
         "big": page_of("".join(big_node.report_of(PODS, TICKS, PODS))),
     }
     for name, (status, page, said) in pages.items():
