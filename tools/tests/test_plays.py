@@ -175,6 +175,13 @@ def other_steps(said, trace):
     return other and f"{' '.join(other)} at {told.get(other)} in the report, at {steps.get(other)} in the ticks"
 
 
+def said_when_gone(said, trace):
+    """An event of a pod behind its last tick; what was left out of all later ones has not died by that."""
+    last = {name: trace.ticks[pod.gone - 1].at - BEGIN for name, pod in zip(names_of(trace), trace.pods) if pod.gone}
+    late = min((place for place, moment in said.items() if moment > last.get(place[0], moment)), default=None)
+    return late and f"{' '.join(late)} at {said[late]}, when its pod was gone"
+
+
 def unnamed_137(report, play, warnings):
     """An exit that counts as 137 and had another code, and that standard error does not name; or one that it names
     though all sources answered."""
@@ -228,7 +235,7 @@ def fault_of(seed):
             return f"play {seed} {word}: {refused.strip()}"
         trace = read_text(text)
         fault = missing_in(said_in(report), play, look, is_extended)
-        fault = fault or other_steps(said_in(report), trace)
+        fault = fault or other_steps(said_in(report), trace) or said_when_gone(said_in(report), trace)
         if said_by_number(report_of(text)[1]) != said_in(report):
             fault = fault or "under its own names the report gives events to other pods"
         fault = fault or missing_in(steps_in(trace), play, look, is_extended)
