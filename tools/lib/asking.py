@@ -5,6 +5,7 @@ from __future__ import annotations
 import difflib
 
 import entry
+import report as reports
 import trace as traces
 import why_text
 
@@ -33,6 +34,7 @@ def trace_of(report, path):
     try:
         trace = traces.read_trace(path)
         traces.check_belongs(trace, report, path)
+        tell_left(trace, report)
     except traces.TraceFault as fault:
         raise entry.Fault(str(fault)) from None
     except (ValueError, TypeError, KeyError, AttributeError):
@@ -40,13 +42,16 @@ def trace_of(report, path):
     return trace
 
 
+def tell_left(trace, report):
+    """From now on each pod has left when the trace lets it go, whether another one of its name came or not."""
+    for ours, pod in zip(trace.pods, report.pods):
+        pod.left = trace.ticks[ours.gone].at if ours.gone is not None and ours.gone < len(trace.ticks) else None
+
+
 def why(trace, report, pods, show):
     """What the trace holds around the events of some pods, as text."""
-    told = []
-    for pod in pods:
-        again = f", number {pod.number}" if len(pods) > 1 else ""
-        told.append(f"why {pod.key} on {report.node}{again}\n\n" + why_of(trace, report, pod, show))
-    return "\n".join(told)
+    return "\n".join(f"why {pod.key} on {report.node}{reports.number_words(report, pod)}\n\n"
+                     + why_of(trace, report, pod, show) for pod in pods)
 
 
 def why_of(trace, report, pod, show):

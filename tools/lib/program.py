@@ -3,6 +3,7 @@
 from __future__ import annotations
 
 import hashlib
+import json
 import os
 import subprocess
 
@@ -32,6 +33,17 @@ def checked_path():
         raise entry.Fault(f"{found} writes no report (status {done.returncode})", 127)
     built = os.path.join(TOP, BUILT)
     return built if found == os.path.join(TOP, "kubelet_replay") and os.access(built, os.X_OK) else found
+
+
+def format_words(lines):
+    """The words for the format of a trace, of which the lines are given as bytes: --extended where its node line says
+    version 3. Whatever else it says, the program has to say why it is refused."""
+    node_line = next((line for line in lines if line.strip(b" \t\r\n")), b"")
+    try:
+        node = json.loads(node_line)
+    except (ValueError, RecursionError):
+        return []
+    return ["--extended"] if isinstance(node, dict) and node.get("version") == 3 else []
 
 
 def sum_of(found):

@@ -78,7 +78,7 @@ def pod_record(report, pod, last):
         "ended_at": ended[0] if ended else None, "ended_as": ended[1] if ended else None,
         "restarts": sum(int(container.restarts) for container in pod.containers),
         "deaths": count(pod, "died"), "kills": count(pod, "kill"), "backoffs": count(pod, "backoff"),
-        "became_unready": became_unready(pod), "unready_seconds": unready_seconds(pod, ended, last) if seen else 0,
+        "became_unready": became_unready(pod), "unready_seconds": unready_seconds(pod, last) if seen else 0,
         "evicted_at": evicted.at if evicted else None, "evicted_signal": evicted.signal if evicted else None,
         "evicted_kind": evicted.kind if evicted else None,
     }
@@ -90,9 +90,11 @@ def became_unready(pod):
     return sum(before.value == "True" and after.value == "False" for before, after in zip(spans, spans[1:]))
 
 
-def unready_seconds(pod, ended, last):
-    """For how long the pod was not Ready, from its first tick until its end, or else until the last moment."""
-    end = ended[0] if ended else last
+def unready_seconds(pod, last):
+    """For how long the pod was not Ready, from its first tick until its end, or until it was gone, or else until the
+    last moment."""
+    end = reports.end_of_spans(pod)
+    end = last if end is None else end
     spans = [span for span in reports.ready_spans(pod) if span.value == "False" and span.since < end]
     return sum((end if span.until is None else min(span.until, end)) - span.since for span in spans)
 

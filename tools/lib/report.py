@@ -55,6 +55,9 @@ class Pod:
     conditions: list[Condition] = field(default_factory=list)
     containers: list[Container] = field(default_factory=list)
     events: list[Event] = field(default_factory=list)
+    left: int | None = None
+    """the moment by which it was gone: the first tick of the next pod of its key, or with the trace the first tick
+    without it; None where there is none"""
 
     def condition(self, kind):
         return next((found for found in self.conditions if found.kind == kind), None)
@@ -151,6 +154,8 @@ def read_report(text):
         raise ReportFault("standard input has no whole report: the line of totals is missing")
     check_whole(report)
     named = pods_by_key(report)
+    for pods in named.values():
+        tell_left(pods)
     for said in (*report.events, *report.evictions):
         pod = pod_at(named.get(said.pod, ()), said.at)
         said.number = pod.number if pod else None
@@ -166,15 +171,30 @@ def pods_by_key(report):
     return named
 
 
+def tell_left(pods):
+    """Of pods of one key, one after the other, each has left by the first tick of the next one."""
+    following = None
+    for pod in reversed(pods):
+        pod.left = following
+        following = first_tick(pod) or following
+
+
 def pod_at(pods, at):
     """Of pods of one key, one after the other, that which was there at the moment of an event: the last whose first
-    tick was by then. A pod without ticks has the moment 0 as its first, and none of its containers was ever seen."""
+    tick was by then. A pod without ticks has the moment 0 as its first, and its lines say that nothing happened."""
     begun = [pod for pod in pods if first_tick(pod) <= at]
     return max(begun, key=lambda pod: (first_tick(pod), was_seen(pod), -pod.number), default=None)
 
 
 def was_seen(pod):
-    return any(container.state != "Waiting" for container in pod.containers)
+    """Whether a pod's own lines show that something happened in it."""
+    ran = any(container.state != "Waiting" or container.restarts != "0" for container in pod.containers)
+    return ran or (pod.phase, pod.reason) != ("Pending", "-")
+
+
+def number_words(report, pod):
+    """What tells a pod from the others of its key, where there are others."""
+    return f", number {pod.number}" if sum(other.key == pod.key for other in report.pods) > 1 else ""
 
 
 def check_whole(report):
@@ -230,9 +250,12 @@ def first_tick(pod):
 
 def has_ticks(report, pod):
     """Whether some tick came after the pod's line, as far as the report tells: a pod without one has the moment 0. Pods
-    come in the order of their lines, so one with 0 behind one with more has none."""
+    come in the order of their lines, so one with 0 behind one with more has none, and so has one beside whose key
+    another began at 0."""
     if first_tick(pod) > 0 or pod.events:
         return True
+    if any(other.key == pod.key and other.events and first_tick(other) == 0 for other in report.pods):
+        return False
     changed = {event.rest[0] for event in report.events if event.word == "pressure"}
     begun = max((condition.at for condition in report.conditions if condition.kind not in changed), default=0)
     return report.tick_count > 0 and begun == 0 and all(first_tick(other) == 0 for other in report.pods[: pod.number])
@@ -265,6 +288,12 @@ def spans_of(changes, first, value):
             last.until = at
         spans.append(Span(value, at, None))
     return spans
+
+
+def end_of_spans(pod):
+    """Until when a pod's last states lasted: it ended, or it was gone by then; None where neither is known."""
+    end = end_of(pod)
+    return end[0] if end else pod.left
 
 
 def ready_spans(pod):
@@ -308,9 +337,7 @@ def state_spans(pod, name):
         elif event.container == name and event.word == "died":
             changes.append((event.at, f"Terminated {event.rest[0]} {event.rest[1]}"))
     spans = spans_of(changes, first_tick(pod), "Waiting")
-    end = end_of(pod)
-    if end:
-        spans[-1].until = end[0]
+    spans[-1].until = end_of_spans(pod)
     for span in spans:
         span.value, _, span.note = span.value.partition(" ")
     return spans

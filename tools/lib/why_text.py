@@ -18,11 +18,12 @@ def whole_text(trace, report, pod, show):
     lines = []
     for around in why.around_events(trace, report, pod):
         lines += [heading(around.event, show), *(f"  {line}".rstrip() for line in told(trace, pod, around, show)), ""]
+    lines = lines or ["no event", ""]
     gone = trace.pods[pod.number].gone
     if gone is not None:
         last = show(trace.ticks[gone].at) if gone < len(trace.ticks) else "the end of the trace"
         lines += [f"The trace lets the pod go before {last}.", ""]
-    return "\n".join(lines[:-1] or ["no event"]) + "\n"
+    return "\n".join(lines[:-1]) + "\n"
 
 
 def heading(event, show):

@@ -1,7 +1,7 @@
 """Drives pages of tools/page in headless Chromium, and writes what it found as JSON lines: a name, what was there, what
 should be. test_page.py runs it with a python3 that has selenium, and counts.
 
-usage: browser.py FOLDER, which has node.html, plain.html, odd.html and big.html
+usage: browser.py FOLDER, which has node.html, plain.html, odd.html, again.html and big.html
 """
 
 import json
@@ -229,6 +229,17 @@ def check_odd(chromedriver, path):
         tell("and nothing of it ran", (page.script("document.title") != "x", page.log()), (True, []))
 
 
+def check_again(chromedriver, path):
+    """Pods of one name."""
+    with Page(chromedriver, path) as page:
+        tell("pods of one name have their numbers", page.texts(".pod .name"),
+             ["shop/a, number 0", "shop/b", "shop/a, number 2"])
+        page.click(".pod .name", 2)
+        tell("and each its story", (page.text("#panel h2"), "first tick 5" in page.text("#panel")),
+             ("shop/a, number 2", True))
+        tell("pods of one name: no error came", page.log(), [])
+
+
 def timed(page, act):
     began = time.monotonic()
     act()
@@ -266,6 +277,7 @@ def main(folder, chromedriver):
     check_narrow(chromedriver, f"{folder}/node.html")
     check_plain(chromedriver, f"{folder}/plain.html")
     check_odd(chromedriver, f"{folder}/odd.html")
+    check_again(chromedriver, f"{folder}/again.html")
     check_big(chromedriver, f"{folder}/big.html")
 
 

@@ -52,6 +52,12 @@ def run(words, given="", longest=LONGEST, **settings):
     return done.returncode, done.stdout.decode("utf-8", "replace"), done.stderr.decode("utf-8", "replace")
 
 
+def replayed(trace):
+    """What the program answers to a trace, in the format of its node line."""
+    words = ["run", "/dev/stdin", "--extended"] if '"version":3' in trace.split("\n")[0] else []
+    return run([REPLAY, *words], trace)
+
+
 def expect_refused(name, answer, status, words):
     """One line on standard error with some words, nothing on standard output, and a status."""
     got, out, said = answer

@@ -3,6 +3,7 @@ here. With `--write` it writes what the tools answer in place of what was kept, 
 tests whose names have one of them."""
 
 import os
+import re
 import shutil
 import subprocess
 import sys
@@ -39,6 +40,7 @@ def test_stories():
         ("attempt_falls", "shop/api-7f9c", []),
         ("made_anew", "default/late", []),
         ("never_ready", "shop/pair", []),
+        ("names_come_again_extended", "shop/db-0", []),
     ):
         status, told, said = run([f"{TOOLS}/story", *words, pod], read(f"{RECORDINGS}/{recording}/report"))
         name = "_".join([recording, pod.split("/")[1], *(word.strip("-") for word in words)])
@@ -64,6 +66,50 @@ def test_pictures():
                                                 ("Memory", "Disk", "PID")) + "totals updates=0 events=0 orders=0\n"
     status, picture, said = run([f"{TOOLS}/timeline"], empty)
     expect("timeline of a node without pods", (status, said, picture.endswith("</svg>\n")), (0, "", True))
+
+
+AGAIN = f"{TOP}/crates/case_runner/data/traces/extended"
+
+
+def test_pods_of_one_name():
+    """Each has its own story and lanes, until it has left, and counts among the others at an eviction until then."""
+    evicted = read(f"{AGAIN}/evicted_pod_comes_again_and_is_evicted_again.report")
+    told = run([f"{TOOLS}/story", "shop/a"], evicted)[1]
+    heads = [line for line in told.split("\n") if line.startswith(("shop/", "first tick"))]
+    expect("story of two pods of one name", heads, [
+        "shop/a on n1, number 0: Failed (Evicted), BestEffort", "first tick 0, ended 0 as Evicted, gone before 5",
+        "shop/a on n1, number 2: Failed (Evicted), BestEffort", "first tick 5, ended 5 as Evicted"])
+    expect("story of two pods of one name: what they were first of", told.count("first of 2"), 2)
+    drawn = run([f"{TOOLS}/timeline", "shop/a", "shop/a"], evicted)[1]
+    expect("timeline of two pods of one name, named twice", titles_in(drawn, "text", "pod"), [
+        "shop/a, number 0: Evicted at 0, gone before 5", "shop/a, number 2: Evicted at 5"])
+    crosses = [title for title in titles_in(drawn, "polygon") if "evicted at" in title]
+    expect("timeline tells which of one name was evicted", crosses, [
+        "shop/a, number 0 evicted at 0 by memory.available hard",
+        "shop/a, number 2 evicted at 5 by memory.available hard", "shop/b evicted at 10 by memory.available hard"])
+    twice = run([f"{TOOLS}/timeline"], read(f"{AGAIN}/pod_that_comes_again_twice.report"))[1]
+    expect("timeline ends a lane where the next pod of its name begins",
+           [title for title in titles_in(twice, "rect") if title.startswith(("app", "Ready True"))],
+           ["Ready True: 0 to 5", "app: attempt 0 running, 0 to 5", "app: attempt 0 terminated with code 0, 5 to 5",
+            "app: waiting, 9 to the end"])
+
+
+def test_story_of_a_pod_that_left():
+    """With the trace it is known when a pod left that did not come again, and that it was no candidate then."""
+    name = f"{AGAIN}/pod_that_is_gone_is_no_candidate"
+    for pod, words, wanted in (("shop/a", ["--trace", f"{name}.trace"], "first tick 0, gone before 5"),
+                               ("shop/a", [], "first tick 0"),
+                               ("shop/c", ["--trace", f"{name}.trace"], "first of 2"), ("shop/c", [], "first of 3")):
+        told = run([f"{TOOLS}/story", pod, *words], read(f"{name}.report"))[1]
+        expect(f"story of {pod} {' '.join(words[:1])}", wanted in re.split("\n|  +", told), True)
+
+
+def titles_in(picture, tag, kind=None):
+    """The text of the elements of a picture, or of the titles in them."""
+    found = xml.dom.minidom.parseString(picture).getElementsByTagName(tag)
+    if kind:
+        return [each.firstChild.data for each in found if each.getAttribute("class") == kind]
+    return [title.firstChild.data for each in found for title in each.getElementsByTagName("title")]
 
 
 def test_no_reports():
@@ -105,6 +151,14 @@ def test_edits():
         status, shown, said = run([f"{TOOLS}/what-if", edit], given)
         expect(f"what-if {name}", (status, said), (0, ""))
         expect_kept(f"what-if {name}: the lines", shown, f"{HERE}/edits/{name}")
+    again = read(f"{RECORDINGS}/names_come_again_extended/trace")
+    edit = 'container("shop/db-0"; "db"; .readinessProbe = {})'
+    status, shown, said = run([f"{TOOLS}/what-if", edit], again)
+    expect("what-if of the extended format", (status, said), (0, ""))
+    expect_kept("what-if of the extended format: the lines", shown, f"{HERE}/edits/pods_of_one_name")
+    stays = run([f"{TOOLS}/what-if", 'select(.kind != "gone")'],
+                read(f"{AGAIN}/pod_that_goes_while_running_has_not_died.trace"))
+    expect("what-if a pod that goes stayed", (stays[0], " died 0 137" in stays[1], stays[2]), (0, True, ""))
     same = run([f"{TOOLS}/what-if", "."], trace)
     expect("what-if changes no line", same, (0, "", "what-if: the edit changes no line of the trace\n"))
     same = run([f"{TOOLS}/what-if", "node(.evictionSoft = null)"], trace)

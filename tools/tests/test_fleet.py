@@ -62,6 +62,23 @@ def runs_counted(folder):
     return count
 
 
+def test_fleet_of_the_extended_format():
+    """A trace of version 3 is replayed as one; pods of one name are rows of their own, and one line among the worst."""
+    folder = tempfile.mkdtemp()
+    shutil.copy(f"{HERE}/whys/came_again/trace", f"{folder}/one.trace")
+    status, told, said = run([FLEET, "run", folder, "--out", f"{folder}/fleet.db", "--processes", "1"])
+    expect("fleet of the extended format", (status, said, told.split("\n")[0]),
+           (0, "", "1 traces: 1 replayed, 0 refused, 0 failed; 2 pods on 1 nodes"))
+    worst = [line.split() for line in told.split("\n") if "shop/" in line]
+    expect("fleet: pods of one name are one line", worst, [["n1", "shop/db", "1", "20", "1", "memory.available", "1"]])
+    connection = sqlite3.connect(f"{folder}/fleet.db")
+    rows = connection.execute("SELECT number, pod, restarts, unready_seconds FROM pods ORDER BY number").fetchall()
+    connection.close()
+    expect("fleet: pods of one name are rows of their own", rows,
+           [(0, "shop/db", 1, 10), (1, "shop/db", 0, 10), (2, "shop/late", 0, 0)])
+    shutil.rmtree(folder)
+
+
 def test_fleet_tables():
     folder = make_traces()
     database = f"{folder}/fleet.db"

@@ -89,6 +89,21 @@ def test_tables():
     shutil.rmtree(folder)
 
 
+def test_records_of_pods_of_one_name():
+    """Each has what happened while it was there: two of them left while they were not ready, 3 s before the next one's
+    first tick, and a third is."""
+    lines = run([f"{TOOLS}/json"], read(f"{HERE}/recordings/names_come_again_extended/report"))[1].split("\n")[:-1]
+    records = [record for record in map(json.loads, lines) if record.get("pod") == "shop/db-0"]
+    pods = [(record["number"], record["unready_seconds"], record["deaths"]) for record in records
+            if record["record"] == "pod"]
+    expect("pods of one name: not ready, and deaths", pods, [(0, 3, 1), (3, 3, 1), (4, 0, 0)])
+    died = [(record["pod_number"], record["code"]) for record in records if record.get("event") == "died"]
+    expect("pods of one name: which died with what", died, [(0, 0), (3, 137)])
+    lines = run([f"{TOOLS}/json"], read(f"{HERE}/whys/gone_before_its_first_tick/report"))[1].split("\n")[:-1]
+    firsts = [record["first_tick"] for record in map(json.loads, lines) if record["record"] == "pod"]
+    expect("pods of one name: the one that was there at 0", firsts, [None, 0])
+
+
 def test_unwritable_tables():
     folder = tempfile.mkdtemp()
     report = read(f"{LINES}/came_again.report")

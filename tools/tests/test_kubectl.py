@@ -32,7 +32,9 @@ def make_folder():
         shutil.copy(f"{KEPT}/commands/show", f"{folder}/tools/{name}")
     shutil.copy(f"{KEPT}/commands/show", f"{folder}/kubelet_replay")
     report = run([REPLAY], TRACE)[1]
-    for name, text in (("trace", TRACE), ("report", report.replace("node made", "node kept")), ("refused", "{}\n")):
+    extended = "\n" + TRACE.replace('"made"', '"v3","version":3') + '{"kind":"gone","pod":"shop/web"}\n'
+    for name, text in (("trace", TRACE), ("report", report.replace("node made", "node kept")), ("refused", "{}\n"),
+                       ("extended", extended)):
         with open(f"{folder}/{name}", "w") as file:
             file.write(text)
     os.mkfifo(f"{folder}/pipe")

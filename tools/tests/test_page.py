@@ -14,6 +14,7 @@ from checks import HERE, TOOLS, TOP, expect, expect_refused, read, run
 
 NODE = f"{HERE}/whys/file_system"
 PROBES = f"{HERE}/whys/probes"
+AGAIN = f"{TOP}/crates/case_runner/data/traces/extended"
 PODS, TICKS = 256, 20000
 # of the page of so many pods and ticks
 MOST_BYTES = 6000000
@@ -54,6 +55,21 @@ def test_page_data():
     readiness = next(probe for probe in pod["probes"] if probe[1] == "readiness")
     expect("page: a probe", readiness, [0, "readiness", 2, 2, 0, 5, [15, 5, 2, 0, 5, 0, 1, 2, 5, 5, 2, 1]])
     expect("page: a listing", pod["listings"][0][:12], [0, 0, 0, 0, 5, 0, 1, 0, 40, 1, 1, 0])
+
+
+def test_page_of_pods_of_one_name():
+    """From the report alone a pod is gone by the first tick of the next one of its name; with the trace by the first
+    tick without it, and it is known whether it had a tick at all."""
+    again = f"{HERE}/recordings/names_come_again_extended"
+    for words, gone in (([f"{again}/trace"], [7, 12, 11, 15, None]), ([], [7, None, None, 15, None])):
+        found = data_in(page_of(read(f"{again}/report"), *words)[1])["podList"]
+        expect(f"page: when pods were gone, with {len(words)} traces", [pod["gone"] for pod in found], gone)
+    expect("page: unready seconds of pods of one name", [pod["unready"] for pod in found if pod["key"] == "shop/db-0"],
+           [3, 3, 0])
+    between = f"{AGAIN}/pod_that_comes_and_goes_between_two_ticks"
+    found = data_in(page_of(read(f"{between}.report"), f"{between}.trace")[1])["podList"]
+    firsts = [[pod["key"], pod["first"]] for pod in found]
+    expect("page: a pod without a tick", firsts, [["shop/a", 0], ["shop/b", None]])
 
 
 def test_page_escapes():
@@ -110,6 +126,7 @@ def write_pages(folder):
     pages = {
         "node": page_of(report, f"{NODE}/trace"), "plain": page_of(report),
         "odd": page_of(odd.replace("shop/api-7f9c", "shop/<img/src=x/onerror=document.title='x'>")),
+        "again": page_of(read(f"{AGAIN}/evicted_pod_comes_again_and_is_evicted_again.report")),
         "big": page_of("".join(big_node.report_of(PODS, TICKS, PODS))),
     }
     for name, (status, page, said) in pages.items():

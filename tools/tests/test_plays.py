@@ -1,5 +1,6 @@
 """Plays made by chance, in each format: the trace is accepted, and it has each start and each exit with its code; in
-the extended format also each pod for as long as it was there. And an hour of a quiet node, with its bytes."""
+the extended format also each pod for as long as it was there, and none of what it ran dies by its going. And an hour of
+a quiet node, with its bytes."""
 
 import json
 import os
@@ -13,6 +14,7 @@ from chance import BEGIN, SECONDS, play_of
 from checks import HERE, LONGEST, REPLAY, TOOLS, expect, read, run
 
 sys.path.insert(0, f"{TOOLS}/lib")
+from report import read_report  # noqa: E402
 from trace import read_trace  # noqa: E402
 
 PLAYS = 32
@@ -76,7 +78,7 @@ def wanted_of(play, look, is_extended):
 
 
 def one_name_each(text):
-    """A trace without the lines of pods that go, in which each pod has a name of its own: the program reads that."""
+    """A trace in which each pod has a name of its own, so that a line of its report says which of them it is of."""
     lines, counts = [], {}
     for line in map(json.loads, text.splitlines()):
         if line["kind"] == "pod":
@@ -86,21 +88,31 @@ def one_name_each(text):
             metadata["name"] = named(metadata["name"], counts[key])
         for entry in line.get("pods", []):
             entry["pod"] = named(entry["pod"], counts[entry["pod"]])
-        if line["kind"] != "gone":
-            lines.append(json.dumps(line))
+        if line["kind"] == "gone":
+            line["pod"] = named(line["pod"], counts[line["pod"]])
+        lines.append(json.dumps(line))
     return "".join(f"{line}\n" for line in lines)
 
 
 def report_of(text):
     """The program's report of a trace, or why it is refused."""
     with tempfile.NamedTemporaryFile("w", suffix=".trace") as file:
-        file.write(one_name_each(text))
+        file.write(text)
         file.flush()
         return run([REPLAY, "run", file.name, "--extended"])
 
 
+def said_by_number(text):
+    """What a report says, as `said_in` has it, where several pods have one name: by what `read_report` makes of it."""
+    report = read_report(text)
+    names = names_of(report)
+    return {(names[event.number], event.container or "-", " ".join([event.word, *event.rest])): event.at - BEGIN
+            for event in report.events if event.pod and event.rest}
+
+
 def said_in(report):
     events = [line.split(" ", 4) for line in report.split("\n") if line.startswith("event ") and line.count(" ") > 4]
+    events = [event for event in events if event[2] != "node"]
     return {(pod, container, words): int(moment) - BEGIN for _, moment, pod, container, words in events}
 
 
@@ -111,10 +123,10 @@ def read_text(text):
         return read_trace(file.name)
 
 
-def names_of(trace):
-    """The names of a trace's pods in `one_name_each`, in their order."""
+def names_of(found):
+    """The names of the pods of a trace or a report in `one_name_each`, in their order."""
     counts, names = {}, []
-    for pod in trace.pods:
+    for pod in found.pods:
         counts[pod.key] = counts.get(pod.key, -1) + 1
         names.append(named(pod.key, counts[pod.key]))
     return names
@@ -153,6 +165,21 @@ def missing_in(said, play, look, is_extended):
         if not play["fails"] and not 0 <= said[place] - moment <= latest:
             return f"{' '.join(place)} at {said[place]}, not at {moment}"
     return None
+
+
+def other_steps(said, trace):
+    """A start or an exit that the report has and the ticks of that pod do not, or the other way round."""
+    steps = steps_in(trace)
+    told = {place: moment for place, moment in said.items() if place[2].split()[0] in ("started", "died")}
+    other = min((place for place in told.keys() | steps.keys() if told.get(place) != steps.get(place)), default=None)
+    return other and f"{' '.join(other)} at {told.get(other)} in the report, at {steps.get(other)} in the ticks"
+
+
+def said_when_gone(said, trace):
+    """An event of a pod behind its last tick; what was left out of all later ones has not died by that."""
+    last = {name: trace.ticks[pod.gone - 1].at - BEGIN for name, pod in zip(names_of(trace), trace.pods) if pod.gone}
+    late = min((place for place, moment in said.items() if moment > last.get(place[0], moment)), default=None)
+    return late and f"{' '.join(late)} at {said[late]}, when its pod was gone"
 
 
 def unnamed_137(report, play, warnings):
@@ -203,11 +230,14 @@ def fault_of(seed):
     for word in ("--standard", "--extended"):
         is_extended = word == "--extended"
         _, text, warnings = recorded(play, "--look", str(look), "--for", str(SECONDS), word)
-        status, report, refused = report_of(text)
+        status, report, refused = report_of(one_name_each(text))
         if status != 0:
             return f"play {seed} {word}: {refused.strip()}"
         trace = read_text(text)
         fault = missing_in(said_in(report), play, look, is_extended)
+        fault = fault or other_steps(said_in(report), trace) or said_when_gone(said_in(report), trace)
+        if said_by_number(report_of(text)[1]) != said_in(report):
+            fault = fault or "under its own names the report gives events to other pods"
         fault = fault or missing_in(steps_in(trace), play, look, is_extended)
         fault = fault or unnamed_137(report, play, warnings)
         fault = fault or (presence_fault(trace, play, look) if is_extended and not play["fails"] else None)

@@ -11,7 +11,7 @@ import tempfile
 import time
 from concurrent.futures import ThreadPoolExecutor
 
-from checks import HERE, LONGEST, REPLAY, TOOLS, TOP, expect, expect_kept, expect_refused, read, run
+from checks import HERE, LONGEST, REPLAY, TOOLS, TOP, expect, expect_kept, expect_refused, read, replayed, run
 
 sys.path.insert(0, f"{TOOLS}/lib")
 from record import formats  # noqa: E402
@@ -68,8 +68,8 @@ def test_recordings():
         if not os.path.exists(f"{folder}/answers.jsonl.gz"):
             expect_kept(f"{name}: the trace", trace, f"{folder}/trace")
         expect_kept(f"{name}: what is said", f"{said}status {status}\n", f"{folder}/said")
-        if status == 0 and '"version":3' not in trace.split("\n")[0]:
-            status, report, refused = run([REPLAY], trace)
+        if status == 0:
+            status, report, refused = replayed(trace)
             expect(f"{name}: the program accepts the trace", (status, refused), (0, ""))
             expect_kept(f"{name}: the report", report, f"{folder}/report")
         expect(f"{name}: nothing is left behind", recorder.left(), [])

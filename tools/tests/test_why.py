@@ -6,7 +6,7 @@ import shutil
 import sys
 import tempfile
 
-from checks import HERE, REPLAY, TOOLS, TOP, expect, expect_kept, expect_refused, read, run
+from checks import HERE, REPLAY, TOOLS, TOP, expect, expect_kept, expect_refused, read, replayed, run
 
 sys.path.insert(0, f"{TOOLS}/lib")
 import amounts  # noqa: E402
@@ -17,8 +17,6 @@ import why  # noqa: E402
 WHYS = f"{HERE}/whys"
 TEXTS = f"{TOP}/crates/case_runner/data/texts"
 CASES = f"{TOP}/crates/case_runner/data/traces"
-# the program's standard format has no line that lets a pod go: that report is by hand
-BY_HAND = "came_again"
 
 
 def trace_and_report(name):
@@ -31,14 +29,21 @@ def trace_and_report(name):
 def test_whys():
     for name in sorted(os.listdir(WHYS)):
         trace, report = trace_and_report(name)
-        if name != BY_HAND:
-            expect(f"why {name}: the report is the trace's", run([REPLAY], read(trace))[1], read(report))
+        expect(f"why {name}: the report is the trace's", replayed(read(trace)), (0, read(report), ""))
         answers = [answer for answer in os.listdir(f"{WHYS}/{name}") if answer.startswith("of_")]
         for answer in sorted(answers):
             pod = answer.removeprefix("of_").replace("_", "/", 1)
             status, told, said = run([f"{TOOLS}/why", pod, "--trace", trace], read(report))
             expect(f"why {name} {pod}", (status, said), (0, ""))
             expect_kept(f"why {name} {pod}: the text", told, f"{WHYS}/{name}/{answer}")
+
+
+def moved_in(report, trace):
+    """Events and evictions that the report alone gives to another pod than the one that was there."""
+    for said in (*report.events, *report.evictions):
+        pod = None if said.number is None else trace.pods[said.number]
+        if said.pod and (pod is None or pod.key != said.pod or not pod.is_present(trace.places[said.at])):
+            yield f"{said.at} {said.pod} of {said.number}"
 
 
 def test_amounts():
@@ -76,12 +81,14 @@ def doubts_of(around):
 
 
 def test_cases():
-    """In each case of the program an event of a probe has its results, and an evicted pod comes first in its table."""
+    """In each case of the program an event of a probe has its results, an evicted pod comes first in its table, and
+    each event is of the pod of its key that was there."""
     doubts, kinds, count = [], {"kill": 0, "unready": 0, "ready": 0, "evicted": 0}, 0
     for path in sorted(glob.glob(f"{CASES}/**/*.report", recursive=True)):
         report = reports.read_report(read(path))
         trace = traces.read_trace(path.removesuffix("report") + "trace")
         traces.check_belongs(trace, report, path)
+        doubts += [f"{path} {moved}" for moved in moved_in(report, trace)]
         count += 1
         for pod in report.pods:
             for around in why.around_events(trace, report, pod):

@@ -6,6 +6,7 @@ from __future__ import annotations
 import functools
 import gzip
 import hashlib
+import io
 import json
 import os
 import re
@@ -39,8 +40,8 @@ def answer(program, program_sum, path, known):
     trace_sum = hashlib.sha256(text).hexdigest()
     if trace_sum == known:
         return answered(record_of(path, trace_sum, size, "known"))
-    done = subprocess.run([program, "run", "/dev/stdin", "--workers", "1"], input=text, capture_output=True,
-                          check=False, start_new_session=True)
+    words = ["run", "/dev/stdin", "--workers", "1", *programs.format_words(io.BytesIO(text))]
+    done = subprocess.run([program, *words], input=text, capture_output=True, check=False, start_new_session=True)
     if done.returncode != 0:
         said = done.stderr.decode("utf-8", "replace").split("\n")[0]
         return answered(record_of(path, trace_sum, size, **refusal(done.returncode, said)))

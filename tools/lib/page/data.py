@@ -159,13 +159,12 @@ def around_of(evicted, span):
 
 
 def pod_of(report, trace, span, pod, ticks, budget):
-    ended, seen = reports.end_of(pod), reports.has_ticks(report, pod)
-    last = span.last
+    ended, seen = reports.end_of(pod), has_ticks(report, trace, pod)
     found = {
         "key": pod.key, "phase": pod.phase, "reason": records.none_of(pod.reason), "qos": pod.qos,
         "first": span.of(reports.first_tick(pod)) if seen else None,
-        "end": [span.of(ended[0]), ended[1]] if ended else None,
-        "unready": records.unready_seconds(pod, ended, last) if seen else 0,
+        "end": [span.of(ended[0]), ended[1]] if ended else None, "gone": span.of(pod.left),
+        "unready": records.unready_seconds(pod, span.last) if seen else 0,
         "ready": [[span.of(ready.since), int(ready.value == "True")]
                   for ready in (reports.ready_spans(pod) if seen else [])],
         "conditions": [[one.kind, one.value, span.of(one.at) if seen else None, one.reason] for one in pod.conditions],
@@ -174,12 +173,17 @@ def pod_of(report, trace, span, pod, ticks, budget):
     }
     if trace:
         ours = trace.pods[pod.number]
-        gone = ours.gone if ours.gone is not None and ours.gone < len(trace.ticks) else None
         found |= {"policy": ours.policy, "priority": ours.priority,
-                  "gone": None if gone is None else span.of(trace.ticks[gone].at),
                   "listings": [listings_of(span, ticks, container.name) for container in pod.containers],
                   "probes": probes_of(span, ours, ticks, budget)}
     return found
+
+
+def has_ticks(report, trace, pod):
+    if trace is None:
+        return reports.has_ticks(report, pod)
+    ours = trace.pods[pod.number]
+    return ours.first < (len(trace.ticks) if ours.gone is None else ours.gone)
 
 
 def container_of(span, pod, container, seen):

@@ -65,8 +65,12 @@ function lazily(pod, name, make) {
   }});
 }
 
+const keyCounts = new Map();
+data.podList.forEach((pod) => keyCounts.set(pod.key, (keyCounts.get(pod.key) || 0) + 1));
+
 data.podList.forEach((pod, number) => {
   pod.number = number;
+  pod.name = keyCounts.get(pod.key) > 1 ? `${pod.key}, number ${number}` : pod.key;
   pod.restarts = pod.containers.reduce((sum, container) => sum + container.restarts, 0);
   pod.isReady = pod.conditions.some((one) => one[0] === 'Ready' && one[1] === 'True');
   pod.eviction = data.evictions.find((one) => one.pod === number) || null;

@@ -307,7 +307,7 @@ function drawThresholds(area, signal, yOf) {
 
 function evictionWords(evictions, at, reach) {
   return evictions.filter((one) => Math.abs(one.at - at) <= reach)
-    .map((one) => `${moment(one.at)} ${data.podList[one.pod].key} evicted by ${one.signal} ${one.kind}`);
+    .map((one) => `${moment(one.at)} ${data.podList[one.pod].name} evicted by ${one.signal} ${one.kind}`);
 }
 
 function signalTip(signal, at, reach) {

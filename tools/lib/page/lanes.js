@@ -56,8 +56,8 @@ function makeRow(pod, place) {
   const canvas = element('canvas', undefined, 'plot');
   canvas.setAttribute('aria-hidden', 'true');
   holder.style.top = `${rows.tops[place]}px`;
-  const name = element('button', pod.key, 'name');
-  name.title = pod.key;
+  const name = element('button', pod.name, 'name');
+  name.title = pod.name;
   name.addEventListener('click', () => { choose(place); openStory(pod); });
   head.append(name, metaOf(pod));
   holder.append(head, canvas);
@@ -212,8 +212,8 @@ function rowTip(row, area, x, y) {
   const at = momentAt(area, x);
   const lane = laneAt(pod, y);
   const lines = [moment(Math.round(at))];
-  if (pod.first === null || at < pod.first) return `${lines[0]}\n${pod.key} is not there yet`;
-  if (at > endOf(pod)) return `${lines[0]}\n${pod.key} ${pod.end ? `has ended as ${pod.end[1]}` : 'is gone'}`;
+  if (pod.first === null || at < pod.first) return `${lines[0]}\n${pod.name} is not there yet`;
+  if (at > endOf(pod)) return `${lines[0]}\n${pod.name} ${pod.end ? `has ended as ${pod.end[1]}` : 'is gone'}`;
   if (lane < 0) {
     const found = spansOf(pod).ready.find((span) => span[0] <= at && at <= span[1]);
     lines.push(found ? (found[2] === 'ready' ? 'ready' : 'not ready') : 'Ready is not known here');

@@ -5,7 +5,9 @@ const CHIPS = [
   ['restarted', 'restarted', (pod) => pod.restarts > 0], ['killed', 'killed by a probe', (pod) => pod.kills > 0],
   ['unready', 'not ready at the end', (pod) => !pod.isReady && pod.phase !== 'Succeeded'],
 ];
-const ORDERS = {worst: isWorse, trace: (a, b) => a.number - b.number, name: (a, b) => (a.key < b.key ? -1 : 1)};
+const byNumber = (a, b) => a.number - b.number;
+const byKey = (a, b) => (a.key === b.key ? byNumber(a, b) : a.key < b.key ? -1 : 1);
+const ORDERS = {worst: isWorse, trace: byNumber, name: byKey};
 const LEGEND = [
   ['waiting', 'waiting'], ['running', 'running'], ['ended', 'ended with 0'], ['failed', 'ended otherwise'],
   ['ready', 'ready'], ['unready', 'not ready'], ['pressure', 'pressure'], ['shade', 'threshold active'],

@@ -65,7 +65,7 @@ function openStory(pod) {
     one.ready, one.started]);
   const conditions = pod.conditions.map(([kind, value, since, reason]) =>
     [kind, value, since === null ? '-' : moment(since), reason || '-']);
-  openPanel(pod.key, [
+  openPanel(pod.name, [
     said(`${pod.phase}${pod.reason ? ` (${pod.reason})` : ''}, ${pod.qos}, ${first}${ended}${gone}; `
       + `not ready ${seconds(pod.unready)} in all`),
     element('h2', 'Containers'), tableOf(['container', 'state', 'code', 'restarts', 'ready', 'started'], restarts),
@@ -111,7 +111,7 @@ function eventItem(pod, event, open) {
 
 function openWhy(pod, events) {
   const title = events.length === 1 ? `why: ${told(events[0])}` : `why: ${events.length} events`;
-  const key = pressable(pod.key, () => openStory(pod));
+  const key = pressable(pod.name, () => openStory(pod));
   key.className = 'name';
   openPanel(title, [key, ...eventList(pod, events, events.length <= 4)], () => openStory(pod));
 }

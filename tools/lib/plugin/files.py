@@ -12,6 +12,9 @@ import entry
 import program as programs
 import report as reports
 
+# a longer one is no line of a trace
+LONGEST_LINE = 1 << 21
+
 
 def is_report(path):
     """Whether a file begins as a report. One that can't be read, or not twice, is a fault."""
@@ -39,8 +42,9 @@ def open_report(path):
 def replayed(path):
     """The report of a trace, as a file without a name."""
     program, report = programs.path(), tempfile.TemporaryFile()
+    words = ["run", path, *format_words(path)]
     try:
-        done = subprocess.run([program, "run", path], stdout=report, stderr=subprocess.PIPE, check=False)
+        done = subprocess.run([program, *words], stdout=report, stderr=subprocess.PIPE, check=False)
     except OSError as fault:
         raise entry.Fault(f"{program} is missing or can't be started: {fault.strerror}", 127) from None
     if done.returncode != 0:
@@ -52,14 +56,22 @@ def replayed(path):
     return report
 
 
+def format_words(path):
+    try:
+        with open(path, "rb") as file:
+            return programs.format_words(iter(lambda: file.readline(LONGEST_LINE), b""))
+    except OSError as fault:
+        raise entry.Fault(f"{path} can't be read: {fault.strerror}") from None
+
+
 def pods_in(report, namespace):
-    """The keys of the pods of a namespace in an open report, which can be read once more after that."""
+    """The keys of the pods of a namespace in an open report, each once; the report can be read once more after that."""
     try:
         found = reports.read_report(report.read().decode("utf-8", "replace"))
     except reports.ReportFault as fault:
         raise entry.Fault(str(fault)) from None
     report.seek(0)
-    return [pod.key for pod in found.pods if pod.key.startswith(namespace + "/")]
+    return list(dict.fromkeys(pod.key for pod in found.pods if pod.key.startswith(namespace + "/")))
 
 
 def whole(report):
