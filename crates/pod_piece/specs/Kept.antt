@@ -7,8 +7,9 @@ use Rattle.manifest.specs.declared.pod.PodSpec.{PodSpec}
 use Rattle.pod_state.specs.Pods.{PodTick, IsEnd}
 use Rattle.pod_state.specs.Lifecycles.{IsProgressOf}
 use Rattle.pod_state.specs.States.{before_of, IsStateOf}
+use Rattle.pod_piece.specs.declared.piece.Parts.{Parts}
 use Rattle.pod_piece.specs.declared.status.PodStatus.{PodStatus}
-use Rattle.pod_piece.specs.Piece.{Piece, before_last, last_of, ticks, evicted_at}
+use Rattle.pod_piece.specs.Piece.{Piece, piece, before_last, last_of, ticks, evicted_at}
 use Rattle.pod_piece.specs.Listings.{IsNextTick, AreListed}
 use Rattle.pod_piece.specs.Status.{IsStatusOf, AreLastEvents}
 
@@ -40,3 +41,10 @@ pub record IsKept (p : Piece) (differs : List Differ) (state : PodState) (status
   pub after : IsStateAfter p.pod p.greatest (evicted_at p) (ticks p) state
   pub shown : IsStatusOf p status
   pub made : AreLastEvents p events
+
+-- the piece of these fields, and that they are kept so
+abbrev pub piece_of : Parts → Piece
+piece_of parts = piece parts.number parts.pod parts.greatest parts.history parts.is_pending parts.eviction
+
+abbrev pub AreKept : Parts → Type 0
+AreKept parts = IsKept (piece_of parts) parts.differs.items parts.state parts.status parts.events.items

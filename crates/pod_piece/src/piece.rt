@@ -32,10 +32,9 @@ pub(crate) struct Eviction {
     pub(crate) order: EvictOrder,
 }
 
-/// One pod: its specification, all that was handed to it, and what the rules make of that. Its type
-/// keeps that every counter in it is the state of the history that it keeps.
+/// The fields of a piece.
 #[derive(Drop)]
-pub struct PodPiece {
+struct Parts {
     alloc: Global,
     number: usize,
     pod: PodSpec,
@@ -49,19 +48,23 @@ pub struct PodPiece {
     events: Vec<PodEvent>,
 }
 
+/// One pod: its specification, all that was handed to it, and what the rules make of that. Its type
+/// keeps that every counter in it is the state of the history that it keeps. It is one word, and cheap to move.
+#[derive(Drop)]
+pub struct PodPiece {
+    parts: Box<Parts>,
+}
+
 impl Model for PodPiece {
-    ghost use Rattle.std.specs.Prelude.{map};
-    ghost use Rattle.pod_state.specs.Pods.{pod_tick};
-    ghost use Rattle.pod_piece.specs.Kept.{IsKept};
-    ghost use Rattle.pod_piece.specs.Piece.{Piece, piece};
+    ghost use Rattle.pod_piece.specs.Piece.{Piece};
 
     ghost Value = { Piece };
 
-    ghost view = { λ p. piece p.number p.pod p.greatest p.history p.is_pending p.eviction };
+    ghost use Rattle.pod_piece.specs.Kept.{piece_of, AreKept};
 
-    ghost invariant = { λ p.
-        IsKept (piece p.number p.pod p.greatest p.history p.is_pending p.eviction)
-        p.differs.items p.state p.status p.events.items };
+    ghost view = { λ p. piece_of p.parts.value };
+
+    ghost invariant = { λ p. AreKept p.parts.value };
 }
 
 /// A piece whose update was refused for want of memory.
@@ -133,7 +136,7 @@ impl PodPiece {
         let differs = first_differs(alloc, pod.containers.as_slice().len())?;
         let state = PodState::new(alloc, &pod, greatest)?;
         let status = first_status(alloc, number, &pod, greatest, &state)?;
-        Ok(PodPiece {
+        let parts = Parts {
             alloc,
             number,
             pod,
@@ -145,6 +148,9 @@ impl PodPiece {
             state,
             status,
             events: Vec::new(alloc),
+        };
+        Ok(PodPiece {
+            parts: Box::new(alloc, parts)?,
         })
     }
 
@@ -152,24 +158,25 @@ impl PodPiece {
     pub fn pod(&self) -> &PodSpec
         ensures { result.now ≡ self.now.pod }
     {
-        &self.pod
+        &self.parts.pod
     }
 
     /// Whether a tick was handed to it that has not come into its status yet.
     pub fn pending(&self) -> bool
         ensures { result ≡ self.now.is_pending }
     {
-        self.is_pending
+        self.parts.is_pending
     }
 
     /// The moment of the last update's tick, in seconds; none before the first.
     pub fn last_at(&self) -> Option<u64>
         ensures { result ≡ last_moment (ticks self.now) }
     {
-        if self.is_pending {
-            moment_before(&self.history, self.history.len() - 1)
+        let parts = &*self.parts;
+        if parts.is_pending {
+            moment_before(&parts.history, parts.history.len() - 1)
         } else {
-            moment_before(&self.history, self.history.len())
+            moment_before(&parts.history, parts.history.len())
         }
     }
 
@@ -179,8 +186,9 @@ impl PodPiece {
         requires { self.now.is_pending ≡ false }
         ensures { IsTrue result ↔ MayComeNext self.now.pod self.now.handed observed.now.containers }
     {
-        observed.container_count() == self.pod.containers.as_slice().len()
-            && are_acceptable(&self.differs, observed)
+        let parts = &*self.parts;
+        observed.container_count() == parts.pod.containers.as_slice().len()
+            && are_acceptable(&parts.differs, observed)
     }
 
     /// Hands it what a tick shows of the pod. An `Err` changes nothing.
@@ -190,10 +198,11 @@ impl PodPiece {
         ensures ok { OnOk result (self.new ≡ with_tick self.old (pod_tick observed)) }
         ensures err { OnErr result (self.new ≡ self.old) }
     {
-        self.history.push(observed)?;
-        let last = self.history.len() - 1;
-        follow(&mut self.differs, self.history.at(last));
-        self.is_pending = true;
+        let parts = &mut *self.parts;
+        parts.history.push(observed)?;
+        let last = parts.history.len() - 1;
+        follow(&mut parts.differs, parts.history.at(last));
+        parts.is_pending = true;
         Ok(())
     }
 
@@ -216,18 +225,19 @@ impl PodPiece {
         ensures ok { OnOk result (self.new ≡ updated self.old) }
         ensures err { OnErr result (self.new ≡ self.old) }
     {
-        let last = self.history.len() - 1;
-        let observed = self.history.at(last);
-        let had_ended = self.state.lifecycle().has_ended();
-        let events = self.state.take(self.alloc, self.pod.policy, observed)?;
-        self.status.usage = newer_while(!had_ended, self.status.usage, observed.usage());
-        self.state
-            .show(self.eviction.is_some(), &mut self.status.containers);
-        let lifecycle = self.state.lifecycle();
-        self.status.phase = lifecycle.phase;
-        self.status.conditions = lifecycle.conditions;
-        self.events = events;
-        self.is_pending = false;
+        let parts = &mut *self.parts;
+        let last = parts.history.len() - 1;
+        let observed = parts.history.at(last);
+        let had_ended = parts.state.lifecycle().has_ended();
+        let events = parts.state.take(parts.alloc, parts.pod.policy, observed)?;
+        parts.status.usage = newer_while(!had_ended, parts.status.usage, observed.usage());
+        let is_evicted = parts.eviction.is_some();
+        parts.state.show(is_evicted, &mut parts.status.containers);
+        let lifecycle = parts.state.lifecycle();
+        parts.status.phase = lifecycle.phase;
+        parts.status.conditions = lifecycle.conditions;
+        parts.events = events;
+        parts.is_pending = false;
         Ok(())
     }
 
@@ -238,35 +248,37 @@ impl PodPiece {
         requires last { last_moment self.old.handed ≡ Some order.at }
         ensures { self.new ≡ with_eviction self.old order }
     {
-        self.state.evict(order.at);
-        self.state.show(true, &mut self.status.containers);
-        let lifecycle = self.state.lifecycle();
-        self.status.phase = lifecycle.phase;
-        self.status.conditions = lifecycle.conditions;
-        self.status.order = Some(order);
-        let place = self.history.len() - 1;
-        self.eviction = Some(Eviction { place, order });
+        let parts = &mut *self.parts;
+        parts.state.evict(order.at);
+        parts.state.show(true, &mut parts.status.containers);
+        let lifecycle = parts.state.lifecycle();
+        parts.status.phase = lifecycle.phase;
+        parts.status.conditions = lifecycle.conditions;
+        parts.status.order = Some(order);
+        let place = parts.history.len() - 1;
+        parts.eviction = Some(Eviction { place, order });
     }
 
     /// Gives it this number in the place of its own. It takes no memory.
     pub fn renumber(&mut self, number: usize)
         ensures { self.new ≡ with_number self.old number }
     {
-        self.number = number;
-        self.status.number = number;
+        let parts = &mut *self.parts;
+        parts.number = number;
+        parts.status.number = number;
     }
 
     /// Its status after the last update, or eviction.
     pub fn status(&self) -> &PodStatus
         ensures { IsStatusOf self.now result.now }
     {
-        &self.status
+        &self.parts.status
     }
 
     /// The events of the last update.
     pub fn events(&self) -> &[PodEvent]
         ensures { AreLastEvents self.now result.now }
     {
-        &self.events
+        &self.parts.events
     }
 }

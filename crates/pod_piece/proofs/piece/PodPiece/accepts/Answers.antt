@@ -1,20 +1,23 @@
-use Rattle.std.proofs.Common.{◌≡◌, List, length, map, ap, sym, subst, arith}
+use Rattle.std.proofs.Common.{◌≡◌, ◌∙◌, List, length, map, ap, sym, subst, arith}
 use Rattle.std.specs.Prelude.{◌↔◌, IsTrue}
 use Rattle.state_diff.specs.declared.differ.Differ.{Differ}
 use Rattle.pod_state.specs.Pods.{pod_tick}
+use Rattle.pod_piece.specs.Kept.{AreKept, piece_of}
 use Rattle.pod_piece.specs.Listings.{AreListed, MayComeNext}
 use Rattle.pod_piece.specs.Piece.{Piece}
 use Rattle.pod_piece.proofs.piece.PodPiece.accepts.Goals as goal
 
 pub returns-then-container_count-as_slice : goal.returns-then-container_count-as_slice
 returns-then-container_count-as_slice c =
-    let pod = c.self.inside.pod in
-    let h = map pod_tick c.self.inside.history in
+    let i = c.deref-parts.result.now in
+    let view : piece_of i ≡ c.args.self.now = ap piece_of c.deref-parts.ensures ∙ c.self.view_is in
+    let held : AreKept i = subst AreKept (sym c.deref-parts.ensures) c.self.invariant in
+    let h = map pod_tick i.history in
     let shown = c.args.observed.now.containers in
-    let listed : AreListed pod h c.deref.result.now = subst (λ (ds : List Differ). AreListed pod h ds)
-    (sym c.deref.ensures.value) c.self.invariant.listed in
-    let is = c.are_acceptable.ensures pod h listed in
-    let long : length shown ≡ length pod.containers =
+    let listed : AreListed i.pod h c.deref.result.now = subst (λ (ds : List Differ). AreListed i.pod h ds)
+    (sym c.deref.ensures.value) held.listed in
+    let is = c.are_acceptable.ensures i.pod h listed in
+    let long : length shown ≡ length i.pod.containers =
     omega (
       arith,
       c.if-container_count-as_slice.true,
@@ -22,6 +25,6 @@ returns-then-container_count-as_slice c =
       ap length
           c.as_slice.ensures.same,
     ) in
-    let both : IsTrue c.are_acceptable.result ↔ MayComeNext pod h shown =
+    let both : IsTrue c.are_acceptable.result ↔ MayComeNext i.pod h shown =
     ((λ t. record { as_many = long; acceptable = is.0 t }), (λ may. is.1 may.acceptable)) in
-    subst (λ (p : Piece). IsTrue c.are_acceptable.result ↔ MayComeNext p.pod p.handed shown) c.self.view_is both
+    subst (λ (p : Piece). IsTrue c.are_acceptable.result ↔ MayComeNext p.pod p.handed shown) view both

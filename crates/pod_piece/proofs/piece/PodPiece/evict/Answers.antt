@@ -5,7 +5,7 @@ use Rattle.pod_state.specs.declared.lifecycle.Lifecycle.{Lifecycle}
 use Rattle.pod_state.specs.Pods.{pod_tick}
 use Rattle.pod_state.specs.Lifecycles.{IsLifecycleOf}
 use Rattle.pod_piece.specs.declared.status.PodStatus.{PodStatus}
-use Rattle.pod_piece.specs.Kept.{IsKept}
+use Rattle.pod_piece.specs.Kept.{IsKept, AreKept, piece_of}
 use Rattle.pod_piece.specs.Piece.{Piece, piece, before_last, place_of, Lives}
 use Rattle.pod_piece.proofs.PieceLemmas.{goes_on, state_free, lives_free, may_self, has_containers, kept_evicted}
 use Rattle.pod_piece.proofs.PieceLemmas.{evicted_state, by_eviction}
@@ -15,37 +15,43 @@ use Rattle.pod_piece.proofs.piece.PodPiece.evict.Goals as goal
 
 pub evict-requires : goal.evict-requires
 evict-requires c =
-    let i = c.self.inside in
-    let p = piece i.number i.pod i.greatest i.history i.is_pending i.eviction in
-    let free : i.is_pending ≡ false = ap (λ (q : Piece). q.is_pending) c.self.view_is ∙ c.requires.free in
-    let lives = subst (λ (q : Piece). Lives q) (sym c.self.view_is) c.requires.lives in
-    let after = state_free p i.differs.items i.state i.status i.events.items free c.self.invariant in
+    let i = c.deref_mut-parts.result.now in
+    let view : piece_of i ≡ c.args.self.now = ap piece_of c.deref_mut-parts.ensures.value ∙ c.self.view_is in
+    let held : AreKept i = subst AreKept (sym c.deref_mut-parts.ensures.value) c.self.invariant in
+    let p = piece_of i in
+    let free : i.is_pending ≡ false = ap (λ (q : Piece). q.is_pending) view ∙ c.requires.free in
+    let lives = subst (λ (q : Piece). Lives q) (sym view) c.requires.lives in
+    let after = state_free p i.differs.items i.state i.status i.events.items free held in
     goes_on i.pod i.greatest (place_of i.eviction) p.handed i.state
     (after.now (place_of i.eviction) (may_self (place_of i.eviction) (length p.handed))) (lives_free p free lives)
 
 pub show-requires : goal.show-requires
 show-requires c =
-    let i = c.self.inside in
-    let p = piece i.number i.pod i.greatest i.history i.is_pending i.eviction in
+    let i = c.deref_mut-parts.result.now in
+    let view : piece_of i ≡ c.args.self.now = ap piece_of c.deref_mut-parts.ensures.value ∙ c.self.view_is in
+    let held : AreKept i = subst AreKept (sym c.deref_mut-parts.ensures.value) c.self.invariant in
+    let p = piece_of i in
     let h = before_last p.handed in
-    let free : i.is_pending ≡ false = ap (λ (q : Piece). q.is_pending) c.self.view_is ∙ c.requires.free in
-    let lives = subst (λ (q : Piece). Lives q) (sym c.self.view_is) c.requires.lives in
-    let last = tick_at p.handed c.args.order.at (ap (λ (q : Piece). last_moment q.handed) c.self.view_is
+    let free : i.is_pending ≡ false = ap (λ (q : Piece). q.is_pending) view ∙ c.requires.free in
+    let lives = subst (λ (q : Piece). Lives q) (sym view) c.requires.lives in
+    let last = tick_at p.handed c.args.order.at (ap (λ (q : Piece). last_moment q.handed) view
     ∙ c.requires.last) in
     let now = evicted_state p (recorded c.args.order.at last.0) i.differs.items i.state c.evict.new.self i.status
-    i.events.items free lives last.1 c.self.invariant
+    i.events.items free lives last.1 held
     (λ was before is. c.evict.ensures.state i.pod i.greatest h last.0 was before is) in
-    c.self.invariant.shown.containers.as_many ∙ has_containers i.pod i.greatest (Some (length h))
+    held.shown.containers.as_many ∙ has_containers i.pod i.greatest (Some (length h))
     (h ++ recorded c.args.order.at last.0 ∷ []) c.evict.new.self now
 
 pub invariant_of-self : goal.invariant_of-self
 invariant_of-self c =
-    let i = c.self.inside in
-    let p = piece i.number i.pod i.greatest i.history i.is_pending i.eviction in
+    let i = c.deref_mut-parts.result.now in
+    let view : piece_of i ≡ c.args.self.now = ap piece_of c.deref_mut-parts.ensures.value ∙ c.self.view_is in
+    let held : AreKept i = subst AreKept (sym c.deref_mut-parts.ensures.value) c.self.invariant in
+    let p = piece_of i in
     let h = before_last p.handed in
-    let free : i.is_pending ≡ false = ap (λ (q : Piece). q.is_pending) c.self.view_is ∙ c.requires.free in
-    let lives = subst (λ (q : Piece). Lives q) (sym c.self.view_is) c.requires.lives in
-    let last = tick_at p.handed c.args.order.at (ap (λ (q : Piece). last_moment q.handed) c.self.view_is
+    let free : i.is_pending ≡ false = ap (λ (q : Piece). q.is_pending) view ∙ c.requires.free in
+    let lives = subst (λ (q : Piece). Lives q) (sym view) c.requires.lives in
+    let last = tick_at p.handed c.args.order.at (ap (λ (q : Piece). last_moment q.handed) view
     ∙ c.requires.last) in
     let x = recorded c.args.order.at last.0 in
     let k = h ++ x ∷ [] in
@@ -63,7 +69,7 @@ invariant_of-self c =
       order = Some c.args.order;
     } in
     let kept = kept_evicted p x c.args.order i.differs.items i.state c.evict.new.self i.status status i.events.items
-    free lives last.1 c.self.invariant
+    free lives last.1 held
     (λ was before is. (
       c.evict.ensures.state i.pod i.greatest h last.0 was before is,
       c.evict.ensures.ends i.pod
