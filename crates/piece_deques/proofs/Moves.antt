@@ -1,18 +1,19 @@
 -- Each move keeps the rule of a deque.
 use Rattle.std.proofs.Common.{◌≡◌, ◌≢◌, ℕ, zero, suc, ◌+◌, ◌-◌, ◌<◌, ◌≤◌, List, [], ◌∷◌, ◌++◌, map, length, set, All}
 use Rattle.std.proofs.Common.{sym, refl, ap, ◌∙◌, subst, ⊎_elim, append_assoc, arith, length-append}
-use Rattle.std.specs.Prelude.{Option, Some, None, MatchOption, IfSome}
+use Rattle.std.specs.Prelude.{Option, Some, None, MatchOption, IfSome, min}
 use Rattle.std.specs.List.{sum_by}
 use Rattle.std.proofs.lemmas.List.{map-append}
 use Rattle.std.proofs.lemmas.List.Sums.{sum_by-cons, sum_by-append, sum_by_push}
 use Rattle.std.proofs.lemmas.List.Elements.{All-append}
 use mathlib.Core.Option.{some, some-injective, some-ne-none}
 use lib.ListN.{get_elem?}
-use Rattle.crossbeam_deque.specs.Tasks.{Pushes, Takes, Finds, Forks, Merges, Learns}
+use Rattle.crossbeam_deque.specs.Tasks.{Pushes, Takes, Finds, FindsFew, Forks, Merges, Learns}
 use Rattle.crossbeam_deque.proofs.Lists.{at_set, at_snoc, set_here, set_else}
 use Rattle.pod_piece.specs.Piece.{Piece}
 use Rattle.piece_deques.specs.declared.rule.Tally.{Tally}
-use Rattle.piece_deques.specs.Rule.{all_parts, number_of, tally, IsDue, Lists, IsDealt, Took, IsEmptied, IsBounded}
+use Rattle.piece_deques.specs.Rule.{all_parts, number_of, tally, IsDue, Lists, IsDealt, Took, IsEmptied}
+use Rattle.piece_deques.specs.Rule.{FoundEmpty, IsBounded}
 use Rattle.piece_deques.proofs.Lists.{all_left, all_right, ones, set_sum, place_within}
 
 -- Lists of views
@@ -235,6 +236,21 @@ finds all port v some_part views d at every h =
     (λ j u e idle. ap (λ l. sum_by h l) ((d.listed j u e).idle idle)) in
     let t = d.once h in
     omega arith
+
+-- what a pass learns where it finds nothing in the deque
+pub found : (all : List Piece) (port : ℕ) (v : Tally) → Finds (IsDealt all) port v (FoundEmpty all v)
+found all port v views d at = record { views = views; port = port; dealt = d; mine = at }
+
+no_items : (items : List Piece) → length items ≤ 0 → items ≡ []
+no_items [] none = refl
+no_items (x ∷ items) none = absurd (omega arith)
+
+-- and a thief of a deque that is first in first out
+pub found_first : (all : List Piece) (flavor port : ℕ) (v : Tally) → flavor ≡ 0
+    → FindsFew (IsDealt all) (min flavor 1) port v (FoundEmpty all v)
+found_first all flavor port v first items views few d at =
+    let none : length items ≤ 0 = subst (λ (f : ℕ). length items ≤ min f 1) first few in
+    found all port v views (subst (λ (l : List Piece). IsDealt all l views) (no_items items none) d) at
 
 -- a new deque
 pub begins : (all : List Piece) → IsDealt all [] (tally all_parts [] [] ∷ [])

@@ -52,6 +52,13 @@ pub record Took (all : List Piece) (old : Tally) (pieces : List Piece) (new : Ta
 abbrev pub IsEmptied : Tally → Type 0
 IsEmptied v = v.parts ≡ all_parts → (weight : ℕ → ℕ) → sum_by weight v.pushed ≡ sum_by weight v.taken
 
+-- in some state of the deque that keeps its rule no piece is in it, and a pass has this view
+pub record FoundEmpty (all : List Piece) (v : Tally) : Type 0 where
+  pub views : List Tally
+  pub port : ℕ
+  pub dealt : IsDealt all [] views
+  pub mine : get_elem? views port ≡ some v
+
 -- no pass has taken more than was pushed, or has more than every part
 pub record IsBounded (v : Tally) : Type 0 where
   pub few : length v.taken ≤ length v.pushed

@@ -1,9 +1,9 @@
 //! What an owner and its thieves do with a deque.
 
 ghost use Rattle.std.specs.Prelude.{◌≡◌, ◌<◌, ◌≤◌, ◌+◌, ◌-◌, ◌^◌, [], ◌∷◌, ◌++◌, IfOk, IfSome, IfNone};
-ghost use Rattle.crossbeam_deque.specs.Handles.{view, IsPassOf, SameWorker, stealer_deque, worker_capacity};
-ghost use Rattle.crossbeam_deque.specs.Handles.{worker_deque, worker_index, worker_view};
-ghost use Rattle.piece_deques.specs.Rule.{all_parts, tally, IsDue, Took, IsEmptied, IsBounded};
+ghost use Rattle.crossbeam_deque.specs.Handles.{view, IsPassOf, SameWorker, stealer_deque, stealer_flavor};
+ghost use Rattle.crossbeam_deque.specs.Handles.{worker_capacity, worker_deque, worker_index, worker_view};
+ghost use Rattle.piece_deques.specs.Rule.{all_parts, tally, IsDue, Took, IsEmptied, FoundEmpty, IsBounded};
 ghost use Rattle.piece_deques.specs.Ends.{IsOwner};
 
 use crate::rule::{Cut, Deal, Dealing, Few, Popped, Pushed, Stolen, Tally};
@@ -80,24 +80,28 @@ pub fn return_seat<D: Deal>(owner: &mut Owner<D>, seat: Seat)
     owner.len_as::<Few>();
 }
 
-/// The first piece of the deque, for its owner.
+/// The first piece of the deque, for its owner. None where it found no piece in it.
 pub fn pop<D: Deal>(owner: &mut Owner<D>) -> Option<PodPiece>
     requires { IsOwner owner.old }
     ensures same { SameWorker owner.old owner.new }
     ensures none { IfNone result (worker_view owner.new ≡ worker_view owner.old) }
     ensures emptied { IfNone result (IsEmptied (worker_view owner.old)) }
+    ensures found { IfNone result (FoundEmpty D.all (worker_view owner.old)) }
     ensures due { IfSome result (IsDue D.all) }
     ensures took { IfSome result (λ piece. Took D.all (worker_view owner.old) (piece ∷ []) (worker_view owner.new)) }
 {
     owner.pop_as::<Popped<D>>()
 }
 
-/// The first piece of the deque, for a thief.
+/// The first piece of a deque that is first in first out, for a thief. None where it found no piece in it: where another
+/// took a piece in between, it tries again.
 pub fn steal<D: Deal, R: Wait>(rt: &R, thief: &Thief<D>, seat: &mut Seat) -> Option<PodPiece>
+    requires in_order { stealer_flavor thief.now ≡ 0 }
     requires fits { IsPassOf (stealer_deque thief.now) seat.old }
     requires some { 0 < (view seat.old).parts }
     ensures same { IsPassOf (stealer_deque thief.now) seat.new }
     ensures none { IfNone result (view seat.new ≡ view seat.old) }
+    ensures found { IfNone result (FoundEmpty D.all (view seat.old)) }
     ensures due { IfSome result (IsDue D.all) }
     ensures took { IfSome result (λ piece. Took D.all (view seat.old) (piece ∷ []) (view seat.new)) }
 {

@@ -80,22 +80,24 @@ pub(crate) struct Popped<D> {
 }
 
 impl<D: Deal> Outcome<PodPiece, Tally> for Popped<D> {
-    ghost use Rattle.piece_deques.specs.Rule.{Took, IsEmptied};
+    ghost use Rattle.piece_deques.specs.Rule.{Took, IsEmptied, FoundEmpty};
 
     ghost then = { Took D.all };
 
-    ghost empty = { IsEmptied };
+    ghost empty = { λ v. IsEmptied v × FoundEmpty D.all v };
 }
 
-/// A thief took pieces.
+/// A thief took pieces, or found none.
 pub(crate) struct Stolen<D> {
     of: PhantomData<D>,
 }
 
 impl<D: Deal> Outcome<PodPiece, Tally> for Stolen<D> {
-    ghost use Rattle.piece_deques.specs.Rule.{Took};
+    ghost use Rattle.piece_deques.specs.Rule.{Took, FoundEmpty};
 
     ghost then = { Took D.all };
+
+    ghost empty = { FoundEmpty D.all };
 }
 
 /// No pass has taken more than was pushed.

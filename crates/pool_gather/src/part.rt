@@ -28,6 +28,7 @@ fn part<D: Deal, U: Ledger, E: Ledger, O: Ledger>(
 {
     let Bundle {
         owner,
+        own: _,
         reaches,
         harvest,
     } = bundle;

@@ -1,7 +1,7 @@
 -- Pieces by their numbers.
 use Rattle.std.proofs.Common.{◌≡◌, ℕ, ◌+◌, List, [], ◌∷◌, ◌++◌, map, All, Bool, true, false, cond, Some, sym, ap, ◌∙◌}
 use Rattle.std.proofs.Common.{subst}
-use Rattle.std.specs.Prelude.{slice_get, option_map}
+use Rattle.std.specs.Prelude.{slice_get, option_map, Result, Ok, Err, OnOk}
 use Rattle.std.proofs.lemmas.Option.{slice_get-map}
 use Rattle.pod_piece.specs.Piece.{Piece, updated}
 use Rattle.piece_deques.specs.Rule.{IsDue}
@@ -24,3 +24,12 @@ pub all_either : (P : Piece → Type 0) (first : Bool) (xs ys : List Piece) → 
     → All P (cond first xs ys)
 all_either P true xs ys all others = all
 all_either P false xs ys all others = others
+
+-- what holds where an answer is Ok
+
+pub on_ok : {A E : Type 0} (r : Result A E) (P Q : Type 0) → (P → Q) → OnOk r P → OnOk r Q
+on_ok (Ok x) P Q more holds = more holds
+on_ok (Err e) P Q more holds = tt
+
+pub when_ok : {A E : Type 0} (r : Result A E) (x : A) (P : Type 0) → r ≡ Ok x → OnOk r P → P
+when_ok {A} {E} r x P is holds = subst (λ (q : Result A E). OnOk q P) is holds

@@ -1,10 +1,11 @@
 //! How a worker updates and enters a piece, and how what two workers keep comes together.
 
-ghost use Rattle.std.specs.Prelude.{◌≡◌, ◌<◌, ◌≤◌, ◌+◌, [], ℕ, true, None, vec_len, vec_capacity};
-ghost use Rattle.std.specs.Prelude.{IfOk, IfErr, OnOk, OnErr};
+ghost use Rattle.std.specs.Prelude.{◌≡◌, ◌<◌, ◌≤◌, ◌+◌, [], ℕ, true, None, Some, vec_len, vec_capacity};
+ghost use Rattle.std.specs.Prelude.{IfOk, IfErr, OnOk, OnErr, is_ok, if◌then◌else◌};
 ghost use Rattle.event_book.specs.Totals.{nothing, plus};
 ghost use Rattle.event_book.specs.Shares.{part, one_update};
 ghost use Rattle.piece_deques.specs.Rule.{IsDue};
+ghost use Rattle.pool_harvest.specs.Done.{IsDone};
 ghost use Rattle.pool_harvest.specs.Harvests.{kept};
 
 use crate::gate::{Gate, update};
@@ -12,6 +13,7 @@ use crate::harvest::Harvest;
 use event_book::{Entry, EventBook, Full, Shares};
 use piece_deques::Deal;
 use pod_piece::PodPiece;
+use std::alloc::AllocError;
 use std::marker::PhantomData;
 use std::sync::ledger::Ledger;
 use std::sync::{Mutex, Wait};
@@ -54,7 +56,45 @@ impl<D: Deal, U: Ledger, E: Ledger, O: Ledger> Harvest<D, U, E, O> {
         }
     }
 
-    /// Updates a piece and enters it. False where the update was refused.
+    /// Keeps a piece, and says whether it was updated: enters it where it was, else keeps it as the refused one. It takes
+    /// no memory.
+    fn keep<R: Wait>(
+        &mut self,
+        rt: &R,
+        book: &Mutex<EventBook<U, E, O>>,
+        piece: PodPiece,
+        updated: Result<(), AllocError>,
+    ) -> bool
+        requires ok { OnOk updated (IsDone D.all piece) }
+        requires err { OnErr updated (IsDue D.all piece) }
+        requires none { self.old.refused ≡ None }
+        requires room { vec_len self.old.done < vec_capacity self.old.done }
+        requires room_late { vec_len self.old.late < vec_capacity self.old.late }
+        ensures kept { (weight : ℕ → ℕ) → kept weight self.new ≡ kept weight self.old + weight piece.number }
+        ensures room { vec_capacity self.new.done ≡ vec_capacity self.old.done }
+        ensures room_late { vec_capacity self.new.late ≡ vec_capacity self.old.late }
+        ensures parts { self.new.share.parts ≡ self.old.share.parts }
+        ensures updated { result ≡ is_ok updated }
+        ensures refused { self.new.refused ≡ (if is_ok updated then None else Some piece) }
+    {
+        match updated {
+            Ok(()) => {
+                let entry = Entry::last_of(&piece);
+                let entered = enter(rt, book, entry, &mut self.share);
+                match entered {
+                    Ok(()) => self.done.push_reserved(piece),
+                    Err(Full) => self.late.push_reserved(piece),
+                }
+                true
+            }
+            Err(_) => {
+                self.refused = Some(piece);
+                false
+            }
+        }
+    }
+
+    /// Updates a piece and enters it. False where the update was refused: then it is kept as it was.
     pub fn finish<R: Wait, G: Gate>(
         &mut self,
         rt: &R,
@@ -72,23 +112,12 @@ impl<D: Deal, U: Ledger, E: Ledger, O: Ledger> Harvest<D, U, E, O> {
         ensures parts { self.new.share.parts ≡ self.old.share.parts }
         ensures more { result ≡ true → self.new.refused ≡ None }
         ensures last { self.new.refused ≡ None → result ≡ true }
+        ensures refused { self.new.refused ≡ (if result then None else Some piece) }
+        ensures left { G.left gate.now piece.number }
     {
         let mut piece = piece;
-        match update(gate, &mut piece) {
-            Ok(()) => {
-                let entry = Entry::last_of(&piece);
-                let entered = enter(rt, book, entry, &mut self.share);
-                match entered {
-                    Ok(()) => self.done.push_reserved(piece),
-                    Err(Full) => self.late.push_reserved(piece),
-                }
-                true
-            }
-            Err(_) => {
-                self.refused = Some(piece);
-                false
-            }
-        }
+        let updated = update(gate, &mut piece);
+        self.keep(rt, book, piece, updated)
     }
 
     /// The same harvest, or the piece whose update was refused.
@@ -96,6 +125,7 @@ impl<D: Deal, U: Ledger, E: Ledger, O: Ledger> Harvest<D, U, E, O> {
         ensures ok { IfOk result (λ harvest. harvest ≡ self) }
         ensures none { IfOk result (λ harvest. harvest.refused ≡ None) }
         ensures err { IfErr result (IsDue D.all) }
+        ensures refused { IfErr result (λ piece. self.refused ≡ Some piece) }
     {
         if self.refused.is_none() {
             return Ok(self);

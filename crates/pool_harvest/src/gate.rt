@@ -9,6 +9,14 @@ use std::alloc::AllocError;
 
 /// Called before and after each update, with the number of the pod.
 pub trait Gate: Sync {
+    ghost use Rattle.std.specs.Prelude.{ℕ, ⊤};
+
+    // That the gate was told of a pod that its update begins, and that it has ended. Whoever calls any gate knows of
+    // either only by that call.
+    ghost entered: { Self → ℕ → Type 0 } = { λ _ _. ⊤ };
+
+    ghost left: { Self → ℕ → Type 0 } = { λ _ _. ⊤ };
+
     /// Whether an update may wait in it until others have begun. Where it may, each of the workers runs, however few
     /// pods there are for each.
     fn waits(&self) -> bool {
@@ -16,10 +24,13 @@ pub trait Gate: Sync {
     }
 
     /// The update of the pod begins.
-    fn enter(&self, pod: usize);
+    fn enter(&self, pod: usize)
+        ensures { entered self.now pod };
 
     /// The update of the pod has ended.
-    fn leave(&self, pod: usize);
+    fn leave(&self, pod: usize)
+        requires { entered self.now pod }
+        ensures { left self.now pod };
 }
 
 /// A gate that does nothing.
@@ -40,6 +51,8 @@ pub fn update<G: Gate>(gate: &G, piece: &mut PodPiece) -> Result<(), AllocError>
     requires { IsTrue piece.old.is_pending }
     ensures ok { OnOk result (piece.new ≡ updated piece.old) }
     ensures err { OnErr result (piece.new ≡ piece.old) }
+    ensures entered { G.entered gate.now piece.old.number }
+    ensures left { G.left gate.now piece.old.number }
 {
     let number = number_of(piece);
     gate.enter(number);

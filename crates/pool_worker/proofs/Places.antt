@@ -1,12 +1,15 @@
 -- Owners and the places of their deques.
 use Rattle.std.proofs.Common.{◌≡◌, ℕ, ◌+◌, ◌<◌, List, [], ◌∷◌, ◌++◌, map, length, get_or, take, drop, reverse}
-use Rattle.std.proofs.Common.{sym, refl, ap, ◌∙◌, arith}
+use Rattle.std.proofs.Common.{append_assoc, sym, refl, ap, subst, ◌∙◌, arith}
 use Rattle.std.specs.List.{sum_by}
 use Rattle.std.specs.Global.{Global}
 use Rattle.std.proofs.lemmas.List.{reverse-append, same_from_push}
 use Rattle.std.proofs.lemmas.List.Sums.{sum_by-cons}
+use mathlib.Core.Option.{some}
+use lib.ListN.{get_elem?}
 use Rattle.crossbeam_deque.specs.Handles.{worker_deque, worker_view}
 use Rattle.crossbeam_deque.specs.declared.handles.Worker.{Worker}
+use Rattle.crossbeam_deque.proofs.Lists.{at_last, at_longer}
 use Rattle.histories.proofs.Lists.{map_more}
 use Rattle.piece_deques.specs.declared.rule.Tally.{Tally}
 use Rattle.piece_deques.specs.Ends.{pushed_weight}
@@ -60,3 +63,16 @@ module _ {X Y Z : Type 0} (f : X → Z) (g : Y → Z) (ys : List Y) (y : Y) (n a
       ∙ (reverse-append (map f xs) (f x ∷ [])
       ∙ (ap (λ l. f x ∷ l) (same ∙ ap (λ k. drop k (map g ys)) next)
       ∙ (ap (λ z. z ∷ drop (at + 1) (map g ys)) fits ∙ sym (drop_map_more g ys at y in' was)))))
+
+-- where elements are moved from the end of one list to the other, the next stands at the place behind those moved
+pub stands_next : {X Y Z : Type 0} (f : X → Z) (g : Y → Z) (xs : List X) (ys rest : List Y) (y : Y) (all : List Z)
+    (n : ℕ) → ys ≡ rest ++ y ∷ [] → map f xs ++ reverse (map g ys) ≡ all → length (map f xs) ≡ n
+    → get_elem? all n ≡ some (g y)
+stands_next {Z = Z} f g xs ys rest y all n row order many =
+    let r = reverse (map g rest) in
+    let back : reverse (map g ys) ≡ g y ∷ r =
+    ap (λ l. reverse (map g l)) row ∙ (ap reverse (map_more g rest y) ∙ reverse-append (map g rest) (g y ∷ [])) in
+    let there : (map f xs ++ g y ∷ []) ++ r ≡ all =
+    append_assoc (map f xs) (g y ∷ []) r ∙ (ap (λ l. map f xs ++ l) (sym back) ∙ order) in
+    subst (λ (l : List Z). get_elem? l n ≡ some (g y)) there
+    (at_longer (map f xs ++ g y ∷ []) r n (g y) (at_last (map f xs) (g y) n many))

@@ -1,23 +1,35 @@
 -- What a worker keeps has room for one piece more, and a step changes no tag.
-use Rattle.std.proofs.Common.{◌≡◌, ℕ, ◌+◌, ◌<◌, ◌≤◌, List, [], ◌∷◌, ◌++◌, map, length, set, get_or, ap, arith}
+use Rattle.std.proofs.Common.{◌≡◌, ◌≢◌, ◌∙◌, ℕ, zero, suc, ◌+◌, ◌<◌, ◌≤◌, List, [], ◌∷◌, ◌++◌, map, length, set, get_or}
+use Rattle.std.proofs.Common.{ap, sym, refl, subst, arith, ⊎_elim}
 use Rattle.std.specs.List.{sum_by}
 use Rattle.std.specs.Global.{Global}
 use Rattle.std.specs.Option.{option_to_list}
 use Rattle.std.specs.Prelude.{Option}
+use Rattle.std.proofs.lemmas.List.{get_or-set_same, get_or-set_other}
+use Rattle.std.proofs.lemmas.Bool.{cases_lt}
 use Rattle.std.proofs.lemmas.List.Sums.{sum_by-cons, sum_by-append, sum_by_push}
+use mathlib.Core.Option.{some, some-injective, some-ne-none}
+use lib.ListN.{get_elem?}
 use Rattle.atomic_blocks.specs.Lent.{RowsId}
 use Rattle.crossbeam_deque.specs.Handles.{view, worker_view, stealer_deque}
 use Rattle.crossbeam_deque.specs.declared.handles.Worker.{Worker}
+use Rattle.crossbeam_deque.proofs.Lists.{set_else}
 use Rattle.pod_piece.specs.Piece.{Piece}
 use Rattle.piece_deques.specs.declared.rule.Tally.{Tally}
+use Rattle.piece_deques.specs.Rule.{FoundEmpty}
 use Rattle.piece_deques.proofs.Lists.{map_set, ones, sum_set}
 use Rattle.pool_harvest.specs.declared.reach.Reach.{Reach}
 use Rattle.pool_harvest.specs.Done.{weigh}
-use Rattle.pool_worker.specs.Seats.{place, seat_place, owner_place, taken_by, pushed_to}
+use Rattle.pool_worker.specs.Seats.{Place, place, seat_place, owner_place, taken_by, pushed_to}
+use Rattle.pool_worker.specs.Seats.{IsUnused, FoundAllEmpty}
 use Rattle.pool_worker.specs.Bundles.{tag, tag_of}
 
 pub place_same : (a b : RowsId × Global) (xs ys : List ℕ) → a ≡ b → xs ≡ ys → place a xs ≡ place b ys
 place_same a b xs ys deque pushed = λ k. place (deque k) (pushed k)
+
+no_numbers : (xs : List ℕ) → sum_by (λ _. 1) xs ≡ 0 → xs ≡ []
+no_numbers [] e = refl
+no_numbers (x ∷ xs) e = let o = ones (x ∷ xs) in absurd (omega arith)
 
 module _ {D : Type 0} where
   -- no more was taken by seats than was pushed
@@ -30,6 +42,46 @@ module _ {D : Type 0} where
       let e = ones (view r.seat).taken in
       let f = r.few in
       omega arith
+
+  -- nor was more taken by those of other deques than was pushed to these
+  pub no_more_of_others : (deque : Place) (own : ℕ) (reaches : List (Reach D)) → IsUnused deque own reaches
+      → taken_by (λ _. 1) reaches + length deque.pushed ≤ pushed_to reaches
+  no_more_of_others deque own [] unused = absurd (some-ne-none deque (sym unused.stands))
+  no_more_of_others deque zero (r ∷ rs) unused =
+      let rest = no_more rs in
+      let a = sum_by-cons (λ (r : Reach D). sum_by (λ _. 1) (view r.seat).taken) r rs in
+      let b = sum_by-cons (λ (r : Reach D). length (view r.seat).pushed) r rs in
+      let is : seat_place r ≡ deque = some-injective (seat_place r) deque unused.stands in
+      let pushed : length (view r.seat).pushed ≡ length deque.pushed = ap (λ (p : Place). length p.pushed) is in
+      let none : sum_by (λ _. 1) (view r.seat).taken ≡ 0 = ap (sum_by (λ _. 1)) (unused.none r refl) in
+      omega arith
+  no_more_of_others deque (suc own) (r ∷ rs) unused =
+      let rest = no_more_of_others deque own rs (record { stands = unused.stands; none = unused.none }) in
+      let a = sum_by-cons (λ (r : Reach D). sum_by (λ _. 1) (view r.seat).taken) r rs in
+      let b = sum_by-cons (λ (r : Reach D). length (view r.seat).pushed) r rs in
+      let e = ones (view r.seat).taken in
+      let f = r.few in
+      omega arith
+
+  -- where nothing was taken by any seat, nothing was by this one
+  pub none_taken : (reaches : List (Reach D)) (i : ℕ) (r : Reach D) → taken_by (λ _. 1) reaches ≡ 0
+      → get_elem? reaches i ≡ some r → (view r.seat).taken ≡ []
+  none_taken [] i r none at = absurd (some-ne-none r (sym at))
+  none_taken (x ∷ xs) zero r none at =
+      let a = sum_by-cons (λ (r : Reach D). sum_by (λ _. 1) (view r.seat).taken) x xs in
+      let mine : (view x.seat).taken ≡ [] = no_numbers (view x.seat).taken (omega arith) in
+      subst (λ (y : Reach D). (view y.seat).taken ≡ []) (some-injective x r at) mine
+  none_taken (x ∷ xs) (suc i) r none at =
+      let a = sum_by-cons (λ (r : Reach D). sum_by (λ _. 1) (view r.seat).taken) x xs in
+      none_taken xs i r (omega arith) at
+
+  -- the seats before this one have found their deques empty, and this one is the worker's own
+  pub found_but_own : (all : List Piece) (own n : ℕ) (reaches : List (Reach D)) → n ≡ own
+      → FoundAllEmpty all own n reaches → FoundAllEmpty all own (n + 1) reaches
+  found_but_own all own n reaches is found k d in' other =
+      ⊎_elim
+      (λ (less : k < n). found k d less other)
+      (λ (more : n ≤ k). absurd (other (let e : k ≡ n = omega arith in e ∙ is))) (cases_lt k n)
 
   pub tag_same : {T P : Type 0} (owner : Worker T Global Tally P) (old new : List (Reach D)) (a b : ℕ)
       → map seat_place new ≡ map seat_place old → b ≡ a → tag_of owner new b ≡ tag_of owner old a
@@ -47,13 +99,27 @@ module _ {D : Type 0} where
         (view old.seat).pushed deque same in
         tag_same owner reaches (set reaches i new) a b (map_set seat_place reaches i old new at stays) parts
 
-    -- and before that not all was taken
-    pub fewer : (number : ℕ) → (view new.seat).taken ≡ (view old.seat).taken ++ number ∷ []
-        → taken_by (λ _. 1) reaches < pushed_to reaches
-    fewer number grown =
+    -- the seat of the worker's own deque is another one
+    pub unused_still : (deque : Place) (own : ℕ) → i ≢ own → stealer_deque new.thief ≡ stealer_deque old.thief
+        → IsUnused deque own reaches → IsUnused deque own (set reaches i new)
+    unused_still deque own other thief unused =
+        let stays = place_same (stealer_deque new.thief) (stealer_deque old.thief) (view new.seat).pushed
+        (view old.seat).pushed thief same in
+        record {
+          stands =
+              ap (λ (l : List Place). get_elem? l own) (map_set seat_place reaches i old new at stays) ∙ unused.stands;
+          none = λ reach there. unused.none reach (sym (set_else reaches i own new (λ e. other (sym e))) ∙ there);
+        }
+
+    -- and before that not all was taken of the other deques
+    pub fewer : (number : ℕ) (deque : Place) (own : ℕ) → i ≢ own
+        → stealer_deque new.thief ≡ stealer_deque old.thief → IsUnused deque own reaches
+        → (view new.seat).taken ≡ (view old.seat).taken ++ number ∷ []
+        → taken_by (λ _. 1) reaches + length deque.pushed < pushed_to reaches
+    fewer number deque own other thief unused grown =
         let a = sum_set (λ (r : Reach D). sum_by (λ _. 1) (view r.seat).taken) reaches i old new in' at in
         let b = sum_set (λ (r : Reach D). length (view r.seat).pushed) reaches i old new in' at in
-        let m = no_more (set reaches i new) in
+        let m = no_more_of_others deque own (set reaches i new) (unused_still deque own other thief unused) in
         let p : length (view new.seat).pushed ≡ length (view old.seat).pushed = ap (λ l. length l) same in
         let g = ap (sum_by (λ _. 1)) grown in
         let o = sum_by-append (λ _. 1) (view old.seat).taken (number ∷ []) in
@@ -68,21 +134,49 @@ module _ {D : Type 0} where
         let o = sum_by_push weight (view old.seat).taken number in
         omega arith
 
+    -- the seats have taken what they had
+    pub took_none : (weight : ℕ → ℕ) → (view new.seat).taken ≡ (view old.seat).taken
+        → taken_by weight (set reaches i new) ≡ taken_by weight reaches
+    took_none weight none =
+        let a = sum_set (λ (r : Reach D). sum_by weight (view r.seat).taken) reaches i old new in' at in
+        let e = ap (sum_by weight) none in
+        omega arith
+
     pub pushed_same : pushed_to (set reaches i new) ≡ pushed_to reaches
     pushed_same =
         let b = sum_set (λ (r : Reach D). length (view r.seat).pushed) reaches i old new in' at in
         let p : length (view new.seat).pushed ≡ length (view old.seat).pushed = ap (λ l. length l) same in
         omega arith
 
+  -- the seats before this one, when it has changed
+
+  pub found_before : (all : List Piece) (own i : ℕ) (reaches : List (Reach D)) (new : Reach D)
+      → FoundAllEmpty all own i reaches → FoundAllEmpty all own i (set reaches i new)
+  found_before all own i reaches new found k d in' other =
+      let same = get_or-set_other reaches i k new d (λ e. absurd (omega arith)) in
+      subst (λ (r : Reach D). FoundEmpty all (view r.seat)) (sym same) (found k d in' other)
+
+  -- and when it has found its deque empty
+  pub found_one_more : (all : List Piece) (own i : ℕ) (reaches : List (Reach D)) (new : Reach D) → i < length reaches
+      → FoundEmpty all (view new.seat) → FoundAllEmpty all own i reaches
+      → FoundAllEmpty all own (i + 1) (set reaches i new)
+  found_one_more all own i reaches new within mine found k d in' other =
+      ⊎_elim
+      (λ (less : k < i). found_before all own i reaches new found k d less other)
+      (λ (more : i ≤ k).
+      let e : i ≡ k = omega arith in
+      subst (λ (j : ℕ). FoundEmpty all (view (get_or (set reaches i new) j d).seat)) e
+      (subst (λ (r : Reach D). FoundEmpty all (view r.seat)) (sym (get_or-set_same reaches i new d within)) mine))
+      (cases_lt k i)
+
   -- where not all was taken, there is room for one piece more of each kind
-  pub room : (taken pushed : List ℕ) (reaches : List (Reach D)) (done late : List Piece) (refused : Option Piece)
+  pub room : (taken : List ℕ) (reaches : List (Reach D)) (done late : List Piece) (refused : Option Piece)
       (cap : ℕ)
       → weigh (λ _. 1) done + weigh (λ _. 1) late + weigh (λ _. 1) (option_to_list refused)
       ≡ sum_by (λ _. 1) taken + taken_by (λ _. 1) reaches
-      → length taken + taken_by (λ _. 1) reaches < length pushed + pushed_to reaches
-      → length pushed + pushed_to reaches ≤ cap
+      → length taken + taken_by (λ _. 1) reaches < cap
       → (length done < cap) × (length late < cap)
-  room taken pushed reaches done late refused cap matched less within =
+  room taken reaches done late refused cap matched less =
       let a = ones taken in
       let b = ones done in
       let d = ones late in

@@ -5,10 +5,10 @@ use Rattle.crossbeam_deque.specs.Handles.{worker_view}
 use Rattle.crossbeam_deque.specs.declared.handles.Worker.{Worker}
 use Rattle.pod_piece.specs.Piece.{Piece}
 use Rattle.piece_deques.specs.declared.rule.Tally.{Tally}
-use Rattle.piece_deques.specs.Rule.{all_parts}
+use Rattle.piece_deques.specs.Rule.{all_parts, FoundEmpty}
 use Rattle.pool_harvest.specs.declared.reach.Reach.{Reach}
 use Rattle.pool_worker.specs.declared.bundle.Bundle.{Bundle}
-use Rattle.pool_worker.specs.Seats.{Place, seat_place, owner_place, places_weigh}
+use Rattle.pool_worker.specs.Seats.{Place, seat_place, owner_place, places_weigh, FoundAllEmpty}
 use Rattle.pool_worker.specs.Dealing.{dealt_to}
 use Rattle.pool_harvest.specs.Done.{weigh}
 
@@ -48,3 +48,8 @@ pub record AreLaid (pieces : List Piece) (tags : List Tag) : Type 0 where
 -- the deque of a bundle's owner
 abbrev pub bundle_place : {D U E O : Type 0} {g : _} → Bundle D U E O g → Place
 bundle_place bundle = owner_place bundle.owner
+
+-- its owner has found its deque empty, and so has each of its seats of another deque
+pub record HasEmptied {D U E O : Type 0} {g : _} (all : List Piece) (bundle : Bundle D U E O g) : Type 0 where
+  pub own : FoundEmpty all (worker_view bundle.owner)
+  pub others : FoundAllEmpty all bundle.own (length bundle.reaches.items) bundle.reaches.items

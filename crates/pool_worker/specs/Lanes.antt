@@ -1,5 +1,5 @@
 -- What a clause says of owners, and of what is made ready for their workers.
-use Rattle.std.specs.Prelude.{◌≡◌, ℕ, ◌+◌, ◌*◌, ◌<◌, ◌≤◌, List, [], All, map, vec_capacity}
+use Rattle.std.specs.Prelude.{◌≡◌, ℕ, ◌+◌, ◌<◌, ◌≤◌, List, [], All, map, vec_capacity}
 use Rattle.std.specs.List.{sum_by}
 use Rattle.std.specs.Global.{Global}
 use Rattle.atomic_blocks.specs.Lent.{RowsId}
@@ -37,4 +37,4 @@ pub record IsDesk {D : Type 0} (room : ℕ) (places : List Place) (desk : Desk D
 pub record IsPlan {D U E O : Type 0} {g : _} (pieces : ℕ) (plan : Plan D U E O g) : Type 0 where
   pub opened : All (IsOpen pieces 0) plan.owners.items
   pub none : (weight : ℕ → ℕ) → sum_by (pushed_weight weight) plan.owners.items ≡ 0
-  pub lanes : All (IsLane (3 * pieces) (map worker_deque plan.owners.items)) plan.lanes.items
+  pub lanes : All (IsLane pieces (map worker_deque plan.owners.items)) plan.lanes.items

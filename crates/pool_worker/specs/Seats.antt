@@ -1,11 +1,16 @@
 -- Seats, and the deques that they are of.
-use Rattle.std.specs.Prelude.{ℕ, List, length}
+use Rattle.std.specs.Prelude.{◌≡◌, ◌≢◌, ◌<◌, ℕ, List, [], length, map, slice_index_or}
 use Rattle.std.specs.List.{sum_by}
 use Rattle.std.specs.Global.{Global}
+use mathlib.Core.Option.{some}
+use lib.ListN.{get_elem?}
 use Rattle.atomic_blocks.specs.Lent.{RowsId}
-use Rattle.crossbeam_deque.specs.Handles.{view, worker_deque, worker_view, stealer_deque}
+use Rattle.crossbeam_deque.specs.Handles.{view, worker_deque, worker_view, stealer_deque, stealer_flavor}
+use Rattle.crossbeam_deque.specs.declared.handles.Stealer.{Stealer}
 use Rattle.crossbeam_deque.specs.declared.handles.Worker.{Worker}
+use Rattle.pod_piece.specs.Piece.{Piece}
 use Rattle.piece_deques.specs.declared.rule.Tally.{Tally}
+use Rattle.piece_deques.specs.Rule.{FoundEmpty}
 use Rattle.pool_harvest.specs.declared.reach.Reach.{Reach}
 
 -- which deque, and the numbers of the pieces that were pushed to it
@@ -39,3 +44,17 @@ places_len places = sum_by (λ (p : Place). length p.pushed) places
 -- their numbers, weighed and added up
 abbrev pub places_weigh : (ℕ → ℕ) → List Place → ℕ
 places_weigh weight places = sum_by (λ (p : Place). sum_by weight p.pushed) places
+
+-- a thieves' end of a deque that is first in first out
+abbrev pub IsInOrder : {T P : Type 0} → Stealer T Global Tally P → Type 0
+IsInOrder thief = stealer_flavor thief ≡ 0
+
+-- the seat that stands at this place is of this deque, and nothing was taken by it
+pub record IsUnused {D : Type 0} (deque : Place) (own : ℕ) (reaches : List (Reach D)) : Type 0 where
+  pub stands : get_elem? (map seat_place reaches) own ≡ some deque
+  pub none : (reach : Reach D) → get_elem? reaches own ≡ some reach → (view reach.seat).taken ≡ []
+
+-- each of the first n seats, but the one at the worker's own place, has found its deque empty
+abbrev pub FoundAllEmpty : {D : Type 0} → List Piece → ℕ → ℕ → List (Reach D) → Type 0
+FoundAllEmpty {D} all own n reaches =
+    (k : ℕ) (d : Reach D) → k < n → k ≢ own → FoundEmpty all (view (slice_index_or reaches k d).seat)

@@ -5,23 +5,25 @@ ghost use Rattle.std.specs.List.{sum_by};
 ghost use Rattle.crossbeam_deque.specs.Handles.{worker_view};
 ghost use Rattle.piece_deques.specs.Ends.{IsOwner};
 ghost use Rattle.pool_harvest.specs.Harvests.{kept};
-ghost use Rattle.pool_worker.specs.Seats.{pushed_to, taken_by};
+ghost use Rattle.pool_worker.specs.Seats.{owner_place, pushed_to, taken_by, IsUnused};
 
 use piece_deques::{Deal, Owner};
 use pool_harvest::{Harvest, Reach};
 use std::sync::ledger::Ledger;
 
-/// The owner's end of a deque, a seat of each deque, and what the worker keeps: the pieces that it took, once each.
+/// The owner's end of a deque, the place of that deque among all, a seat of each deque in their order, and what the
+/// worker keeps: the pieces that it took, once each. By the seat of its own deque nothing is taken.
 #[derive(Drop)]
 pub struct Bundle<D: Deal, U: Ledger, E: Ledger, O: Ledger> {
     pub owner: Owner<D>,
+    pub own: usize,
     pub reaches: Vec<Reach<D>>,
     pub harvest: Harvest<D, U, E, O>,
     pub ghost owns: { IsOwner owner },
     pub ghost few: { length (worker_view owner).taken ≤ length (worker_view owner).pushed },
+    pub ghost unused: { IsUnused (owner_place owner) own reaches.items },
     pub ghost matched: { (weight : ℕ → ℕ)
         → kept weight harvest ≡ sum_by weight (worker_view owner).taken + taken_by weight reaches.items },
-    pub ghost room: { length (worker_view owner).pushed + length (worker_view owner).pushed + pushed_to reaches.items
-        ≤ vec_capacity harvest.done },
+    pub ghost room: { pushed_to reaches.items ≤ vec_capacity harvest.done },
     pub ghost room_late: { vec_capacity harvest.late ≡ vec_capacity harvest.done },
 }

@@ -1,13 +1,15 @@
 //! What each worker is lent.
 
-ghost use Rattle.std.specs.Prelude.{◌≡◌, ◌<◌, ◌≤◌, ◌+◌, ◌*◌, [], All, length, map, vec_len, vec_capacity};
+ghost use Rattle.std.specs.Prelude.{◌≡◌, ◌<◌, ◌≤◌, ◌+◌, [], All, map, vec_len, vec_capacity};
 ghost use Rattle.std.specs.List.{sum_by};
+ghost use mathlib.Core.Option.{some};
+ghost use lib.ListN.{get_elem?};
 ghost use Rattle.crossbeam_deque.specs.Handles.{worker_view};
 ghost use Rattle.observations.specs.Limits.{most_pods};
 ghost use Rattle.event_book.specs.Shares.{most_parts};
 ghost use Rattle.piece_deques.specs.Rule.{IsDue};
 ghost use Rattle.piece_deques.specs.Ends.{IsOwner, pushed_weight};
-ghost use Rattle.pool_worker.specs.Seats.{owner_place, pushed_to};
+ghost use Rattle.pool_worker.specs.Seats.{owner_place, seat_place, pushed_to};
 ghost use Rattle.pool_worker.specs.Bundles.{tag_of, bundle_place, bundle_tag, IsLaid, AreLaid};
 ghost use Rattle.pool_worker.specs.Lanes.{IsHost, IsDesk, IsPlan};
 
@@ -20,16 +22,17 @@ use piece_deques::{Deal, Owner};
 use pod_piece::PodPiece;
 use std::sync::ledger::Ledger;
 
-/// The bundle of one worker.
+/// The bundle of the worker whose deque stands at this place.
 fn bind<D: Deal, U: Ledger, E: Ledger, O: Ledger>(
     owner: Owner<D>,
+    own: usize,
     desk: Desk<D>,
     share: &mut Shares<U, E, O>,
 ) -> Bundle<D, U, E, O>
     requires owner { IsOwner owner }
     requires none { (worker_view owner).taken ≡ [] }
-    requires room { length (worker_view owner).pushed + length (worker_view owner).pushed + pushed_to desk.reaches.items
-        ≤ vec_capacity desk.done }
+    requires own { get_elem? (map seat_place desk.reaches.items) own ≡ some (owner_place owner) }
+    requires room { pushed_to desk.reaches.items ≤ vec_capacity desk.done }
     requires share { 1 < share.old.parts }
     ensures tag { bundle_tag result ≡ tag_of owner desk.reaches.items 1 }
     ensures parts { share.new.parts + 1 ≡ share.old.parts }
@@ -40,7 +43,7 @@ fn bind<D: Deal, U: Ledger, E: Ledger, O: Ledger>(
         done,
         late,
     } = desk;
-    Bundle::new(owner, reaches, done, late, share.split())
+    Bundle::new(owner, own, reaches, done, late, share.split())
 }
 
 /// A bundle for each deque, in their order.
@@ -51,7 +54,7 @@ fn bundle_all<D: Deal, U: Ledger, E: Ledger, O: Ledger>(
     bundles: &mut Vec<Bundle<D, U, E, O>>,
 )
     requires hosts { All (IsHost (vec_len owners)) owners.items }
-    requires desks { All (IsDesk (3 * sum_by (pushed_weight (λ _. 1)) owners.items) (map owner_place owners.items))
+    requires desks { All (IsDesk (sum_by (pushed_weight (λ _. 1)) owners.items) (map owner_place owners.items))
         desks.items }
     requires len { vec_len desks ≡ vec_len owners }
     requires share { vec_len owners < share.old.parts }
@@ -71,7 +74,8 @@ fn bundle_all<D: Deal, U: Ledger, E: Ledger, O: Ledger>(
         let Some(desk) = desks.pop() else {
             unreachable!();
         };
-        let bundle = bind(owner, desk, share);
+        let own = bundles.len();
+        let bundle = bind(owner, own, desk, share);
         bundles.push_reserved(bundle);
     }
 }

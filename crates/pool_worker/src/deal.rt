@@ -1,6 +1,6 @@
 //! The deal.
 
-ghost use Rattle.std.specs.Prelude.{◌≡◌, ◌<◌, ◌≤◌, ◌+◌, ℕ, All, map, vec_len};
+ghost use Rattle.std.specs.Prelude.{◌≡◌, ◌<◌, ◌≤◌, ◌+◌, ◌%◌, ℕ, All, map, vec_len};
 ghost use Rattle.std.specs.List.{sum_by};
 ghost use Rattle.crossbeam_deque.specs.Handles.{worker_deque};
 ghost use Rattle.observations.specs.Limits.{most_pods};
@@ -11,6 +11,15 @@ ghost use Rattle.pool_worker.specs.Dealing.{deal, pushed_of};
 
 use piece_deques::{Deal, Owner, number_of, push};
 use pod_piece::PodPiece;
+
+/// The deque of a piece: its number modulo the deques.
+fn deque_of(piece: &PodPiece, deques: usize) -> usize
+    requires { 0 < deques }
+    ensures is { result ≡ piece.now.number % deques }
+    ensures within { result < deques }
+{
+    number_of(piece) % deques
+}
 
 /// Deals the pieces in their order: each goes to the deque of its number modulo the deques.
 pub(crate) fn deal<D: Deal>(owners: &mut Vec<Owner<D>>, pieces: Vec<PodPiece>)
@@ -28,7 +37,7 @@ pub(crate) fn deal<D: Deal>(owners: &mut Vec<Owner<D>>, pieces: Vec<PodPiece>)
     let mut left = pieces;
     left.reverse();
     while let Some(piece) = left.pop() {
-        let to = number_of(&piece) % owners.len();
+        let to = deque_of(&piece, owners.len());
         push(&mut owners[to], piece);
     }
 }

@@ -1,7 +1,7 @@
 //! What is made ready before a piece is dealt.
 
-ghost use Rattle.std.specs.Prelude.{◌≡◌, ◌≤◌, ℕ, [], vec_len, vec_capacity};
-ghost use Rattle.pool_worker.specs.Seats.{taken_by};
+ghost use Rattle.std.specs.Prelude.{◌≡◌, ◌≤◌, ℕ, [], All, vec_len, vec_capacity};
+ghost use Rattle.pool_worker.specs.Seats.{taken_by, IsInOrder};
 
 use crate::bundle::Bundle;
 use piece_deques::{Deal, Owner, Thief};
@@ -16,6 +16,7 @@ pub(crate) struct Lane<D: Deal> {
     pub(crate) reaches: Vec<Reach<D>>,
     pub(crate) done: Vec<PodPiece>,
     pub(crate) late: Vec<PodPiece>,
+    pub ghost in_order: { All IsInOrder thieves.items },
     pub ghost none: { reaches.items ≡ [] },
     pub ghost empty: { done.items ≡ [] },
     pub ghost empty_late: { late.items ≡ [] },

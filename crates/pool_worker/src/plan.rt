@@ -1,13 +1,15 @@
 //! All the memory that dealing a round takes.
 
-ghost use Rattle.std.specs.Prelude.{◌≡◌, ◌≤◌, ◌*◌, ℕ, All, IfOk, map, vec_len};
+ghost use Rattle.std.specs.Prelude.{◌≡◌, ◌≤◌, ◌⊎◌, ℕ, [], All, IfOk, IfErr, IsErr, Ok, map, vec_len, vec_capacity};
 ghost use Rattle.std.specs.List.{sum_by};
 ghost use Rattle.crossbeam_deque.specs.Handles.{worker_deque, stealer_deque};
 ghost use Rattle.observations.specs.Limits.{most_pods};
-ghost use Rattle.piece_deques.specs.Ends.{IsOpen, pushed_weight};
+ghost use Rattle.piece_deques.specs.Ends.{IsOwner, IsOpen, pushed_weight};
+ghost use Rattle.pool_worker.specs.Seats.{IsInOrder};
 ghost use Rattle.pool_worker.specs.Lanes.{IsLane, IsPlan};
 
-use crate::lane::{Lane, Plan};
+use crate::bundle::Bundle;
+use crate::lane::{Desk, Lane, Plan};
 use piece_deques::{Deal, Owner, Thief, open};
 use std::alloc::{AllocError, Global};
 use std::sync::ledger::Ledger;
@@ -32,7 +34,9 @@ fn open_all<D: Deal>(
 
 /// The thieves' end of each deque, in their order.
 fn hire<D: Deal>(alloc: Global, owners: &Vec<Owner<D>>) -> Result<Vec<Thief<D>>, AllocError>
-    ensures { IfOk result (λ thieves. map stealer_deque thieves.items ≡ map worker_deque owners.now.items) }
+    requires { All IsOwner owners.now.items }
+    ensures deques { IfOk result (λ thieves. map stealer_deque thieves.items ≡ map worker_deque owners.now.items) }
+    ensures in_order { IfOk result (λ thieves. All IsInOrder thieves.items) }
 {
     let mut thieves = Vec::with_capacity(alloc, owners.len())?;
     'hired: while thieves.len() < owners.len() {
@@ -47,6 +51,7 @@ fn make_lane<D: Deal>(
     room: usize,
     owners: &Vec<Owner<D>>,
 ) -> Result<Lane<D>, AllocError>
+    requires { All IsOwner owners.now.items }
     ensures { IfOk result (IsLane room (map worker_deque owners.now.items)) }
 {
     let thieves = hire(alloc, owners)?;
@@ -67,6 +72,7 @@ fn make_lanes<D: Deal>(
     room: usize,
     owners: &Vec<Owner<D>>,
 ) -> Result<Vec<Lane<D>>, AllocError>
+    requires { All IsOwner owners.now.items }
     ensures lanes { IfOk result (λ lanes. All (IsLane room (map worker_deque owners.now.items)) lanes.items) }
     ensures len { IfOk result (λ lanes. vec_len lanes ≡ vec_len owners.now) }
 {
@@ -78,7 +84,32 @@ fn make_lanes<D: Deal>(
     Ok(lanes)
 }
 
-/// The deques and the room for a round of so many pieces and workers.
+/// Puts a plan together, which takes no memory: it is refused just where one of its parts was.
+fn assemble<D: Deal, U: Ledger, E: Ledger, O: Ledger>(
+    owners: Vec<Owner<D>>,
+    lanes: Result<Vec<Lane<D>>, AllocError>,
+    desks: Result<Vec<Desk<D>>, AllocError>,
+    bundles: Result<Vec<Bundle<D, U, E, O>>, AllocError>,
+) -> Result<Plan<D, U, E, O>, AllocError>
+    requires lanes { IfOk lanes (λ v. vec_len v ≡ vec_len owners) }
+    requires desks { IfOk desks (λ v. (v.items ≡ []) × (vec_len owners ≤ vec_capacity v)) }
+    requires bundles { IfOk bundles (λ v. (v.items ≡ []) × (vec_len owners ≤ vec_capacity v)) }
+    ensures owners { IfOk result (λ plan. plan.owners ≡ owners) }
+    ensures lanes { IfOk result (λ plan. lanes ≡ Ok plan.lanes) }
+    ensures refused { IfErr result (λ _. IsErr lanes ⊎ (IsErr desks ⊎ IsErr bundles)) }
+{
+    let lanes = lanes?;
+    let desks = desks?;
+    let bundles = bundles?;
+    Ok(Plan {
+        owners,
+        lanes,
+        desks,
+        bundles,
+    })
+}
+
+/// The deques and the room for a round of so many pieces and workers. Each worker has room for all pieces, once each.
 pub fn make_plan<D: Deal, U: Ledger, E: Ledger, O: Ledger>(
     alloc: Global,
     pieces: usize,
@@ -89,14 +120,8 @@ pub fn make_plan<D: Deal, U: Ledger, E: Ledger, O: Ledger>(
     ensures plan { IfOk result (IsPlan pieces) }
 {
     let owners = open_all(alloc, pieces, workers)?;
-    // What a worker pops, what it steals, and what is popped behind it when it has ended.
-    let lanes = make_lanes(alloc, 3 * pieces, &owners)?;
-    let desks = Vec::with_capacity(alloc, workers)?;
-    let bundles = Vec::with_capacity(alloc, workers)?;
-    Ok(Plan {
-        owners,
-        lanes,
-        desks,
-        bundles,
-    })
+    let lanes = make_lanes(alloc, pieces, &owners);
+    let desks = Vec::with_capacity(alloc, workers);
+    let bundles = Vec::with_capacity(alloc, workers);
+    assemble(owners, lanes, desks, bundles)
 }

@@ -23,5 +23,5 @@ pub gather-requires-clause-laid : goal.gather-requires-clause-laid
 gather-requires-clause-laid g c κs within =
     let was = c.lay_out-bundles.result in
     let tags = returned bundle_tag was.items c.as_mut_slice.result.now c.run.new.bundles was.len
-    c.as_mut_slice.ensures.value c.run.ensures (sym was.ok.0) in
+    c.as_mut_slice.ensures.value c.run.ensures.same (sym was.ok.0) in
     still_laid _ c.args.pieces.items _ (map bundle_tag was.items) c.requires.all tags c.lay_out-bundles.ensures.laid

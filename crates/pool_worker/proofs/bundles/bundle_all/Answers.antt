@@ -1,13 +1,15 @@
-use Rattle.std.proofs.Common.{◌≡◌, ◌+◌, ◌*◌, map, length, vec_len, refl, ap, ◌∙◌, arith}
+use Rattle.std.proofs.Common.{◌≡◌, ◌+◌, List, map, length, vec_len, refl, sym, subst, ap, ◌∙◌, arith}
 use Rattle.std.specs.List.{sum_by}
-use Rattle.std.proofs.lemmas.List.Sorted.{All-permutation, sum_by-IsPermutation}
-use Rattle.crossbeam_deque.specs.Handles.{worker_view}
+use Rattle.std.proofs.lemmas.List.{length-map}
+use Rattle.std.proofs.lemmas.List.Sorted.{All-permutation}
+use mathlib.Core.Option.{some}
+use lib.ListN.{get_elem?}
 use Rattle.piece_deques.specs.Ends.{pushed_weight}
-use Rattle.piece_deques.proofs.Lists.{front, last, grown, moved, none_all, ones, sum_grown, to_move}
-use Rattle.pool_worker.specs.Seats.{owner_place}
+use Rattle.piece_deques.proofs.Lists.{front, last, grown, moved, none_all, to_move}
+use Rattle.pool_worker.specs.Seats.{Place, owner_place}
 use Rattle.pool_worker.specs.Bundles.{Tag, bundle_place, bundle_tag, IsLaid}
 use Rattle.pool_worker.specs.Lanes.{IsHost, IsDesk}
-use Rattle.pool_worker.proofs.Places.{row_pushed, owners_pushed}
+use Rattle.pool_worker.proofs.Places.{row_pushed, owners_pushed, stands_next}
 use Rattle.pool_worker.proofs.bundles.bundle_all.Goals as goal
 
 pub loop-owner-init : goal.loop-owner-init
@@ -22,9 +24,6 @@ loop-owner-init g c =
     record {
       hosts = All-permutation (IsHost n) owners.items rev.items c.reverse.ensures.permutation r.hosts;
       desks = r.desks;
-      few = (
-          let s = sum_by-IsPermutation (pushed_weight (λ _. 1)) owners.items rev.items c.reverse.ensures.permutation in
-          omega arith);
       len = omega (arith, r.len, c.reverse.ensures.len);
       all = omega (arith, bundles.ok.0, c.reverse.ensures.len);
       room = r.room;
@@ -47,29 +46,39 @@ bind-bundle-requires-clause-none g c =
     c.in-Some.ensures.items c.loop-owner.invariant.hosts in
     mine.none
 
+pub bind-bundle-requires-clause-own : goal.bind-bundle-requires-clause-own
+bind-bundle-requires-clause-own g c =
+    let owners = c.args.owners in
+    let places = map owner_place owners.items in
+    let l = c.loop-owner in
+    let desk = c.in-Some-pop.desk in
+    let seats = last (IsDesk (sum_by (pushed_weight (λ _. 1)) owners.items) places) l.desks.items
+    c.pop-in-Some.new.self.items desk c.in-Some-pop.ensures.items l.invariant.desks in
+    let many : length (map bundle_place l.bundles.items) ≡ c.len-own.result =
+    length-map l.bundles.items bundle_place ∙ (sym l.bundles.ok.0 ∙ sym c.len-own.ensures) in
+    subst (λ (p : List Place). get_elem? p c.len-own.result ≡ some (owner_place c.in-Some.owner)) (sym seats.seats)
+    (stands_next bundle_place owner_place l.bundles.items l.left.items c.pop.new.self.items c.in-Some.owner places
+    c.len-own.result c.in-Some.ensures.items l.invariant.order many)
+
 pub bind-bundle-requires-clause-room : goal.bind-bundle-requires-clause-room
 bind-bundle-requires-clause-room g c =
     let owners = c.args.owners in
     let places = map owner_place owners.items in
     let l = c.loop-owner in
-    let i = l.invariant in
-    let owner = c.in-Some.owner in
     let desk = c.in-Some-pop.desk in
-    let seats = last (IsDesk (3 * sum_by (pushed_weight (λ _. 1)) owners.items) places) l.desks.items
-    c.pop-in-Some.new.self.items desk c.in-Some-pop.ensures.items i.desks in
-    let s = sum_grown (pushed_weight (λ _. 1)) c.pop.new.self.items l.left.items owner c.in-Some.ensures.items in
-    let o = ones (worker_view owner).pushed in
+    let seats = last (IsDesk (sum_by (pushed_weight (λ _. 1)) owners.items) places) l.desks.items
+    c.pop-in-Some.new.self.items desk c.in-Some-pop.ensures.items l.invariant.desks in
     let a = row_pushed desk.reaches.items places seats.seats in
     let b = owners_pushed owners.items in
     let room = seats.room_is in
-    omega (arith, i.few)
+    omega arith
 
 pub loop-owner-preserved : goal.loop-owner-preserved
 loop-owner-preserved g c =
     let owners = c.args.owners in
     let n = vec_len owners in
     let places = map owner_place owners.items in
-    let room = 3 * sum_by (pushed_weight (λ _. 1)) owners.items in
+    let room = sum_by (pushed_weight (λ _. 1)) owners.items in
     let l = c.loop-owner in
     let i = l.invariant in
     let owner = c.in-Some.owner in
@@ -87,7 +96,6 @@ loop-owner-preserved g c =
     record {
       hosts = front (IsHost n) l.left.items left.items owner pop i.hosts;
       desks = front (IsDesk room places) l.desks.items desks.items desk pop' i.desks;
-      few = (let s = sum_grown (pushed_weight (λ _. 1)) left.items l.left.items owner pop in omega (arith, i.few));
       len = omega (arith, i.len, c.in-Some.ensures.cases, c.in-Some-pop.ensures.cases);
       all = omega (arith, i.all, put.len, c.in-Some.ensures.cases);
       room = omega (arith, i.room, put.capacity);

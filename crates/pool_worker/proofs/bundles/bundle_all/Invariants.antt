@@ -1,4 +1,4 @@
-use Rattle.std.proofs.Common.{◌≡◌, ◌+◌, ◌*◌, ◌<◌, ◌≤◌, ◌++◌, All, map, reverse, vec_len, vec_capacity}
+use Rattle.std.proofs.Common.{◌≡◌, ◌+◌, ◌<◌, ◌≤◌, ◌++◌, All, map, reverse, vec_len, vec_capacity}
 use Rattle.std.specs.List.{sum_by}
 use Rattle.piece_deques.specs.Ends.{pushed_weight}
 use Rattle.pool_worker.specs.Seats.{owner_place}
@@ -9,9 +9,8 @@ use Rattle.pool_worker.proofs.bundles.bundle_all.Given as goal
 abbrev pub invariant-loop-owner : goal.invariant-loop-owner
 invariant-loop-owner g l = record {
   hosts : All (IsHost (vec_len l.fn.owners)) l.left.items;
-  desks : All (IsDesk (3 * sum_by (pushed_weight (λ _. 1)) l.fn.owners.items) (map owner_place l.fn.owners.items))
+  desks : All (IsDesk (sum_by (pushed_weight (λ _. 1)) l.fn.owners.items) (map owner_place l.fn.owners.items))
       l.desks.items;
-  few : sum_by (pushed_weight (λ _. 1)) l.left.items ≤ sum_by (pushed_weight (λ _. 1)) l.fn.owners.items;
   len : vec_len l.desks ≡ vec_len l.left;
   all : vec_len l.bundles + vec_len l.left ≡ vec_len l.fn.owners;
   room : vec_len l.fn.owners ≤ vec_capacity l.bundles;

@@ -1,4 +1,4 @@
-use Rattle.std.proofs.Common.{◌≡◌, ◌*◌, ◌≤◌, List, All, map, length, vec_len, vec_capacity, sym, ◌∙◌, subst, arith}
+use Rattle.std.proofs.Common.{◌≡◌, ◌≤◌, List, All, map, length, vec_len, vec_capacity, sym, ◌∙◌, subst, arith}
 use Rattle.std.specs.List.{sum_by}
 use Rattle.std.proofs.lemmas.List.Elements.{All-weaker}
 use Rattle.crossbeam_deque.specs.Handles.{stealer_deque, worker_deque}
@@ -22,7 +22,7 @@ pub seat_all-requires-clause-lanes : goal.seat_all-requires-clause-lanes
 seat_all-requires-clause-lanes g c =
     let plan = c.args.plan in
     let dealt = c.deal.new.owners.items in
-    All-weaker (IsLane (3 * vec_len c.args.pieces) (map worker_deque plan.owners.items))
+    All-weaker (IsLane (vec_len c.args.pieces) (map worker_deque plan.owners.items))
     (λ lane. map stealer_deque lane.thieves.items ≡ map worker_deque dealt)
     (λ lane h. h.thieves ∙ sym c.deal.ensures.deques) plan.lanes.items c.requires.plan.lanes
 
@@ -30,7 +30,7 @@ pub bundle_all-requires-clause-desks : goal.bundle_all-requires-clause-desks
 bundle_all-requires-clause-desks g c =
     let plan = c.args.plan in
     let n = vec_len c.args.pieces in
-    let room = 3 * n in
+    let room = n in
     let owners = c.seat_all.new.owners.items in
     let dealt = c.deal.new.owners.items in
     let desks = c.seat_all.new.desks.items in
@@ -45,7 +45,7 @@ bundle_all-requires-clause-desks g c =
     let d = c.requires.plan.none (λ _. 1) in
     let e = ones c.args.pieces.items in
     let many : sum_by (pushed_weight (λ _. 1)) owners ≡ n = omega (arith, c.args.pieces.ok.0) in
-    All-weaker (IsDesk room places) (IsDesk (3 * sum_by (pushed_weight (λ _. 1)) owners) places)
+    All-weaker (IsDesk room places) (IsDesk (sum_by (pushed_weight (λ _. 1)) owners) places)
     (λ desk h. record { seats = h.seats; room_is = (let had = h.room_is in omega arith) }) desks here
 
 pub returns-clause-laid : goal.returns-clause-laid

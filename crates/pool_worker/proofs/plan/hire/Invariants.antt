@@ -1,11 +1,13 @@
-use Rattle.std.proofs.Common.{◌≡◌, ◌≤◌, ◌-◌, map, take, vec_len, vec_capacity}
+use Rattle.std.proofs.Common.{◌≡◌, ◌≤◌, ◌-◌, All, map, take, vec_len, vec_capacity}
 use Rattle.crossbeam_deque.specs.Handles.{worker_deque, stealer_deque}
+use Rattle.pool_worker.specs.Seats.{IsInOrder}
 use Rattle.pool_worker.proofs.plan.hire.Given as goal
 
 abbrev pub invariant-hired : goal.invariant-hired
 invariant-hired g l = record {
   room : vec_len l.owners ≤ vec_capacity l.thieves;
   within : vec_len l.thieves ≤ vec_len l.owners;
+  in_order : All IsInOrder l.thieves.items;
   same : map stealer_deque l.thieves.items ≡ take (vec_len l.thieves) (map worker_deque l.owners.items);
 }
 

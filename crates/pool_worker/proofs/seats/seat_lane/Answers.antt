@@ -2,9 +2,9 @@ use Rattle.std.proofs.Common.{◌≡◌, ◌+◌, ◌<◌, map, length, set, tak
 use Rattle.std.specs.List.{sum_by, AllWithin}
 use Rattle.std.proofs.lemmas.List.Sorted.{sum_by-IsPermutation}
 use Rattle.crossbeam_deque.specs.Handles.{view, IsPassOf, worker_deque, stealer_deque, worker_view}
-use Rattle.piece_deques.proofs.Lists.{map_reverse, map_set, below_set, above_set, sum_grown}
+use Rattle.piece_deques.proofs.Lists.{front, last, map_reverse, map_set, below_set, above_set, sum_grown}
 use Rattle.pool_harvest.specs.declared.reach.Reach.{Reach}
-use Rattle.pool_worker.specs.Seats.{owner_place, seat_place}
+use Rattle.pool_worker.specs.Seats.{owner_place, seat_place, IsInOrder}
 use Rattle.pool_worker.proofs.Room.{place_same}
 use Rattle.pool_worker.specs.Lanes.{IsHost, IsRich}
 use Rattle.pool_worker.proofs.Places.{paired, seated}
@@ -22,6 +22,8 @@ invariant_of-push_reserved g c =
     c.index_mut.ensures.value l.thieves.items c.pop.new.self.items c.in-Some.thief c.in-Some.ensures.items
     l.invariant.thieves in
     record {
+      in_order = last IsInOrder l.thieves.items c.pop.new.self.items c.in-Some.thief c.in-Some.ensures.items
+          l.invariant.in_order;
       fits = subst (λ d. IsPassOf d c.new_seat-seat.result) (sym p.1) s.fits;
       one = ap (λ v. v.parts) s.seat;
       few = (let n = ap (λ v. length v.taken) s.seat in omega arith);
@@ -60,6 +62,7 @@ loop-thief-preserved g c =
       room = omega (arith, i.room, put.len, put.capacity, c.len-at.ensures);
       thieves = p.0
           ∙ (ap (take at) (sym deques) ∙ ap (λ k. take k (map worker_deque (set owners at new))) c.len-at.ensures);
+      in_order = front IsInOrder l.thieves.items left.items c.in-Some.thief row i.in_order;
       seats =
           seated seat_place owner_place owners old n at next in' was l.reaches.items c.push_reserved.new.self.items _
           put.items i.seats

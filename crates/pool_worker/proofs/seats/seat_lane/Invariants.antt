@@ -1,7 +1,7 @@
 use Rattle.std.proofs.Common.{◌≡◌, ◌+◌, ◌<◌, ◌≤◌, ℕ, All, map, reverse, take, drop, vec_len, vec_capacity}
 use Rattle.std.specs.List.{AllWithin}
 use Rattle.crossbeam_deque.specs.Handles.{worker_deque, stealer_deque}
-use Rattle.pool_worker.specs.Seats.{owner_place, seat_place, taken_by}
+use Rattle.pool_worker.specs.Seats.{owner_place, seat_place, taken_by, IsInOrder}
 use Rattle.pool_worker.specs.Lanes.{IsHost, IsRich}
 use Rattle.pool_worker.proofs.seats.seat_lane.Given as goal
 
@@ -12,6 +12,7 @@ invariant-loop-thief g l = record {
   within : vec_len l.thieves ≤ vec_len l.owners;
   room : vec_len l.reaches + vec_len l.thieves ≤ vec_capacity l.reaches;
   thieves : map stealer_deque l.thieves.items ≡ take (vec_len l.thieves) (map worker_deque l.owners.items);
+  in_order : All IsInOrder l.thieves.items;
   seats : reverse (map seat_place l.reaches.items) ≡ drop (vec_len l.thieves) (map owner_place l.owners.items);
   fresh : (weight : ℕ → ℕ) → taken_by weight l.reaches.items ≡ 0;
   rich : AllWithin IsRich l.owners.items 0 (vec_len l.thieves);

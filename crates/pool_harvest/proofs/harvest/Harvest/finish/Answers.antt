@@ -1,22 +1,6 @@
-use Rattle.std.proofs.Common.{ap}
-use Rattle.piece_deques.proofs.Lists.{grown}
-use Rattle.pool_harvest.specs.Done.{IsDone}
-use Rattle.pool_harvest.proofs.Numbers.{done_once}
-use Rattle.pool_harvest.proofs.Sums.{sums_more}
+use Rattle.pool_harvest.proofs.Numbers.{done_once, on_ok}
 use Rattle.pool_harvest.proofs.harvest.Harvest.finish.Goals as goal
 
-pub invariant_of-self-clause-right : goal.invariant_of-self-clause-right
-invariant_of-self-clause-right g c =
-    grown (IsDone g.D.Deal.all) _ _ _ c.push_reserved.ensures.items c.args.self.now.right
-    (done_once _ _ _ c.requires.due c.in-Ok.ensures.ok)
-
-pub invariant_of-self-clause-counts : goal.invariant_of-self-clause-counts
-invariant_of-self-clause-counts g c =
-    sums_more _ _ _ c.last_of-entry.result _ _ c.push_reserved.ensures.items
-    (ap (λ s. s.numbers) c.in-Ok-entered.ensures.share) c.last_of-entry.ensures.entry c.last_of-entry.ensures.low
-    c.args.self.now.counts
-
-pub invariant_of-self-in-Err-entered-clause-right_late : goal.invariant_of-self-in-Err-entered-clause-right_late
-invariant_of-self-in-Err-entered-clause-right_late g c =
-    grown (IsDone g.D.Deal.all) _ _ _ c.push_reserved-in-Err-entered.ensures.items c.args.self.now.right_late
-    (done_once _ _ _ c.requires.due c.in-Ok.ensures.ok)
+pub keep-requires-clause-ok : goal.keep-requires-clause-ok
+keep-requires-clause-ok g c =
+    on_ok c.update-updated.result _ _ (done_once g.D.Deal.all _ _ c.requires.due) c.update-updated.ensures.ok

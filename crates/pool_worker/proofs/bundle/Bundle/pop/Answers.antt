@@ -1,8 +1,9 @@
-use Rattle.std.proofs.Common.{arith, vec_capacity, ◌∷◌, [], length, ap, ◌∙◌, length-append}
+use Rattle.std.proofs.Common.{arith, vec_capacity, ◌∷◌, [], length, ap, sym, subst, ◌∙◌, length-append}
 use Rattle.std.specs.List.{sum_by}
 use Rattle.std.proofs.lemmas.List.Sums.{sum_by_push}
-use Rattle.crossbeam_deque.specs.Handles.{worker_view}
-use Rattle.pool_worker.proofs.Room.{no_more, room}
+use Rattle.crossbeam_deque.specs.Handles.{worker_deque, worker_view}
+use Rattle.pool_worker.specs.Seats.{Place, owner_place, IsUnused}
+use Rattle.pool_worker.proofs.Room.{no_more_of_others, place_same, room}
 use Rattle.pool_worker.proofs.bundle.Bundle.pop.Goals as goal
 
 pub finish-requires-clause-room : goal.finish-requires-clause-room
@@ -14,9 +15,9 @@ finish-requires-clause-room g c κs within =
     let same = ap (λ v. length v.pushed) took.grown in
     let few = took.few in
     let n = length-append old.taken (c.in-Some.piece.number ∷ []) in
-    let most = no_more b.reaches.items in
-    let r = room old.taken old.pushed b.reaches.items b.harvest.done.items b.harvest.late.items b.harvest.refused
-    (vec_capacity b.harvest.done) (b.matched (λ _. 1)) (omega arith) (let all = b.room in omega arith) in
+    let most = no_more_of_others (owner_place b.owner) b.own b.reaches.items b.unused in
+    let r = room old.taken b.reaches.items b.harvest.done.items b.harvest.late.items b.harvest.refused
+    (vec_capacity b.harvest.done) (b.matched (λ _. 1)) (let all = b.room in omega arith) in
     omega (arith, b.harvest.done.ok.0, r.0)
 
 pub finish-requires-clause-room_late : goal.finish-requires-clause-room_late
@@ -28,9 +29,9 @@ finish-requires-clause-room_late g c κs within =
     let same = ap (λ v. length v.pushed) took.grown in
     let few = took.few in
     let n = length-append old.taken (c.in-Some.piece.number ∷ []) in
-    let most = no_more b.reaches.items in
-    let r = room old.taken old.pushed b.reaches.items b.harvest.done.items b.harvest.late.items b.harvest.refused
-    (vec_capacity b.harvest.done) (b.matched (λ _. 1)) (omega arith) (let all = b.room in omega arith) in
+    let most = no_more_of_others (owner_place b.owner) b.own b.reaches.items b.unused in
+    let r = room old.taken b.reaches.items b.harvest.done.items b.harvest.late.items b.harvest.refused
+    (vec_capacity b.harvest.done) (b.matched (λ _. 1)) (let all = b.room in omega arith) in
     omega (arith, b.harvest.late.ok.0, b.room_late, r.1)
 
 pub invariant_of-self-2-clause-owns : goal.invariant_of-self-2-clause-owns
@@ -51,11 +52,17 @@ invariant_of-self-2-clause-matched g c = λ weight. (
     let one = sum_by_push weight old.taken c.in-Some.piece.number in
     omega (arith, c.finish.ensures.kept weight, b.matched weight))
 
-pub invariant_of-self-2-clause-room : goal.invariant_of-self-2-clause-room
-invariant_of-self-2-clause-room g c =
+pub invariant_of-self-2-clause-unused : goal.invariant_of-self-2-clause-unused
+invariant_of-self-2-clause-unused g c =
     let b = c.args.self.now in
-    let same = ap (λ v. length v.pushed) c.in-Some.ensures.took.grown in
-    omega (arith, c.finish.ensures.room, b.room)
+    let new = c.pop.new.owner in
+    let pushed = ap (λ v. v.pushed) c.in-Some.ensures.took.grown in
+    let same = place_same (worker_deque new) (worker_deque b.owner) (worker_view new).pushed (worker_view b.owner).pushed
+    c.pop.ensures.same.0 pushed in
+    subst (λ (p : Place). IsUnused p b.own b.reaches.items) (sym same) b.unused
+
+pub invariant_of-self-2-clause-room : goal.invariant_of-self-2-clause-room
+invariant_of-self-2-clause-room g c = omega (arith, c.finish.ensures.room, c.args.self.now.room)
 
 pub invariant_of-self-2-clause-room_late : goal.invariant_of-self-2-clause-room_late
 invariant_of-self-2-clause-room_late g c =

@@ -1,6 +1,7 @@
 use Rattle.std.proofs.Common.{arith, vec_capacity, refl}
 use Rattle.crossbeam_deque.specs.Handles.{worker_view}
-use Rattle.pool_worker.proofs.Room.{room, fewer, pushed_same, seat_tag, took_one}
+use Rattle.pool_worker.specs.Seats.{owner_place}
+use Rattle.pool_worker.proofs.Room.{room, fewer, pushed_same, seat_tag, took_none, took_one, unused_still}
 use Rattle.pool_worker.proofs.bundle.Bundle.steal.Goals as goal
 
 pub returns-in_default-clause-same : goal.returns-in_default-clause-same
@@ -14,9 +15,10 @@ finish-requires-clause-room g c κs within =
     let b = c.args.self.now in
     let old = worker_view b.owner in
     let few = fewer b.reaches.items c.args.from c.index_mut.result.now c.take.new.self (omega (arith, b.reaches.ok.0))
-    c.index_mut.ensures.value c.take.ensures.pushed _ c.in-Some.ensures.taken in
-    let r = room old.taken old.pushed b.reaches.items b.harvest.done.items b.harvest.late.items b.harvest.refused
-    (vec_capacity b.harvest.done) (b.matched (λ _. 1)) (omega (arith, b.few)) (omega (arith, b.room)) in
+    c.index_mut.ensures.value c.take.ensures.pushed _ (owner_place b.owner) b.own c.requires.other
+    c.take.ensures.deque b.unused c.in-Some.ensures.taken in
+    let r = room old.taken b.reaches.items b.harvest.done.items b.harvest.late.items b.harvest.refused
+    (vec_capacity b.harvest.done) (b.matched (λ _. 1)) (omega (arith, b.few, b.room)) in
     omega (arith, b.harvest.done.ok.0, r.0)
 
 pub finish-requires-clause-room_late : goal.finish-requires-clause-room_late
@@ -24,9 +26,10 @@ finish-requires-clause-room_late g c κs within =
     let b = c.args.self.now in
     let old = worker_view b.owner in
     let few = fewer b.reaches.items c.args.from c.index_mut.result.now c.take.new.self (omega (arith, b.reaches.ok.0))
-    c.index_mut.ensures.value c.take.ensures.pushed _ c.in-Some.ensures.taken in
-    let r = room old.taken old.pushed b.reaches.items b.harvest.done.items b.harvest.late.items b.harvest.refused
-    (vec_capacity b.harvest.done) (b.matched (λ _. 1)) (omega (arith, b.few)) (omega (arith, b.room)) in
+    c.index_mut.ensures.value c.take.ensures.pushed _ (owner_place b.owner) b.own c.requires.other
+    c.take.ensures.deque b.unused c.in-Some.ensures.taken in
+    let r = room old.taken b.reaches.items b.harvest.done.items b.harvest.late.items b.harvest.refused
+    (vec_capacity b.harvest.done) (b.matched (λ _. 1)) (omega (arith, b.few, b.room)) in
     omega (arith, b.harvest.late.ok.0, b.room_late, r.1)
 
 pub returns-then-finish-clause-same : goal.returns-then-finish-clause-same
@@ -41,11 +44,39 @@ returns-else-finish-clause-same g c =
     seat_tag b.reaches.items c.args.from c.index_mut.result.now c.take.new.self (omega (arith, b.reaches.ok.0))
     c.index_mut.ensures.value c.take.ensures.pushed b.owner _ _ c.take.ensures.deque c.finish.ensures.parts
 
+pub invariant_of-self-clause-matched : goal.invariant_of-self-clause-matched
+invariant_of-self-clause-matched g c = λ weight. (
+    let b = c.args.self.now in
+    let none = took_none b.reaches.items c.args.from c.index_mut.result.now c.take.new.self
+    (omega (arith, b.reaches.ok.0)) c.index_mut.ensures.value c.take.ensures.pushed weight c.in_default.ensures.none in
+    omega (arith, b.matched weight))
+
+pub invariant_of-self-clause-room : goal.invariant_of-self-clause-room
+invariant_of-self-clause-room g c =
+    let b = c.args.self.now in
+    let same = pushed_same b.reaches.items c.args.from c.index_mut.result.now c.take.new.self
+    (omega (arith, b.reaches.ok.0)) c.index_mut.ensures.value c.take.ensures.pushed in
+    omega (arith, b.room)
+
 pub invariant_of-self-2-clause-owns : goal.invariant_of-self-2-clause-owns
 invariant_of-self-2-clause-owns g c = c.args.self.now.owns
 
 pub invariant_of-self-2-clause-few : goal.invariant_of-self-2-clause-few
 invariant_of-self-2-clause-few g c = c.args.self.now.few
+
+pub invariant_of-self-clause-unused : goal.invariant_of-self-clause-unused
+invariant_of-self-clause-unused g c =
+    let b = c.args.self.now in
+    unused_still b.reaches.items c.args.from c.index_mut.result.now c.take.new.self (omega (arith, b.reaches.ok.0))
+    c.index_mut.ensures.value c.take.ensures.pushed (owner_place b.owner) b.own c.requires.other c.take.ensures.deque
+    b.unused
+
+pub invariant_of-self-2-clause-unused : goal.invariant_of-self-2-clause-unused
+invariant_of-self-2-clause-unused g c =
+    let b = c.args.self.now in
+    unused_still b.reaches.items c.args.from c.index_mut.result.now c.take.new.self (omega (arith, b.reaches.ok.0))
+    c.index_mut.ensures.value c.take.ensures.pushed (owner_place b.owner) b.own c.requires.other c.take.ensures.deque
+    b.unused
 
 pub invariant_of-self-2-clause-matched : goal.invariant_of-self-2-clause-matched
 invariant_of-self-2-clause-matched g c = λ weight. (

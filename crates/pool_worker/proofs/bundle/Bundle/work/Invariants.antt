@@ -1,23 +1,15 @@
-use Rattle.std.proofs.Common.{◌≡◌, None, vec_len}
+use Rattle.std.proofs.Common.{◌≡◌, None, length, vec_len}
+use Rattle.crossbeam_deque.specs.Handles.{worker_view}
+use Rattle.piece_deques.specs.Rule.{FoundEmpty}
+use Rattle.pool_worker.specs.Seats.{FoundAllEmpty}
 use Rattle.pool_worker.specs.Bundles.{bundle_tag}
 use Rattle.pool_worker.proofs.bundle.Bundle.work.Given as goal
 
-abbrev pub invariant-own : goal.invariant-own
-invariant-own g l = record {
+abbrev pub invariant-others : goal.invariant-others
+invariant-others g l = record {
   same : bundle_tag l.self ≡ bundle_tag l.initial.self;
   none : l.self.harvest.refused ≡ None;
-}
-
-abbrev pub invariant-loop-from : goal.invariant-loop-from
-invariant-loop-from g l = record {
-  same : bundle_tag l.self ≡ bundle_tag l.initial.self;
-  none : l.self.harvest.refused ≡ None;
-  count : vec_len l.self.reaches ≡ vec_len l.initial.self.reaches;
-}
-
-abbrev pub invariant-other : goal.invariant-other
-invariant-other g l = record {
-  same : bundle_tag l.self ≡ bundle_tag l.initial.self;
-  none : l.self.harvest.refused ≡ None;
-  count : vec_len l.self.reaches ≡ vec_len l.initial.self.reaches;
+  count : l.from-end ≡ vec_len l.self.reaches;
+  found : FoundEmpty g.D.Deal.all (worker_view l.self.owner);
+  others : FoundAllEmpty g.D.Deal.all l.self.own l.from l.self.reaches.items;
 }
