@@ -1,8 +1,8 @@
-//! The greatest lines, traces and inputs.
+//! The greatest lines, traces, inputs and lists of steps.
 
 use crate::calls::{Call, NOTHING, Written, expect, expect_answer, expect_of, refused};
 use crate::replay_tests::NODE_ALONE;
-use kubelet_replay::{Counted, MemSink, MemSource, RunFault};
+use kubelet_replay::{Counted, MemSink, MemSource, RunFault, StepsFault, read_steps};
 use std::alloc::{AllocError, Global};
 use std::io;
 use std::io::Read;
@@ -138,4 +138,28 @@ fn inputs_may_have_64_mebibytes(rt: HostRuntime) {
         let answer = Call::Played.make(&rt, &mut input, &mut output);
         expect_answer(&rt, Call::Played, answer, output.written(), wanted, b"");
     }
+}
+
+#[test]
+fn steps_files_may_have_100_000_steps(rt: HostRuntime) -> Result<(), Fail> {
+    let mut text = "pop 0\n".repeat(rt.alloc(), 100_000)?;
+    let steps = read_steps(rt.alloc(), text.as_bytes())?;
+    assert_eq!(rt; steps.as_slice().len(), 100_000);
+    // an empty line is no step, and is counted
+    text.push_str("\npop 0")?;
+    let answer = read_steps(rt.alloc(), text.as_bytes());
+    assert_eq!(rt; answer.err(), Some(StepsFault::Line(100_002)));
+    Ok(())
+}
+
+#[test]
+fn steps_files_may_have_one_mebibyte(rt: HostRuntime) -> Result<(), Fail> {
+    let mut text = "\n".repeat(rt.alloc(), 1_048_576)?;
+    let steps = read_steps(rt.alloc(), text.as_bytes())?;
+    assert_eq!(rt; steps.as_slice().len(), 0);
+    // one byte more, which would be a faulty line
+    text.push_str("x")?;
+    let answer = read_steps(rt.alloc(), text.as_bytes());
+    assert_eq!(rt; answer.err(), Some(StepsFault::TooLong));
+    Ok(())
 }

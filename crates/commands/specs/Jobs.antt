@@ -1,5 +1,6 @@
 -- The job that words ask for, by what clap finds in them.
-use Rattle.std.specs.Prelude.{◌≡◌, ◌≢◌, ◌⊎◌, ◌≤◌, ℕ, List, [], Option, Some, None, codes, bytes_eq, if◌then◌else◌}
+use Rattle.std.specs.Prelude.{◌≡◌, ◌≢◌, ◌⊎◌, ◌≤◌, ℕ, List, [], Option, Some, None, Result, Ok, Err, codes, bytes_eq}
+use Rattle.std.specs.Prelude.{if◌then◌else◌}
 use Rattle.std.specs.Str.Parse.{IsNumeral, digits_value, without_leading_plus}
 use Rattle.clap.specs.Words.{Row, Text, fault_of, first_of, one_of, subcommand_of, IsAmong, kind_of}
 use Rattle.clap.specs.declared.error.Error.{Error}
@@ -63,8 +64,23 @@ abbrev pub IsRefusal : Error → UsageFault → Type 0
 IsRefusal error (Refused same) = (same ≡ error) × (kind_of error ≢ kinds.OutOfMemory)
 IsRefusal error OutOfMemory = kind_of error ≡ kinds.OutOfMemory
 
+-- the job is handed on, or clap's error
+abbrev pub IsJobAs : Result Job Error → Result Job UsageFault → Type 0
+IsJobAs (Ok job) (Ok same) = same ≡ job
+IsJobAs (Ok job) (Err fault) = ⊥
+IsJobAs (Err error) (Ok job) = ⊥
+IsJobAs (Err error) (Err fault) = IsRefusal error fault
+
+-- the error has a fault that clap finds in the words, or they ask for no job
+abbrev pub IsFaultIn : List Text → Error → Type 0
+IsFaultIn words error =
+    IsAmong (kind_of error) (fault_of program words) ⊎ ((job : Job) → IsJobOf (subcommand_of program words) job → ⊥)
+
+-- the words ask for no job by this error, but for want of memory
+abbrev pub Refutes : List Text → Error → Type 0
+Refutes words error = kind_of error ≢ kinds.OutOfMemory → IsFaultIn words error
+
 -- the words are refused for a fault that clap finds, or since they ask for no job
 abbrev pub Refuses : List Text → UsageFault → Type 0
-Refuses words (Refused error) =
-    IsAmong (kind_of error) (fault_of program words) ⊎ ((job : Job) → IsJobOf (subcommand_of program words) job → ⊥)
+Refuses words (Refused error) = IsFaultIn words error
 Refuses words OutOfMemory = Unit {0}

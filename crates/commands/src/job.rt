@@ -4,7 +4,7 @@ ghost use Rattle.std.specs.Prelude.{◌≡◌, ◌≤◌, ◌↔◌, ℕ, IsTrue
 ghost use Rattle.clap.specs.Words.{found_of, rows_of, subcommand_rows_of};
 ghost use Rattle.commands.specs.declared.job.Job.{Job};
 ghost use Rattle.commands.specs.Jobs.{HasWorkers, format_asked, format_of, IsJobFor, IsJobOf, IsAskedBy};
-ghost use Rattle.commands.specs.Jobs.{IsRefusal, Refuses};
+ghost use Rattle.commands.specs.Jobs.{IsRefusal, IsJobAs, Refutes, Refuses};
 
 use crate::fault::UsageFault;
 use crate::program::program;
@@ -118,13 +118,38 @@ fn job_in<'a>(matches: &ArgMatches<'a>) -> Option<Job<'a>>
     job_for(name, given)
 }
 
-/// Why clap refused the words.
+/// Why clap refused the words. It takes no memory.
 fn refusal(error: Error) -> UsageFault
     ensures { IsRefusal error result }
 {
     match error.kind() {
         ErrorKind::OutOfMemory => UsageFault::OutOfMemory,
         _ => UsageFault::Refused(error),
+    }
+}
+
+/// The job that was found, or why there is none. It takes no memory.
+fn job_as<'a>(found: Result<Job<'a>, Error>) -> Result<Job<'a>, UsageFault>
+    ensures { IsJobAs found.entry result }
+{
+    match found {
+        Ok(job) => Ok(job),
+        Err(error) => Err(refusal(error)),
+    }
+}
+
+/// The job that the words ask for, or clap's error where they ask for none.
+fn asked_job<'a, S: AsStr>(alloc: Global, words: &'a [S]) -> Result<Job<'a>, Error>
+    ensures ok { IfOk result (IsAskedBy (map S.text words.entry.now)) }
+    ensures err { IfErr result (Refutes (map S.text words.entry.now)) }
+{
+    let matches = program(alloc)?.try_get_matches_from(words)?;
+    match job_in(&matches) {
+        Some(job) => Ok(job),
+        None => Err(program(alloc)?.error(
+            ErrorKind::ValueValidation,
+            "--workers is from 1 to 64",
+        )?),
     }
 }
 
@@ -136,15 +161,5 @@ pub fn job_of<'a, S: AsStr>(alloc: Global, words: &'a [S]) -> Result<Job<'a>, Us
     ensures ok { IfOk result (IsAskedBy (map S.text words.entry.now)) }
     ensures err { IfErr result (Refuses (map S.text words.entry.now)) }
 {
-    let matches = match program(alloc)?.try_get_matches_from(words) {
-        Ok(matches) => matches,
-        Err(error) => return Err(refusal(error)),
-    };
-    match job_in(&matches) {
-        Some(job) => Ok(job),
-        None => Err(UsageFault::Refused(program(alloc)?.error(
-            ErrorKind::ValueValidation,
-            "--workers is from 1 to 64",
-        )?)),
-    }
+    job_as(asked_job(alloc, words))
 }

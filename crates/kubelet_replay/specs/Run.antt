@@ -1,7 +1,7 @@
 -- What a replay writes, and when it refuses.
 use Rattle.std.specs.Prelude.{◌≡◌, ℕ, ◌<◌, ◌≤◌, List, [], ◌∷◌, length, take, codes, Option, Some, None, Result, Ok, Err}
 use Rattle.std.specs.Fmt.{decimal}
-use Rattle.std.specs.Io.KnownBytes.{Appends}
+use Rattle.std.specs.Io.KnownBytes.{Appends, Consumes}
 use Rattle.node_config.specs.declared.node.Format.{Format}
 use Rattle.node_config.specs.declared.node.Format.TheVariants.{Standard}
 use Rattle.replay_stream.specs.declared.fault.ReadAllFault.{ReadAllFault}
@@ -96,6 +96,15 @@ abbrev pub read_fault_of : ReadAllFault → RunFault
 read_fault_of stream.Read = Read
 read_fault_of stream.TooLong = TooLong
 read_fault_of stream.OutOfMemory = OutOfMemory
+
+-- the text that was read, or why there is none
+abbrev pub text_as : {V : Type 0} → Result V ReadAllFault → Result V RunFault
+text_as (Ok text) = Ok text
+text_as (Err fault) = Err (read_fault_of fault)
+
+-- no more of the input was taken than the limit
+abbrev pub TakesWithin : Option (List ℕ) → Option (List ℕ) → Type 0
+TakesWithin old new = (front : List ℕ) × (length front ≤ longest_input) × Consumes old new front
 
 -- the input is refused as it is read
 abbrev pub Refuses : Option (List ℕ) → RunFault → Type 0

@@ -1,10 +1,12 @@
 //! The replay of a trace, from its bytes to the bytes of its report.
 
-ghost use Rattle.std.specs.Prelude.{◌≡◌, ◌+◌, ◌^◌, ◌<◌, ◌≤◌, IfOk, IfErr, OnOk, string_bytes};
+ghost use Rattle.std.specs.Prelude.{◌≡◌, ◌+◌, ◌^◌, ◌<◌, ◌≤◌, IfOk, IfErr, OnOk, IsErrOf, string_bytes};
 ghost use Rattle.event_book.specs.Limits.{most_workers};
 ghost use Rattle.kubelet_replay.specs.Run.{failed_reads, failed_writes, HasRead, IsReportIn, IsReportOfText};
-ghost use Rattle.kubelet_replay.specs.Run.{read_fault_of, RefusesText, Refuses, IsWritten, fault_of, read_as, Writes};
-ghost use Rattle.kubelet_replay.specs.Run.{IsRefusalIn, IsRefusal, IsCheckIn, IsCheckOfText, check_line};
+ghost use Rattle.kubelet_replay.specs.Run.{read_fault_of, text_as, RefusesText, Refuses, IsWritten, fault_of, read_as};
+ghost use Rattle.kubelet_replay.specs.Run.{IsRefusalIn, IsRefusal, IsCheckIn, IsCheckOfText, check_line, Writes};
+ghost use Rattle.kubelet_replay.specs.Run.{TakesWithin};
+ghost use Rattle.kubelet_replay.specs.declared.fault.RunFault.TheVariants.{OutOfMemory};
 
 use crate::fault::RunFault;
 use replay_stream::{ReadAllFault, Sink, Source, read_all, write_all};
@@ -28,16 +30,25 @@ fn read_fault_of(fault: ReadAllFault) -> RunFault
     }
 }
 
+/// The text that was read, or why none was.
+fn text_as(read: Result<Vec<u8>, ReadAllFault>) -> Result<Vec<u8>, RunFault>
+    ensures { result ≡ text_as read }
+{
+    match read {
+        Ok(text) => Ok(text),
+        Err(fault) => Err(read_fault_of(fault)),
+    }
+}
+
 fn read_text<R: Source>(alloc: Global, input: &mut R) -> Result<Vec<u8>, RunFault>
     requires { R.failures input.old < 2 ^ 63 }
     ensures ok { IfOk result (λ text. HasRead (R.left input.old) text.items) }
     ensures err { IfErr result (Refuses (R.left input.old)) }
+    ensures taken { OnOk result (TakesWithin (R.left input.old) (R.left input.new)) }
+    ensures memory { IsErrOf result OutOfMemory → TakesWithin (R.left input.old) (R.left input.new) }
     ensures counted { R.failures input.new ≡ R.failures input.old + failed_reads result }
 {
-    match read_all(alloc, input, LONGEST_INPUT) {
-        Ok(text) => Ok(text),
-        Err(fault) => Err(read_fault_of(fault)),
-    }
+    text_as(read_all(alloc, input, LONGEST_INPUT))
 }
 
 fn fault_of(fault: LineFault) -> RunFault
@@ -153,6 +164,7 @@ pub fn replay<H: AllocGlobal + Threads + Wait + Sync, R: Source, W: Sink, G: Gat
     ensures ok { OnOk result (Writes IsReportOfText (R.left input.old) (W.written output.old) (W.written output.new)) }
     ensures err { IfErr result (IsRefusal IsReportOfText (R.left input.old) (W.written output.old)
         (W.written output.new)) }
+    ensures memory { IsErrOf result OutOfMemory → TakesWithin (R.left input.old) (R.left input.new) }
     ensures reads { R.failures input.new ≡ R.failures input.old + failed_reads result }
     ensures writes { W.failures output.new ≡ W.failures output.old + failed_writes result }
 {
@@ -176,6 +188,7 @@ pub fn replay_in<H: AllocGlobal + Threads + Wait + Sync, R: Source, W: Sink, G: 
         (W.written output.new)) }
     ensures err { IfErr result (IsRefusalIn format (IsReportIn format) (R.left input.old) (W.written output.old)
         (W.written output.new)) }
+    ensures memory { IsErrOf result OutOfMemory → TakesWithin (R.left input.old) (R.left input.new) }
     ensures reads { R.failures input.new ≡ R.failures input.old + failed_reads result }
     ensures writes { W.failures output.new ≡ W.failures output.old + failed_writes result }
 {
@@ -200,6 +213,7 @@ pub fn replay_play<R: Source, W: Sink>(
     ensures ok { OnOk result (Writes IsReportOfText (R.left input.old) (W.written output.old) (W.written output.new)) }
     ensures err { IfErr result (IsRefusal IsReportOfText (R.left input.old) (W.written output.old)
         (W.written output.new)) }
+    ensures memory { IsErrOf result OutOfMemory → TakesWithin (R.left input.old) (R.left input.new) }
     ensures reads { R.failures input.new ≡ R.failures input.old + failed_reads result }
     ensures writes { W.failures output.new ≡ W.failures output.old + failed_writes result }
 {
@@ -223,6 +237,7 @@ pub fn replay_play_in<R: Source, W: Sink>(
         (W.written output.new)) }
     ensures err { IfErr result (IsRefusalIn format (IsReportIn format) (R.left input.old) (W.written output.old)
         (W.written output.new)) }
+    ensures memory { IsErrOf result OutOfMemory → TakesWithin (R.left input.old) (R.left input.new) }
     ensures reads { R.failures input.new ≡ R.failures input.old + failed_reads result }
     ensures writes { W.failures output.new ≡ W.failures output.old + failed_writes result }
 {
@@ -243,6 +258,7 @@ pub fn check<R: Source, W: Sink>(
     ensures ok { OnOk result (Writes IsCheckOfText (R.left input.old) (W.written output.old) (W.written output.new)) }
     ensures err { IfErr result (IsRefusal IsCheckOfText (R.left input.old) (W.written output.old)
         (W.written output.new)) }
+    ensures memory { IsErrOf result OutOfMemory → TakesWithin (R.left input.old) (R.left input.new) }
     ensures reads { R.failures input.new ≡ R.failures input.old + failed_reads result }
     ensures writes { W.failures output.new ≡ W.failures output.old + failed_writes result }
 {
@@ -262,6 +278,7 @@ pub fn check_in<R: Source, W: Sink>(
         (W.written output.new)) }
     ensures err { IfErr result (IsRefusalIn format (IsCheckIn format) (R.left input.old) (W.written output.old)
         (W.written output.new)) }
+    ensures memory { IsErrOf result OutOfMemory → TakesWithin (R.left input.old) (R.left input.new) }
     ensures reads { R.failures input.new ≡ R.failures input.old + failed_reads result }
     ensures writes { W.failures output.new ≡ W.failures output.old + failed_writes result }
 {

@@ -1,6 +1,6 @@
 //! The report of a trace.
 
-ghost use Rattle.std.specs.Prelude.{◌≡◌, ◌<◌, ◌≤◌, List, IfOk, OnOk, string_bytes};
+ghost use Rattle.std.specs.Prelude.{◌≡◌, ◌≢◌, ◌<◌, ◌≤◌, List, None, IfOk, OnOk, string_bytes};
 ghost use Rattle.manifest.specs.declared.pod.PodSpec.{PodSpec};
 ghost use Rattle.node_config.specs.declared.node.NodeConfig.{NodeConfig};
 ghost use Rattle.observations.specs.declared.tick.TickObs.{TickObs};
@@ -47,27 +47,29 @@ impl Blanks {
     }
 }
 
-/// The report of a node.
+/// The report of a node that is not halted. An `Err` says that memory was refused.
 fn report_of<U: Ledger, E: Ledger, O: Ledger>(
     alloc: Global,
     node: &Node<U, E, O>,
 ) -> Result<String, AllocError>
+    requires { node.now ≢ None }
     ensures { (config : NodeConfig) (pods : List PodSpec) (ticks : List TickObs) → IsAfter config pods ticks node.now
         → IfOk result (λ s. IsReport config ticks pods (string_bytes s)) }
 {
     let Ok(summary) = node.summary() else {
-        return Err(AllocError);
+        unreachable!();
     };
     let report = report_text(alloc, &summary)?;
     Ok(report)
 }
 
-/// The report of a node, where it has taken all its ticks.
+/// The report of a node, where it has taken all its ticks. An `Err` says that memory was refused.
 fn report_after<U: Ledger, E: Ledger, O: Ledger>(
     alloc: Global,
     taken: Result<(), TickFault>,
     node: &Node<U, E, O>,
 ) -> Result<String, AllocError>
+    requires running { OnOk taken (node.now ≢ None) }
     ensures { (config : NodeConfig) (pods : List PodSpec) (ticks : List TickObs)
         → OnOk taken (IsAfter config pods ticks node.now)
         → IfOk result (λ s. IsReport config ticks pods (string_bytes s)) }
