@@ -1,2 +1,4 @@
+pub mod Borrowed
 pub mod Fields
 pub mod Reading
+pub mod Strangers

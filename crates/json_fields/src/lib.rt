@@ -1,7 +1,11 @@
-//! Fields of JSON objects, and the words in which a reader's answer is compared with the definition
-//! of what it reads.
+//! Reading fields of JSON objects step by step, where the first fault is the answer, whichever reader has made them.
 #![tactic(auto)]
 
+mod borrowed;
 mod fields;
+mod owned;
+mod value;
 
+pub use borrowed::is_plain;
 pub use fields::{field, text_at};
+pub use value::{HasData, Json, Names};

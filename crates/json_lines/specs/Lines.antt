@@ -1,10 +1,13 @@
 -- The lines of a text, and what each says by itself.
 use Rattle.std.specs.Prelude.{ℕ, ◌==◌, ◌||◌, Bool, List, [], ◌∷◌, length, nat_lt, Option, Some, None, Result}
+use Rattle.std.specs.Prelude.{option_and_then}
 use Rattle.std.specs.Prelude.{if◌then◌else◌}
 use Rattle.std.specs.List.{list_all}
 use Rattle.std.specs.Str.{is_utf8}
+use Rattle.json.specs.Json.{Json as JsonTree, value, if_last}
+use Rattle.json.specs.Lex.{tokens}
 use Rattle.serde_json.specs.Data.{Data}
-use Rattle.serde_json.specs.Read.{read}
+use Rattle.serde_json.specs.Read.{read, max_depth}
 use Rattle.serde_json.specs.View.{view}
 use Rattle.tick_lines.specs.declared.fault.TickLineFault.{TickLineFault}
 use Rattle.tick_lines.specs.declared.line.TickLine.{TickLine}
@@ -37,6 +40,10 @@ is_blank l = list_all is_blank_byte l
 unfoldable pub json_in : List ℕ → Option Data
 json_in line = if is_utf8 line then read line else None
 
+-- the one value of a text that `json` reads, as deep as serde_json reads
+abbrev pub line_value : List ℕ → Option JsonTree
+line_value text = option_and_then (λ p. if_last p.0 p.1) (value max_depth (tokens text))
+
 -- what a line says by itself
 pub data LineData : Type 0 where
   Blank : LineData
@@ -54,10 +61,14 @@ abbrev pub said_or_not : Option Data → LineData
 said_or_not None = NotJson
 said_or_not (Some d) = said_by d
 
+-- what a line says, other than blanks, that is not too long
+abbrev pub said_in : List ℕ → LineData
+said_in line = said_or_not (json_in line)
+
 abbrev pub line_data : List ℕ → LineData
 line_data line =
     if is_blank line then Blank
-    else (if nat_lt longest_line (length line) then TooLong else said_or_not (json_in line))
+    else (if nat_lt longest_line (length line) then TooLong else said_in line)
 
 abbrev pub data_of : TextLine → LineData
 data_of text_lines.Blank = Blank

@@ -4,6 +4,7 @@
 mod line;
 mod lines;
 mod parts;
+mod plain;
 mod tick;
 mod window;
 

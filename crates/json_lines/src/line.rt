@@ -1,12 +1,15 @@
 //! What a line says by itself.
 
-ghost use Rattle.std.specs.Prelude.{◌≡◌, IfOk, map, option_map};
+ghost use Rattle.std.specs.Prelude.{◌≡◌, IfOk, OnOk, OnErr, map, option_map};
+ghost use Rattle.serde_json.specs.Errors.{IsMemory};
 ghost use Rattle.serde_json.specs.View.{view};
-ghost use Rattle.json_lines.specs.Lines.{json_in, said_by, line_data, data_of};
+ghost use Rattle.json_lines.specs.Lines.{json_in, said_by, said_in, line_data, data_of};
 
 use crate::lines::is_blank;
+use crate::plain::plain_tick;
 use crate::tick::{TickRecord, is_tick, tick_record};
-use serde_json::Value;
+use json::Scratch;
+use serde_json::{Error, Value};
 use std::alloc::{AllocError, Global};
 
 /// The most bytes of a line, 1 MiB.
@@ -27,6 +30,17 @@ pub enum TextLine {
     Json(Value),
 }
 
+/// Goes on where the line is no JSON; `Err` where memory was refused, and nowhere else.
+fn refused_memory(error: &Error) -> Result<(), AllocError>
+    ensures refused { OnErr result (IsMemory error.now) }
+    ensures not_json { OnOk result (¬ IsMemory error.now) }
+{
+    if error.is_memory() {
+        return Err(AllocError);
+    }
+    Ok(())
+}
+
 /// The JSON value of a line, if it has one.
 fn json(alloc: Global, line: &[u8]) -> Result<Option<Value>, AllocError>
     ensures { IfOk result (λ found. option_map view found ≡ json_in line.now) }
@@ -34,11 +48,8 @@ fn json(alloc: Global, line: &[u8]) -> Result<Option<Value>, AllocError>
     match Value::from_slice(alloc, line) {
         Ok(value) => Ok(Some(value)),
         Err(error) => {
-            if error.is_memory() {
-                Err(AllocError)
-            } else {
-                Ok(None)
-            }
+            refused_memory(&error)?;
+            Ok(None)
         }
     }
 }
@@ -56,7 +67,20 @@ fn said_by(alloc: Global, value: Value) -> Result<TextLine, AllocError>
     Ok(TextLine::Tick(tick?))
 }
 
-fn read_line(alloc: Global, line: &[u8]) -> Result<TextLine, AllocError>
+/// What a line says, other than blanks, that is not too long.
+fn said_in(alloc: Global, line: &[u8], scratch: &mut Scratch) -> Result<TextLine, AllocError>
+    ensures { IfOk result (λ read. data_of read ≡ said_in line.now) }
+{
+    if let Some(tick) = plain_tick(alloc, line, scratch)? {
+        return Ok(TextLine::Tick(tick));
+    }
+    match json(alloc, line)? {
+        Some(value) => said_by(alloc, value),
+        None => Ok(TextLine::NotJson),
+    }
+}
+
+fn read_line(alloc: Global, line: &[u8], scratch: &mut Scratch) -> Result<TextLine, AllocError>
     ensures { IfOk result (λ read. data_of read ≡ line_data line.now) }
 {
     if is_blank(line) {
@@ -65,19 +89,17 @@ fn read_line(alloc: Global, line: &[u8]) -> Result<TextLine, AllocError>
     if line.len() > LONGEST_LINE {
         return Ok(TextLine::TooLong);
     }
-    match json(alloc, line)? {
-        Some(value) => said_by(alloc, value),
-        None => Ok(TextLine::NotJson),
-    }
+    said_in(alloc, line, scratch)
 }
 
 /// What each line says, in their order.
 pub(crate) fn read_each(alloc: Global, lines: &[&[u8]]) -> Result<Vec<TextLine>, AllocError>
     ensures { IfOk result (λ reads. map data_of reads.items ≡ map (λ line. line_data line.now) lines.now) }
 {
+    let mut scratch = Scratch::new(alloc);
     let mut reads = Vec::with_capacity(alloc, lines.len())?;
     for line in lines {
-        reads.push(read_line(alloc, line)?)?;
+        reads.push(read_line(alloc, line, &mut scratch)?)?;
     }
     Ok(reads)
 }

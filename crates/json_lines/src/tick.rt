@@ -1,12 +1,10 @@
 //! A tick line, read by itself.
 
 ghost use Rattle.std.specs.Prelude.{◌≡◌, IfOk, option_map};
-ghost use Rattle.serde_json.specs.View.{view};
 ghost use Rattle.tick_lines.specs.Line.{tick_line_of};
 ghost use Rattle.json_lines.specs.Ticks.{is_tick, moment_written, moment_at};
 
-use json_fields::{field, text_at};
-use serde_json::Value;
+use json_fields::{Json, field, text_at};
 use std::alloc::{AllocError, Global};
 use tick_lines::{TickLine, TickLineFault, tick_line_of};
 
@@ -20,23 +18,23 @@ pub struct TickRecord {
 }
 
 /// Whether a JSON value says that it is a tick.
-pub(crate) fn is_tick(line: &Value) -> bool
-    ensures { result ≡ is_tick (view line.now) }
+pub(crate) fn is_tick<V: Json>(line: &V) -> bool
+    ensures { result ≡ is_tick (V.data line.now) }
 {
     text_at(line, "kind") == Some("tick")
 }
 
 /// The whole number that is found.
-fn moment_written(found: Option<&Value>) -> Option<u64>
-    ensures { result ≡ moment_written (option_map (λ v. view v.now) found.entry) }
+fn moment_written<V: Json>(found: Option<&V>) -> Option<u64>
+    ensures { result ≡ moment_written (option_map (λ v. V.data v.now) found.entry) }
 {
-    found?.as_u64()
+    found?.unsigned()
 }
 
 /// Reads a tick line.
-pub fn tick_record(alloc: Global, line: &Value) -> Result<TickRecord, AllocError>
-    ensures at { IfOk result (λ tick. tick.at ≡ moment_at (view line.now)) }
-    ensures written { IfOk result (λ tick. tick.written ≡ tick_line_of (view line.now)) }
+pub fn tick_record<V: Json>(alloc: Global, line: &V) -> Result<TickRecord, AllocError>
+    ensures at { IfOk result (λ tick. tick.at ≡ moment_at (V.data line.now)) }
+    ensures written { IfOk result (λ tick. tick.written ≡ tick_line_of (V.data line.now)) }
 {
     let at = moment_written(field(line, "at"));
     match tick_line_of(alloc, line) {

@@ -1,13 +1,12 @@
 //! Limits and reclaims, as a map writes them of one signal.
 
 ghost use Rattle.std.specs.Prelude.{◌≡◌, option_map};
-ghost use Rattle.serde_json.specs.View.{view};
 ghost use Rattle.node_lines.specs.Limits.{is_off, with_capacity, limit_at, reclaim_at};
 
 use crate::fault::NodeFault;
+use json_fields::Json;
 use quantity::{Limit, Quantity};
 use quantity_fields::limit_in;
-use serde_json::Value;
 
 /// Whether a limit switches its threshold off, as the percentages 0 and 100 do.
 fn is_off(limit: Limit) -> bool
@@ -29,11 +28,11 @@ fn with_capacity(capacity: Option<Quantity>, limit: Limit) -> Result<Limit, Node
 }
 
 /// The limit of a threshold on a signal of this capacity, if one is set.
-pub(crate) fn limit_at(
+pub(crate) fn limit_at<V: Json>(
     capacity: Option<Quantity>,
-    found: Option<&Value>,
+    found: Option<&V>,
 ) -> Result<Option<Limit>, NodeFault>
-    ensures { result ≡ limit_at capacity (option_map (λ v. view v.now) found.entry) }
+    ensures { result ≡ limit_at capacity (option_map (λ v. V.data v.now) found.entry) }
 {
     let Some(value) = found else {
         return Ok(None);
@@ -46,11 +45,11 @@ pub(crate) fn limit_at(
 }
 
 /// The reclaim on a signal of this capacity: 0 where none is written.
-pub(crate) fn reclaim_at(
+pub(crate) fn reclaim_at<V: Json>(
     capacity: Option<Quantity>,
-    found: Option<&Value>,
+    found: Option<&V>,
 ) -> Result<Limit, NodeFault>
-    ensures { result ≡ reclaim_at capacity (option_map (λ v. view v.now) found.entry) }
+    ensures { result ≡ reclaim_at capacity (option_map (λ v. V.data v.now) found.entry) }
 {
     match found {
         None => Ok(Limit::Quantity(Quantity::from_units(0))),

@@ -7,14 +7,15 @@ ghost use Rattle.node_lines.specs.Maps.{map_of, quantity_at, duration_at};
 
 use crate::fault::NodeFault;
 use crate::limits::{limit_at, reclaim_at};
+use json_fields::Json;
 use quantity::{Limit, Quantity, seconds_of};
 use quantity_fields::quantity_in;
 use serde_json::Value;
 use signal_maps::{ReadSignal, Scope, read_map};
 use signals::{BySignal, Signal};
 
-fn quantity_at(found: Option<&Value>) -> Result<Option<Quantity>, NodeFault>
-    ensures { result ≡ quantity_at (option_map (λ v. view v.now) found.entry) }
+fn quantity_at<V: Json>(found: Option<&V>) -> Result<Option<Quantity>, NodeFault>
+    ensures { result ≡ quantity_at (option_map (λ v. V.data v.now) found.entry) }
 {
     match found {
         None => Ok(None),
@@ -23,13 +24,13 @@ fn quantity_at(found: Option<&Value>) -> Result<Option<Quantity>, NodeFault>
 }
 
 /// A duration that may be left out, in seconds.
-pub(crate) fn duration_at(found: Option<&Value>) -> Result<Option<u64>, NodeFault>
-    ensures { result ≡ duration_at (option_map (λ v. view v.now) found.entry) }
+pub(crate) fn duration_at<V: Json>(found: Option<&V>) -> Result<Option<u64>, NodeFault>
+    ensures { result ≡ duration_at (option_map (λ v. V.data v.now) found.entry) }
 {
     let Some(value) = found else {
         return Ok(None);
     };
-    match value.as_str() {
+    match value.text() {
         Some(text) => Ok(Some(seconds_of(text.as_bytes())?)),
         None => Err(NodeFault::Config),
     }
@@ -46,7 +47,11 @@ impl ReadSignal for QuantityMap {
 
     ghost read_of = { λ reader signal found. quantity_at found };
 
-    fn read(&self, _signal: Signal, found: Option<&Value>) -> Result<Option<Quantity>, NodeFault> {
+    fn read<V: Json>(
+        &self,
+        _signal: Signal,
+        found: Option<&V>,
+    ) -> Result<Option<Quantity>, NodeFault> {
         quantity_at(found)
     }
 }
@@ -62,7 +67,7 @@ impl ReadSignal for DurationMap {
 
     ghost read_of = { λ reader signal found. duration_at found };
 
-    fn read(&self, _signal: Signal, found: Option<&Value>) -> Result<Option<u64>, NodeFault> {
+    fn read<V: Json>(&self, _signal: Signal, found: Option<&V>) -> Result<Option<u64>, NodeFault> {
         duration_at(found)
     }
 }
@@ -83,7 +88,7 @@ impl ReadSignal for LimitMap {
 
     ghost read_of = { λ reader signal found. limit_at (of reader.capacity signal) found };
 
-    fn read(&self, signal: Signal, found: Option<&Value>) -> Result<Option<Limit>, NodeFault> {
+    fn read<V: Json>(&self, signal: Signal, found: Option<&V>) -> Result<Option<Limit>, NodeFault> {
         limit_at(self.capacity.of(signal), found)
     }
 }
@@ -104,7 +109,7 @@ impl ReadSignal for ReclaimMap {
 
     ghost read_of = { λ reader signal found. reclaim_at (of reader.capacity signal) found };
 
-    fn read(&self, signal: Signal, found: Option<&Value>) -> Result<Limit, NodeFault> {
+    fn read<V: Json>(&self, signal: Signal, found: Option<&V>) -> Result<Limit, NodeFault> {
         reclaim_at(self.capacity.of(signal), found)
     }
 }

@@ -1,20 +1,19 @@
 //! Reading a quantity or a limit.
 
 ghost use Rattle.std.specs.Prelude.{◌≡◌};
-ghost use Rattle.serde_json.specs.View.{view};
 ghost use Rattle.quantity_fields.specs.Fields.{quantity_in, limit_in, units_in};
 
 use crate::fault::FieldFault;
+use json_fields::Json;
 use quantity::{Limit, Quantity, QuantityFault};
-use serde_json::Value;
 
 /// The quantity that a value holds: a text of one, or a whole number of units, from 0 to 2^64 - 1,
 /// and the greatest quantity where that is more. A negative whole number has the fault `Negative`.
 /// (Kubernetes, "Quantity" of the resource pages.)
-pub fn quantity_in(value: &Value) -> Result<Quantity, FieldFault>
-    ensures { result ≡ quantity_in (view value.now) }
+pub fn quantity_in<V: Json>(value: &V) -> Result<Quantity, FieldFault>
+    ensures { result ≡ quantity_in (V.data value.now) }
 {
-    match value.as_str() {
+    match value.text() {
         Some(text) => Ok(Quantity::parse(text.as_bytes())?),
         None => units_in(value),
     }
@@ -22,21 +21,21 @@ pub fn quantity_in(value: &Value) -> Result<Quantity, FieldFault>
 
 /// The limit that a value holds: a text that ends with `%` is a percentage, and any other value a
 /// quantity. (Kubernetes, "Node-pressure Eviction", "Eviction thresholds".)
-pub fn limit_in(value: &Value) -> Result<Limit, FieldFault>
-    ensures { result ≡ limit_in (view value.now) }
+pub fn limit_in<V: Json>(value: &V) -> Result<Limit, FieldFault>
+    ensures { result ≡ limit_in (V.data value.now) }
 {
-    match value.as_str() {
+    match value.text() {
         Some(text) => Ok(Limit::parse(text.as_bytes())?),
         None => Ok(Limit::Quantity(units_in(value)?)),
     }
 }
 
-fn units_in(value: &Value) -> Result<Quantity, FieldFault>
-    ensures { result ≡ units_in (view value.now) }
+fn units_in<V: Json>(value: &V) -> Result<Quantity, FieldFault>
+    ensures { result ≡ units_in (V.data value.now) }
 {
-    match value.as_u64() {
+    match value.unsigned() {
         Some(units) => Ok(Quantity::from_units(units)),
-        None if value.is_i64() => Err(FieldFault::Faulty(QuantityFault::Negative)),
+        None if value.signed().is_some() => Err(FieldFault::Faulty(QuantityFault::Negative)),
         None => Err(FieldFault::WrongKind),
     }
 }

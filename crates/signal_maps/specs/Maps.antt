@@ -5,6 +5,7 @@ use Rattle.std.specs.Prelude.{Result, Ok}
 use Rattle.serde_json.specs.Data.{Data, Members, no_members, member}
 use Rattle.serde_json.specs.Find.{as_null, as_object}
 use Rattle.json_fields.specs.Fields.{field_at}
+use Rattle.json_fields.specs.Strangers.{has_stranger as has_other}
 use Rattle.json_fields.specs.Reading.{◌>>=◌, refused_if}
 use Rattle.signals.specs.declared.by_signal.BySignal.{BySignal}
 use Rattle.signals.specs.declared.signal.Signal.{Signal}
@@ -27,12 +28,8 @@ abbrev pub may_name : Scope → List ℕ → Bool
 may_name scope name = includes_named scope (named name)
 
 -- another name, beside a value other than null
-abbrev pub is_stranger : Scope → List ℕ → Data → Bool
-is_stranger scope name d = not (is_some (as_null d)) && not (may_name scope name)
-
 abbrev pub has_stranger : Scope → Members → Bool
-has_stranger scope no_members = false
-has_stranger scope (member name d members) = is_stranger scope name d || has_stranger scope members
+has_stranger scope members = has_other (may_name scope) members
 
 abbrev pub are_signals : Scope → Option Members → Bool
 are_signals scope None = false

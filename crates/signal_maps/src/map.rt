@@ -1,48 +1,25 @@
 //! Reading a map from signals.
 
 ghost use Rattle.std.specs.Prelude.{◌≡◌, option_map};
-ghost use Rattle.serde_json.specs.View.{view, members_view};
-ghost use Rattle.signal_maps.specs.Maps.{is_stranger, has_stranger, is_signal_map, in_map, read_in, read_map};
+ghost use Rattle.signal_maps.specs.Maps.{is_signal_map, in_map, read_in, read_map};
 
-use crate::scope::{Scope, may_name};
-use json_fields::field;
-use serde_json::{Map, Value};
+use crate::scope::Scope;
+use json_fields::{Json, field};
 use signals::{BySignal, Signal};
 
-fn is_stranger(scope: Scope, name: &str, value: &Value) -> bool
-    ensures { result ≡ is_stranger scope name.now (view value.now) }
-{
-    !value.is_null() && !may_name(scope, name)
-}
-
-/// Whether a name that the map may not have stands beside a value other than null.
-fn has_stranger(scope: Scope, members: &Map<String, Value>) -> bool
-    ensures { result ≡ has_stranger scope (members_view members.now.entries) }
-{
-    for (name, value) in members.iter() {
-        if is_stranger(scope, name.as_str(), value) {
-            return true;
-        }
-    }
-    false
-}
-
 /// Whether this is a map from signals of the scope, which may be left out.
-fn is_signal_map(scope: Scope, found: Option<&Value>) -> bool
-    ensures { result ≡ is_signal_map scope (option_map (λ v. view v.now) found.entry) }
+fn is_signal_map<V: Json>(scope: Scope, found: Option<&V>) -> bool
+    ensures { result ≡ is_signal_map scope (option_map (λ v. V.data v.now) found.entry) }
 {
-    let Some(value) = found else {
-        return true;
-    };
-    match value.as_object() {
-        Some(members) => !has_stranger(scope, members),
-        None => false,
+    match found {
+        None => true,
+        Some(value) => value.is_object() && !value.has_stranger(&scope),
     }
 }
 
 /// What a map has of a signal.
-fn in_map(found: Option<&Value>, signal: Signal) -> Option<&Value>
-    ensures { option_map (λ v. view v.now) result ≡ in_map (option_map (λ v. view v.now) found.entry) signal }
+fn in_map<V: Json>(found: Option<&V>, signal: Signal) -> Option<&V>
+    ensures { option_map (λ v. V.data v.now) result ≡ in_map (option_map (λ v. V.data v.now) found.entry) signal }
 {
     field(found?, signal.name())
 }
@@ -51,7 +28,6 @@ fn in_map(found: Option<&Value>, signal: Signal) -> Option<&Value>
 pub trait ReadSignal {
     ghost use Rattle.std.specs.Prelude.{◌≡◌, Option, Result, option_map};
     ghost use Rattle.serde_json.specs.Data.{Data};
-    ghost use Rattle.serde_json.specs.View.{view};
     ghost use Rattle.signals.specs.declared.signal.Signal.{Signal};
 
     type Read: Copy;
@@ -62,13 +38,16 @@ pub trait ReadSignal {
     ghost read_of: { Self → Signal → Option Data → Result Self.Read Self.Fault };
 
     /// Reads the value of the signal, or what it means that there is none.
-    fn read(&self, signal: Signal, found: Option<&Value>) -> Result<Self::Read, Self::Fault>
-        ensures { result ≡ read_of self.now signal (option_map (λ v. view v.now) found.entry) };
+    fn read<V: Json>(&self, signal: Signal, found: Option<&V>) -> Result<Self::Read, Self::Fault>
+        ensures { result ≡ read_of self.now signal (option_map (λ v. V.data v.now) found.entry) };
 }
 
 #[tactic(auto, unfolding(crate::specs::Maps::read_each))]
-fn read_in<R: ReadSignal>(reader: &R, found: Option<&Value>) -> Result<BySignal<R::Read>, R::Fault>
-    ensures { result ≡ read_in (R.read_of reader.now) (option_map (λ v. view v.now) found.entry) }
+fn read_in<R: ReadSignal, V: Json>(
+    reader: &R,
+    found: Option<&V>,
+) -> Result<BySignal<R::Read>, R::Fault>
+    ensures { result ≡ read_in (R.read_of reader.now) (option_map (λ v. V.data v.now) found.entry) }
 {
     let memory_available = reader.read(
         Signal::MemoryAvailable,
@@ -106,13 +85,13 @@ fn read_in<R: ReadSignal>(reader: &R, found: Option<&Value>) -> Result<BySignal<
 /// other than null; otherwise the first one that the reader answers, in the order of the signals.
 /// (Kubernetes, "Kubelet Configuration": `evictionHard` and the like.)
 #[tactic(auto, unfolding(crate::specs::Maps::read_map))]
-pub fn read_map<R: ReadSignal>(
+pub fn read_map<R: ReadSignal, V: Json>(
     scope: Scope,
     fault: R::Fault,
     reader: &R,
-    found: Option<&Value>,
+    found: Option<&V>,
 ) -> Result<BySignal<R::Read>, R::Fault>
-    ensures { result ≡ read_map scope fault (R.read_of reader.now) (option_map (λ v. view v.now) found.entry) }
+    ensures { result ≡ read_map scope fault (R.read_of reader.now) (option_map (λ v. V.data v.now) found.entry) }
 {
     if !is_signal_map(scope, found) {
         return Err(fault);

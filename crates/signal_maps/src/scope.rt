@@ -1,8 +1,9 @@
 //! The signals that a map may name.
 
 ghost use Rattle.std.specs.Prelude.{◌≡◌};
-ghost use Rattle.signal_maps.specs.Maps.{includes, may_name};
+ghost use Rattle.signal_maps.specs.Maps.{includes};
 
+use json_fields::Names;
 use signals::Signal;
 
 /// The signals that a map may name.
@@ -23,11 +24,15 @@ fn includes(scope: Scope, signal: Signal) -> bool
     }
 }
 
-pub(crate) fn may_name(scope: Scope, name: &str) -> bool
-    ensures { result ≡ may_name scope name.now }
-{
-    match Signal::named(name) {
-        None => false,
-        Some(signal) => includes(scope, signal),
+impl Names for Scope {
+    ghost use Rattle.signal_maps.specs.Maps.{may_name};
+
+    ghost includes = { may_name };
+
+    fn includes(&self, name: &str) -> bool {
+        match Signal::named(name) {
+            None => false,
+            Some(signal) => includes(*self, signal),
+        }
     }
 }

@@ -1,7 +1,6 @@
 //! The entries of a tick line, as they are written.
 
 ghost use Rattle.std.specs.Prelude.{◌≡◌, map, option_map};
-ghost use Rattle.serde_json.specs.View.{view};
 ghost use Rattle.json_fields.specs.Reading.{each};
 ghost use Rattle.tick_lines.specs.Gives.{Gives};
 ghost use Rattle.tick_lines.specs.Entries.{entry_of, with_entry, entries_of};
@@ -11,11 +10,10 @@ use crate::fields::{items_of, text_of};
 use crate::listing::{Listing, listings_of};
 use crate::probing::{ProbeResult, results_of};
 use crate::usage::usage_of;
-use json_fields::{field, text_at};
+use json_fields::{Json, field, text_at};
 use manifest::Text;
 use observations::Usage;
 use sequence::Sequence;
-use serde_json::Value;
 use std::alloc::Global;
 
 /// A pod's entry.
@@ -32,8 +30,8 @@ pub struct Entry {
 }
 
 #[tactic(auto, unfolding(crate::specs::Entries::entry_of))]
-fn entry_of(alloc: Global, value: &Value) -> Result<Entry, TickLineFault>
-    ensures { Gives (λ e. e) result (entry_of (view value.now)) }
+fn entry_of<V: Json>(alloc: Global, value: &V) -> Result<Entry, TickLineFault>
+    ensures { Gives (λ e. e) result (entry_of (V.data value.now)) }
 {
     let key = text_of(alloc, text_at(value, "pod"))?;
     let listings = listings_of(alloc, field(value, "containers"))?;
@@ -47,20 +45,20 @@ fn entry_of(alloc: Global, value: &Value) -> Result<Entry, TickLineFault>
     })
 }
 
-fn with_entry(
+fn with_entry<V: Json>(
     alloc: Global,
     mut all: Vec<Entry>,
-    value: &Value,
+    value: &V,
 ) -> Result<Vec<Entry>, TickLineFault>
-    ensures { Gives (λ v. v.items) result (with_entry all.items (view value.now)) }
+    ensures { Gives (λ v. v.items) result (with_entry all.items (V.data value.now)) }
 {
     let entry = entry_of(alloc, value)?;
     all.push(entry)?;
     Ok(all)
 }
 
-fn entries(alloc: Global, values: &[Value]) -> Result<Vec<Entry>, TickLineFault>
-    ensures { Gives (λ v. v.items) result (each entry_of (map view values.now)) }
+fn entries<V: Json>(alloc: Global, values: &[V]) -> Result<Vec<Entry>, TickLineFault>
+    ensures { Gives (λ v. v.items) result (each entry_of (map V.data values.now)) }
 {
     let mut all = Vec::with_capacity(alloc, values.len())?;
     for value in values {
@@ -70,11 +68,11 @@ fn entries(alloc: Global, values: &[Value]) -> Result<Vec<Entry>, TickLineFault>
 }
 
 /// The entries of a tick line.
-pub(crate) fn entries_of(
+pub(crate) fn entries_of<V: Json>(
     alloc: Global,
-    found: Option<&Value>,
+    found: Option<&V>,
 ) -> Result<Sequence<Entry>, TickLineFault>
-    ensures { Gives (λ s. s) result (entries_of (option_map (λ v. view v.now) found.entry)) }
+    ensures { Gives (λ s. s) result (entries_of (option_map (λ v. V.data v.now) found.entry)) }
 {
     let entries = entries(alloc, items_of(found)?)?;
     Ok(Sequence::from_vec(entries))

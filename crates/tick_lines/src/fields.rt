@@ -1,17 +1,16 @@
 //! Fields of a tick line, all of which have one fault.
 
 ghost use Rattle.std.specs.Prelude.{◌≡◌, map, option_map};
-ghost use Rattle.serde_json.specs.View.{view};
 ghost use Rattle.tick_lines.specs.declared.fault.TickLineFault.TheVariants.{Usage};
 ghost use Rattle.json_fields.specs.Reading.{some_or, GivesExactly};
 ghost use Rattle.tick_lines.specs.Gives.{Gives};
 ghost use Rattle.tick_lines.specs.Fields.{items_of, only_object, quantity_at};
 
 use crate::fault::TickLineFault;
+use json_fields::Json;
 use manifest::Text;
 use quantity::Quantity;
 use quantity_fields::quantity_in;
-use serde_json::Value;
 use std::alloc::Global;
 
 fn written_text(found: Option<&str>) -> Result<&str, TickLineFault>
@@ -32,21 +31,21 @@ pub(crate) fn text_of(alloc: Global, found: Option<&str>) -> Result<Text, TickLi
 }
 
 /// The items of an array that may be left out.
-pub(crate) fn items_of(found: Option<&Value>) -> Result<&[Value], TickLineFault>
-    ensures { GivesExactly (λ v. map view v.now) result (items_of (option_map (λ v. view v.now) found.entry)) }
+pub(crate) fn items_of<V: Json>(found: Option<&V>) -> Result<&[V], TickLineFault>
+    ensures { GivesExactly (λ v. map V.data v.now) result (items_of (option_map (λ v. V.data v.now) found.entry)) }
 {
     let Some(value) = found else {
         return Ok(&[]);
     };
-    match value.as_array() {
+    match value.items() {
         None => Err(TickLineFault::Usage),
-        Some(list) => Ok(list.as_slice()),
+        Some(items) => Ok(items),
     }
 }
 
 /// A value that has to be an object.
-pub(crate) fn only_object(value: &Value) -> Result<(), TickLineFault>
-    ensures { GivesExactly (λ t. t) result (only_object (view value.now)) }
+pub(crate) fn only_object<V: Json>(value: &V) -> Result<(), TickLineFault>
+    ensures { GivesExactly (λ t. t) result (only_object (V.data value.now)) }
 {
     if value.is_object() {
         Ok(())
@@ -56,8 +55,8 @@ pub(crate) fn only_object(value: &Value) -> Result<(), TickLineFault>
 }
 
 /// A quantity that may be left out.
-pub(crate) fn quantity_at(found: Option<&Value>) -> Result<Option<Quantity>, TickLineFault>
-    ensures { GivesExactly (λ q. q) result (quantity_at (option_map (λ v. view v.now) found.entry)) }
+pub(crate) fn quantity_at<V: Json>(found: Option<&V>) -> Result<Option<Quantity>, TickLineFault>
+    ensures { GivesExactly (λ q. q) result (quantity_at (option_map (λ v. V.data v.now) found.entry)) }
 {
     let Some(value) = found else {
         return Ok(None);

@@ -1,17 +1,15 @@
 //! A tick line, as it is written.
 
 ghost use Rattle.std.specs.Prelude.{◌≡◌, option_map};
-ghost use Rattle.serde_json.specs.View.{view};
 ghost use Rattle.tick_lines.specs.Gives.{Gives};
 ghost use Rattle.tick_lines.specs.Line.{tick_line_of};
 
 use crate::entry::{Entry, entries_of};
 use crate::fault::TickLineFault;
 use crate::samples::samples_of;
-use json_fields::field;
+use json_fields::{Json, field};
 use quantity::Quantity;
 use sequence::Sequence;
-use serde_json::Value;
 use signal_maps::Scope;
 use signals::BySignal;
 use std::alloc::Global;
@@ -36,8 +34,8 @@ pub struct TickLine {
 /// `Usage` where a field that has to be there is missing, or one has a value of another kind or out
 /// of its range, a faulty quantity, or a signal that it may not name.
 #[tactic(auto, unfolding(crate::specs::Line::tick_line_of))]
-pub fn tick_line_of(alloc: Global, line: &Value) -> Result<TickLine, TickLineFault>
-    ensures { Gives (λ t. t) result (tick_line_of (view line.now)) }
+pub fn tick_line_of<V: Json>(alloc: Global, line: &V) -> Result<TickLine, TickLineFault>
+    ensures { Gives (λ t. t) result (tick_line_of (V.data line.now)) }
 {
     let entries = entries_of(alloc, field(line, "pods"))?;
     let signals = samples_of(Scope::Node, field(line, "signals"))?;

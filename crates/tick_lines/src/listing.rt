@@ -1,7 +1,6 @@
 //! The listings of an entry, as they are written.
 
 ghost use Rattle.std.specs.Prelude.{◌≡◌, map, option_map};
-ghost use Rattle.serde_json.specs.View.{view};
 ghost use Rattle.json_fields.specs.Reading.{each, GivesExactly};
 ghost use Rattle.tick_lines.specs.Gives.{Gives};
 ghost use Rattle.tick_lines.specs.Listings.{attempt_of, state_named, state_numbered, state_of, code_of, instance_of};
@@ -9,10 +8,9 @@ ghost use Rattle.tick_lines.specs.Listings.{listing_of, listings_of};
 
 use crate::fault::TickLineFault;
 use crate::fields::{items_of, text_of};
-use json_fields::{field, text_at};
+use json_fields::{Json, field, text_at};
 use manifest::Text;
 use sequence::Sequence;
-use serde_json::Value;
 use state_diff::CriState;
 use std::alloc::Global;
 
@@ -38,13 +36,13 @@ pub struct Listing {
     pub instance: ListedInstance,
 }
 
-fn attempt_of(found: Option<&Value>) -> Result<u32, TickLineFault>
-    ensures { GivesExactly (λ n. n) result (attempt_of (option_map (λ v. view v.now) found.entry)) }
+fn attempt_of<V: Json>(found: Option<&V>) -> Result<u32, TickLineFault>
+    ensures { GivesExactly (λ n. n) result (attempt_of (option_map (λ v. V.data v.now) found.entry)) }
 {
     let Some(value) = found else {
         return Ok(0);
     };
-    match value.as_u64() {
+    match value.unsigned() {
         Some(attempt) if attempt < 1 << 31 => Ok(attempt as u32),
         _ => Err(TickLineFault::Usage),
     }
@@ -74,30 +72,30 @@ fn state_numbered(number: Option<u64>) -> Result<CriState, TickLineFault>
     }
 }
 
-fn state_of(found: Option<&Value>) -> Result<CriState, TickLineFault>
-    ensures { GivesExactly (λ s. s) result (state_of (option_map (λ v. view v.now) found.entry)) }
+fn state_of<V: Json>(found: Option<&V>) -> Result<CriState, TickLineFault>
+    ensures { GivesExactly (λ s. s) result (state_of (option_map (λ v. V.data v.now) found.entry)) }
 {
     let Some(value) = found else {
         return Err(TickLineFault::Usage);
     };
-    match value.as_str() {
+    match value.text() {
         Some(name) => state_named(name),
-        None => state_numbered(value.as_u64()),
+        None => state_numbered(value.unsigned()),
     }
 }
 
-fn code_of(found: Option<&Value>) -> Option<i32>
-    ensures { result ≡ code_of (option_map (λ v. view v.now) found.entry) }
+fn code_of<V: Json>(found: Option<&V>) -> Option<i32>
+    ensures { result ≡ code_of (option_map (λ v. V.data v.now) found.entry) }
 {
-    match found?.as_i64() {
+    match found?.signed() {
         Some(code) if i32::MIN as i64 <= code && code <= i32::MAX as i64 => Some(code as i32),
         _ => None,
     }
 }
 
 #[tactic(auto, unfolding(crate::specs::Listings::instance_of))]
-fn instance_of(value: &Value) -> Result<ListedInstance, TickLineFault>
-    ensures { GivesExactly (λ i. i) result (instance_of (view value.now)) }
+fn instance_of<V: Json>(value: &V) -> Result<ListedInstance, TickLineFault>
+    ensures { GivesExactly (λ i. i) result (instance_of (V.data value.now)) }
 {
     let attempt = attempt_of(field(value, "attempt"))?;
     let state = state_of(field(value, "state"))?;
@@ -110,16 +108,16 @@ fn instance_of(value: &Value) -> Result<ListedInstance, TickLineFault>
 }
 
 #[tactic(auto, unfolding(crate::specs::Listings::listing_of))]
-fn listing_of(alloc: Global, value: &Value) -> Result<Listing, TickLineFault>
-    ensures { Gives (λ l. l) result (listing_of (view value.now)) }
+fn listing_of<V: Json>(alloc: Global, value: &V) -> Result<Listing, TickLineFault>
+    ensures { Gives (λ l. l) result (listing_of (V.data value.now)) }
 {
     let name = text_of(alloc, text_at(value, "name"))?;
     let instance = instance_of(value)?;
     Ok(Listing { name, instance })
 }
 
-fn listings(alloc: Global, values: &[Value]) -> Result<Vec<Listing>, TickLineFault>
-    ensures { Gives (λ v. v.items) result (each listing_of (map view values.now)) }
+fn listings<V: Json>(alloc: Global, values: &[V]) -> Result<Vec<Listing>, TickLineFault>
+    ensures { Gives (λ v. v.items) result (each listing_of (map V.data values.now)) }
 {
     let mut all = Vec::with_capacity(alloc, values.len())?;
     for value in values {
@@ -130,11 +128,11 @@ fn listings(alloc: Global, values: &[Value]) -> Result<Vec<Listing>, TickLineFau
 }
 
 /// The listings of an entry.
-pub(crate) fn listings_of(
+pub(crate) fn listings_of<V: Json>(
     alloc: Global,
-    found: Option<&Value>,
+    found: Option<&V>,
 ) -> Result<Sequence<Listing>, TickLineFault>
-    ensures { Gives (λ s. s) result (listings_of (option_map (λ v. view v.now) found.entry)) }
+    ensures { Gives (λ s. s) result (listings_of (option_map (λ v. V.data v.now) found.entry)) }
 {
     let listings = listings(alloc, items_of(found)?)?;
     Ok(Sequence::from_vec(listings))

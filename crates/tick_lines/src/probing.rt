@@ -1,17 +1,15 @@
 //! The results of probes in an entry, as they are written.
 
 ghost use Rattle.std.specs.Prelude.{◌≡◌, map, option_map};
-ghost use Rattle.serde_json.specs.View.{view};
 ghost use Rattle.json_fields.specs.Reading.{each, GivesExactly};
 ghost use Rattle.tick_lines.specs.Gives.{Gives};
 ghost use Rattle.tick_lines.specs.Results.{probe_named, outcome_named, result_of, results_of};
 
 use crate::fault::TickLineFault;
 use crate::fields::{items_of, text_of};
-use json_fields::text_at;
+use json_fields::{Json, text_at};
 use manifest::{Outcome, ProbeKind, Text};
 use sequence::Sequence;
-use serde_json::Value;
 use std::alloc::Global;
 
 /// A result of a container's probe.
@@ -54,8 +52,8 @@ fn outcome_named(found: Option<&str>) -> Result<Outcome, TickLineFault>
 }
 
 #[tactic(auto, unfolding(crate::specs::Results::result_of))]
-fn result_of(alloc: Global, value: &Value) -> Result<ProbeResult, TickLineFault>
-    ensures { Gives (λ r. r) result (result_of (view value.now)) }
+fn result_of<V: Json>(alloc: Global, value: &V) -> Result<ProbeResult, TickLineFault>
+    ensures { Gives (λ r. r) result (result_of (V.data value.now)) }
 {
     let container = text_of(alloc, text_at(value, "container"))?;
     let probe = probe_named(text_at(value, "probe"))?;
@@ -67,8 +65,8 @@ fn result_of(alloc: Global, value: &Value) -> Result<ProbeResult, TickLineFault>
     })
 }
 
-fn results(alloc: Global, values: &[Value]) -> Result<Vec<ProbeResult>, TickLineFault>
-    ensures { Gives (λ v. v.items) result (each result_of (map view values.now)) }
+fn results<V: Json>(alloc: Global, values: &[V]) -> Result<Vec<ProbeResult>, TickLineFault>
+    ensures { Gives (λ v. v.items) result (each result_of (map V.data values.now)) }
 {
     let mut all = Vec::with_capacity(alloc, values.len())?;
     for value in values {
@@ -79,11 +77,11 @@ fn results(alloc: Global, values: &[Value]) -> Result<Vec<ProbeResult>, TickLine
 }
 
 /// The results of an entry.
-pub(crate) fn results_of(
+pub(crate) fn results_of<V: Json>(
     alloc: Global,
-    found: Option<&Value>,
+    found: Option<&V>,
 ) -> Result<Sequence<ProbeResult>, TickLineFault>
-    ensures { Gives (λ s. s) result (results_of (option_map (λ v. view v.now) found.entry)) }
+    ensures { Gives (λ s. s) result (results_of (option_map (λ v. V.data v.now) found.entry)) }
 {
     let results = results(alloc, items_of(found)?)?;
     Ok(Sequence::from_vec(results))

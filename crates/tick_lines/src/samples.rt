@@ -1,14 +1,13 @@
 //! The samples of the node's signals.
 
 ghost use Rattle.std.specs.Prelude.{◌≡◌, option_map};
-ghost use Rattle.serde_json.specs.View.{view};
 ghost use Rattle.json_fields.specs.Reading.{GivesExactly};
 ghost use Rattle.tick_lines.specs.Samples.{samples_of};
 
 use crate::fault::TickLineFault;
 use crate::fields::quantity_at;
+use json_fields::Json;
 use quantity::Quantity;
-use serde_json::Value;
 use signal_maps::{ReadSignal, Scope, read_map};
 use signals::{BySignal, Signal};
 
@@ -23,21 +22,21 @@ impl ReadSignal for SampleMap {
 
     ghost read_of = { λ reader signal found. quantity_at found };
 
-    fn read(
+    fn read<V: Json>(
         &self,
         _signal: Signal,
-        found: Option<&Value>,
+        found: Option<&V>,
     ) -> Result<Option<Quantity>, TickLineFault> {
         quantity_at(found)
     }
 }
 
 /// The samples in an object that may be left out.
-pub(crate) fn samples_of(
+pub(crate) fn samples_of<V: Json>(
     scope: Scope,
-    found: Option<&Value>,
+    found: Option<&V>,
 ) -> Result<BySignal<Option<Quantity>>, TickLineFault>
-    ensures { GivesExactly (λ s. s) result (samples_of scope (option_map (λ v. view v.now) found.entry)) }
+    ensures { GivesExactly (λ s. s) result (samples_of scope (option_map (λ v. V.data v.now) found.entry)) }
 {
     read_map(scope, TickLineFault::Usage, &SampleMap, found)
 }

@@ -1,19 +1,17 @@
 //! What an entry tells of its pod's use of the node.
 
 ghost use Rattle.std.specs.Prelude.{◌≡◌, option_map};
-ghost use Rattle.serde_json.specs.View.{view};
 ghost use Rattle.json_fields.specs.Reading.{GivesExactly};
 ghost use Rattle.tick_lines.specs.Usages.{usage_in, usage_of};
 
 use crate::fault::TickLineFault;
 use crate::fields::{only_object, quantity_at};
-use json_fields::field;
+use json_fields::{Json, field};
 use observations::Usage;
-use serde_json::Value;
 
 #[tactic(auto, unfolding(crate::specs::Usages::usage_in))]
-fn usage_in(value: &Value) -> Result<Usage, TickLineFault>
-    ensures { GivesExactly (λ u. u) result (usage_in (view value.now)) }
+fn usage_in<V: Json>(value: &V) -> Result<Usage, TickLineFault>
+    ensures { GivesExactly (λ u. u) result (usage_in (V.data value.now)) }
 {
     only_object(value)?;
     let memory = quantity_at(field(value, "memory"))?;
@@ -33,8 +31,8 @@ fn usage_in(value: &Value) -> Result<Usage, TickLineFault>
 }
 
 /// What the pod used, where the entry has a sample of it.
-pub(crate) fn usage_of(found: Option<&Value>) -> Result<Option<Usage>, TickLineFault>
-    ensures { GivesExactly (λ u. u) result (usage_of (option_map (λ v. view v.now) found.entry)) }
+pub(crate) fn usage_of<V: Json>(found: Option<&V>) -> Result<Option<Usage>, TickLineFault>
+    ensures { GivesExactly (λ u. u) result (usage_of (option_map (λ v. V.data v.now) found.entry)) }
 {
     let Some(value) = found else {
         return Ok(None);

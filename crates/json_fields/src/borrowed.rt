@@ -1,0 +1,151 @@
+//! The values of `json`, whose texts are those of the text that was read.
+
+ghost use Rattle.std.specs.Prelude.{◌≡◌, ◌&&◌, not};
+ghost use Rattle.json.specs.Value.{value_view, items_view, members_view};
+ghost use Rattle.json_fields.specs.Borrowed.{data_of, is_plain, items_are_plain, members_are_plain, whole};
+ghost use Rattle.json_fields.specs.Borrowed.{has_name, has_last_stranger};
+ghost use Rattle.json_fields.specs.Strangers.{is_stranger};
+
+use crate::value::{HasData, Json, Names};
+use fast_float::Numeral;
+use json::Value;
+
+impl<'a> HasData for Value<'a> {
+    ghost use Rattle.json.specs.Value.{value_view};
+    ghost use Rattle.json_fields.specs.Borrowed.{data_of};
+
+    ghost data = { λ v. data_of (value_view v) };
+}
+
+/// The whole number that the digits write, where the text is digits alone and it is below 2^64.
+fn whole(text: &str) -> Option<u64>
+    ensures { result ≡ whole text.now }
+{
+    let bytes = text.as_bytes();
+    if bytes.first() == Some(&b'-') {
+        return None;
+    }
+    Numeral::scan(bytes).to_u64()
+}
+
+/// Whether each number in the value is one that digits alone write, below 2^64. Then `serde_json` reads the same data.
+#[cycle(is_plain)]
+pub fn is_plain(value: &Value<'_>) -> bool
+    ensures { result ≡ is_plain (value_view value.now) }
+{
+    match value {
+        Value::Null | Value::Bool(_) | Value::String(_) => true,
+        Value::Number(text) => whole(text).is_some(),
+        Value::Array(items) => items_are_plain(items),
+        Value::Object(members) => members_are_plain(members),
+    }
+}
+
+#[cycle(is_plain)]
+fn items_are_plain(items: &Vec<Value<'_>>) -> bool
+    ensures { result ≡ items_are_plain (items_view items.now.items) }
+{
+    for item in items {
+        if !is_plain(item) {
+            return false;
+        }
+    }
+    true
+}
+
+#[cycle(is_plain)]
+fn members_are_plain(members: &Vec<(&str, Value<'_>)>) -> bool
+    ensures { result ≡ members_are_plain (members_view members.now.items) }
+{
+    for member in members {
+        if !is_plain(&member.1) {
+            return false;
+        }
+    }
+    true
+}
+
+impl<'a> Json for Value<'a> {
+    #[tactic(auto, using(crate::proofs::Plain::get_data))]
+    fn member<'v>(&'v self, name: &str) -> Option<&'v Value<'a>> {
+        self.get(name)
+    }
+
+    fn is_null(&self) -> bool {
+        Value::is_null(self)
+    }
+
+    fn text<'v>(&'v self) -> Option<&'v str> {
+        self.as_str()
+    }
+
+    fn unsigned(&self) -> Option<u64> {
+        whole(self.as_number()?)
+    }
+
+    fn signed(&self) -> Option<i64> {
+        let n = whole(self.as_number()?)?;
+        if n <= i64::MAX as u64 {
+            Some(n as i64)
+        } else {
+            None
+        }
+    }
+
+    fn items<'v>(&'v self) -> Option<&'v [Value<'a>]> {
+        match self {
+            Value::Array(items) => Some(items.as_slice()),
+            _ => None,
+        }
+    }
+
+    fn is_object(&self) -> bool {
+        matches!(self, Value::Object(_))
+    }
+
+    fn has_stranger<N: Names>(&self, names: &N) -> bool {
+        match self {
+            Value::Object(members) => has_last_stranger(names, members),
+            _ => false,
+        }
+    }
+}
+
+/// Whether the members have one of this name.
+fn has_name(members: &[(&str, Value<'_>)], name: &str) -> bool
+    ensures { result ≡ has_name name.now (members_view members.now) }
+{
+    for member in members {
+        if member.0 == name {
+            return true;
+        }
+    }
+    false
+}
+
+/// Whether the member is other than null, under none of these names, and none of its own name is among those after it.
+fn is_last_stranger<N: Names>(
+    names: &N,
+    name: &str,
+    value: &Value<'_>,
+    others: &[(&str, Value<'_>)],
+) -> bool
+    ensures { result ≡ is_stranger (N.includes names.now) name.now (data_of (value_view value.now))
+        && not (has_name name.now (members_view others.now)) }
+{
+    !value.is_null() && !names.includes(name) && !has_name(others, name)
+}
+
+/// Whether the last member of some name is other than null, and the name none of these.
+fn has_last_stranger<N: Names>(names: &N, members: &[(&str, Value<'_>)]) -> bool
+    ensures { result ≡ has_last_stranger (N.includes names.now) (members_view members.now) }
+{
+    let mut rest = members;
+    while let [(name, value), others @ ..] = rest {
+        if is_last_stranger(names, name, value, others) {
+            return true;
+        }
+        rest = others;
+    }
+    false
+}
