@@ -132,10 +132,10 @@ def workers_words(measured):
                      + ("More workers pay." if pays else "More workers do not pay."))
     told = f"More workers pay in {' and '.join(paying) or 'none of these traces'}"
     told += f", and not in {' or '.join(idle)}." if paying and idle else "."
-    return [paragraph(told + " They share the lines of each mebibyte of the text,"
-                      " and the updates of a tick's pods. Their threads start anew for each mebibyte and in each tick,"
-                      " which costs more than a small tick brings; and what the lines say is taken by one thread,"
-                      " line after line."), "", *items]
+    return [paragraph(told + " They share the lines of each mebibyte of the text, for which their threads start anew. What"
+                      " the lines say is taken by one thread, line after line, and so are the updates of a tick: a tick"
+                      " has 256 pods at most, and the start of a second thread costs more than it brings there."),
+            "", *items]
 
 
 def aims(measured):
