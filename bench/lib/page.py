@@ -15,7 +15,8 @@ HEAD = ("""
 `bench/theorem` writes this page; no line is by hand. It has the contracts of {functions}, and behind them each
 definition that they reach: {definitions} in {files} files of `specs/`, and {types} declared types. The promises of the
 program are made of these and of the words of the library at the end, and of nothing else. No thread, deque, pool or
-share of a book occurs in them; `bench/theorem --check` fails where one does.
+share of a book occurs in them; `bench/theorem --check` fails where one does. Of files, pipes and standard output the
+clauses on bytes say nothing: they speak of a reader and a writer that tell contracts theirs, as those over memory do.
 """, """
 It reads from the report to the rules and on to the format, and a definition stands before those that it names. Below
 each is its place, and what it names; above it, where [rules.md](rules.md) or [formats.md](formats.md) says the same in
