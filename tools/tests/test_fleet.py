@@ -130,7 +130,7 @@ def test_fleet_begins_again():
 def test_fleet_is_stopped():
     """A run that is ended leaves no database and no process, and a further one does what is left."""
     folder = make_traces()
-    settings = {**COUNTED, "RUNS": f"{folder}/runs", "WAIT": "0.1"}
+    settings = {**COUNTED, "RUNS": f"{folder}/runs", "WAIT": "0.3"}
     database = f"{folder}/fleet.db"
     words = [FLEET, "run", f"{folder}/traces", "--out", database, "--processes", "2"]
     for number, status in ((signal.SIGKILL, -9), (signal.SIGINT, 130)):
