@@ -1,0 +1,55 @@
+//! The calls whose time is taken.
+
+use anyhow::{Result, bail};
+use kubelet_replay::{Counted, Format, MemSource, NoGate, check_in, fault_line, replay_in};
+use std::sync::Wait;
+use std::thread::Threads;
+
+/// So many bytes a call gives, as a file's reader would.
+const BYTES_A_READ: usize = 64 << 10;
+
+/// So many workers share the pods of a tick at most.
+const MOST_WORKERS: usize = 64;
+
+/// What is asked of a trace.
+#[derive(Clone, Copy)]
+pub(crate) enum Job {
+    /// Its report, by so many workers.
+    Run(usize),
+    /// Whether it is a trace.
+    Check,
+}
+
+impl Job {
+    /// The job of this name, by so many workers, of which there are 1 to 64.
+    pub(crate) fn of_words(name: &str, workers: u64) -> Option<Job> {
+        let workers = usize::try_from(workers).ok()?;
+        match name {
+            "run" if 0 < workers && workers <= MOST_WORKERS => Some(Job::Run(workers)),
+            "check" => Some(Job::Check),
+            _ => None,
+        }
+    }
+
+    /// What is written of the trace, which has to be one.
+    pub(crate) fn answer(
+        self,
+        rt: &(impl AllocGlobal + Threads + Wait + Sync),
+        format: Format,
+        trace: &[u8],
+    ) -> Result<Vec<u8>> {
+        let mut input = MemSource::new(trace, BYTES_A_READ);
+        let mut output = Counted::new(Vec::new(rt.alloc()));
+        let done = match self {
+            Job::Run(workers) => {
+                let workers = workers.clamp(1, MOST_WORKERS);
+                replay_in(rt, format, &mut input, &mut output, workers, &NoGate)
+            },
+            Job::Check => check_in(rt.alloc(), format, &mut input, &mut output),
+        };
+        match done {
+            Ok(()) => Ok(output.into_inner()),
+            Err(fault) => bail!("a trace is refused: {}", fault_line(rt.alloc(), &fault)?),
+        }
+    }
+}
