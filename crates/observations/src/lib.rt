@@ -2,12 +2,14 @@
 #![tactic(auto)]
 
 mod container;
+mod containers;
 mod kept;
 mod limits;
 mod pod;
 mod shown;
 mod tick;
 mod usage;
+mod whole;
 
 pub use container::ContainerObs;
 pub use limits::{MOST_PODS, MOST_TICKS};

@@ -1,6 +1,6 @@
 use Rattle.std.proofs.Common.{◌≡◌, ◌++◌, map, drop}
 use Rattle.observations.specs.Kept.{shown_as}
-use Rattle.observations.proofs.shown.kept.Given as goal
+use Rattle.observations.proofs.containers.kept.Given as goal
 
 abbrev pub invariant-loop-one : goal.invariant-loop-one
 invariant-loop-one l = map shown_as l.kept.items ++ drop l.one-index l.containers ≡ l.containers
