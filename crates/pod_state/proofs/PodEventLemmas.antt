@@ -25,18 +25,15 @@ taken_more : {A : Type 0} (xs : List A) (i : ℕ) (d : A) → i < length xs → 
     ++ get_or xs i d ∷ []
 taken_more xs i d lt = ap (λ n. take n xs) {x = i + 1} {y = suc i} (omega arith) ∙ take-suc xs i d lt
 
-pub places_more : (container : Option ℕ) (places : List (Option What)) (i : ℕ) (d : Option What)
-    (old new after : List PodEvent) → i < length places
-    → new ≡ old ++ events_at container (take i places) → after ≡ new ++ events_at container (get_or places i d ∷ [])
-    → after ≡ old ++ events_at container (take (i + 1) places)
-places_more container places i d old new after lt so_far here =
-    let place = get_or places i d in
+-- the events of one place more
+pub place_more : (container : Option ℕ) (places : List (Option What)) (place : Option What)
+    (old new after : List PodEvent) → new ≡ old ++ events_at container places
+    → after ≡ new ++ events_at container (place ∷ []) → after ≡ old ++ events_at container (places ++ place ∷ [])
+place_more container places place old new after so_far here =
     here ∙ ap (λ es. es ++ events_at container (place ∷ [])) so_far
-    ∙ append_assoc old (events_at container (take i places)) (events_at container (place ∷ []))
+    ∙ append_assoc old (events_at container places) (events_at container (place ∷ []))
     ∙ ap (λ es. old ++ es)
-    (sym (filter_map-append (option_map (λ what. record { container = container; what = what })) (take i places)
-    (place ∷ [])))
-    ∙ ap (λ ps. old ++ events_at container ps) (sym (taken_more places i d lt))
+    (sym (filter_map-append (option_map (λ what. record { container = container; what = what })) places (place ∷ [])))
 
 from_more : (phase : Phase) (n : ℕ) (made : List ContainerEvents) (next : ContainerEvents)
     → events_from phase n (made ++ next ∷ []) ≡ events_from phase n made ++ events_at (Some (n + length made))
@@ -51,14 +48,13 @@ from_more phase n (x ∷ xs) next =
     (places_in phase next)) {x = n + 1 + length xs} {y = n + suc (length xs)} (omega arith)
 
 pub containers_more : (phase : Phase) (made : List ContainerEvents) (i : ℕ) (d : ContainerEvents)
-    (places : List (Option What)) (old new : List PodEvent) → i < length made
-    → old ≡ events_from phase 0 (take i made) → places ≡ places_in phase (get_or made i d)
-    → new ≡ old ++ events_at (Some i) places
+    (old new : List PodEvent) → i < length made
+    → old ≡ events_from phase 0 (take i made)
+    → new ≡ old ++ events_at (Some i) (places_in phase (get_or made i d))
     → new ≡ events_from phase 0 (take (i + 1) made)
-containers_more phase made i d places old new lt so_far are here =
+containers_more phase made i d old new lt so_far here =
     let next = get_or made i d in
-    here ∙ ap (λ es. es ++ events_at (Some i) places) so_far
-    ∙ ap (λ ps. events_from phase 0 (take i made) ++ events_at (Some i) ps) are
+    here ∙ ap (λ es. es ++ events_at (Some i) (places_in phase next)) so_far
     ∙ ap (λ k. events_from phase 0 (take i made) ++ events_at (Some k) (places_in phase next)) {x = i}
     {y = 0 + length (take i made)} (omega (arith, length-take-le i made (omega (arith, lt))))
     ∙ sym (from_more phase 0 (take i made) next)

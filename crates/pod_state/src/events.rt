@@ -28,15 +28,6 @@ fn restart_in(phase: Phase, restart: Option<What>) -> Option<What>
     }
 }
 
-/// The places of a container's events, in a pod that the tick leaves in this phase.
-fn places_in(phase: Phase, made: &ContainerEvents) -> [Option<What>; 8]
-    ensures { result ≡ places_in phase made.now }
-{
-    let mut in_pod = *made;
-    in_pod.restart = restart_in(phase, made.restart);
-    in_pod.in_order()
-}
-
 /// Adds the event of a place, if there is one.
 fn add_event(
     events: &mut Vec<PodEvent>,
@@ -51,18 +42,25 @@ fn add_event(
     Ok(())
 }
 
-/// Adds the events of these places.
+/// Adds the events of the container with the number, in a pod that the tick leaves in this phase: place by place,
+/// where most ticks have none.
 fn add_events(
     events: &mut Vec<PodEvent>,
-    container: Option<usize>,
-    places: &[Option<What>],
+    number: usize,
+    phase: Phase,
+    made: &ContainerEvents,
 ) -> Result<(), AllocError>
-    ensures { OnOk result (events.new.items ≡ events.old.items ++ events_at container places.now) }
+    ensures { OnOk result (events.new.items ≡ events.old.items ++ events_at (Some number) (places_in phase made.now)) }
 {
-    for place in places {
-        let place = *place;
-        add_event(events, container, place)?;
-    }
+    let container = Some(number);
+    add_event(events, container, made.gone)?;
+    add_event(events, container, made.started)?;
+    add_event(events, container, made.died)?;
+    add_event(events, container, made.passed)?;
+    add_event(events, container, made.kill)?;
+    add_event(events, container, made.readiness)?;
+    add_event(events, container, made.backoff)?;
+    add_event(events, container, restart_in(phase, made.restart))?;
     Ok(())
 }
 
@@ -89,9 +87,8 @@ pub(crate) fn events_of(
 {
     let mut events = Vec::new(alloc);
     for (number, container) in made.iter().enumerate() {
-        let places = places_in(phase, container);
-        add_events(&mut events, Some(number), &places)?;
+        add_events(&mut events, number, phase, container)?;
     }
-    add_events(&mut events, None, &[change])?;
+    add_event(&mut events, None, change)?;
     Ok(events)
 }

@@ -1,6 +1,27 @@
-use Rattle.pod_state.proofs.PodEventLemmas.{places_more}
+use Rattle.std.proofs.Common.{◌∙◌, ◌++◌, ◌∷◌, [], Some, ap}
+use Rattle.pod_state.specs.Events.{events_at}
+use Rattle.pod_state.proofs.PodEventLemmas.{place_more}
 use Rattle.pod_state.proofs.events.add_events.Goals as goal
 
-pub loop-place-preserved : goal.loop-place-preserved
-loop-place-preserved c = places_more c.args.container c.args.places.now c.loop-place.place-index _ _ _ _
-    c.loop-place-test.true c.loop-place.invariant c.in_ok-add_event.ensures
+pub returns : goal.returns
+returns c =
+    let k = Some c.args.number in
+    let made = c.args.made.now in
+    let old = c.args.events.now.items in
+    let one = made.gone ∷ [] in
+    let two = one ++ made.started ∷ [] in
+    let three = two ++ made.died ∷ [] in
+    let four = three ++ made.passed ∷ [] in
+    let five = four ++ made.kill ∷ [] in
+    let six = five ++ made.readiness ∷ [] in
+    let seven = six ++ made.backoff ∷ [] in
+    place_more k seven c.restart_in.result old _ _
+    (place_more k six made.backoff old _ _
+    (place_more k five made.readiness old _ _
+    (place_more k four made.kill old _ _
+    (place_more k three made.passed old _ _
+    (place_more k two made.died old _ _
+    (place_more k one made.started old _ _ c.in_ok-add_event.ensures c.in_ok-add_event-2.ensures)
+    c.in_ok-add_event-3.ensures) c.in_ok-add_event-4.ensures) c.in_ok-add_event-5.ensures)
+    c.in_ok-add_event-6.ensures) c.in_ok-add_event-7.ensures) c.in_ok-add_event-8.ensures
+    ∙ ap (λ r. old ++ events_at k (seven ++ r ∷ [])) c.restart_in.ensures
