@@ -9,3 +9,4 @@ pub mod UniqueLemmas
 pub mod LawLemmas
 pub mod FoundLemmas
 pub mod EventFoundLemmas
+pub mod OneLemmas

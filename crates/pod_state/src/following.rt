@@ -2,17 +2,15 @@
 
 ghost use Rattle.std.specs.Prelude.{◌≡◌, ◌≢◌, ◌↔◌, ◌^◌, ◌<◌, ℕ, List, [], ◌∷◌, ◌++◌, length, slice_get, unwrap_or};
 ghost use Rattle.std.specs.Prelude.{IsTrue, IfOk};
-ghost use Rattle.histories.specs.Histories.{recorded};
 ghost use Rattle.manifest.specs.declared.pod.ContainerSpec.{ContainerSpec};
 ghost use Rattle.manifest.specs.declared.pod.PodSpec.{PodSpec};
 ghost use Rattle.manifest.specs.declared.pod.Role.TheVariants.{Init};
 ghost use Rattle.containers.specs.Ticks.{ContainerTick};
 ghost use Rattle.containers.specs.Probed.{IsReady};
-ghost use Rattle.containers.specs.Events.{AreEvents};
 ghost use Rattle.containers.specs.Container.{Accepts, IsBefore, IsStateOf};
 ghost use Rattle.pod_state.specs.Pods.{PodTick, pod_tick, unseen, AreViewsOf, AllReady};
-ghost use Rattle.pod_state.specs.Containers.{AreContainersOf, AreShown};
-ghost use Rattle.pod_state.specs.Events.{AreMade};
+ghost use Rattle.pod_state.specs.Containers.{IsContainerOf, AreContainersOf, AreShown};
+ghost use Rattle.pod_state.specs.Events.{IsMadeOf, AreMade};
 ghost use Rattle.pod_state.specs.States.{AllAccept, AllBefore};
 
 use containers::{Container, ContainerEvents, ContainerStatus};
@@ -30,7 +28,7 @@ pub(crate) fn first_containers(
     ensures { IfOk result (λ v. (pod : PodSpec) → pod.containers ≡ specs.now
         → AreContainersOf pod greatest [] v.items) }
 {
-    let mut containers = Vec::new(alloc);
+    let mut containers = Vec::with_capacity(alloc, specs.len())?;
     for spec in specs {
         let container = Container::new(spec, greatest);
         containers.push(container)?;
@@ -51,13 +49,6 @@ fn shown_of(observed: &PodObs, number: usize) -> ContainerObs
     }
 }
 
-/// A container after a tick, and its events in it.
-#[derive(Clone, Copy)]
-struct Stepped {
-    container: Container,
-    made: ContainerEvents,
-}
-
 /// The containers of a pod after a tick, and the events of each in it.
 #[derive(Drop)]
 pub(crate) struct AllStepped {
@@ -65,24 +56,25 @@ pub(crate) struct AllStepped {
     pub(crate) made: Vec<ContainerEvents>,
 }
 
-/// The container after one tick more.
-fn after_tick(container: &Container, policy: Policy, at: u64, shown: ContainerObs) -> Stepped
-    requires accepted { Accepts container.now shown.seen }
-    requires later { IsBefore container.now at }
-    requires bounded { at < 2 ^ 40 }
-    ensures state { (spec : ContainerSpec) (greatest : ℕ) (h : List ContainerTick)
-        → IsStateOf spec greatest h container.now
-        → IsStateOf spec greatest (h ++ recorded at shown ∷ []) result.container }
-    ensures made { (spec : ContainerSpec) (greatest : ℕ) (h : List ContainerTick)
-        → IsStateOf spec greatest h container.now
-        → AreEvents policy greatest spec (h ++ recorded at shown ∷ []) (length h) result.made }
+/// A tick comes, with what it shows of the container, which has this number: the container's events in it.
+pub(crate) fn step(
+    container: &mut Container,
+    policy: Policy,
+    observed: &PodObs,
+    number: usize,
+) -> ContainerEvents
+    requires accepted { Accepts container.old (unwrap_or (slice_get observed.now.containers number) unseen).seen }
+    requires later { IsBefore container.old observed.now.at }
+    requires bounded { observed.now.at < 2 ^ 40 }
+    ensures state { (pod : PodSpec) (greatest : ℕ) (h : List PodTick)
+        → IsContainerOf pod greatest h number container.old
+        → IsContainerOf pod greatest (h ++ pod_tick observed.now ∷ []) number container.new }
+    ensures made { (pod : PodSpec) (greatest : ℕ) (h : List PodTick) → pod.policy ≡ policy
+        → IsContainerOf pod greatest h number container.old
+        → IsMadeOf pod greatest h (pod_tick observed.now) number result }
 {
-    let mut next = *container;
-    let made = next.step(policy, at, shown);
-    Stepped {
-        container: next,
-        made,
-    }
+    let shown = shown_of(observed, number);
+    container.step(policy, observed.at(), shown)
 }
 
 /// The containers after one tick more.
@@ -102,14 +94,13 @@ pub(crate) fn next_containers(
         → pod.policy ≡ policy → AreContainersOf pod greatest h containers.now
         → AreMade pod greatest h (pod_tick observed.now) next.made.items) }
 {
-    let at = observed.at();
-    let mut all = Vec::new(alloc);
-    let mut made = Vec::new(alloc);
+    let mut all = Vec::with_capacity(alloc, containers.len())?;
+    let mut made = Vec::with_capacity(alloc, containers.len())?;
     for (number, container) in containers.iter().enumerate() {
-        let shown = shown_of(observed, number);
-        let next = after_tick(container, policy, at, shown);
-        all.push(next.container)?;
-        made.push(next.made)?;
+        let mut next = *container;
+        let events = step(&mut next, policy, observed, number);
+        all.push(next)?;
+        made.push(events)?;
     }
     Ok(AllStepped {
         containers: all,
@@ -125,7 +116,7 @@ pub(crate) fn views_of(
     ensures { IfOk result (λ v. (pod : PodSpec) (greatest : ℕ) (h : List PodTick)
         → AreContainersOf pod greatest h containers.now → AreViewsOf pod h v.items) }
 {
-    let mut views = Vec::new(alloc);
+    let mut views = Vec::with_capacity(alloc, containers.len())?;
     for container in containers {
         views.push(container.view())?;
     }

@@ -1,5 +1,5 @@
 ghost use Rattle.std.specs.Prelude.{◌≡◌, ◌↔◌, ◌^◌, ◌<◌, ℕ, List, [], ◌∷◌, ◌++◌, length, Option, Some, None, IsTrue};
-ghost use Rattle.std.specs.Prelude.{IfOk, OnOk, OnErr};
+ghost use Rattle.std.specs.Prelude.{IfOk, OnOk, OnErr, vec_len};
 ghost use Rattle.histories.specs.Histories.{recorded};
 ghost use Rattle.manifest.specs.declared.pod.PodSpec.{PodSpec};
 ghost use Rattle.phase.specs.RawPhase.{IsTerminal};
@@ -10,12 +10,13 @@ ghost use Rattle.pod_state.specs.Lifecycles.{IsLifecycleOf, IsProgressOf};
 ghost use Rattle.pod_state.specs.States.{before_of, HasContainers, IsStateOf, MayFollow};
 
 use crate::events::{PodEvent, events_of, phase_event};
-use crate::following::{all_ready, first_containers, next_containers, show, views_of};
+use crate::following::{all_ready, first_containers, next_containers, show, step, views_of};
 use crate::lifecycle::Lifecycle;
 use containers::{Container, ContainerStatus};
 use manifest::{MaxRestartDelay, PodSpec, Policy};
 use observations::PodObs;
 use std::alloc::{AllocError, Global};
+use std::slice::from_ref;
 
 /// A pod as its ticks so far leave it: its containers, its phase and its conditions. It keeps none
 /// of the ticks. (Kubernetes, "Pod Lifecycle".)
@@ -86,6 +87,9 @@ impl PodState {
             self.lifecycle = lifecycle;
             return Ok(Vec::new(alloc));
         }
+        if self.containers.len() == 1 {
+            return self.take_one(alloc, policy, observed);
+        }
         let next = next_containers(alloc, &self.containers, policy, observed)?;
         let views = views_of(alloc, &next.containers)?;
         let ready = all_ready(&next.containers);
@@ -94,6 +98,43 @@ impl PodState {
         let events = events_of(alloc, &next.made, lifecycle.phase, change)?;
         self.before = self.lifecycle;
         self.containers = next.containers;
+        self.lifecycle = lifecycle;
+        Ok(events)
+    }
+
+    /// The same of a pod of one container that has not ended, as most have one: it takes memory for the events alone.
+    fn take_one(
+        &mut self,
+        alloc: Global,
+        policy: Policy,
+        observed: &PodObs,
+    ) -> Result<Vec<PodEvent>, AllocError>
+        requires one { vec_len self.old.containers ≡ 1 }
+        requires lives { IsTerminal self.old.lifecycle.phase → ⊥ }
+        requires follows { MayFollow self.old observed.now.at observed.now.containers }
+        requires bounded { observed.now.at < 2 ^ 40 }
+        ensures ok { OnOk result ((pod : PodSpec) (greatest : ℕ) (evicted : Option ℕ) (h : List PodTick)
+            → pod.policy ≡ policy
+            → (evicted ≡ Some (length h) → ⊥)
+            → IsStateOf pod greatest evicted h self.old
+            → IsStateOf pod greatest evicted (h ++ pod_tick observed.now ∷ []) self.new) }
+        ensures before { OnOk result (before_of self.new ≡ self.old.lifecycle) }
+        ensures events { IfOk result (λ v. (pod : PodSpec) (greatest : ℕ) (evicted : Option ℕ) (h : List PodTick)
+            → pod.policy ≡ policy
+            → (evicted ≡ Some (length h) → ⊥)
+            → IsStateOf pod greatest evicted h self.old
+            → AreEventsOf pod greatest evicted h (pod_tick observed.now) v.items) }
+        ensures err { OnErr result (self.new ≡ self.old) }
+    {
+        let mut next = self.containers[0];
+        let made = step(&mut next, policy, observed, 0);
+        let ready = all_ready(from_ref(&next));
+        let mut lifecycle = self.lifecycle;
+        lifecycle.advance(policy, observed.at(), &[next.view()], ready, false);
+        let change = phase_event(self.lifecycle.phase, lifecycle.phase);
+        let events = events_of(alloc, from_ref(&made), lifecycle.phase, change)?;
+        self.before = self.lifecycle;
+        self.containers[0] = next;
         self.lifecycle = lifecycle;
         Ok(events)
     }

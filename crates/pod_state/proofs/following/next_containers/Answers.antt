@@ -1,34 +1,31 @@
-use Rattle.std.proofs.Common.{◌≡◌, ◌+◌, ℕ, ◌<◌, List, [], ◌∷◌, ◌++◌, length, slice_index_or, sym, subst}
+use Rattle.std.proofs.Common.{◌≡◌, ◌+◌, ℕ, ◌<◌, List, [], ◌∷◌, ◌++◌, slice_index_or, sym, subst}
 use Rattle.std.proofs.Common.{arith}
 use Rattle.std.specs.Prelude.{slice_get, unwrap_or}
 use Rattle.manifest.specs.declared.pod.PodSpec.{PodSpec}
-use Rattle.histories.specs.Histories.{recorded}
-use Rattle.observations.specs.declared.container.ContainerObs.{ContainerObs}
 use Rattle.containers.specs.declared.container.Container.{Container}
-use Rattle.containers.specs.Container.{Accepts, IsStateOf}
+use Rattle.containers.specs.Container.{Accepts}
 use Rattle.histories.proofs.Items.{pushed_each}
 use Rattle.histories.proofs.Lists.{some_item}
 use Rattle.pod_state.specs.Pods.{PodTick, pod_tick, unseen}
 use Rattle.containers.specs.declared.events.ContainerEvents.{ContainerEvents}
-use Rattle.containers.specs.Events.{AreEvents}
 use Rattle.pod_state.specs.Containers.{IsContainerOf}
 use Rattle.pod_state.specs.Events.{IsMadeOf}
-use Rattle.pod_state.proofs.ContainerLemmas.{item_at_any, next_is, made_is}
+use Rattle.pod_state.proofs.ContainerLemmas.{item_at_any}
 use Rattle.pod_state.proofs.following.next_containers.Goals as goal
 
-pub after_tick-next-requires-clause-accepted : goal.after_tick-next-requires-clause-accepted
-after_tick-next-requires-clause-accepted c =
+pub step-events-requires-clause-accepted : goal.step-events-requires-clause-accepted
+step-events-requires-clause-accepted c =
     let n = c.loop-number.number in
     let may = c.requires.accepted n c.index-containers-number.result c.loop-number-test.true in
-    subst (λ (o : ContainerObs). Accepts c.index-containers-number.result o.seen) (sym c.shown_of-shown.ensures)
-    (subst (λ (x : Container). Accepts x (unwrap_or (slice_get c.args.observed.now.containers n) unseen).seen)
-    (sym c.index-containers-number.is) may)
+    subst (λ (x : Container). Accepts x (unwrap_or (slice_get c.args.observed.now.containers n) unseen).seen)
+    (sym c.index-containers-number.is) may
 
 pub loop-number-preserved : goal.loop-number-preserved
 loop-number-preserved c =
     let n = c.loop-number.number in
     let observed = c.args.observed.now in
-    let next = c.after_tick-next.result.container in
+    let next = c.step-events.new.container in
+    let events = c.step-events.result in
     let so_far = c.loop-number.invariant in
     let within = item_at_any c.args.containers.now n c.index-containers-number.result c.loop-number-test.true
     c.index-containers-number.is in
@@ -36,31 +33,19 @@ loop-number-preserved c =
     → IsContainerOf pod greatest h k (slice_index_or c.args.containers.now k e)
     → IsContainerOf pod greatest (h ++ pod_tick observed ∷ []) k x in
     let here : P n next = λ e pod greatest h is.
-    next_is pod greatest n h observed c.index-containers-number.result next
-    (λ spec k st. subst (λ (o : ContainerObs). IsStateOf spec greatest (k ++ recorded observed.at o ∷ []) next)
-    c.shown_of-shown.ensures
-    (subst (λ (m : ℕ). IsStateOf spec greatest (k ++ recorded m c.shown_of-shown.result ∷ []) next) c.at-at.ensures
-    (c.after_tick-next.ensures.state spec greatest k st)))
-    (within (λ x. IsContainerOf pod greatest h n x) e is) in
+    c.step-events.ensures.state pod greatest h (within (λ x. IsContainerOf pod greatest h n x) e is) in
     let M : ℕ → ContainerEvents → Type 0 = λ k x. (e : Container) (pod : PodSpec) (greatest : ℕ) (h : List PodTick)
     → pod.policy ≡ c.args.policy → IsContainerOf pod greatest h k (slice_index_or c.args.containers.now k e)
     → IsMadeOf pod greatest h (pod_tick observed) k x in
-    let made_here : M n c.after_tick-next.result.made = λ e pod greatest h policy is.
-    made_is pod greatest n h observed c.args.policy c.index-containers-number.result c.after_tick-next.result.made
-    policy
-    (λ spec k st. subst (λ (o : ContainerObs). AreEvents c.args.policy greatest spec
-    (k ++ recorded observed.at o ∷ []) (length k) c.after_tick-next.result.made) c.shown_of-shown.ensures
-    (subst (λ (m : ℕ). AreEvents c.args.policy greatest spec (k ++ recorded m c.shown_of-shown.result ∷ []) (length k)
-    c.after_tick-next.result.made) c.at-at.ensures
-    (c.after_tick-next.ensures.made spec greatest k st)))
-    (within (λ x. IsContainerOf pod greatest h n x) e is) in
+    let made_here : M n events = λ e pod greatest h policy is.
+    c.step-events.ensures.made pod greatest h policy (within (λ x. IsContainerOf pod greatest h n x) e is) in
     let Q : List Container → Type 0 = λ xs. (k : ℕ) (d : Container) → k < n + 1 → P k (slice_index_or xs k d) in
     let R : List ContainerEvents → Type 0 = λ xs. (k : ℕ) (d : ContainerEvents) → k < n + 1
     → M k (slice_index_or xs k d) in
     let all = subst Q (sym c.in_ok-push.ensures.items)
     (pushed_each P c.loop-number.all.items next n so_far.as_many (λ k d lt e. so_far.each k d e lt) here) in
     let made = subst R (sym c.in_ok-push-2.ensures.items)
-    (pushed_each M c.loop-number.made.items c.after_tick-next.result.made n so_far.as_many_made
+    (pushed_each M c.loop-number.made.items events n so_far.as_many_made
     (λ k d lt e. so_far.each_made k d e lt) made_here) in
     record {
       as_many = omega (arith, c.in_ok-push.ensures.len, so_far.as_many);
