@@ -16,7 +16,7 @@ use Rattle.state_diff.specs.declared.differ.Differ.{Differ}
 use Rattle.state_diff.specs.Instances.{Tick, tick, seen_at, IsOf, IsOfAs, Listed, ListedAs, IsNewest, IsState, IsExit}
 use Rattle.state_diff.specs.Instances.{Ends}
 use Rattle.state_diff.specs.Differ.{IsNewestOf, IsListedBy, Follows, IsStateOf as IsDifferOf, Accepts as DifferAccepts}
-use Rattle.state_diff.proofs.Places.{added, split}
+use Rattle.state_diff.proofs.Places.{added}
 use Rattle.state_diff.proofs.Growth.{grows_seen, grows_ends, IsEffective-new}
 use Rattle.state_diff.proofs.Listings.{of_weaker, exited_of}
 use Rattle.state_diff.proofs.Found.{ended_listed}

@@ -4,8 +4,9 @@ ghost use Rattle.histories.specs.Histories.{recorded, IsFirstMoment, last_moment
 ghost use Rattle.manifest.specs.declared.pod.ContainerSpec.{ContainerSpec};
 ghost use Rattle.manifest.specs.declared.pod.Role.TheVariants.{Init};
 ghost use Rattle.state_diff.specs.declared.seen.CriState.TheVariants.{Running};
-ghost use Rattle.state_diff.specs.Instances.{Ends, IsAcceptable};
-ghost use Rattle.state_diff.specs.Differ.{IsStateOf as IsDifferOf, Accepts as DifferAccepts, AreChanges};
+ghost use Rattle.state_diff.specs.Instances.{Ends, ListedAs, IsAcceptable};
+ghost use Rattle.state_diff.specs.declared.differ.Differ.{Differ};
+ghost use Rattle.state_diff.specs.Differ.{IsStateOf as IsDifferOf, Accepts as DifferAccepts, AreChanges, IsOfNewest};
 ghost use Rattle.restarts.specs.Exits.{Exit};
 ghost use Rattle.restarts.specs.Delays.{IsDue};
 ghost use Rattle.restarts.specs.Backoff.{IsStateOf as IsBackoffOf};
@@ -179,24 +180,27 @@ impl Container {
         Followed { changes, verdicts }
     }
 
-    /// Counts the exits of a tick at the moment, by the changes from the container before it: by
-    /// how many seconds the restart after the last exit is put off.
-    fn count_exits(&mut self, before: &Container, changes: &Changes, at: u64) -> Option<u64>
+    /// Counts the exits of a tick at the moment, by its changes and by when the newest instance of
+    /// the container before it began to run: by how many seconds the restart after the last exit is
+    /// put off.
+    fn count_exits(&mut self, start: Option<u64>, changes: &Changes, at: u64) -> Option<u64>
         requires { at < 2 ^ 40 }
         ensures role { self.new.role ≡ self.old.role }
         ensures differ { self.new.differ ≡ self.old.differ }
         ensures probes { self.new.probes ≡ self.old.probes }
         ensures was_started { self.new.was_started ≡ self.old.was_started }
         ensures counted { (greatest : ℕ) (h : List ContainerTick) (observed : ContainerObs) (exits : List Exit)
-            → IsDifferOf (listings h) before.now.differ
+            (before : Differ)
+            → IsDifferOf (listings h) before
+            → IsOfNewest (listings h) (λ a. IsFirstMoment (listings h) (ListedAs (listings h) a Running)) start
             → IsDifferOf (listings (h ++ recorded at observed ∷ [])) self.old.differ
-            → DifferAccepts before.now.differ observed.seen
+            → DifferAccepts before observed.seen
             → AreChanges (listings (h ++ recorded at observed ∷ [])) (length h) changes.now
             → AreExits (listings h) exits
             → IsBackoffOf greatest exits self.old.backoff
             → AreCounted greatest h (recorded at observed) self.new.backoff result }
     {
-        let gone = run_until(changes.removed_died, before.differ.first_running(), at);
+        let gone = run_until(changes.removed_died, start, at);
         let died = changes.died.and(self.differ.run());
         count_both(&mut self.backoff, at, gone, died)
     }
@@ -214,18 +218,20 @@ impl Container {
             → IsStateOf spec greatest h self.old
             → AreEvents policy greatest spec (h ++ recorded at observed ∷ []) (length h) result }
     {
-        let before = *self;
+        let last_at = self.differ.last_at();
+        let start = self.differ.first_running();
+        let was_ready = self.is_ready();
         let followed = self.follow(at, observed);
-        let delay = self.count_exits(&before, &followed.changes, at);
+        let delay = self.count_exits(start, &followed.changes, at);
         self.was_started |= self.is_started();
-        let is_due = self.is_due(before.differ.last_at(), at);
+        let is_due = self.is_due(last_at, at);
         ContainerEvents {
             gone: places::gone(&followed.changes),
             started: places::started(&followed.changes),
             died: places::died(&followed.changes),
             passed: places::passed(observed.seen, followed.verdicts),
             kill: places::kill(observed.seen, followed.verdicts),
-            readiness: places::readiness(before.is_ready(), self.is_ready()),
+            readiness: places::readiness(was_ready, self.is_ready()),
             backoff: places::backoff(delay, self.puts_off(policy, at)),
             restart: places::restart(self.to_restart(policy), is_due),
         }

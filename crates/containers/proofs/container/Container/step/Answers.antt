@@ -20,7 +20,8 @@ counted : (c : goal.After-restart) (spec : ContainerSpec) (greatest : ℕ) (h : 
 counted c spec greatest h st =
     let is = following spec greatest h c.args.self.now st in
     let after = c.follow-followed.ensures.followed spec h is in
-    c.count_exits-delay.ensures.counted greatest h c.args.observed st.exits st.differ after.differ c.requires.accepted
+    c.count_exits-delay.ensures.counted greatest h c.args.observed st.exits c.args.self.now.differ st.differ
+    (c.first_running-start.ensures _ st.differ) after.differ c.requires.accepted
     (c.follow-followed.ensures.changes spec h is) st.are_exits
     (subst (λ (b : Backoff). IsBackoffOf greatest st.exits b) (sym c.follow-followed.ensures.backoff) st.backoff)
 
@@ -54,13 +55,13 @@ returns-clause-events c = λ spec greatest h st.
           verdicts c.passed.ensures;
       kill = kill_gives spec h x d c.follow-followed.result.verdicts c.kill.result st.differ c.requires.accepted
           verdicts c.kill.ensures;
-      readiness = readiness_gives spec h x c.is_ready.result c.is_ready-2.result c.readiness.result
-          (c.is_ready.ensures spec greatest h st) (c.is_ready-2.ensures spec greatest (h ++ x ∷ []) after)
+      readiness = readiness_gives spec h x c.is_ready-was_ready.result c.is_ready.result c.readiness.result
+          (c.is_ready-was_ready.ensures spec greatest h st) (c.is_ready.ensures spec greatest (h ++ x ∷ []) after)
           c.readiness.ensures;
       backoff = backoff_gives c.args.policy greatest spec h x _ c.count_exits-delay.result c.puts_off.result
           c.backoff.result after.rising exits (c.puts_off.ensures spec (h ++ x ∷ []) now) c.backoff.ensures;
       restart = restart_gives c.args.policy greatest spec h x _ c.count_exits-delay.result c.to_restart.result
-          c.last_at.result c.is_due-is_due.result c.restart.result st.rising exits
-          (c.last_at.ensures.moment _ st.differ ∙ last_listed h) (c.to_restart.ensures spec (h ++ x ∷ []) now)
+          c.last_at-last_at.result c.is_due-is_due.result c.restart.result st.rising exits
+          (c.last_at-last_at.ensures.moment _ st.differ ∙ last_listed h) (c.to_restart.ensures spec (h ++ x ∷ []) now)
           (c.is_due-is_due.ensures greatest exits.exits exits.counted) c.restart.ensures;
     }
