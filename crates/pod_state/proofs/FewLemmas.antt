@@ -1,6 +1,5 @@
--- A pod of one container, after one more tick.
-use Rattle.std.proofs.Common.{◌≡◌, ℕ, zero, suc, ◌<◌, List, [], ◌∷◌, ◌++◌, length, get_or, arith, refl, sym}
-use Rattle.std.proofs.Math.ListN.{set}
+-- A pod of one container, or of two, after one more tick.
+use Rattle.std.proofs.Common.{◌≡◌, ℕ, zero, suc, ◌<◌, List, [], ◌∷◌, ◌++◌, length, get_or, arith, sym}
 use Rattle.phase.specs.declared.view.ContainerView.{ContainerView}
 use Rattle.manifest.specs.declared.pod.PodSpec.{PodSpec}
 use Rattle.containers.specs.declared.container.Container.{Container}
@@ -10,48 +9,98 @@ use Rattle.pod_state.specs.Containers.{IsContainerOf, AreContainersOf}
 use Rattle.pod_state.specs.Events.{IsMadeOf, AreMade}
 use Rattle.pod_state.proofs.ContainerLemmas.{item_at}
 
--- what holds of the only item holds of each
-each_of : {A : Type 0} (P : ℕ → A → Type 0) (x : A) → P 0 x → (n : ℕ) (d : A) → n < 1 → P n (get_or (x ∷ []) n d)
-each_of P x is zero d lt = is
-each_of P x is (suc n) d lt = absurd (omega (arith, lt))
+-- what holds of each of one or two items, each by its place
+each_of_one : {A : Type 0} (P : ℕ → A → Type 0) (x : A) → P 0 x
+    → (n : ℕ) (d : A) → n < 1 → P n (get_or (x ∷ []) n d)
+each_of_one P x is zero d lt = is
+each_of_one P x is (suc n) d lt = absurd (omega (arith, lt))
 
--- the only item, written over
-pub only_set : {A : Type 0} (xs : List A) (x : A) → length xs ≡ 1 → set xs 0 x ≡ x ∷ []
-only_set [] x long = absurd (omega (arith, long))
-only_set (y ∷ []) x long = refl
-only_set (y ∷ z ∷ zs) x long = absurd (omega (arith, long))
+each_of_two : {A : Type 0} (P : ℕ → A → Type 0) (x y : A) → P 0 x → P 1 y
+    → (n : ℕ) (d : A) → n < 2 → P n (get_or (x ∷ y ∷ []) n d)
+each_of_two P x y is also zero d lt = is
+each_of_two P x y is also (suc zero) d lt = also
+each_of_two P x y is also (suc (suc n)) d lt = absurd (omega (arith, lt))
 
-pub only_next : (pod : PodSpec) (greatest : ℕ) (h : List PodTick) (tick : PodTick) (containers : List Container)
+-- the containers after the tick
+pub one_next : (pod : PodSpec) (greatest : ℕ) (h : List PodTick) (tick : PodTick) (containers : List Container)
     (old new : Container) → length containers ≡ 1 → old ≡ get_or containers 0 old
     → (IsContainerOf pod greatest h 0 old → IsContainerOf pod greatest (h ++ tick ∷ []) 0 new)
     → AreContainersOf pod greatest h containers → AreContainersOf pod greatest (h ++ tick ∷ []) (new ∷ [])
-only_next pod greatest h tick containers old new long is step are =
-    let one : length pod.containers ≡ 1 = omega (arith, long, are.as_many) in
+one_next pod greatest h tick containers old new long is step are =
+    let count : length pod.containers ≡ 1 = omega (arith, long, are.as_many) in
     let now = step (item_at pod greatest h 0 containers old old (omega (arith, long)) is
-    (are.each 0 old (omega (arith, one)))) in
+    (are.each 0 old (omega (arith, count)))) in
     record {
-      as_many = sym one;
-      each = λ n d lt. each_of (IsContainerOf pod greatest (h ++ tick ∷ [])) new now n d (omega (arith, one, lt));
+      as_many = sym count;
+      each = λ n d lt. each_of_one (IsContainerOf pod greatest (h ++ tick ∷ [])) new now n d (omega (arith, count, lt));
     }
 
-pub only_made : (pod : PodSpec) (greatest : ℕ) (h : List PodTick) (tick : PodTick) (containers : List Container)
+pub two_next : (pod : PodSpec) (greatest : ℕ) (h : List PodTick) (tick : PodTick) (containers : List Container)
+    (one other next also : Container) → length containers ≡ 2 → one ≡ get_or containers 0 one
+    → other ≡ get_or containers 1 other
+    → (IsContainerOf pod greatest h 0 one → IsContainerOf pod greatest (h ++ tick ∷ []) 0 next)
+    → (IsContainerOf pod greatest h 1 other → IsContainerOf pod greatest (h ++ tick ∷ []) 1 also)
+    → AreContainersOf pod greatest h containers → AreContainersOf pod greatest (h ++ tick ∷ []) (next ∷ also ∷ [])
+two_next pod greatest h tick containers one other next also long is is_other step step_other are =
+    let count : length pod.containers ≡ 2 = omega (arith, long, are.as_many) in
+    let now = step (item_at pod greatest h 0 containers one one (omega (arith, long)) is
+    (are.each 0 one (omega (arith, count)))) in
+    let now_other = step_other (item_at pod greatest h 1 containers other other (omega (arith, long)) is_other
+    (are.each 1 other (omega (arith, count)))) in
+    record {
+      as_many = sym count;
+      each = λ n d lt. each_of_two (IsContainerOf pod greatest (h ++ tick ∷ [])) next also now now_other n d
+          (omega (arith, count, lt));
+    }
+
+-- what the tick made of them
+pub one_made : (pod : PodSpec) (greatest : ℕ) (h : List PodTick) (tick : PodTick) (containers : List Container)
     (old : Container) (made : ContainerEvents) → length containers ≡ 1 → old ≡ get_or containers 0 old
     → (IsContainerOf pod greatest h 0 old → IsMadeOf pod greatest h tick 0 made)
     → AreContainersOf pod greatest h containers → AreMade pod greatest h tick (made ∷ [])
-only_made pod greatest h tick containers old made long is step are =
-    let one : length pod.containers ≡ 1 = omega (arith, long, are.as_many) in
+one_made pod greatest h tick containers old made long is step are =
+    let count : length pod.containers ≡ 1 = omega (arith, long, are.as_many) in
     let now = step (item_at pod greatest h 0 containers old old (omega (arith, long)) is
-    (are.each 0 old (omega (arith, one)))) in
+    (are.each 0 old (omega (arith, count)))) in
     record {
-      as_many = sym one;
-      each = λ n d lt. each_of (IsMadeOf pod greatest h tick) made now n d (omega (arith, one, lt));
+      as_many = sym count;
+      each = λ n d lt. each_of_one (IsMadeOf pod greatest h tick) made now n d (omega (arith, count, lt));
     }
 
-pub only_view : (pod : PodSpec) (greatest : ℕ) (h : List PodTick) (container : Container) (view : ContainerView)
+pub two_made : (pod : PodSpec) (greatest : ℕ) (h : List PodTick) (tick : PodTick) (containers : List Container)
+    (one other : Container) (made also : ContainerEvents) → length containers ≡ 2 → one ≡ get_or containers 0 one
+    → other ≡ get_or containers 1 other
+    → (IsContainerOf pod greatest h 0 one → IsMadeOf pod greatest h tick 0 made)
+    → (IsContainerOf pod greatest h 1 other → IsMadeOf pod greatest h tick 1 also)
+    → AreContainersOf pod greatest h containers → AreMade pod greatest h tick (made ∷ also ∷ [])
+two_made pod greatest h tick containers one other made also long is is_other step step_other are =
+    let count : length pod.containers ≡ 2 = omega (arith, long, are.as_many) in
+    let now = step (item_at pod greatest h 0 containers one one (omega (arith, long)) is
+    (are.each 0 one (omega (arith, count)))) in
+    let now_other = step_other (item_at pod greatest h 1 containers other other (omega (arith, long)) is_other
+    (are.each 1 other (omega (arith, count)))) in
+    record {
+      as_many = sym count;
+      each = λ n d lt. each_of_two (IsMadeOf pod greatest h tick) made also now now_other n d
+          (omega (arith, count, lt));
+    }
+
+-- and their views
+pub one_view : (pod : PodSpec) (greatest : ℕ) (h : List PodTick) (container : Container) (view : ContainerView)
     → (IsContainerOf pod greatest h 0 container → IsViewOf pod h 0 view)
     → AreContainersOf pod greatest h (container ∷ []) → AreViewsOf pod h (view ∷ [])
-only_view pod greatest h container view shows are = record {
+one_view pod greatest h container view shows are = record {
   as_many = are.as_many;
-  each = λ n d lt. each_of (IsViewOf pod h) view (shows (are.each 0 container (omega (arith, are.as_many)))) n d
+  each = λ n d lt. each_of_one (IsViewOf pod h) view (shows (are.each 0 container (omega (arith, are.as_many)))) n d
       (omega (arith, are.as_many, lt));
+}
+
+pub two_views : (pod : PodSpec) (greatest : ℕ) (h : List PodTick) (one other : Container) (view also : ContainerView)
+    → (IsContainerOf pod greatest h 0 one → IsViewOf pod h 0 view)
+    → (IsContainerOf pod greatest h 1 other → IsViewOf pod h 1 also)
+    → AreContainersOf pod greatest h (one ∷ other ∷ []) → AreViewsOf pod h (view ∷ also ∷ [])
+two_views pod greatest h one other view also shows shows_other are = record {
+  as_many = are.as_many;
+  each = λ n d lt. each_of_two (IsViewOf pod h) view also (shows (are.each 0 one (omega (arith, are.as_many))))
+      (shows_other (are.each 1 other (omega (arith, are.as_many)))) n d (omega (arith, are.as_many, lt));
 }

@@ -9,4 +9,4 @@ pub mod UniqueLemmas
 pub mod LawLemmas
 pub mod FoundLemmas
 pub mod EventFoundLemmas
-pub mod OneLemmas
+pub mod FewLemmas

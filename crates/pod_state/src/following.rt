@@ -87,6 +87,7 @@ pub(crate) fn next_containers(
     requires accepted { AllAccept containers.now observed.now.containers }
     requires later { AllBefore containers.now observed.now.at }
     requires bounded { observed.now.at < 2 ^ 40 }
+    ensures count { IfOk result (λ next. length next.containers.items ≡ length containers.now) }
     ensures containers { IfOk result (λ next. (pod : PodSpec) (greatest : ℕ) (h : List PodTick)
         → AreContainersOf pod greatest h containers.now
         → AreContainersOf pod greatest (h ++ pod_tick observed.now ∷ []) next.containers.items) }

@@ -3,20 +3,20 @@ ghost use Rattle.std.specs.Prelude.{IfOk, OnOk, OnErr, vec_len};
 ghost use Rattle.histories.specs.Histories.{recorded};
 ghost use Rattle.manifest.specs.declared.pod.PodSpec.{PodSpec};
 ghost use Rattle.phase.specs.RawPhase.{IsTerminal};
-ghost use Rattle.pod_state.specs.Pods.{PodEntry, PodTick, pod_tick, IsEnd, EndsEvicted};
-ghost use Rattle.pod_state.specs.Containers.{AreStatusesOf};
-ghost use Rattle.pod_state.specs.Events.{AreEventsOf};
+ghost use Rattle.pod_state.specs.Pods.{PodEntry, PodTick, pod_tick, AreViewsOf, IsEnd, EndsEvicted};
+ghost use Rattle.pod_state.specs.Containers.{AreContainersOf, AreStatusesOf};
+ghost use Rattle.pod_state.specs.Events.{AreMade, AreEventsOf};
 ghost use Rattle.pod_state.specs.Lifecycles.{IsLifecycleOf, IsProgressOf};
 ghost use Rattle.pod_state.specs.States.{before_of, HasContainers, IsStateOf, MayFollow};
 
 use crate::events::{PodEvent, events_of, phase_event};
 use crate::following::{all_ready, first_containers, next_containers, show, step, views_of};
 use crate::lifecycle::Lifecycle;
-use containers::{Container, ContainerStatus};
+use containers::{Container, ContainerEvents, ContainerStatus};
 use manifest::{MaxRestartDelay, PodSpec, Policy};
 use observations::PodObs;
+use phase::ContainerView;
 use std::alloc::{AllocError, Global};
-use std::slice::from_ref;
 
 /// A pod as its ticks so far leave it: its containers, its phase and its conditions. It keeps none
 /// of the ticks. (Kubernetes, "Pod Lifecycle".)
@@ -87,32 +87,49 @@ impl PodState {
             self.lifecycle = lifecycle;
             return Ok(Vec::new(alloc));
         }
+        // Most pods have one container or two: these are stepped on the stack, and the events alone take memory.
         if self.containers.len() == 1 {
-            return self.take_one(alloc, policy, observed);
+            let mut next = [self.containers[0]];
+            let made = [step(&mut next[0], policy, observed, 0)];
+            let views = [next[0].view()];
+            return self.settle(alloc, policy, observed, &next, &made, &views);
         }
-        let next = next_containers(alloc, &self.containers, policy, observed)?;
-        let views = views_of(alloc, &next.containers)?;
-        let ready = all_ready(&next.containers);
-        lifecycle.advance(policy, observed.at(), &views, ready, false);
-        let change = phase_event(self.lifecycle.phase, lifecycle.phase);
-        let events = events_of(alloc, &next.made, lifecycle.phase, change)?;
-        self.before = self.lifecycle;
-        self.containers = next.containers;
-        self.lifecycle = lifecycle;
-        Ok(events)
+        if self.containers.len() == 2 {
+            let mut next = [self.containers[0], self.containers[1]];
+            let made = [
+                step(&mut next[0], policy, observed, 0),
+                step(&mut next[1], policy, observed, 1),
+            ];
+            let views = [next[0].view(), next[1].view()];
+            return self.settle(alloc, policy, observed, &next, &made, &views);
+        }
+        let all = next_containers(alloc, &self.containers, policy, observed)?;
+        let (next, made) = (&all.containers, &all.made);
+        let views = views_of(alloc, next)?;
+        self.settle(alloc, policy, observed, next, made, &views)
     }
 
-    /// The same of a pod of one container that has not ended, as most have one: it takes memory for the events alone.
-    fn take_one(
+    /// The tick leaves the containers so, as these views show them, and has made this of them: the events of the tick.
+    /// An `Err` changes nothing.
+    fn settle(
         &mut self,
         alloc: Global,
         policy: Policy,
         observed: &PodObs,
+        next: &[Container],
+        made: &[ContainerEvents],
+        views: &[ContainerView],
     ) -> Result<Vec<PodEvent>, AllocError>
-        requires one { vec_len self.old.containers ≡ 1 }
         requires lives { IsTerminal self.old.lifecycle.phase → ⊥ }
-        requires follows { MayFollow self.old observed.now.at observed.now.containers }
-        requires bounded { observed.now.at < 2 ^ 40 }
+        requires count { vec_len self.old.containers ≡ length next.now }
+        requires containers { (pod : PodSpec) (greatest : ℕ) (h : List PodTick)
+            → AreContainersOf pod greatest h self.old.containers.items
+            → AreContainersOf pod greatest (h ++ pod_tick observed.now ∷ []) next.now }
+        requires made { (pod : PodSpec) (greatest : ℕ) (h : List PodTick)
+            → pod.policy ≡ policy → AreContainersOf pod greatest h self.old.containers.items
+            → AreMade pod greatest h (pod_tick observed.now) made.now }
+        requires views { (pod : PodSpec) (greatest : ℕ) (h : List PodTick)
+            → AreContainersOf pod greatest h next.now → AreViewsOf pod h views.now }
         ensures ok { OnOk result ((pod : PodSpec) (greatest : ℕ) (evicted : Option ℕ) (h : List PodTick)
             → pod.policy ≡ policy
             → (evicted ≡ Some (length h) → ⊥)
@@ -126,15 +143,13 @@ impl PodState {
             → AreEventsOf pod greatest evicted h (pod_tick observed.now) v.items) }
         ensures err { OnErr result (self.new ≡ self.old) }
     {
-        let mut next = self.containers[0];
-        let made = step(&mut next, policy, observed, 0);
-        let ready = all_ready(from_ref(&next));
+        let ready = all_ready(next);
         let mut lifecycle = self.lifecycle;
-        lifecycle.advance(policy, observed.at(), &[next.view()], ready, false);
+        lifecycle.advance(policy, observed.at(), views, ready, false);
         let change = phase_event(self.lifecycle.phase, lifecycle.phase);
-        let events = events_of(alloc, from_ref(&made), lifecycle.phase, change)?;
+        let events = events_of(alloc, made, lifecycle.phase, change)?;
         self.before = self.lifecycle;
-        self.containers[0] = next;
+        self.containers.copy_from_slice(next);
         self.lifecycle = lifecycle;
         Ok(events)
     }

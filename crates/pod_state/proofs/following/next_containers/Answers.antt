@@ -54,6 +54,9 @@ loop-number-preserved c =
       each_made = λ k d e lt. made k d lt e;
     }
 
+pub returns-clause-count : goal.returns-clause-count
+returns-clause-count c = omega (arith, c.loop-number.invariant.as_many)
+
 pub returns-clause-containers : goal.returns-clause-containers
 returns-clause-containers c = λ pod greatest h are. record {
   as_many = omega (arith, c.loop-number.invariant.as_many, are.as_many);

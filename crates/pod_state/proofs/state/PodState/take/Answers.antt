@@ -1,15 +1,16 @@
-use Rattle.std.proofs.Common.{◌∙◌, ℕ, ◌++◌, ◌∷◌, [], List, false, None, refl, ap, sym, subst}
-use Rattle.containers.specs.declared.events.ContainerEvents.{ContainerEvents}
+use Rattle.std.proofs.Common.{◌≡◌, ◌∙◌, ◌++◌, ◌∷◌, [], ℕ, List, length, false, refl, sym, subst, arith}
 use Rattle.std.proofs.lemmas.Bool.{iff_false}
 use Rattle.phase.specs.declared.view.ContainerView.{ContainerView}
-use Rattle.phase.specs.RawPhase.{IsTerminal}
 use Rattle.containers.specs.declared.container.Container.{Container}
-use Rattle.pod_state.specs.Pods.{pod_tick, AreViewsOf, IsPhase}
+use Rattle.containers.specs.declared.events.ContainerEvents.{ContainerEvents}
+use Rattle.pod_state.specs.Pods.{pod_tick, AreViewsOf}
 use Rattle.pod_state.specs.Lifecycles.{IsNext}
-use Rattle.pod_state.specs.Events.{AreMade, events_at, events_from}
+use Rattle.pod_state.specs.Events.{AreMade}
 use Rattle.pod_state.specs.Containers.{AreContainersOf}
 use Rattle.pod_state.specs.States.{AllAccept}
-use Rattle.pod_state.proofs.StateLemmas.{not_evicted, after_end, before_end, events_ended, events_lives}
+use Rattle.pod_state.proofs.ContainerLemmas.{view_is}
+use Rattle.pod_state.proofs.FewLemmas.{one_next, one_made, one_view, two_next, two_made, two_views}
+use Rattle.pod_state.proofs.StateLemmas.{not_evicted, after_end, events_ended}
 use Rattle.pod_state.proofs.state.PodState.take.Goals as goal
 
 pub returns-then-has_ended-clause-ok : goal.returns-then-has_ended-clause-ok
@@ -21,65 +22,102 @@ returns-then-has_ended-clause-ok c = λ pod greatest evicted h policy stays st.
     c.at.ensures c.advance.ensures pod evicted h x.entry policy (λ lives. absurd (lives ended))
     (λ lives. absurd (lives ended)) (not_evicted evicted h stays) st.progress)
 
+pub returns-then-has_ended-clause-events : goal.returns-then-has_ended-clause-events
+returns-then-has_ended-clause-events c = λ pod greatest evicted h policy stays st.
+    events_ended pod greatest evicted h (pod_tick c.args.observed.now) c.args.self.now _ st
+    (c.has_ended.ensures.terminal.0 c.if-has_ended.true) c.new.ensures.items
+
+-- of one container
+pub settle-requires-clause-containers : goal.settle-requires-clause-containers
+settle-requires-clause-containers c = λ pod greatest h before.
+    let long : length c.args.self.now.containers.items ≡ 1 = omega (
+      arith,
+      c.len.ensures,
+      c.if-len-eq1.true,
+      c.args.self.now.containers.ok.0,
+    ) in
+    one_next pod greatest h (pod_tick c.args.observed.now) c.args.self.now.containers.items c.index.result.now
+    c.step.new.container long c.index.ensures (c.step.ensures.state pod greatest h) before
+
+pub settle-requires-clause-made : goal.settle-requires-clause-made
+settle-requires-clause-made c = λ pod greatest h policy before.
+    let long : length c.args.self.now.containers.items ≡ 1 = omega (
+      arith,
+      c.len.ensures,
+      c.if-len-eq1.true,
+      c.args.self.now.containers.ok.0,
+    ) in
+    one_made pod greatest h (pod_tick c.args.observed.now) c.args.self.now.containers.items c.index.result.now
+    c.step.result long c.index.ensures (c.step.ensures.made pod greatest h policy) before
+
+pub settle-requires-clause-views : goal.settle-requires-clause-views
+settle-requires-clause-views c = λ pod greatest h are.
+    one_view pod greatest h c.step.new.container c.view.result
+    (view_is pod greatest 0 h c.step.new.container c.view.result (λ spec k st. c.view.ensures spec greatest k st)) are
+
+-- of two
+pub settle-requires-then-len-eq2-clause-containers : goal.settle-requires-then-len-eq2-clause-containers
+settle-requires-then-len-eq2-clause-containers c = λ pod greatest h before.
+    let long : length c.args.self.now.containers.items ≡ 2 = omega (
+      arith,
+      c.len-2.ensures,
+      c.if-len-eq2.true,
+      c.args.self.now.containers.ok.0,
+    ) in
+    two_next pod greatest h (pod_tick c.args.observed.now) c.args.self.now.containers.items
+    c.index-then-len-eq2.result.now c.index-then-len-eq2-2.result.now c.step-then-len-eq2.new.container
+    c.step-then-len-eq2-2.new.container long c.index-then-len-eq2.ensures c.index-then-len-eq2-2.ensures
+    (c.step-then-len-eq2.ensures.state pod greatest h) (c.step-then-len-eq2-2.ensures.state pod greatest h) before
+
+pub settle-requires-then-len-eq2-clause-made : goal.settle-requires-then-len-eq2-clause-made
+settle-requires-then-len-eq2-clause-made c = λ pod greatest h policy before.
+    let long : length c.args.self.now.containers.items ≡ 2 = omega (
+      arith,
+      c.len-2.ensures,
+      c.if-len-eq2.true,
+      c.args.self.now.containers.ok.0,
+    ) in
+    two_made pod greatest h (pod_tick c.args.observed.now) c.args.self.now.containers.items
+    c.index-then-len-eq2.result.now c.index-then-len-eq2-2.result.now c.step-then-len-eq2.result
+    c.step-then-len-eq2-2.result long c.index-then-len-eq2.ensures c.index-then-len-eq2-2.ensures
+    (c.step-then-len-eq2.ensures.made pod greatest h policy) (c.step-then-len-eq2-2.ensures.made pod greatest h policy)
+    before
+
+pub settle-requires-then-len-eq2-clause-views : goal.settle-requires-then-len-eq2-clause-views
+settle-requires-then-len-eq2-clause-views c = λ pod greatest h are.
+    let one = c.step-then-len-eq2.new.container in
+    let other = c.step-then-len-eq2-2.new.container in
+    let view = c.view-then-len-eq2.result in
+    let also = c.view-then-len-eq2-2.result in
+    two_views pod greatest h one other view also
+    (view_is pod greatest 0 h one view (λ spec k st. c.view-then-len-eq2.ensures spec greatest k st))
+    (view_is pod greatest 1 h other also (λ spec k st. c.view-then-len-eq2-2.ensures spec greatest k st)) are
+
+-- of more
 pub next_containers-requires-clause-accepted : goal.next_containers-requires-clause-accepted
 next_containers-requires-clause-accepted c =
     let lives = iff_false c.has_ended.ensures.terminal c.if-has_ended.false in
     subst (λ (cs : List Container). AllAccept cs c.args.observed.now.containers) (sym c.deref.ensures.value)
     (c.requires.follows.accepted lives)
 
-pub returns-then-has_ended-clause-events : goal.returns-then-has_ended-clause-events
-returns-then-has_ended-clause-events c = λ pod greatest evicted h policy stays st.
-    events_ended pod greatest evicted h (pod_tick c.args.observed.now) c.args.self.now _ st
-    (c.has_ended.ensures.terminal.0 c.if-has_ended.true) c.new.ensures.items
-
--- the lifecycle after the tick, of a pod that had not ended
-pub returns-clause-ok : goal.returns-clause-ok
-returns-clause-ok c = λ pod greatest evicted h policy stays st.
-    let lives : IsTerminal c.args.self.now.lifecycle.phase → ⊥ = iff_false c.has_ended.ensures.terminal
-    c.if-has_ended.false in
-    let x = pod_tick c.args.observed.now in
-    before_end pod greatest evicted h x c.args.self.now _ c.in_ok-next.next.containers.items st lives refl
-    (λ before. c.in_ok-next.ensures.containers pod greatest h
+pub settle-requires-2-clause-containers : goal.settle-requires-2-clause-containers
+settle-requires-2-clause-containers c = λ pod greatest h before.
+    subst (λ (cs : List Container). AreContainersOf pod greatest (h ++ pod_tick c.args.observed.now ∷ []) cs)
+    (sym c.deref-3.ensures.value)
+    (c.in_ok-all.ensures.containers pod greatest h
     (subst (λ (cs : List Container). AreContainersOf pod greatest h cs) (sym c.deref.ensures.value) before))
-    (λ after.
-    let views = c.in_ok-views.ensures pod greatest (h ++ x ∷ [])
-    (subst (λ (cs : List Container). AreContainersOf pod greatest (h ++ x ∷ []) cs) (sym c.deref-2.ensures.value)
-    after) in
-    subst (λ (m : ℕ). IsNext c.args.policy m c.deref-4.result.now c.all_ready-ready.result false
-    c.args.self.now.lifecycle c.advance-2.new.self) c.at-2.ensures c.advance-2.ensures pod evicted h x.entry
-    policy (λ not. subst (λ (vs : List ContainerView). AreViewsOf pod (h ++ x ∷ []) vs)
-    (sym c.deref-4.ensures.value) views)
-    (λ not. c.all_ready-ready.ensures pod greatest (h ++ x ∷ [])
-    (subst (λ (cs : List Container). AreContainersOf pod greatest (h ++ x ∷ []) cs) (sym c.deref-3.ensures.value)
-    after))
-    (not_evicted evicted h stays) st.progress)
 
-pub returns-clause-events : goal.returns-clause-events
-returns-clause-events c = λ pod greatest evicted h policy stays st.
-    let lives : IsTerminal c.args.self.now.lifecycle.phase → ⊥ = iff_false c.has_ended.ensures.terminal
-    c.if-has_ended.false in
-    let x = pod_tick c.args.observed.now in
-    let kept : AreContainersOf pod greatest h c.args.self.now.containers.items
-    → AreContainersOf pod greatest h c.deref.result.now =
-    λ before. subst (λ (cs : List Container). AreContainersOf pod greatest h cs) (sym c.deref.ensures.value) before in
-    let made : AreContainersOf pod greatest h c.args.self.now.containers.items
-    → AreMade pod greatest h x c.in_ok-next.next.made.items =
-    λ before. c.in_ok-next.ensures.made pod greatest h policy (kept before) in
-    let phase : AreContainersOf pod greatest h c.args.self.now.containers.items
-    → IsPhase pod evicted (h ++ x ∷ []) c.advance-2.new.self.phase = λ before.
-    let after = c.in_ok-next.ensures.containers pod greatest h (kept before) in
-    let views = c.in_ok-views.ensures pod greatest (h ++ x ∷ [])
-    (subst (λ (cs : List Container). AreContainersOf pod greatest (h ++ x ∷ []) cs) (sym c.deref-2.ensures.value)
-    after) in
-    (subst (λ (m : ℕ). IsNext c.args.policy m c.deref-4.result.now c.all_ready-ready.result false
-    c.args.self.now.lifecycle c.advance-2.new.self) c.at-2.ensures c.advance-2.ensures pod evicted h x.entry
-    policy (λ not. subst (λ (vs : List ContainerView). AreViewsOf pod (h ++ x ∷ []) vs)
-    (sym c.deref-4.ensures.value) views)
-    (λ not. c.all_ready-ready.ensures pod greatest (h ++ x ∷ [])
-    (subst (λ (cs : List Container). AreContainersOf pod greatest (h ++ x ∷ []) cs) (sym c.deref-3.ensures.value)
-    after))
-    (not_evicted evicted h stays) st.progress).so_far.phase in
-    events_lives pod greatest evicted h x c.args.self.now c.advance-2.new.self c.in_ok-next.next.made.items _ _ st
-    lives stays made phase c.phase_event-change.ensures
-    (c.in_ok-events.ensures ∙ ap (λ (ms : List ContainerEvents). events_from c.advance-2.new.self.phase 0 ms
-    ++ events_at None (c.phase_event-change.result ∷ [])) c.deref-5.ensures.value)
+pub settle-requires-2-clause-made : goal.settle-requires-2-clause-made
+settle-requires-2-clause-made c = λ pod greatest h policy before.
+    subst (λ (ms : List ContainerEvents). AreMade pod greatest h (pod_tick c.args.observed.now) ms)
+    (sym c.deref-4.ensures.value)
+    (c.in_ok-all.ensures.made pod greatest h policy
+    (subst (λ (cs : List Container). AreContainersOf pod greatest h cs) (sym c.deref.ensures.value) before))
+
+pub settle-requires-2-clause-views : goal.settle-requires-2-clause-views
+settle-requires-2-clause-views c = λ pod greatest h are.
+    subst (λ (vs : List ContainerView). AreViewsOf pod h vs) (sym c.deref-5.ensures.value)
+    (c.in_ok-views.ensures pod greatest h
+    (subst (λ (cs : List Container). AreContainersOf pod greatest h cs) (c.deref-3.ensures.value
+    ∙ sym c.deref-2.ensures.value)
+    are))
