@@ -4,12 +4,14 @@
 mod event;
 pub mod laws;
 mod names;
+mod phrases;
 mod text;
 mod tick;
 mod words;
 
 pub use event::{Event, EventKind};
 pub use names::Names;
-pub use text::event_text;
+pub use phrases::add_with_number;
+pub use text::{add_event_text, add_eviction_words, event_text};
 pub use tick::add_events;
 pub use words::{eviction_words, phase_word, truth_word};

@@ -1,9 +1,10 @@
 //! The names of a node's pods.
 
-ghost use Rattle.std.specs.Prelude.{◌≡◌, IfOk, IfSome, IfNone, None, Some, string_bytes};
+ghost use Rattle.std.specs.Prelude.{◌≡◌, ◌++◌, IfOk, OnOk, IfSome, IfNone, None, Some, string_bytes};
 ghost use Rattle.event_list.specs.Names.{pod_in};
 ghost use Rattle.event_list.specs.Text.{key_of};
 
+use crate::phrases::add;
 use manifest::PodSpec;
 use pod_piece::PodPiece;
 use std::alloc::{AllocError, Global};
@@ -30,15 +31,26 @@ impl<'n> Names<'n> {
         let piece = self.pods.get(number)?;
         Some(piece.pod())
     }
+
+    /// Appends the key of the pod with the number, as `key` writes it.
+    pub(crate) fn add_key(self, text: &mut String, number: usize) -> Result<(), AllocError>
+        ensures { OnOk result (string_bytes text.new
+            ≡ string_bytes text.old ++ key_of (pod_in self.entry.pods.now number)) }
+    {
+        let Some(pod) = self.pod(number) else {
+            return Ok(());
+        };
+        add(text, pod.namespace.as_str())?;
+        add(text, "/")?;
+        add(text, pod.name.as_str())
+    }
+
     /// The key of the pod with the number, `NAMESPACE/NAME`; of a number without a pod it is empty.
     pub fn key(self, alloc: Global, number: usize) -> Result<String, AllocError>
         ensures { IfOk result (λ s. string_bytes s ≡ key_of (pod_in self.entry.pods.now number)) }
     {
-        let Some(pod) = self.pod(number) else {
-            return Ok(String::new(alloc));
-        };
-        let namespace = pod.namespace.as_str();
-        let name = pod.name.as_str();
-        format!(in alloc; "{namespace}/{name}")
+        let mut text = String::new(alloc);
+        self.add_key(&mut text, number)?;
+        Ok(text)
     }
 }

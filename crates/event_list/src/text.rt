@@ -1,15 +1,17 @@
 //! The line of an event.
 
-ghost use Rattle.std.specs.Prelude.{◌≡◌, IfOk, string_bytes, Option};
+ghost use Rattle.std.specs.Prelude.{◌≡◌, ◌++◌, IfOk, OnOk, string_bytes, Option, codes};
 ghost use Rattle.event_list.specs.Text.{container_of, what_words, pod_event_words, node_event_words};
-ghost use Rattle.event_list.specs.Text.{event_words, event_line, of_attempt, threshold_words};
+ghost use Rattle.event_list.specs.Text.{event_words, event_line, key_of, eviction_words};
 ghost use Rattle.event_list.specs.declared.event.EventKind.TheVariants.{Evicted};
+ghost use Rattle.node_signals.specs.declared.event.NodeEvent.TheVariants.{Reclaim};
 ghost use Rattle.pod_piece.specs.Piece.{pods_in};
 ghost use Rattle.event_list.specs.Names.{pod_in};
 
 use crate::event::{Event, EventKind};
 use crate::names::Names;
-use crate::words::{activity_word, cause_word, eviction_words, phase_word, truth_word};
+use crate::phrases::{add, add_with_number};
+use crate::words::{activity_word, add_order, add_threshold, cause_word, phase_word, truth_word};
 use containers::What;
 use eviction::Eviction;
 use node_signals::{NodeEvent, ThresholdKey};
@@ -32,109 +34,134 @@ fn container_text(names: Names<'_>, number: usize, container: Option<usize>) -> 
     }
 }
 
-fn of_attempt(alloc: Global, word: &str, attempt: u32) -> Result<String, AllocError>
-    ensures { IfOk result (λ s. string_bytes s ≡ of_attempt word.now attempt) }
-{
-    format!(in alloc; "{word} {attempt}")
-}
-
-/// What happened to a container or to a pod.
+/// Appends a space, and what happened to a container or to a pod.
 #[tactic(auto, unfolding(crate::specs::Text::what_words))]
-fn what_text(alloc: Global, what: What) -> Result<String, AllocError>
-    ensures { IfOk result (λ s. string_bytes s ≡ what_words what) }
+fn add_what(text: &mut String, what: What) -> Result<(), AllocError>
+    ensures { OnOk result (string_bytes text.new ≡ string_bytes text.old ++ (codes " " ++ what_words what)) }
 {
     match what {
-        What::Died(attempt, code) => format!(in alloc; "died {attempt} {code}"),
-        What::Started(attempt) => of_attempt(alloc, "started", attempt),
-        What::StartupPassed(attempt) => of_attempt(alloc, "startup-passed", attempt),
-        What::Kill(attempt, cause) => {
-            let cause = cause_word(cause);
-            format!(in alloc; "kill {attempt} {cause}")
+        What::Died(attempt, code) => {
+            add_with_number(text, " died ", attempt)?;
+            add_with_number(text, " ", code)
         }
-        What::Ready => String::from_str(alloc, "ready"),
-        What::Unready => String::from_str(alloc, "unready"),
-        What::Backoff(delay) => format!(in alloc; "backoff {delay}"),
-        What::Restart(attempt) => of_attempt(alloc, "restart", attempt),
+        What::Started(attempt) => add_with_number(text, " started ", attempt),
+        What::StartupPassed(attempt) => add_with_number(text, " startup-passed ", attempt),
+        What::Kill(attempt, cause) => {
+            add_with_number(text, " kill ", attempt)?;
+            add(text, " ")?;
+            add(text, cause_word(cause))
+        }
+        What::Ready => add(text, " ready"),
+        What::Unready => add(text, " unready"),
+        What::Backoff(delay) => add_with_number(text, " backoff ", delay),
+        What::Restart(attempt) => add_with_number(text, " restart ", attempt),
         What::Phase(phase) => {
-            let phase = phase_word(phase);
-            format!(in alloc; "phase {phase}")
+            add(text, " phase ")?;
+            add(text, phase_word(phase))
         }
     }
 }
 
 #[tactic(auto, unfolding(crate::specs::Text::pod_event_words))]
-fn pod_event_text(
-    alloc: Global,
+fn add_pod_event(
+    text: &mut String,
     names: Names<'_>,
     number: usize,
     event: PodEvent,
-) -> Result<String, AllocError>
-    ensures { IfOk result (λ s. string_bytes s ≡ pod_event_words (pod_in names.entry.pods.now number) event) }
+) -> Result<(), AllocError>
+    ensures { OnOk result (string_bytes text.new
+        ≡ string_bytes text.old ++ pod_event_words (pod_in names.entry.pods.now number) event) }
 {
-    let key = names.key(alloc, number)?;
-    let container = container_text(names, number, event.container);
-    let what = what_text(alloc, event.what)?;
-    format!(in alloc; "{key} {container} {what}")
-}
-
-fn threshold_text(alloc: Global, key: ThresholdKey) -> Result<String, AllocError>
-    ensures { IfOk result (λ s. string_bytes s ≡ threshold_words key) }
-{
-    let signal = key.signal.name();
-    let kind = key.kind.name();
-    format!(in alloc; "{signal} {kind}")
+    names.add_key(text, number)?;
+    add(text, " ")?;
+    add(text, container_text(names, number, event.container))?;
+    add_what(text, event.what)
 }
 
 #[tactic(auto, unfolding(crate::specs::Text::node_event_words))]
-fn node_event_text(alloc: Global, event: NodeEvent) -> Result<String, AllocError>
-    ensures { IfOk result (λ s. string_bytes s ≡ node_event_words event) }
+fn add_reclaim(text: &mut String, key: ThresholdKey) -> Result<(), AllocError>
+    ensures { OnOk result (string_bytes text.new ≡ string_bytes text.old ++ node_event_words (Reclaim key)) }
+{
+    add(text, "node reclaim ")?;
+    add_threshold(text, key.signal, key.kind)
+}
+
+#[tactic(auto, unfolding(crate::specs::Text::node_event_words))]
+fn add_node_event(text: &mut String, event: NodeEvent) -> Result<(), AllocError>
+    ensures { OnOk result (string_bytes text.new ≡ string_bytes text.old ++ node_event_words event) }
 {
     match event {
         NodeEvent::Threshold { key, active } => {
-            let threshold = threshold_text(alloc, key)?;
-            let activity = activity_word(active);
-            format!(in alloc; "node threshold {threshold} {activity}")
+            add(text, "node threshold ")?;
+            add_threshold(text, key.signal, key.kind)?;
+            add(text, " ")?;
+            add(text, activity_word(active))
         }
         NodeEvent::Pressure { condition, value } => {
-            let condition = condition.name();
-            let value = truth_word(value);
-            format!(in alloc; "node pressure {condition} {value}")
+            add(text, "node pressure ")?;
+            add(text, condition.name())?;
+            add(text, " ")?;
+            add(text, truth_word(value))
         }
-        NodeEvent::Reclaim(key) => {
-            let threshold = threshold_text(alloc, key)?;
-            format!(in alloc; "node reclaim {threshold}")
-        }
+        NodeEvent::Reclaim(key) => add_reclaim(text, key),
     }
 }
 
-#[tactic(auto, unfolding(crate::specs::Text::event_words))]
-fn evicted_text(alloc: Global, names: Names<'_>, eviction: Eviction) -> Result<String, AllocError>
-    ensures { IfOk result (λ s. string_bytes s ≡ event_words (pods_in names.entry.pods.now) (Evicted eviction)) }
+/// Appends an eviction: `KEY SIGNAL KIND GRACE`, with the key of its pod and the grace period in
+/// seconds.
+#[tactic(auto, unfolding(crate::specs::Text::eviction_words))]
+pub fn add_eviction_words(
+    text: &mut String,
+    eviction: Eviction,
+    names: Names<'_>,
+) -> Result<(), AllocError>
+    ensures { OnOk result (string_bytes text.new
+        ≡ string_bytes text.old ++ eviction_words (key_of (pod_in names.entry.pods.now eviction.pod)) eviction.order) }
 {
-    let key = names.key(alloc, eviction.pod)?;
-    let words = eviction_words(alloc, key.as_str(), eviction.order)?;
-    format!(in alloc; "node evicted {words}")
+    names.add_key(text, eviction.pod)?;
+    add_order(text, eviction.order)
 }
 
-/// The words of an event.
 #[tactic(auto, unfolding(crate::specs::Text::event_words))]
-fn words_of(alloc: Global, event: EventKind, names: Names<'_>) -> Result<String, AllocError>
-    ensures { IfOk result (λ s. string_bytes s ≡ event_words (pods_in names.entry.pods.now) event) }
+fn add_evicted(text: &mut String, eviction: Eviction, names: Names<'_>) -> Result<(), AllocError>
+    ensures { OnOk result (string_bytes text.new
+        ≡ string_bytes text.old ++ event_words (pods_in names.entry.pods.now) (Evicted eviction)) }
+{
+    add(text, "node evicted ")?;
+    add_eviction_words(text, eviction, names)
+}
+
+/// Appends the words of an event.
+#[tactic(auto, unfolding(crate::specs::Text::event_words))]
+fn add_words(text: &mut String, event: EventKind, names: Names<'_>) -> Result<(), AllocError>
+    ensures { OnOk result (string_bytes text.new
+        ≡ string_bytes text.old ++ event_words (pods_in names.entry.pods.now) event) }
 {
     match event {
-        EventKind::Pod(number, event) => pod_event_text(alloc, names, number, event),
-        EventKind::Node(event) => node_event_text(alloc, event),
-        EventKind::Evicted(eviction) => evicted_text(alloc, names, eviction),
+        EventKind::Pod(number, event) => add_pod_event(text, names, number, event),
+        EventKind::Node(event) => add_node_event(text, event),
+        EventKind::Evicted(eviction) => add_evicted(text, eviction, names),
     }
+}
+
+/// Appends the line of an event, as `event_text` writes it.
+#[tactic(auto, unfolding(crate::specs::Text::event_line))]
+pub fn add_event_text(text: &mut String, event: &Event, names: Names<'_>) -> Result<(), AllocError>
+    ensures { OnOk result (string_bytes text.new
+        ≡ string_bytes text.old ++ event_line (pods_in names.entry.pods.now) event.now) }
+{
+    add_with_number(text, "event ", event.at)?;
+    add(text, " ")?;
+    add_words(text, event.what, names)?;
+    add(text, "\n")
 }
 
 /// The line of an event in a report, with its newline: `event`, the moment in seconds, and what
 /// happened to whom. A pod or a container that the names don't know has an empty name.
-#[tactic(auto, unfolding(crate::specs::Text::event_line))]
 pub fn event_text(alloc: Global, event: &Event, names: Names<'_>) -> Result<String, AllocError>
     ensures { IfOk result (λ s. string_bytes s ≡ event_line (pods_in names.entry.pods.now) event.now) }
 {
-    let at = event.at;
-    let words = words_of(alloc, event.what, names)?;
-    format!(in alloc; "event {at} {words}\n")
+    let mut text = String::new(alloc);
+    add_event_text(&mut text, event, names)?;
+    Ok(text)
 }
