@@ -1,3 +1,4 @@
 pub mod Lines
 pub mod Report
 pub mod Laws
+pub mod Added

@@ -7,7 +7,7 @@ ghost use Rattle.event_list.specs.Text.{event_line};
 ghost use Rattle.node_report.specs.Lines.{header_line, node_condition_line, eviction_line, eviction_text, totals_line};
 
 use crate::pod_text::add;
-use event_list::{Event, Names, event_text, eviction_words, truth_word};
+use event_list::{Event, Names, add_event_text, add_eviction_words, add_with_number, truth_word};
 use eviction::Eviction;
 use std::alloc::{AllocError, Global};
 use tick_round::{ConditionStatus, Summary};
@@ -25,9 +25,11 @@ pub(crate) fn header_line(
     format!(in alloc; "node {name} pods={pods} ticks={ticks}\n")
 }
 
+/// The bytes that most lines of an event fit in.
+const EVENT_LINE: usize = 48;
+
 /// Adds a line for each event.
 pub(crate) fn add_events(
-    alloc: Global,
     text: &mut String,
     events: &[Event],
     names: Names<'_>,
@@ -35,26 +37,28 @@ pub(crate) fn add_events(
     ensures { OnOk result (string_bytes text.new
         ≡ string_bytes text.old ++ flat_map (event_line (pods_in names.entry.pods.now)) events.now) }
 {
+    // Where so much room is refused, the text still grows line by line.
+    let _ = text.reserve(events.len().saturating_mul(EVENT_LINE));
     for event in events {
-        let line = event_text(alloc, event, names)?;
-        add(text, line.as_str())?;
+        add_event_text(text, event, names)?;
     }
     Ok(())
 }
 
 #[tactic(auto, unfolding(crate::specs::Lines::node_condition_line))]
-fn condition_line(alloc: Global, status: &ConditionStatus) -> Result<String, AllocError>
-    ensures { IfOk result (λ s. string_bytes s ≡ node_condition_line status.now) }
+fn add_condition(text: &mut String, status: &ConditionStatus) -> Result<(), AllocError>
+    ensures { OnOk result (string_bytes text.new ≡ string_bytes text.old ++ node_condition_line status.now) }
 {
-    let condition = status.condition.name();
-    let value = truth_word(status.value);
-    let since = status.since;
-    format!(in alloc; "nodecondition {condition} {value} {since}\n")
+    add(text, "nodecondition ")?;
+    add(text, status.condition.name())?;
+    add(text, " ")?;
+    add(text, truth_word(status.value))?;
+    add_with_number(text, " ", status.since)?;
+    add(text, "\n")
 }
 
 /// Adds a line for each condition of the node.
 pub(crate) fn add_conditions_of_node(
-    alloc: Global,
     text: &mut String,
     conditions: &[ConditionStatus],
 ) -> Result<(), AllocError>
@@ -62,25 +66,28 @@ pub(crate) fn add_conditions_of_node(
         ≡ string_bytes text.old ++ flat_map node_condition_line conditions.now) }
 {
     for status in conditions {
-        let line = condition_line(alloc, status)?;
-        add(text, line.as_str())?;
+        add_condition(text, status)?;
     }
     Ok(())
 }
 
 #[tactic(auto, unfolding(crate::specs::Lines::eviction_line))]
-fn eviction_line(alloc: Global, eviction: &Eviction, names: Names<'_>) -> Result<String, AllocError>
-    ensures { IfOk result (λ s. string_bytes s ≡ eviction_line (pods_in names.entry.pods.now) eviction.now) }
+fn add_eviction_line(
+    text: &mut String,
+    eviction: Eviction,
+    names: Names<'_>,
+) -> Result<(), AllocError>
+    ensures { OnOk result (string_bytes text.new
+        ≡ string_bytes text.old ++ eviction_line (pods_in names.entry.pods.now) eviction) }
 {
-    let at = eviction.order.at;
-    let key = names.key(alloc, eviction.pod)?;
-    let words = eviction_words(alloc, key.as_str(), eviction.order)?;
-    format!(in alloc; "eviction {at} {words}\n")
+    add_with_number(text, "eviction ", eviction.order.at)?;
+    add(text, " ")?;
+    add_eviction_words(text, eviction, names)?;
+    add(text, "\n")
 }
 
 /// Adds the line of a tick's eviction, if there is one.
 fn add_eviction(
-    alloc: Global,
     text: &mut String,
     eviction: &Option<Eviction>,
     names: Names<'_>,
@@ -89,15 +96,13 @@ fn add_eviction(
         ≡ string_bytes text.old ++ eviction_text (pods_in names.entry.pods.now) eviction.now) }
 {
     if let Some(eviction) = eviction {
-        let line = eviction_line(alloc, eviction, names)?;
-        add(text, line.as_str())?;
+        add_eviction_line(text, *eviction, names)?;
     }
     Ok(())
 }
 
 /// Adds a line for each eviction.
 pub(crate) fn add_evictions(
-    alloc: Global,
     text: &mut String,
     evictions: &[Option<Eviction>],
     names: Names<'_>,
@@ -106,7 +111,7 @@ pub(crate) fn add_evictions(
         ≡ string_bytes text.old ++ flat_map (eviction_text (pods_in names.entry.pods.now)) evictions.now) }
 {
     for eviction in evictions {
-        add_eviction(alloc, text, eviction, names)?;
+        add_eviction(text, eviction, names)?;
     }
     Ok(())
 }

@@ -1,18 +1,19 @@
 //! The lines of a pod, as text.
 
-ghost use Rattle.std.specs.Prelude.{◌≡◌, ◌++◌, length, IfOk, OnOk, string_bytes};
-ghost use Rattle.node_report.specs.Lines.{state_word, reason_word, qos_word, code_text};
-ghost use Rattle.node_report.specs.Lines.{pod_words, class_words, pod_line, condition_line, container_words};
+ghost use Rattle.std.specs.Prelude.{◌≡◌, [], ◌++◌, codes, length, OnOk, string_bytes};
+ghost use Rattle.event_list.specs.Text.{phase_word};
+ghost use Rattle.node_report.specs.Lines.{state_word, reason_word, qos_word, bool_text, code_text};
+ghost use Rattle.node_report.specs.Lines.{pod_words, pod_line, condition_line, container_words};
 ghost use Rattle.node_report.specs.Lines.{flag_words, container_line, conditions_text, disruption_text};
 ghost use Rattle.node_report.specs.Lines.{containers_text, pod_text};
 
-use event_list::{phase_word, truth_word};
+use event_list::{add_with_number, phase_word, truth_word};
 use manifest::{ContainerSpec, PodSpec};
 use phase::{Condition, Conditions, ContainerState, Phase};
 use pod_piece::{EvictOrder, PodStatus};
 use pod_state::ContainerStatus;
 use qos::Qos;
-use std::alloc::{AllocError, Global};
+use std::alloc::AllocError;
 
 fn state_word(state: ContainerState) -> &'static str
     ensures { result.now ≡ state_word state }
@@ -34,12 +35,18 @@ fn qos_word(qos: Qos) -> &'static str
     }
 }
 
-fn code_text(alloc: Global, code: Option<i32>) -> Result<String, AllocError>
-    ensures { IfOk result (λ s. string_bytes s ≡ code_text code) }
+fn bool_word(value: bool) -> &'static str
+    ensures { result.now ≡ bool_text value }
+{
+    if value { "true" } else { "false" }
+}
+
+fn add_code(text: &mut String, code: Option<i32>) -> Result<(), AllocError>
+    ensures { OnOk result (string_bytes text.new ≡ string_bytes text.old ++ (codes " code=" ++ code_text code)) }
 {
     match code {
-        None => String::from_str(alloc, "-"),
-        Some(code) => code.to_string(alloc),
+        None => add(text, " code=-"),
+        Some(code) => add_with_number(text, " code=", code),
     }
 }
 
@@ -53,97 +60,41 @@ fn reason_word(order: Option<EvictOrder>) -> &'static str
     }
 }
 
-fn pod_words(
-    alloc: Global,
+fn add_pod_words(
+    text: &mut String,
     number: usize,
-    namespace: &str,
-    name: &str,
-    phase: &str,
-) -> Result<String, AllocError>
-    ensures { IfOk result (λ s. string_bytes s ≡ pod_words number namespace.now name.now phase.now) }
+    pod: &PodSpec,
+    phase: Phase,
+) -> Result<(), AllocError>
+    ensures { OnOk result (string_bytes text.new
+        ≡ string_bytes text.old ++ pod_words number pod.now.namespace pod.now.name (phase_word phase)) }
 {
-    format!(in alloc; "pod {number} {namespace}/{name} phase={phase}")
-}
-
-fn class_words(alloc: Global, words: &str, reason: &str, qos: &str) -> Result<String, AllocError>
-    ensures { IfOk result (λ s. string_bytes s ≡ class_words words.now reason.now qos.now) }
-{
-    format!(in alloc; "{words} reason={reason} qos={qos}\n")
+    add_with_number(text, "pod ", number)?;
+    add(text, " ")?;
+    add(text, pod.namespace.as_str())?;
+    add(text, "/")?;
+    add(text, pod.name.as_str())?;
+    add(text, " phase=")?;
+    add(text, phase_word(phase))
 }
 
 #[tactic(auto, unfolding(crate::specs::Lines::pod_line))]
-fn pod_line(
-    alloc: Global,
+fn add_pod_line(
+    text: &mut String,
     number: usize,
     pod: &PodSpec,
     qos: Qos,
     phase: Phase,
     order: Option<EvictOrder>,
-) -> Result<String, AllocError>
-    ensures { IfOk result (λ s. string_bytes s ≡ pod_line number pod.now qos phase order) }
+) -> Result<(), AllocError>
+    ensures { OnOk result (string_bytes text.new ≡ string_bytes text.old ++ pod_line number pod.now qos phase order) }
 {
-    let namespace = pod.namespace.as_str();
-    let name = pod.name.as_str();
-    let words = pod_words(alloc, number, namespace, name, phase_word(phase))?;
-    class_words(alloc, words.as_str(), reason_word(order), qos_word(qos))
-}
-
-#[tactic(auto, unfolding(crate::specs::Lines::condition_line))]
-fn condition_line(
-    alloc: Global,
-    number: usize,
-    kind: &str,
-    condition: Condition,
-) -> Result<String, AllocError>
-    ensures { IfOk result (λ s. string_bytes s ≡ condition_line number kind.now condition) }
-{
-    let value = truth_word(condition.value);
-    let since = condition.since.unwrap_or(0);
-    format!(in alloc; "condition {number} {kind} {value} {since}\n")
-}
-
-fn container_words(
-    alloc: Global,
-    number: usize,
-    name: &str,
-    state: &str,
-    code: &str,
-) -> Result<String, AllocError>
-    ensures { IfOk result (λ s. string_bytes s ≡ container_words number name.now state.now code.now) }
-{
-    format!(in alloc; "container {number} {name} state={state} code={code}")
-}
-
-fn flag_words(
-    alloc: Global,
-    words: &str,
-    restarts: u32,
-    ready: bool,
-    started: bool,
-) -> Result<String, AllocError>
-    ensures { IfOk result (λ s. string_bytes s ≡ flag_words words.now restarts ready started) }
-{
-    format!(in alloc; "{words} restarts={restarts} ready={ready} started={started}\n")
-}
-
-#[tactic(auto, unfolding(crate::specs::Lines::container_line))]
-fn container_line(
-    alloc: Global,
-    number: usize,
-    name: &str,
-    status: ContainerStatus,
-) -> Result<String, AllocError>
-    ensures { IfOk result (λ s. string_bytes s ≡ container_line number name.now status) }
-{
-    let code = code_text(alloc, status.code)?;
-    let words = container_words(alloc, number, name, state_word(status.state), code.as_str())?;
-    flag_words(
-        alloc,
-        words.as_str(),
-        status.restarts,
-        status.ready,
-        status.started,
-    )
+    add_pod_words(text, number, pod, phase)?;
+    add(text, " reason=")?;
+    add(text, reason_word(order))?;
+    add(text, " qos=")?;
+    add(text, qos_word(qos))?;
+    add(text, "\n")
 }
 
 pub(crate) fn add(text: &mut String, line: &str) -> Result<(), AllocError>
@@ -152,8 +103,8 @@ pub(crate) fn add(text: &mut String, line: &str) -> Result<(), AllocError>
     text.push_str(line)
 }
 
+#[tactic(auto, unfolding(crate::specs::Lines::condition_line))]
 fn add_condition(
-    alloc: Global,
     text: &mut String,
     number: usize,
     kind: &str,
@@ -161,64 +112,92 @@ fn add_condition(
 ) -> Result<(), AllocError>
     ensures { OnOk result (string_bytes text.new ≡ string_bytes text.old ++ condition_line number kind.now condition) }
 {
-    let line = condition_line(alloc, number, kind, condition)?;
-    add(text, line.as_str())
+    let since = condition.since.unwrap_or(0);
+    add_with_number(text, "condition ", number)?;
+    add(text, " ")?;
+    add(text, kind)?;
+    add(text, " ")?;
+    add(text, truth_word(condition.value))?;
+    add_with_number(text, " ", since)?;
+    add(text, "\n")
 }
 
 /// Adds the four condition lines.
 fn add_conditions(
-    alloc: Global,
     text: &mut String,
     number: usize,
     conditions: Conditions,
 ) -> Result<(), AllocError>
     ensures { OnOk result (string_bytes text.new ≡ string_bytes text.old ++ conditions_text number conditions) }
 {
-    add_condition(
-        alloc,
-        text,
-        number,
-        "PodScheduled",
-        conditions.pod_scheduled,
-    )?;
-    add_condition(alloc, text, number, "Initialized", conditions.initialized)?;
-    add_condition(
-        alloc,
-        text,
-        number,
-        "ContainersReady",
-        conditions.containers_ready,
-    )?;
-    add_condition(alloc, text, number, "Ready", conditions.containers_ready)?;
+    add_condition(text, number, "PodScheduled", conditions.pod_scheduled)?;
+    add_condition(text, number, "Initialized", conditions.initialized)?;
+    add_condition(text, number, "ContainersReady", conditions.containers_ready)?;
+    add_condition(text, number, "Ready", conditions.containers_ready)?;
     Ok(())
-}
-
-fn disruption_line(alloc: Global, number: usize, order: EvictOrder) -> Result<String, AllocError>
-    ensures { IfOk result (λ s. string_bytes s ≡ disruption_text number (Some order)) }
-{
-    let at = order.at;
-    format!(in alloc; "condition {number} DisruptionTarget True {at} TerminationByKubelet\n")
 }
 
 /// Adds the line of the condition that an evicted pod has beside the four.
 fn add_disruption(
-    alloc: Global,
     text: &mut String,
     number: usize,
     order: Option<EvictOrder>,
 ) -> Result<(), AllocError>
     ensures { OnOk result (string_bytes text.new ≡ string_bytes text.old ++ disruption_text number order) }
 {
-    if let Some(order) = order {
-        let line = disruption_line(alloc, number, order)?;
-        add(text, line.as_str())?;
-    }
-    Ok(())
+    let Some(order) = order else {
+        return Ok(());
+    };
+    add_with_number(text, "condition ", number)?;
+    add_with_number(text, " DisruptionTarget True ", order.at)?;
+    add(text, " TerminationByKubelet\n")
+}
+
+fn add_container_words(
+    text: &mut String,
+    number: usize,
+    name: &str,
+    status: ContainerStatus,
+) -> Result<(), AllocError>
+    ensures { OnOk result (string_bytes text.new ≡ string_bytes text.old
+        ++ container_words number name.now (state_word status.state) (code_text status.code)) }
+{
+    add_with_number(text, "container ", number)?;
+    add(text, " ")?;
+    add(text, name)?;
+    add(text, " state=")?;
+    add(text, state_word(status.state))?;
+    add_code(text, status.code)
+}
+
+/// Adds the end of the line of a container.
+fn add_flags(text: &mut String, status: ContainerStatus) -> Result<(), AllocError>
+    ensures { OnOk result (string_bytes text.new
+        ≡ string_bytes text.old ++ flag_words [] status.restarts status.ready status.started) }
+{
+    add_with_number(text, " restarts=", status.restarts)?;
+    add(text, " ready=")?;
+    add(text, bool_word(status.ready))?;
+    add(text, " started=")?;
+    add(text, bool_word(status.started))?;
+    add(text, "\n")
+}
+
+#[tactic(auto, unfolding(crate::specs::Lines::container_line))]
+fn add_container_line(
+    text: &mut String,
+    number: usize,
+    name: &str,
+    status: ContainerStatus,
+) -> Result<(), AllocError>
+    ensures { OnOk result (string_bytes text.new ≡ string_bytes text.old ++ container_line number name.now status) }
+{
+    add_container_words(text, number, name, status)?;
+    add_flags(text, status)
 }
 
 /// Adds a line for each container.
 fn add_containers(
-    alloc: Global,
     text: &mut String,
     number: usize,
     containers: &[ContainerSpec],
@@ -229,33 +208,26 @@ fn add_containers(
         ≡ string_bytes text.old ++ containers_text number containers.now statuses.now) }
 {
     for (place, container) in containers.iter().enumerate() {
-        let line = container_line(alloc, number, container.name.as_str(), statuses[place])?;
-        add(text, line.as_str())?;
+        add_container_line(text, number, container.name.as_str(), statuses[place])?;
     }
     Ok(())
 }
 
-/// The lines of the pod with this status.
-pub(crate) fn pod_text(
-    alloc: Global,
+/// Adds the lines of the pod with this status.
+pub(crate) fn add_pod_text(
+    text: &mut String,
     number: usize,
     pod: &PodSpec,
     status: &PodStatus,
-) -> Result<String, AllocError>
+) -> Result<(), AllocError>
     requires { length status.now.containers.items ≡ length pod.now.containers }
-    ensures { IfOk result (λ s. string_bytes s
-        ≡ pod_text number pod.now status.now.class status.now.phase status.now.conditions status.now.order
+    ensures { OnOk result (string_bytes text.new ≡ string_bytes text.old
+        ++ pod_text number pod.now status.now.class status.now.phase status.now.conditions status.now.order
         status.now.containers.items) }
 {
-    let mut text = pod_line(alloc, number, pod, status.class, status.phase, status.order)?;
-    add_conditions(alloc, &mut text, number, status.conditions)?;
-    add_disruption(alloc, &mut text, number, status.order)?;
-    add_containers(
-        alloc,
-        &mut text,
-        number,
-        pod.containers.as_slice(),
-        &status.containers,
-    )?;
-    Ok(text)
+    add_pod_line(text, number, pod, status.class, status.phase, status.order)?;
+    add_conditions(text, number, status.conditions)?;
+    add_disruption(text, number, status.order)?;
+    add_containers(text, number, pod.containers.as_slice(), &status.containers)?;
+    Ok(())
 }

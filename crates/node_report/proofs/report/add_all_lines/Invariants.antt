@@ -5,10 +5,11 @@ use Rattle.observations.specs.declared.tick.TickObs.{TickObs}
 use Rattle.eviction.specs.declared.eviction.Eviction.{Eviction}
 use Rattle.tick_round.specs.Node.{ArePieces}
 use Rattle.node_report.specs.Report.{AreLines}
-use Rattle.node_report.proofs.report.all_lines.Given as goal
+use Rattle.node_report.specs.Added.{AreAdded}
+use Rattle.node_report.proofs.report.add_all_lines.Given as goal
 
 abbrev pub invariant-loop-number : goal.invariant-loop-number
 invariant-loop-number l = (config : NodeConfig) (ticks : List TickObs) (evictions : List (Option Eviction))
     (pods : List PodSpec)
-    → ArePieces config pods ticks evictions l.pieces → AreLines ticks evictions (take l.number pods)
-    (string_bytes l.report)
+    → ArePieces config pods ticks evictions l.pieces
+    → AreAdded (AreLines ticks evictions (take l.number pods)) (string_bytes l.fn.text) (string_bytes l.text)
