@@ -122,6 +122,14 @@ fn add_condition(
     add(text, "\n")
 }
 
+/// Adds the line of `Ready`, which is as `ContainersReady`.
+fn add_ready(text: &mut String, number: usize, conditions: Conditions) -> Result<(), AllocError>
+    ensures { OnOk result (string_bytes text.new
+        ≡ string_bytes text.old ++ condition_line number (codes "Ready") conditions.containers_ready) }
+{
+    add_condition(text, number, "Ready", conditions.containers_ready)
+}
+
 /// Adds the four condition lines.
 fn add_conditions(
     text: &mut String,
@@ -133,7 +141,7 @@ fn add_conditions(
     add_condition(text, number, "PodScheduled", conditions.pod_scheduled)?;
     add_condition(text, number, "Initialized", conditions.initialized)?;
     add_condition(text, number, "ContainersReady", conditions.containers_ready)?;
-    add_condition(text, number, "Ready", conditions.containers_ready)?;
+    add_ready(text, number, conditions)?;
     Ok(())
 }
 
