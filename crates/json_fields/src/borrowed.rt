@@ -9,8 +9,9 @@ ghost use Rattle.json_fields.specs.Strangers.{is_stranger};
 use crate::value::{HasData, Json, Names};
 use fast_float::Numeral;
 use json::Value;
+use std::alloc::Allocator;
 
-impl<'a> HasData for Value<'a> {
+impl<'a, A: Allocator> HasData for Value<'a, A> {
     ghost use Rattle.json.specs.Value.{value_view};
     ghost use Rattle.json_fields.specs.Borrowed.{data_of};
 
@@ -29,8 +30,15 @@ fn whole(text: &str) -> Option<u64>
 }
 
 /// Whether each number in the value is one that digits alone write, below 2^64. Then `serde_json` reads the same data.
-#[cycle(is_plain)]
 pub fn is_plain(value: &Value<'_>) -> bool
+    ensures { result ≡ is_plain (value_view value.now) }
+{
+    is_plain_in(value)
+}
+
+/// The same of a value in any memory.
+#[cycle(is_plain)]
+pub fn is_plain_in<A: Allocator>(value: &Value<'_, A>) -> bool
     ensures { result ≡ is_plain (value_view value.now) }
 {
     match value {
@@ -42,11 +50,11 @@ pub fn is_plain(value: &Value<'_>) -> bool
 }
 
 #[cycle(is_plain)]
-fn items_are_plain(items: &Vec<Value<'_>>) -> bool
+fn items_are_plain<A: Allocator>(items: &Vec<Value<'_, A>, A>) -> bool
     ensures { result ≡ items_are_plain (items_view items.now.items) }
 {
     for item in items {
-        if !is_plain(item) {
+        if !is_plain_in(item) {
             return false;
         }
     }
@@ -54,20 +62,20 @@ fn items_are_plain(items: &Vec<Value<'_>>) -> bool
 }
 
 #[cycle(is_plain)]
-fn members_are_plain(members: &Vec<(&str, Value<'_>)>) -> bool
+fn members_are_plain<A: Allocator>(members: &Vec<(&str, Value<'_, A>), A>) -> bool
     ensures { result ≡ members_are_plain (members_view members.now.items) }
 {
     for member in members {
-        if !is_plain(&member.1) {
+        if !is_plain_in(&member.1) {
             return false;
         }
     }
     true
 }
 
-impl<'a> Json for Value<'a> {
+impl<'a, A: Allocator> Json for Value<'a, A> {
     #[tactic(auto, using(crate::proofs::Plain::get_data))]
-    fn member<'v>(&'v self, name: &str) -> Option<&'v Value<'a>> {
+    fn member<'v>(&'v self, name: &str) -> Option<&'v Value<'a, A>> {
         self.get(name)
     }
 
@@ -92,7 +100,7 @@ impl<'a> Json for Value<'a> {
         }
     }
 
-    fn items<'v>(&'v self) -> Option<&'v [Value<'a>]> {
+    fn items<'v>(&'v self) -> Option<&'v [Value<'a, A>]> {
         match self {
             Value::Array(items) => Some(items.as_slice()),
             _ => None,
@@ -112,7 +120,7 @@ impl<'a> Json for Value<'a> {
 }
 
 /// Whether the members have one of this name.
-fn has_name(members: &[(&str, Value<'_>)], name: &str) -> bool
+fn has_name<A: Allocator>(members: &[(&str, Value<'_, A>)], name: &str) -> bool
     ensures { result ≡ has_name name.now (members_view members.now) }
 {
     for member in members {
@@ -124,11 +132,11 @@ fn has_name(members: &[(&str, Value<'_>)], name: &str) -> bool
 }
 
 /// Whether the member is other than null, under none of these names, and none of its own name is among those after it.
-fn is_last_stranger<N: Names>(
+fn is_last_stranger<N: Names, A: Allocator>(
     names: &N,
     name: &str,
-    value: &Value<'_>,
-    others: &[(&str, Value<'_>)],
+    value: &Value<'_, A>,
+    others: &[(&str, Value<'_, A>)],
 ) -> bool
     ensures { result ≡ is_stranger (N.includes names.now) name.now (data_of (value_view value.now))
         && not (has_name name.now (members_view others.now)) }
@@ -137,7 +145,7 @@ fn is_last_stranger<N: Names>(
 }
 
 /// Whether the last member of some name is other than null, and the name none of these.
-fn has_last_stranger<N: Names>(names: &N, members: &[(&str, Value<'_>)]) -> bool
+fn has_last_stranger<N: Names, A: Allocator>(names: &N, members: &[(&str, Value<'_, A>)]) -> bool
     ensures { result ≡ has_last_stranger (N.includes names.now) (members_view members.now) }
 {
     let mut rest = members;

@@ -6,6 +6,6 @@ mod fields;
 mod owned;
 mod value;
 
-pub use borrowed::is_plain;
+pub use borrowed::{is_plain, is_plain_in};
 pub use fields::{field, text_at};
 pub use value::{HasData, Json, Names};

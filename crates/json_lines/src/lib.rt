@@ -8,6 +8,7 @@ mod plain;
 mod tick;
 mod window;
 
-pub use line::TextLine;
+pub use line::{TextLine, text_line};
+pub use plain::Desk;
 pub use tick::{TickRecord, tick_record};
-pub use window::{Window, window_alone, window_by_workers};
+pub use window::{Window, next_tick_lines, window_alone, window_by_workers};

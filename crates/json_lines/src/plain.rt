@@ -6,13 +6,20 @@ ghost use Rattle.json.specs.declared.error.Error.TheVariants.{OutOfMemory};
 ghost use Rattle.json_lines.specs.Lines.{line_value, said_in, Tick};
 
 use crate::tick::{TickRecord, is_tick, tick_record};
+use bumpalo::Bump;
 use json::{Error, Reader, Scratch, Value};
-use json_fields::is_plain;
+use json_fields::is_plain_in;
 use simdutf8::compat::from_utf8;
 use std::alloc::{AllocError, Global};
 
 /// Arrays and objects nest no deeper in a line that is read, as in `serde_json`.
 const DEEPEST: usize = 127;
+
+/// A writer of which so many lines in a row are not plain is taken for one whose lines are not.
+const MISSES: u32 = 4;
+
+/// Of such a writer each line of so many is still tried.
+const MISSES_A_TRY: u32 = 32;
 
 /// Goes on where the text is no JSON; `Err` where memory was refused, and nowhere else.
 fn refused_memory(error: Error) -> Result<(), AllocError>
@@ -25,18 +32,53 @@ fn refused_memory(error: Error) -> Result<(), AllocError>
     }
 }
 
+/// What is kept from line to line: where texts are unescaped, and the memory of a line's values, which is given up at
+/// once.
+#[derive(Drop)]
+pub struct Desk {
+    scratch: Scratch,
+    values: Bump,
+    /// So many lines in a row were not read as plain ones.
+    missed: u32,
+}
+
+impl Desk {
+    /// Nothing is kept yet. It takes no memory.
+    pub fn new(alloc: Global) -> Desk {
+        Desk {
+            scratch: Scratch::new(alloc),
+            values: Bump::new(alloc),
+            missed: 0,
+        }
+    }
+
+    /// Whether it is worth a try to read the next line as a plain one: always but behind several that were not, where
+    /// a line now and then shows whether they still are not.
+    fn is_worth_a_try(&self) -> bool {
+        self.missed < MISSES || self.missed % MISSES_A_TRY == 0
+    }
+
+    fn note(&mut self, is_plain: bool) {
+        self.missed = if is_plain {
+            0
+        } else {
+            self.missed.wrapping_add(1)
+        };
+    }
+}
+
 /// The one value of the text, if it has one that nests no deeper than 127.
 fn only_value<'a>(
-    alloc: Global,
     text: &'a str,
     scratch: &'a mut Scratch,
-) -> Result<Option<Value<'a>>, AllocError>
+    values: &'a Bump,
+) -> Result<Option<Value<'a, &'a Bump>>, AllocError>
     ensures { IfOk result (λ found. IfSome found (λ v. line_value text.now ≡ Some (value_view v))) }
 {
     let Ok(mut reader) = Reader::new(text, scratch) else {
         return Err(AllocError);
     };
-    match Value::read(alloc, &mut reader, DEEPEST) {
+    match Value::read(values, &mut reader, DEEPEST) {
         Ok(value) => Ok(if reader.next().is_none() {
             Some(value)
         } else {
@@ -52,18 +94,40 @@ fn only_value<'a>(
 /// What the text says, if it is a tick line and each of its numbers is one that digits alone write, below 2^64: so
 /// almost every tick line is read, some four times as fast as by `serde_json`, which reads the others.
 #[tactic(auto, using(crate::proofs::Said::plain_said))]
-pub(crate) fn plain_tick(
+fn tick_in(
     alloc: Global,
     line: &[u8],
     scratch: &mut Scratch,
+    values: &Bump,
 ) -> Result<Option<TickRecord>, AllocError>
     ensures { IfOk result (λ found. IfSome found (λ tick. said_in line.now ≡ Tick tick.at tick.written)) }
 {
     let Ok(text) = from_utf8(line) else {
         return Ok(None);
     };
-    match only_value(alloc, text, scratch)? {
-        Some(value) if is_plain(&value) && is_tick(&value) => Ok(Some(tick_record(alloc, &value)?)),
+    match only_value(text, scratch, values)? {
+        Some(value) if is_plain_in(&value) && is_tick(&value) => {
+            Ok(Some(tick_record(alloc, &value)?))
+        }
         _ => Ok(None),
     }
+}
+
+/// The same, and the memory of the line's values is given up.
+pub(crate) fn plain_tick(
+    alloc: Global,
+    line: &[u8],
+    desk: &mut Desk,
+) -> Result<Option<TickRecord>, AllocError>
+    ensures { IfOk result (λ found. IfSome found (λ tick. said_in line.now ≡ Tick tick.at tick.written)) }
+{
+    if !desk.is_worth_a_try() {
+        desk.note(false);
+        return Ok(None);
+    }
+    let found = tick_in(alloc, line, &mut desk.scratch, &desk.values);
+    // no value is left; where it refused all the same, the next line's would come beside this one's
+    let _given_up = desk.values.reset();
+    desk.note(matches!(found, Ok(Some(_))));
+    found
 }

@@ -6,6 +6,7 @@ ghost use Rattle.json_lines.specs.Lines.{lines_of, line_data, data_of};
 use crate::line::{TextLine, read_each};
 use crate::lines::first_line;
 use crate::parts::read_shared;
+use memchr::memmem::find;
 use std::alloc::{AllocError, Global};
 use std::thread::Threads;
 
@@ -38,6 +39,49 @@ fn next_lines(alloc: Global, text: &[u8], bytes: usize) -> Result<(Vec<&[u8]>, &
         let Some((line, after)) = first_line(rest) else {
             return Ok((found, rest));
         };
+        found.push(line)?;
+        rest = after;
+    }
+    Ok((found, rest))
+}
+
+/// Lines that tell of a pod itself have one of these words near their beginning; tick lines have none of them.
+const WORDS_OF_PODS: [&[u8]; 2] = [b"\"metadata\"", b"\"gone\""];
+
+/// So many bytes are near the beginning of a line.
+const BEGINNING: usize = 128;
+
+/// Whether a line seems to tell of a pod itself. Nothing rests on it but how many lines are read together.
+fn seems_of_pod(line: &[u8]) -> bool {
+    let beginning = &line[..line.len().min(BEGINNING)];
+    for word in WORDS_OF_PODS {
+        if find(beginning, word).is_some() {
+            return true;
+        }
+    }
+    false
+}
+
+/// The next lines, of at least so many bytes with their newlines where there are so many, and the text after them; or
+/// fewer, which end with a line that seems to tell of a pod itself.
+pub fn next_tick_lines(
+    alloc: Global,
+    text: &[u8],
+    bytes: usize,
+) -> Result<(Vec<&[u8]>, &[u8]), AllocError>
+    requires { 0 < bytes }
+    ensures lines { IfOk result (λ p. lines_of text.now ≡ map (λ line. line.now) p.0.items ++ lines_of p.1.now) }
+    ensures shorter { 0 < length text.now → IfOk result (λ p. length p.1.now < length text.now) }
+    ensures few { IfOk result (λ p. length p.0.items + length p.1.now ≤ length text.now) }
+{
+    let mut found = Vec::new(alloc);
+    let mut rest = text;
+    let mut is_last = false;
+    while text.len() - rest.len() < bytes && !is_last {
+        let Some((line, after)) = first_line(rest) else {
+            return Ok((found, rest));
+        };
+        is_last = seems_of_pod(line);
         found.push(line)?;
         rest = after;
     }
