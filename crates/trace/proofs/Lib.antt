@@ -1,3 +1,5 @@
+pub mod TakenAhead
+pub mod ZippedParts
 pub mod ByPod
 pub mod InRange
 pub mod Keys

@@ -9,5 +9,6 @@ pub mod Past
 pub mod Tick
 pub mod Trace
 pub mod Taken
+pub mod Ahead
 pub mod Sound
 pub mod Laws

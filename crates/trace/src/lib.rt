@@ -1,6 +1,7 @@
 //! The trace that a text says, read line by line, or the text's first faulty line.
 #![tactic(auto)]
 
+mod ahead;
 mod by_pod;
 mod fault;
 pub mod laws;
@@ -10,6 +11,7 @@ mod pod;
 mod reading;
 mod text;
 mod tick;
+mod windows;
 
 pub use fault::{FaultKind, LineFault};
 pub use node_config::{Format, NodeConfig, Version};

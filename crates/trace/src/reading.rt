@@ -5,7 +5,8 @@ ghost use Rattle.json_fields.specs.Fields.{field_at};
 ghost use Rattle.node_lines.specs.Node.{whole_number};
 ghost use Rattle.serde_json.specs.View.{view};
 ghost use Rattle.json_fields.specs.Reading.{GivesExactly};
-ghost use Rattle.json_lines.specs.Lines.{data_of};
+ghost use Rattle.json_lines.specs.Lines.{LineData, data_of};
+ghost use Rattle.trace.specs.Ahead.{IsReadAhead, IsShown, may_stand};
 ghost use Rattle.trace.specs.Gives.{Gives};
 ghost use Rattle.roster.specs.Roll.{key_of_pod, number_of};
 ghost use Rattle.trace.specs.Written.{is_foreign, node_in};
@@ -14,17 +15,18 @@ ghost use Rattle.trace.specs.Pod.{named_in};
 ghost use Rattle.trace.specs.Taken.{tick_line_at, value_at, any_line_at};
 ghost use Rattle.trace.specs.Trace.{gone_in, kind_from, kind_of_line, with_node, with_new_pod, is_late, pod_in};
 ghost use Rattle.trace.specs.Trace.{pod_line_at, gone_line_at, turn_of, in_order};
-ghost use Rattle.trace.specs.Tick.{tick_at};
+ghost use Rattle.trace.specs.Tick.{MayStandBehind, tick_at};
 
 use crate::fault::{FaultKind, refused_if};
 use crate::past::{LineKind, Reader, Turn};
 use crate::pod::{new_key, pod_from, room_for_pod};
-use crate::tick::take_tick;
+use crate::tick::{is_backwards, moment_in, room, take_tick, with_tick};
 use json_fields::{field, text_at};
 use json_lines::{TextLine, TickRecord, tick_record};
 use manifest::PodSpec;
 use node_config::{Format, NodeConfig, Version};
 use node_lines::node_of;
+use observations::TickObs;
 use roster::Roster;
 use serde_json::Value;
 use std::alloc::Global;
@@ -328,6 +330,34 @@ fn take_tick_line(alloc: Global, reader: Reader, line: &TickRecord) -> Result<Re
         Ok(_) => take_tick(alloc, reader, line),
         Err(kind) => {
             drop(reader);
+            Err(kind)
+        }
+    }
+}
+
+/// Whether a tick whose line was read ahead may stand behind the ticks so far.
+#[tactic(auto, unfolding(crate::specs::Ahead::may_stand))]
+fn may_stand(reader: &Reader, tick: &TickObs) -> Result<(), FaultKind>
+    requires { IsReadAhead reader.now.roll tick.now }
+    ensures gives { GivesExactly (λ u. u) result (may_stand reader.now tick.now) }
+    ensures follows { OnOk result (MayStandBehind reader.now tick.now) }
+{
+    turn_of(version_in(reader), LineKind::Tick)?;
+    room(reader)?;
+    moment_in(reader, Some(tick.at))?;
+    refused_if(is_backwards(reader, tick), FaultKind::Backwards)
+}
+
+/// Takes a tick whose line was read ahead, beside the pods that there are.
+pub(crate) fn take_shown(reader: Reader, tick: TickObs) -> Result<Reader, FaultKind>
+    requires { IsReadAhead reader.roll tick }
+    ensures { (said : LineData) → IsShown reader.roll said tick
+        → Gives (λ r. r) result (any_line_at reader said) }
+{
+    match may_stand(&reader, &tick) {
+        Ok(()) => with_tick(reader, tick),
+        Err(kind) => {
+            drop((reader, tick));
             Err(kind)
         }
     }

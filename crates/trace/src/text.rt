@@ -1,23 +1,29 @@
 //! Reading a whole trace, window by window.
 
-ghost use Rattle.std.specs.Prelude.{◌≡◌, ◌<◌, ◌+◌, ◌^◌, length, map, IfOk, IsTrue};
+ghost use Rattle.std.specs.Prelude.{◌≡◌, ◌<◌, ◌+◌, ◌^◌, ◌∷◌, [], length, map, IfNone, IfOk, IfSome, IsTrue};
+ghost use Rattle.std.specs.Vec.Iter.{into_iter_items};
 ghost use Rattle.json_fields.specs.Reading.{GivesExactly};
-ghost use Rattle.json_lines.specs.Lines.{data_of};
-ghost use Rattle.trace.specs.Gives.{is_memory, GivesAt};
+ghost use Rattle.json_lines.specs.Lines.{LineData, line_data};
+ghost use Rattle.roster.specs.Roll.{Roll};
+ghost use Rattle.trace.specs.Ahead.{AreAhead, IsAhead, KeepsPods};
+ghost use Rattle.trace.specs.Gives.{is_memory, Gives, GivesAt};
 ghost use Rattle.trace.specs.Sound.{AreAcceptable, AreRising, HasShape};
-ghost use Rattle.trace.specs.Taken.{lines_at};
-ghost use Rattle.trace.specs.Trace.{finished, nothing, trace_of};
+ghost use Rattle.trace.specs.Taken.{any_line_at, lines_at};
+ghost use Rattle.trace.specs.Trace.{at_line, finished, nothing, trace_of};
 
-use crate::fault::{FaultKind, LineFault, at_line};
+use crate::ahead::LineAhead;
+use crate::fault::{FaultKind, LineFault};
 use crate::past::{Reader, Trace};
-use crate::reading::take_line;
+use crate::reading::{take_line, take_shown};
+use crate::windows::{Window, window_alone, window_by_workers};
 use following::Following;
-use json_lines::{TextLine, window_alone, window_by_workers};
+use json_lines::{Desk, TextLine, text_line};
 use node_config::Format;
 use roster::Roster;
 use sequence::Sequence;
 use std::alloc::Global;
 use std::thread::Threads;
+use std::vec::IntoIter;
 
 /// What is said before the first line.
 fn nothing(alloc: Global, format: Format) -> Reader
@@ -32,20 +38,107 @@ fn nothing(alloc: Global, format: Format) -> Reader
     }
 }
 
-/// Takes lines, the first of which has this number.
+/// Takes a line whose turn has come, where the pods are no longer those beside which it was read.
+fn take_anew(alloc: Global, reader: Reader, line: &[u8]) -> Result<Reader, FaultKind>
+    ensures { Gives (λ r. r) result (any_line_at reader (line_data line.now)) }
+{
+    let mut desk = Desk::new(alloc);
+    match text_line(alloc, line, &mut desk) {
+        Ok(line) => take_line(alloc, reader, &line),
+        Err(error) => {
+            drop(reader);
+            Err(FaultKind::from(error))
+        }
+    }
+}
+
+/// Takes a line that was read ahead; `is_fresh` says whether the pods are still those beside which it was read.
+fn take_ahead(
+    alloc: Global,
+    reader: Reader,
+    line: &[u8],
+    read: LineAhead,
+    is_fresh: bool,
+) -> Result<Reader, FaultKind>
+    requires { (roll : Roll) × IsAhead roll (line_data line.now) read × (IsTrue is_fresh → reader.roll ≡ roll) }
+    ensures { Gives (λ r. r) result (any_line_at reader (line_data line.now)) }
+{
+    match read {
+        LineAhead::Shown(tick) if is_fresh => take_shown(reader, tick),
+        LineAhead::Shown(tick) => {
+            drop(tick);
+            take_anew(alloc, reader, line)
+        }
+        LineAhead::Said(said) => take_line(alloc, reader, &said),
+    }
+}
+
+/// Whether the pods are the same after the line as before it.
+fn keeps_pods(read: &LineAhead) -> bool
+    ensures { IsTrue result → (roll : Roll) (said : LineData) → IsAhead roll said read.now → KeepsPods said }
+{
+    !matches!(read, LineAhead::Said(TextLine::Json(_)))
+}
+
+/// Whether the lines behind this one were read beside the pods that there are then, if this one was.
+fn stays_fresh(is_fresh: bool, read: &LineAhead) -> bool
+    ensures { IsTrue result → IsTrue is_fresh
+        × ((roll : Roll) (said : LineData) → IsAhead roll said read.now → KeepsPods said) }
+{
+    is_fresh && keeps_pods(read)
+}
+
+/// Takes the line of this number, and says whether the next one was read beside the pods that there are.
+fn take_next(
+    alloc: Global,
+    reader: Reader,
+    number: u64,
+    line: &[u8],
+    read: LineAhead,
+    is_fresh: bool,
+) -> Result<(Reader, bool), LineFault>
+    requires { (roll : Roll) × IsAhead roll (line_data line.now) read × (IsTrue is_fresh → reader.roll ≡ roll) }
+    ensures gives { GivesAt (λ r. r.0) result (at_line number (any_line_at reader (line_data line.now))) }
+    ensures fresh { IfOk result (λ r. IsTrue r.1 → IsTrue is_fresh × (r.0.roll ≡ reader.roll)) }
+{
+    let stays_fresh = stays_fresh(is_fresh, &read);
+    match take_ahead(alloc, reader, line, read, is_fresh) {
+        Ok(next) => Ok((next, stays_fresh)),
+        Err(kind) => Err(LineFault { line: number, kind }),
+    }
+}
+
+/// What was read of the next line; none only behind the last one.
+fn next_read(reads: &mut IntoIter<LineAhead>) -> Option<LineAhead>
+    ensures some { IfSome result (λ read. into_iter_items reads.old ≡ read ∷ into_iter_items reads.new) }
+    ensures none { IfNone result (into_iter_items reads.old ≡ []) }
+{
+    reads.next()
+}
+
+/// Takes lines that were read ahead, the first of which has this number.
 fn take_lines(
     alloc: Global,
     reader: Reader,
     first: u64,
-    lines: Vec<TextLine>,
+    lines: &[&[u8]],
+    reads: Vec<LineAhead>,
 ) -> Result<Reader, LineFault>
-    requires { first + length lines.items < 2 ^ 64 }
-    ensures { GivesAt (λ r. r) result (lines_at first reader (map data_of lines.items)) }
+    requires few { first + length lines.now < 2 ^ 64 }
+    requires ahead { AreAhead reader.roll lines.now reads.items }
+    ensures { GivesAt (λ r. r) result (lines_at first reader (map (λ line. line_data line.now) lines.now)) }
 {
     let mut reader = reader;
     let mut number = first;
-    for line in lines.iter() {
-        reader = at_line(number, take_line(alloc, reader, line))?;
+    let mut is_fresh = true;
+    let mut reads = reads.into_iter();
+    for line in lines {
+        let Some(read) = next_read(&mut reads) else {
+            unreachable!()
+        };
+        let (next, stays_fresh) = take_next(alloc, reader, number, line, read, is_fresh)?;
+        reader = next;
+        is_fresh = stays_fresh;
         number += 1;
     }
     Ok(reader)
@@ -98,14 +191,18 @@ fn read_alone(alloc: Global, format: Format, text: &[u8]) -> Result<Trace, LineF
     let mut rest = text;
     let mut number = 1u64;
     while !rest.is_empty() {
-        let Ok(window) = window_alone(alloc, rest) else {
+        let Ok(window) = window_alone(alloc, &reader.roster, rest) else {
             drop(reader);
             return Err(no_memory(number));
         };
-        let count = window.lines.len() as u64;
-        reader = take_lines(alloc, reader, number, window.lines)?;
-        rest = window.rest;
-        number += count;
+        let Window {
+            lines,
+            reads,
+            rest: after,
+        } = window;
+        reader = take_lines(alloc, reader, number, &lines, reads)?;
+        rest = after;
+        number += lines.len() as u64;
     }
     finished(number, reader)
 }
@@ -135,14 +232,18 @@ fn read_by_workers<R: Threads + Sync>(
     let mut rest = text;
     let mut number = 1u64;
     while !rest.is_empty() {
-        let Ok(window) = window_by_workers(rt, alloc, rest, workers) else {
+        let Ok(window) = window_by_workers(rt, alloc, &reader.roster, rest, workers) else {
             drop(reader);
             return Err(no_memory(number));
         };
-        let count = window.lines.len() as u64;
-        reader = take_lines(alloc, reader, number, window.lines)?;
-        rest = window.rest;
-        number += count;
+        let Window {
+            lines,
+            reads,
+            rest: after,
+        } = window;
+        reader = take_lines(alloc, reader, number, &lines, reads)?;
+        rest = after;
+        number += lines.len() as u64;
     }
     finished(number, reader)
 }

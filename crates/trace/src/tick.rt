@@ -187,7 +187,7 @@ fn pods_observed(
     Ok(all)
 }
 
-fn observed(
+pub(crate) fn observed(
     alloc: Global,
     at: u64,
     written: &TickLine,
@@ -219,7 +219,7 @@ fn entry_lacks_code(listings: &[PlacedListing]) -> bool
     listings.iter().any(|l| lacks_code(l.instance))
 }
 
-fn some_code_missing(entries: &[PlacedEntry]) -> bool
+pub(crate) fn some_code_missing(entries: &[PlacedEntry]) -> bool
     ensures { result ≡ some_code_missing entries.now }
 {
     entries
@@ -237,7 +237,7 @@ fn written_in(said: &Result<TickLine, TickLineFault>) -> Result<&TickLine, Fault
     }
 }
 
-fn room(reader: &Reader) -> Result<(), FaultKind>
+pub(crate) fn room(reader: &Reader) -> Result<(), FaultKind>
     ensures { GivesExactly (λ t. t) result (room_for_tick reader.now.ticks) }
 {
     refused_if(
@@ -246,7 +246,7 @@ fn room(reader: &Reader) -> Result<(), FaultKind>
     )
 }
 
-fn moment_in(reader: &Reader, written: Option<u64>) -> Result<u64, FaultKind>
+pub(crate) fn moment_in(reader: &Reader, written: Option<u64>) -> Result<u64, FaultKind>
     ensures gives { GivesExactly (λ n. n) result (moment_from reader.now.ticks written) }
     ensures later { IfOk result (λ at. EndBefore reader.now.ticks at) }
 {
@@ -255,6 +255,20 @@ fn moment_in(reader: &Reader, written: Option<u64>) -> Result<u64, FaultKind>
 
 /// The entries with numbers in the place of names: first all pods, then all containers.
 #[tactic(auto, unfolding(crate::specs::Placing::placed_of))]
+pub(crate) fn placed_by(
+    alloc: Global,
+    roster: &Roster,
+    written: &TickLine,
+) -> Result<Vec<PlacedEntry>, FaultKind>
+    ensures gives { Gives (λ v. v.items) result (placed_of roster.now written.now.entries) }
+    ensures known { IfOk result (λ v. All (λ e. e.pod < length roster.now.pods) v.items) }
+{
+    let entries = written.entries.as_slice();
+    let numbers = pod_numbers(alloc, roster, entries)?;
+    entries_of_pods(alloc, roster.pods(), &numbers, entries)
+}
+
+/// The same by the pods of the reader.
 fn placed_of(
     alloc: Global,
     reader: &Reader,
@@ -263,9 +277,7 @@ fn placed_of(
     ensures gives { Gives (λ v. v.items) result (placed_of reader.now.roll written.now.entries) }
     ensures known { IfOk result (λ v. All (λ e. e.pod < length reader.now.roll.pods) v.items) }
 {
-    let entries = written.entries.as_slice();
-    let numbers = pod_numbers(alloc, &reader.roster, entries)?;
-    entries_of_pods(alloc, reader.roster.pods(), &numbers, entries)
+    placed_by(alloc, &reader.roster, written)
 }
 
 /// Where the entries of each pod of the reader stand.
@@ -283,7 +295,7 @@ fn by_pod(alloc: Global, reader: &Reader, placed: &[PlacedEntry]) -> Result<Entr
 }
 
 /// Whether some listing of the tick may not come after those of the earlier ticks.
-fn is_backwards(reader: &Reader, tick: &TickObs) -> bool
+pub(crate) fn is_backwards(reader: &Reader, tick: &TickObs) -> bool
     requires { ComesNext reader.now.ticks (container_counts reader.now.roll.pods) tick.now }
     ensures { result ≡ is_backwards reader.now.ticks tick.now }
 {
@@ -311,7 +323,7 @@ fn observed_in(
     Ok(tick)
 }
 
-fn with_tick(reader: Reader, tick: TickObs) -> Result<Reader, FaultKind>
+pub(crate) fn with_tick(reader: Reader, tick: TickObs) -> Result<Reader, FaultKind>
     requires { MayStandBehind reader tick }
     ensures { Gives (λ r. r) result (Ok (with_tick reader tick)) }
 {

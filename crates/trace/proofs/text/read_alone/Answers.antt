@@ -1,6 +1,7 @@
 use Rattle.std.proofs.Common.{arith, rules}
 use Rattle.std.proofs.lemmas.Result.{err_from_is_err_and}
-use Rattle.json_lines.specs.Lines.{data_of}
+use Rattle.json_lines.specs.Lines.{line_data}
+use Rattle.trace.proofs.TakenAhead.{window_cut}
 use Rattle.trace.proofs.Taken.{leads_from_start, leads_on, stops}
 use Rattle.trace.proofs.text.read_alone.Goals as goal
 
@@ -13,12 +14,14 @@ returns-in_err-reader c =
     rw (p.1, p.2)
     (stops c.args.format c.args.text.now c.loop-rest.number c.loop-rest.reader c.loop-rest.rest.now
     c.in-Ok.window.rest.now _
-    c.in_err-reader.field-0.0 c.loop-rest.invariant.0 c.in-Ok.ensures.lines c.in_err-reader.ensures)
+    c.in_err-reader.field-0.0 c.loop-rest.invariant.0 (window_cut c.loop-rest.rest.now c.in-Ok.window.rest.now c.in-Ok.window.lines.items c.in-Ok.ensures.lines)
+    (rw c.deref.ensures.value at c.in_err-reader.ensures))
 
 pub loop-rest-preserved : goal.loop-rest-preserved
 loop-rest-preserved c = (
-  leads_on data_of c.args.format c.args.text.now c.loop-rest.number c.loop-rest.reader c.loop-rest.rest.now
-      c.in-Ok.window.rest.now c.in-Ok.window.lines.items c.len-count.result c.in_ok-reader.reader
-      c.loop-rest.invariant.0 c.in-Ok.ensures.lines c.in_ok-reader.ensures (search rules),
+  leads_on (λ line. line_data line.now) c.args.format c.args.text.now c.loop-rest.number c.loop-rest.reader c.loop-rest.rest.now
+      c.in-Ok.window.rest.now c.in-Ok.window.lines.items c.len.result c.in_ok-reader.reader
+      c.loop-rest.invariant.0 (window_cut c.loop-rest.rest.now c.in-Ok.window.rest.now c.in-Ok.window.lines.items c.in-Ok.ensures.lines)
+      (rw c.deref.ensures.value at c.in_ok-reader.ensures) (search rules),
   search rules,
 )

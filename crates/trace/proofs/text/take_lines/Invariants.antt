@@ -1,9 +1,12 @@
-use Rattle.std.proofs.Common.{◌≡◌, ◌+◌, map, drop}
-use Rattle.json_lines.specs.Lines.{data_of}
+use Rattle.std.proofs.Common.{◌≡◌, ◌+◌, drop, map, IsTrue}
+use Rattle.json_lines.specs.Lines.{line_data}
+use Rattle.trace.specs.Ahead.{AreAhead}
 use Rattle.trace.specs.Taken.{lines_at}
 use Rattle.trace.proofs.text.take_lines.Given as goal
 
 abbrev pub invariant-loop-line : goal.invariant-loop-line
 invariant-loop-line l = (l.number ≡ l.fn.first + l.line-index)
-    × (lines_at l.number l.reader (map data_of (drop l.line-index l.line-items))
-    ≡ lines_at l.fn.first l.fn.reader (map data_of l.fn.lines.items))
+    × (lines_at l.number l.reader (map (λ line. line_data line.now) (drop l.line-index l.lines))
+    ≡ lines_at l.fn.first l.fn.reader (map (λ line. line_data line.now) l.fn.lines))
+    × AreAhead l.fn.reader.roll (drop l.line-index l.lines) l.reads.rest.items
+    × (IsTrue l.is_fresh → l.reader.roll ≡ l.fn.reader.roll)

@@ -1,0 +1,244 @@
+-- Lines that are taken as they were read ahead.
+use Rattle.std.proofs.Common.{◌≡◌, ◌∙◌, ℕ, ◌+◌, ◌<◌, List, [], ◌∷◌, ◌++◌, length, take, drop, get_or, map, IsTrue, Bool, true, false}
+use Rattle.std.proofs.Common.{Option, Some, Result, Ok, Err, OnOk, refl, ap, sym, subst, inl, inr}
+use Rattle.std.specs.Borrow.{Bor}
+use Rattle.std.proofs.lemmas.Bool.{cases_Bool}
+use Rattle.std.proofs.lemmas.List.{take_more, drop_more}
+use Rattle.std.specs.Prelude.{⊤, MatchBool, if◌then◌else◌}
+use Rattle.std.specs.List.{list_any}
+use Rattle.json_fields.specs.Reading.{◌>>=◌, refused_if, GivesExactly}
+use Rattle.json_fields.proofs.Only.{same_value, no_fault}
+use Rattle.json_fields.proofs.Steps.{then_ok}
+use Rattle.following.specs.Backwards.{is_backwards}
+use Rattle.following.specs.Followed.{EndBefore, ComesNext}
+use Rattle.json_lines.specs.Lines.{LineData, Blank, TooLong, NotJson, Tick, Json, line_data, lines_of}
+use Rattle.json_lines.proofs.Windows.{window_read}
+use Rattle.observations.specs.declared.tick.TickObs.{TickObs}
+use Rattle.roster.specs.Roll.{Roll}
+use Rattle.tick_lines.specs.declared.fault.TickLineFault.{TickLineFault}
+use Rattle.tick_lines.specs.declared.line.TickLine.{TickLine}
+use Rattle.trace.specs.declared.fault.FaultKind.{FaultKind}
+use Rattle.trace.specs.declared.fault.FaultKind.TheVariants.{Moment, Backwards}
+use Rattle.trace.specs.declared.fault.LineFault.{LineFault}
+use Rattle.trace.specs.declared.past.LineKind.TheVariants as line_kinds
+use Rattle.trace.specs.declared.past.Turn.{Turn}
+use Rattle.trace.specs.declared.placing.PlacedEntry.{PlacedEntry}
+use Rattle.trace.specs.declared.ahead.LineAhead.{LineAhead}
+use Rattle.trace.specs.Ahead.{IsShown, IsAhead, AreAhead, IsReadAhead, KeepsPods, may_stand}
+use Rattle.trace.specs.Gives.{is_memory}
+use Rattle.trace.specs.Observed.{observed, some_code_missing}
+use Rattle.trace.specs.Past.{Past, version_in, with_tick}
+use Rattle.trace.specs.Placing.{placed_of, is_doubled, has_twice, are_of_one_pod, repeats}
+use Rattle.trace.specs.Pod.{container_counts}
+use Rattle.trace.specs.Taken.{tick_of, tick_after, tick_line_at, any_line_at, lines_at}
+use Rattle.trace.specs.Tick.{moment_from, is_later, room_for_tick, observed_in}
+use Rattle.trace.specs.Trace.{turn_of, at_line}
+use Rattle.trace.proofs.Shown.{comes_next, went_on}
+use Rattle.trace.proofs.ZippedParts.{zip_append}
+
+abbrev seen : Past → TickObs → Result Past FaultKind
+seen past tick = Ok (with_tick past tick)
+
+-- the entries of the line are known, apart and coded, so only a listing that goes back is left to refuse
+entries_apart : (past : Past) (at : ℕ) (written : TickLine) (placed : List PlacedEntry)
+    → is_doubled placed ≡ false → some_code_missing placed ≡ false
+    → observed_in past at written placed
+    ≡ (refused_if (is_backwards past.ticks (observed at written placed past.roll)) Backwards
+    >>= λ (u : ⊤). Ok (observed at written placed past.roll))
+unfolding observed_in
+entries_apart past at written placed apart coded = rw (apart, coded) refl
+
+entries_shown : (past : Past) (tick : TickObs) (written : TickLine) (placed : List PlacedEntry)
+    → placed_of past.roll written.entries ≡ Ok placed → is_doubled placed ≡ false → some_code_missing placed ≡ false
+    → tick ≡ observed tick.at written placed past.roll
+    → (placed_of past.roll written.entries >>= observed_in past tick.at written)
+    ≡ (refused_if (is_backwards past.ticks tick) Backwards >>= λ (u : ⊤). Ok tick)
+entries_shown past tick written placed places apart coded shows =
+    then_ok (placed_of past.roll written.entries) (observed_in past tick.at written) placed places
+    ∙ subst (λ (o : TickObs). observed_in past tick.at written placed
+    ≡ (refused_if (is_backwards past.ticks o) Backwards >>= λ (u : ⊤). Ok o)) (sym shows)
+    (entries_apart past tick.at written placed apart coded)
+
+steps : (turn : Result Turn FaultKind) (room : Result ⊤ FaultKind) (test back : Bool) (past : Past) (tick : TickObs)
+    (entries : ℕ → Result TickObs FaultKind)
+    → entries tick.at ≡ (refused_if back Backwards >>= λ (u : ⊤). Ok tick)
+    → (turn >>= λ (t : Turn). ((room >>= λ (u : ⊤). (if test then Ok tick.at else Err Moment) >>= λ (at : ℕ). entries at)
+    >>= seen past))
+    ≡ ((turn >>= λ (t : Turn). room >>= λ (u : ⊤). (if test then Ok tick.at else Err Moment) >>= λ (at : ℕ).
+    refused_if back Backwards) >>= λ (u : ⊤). seen past tick)
+steps (Err kind) room test back past tick entries e = refl
+steps (Ok t) (Err kind) test back past tick entries e = refl
+steps (Ok t) (Ok u) false back past tick entries e = refl
+steps (Ok t) (Ok u) true true past tick entries e = rw e refl
+steps (Ok t) (Ok u) true false past tick entries e = rw e refl
+
+tick_taken : (past : Past) (tick : TickObs) (written : TickLine) (placed : List PlacedEntry)
+    → placed_of past.roll written.entries ≡ Ok placed → is_doubled placed ≡ false → some_code_missing placed ≡ false
+    → tick ≡ observed tick.at written placed past.roll
+    → tick_line_at past (Some tick.at) (Ok written) ≡ (may_stand past tick >>= λ (u : ⊤). seen past tick)
+unfolding tick_after tick_of may_stand
+tick_taken past tick written placed places apart coded shows =
+    steps (turn_of (version_in past) line_kinds.Tick) (room_for_tick past.ticks) _ (is_backwards past.ticks tick) past tick
+    (λ (at : ℕ). placed_of past.roll written.entries >>= observed_in past at written)
+    (entries_shown past tick written placed places apart coded shows)
+
+-- a line that was read ahead is taken by what is left to look at
+pub shown_taken : (past : Past) (said : LineData) (tick : TickObs) → IsShown past.roll said tick
+    → any_line_at past said ≡ (may_stand past tick >>= λ (u : ⊤). seen past tick)
+shown_taken past said tick is =
+    ap (any_line_at past) is.says
+    ∙ tick_taken past tick is.written is.placed is.places is.apart is.coded is.shows
+
+moment_step : (test : Bool) (n at : ℕ) (given : Result ℕ FaultKind) → given ≡ (if test then Ok n else Err Moment)
+    → given ≡ Ok at → n ≡ at
+moment_step true n at given is e = same_value {E = FaultKind} n at (sym is ∙ e)
+moment_step false n at given is e = absurd (no_fault at Moment (sym e ∙ is))
+
+pub moment_is : (ticks : List TickObs) (n at : ℕ) → moment_from ticks (Some n) ≡ Ok at → n ≡ at
+moment_is ticks n at e = moment_step _ n at (moment_from ticks (Some n)) refl e
+
+-- what was read ahead comes next behind ticks that end before it
+pub ahead_comes_next : (ticks : List TickObs) (roll : Roll) (tick : TickObs) → IsReadAhead roll tick
+    → EndBefore ticks tick.at → ComesNext ticks (container_counts roll.pods) tick
+ahead_comes_next ticks roll tick is later =
+    subst (ComesNext ticks (container_counts roll.pods)) (sym is.1.shows)
+    (comes_next ticks tick.at is.1.written is.1.placed roll later)
+
+roll_kept : (past next : Past) (turn : Result Turn FaultKind) (tick : Result TickObs FaultKind)
+    → (turn >>= λ (t : Turn). tick >>= seen past) ≡ Ok next → next.roll ≡ past.roll
+roll_kept past next (Err kind) tick e = absurd (no_fault next kind (sym e))
+roll_kept past next (Ok t) (Err kind) e = absurd (no_fault next kind (sym e))
+roll_kept past next (Ok t) (Ok tick) e =
+    sym (ap (λ (p : Past). p.roll) (same_value {E = FaultKind} (with_tick past tick) next e))
+
+tick_keeps : (past next : Past) (moment : Option ℕ) (said : Result TickLine TickLineFault)
+    → tick_line_at past moment said ≡ Ok next → next.roll ≡ past.roll
+unfolding tick_after
+tick_keeps past next moment said e =
+    roll_kept past next (turn_of (version_in past) line_kinds.Tick) (tick_of past moment said) e
+
+-- behind a line that is no pod's there are the same pods
+pub pods_kept : (past next : Past) (said : LineData) → KeepsPods said → any_line_at past said ≡ Ok next
+    → next.roll ≡ past.roll
+pods_kept past next Blank keeps e = sym (ap (λ (p : Past). p.roll) (same_value {E = FaultKind} past next e))
+pods_kept past next TooLong keeps e = absurd (no_fault next _ (sym e))
+pods_kept past next NotJson keeps e = absurd (no_fault next _ (sym e))
+pods_kept past next (Tick moment said) keeps e = tick_keeps past next moment said e
+pods_kept past next (Json d) keeps e = absurd keeps
+
+pub shown_record : (roll : Roll) (moment : Option ℕ) (said : Result TickLine TickLineFault) (at : ℕ) (written : TickLine)
+    (placed : List PlacedEntry) (tick : TickObs) → moment ≡ Some at → said ≡ Ok written
+    → placed_of roll written.entries ≡ Ok placed → has_twice are_of_one_pod placed ≡ false
+    → list_any repeats placed ≡ false → some_code_missing placed ≡ false → tick ≡ observed at written placed roll
+    → IsShown roll (Tick moment said) tick
+shown_record roll moment said at written placed tick early spoken places once apart coded shows =
+    let here : at ≡ tick.at = sym (ap (λ (t : TickObs). t.at) shows) in
+    record {
+      written = written;
+      placed = placed;
+      says = rw (early, spoken, here) refl;
+      places = places;
+      apart = rw (once, apart) refl;
+      coded = coded;
+      shows = subst (λ (n : ℕ). tick ≡ observed n written placed roll) here shows;
+    }
+
+-- a test that refused nothing, and what holds then
+pub unless_refused : (P : Type 0) (test : Bool) (kind : FaultKind) (r : Result ⊤ FaultKind)
+    → GivesExactly (λ u. u) r (refused_if test kind) → (test ≡ false → P) → OnOk r P
+unless_refused P test kind (Ok u) given holds = holds (went_on test kind u given)
+unless_refused P test kind (Err fault) given holds = tt
+
+pub shown_stands : (past : Past) (said : LineData) (tick : TickObs) (u : ⊤) → IsShown past.roll said tick
+    → may_stand past tick ≡ Ok u → any_line_at past said ≡ seen past tick
+shown_stands past said tick u is stands =
+    shown_taken past said tick is ∙ then_ok (may_stand past tick) (λ (v : ⊤). seen past tick) u stands
+
+then_err : {A B E : Type 0} (r : Result A E) (f : A → Result B E) (fault : E) → r ≡ Err fault → (r >>= f) ≡ Err fault
+then_err r f fault e = rw e refl
+
+pub shown_refused : (past : Past) (said : LineData) (tick : TickObs) (kind : FaultKind) → IsShown past.roll said tick
+    → may_stand past tick ≡ Err kind
+    → MatchBool (is_memory kind) (Unit {0}) (any_line_at past said ≡ Err kind)
+shown_refused past said tick kind is refused =
+    let faulty = shown_taken past said tick is
+    ∙ then_err (may_stand past tick) (λ (v : ⊤). seen past tick) kind refused in
+    elim (cases_Bool (is_memory kind)) [
+      | inl memory ↦ rw memory tt
+      | inr other ↦ rw other faulty
+    ]
+
+-- one line more was read
+pub one_more_read : (roll : Roll) (lines : List (Bor (List ℕ))) (i : ℕ) (d : Bor (List ℕ))
+    (before after : List LineAhead) (read : LineAhead) → i < length lines
+    → AreAhead roll (take i lines) before → IsAhead roll (line_data (get_or lines i d).now) read
+    → after ≡ before ++ read ∷ [] → AreAhead roll (take (i + 1) lines) after
+one_more_read roll lines i d before after read lt so_far one same =
+    subst (AreAhead roll (take (i + 1) lines)) (sym same)
+    (subst (λ (ls : List (Bor (List ℕ))). AreAhead roll ls (before ++ read ∷ [])) (sym (take_more lines i d lt))
+    (zip_append (λ l r. IsAhead roll (line_data l.now) r) (take i lines) (get_or lines i d ∷ []) before (read ∷ [])
+    so_far (one, tt)))
+
+-- what is said of the lines of a text, once they are cut
+pub window_cut : (text rest : List ℕ) (lines : List (Bor (List ℕ)))
+    → lines_of text ≡ map (λ line. line.now) lines ++ lines_of rest
+    → map line_data (lines_of text) ≡ map (λ line. line_data line.now) lines ++ map line_data (lines_of rest)
+window_cut text rest lines cut =
+    window_read line_data (λ (line : Bor (List ℕ)). line.now) lines (lines_of text) (lines_of rest)
+    (map (λ line. line_data line.now) lines) cut refl
+
+abbrev said_in_turn : List (Bor (List ℕ)) → List LineData
+said_in_turn lines = map (λ line. line_data line.now) lines
+
+-- a line is taken, and the others are behind it
+pub turn_taken : (roll : Roll) (start : Result Past LineFault) (lines : List (Bor (List ℕ))) (i n : ℕ)
+    (d : Bor (List ℕ)) (past next : Past) (before after : List LineAhead) (read : LineAhead) (fresh stays : Bool)
+    → i < length lines → lines_at n past (said_in_turn (drop i lines)) ≡ start
+    → AreAhead roll (drop i lines) before → before ≡ read ∷ after
+    → (IsTrue fresh → past.roll ≡ roll)
+    → at_line n (any_line_at past (line_data (get_or lines i d).now)) ≡ Ok next
+    → (IsTrue stays → IsTrue fresh × (next.roll ≡ past.roll))
+    → (lines_at (n + 1) next (said_in_turn (drop (i + 1) lines)) ≡ start) × AreAhead roll (drop (i + 1) lines) after
+    × (IsTrue stays → next.roll ≡ roll)
+turn_taken roll start lines i n d past next before after read fresh stays lt from ahead same kept taken stay =
+    let cut = drop_more lines i d lt in
+    let both = subst (λ (ls : List (Bor (List ℕ))). AreAhead roll ls (read ∷ after)) cut
+    (subst (AreAhead roll (drop i lines)) same ahead) in
+    let whole = subst (λ (ls : List (Bor (List ℕ))). lines_at n past (said_in_turn ls) ≡ start) cut from in (
+      sym (then_ok (at_line n (any_line_at past (line_data (get_or lines i d).now)))
+          (λ (p : Past). lines_at (n + 1) p (said_in_turn (drop (i + 1) lines))) next taken) ∙ whole,
+      both.1,
+      (λ e. (stay e).1 ∙ kept (stay e).0),
+    )
+
+pub first_ahead : (roll : Roll) (lines : List (Bor (List ℕ))) (i : ℕ) (d : Bor (List ℕ))
+    (before after : List LineAhead) (read : LineAhead) → i < length lines
+    → AreAhead roll (drop i lines) before → before ≡ read ∷ after → IsAhead roll (line_data (get_or lines i d).now) read
+first_ahead roll lines i d before after read lt ahead same =
+    (subst (λ (ls : List (Bor (List ℕ))). AreAhead roll ls (read ∷ after)) (drop_more lines i d lt)
+    (subst (AreAhead roll (drop i lines)) same ahead)).0
+
+-- a line has what was read of it
+pub none_missing : (roll : Roll) (lines : List (Bor (List ℕ))) (i : ℕ) (d : Bor (List ℕ)) (before : List LineAhead)
+    → i < length lines → AreAhead roll (drop i lines) before → before ≡ [] → ⊥
+none_missing roll lines i d before lt ahead none =
+    subst (λ (ls : List (Bor (List ℕ))). AreAhead roll ls []) (drop_more lines i d lt)
+    (subst (AreAhead roll (drop i lines)) none ahead)
+
+pub turn_refused : (start : Result Past LineFault) (lines : List (Bor (List ℕ))) (i n : ℕ)
+    (d : Bor (List ℕ)) (past : Past) (fault : LineFault) → i < length lines
+    → lines_at n past (said_in_turn (drop i lines)) ≡ start
+    → MatchBool (is_memory fault.kind) (Unit {0})
+    (at_line n (any_line_at past (line_data (get_or lines i d).now)) ≡ Err fault)
+    → MatchBool (is_memory fault.kind) (Unit {0}) (start ≡ Err fault)
+turn_refused start lines i n d past fault lt from refused =
+    let line = get_or lines i d in
+    let whole = subst (λ (ls : List (Bor (List ℕ))). lines_at n past (said_in_turn ls) ≡ start) (drop_more lines i d lt)
+    from in
+    elim (cases_Bool (is_memory fault.kind)) [
+      | inl memory ↦ rw memory tt
+      | inr other ↦
+          let faulty : at_line n (any_line_at past (line_data line.now)) ≡ Err fault = rw other at refused in
+          rw other (sym whole ∙ then_err (at_line n (any_line_at past (line_data line.now)))
+          (λ (p : Past). lines_at (n + 1) p (said_in_turn (drop (i + 1) lines))) fault faulty)
+    ]

@@ -1,0 +1,121 @@
+//! Lines that are read ahead of their turn, each beside the pods that there are.
+
+ghost use Rattle.std.specs.Prelude.{◌≡◌, ◌<◌, false, length, All, IfOk, IfSome};
+ghost use Rattle.json_lines.specs.Lines.{Tick, line_data};
+ghost use Rattle.trace.specs.Ahead.{AreAhead, IsAhead, IsShown};
+ghost use Rattle.trace.specs.Observed.{observed};
+ghost use Rattle.trace.specs.Placing.{are_of_one_pod, has_twice};
+
+use crate::by_pod::entries_by_pod;
+use crate::fault::FaultKind;
+use crate::placing::{PlacedEntry, some_entry_repeats};
+use crate::tick::{observed, placed_by, some_code_missing};
+use json_lines::{Desk, TextLine, TickRecord, text_line};
+use observations::TickObs;
+use roster::Roster;
+use std::alloc::{AllocError, Global};
+use tick_lines::TickLine;
+
+/// What is read of a line ahead of its turn, beside the pods that there are.
+#[derive(Drop)]
+pub(crate) enum LineAhead {
+    /// The tick that it shows of these pods. Nothing in the line is at fault by itself.
+    Shown(TickObs),
+    /// What any other line says.
+    Said(TextLine),
+}
+
+/// Goes on where the fault is another than want of memory.
+fn unless_memory(kind: FaultKind) -> Result<(), AllocError> {
+    match kind {
+        FaultKind::OutOfMemory => Err(AllocError),
+        _ => Ok(()),
+    }
+}
+
+/// The tick that these entries show, unless one pod has two of them.
+fn shown_once(
+    alloc: Global,
+    at: u64,
+    written: &TickLine,
+    placed: &[PlacedEntry],
+    roster: &Roster,
+) -> Result<Option<TickObs>, AllocError>
+    requires { All (λ e. e.pod < length roster.now.pods) placed.now }
+    ensures { IfOk result (λ found. IfSome found (λ tick. (has_twice are_of_one_pod placed.now ≡ false)
+        × (tick ≡ observed at written.now placed.now roster.now))) }
+{
+    let found = entries_by_pod(alloc, placed, roster.pods().len())?;
+    if found.has_pod_twice {
+        return Ok(None);
+    }
+    Ok(Some(observed(alloc, at, written, placed, &found.first, roster)?))
+}
+
+/// The tick that a tick line shows of these pods, if nothing in it is at fault by itself.
+fn shown_by(
+    alloc: Global,
+    roster: &Roster,
+    line: &TickRecord,
+) -> Result<Option<TickObs>, AllocError>
+    ensures { IfOk result (λ found. IfSome found (IsShown roster.now (Tick line.now.at line.now.written))) }
+{
+    let (Some(at), Ok(written)) = (line.at, &line.written) else {
+        return Ok(None);
+    };
+    let placed = match placed_by(alloc, roster, written) {
+        Ok(placed) => placed,
+        Err(kind) => {
+            unless_memory(kind)?;
+            return Ok(None);
+        }
+    };
+    if some_entry_repeats(&placed) || some_code_missing(&placed) {
+        return Ok(None);
+    }
+    shown_once(alloc, at, written, &placed, roster)
+}
+
+/// Reads a tick line ahead. The record is given up here, by the thread that made it.
+fn tick_ahead(alloc: Global, roster: &Roster, line: TickRecord) -> Result<LineAhead, AllocError>
+    ensures { IfOk result (IsAhead roster.now (Tick line.at line.written)) }
+{
+    match shown_by(alloc, roster, &line)? {
+        Some(tick) => {
+            drop(line);
+            Ok(LineAhead::Shown(tick))
+        }
+        None => Ok(LineAhead::Said(TextLine::Tick(line))),
+    }
+}
+
+fn line_ahead(
+    alloc: Global,
+    roster: &Roster,
+    line: &[u8],
+    desk: &mut Desk,
+) -> Result<LineAhead, AllocError>
+    ensures { IfOk result (IsAhead roster.now (line_data line.now)) }
+{
+    match text_line(alloc, line, desk)? {
+        TextLine::Tick(tick) => tick_ahead(alloc, roster, tick),
+        said => Ok(LineAhead::Said(said)),
+    }
+}
+
+/// Reads each line ahead, in their order.
+pub(crate) fn read_each(
+    alloc: Global,
+    roster: &Roster,
+    lines: &[&[u8]],
+) -> Result<Vec<LineAhead>, AllocError>
+    ensures { IfOk result (λ reads. AreAhead roster.now lines.now reads.items) }
+{
+    let mut desk = Desk::new(alloc);
+    let mut reads = Vec::with_capacity(alloc, lines.len())?;
+    for line in lines {
+        let read = line_ahead(alloc, roster, line, &mut desk)?;
+        reads.push(read)?;
+    }
+    Ok(reads)
+}

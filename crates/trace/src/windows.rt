@@ -1,0 +1,104 @@
+//! Windows of a text, whose lines are read ahead.
+
+ghost use Rattle.std.specs.Prelude.{◌≡◌, ◌<◌, ◌≤◌, ◌+◌, ◌++◌, All, IfOk, IsOk, OnOk, length, map};
+ghost use Rattle.std.specs.List.{AllZip, flat_map};
+ghost use Rattle.json_lines.specs.Lines.{line_data, lines_of};
+ghost use Rattle.json_lines.specs.Parts.{read_in};
+ghost use Rattle.trace.specs.Ahead.{AreAhead};
+
+use crate::ahead::{LineAhead, read_each};
+use json_lines::next_tick_lines;
+use roster::Roster;
+use std::alloc::{AllocError, Global};
+use std::thread::{Threads, map_chunks};
+
+/// A window that one thread reads has so many bytes, 64 KiB, and the end of its last line. Workers share no shorter
+/// text.
+const ALONE: usize = 65_536;
+
+/// A window that workers share has so many bytes, 4 MiB, and the end of its last line: the threads start anew for each.
+const SHARED: usize = 4_194_304;
+
+/// The lines at the beginning of a text, what was read of each ahead, and the text after them.
+#[derive(Drop)]
+pub(crate) struct Window<'t> {
+    pub(crate) lines: Vec<&'t [u8]>,
+    pub(crate) reads: Vec<LineAhead>,
+    pub(crate) rest: &'t [u8],
+}
+
+/// What the parts have read, one after the other.
+fn joined(
+    alloc: Global,
+    parts: Vec<Result<Vec<LineAhead>, AllocError>>,
+) -> Result<Vec<LineAhead>, AllocError>
+    ensures reads { IfOk result (λ all. all.items ≡ flat_map (read_in (λ reads. reads.items)) parts.items) }
+    ensures every { OnOk result (All IsOk parts.items) }
+{
+    let mut all = Vec::new(alloc);
+    for part in parts {
+        let mut lines = part?;
+        all.append(&mut lines)?;
+    }
+    Ok(all)
+}
+
+/// What is read of each line ahead, in their order; so many workers share the lines.
+fn read_shared<R: Threads + Sync>(
+    rt: &R,
+    alloc: Global,
+    roster: &Roster,
+    lines: &[&[u8]],
+    workers: usize,
+) -> Result<Vec<LineAhead>, AllocError>
+    requires { 0 < workers }
+    ensures { IfOk result (λ reads. AreAhead roster.now lines.now reads.items) }
+{
+    let size = lines.len().div_ceil(workers).max(1);
+    let part = move |_: usize, part: &[&[u8]]| -> Result<Vec<LineAhead>, AllocError>
+        ensures { IfOk result (λ reads. AreAhead roster.entry.now part.entry.now reads.items) }
+    { read_each(alloc, roster, part) };
+    joined(alloc, map_chunks(rt, alloc, lines, size, &part)?)
+}
+
+/// The next window, read by this thread beside these pods. It is never without a line where the text isn't empty.
+pub(crate) fn window_alone<'t>(
+    alloc: Global,
+    roster: &Roster,
+    text: &'t [u8],
+) -> Result<Window<'t>, AllocError>
+    ensures lines { IfOk result (λ window. lines_of text.now
+        ≡ map (λ line. line.now) window.lines.items ++ lines_of window.rest.now) }
+    ensures shorter { 0 < length text.now → IfOk result (λ window. length window.rest.now < length text.now) }
+    ensures few { IfOk result (λ window. length window.lines.items + length window.rest.now ≤ length text.now) }
+    ensures ahead { IfOk result (λ window. AreAhead roster.now window.lines.items window.reads.items) }
+{
+    let (lines, rest) = next_tick_lines(alloc, text, ALONE)?;
+    let reads = read_each(alloc, roster, &lines)?;
+    Ok(Window { lines, reads, rest })
+}
+
+/// The next window, read by this many workers beside these pods, or by this thread where there are less than 64 KiB of
+/// text. It is never without a line where the text isn't empty.
+pub(crate) fn window_by_workers<'t, R: Threads + Sync>(
+    rt: &R,
+    alloc: Global,
+    roster: &Roster,
+    text: &'t [u8],
+    workers: usize,
+) -> Result<Window<'t>, AllocError>
+    requires { 0 < workers }
+    ensures lines { IfOk result (λ window. lines_of text.now
+        ≡ map (λ line. line.now) window.lines.items ++ lines_of window.rest.now) }
+    ensures shorter { 0 < length text.now → IfOk result (λ window. length window.rest.now < length text.now) }
+    ensures few { IfOk result (λ window. length window.lines.items + length window.rest.now ≤ length text.now) }
+    ensures ahead { IfOk result (λ window. AreAhead roster.now window.lines.items window.reads.items) }
+{
+    let (lines, rest) = next_tick_lines(alloc, text, SHARED)?;
+    let reads = if text.len() - rest.len() < ALONE {
+        read_each(alloc, roster, &lines)?
+    } else {
+        read_shared(rt, alloc, roster, &lines, workers)?
+    };
+    Ok(Window { lines, reads, rest })
+}
