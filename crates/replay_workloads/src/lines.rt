@@ -9,9 +9,13 @@ use std::alloc::{AllocError, Global};
 /// The most bytes of a trace, 64 MiB.
 const ROOM: usize = 64 << 20;
 
-/// What the node's line says behind its version.
-const NODE: &str =
-    r#","capacity":{"memory.available":"32Gi","nodefs.available":"100Gi"},"evictionHard":{"memory.available":"100Mi","nodefs.available":"10%"},"evictionSoft":{"memory.available":"1Gi"},"evictionSoftGracePeriod":{"memory.available":"1m"}}"#;
+/// What the node's line says behind its version: what the node has, and its thresholds.
+const CAPACITY: &str = r#","capacity":{"memory.available":"32Gi","nodefs.available":"100Gi"}"#;
+
+const HARD: &str = r#","evictionHard":{"memory.available":"100Mi","nodefs.available":"10%"}"#;
+
+const SOFT: &str =
+    r#","evictionSoft":{"memory.available":"1Gi"},"evictionSoftGracePeriod":{"memory.available":"1m"}}"#;
 
 /// Whether this is the last tick of so many.
 fn is_last_of(count: u64, tick: u64) -> bool {
@@ -21,7 +25,9 @@ fn is_last_of(count: u64, tick: u64) -> bool {
 fn node_line(pen: &mut Pen, shape: &Shape) -> Result<(), AllocError> {
     pen.text(r#"{"kind":"node","name":"n1","version":"#)?;
     pen.number(shape.version)?;
-    pen.text(NODE)?;
+    for piece in [CAPACITY, HARD, SOFT] {
+        pen.text(piece)?;
+    }
     pen.text("\n")
 }
 

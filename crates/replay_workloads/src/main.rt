@@ -3,7 +3,8 @@
 //!
 //!     replay_workloads JOB SHAPE TICKS WORKERS TRACES SEED
 //!
-//! JOB is `run` or `check`, SHAPE a shape by its name; each of so many TRACES has TICKS ticks and comes of another seed.
+//! JOB is `run` or `check`, SHAPE a shape by its name; each of so many TRACES has TICKS ticks and comes of another
+//! seed.
 #![tactic(auto)]
 
 mod job;
