@@ -4,7 +4,7 @@ import tempfile
 
 from common import TOP, Case, loaded, run, write
 
-SLOWER, SAME = "sleep 0.02; echo done $*", "echo done $*"
+SLOWER, SAME = "sleep 0.2; echo done $*", "echo done $*"
 
 
 def checkout(room, name, script):
