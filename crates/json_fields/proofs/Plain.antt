@@ -1,9 +1,11 @@
 -- The data of a value whose texts were not copied are those that serde_json reads.
-use Rattle.std.proofs.Common.{◌≡◌, ◌==◌, ℕ, ◌^◌, ◌&&◌, ◌||◌, List, [], ◌∷◌, map, Bool, true, false, not, get_or, Option, Some, None, is_some, option_map, option_and_then, refl, sym, ap, ◌∙◌, true≢false}
+use Rattle.std.proofs.Common.{◌≡◌, ◌==◌, ℕ, ◌^◌, ◌&&◌, List, [], ◌∷◌, map, Bool, true, false, not}
+use Rattle.std.proofs.Common.{Option, Some, None, is_some, option_map, refl, sym, ap, ◌∙◌}
+use Rattle.std.proofs.Common.{true≢false}
 use Rattle.std.specs.Prelude.{slice_index, nat_lt, if◌then◌else◌, cond}
 use Rattle.std.specs.Str.{bytes_eq}
 use Rattle.std.proofs.lemmas.Slice.Eq.{bytes_eq-Decides}
-use Rattle.fast_float.specs.Text.{minus, Parts, scan, digits_of}
+use Rattle.fast_float.specs.Text.{minus, scan, digits_of}
 use Rattle.json.specs.Json as json
 use Rattle.json.specs.Json.{Json}
 use Rattle.json.specs.Find as found
@@ -89,7 +91,8 @@ found_where false name k j ms e =
     get_member-put_other name k (data_of j) ms (λ is. true≢false (sym ((bytes_eq-Decides k name).1 (sym is)) ∙ e))
 
 get_member-data : (name : List ℕ) (ms : json.Members) (before : Members)
-    → get_member name (members_data ms before) ≡ later (option_map data_of (found.get_member name ms)) (get_member name before)
+    → get_member name (members_data ms before)
+    ≡ later (option_map data_of (found.get_member name ms)) (get_member name before)
 get_member-data name json.no_members before = refl
 get_member-data name (json.member k j ms) before =
     get_member-data name ms (put k (data_of j) before)

@@ -2,3 +2,4 @@ pub mod Borrowed
 pub mod Fields
 pub mod Reading
 pub mod Strangers
+pub mod Tape

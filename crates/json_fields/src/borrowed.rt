@@ -19,7 +19,7 @@ impl<'a, A: Allocator> HasData for Value<'a, A> {
 }
 
 /// The whole number that the digits write, where the text is digits alone and it is below 2^64.
-fn whole(text: &str) -> Option<u64>
+pub(crate) fn whole(text: &str) -> Option<u64>
     ensures { result ≡ whole text.now }
 {
     let bytes = text.as_bytes();

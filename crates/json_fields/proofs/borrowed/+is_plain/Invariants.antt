@@ -9,4 +9,5 @@ invariant-items_are_plain-loop-item g l =
 
 abbrev pub invariant-members_are_plain-loop-member : goal.invariant-members_are_plain-loop-member
 invariant-members_are_plain-loop-member g l =
-    members_are_plain (members_view (drop l.member-index l.member-items)) ≡ members_are_plain (members_view l.members.items)
+    members_are_plain (members_view (drop l.member-index l.member-items))
+    ≡ members_are_plain (members_view l.members.items)
