@@ -7,3 +7,4 @@ pub mod Quantities
 pub mod Strangers
 pub mod Alike
 pub mod Nulls
+mod Members

@@ -7,3 +7,4 @@ pub mod Entries
 pub mod Samples
 pub mod Line
 pub mod Laws
+pub mod Tape

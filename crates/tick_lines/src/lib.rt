@@ -9,6 +9,7 @@ mod line;
 mod listing;
 mod probing;
 mod samples;
+mod tape;
 mod usage;
 
 pub use entry::Entry;
@@ -16,3 +17,6 @@ pub use fault::TickLineFault;
 pub use line::{TickLine, tick_line_of};
 pub use listing::{ListedInstance, Listing};
 pub use probing::ProbeResult;
+pub use tape::{
+    EntryText, LineText, ListingText, ResultText, entry_text, line_text, listing_text, result_text,
+};

@@ -36,7 +36,7 @@ pub struct Listing {
     pub instance: ListedInstance,
 }
 
-fn attempt_of<V: Json>(found: Option<&V>) -> Result<u32, TickLineFault>
+pub(crate) fn attempt_of<V: Json>(found: Option<&V>) -> Result<u32, TickLineFault>
     ensures { GivesExactly (λ n. n) result (attempt_of (option_map (λ v. V.data v.now) found.entry)) }
 {
     let Some(value) = found else {
@@ -72,7 +72,7 @@ fn state_numbered(number: Option<u64>) -> Result<CriState, TickLineFault>
     }
 }
 
-fn state_of<V: Json>(found: Option<&V>) -> Result<CriState, TickLineFault>
+pub(crate) fn state_of<V: Json>(found: Option<&V>) -> Result<CriState, TickLineFault>
     ensures { GivesExactly (λ s. s) result (state_of (option_map (λ v. V.data v.now) found.entry)) }
 {
     let Some(value) = found else {
@@ -84,7 +84,7 @@ fn state_of<V: Json>(found: Option<&V>) -> Result<CriState, TickLineFault>
     }
 }
 
-fn code_of<V: Json>(found: Option<&V>) -> Option<i32>
+pub(crate) fn code_of<V: Json>(found: Option<&V>) -> Option<i32>
     ensures { result ≡ code_of (option_map (λ v. V.data v.now) found.entry) }
 {
     match found?.signed() {

@@ -23,7 +23,7 @@ pub struct ProbeResult {
     pub outcome: Outcome,
 }
 
-fn probe_named(found: Option<&str>) -> Result<ProbeKind, TickLineFault>
+pub(crate) fn probe_named(found: Option<&str>) -> Result<ProbeKind, TickLineFault>
     ensures { GivesExactly (λ p. p) result (probe_named (option_map (λ s. s.now) found.entry)) }
 {
     let Some(name) = found else {
@@ -37,7 +37,7 @@ fn probe_named(found: Option<&str>) -> Result<ProbeKind, TickLineFault>
     }
 }
 
-fn outcome_named(found: Option<&str>) -> Result<Outcome, TickLineFault>
+pub(crate) fn outcome_named(found: Option<&str>) -> Result<Outcome, TickLineFault>
     ensures { GivesExactly (λ o. o) result (outcome_named (option_map (λ s. s.now) found.entry)) }
 {
     let Some(name) = found else {

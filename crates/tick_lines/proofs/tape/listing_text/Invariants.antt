@@ -1,0 +1,10 @@
+use Rattle.std.proofs.Common.{length}
+use Rattle.json_fields.specs.Tape.{data_at}
+use Rattle.tick_lines.specs.Tape.{ListingRead}
+use Rattle.tick_lines.proofs.tape.listing_text.Given as goal
+
+abbrev pub invariant-loop-field : goal.invariant-loop-field
+invariant-loop-field l = ListingRead (data_at l.value) l.members l.listing
+
+abbrev pub decreases-loop-field : goal.decreases-loop-field
+decreases-loop-field l = length l.members

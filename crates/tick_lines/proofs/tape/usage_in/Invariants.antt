@@ -1,0 +1,10 @@
+use Rattle.std.proofs.Common.{length}
+use Rattle.json_fields.specs.Tape.{data_at}
+use Rattle.tick_lines.specs.Tape.{UsageRead}
+use Rattle.tick_lines.proofs.tape.usage_in.Given as goal
+
+abbrev pub invariant-loop-field : goal.invariant-loop-field
+invariant-loop-field l = UsageRead (data_at l.value) l.members l.usage
+
+abbrev pub decreases-loop-field : goal.decreases-loop-field
+decreases-loop-field l = length l.members
