@@ -1,5 +1,6 @@
 pub mod Cutting
 pub mod Found
-pub mod Joined
+pub mod ZippedParts
 pub mod Said
 pub mod Windows
+pub mod OnTape

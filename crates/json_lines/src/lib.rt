@@ -5,10 +5,13 @@ mod line;
 mod lines;
 mod parts;
 mod plain;
+mod tape;
 mod tick;
 mod window;
 
 pub use line::{TextLine, text_line};
-pub use plain::Desk;
+pub use parts::joined;
+pub use plain::LineBuffers;
+pub use tape::{tape_moment, tick_tape};
 pub use tick::{TickRecord, tick_record};
 pub use window::{Window, next_tick_lines, window_alone, window_by_workers};

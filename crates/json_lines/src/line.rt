@@ -6,13 +6,13 @@ ghost use Rattle.serde_json.specs.View.{view};
 ghost use Rattle.json_lines.specs.Lines.{json_in, said_by, said_in, line_data, data_of};
 
 use crate::lines::is_blank;
-use crate::plain::{Desk, plain_tick};
+use crate::plain::{LineBuffers, plain_tick};
 use crate::tick::{TickRecord, is_tick, tick_record};
 use serde_json::{Error, Value};
 use std::alloc::{AllocError, Global};
 
 /// The most bytes of a line, 1 MiB.
-const LONGEST_LINE: usize = 1_048_576;
+pub(crate) const LONGEST_LINE: usize = 1_048_576;
 
 /// What a line of a text says by itself.
 #[derive(Drop)]
@@ -67,10 +67,10 @@ fn said_by(alloc: Global, value: Value) -> Result<TextLine, AllocError>
 }
 
 /// What a line says, other than blanks, that is not too long.
-fn said_in(alloc: Global, line: &[u8], desk: &mut Desk) -> Result<TextLine, AllocError>
+fn said_in(alloc: Global, line: &[u8], buffers: &mut LineBuffers) -> Result<TextLine, AllocError>
     ensures { IfOk result (λ read. data_of read ≡ said_in line.now) }
 {
-    if let Some(tick) = plain_tick(alloc, line, desk)? {
+    if let Some(tick) = plain_tick(alloc, line, buffers)? {
         return Ok(TextLine::Tick(tick));
     }
     match json(alloc, line)? {
@@ -80,7 +80,11 @@ fn said_in(alloc: Global, line: &[u8], desk: &mut Desk) -> Result<TextLine, Allo
 }
 
 /// What a line says by itself.
-pub fn text_line(alloc: Global, line: &[u8], desk: &mut Desk) -> Result<TextLine, AllocError>
+pub fn text_line(
+    alloc: Global,
+    line: &[u8],
+    buffers: &mut LineBuffers,
+) -> Result<TextLine, AllocError>
     ensures { IfOk result (λ read. data_of read ≡ line_data line.now) }
 {
     if is_blank(line) {
@@ -89,17 +93,17 @@ pub fn text_line(alloc: Global, line: &[u8], desk: &mut Desk) -> Result<TextLine
     if line.len() > LONGEST_LINE {
         return Ok(TextLine::TooLong);
     }
-    said_in(alloc, line, desk)
+    said_in(alloc, line, buffers)
 }
 
 /// What each line says, in their order.
 pub(crate) fn read_each(alloc: Global, lines: &[&[u8]]) -> Result<Vec<TextLine>, AllocError>
     ensures { IfOk result (λ reads. map data_of reads.items ≡ map (λ line. line_data line.now) lines.now) }
 {
-    let mut desk = Desk::new(alloc);
+    let mut buffers = LineBuffers::new(alloc);
     let mut reads = Vec::with_capacity(alloc, lines.len())?;
     for line in lines {
-        reads.push(text_line(alloc, line, &mut desk)?)?;
+        reads.push(text_line(alloc, line, &mut buffers)?)?;
     }
     Ok(reads)
 }

@@ -10,18 +10,17 @@ use std::alloc::{AllocError, Global};
 use std::thread::{Threads, map_chunks};
 
 /// What the parts have read, one after the other.
-fn joined(
+pub fn joined<T: Drop>(
     alloc: Global,
-    parts: Vec<Result<Vec<TextLine>, AllocError>>,
-) -> Result<Vec<TextLine>, AllocError>
-    ensures reads { IfOk result (λ all. map data_of all.items
-        ≡ flat_map (read_in (λ reads. map data_of reads.items)) parts.items) }
+    parts: Vec<Result<Vec<T>, AllocError>>,
+) -> Result<Vec<T>, AllocError>
+    ensures reads { IfOk result (λ all. all.items ≡ flat_map (read_in (λ reads. reads.items)) parts.items) }
     ensures every { OnOk result (All IsOk parts.items) }
 {
     let mut all = Vec::new(alloc);
     for part in parts {
-        let mut lines = part?;
-        all.append(&mut lines)?;
+        let mut items = part?;
+        all.append(&mut items)?;
     }
     Ok(all)
 }

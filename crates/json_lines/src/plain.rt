@@ -22,7 +22,7 @@ const MISSES: u32 = 4;
 const MISSES_A_TRY: u32 = 32;
 
 /// Goes on where the text is no JSON; `Err` where memory was refused, and nowhere else.
-fn refused_memory(error: Error) -> Result<(), AllocError>
+pub(crate) fn refused_memory(error: Error) -> Result<(), AllocError>
     ensures refused { OnErr result (error ≡ OutOfMemory) }
     ensures not_json { OnOk result (error ≢ OutOfMemory) }
 {
@@ -35,17 +35,17 @@ fn refused_memory(error: Error) -> Result<(), AllocError>
 /// What is kept from line to line: where texts are unescaped, and the memory of a line's values, which is given up at
 /// once.
 #[derive(Drop)]
-pub struct Desk {
-    scratch: Scratch,
+pub struct LineBuffers {
+    pub(crate) scratch: Scratch,
     values: Bump,
     /// So many lines in a row were not read as plain ones.
-    missed: u32,
+    pub(crate) missed: u32,
 }
 
-impl Desk {
+impl LineBuffers {
     /// Nothing is kept yet. It takes no memory.
-    pub fn new(alloc: Global) -> Desk {
-        Desk {
+    pub fn new(alloc: Global) -> LineBuffers {
+        LineBuffers {
             scratch: Scratch::new(alloc),
             values: Bump::new(alloc),
             missed: 0,
@@ -54,7 +54,7 @@ impl Desk {
 
     /// Whether it is worth a try to read the next line as a plain one: always but behind several that were not, where
     /// a line now and then shows whether they still are not.
-    fn is_worth_a_try(&self) -> bool {
+    pub(crate) fn is_worth_a_try(&self) -> bool {
         self.missed < MISSES || self.missed % MISSES_A_TRY == 0
     }
 
@@ -117,17 +117,17 @@ fn tick_in(
 pub(crate) fn plain_tick(
     alloc: Global,
     line: &[u8],
-    desk: &mut Desk,
+    buffers: &mut LineBuffers,
 ) -> Result<Option<TickRecord>, AllocError>
     ensures { IfOk result (λ found. IfSome found (λ tick. said_in line.now ≡ Tick tick.at tick.written)) }
 {
-    if !desk.is_worth_a_try() {
-        desk.note(false);
+    if !buffers.is_worth_a_try() {
+        buffers.note(false);
         return Ok(None);
     }
-    let found = tick_in(alloc, line, &mut desk.scratch, &desk.values);
+    let found = tick_in(alloc, line, &mut buffers.scratch, &buffers.values);
     // no value is left; where it refused all the same, the next line's would come beside this one's
-    let _given_up = desk.values.reset();
-    desk.note(matches!(found, Ok(Some(_))));
+    let _given_up = buffers.values.reset();
+    buffers.note(matches!(found, Ok(Some(_))));
     found
 }

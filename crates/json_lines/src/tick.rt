@@ -25,7 +25,7 @@ pub(crate) fn is_tick<V: Json>(line: &V) -> bool
 }
 
 /// The whole number that is found.
-fn moment_written<V: Json>(found: Option<&V>) -> Option<u64>
+pub(crate) fn moment_written<V: Json>(found: Option<&V>) -> Option<u64>
     ensures { result ≡ moment_written (option_map (λ v. V.data v.now) found.entry) }
 {
     found?.unsigned()

@@ -26,25 +26,6 @@ pub struct Window<'t> {
     pub rest: &'t [u8],
 }
 
-/// The next lines, of at least so many bytes with their newlines where there are so many, and the text after them.
-fn next_lines(alloc: Global, text: &[u8], bytes: usize) -> Result<(Vec<&[u8]>, &[u8]), AllocError>
-    requires { 0 < bytes }
-    ensures lines { IfOk result (λ p. lines_of text.now ≡ map (λ line. line.now) p.0.items ++ lines_of p.1.now) }
-    ensures shorter { 0 < length text.now → IfOk result (λ p. length p.1.now < length text.now) }
-    ensures few { IfOk result (λ p. length p.0.items + length p.1.now ≤ length text.now) }
-{
-    let mut found = Vec::new(alloc);
-    let mut rest = text;
-    while text.len() - rest.len() < bytes {
-        let Some((line, after)) = first_line(rest) else {
-            return Ok((found, rest));
-        };
-        found.push(line)?;
-        rest = after;
-    }
-    Ok((found, rest))
-}
-
 /// Lines that tell of a pod itself have one of these words near their beginning; tick lines have none of them.
 const WORDS_OF_PODS: [&[u8]; 2] = [b"\"metadata\"", b"\"gone\""];
 
@@ -62,12 +43,13 @@ fn seems_of_pod(line: &[u8]) -> bool {
     false
 }
 
-/// The next lines, of at least so many bytes with their newlines where there are so many, and the text after them; or
-/// fewer, which end with a line that seems to tell of a pod itself.
-pub fn next_tick_lines(
+/// The next lines, of at least so many bytes with their newlines where there are so many, and the text after them;
+/// where they stop at pods it may be fewer, which end with a line that seems to tell of a pod itself.
+fn lines_of_window(
     alloc: Global,
     text: &[u8],
     bytes: usize,
+    stop_at_pods: bool,
 ) -> Result<(Vec<&[u8]>, &[u8]), AllocError>
     requires { 0 < bytes }
     ensures lines { IfOk result (λ p. lines_of text.now ≡ map (λ line. line.now) p.0.items ++ lines_of p.1.now) }
@@ -81,11 +63,26 @@ pub fn next_tick_lines(
         let Some((line, after)) = first_line(rest) else {
             return Ok((found, rest));
         };
-        is_last = seems_of_pod(line);
+        is_last = stop_at_pods && seems_of_pod(line);
         found.push(line)?;
         rest = after;
     }
     Ok((found, rest))
+}
+
+/// The next lines, of at least so many bytes with their newlines where there are so many, and the text after them; or
+/// fewer, which end with a line that seems to tell of a pod itself.
+pub fn next_tick_lines(
+    alloc: Global,
+    text: &[u8],
+    bytes: usize,
+) -> Result<(Vec<&[u8]>, &[u8]), AllocError>
+    requires { 0 < bytes }
+    ensures lines { IfOk result (λ p. lines_of text.now ≡ map (λ line. line.now) p.0.items ++ lines_of p.1.now) }
+    ensures shorter { 0 < length text.now → IfOk result (λ p. length p.1.now < length text.now) }
+    ensures few { IfOk result (λ p. length p.0.items + length p.1.now ≤ length text.now) }
+{
+    lines_of_window(alloc, text, bytes, true)
 }
 
 /// The next window, read by this thread. It is never without a line where the text isn't empty.
@@ -95,7 +92,7 @@ pub fn window_alone(alloc: Global, text: &[u8]) -> Result<Window<'_>, AllocError
     ensures shorter { 0 < length text.now → IfOk result (λ window. length window.rest.now < length text.now) }
     ensures few { IfOk result (λ window. length window.lines.items + length window.rest.now ≤ length text.now) }
 {
-    let (lines, rest) = next_lines(alloc, text, ALONE)?;
+    let (lines, rest) = lines_of_window(alloc, text, ALONE, false)?;
     let lines = read_each(alloc, &lines)?;
     Ok(Window { lines, rest })
 }
@@ -117,7 +114,7 @@ pub fn window_by_workers<'t, R: Threads + Sync>(
     if text.len() < ALONE {
         return window_alone(alloc, text);
     }
-    let (lines, rest) = next_lines(alloc, text, SHARED)?;
+    let (lines, rest) = lines_of_window(alloc, text, SHARED, false)?;
     let lines = read_shared(rt, alloc, &lines, workers)?;
     Ok(Window { lines, rest })
 }

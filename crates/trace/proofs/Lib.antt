@@ -1,9 +1,9 @@
 pub mod TakenAhead
-pub mod ZippedParts
 pub mod ByPod
 pub mod InRange
 pub mod Keys
 pub mod Moments
+pub mod NotedPods
 pub mod Placed
 pub mod Said
 pub mod Shape
@@ -13,3 +13,7 @@ pub mod Taken
 pub mod Versions
 pub mod Whole
 pub mod LawLemmas
+pub mod OnTape
+pub mod NamedContainers
+pub mod NotedContainers
+pub mod NotedItems

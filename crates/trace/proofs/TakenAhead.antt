@@ -1,5 +1,6 @@
 -- Lines that are taken as they were read ahead.
-use Rattle.std.proofs.Common.{◌≡◌, ◌∙◌, ℕ, ◌+◌, ◌<◌, List, [], ◌∷◌, ◌++◌, length, take, drop, get_or, map, IsTrue, Bool, true, false}
+use Rattle.std.proofs.Common.{◌≡◌, ◌∙◌, ℕ, ◌+◌, ◌<◌, List, [], ◌∷◌, ◌++◌, length, take, drop, get_or, map, IsTrue}
+use Rattle.std.proofs.Common.{Bool, true, false}
 use Rattle.std.proofs.Common.{Option, Some, Result, Ok, Err, OnOk, refl, ap, sym, subst, inl, inr}
 use Rattle.std.specs.Borrow.{Bor}
 use Rattle.std.proofs.lemmas.Bool.{cases_Bool}
@@ -31,10 +32,10 @@ use Rattle.trace.specs.Past.{Past, version_in, with_tick}
 use Rattle.trace.specs.Placing.{placed_of, is_doubled, has_twice, are_of_one_pod, repeats}
 use Rattle.trace.specs.Pod.{container_counts}
 use Rattle.trace.specs.Taken.{tick_of, tick_after, tick_line_at, any_line_at, lines_at}
-use Rattle.trace.specs.Tick.{moment_from, is_later, room_for_tick, observed_in}
+use Rattle.trace.specs.Tick.{moment_from, room_for_tick, observed_in}
 use Rattle.trace.specs.Trace.{turn_of, at_line}
 use Rattle.trace.proofs.Shown.{comes_next, went_on}
-use Rattle.trace.proofs.ZippedParts.{zip_append}
+use Rattle.json_lines.proofs.ZippedParts.{zip_append}
 
 abbrev seen : Past → TickObs → Result Past FaultKind
 seen past tick = Ok (with_tick past tick)
@@ -62,8 +63,8 @@ entries_shown past tick written placed places apart coded shows =
 steps : (turn : Result Turn FaultKind) (room : Result ⊤ FaultKind) (test back : Bool) (past : Past) (tick : TickObs)
     (entries : ℕ → Result TickObs FaultKind)
     → entries tick.at ≡ (refused_if back Backwards >>= λ (u : ⊤). Ok tick)
-    → (turn >>= λ (t : Turn). ((room >>= λ (u : ⊤). (if test then Ok tick.at else Err Moment) >>= λ (at : ℕ). entries at)
-    >>= seen past))
+    → (turn >>= λ (t : Turn).
+    ((room >>= λ (u : ⊤). (if test then Ok tick.at else Err Moment) >>= λ (at : ℕ). entries at) >>= seen past))
     ≡ ((turn >>= λ (t : Turn). room >>= λ (u : ⊤). (if test then Ok tick.at else Err Moment) >>= λ (at : ℕ).
     refused_if back Backwards) >>= λ (u : ⊤). seen past tick)
 steps (Err kind) room test back past tick entries e = refl
@@ -78,7 +79,8 @@ tick_taken : (past : Past) (tick : TickObs) (written : TickLine) (placed : List 
     → tick_line_at past (Some tick.at) (Ok written) ≡ (may_stand past tick >>= λ (u : ⊤). seen past tick)
 unfolding tick_after tick_of may_stand
 tick_taken past tick written placed places apart coded shows =
-    steps (turn_of (version_in past) line_kinds.Tick) (room_for_tick past.ticks) _ (is_backwards past.ticks tick) past tick
+    steps (turn_of (version_in past) line_kinds.Tick) (room_for_tick past.ticks) _ (is_backwards past.ticks tick)
+    past tick
     (λ (at : ℕ). placed_of past.roll written.entries >>= observed_in past at written)
     (entries_shown past tick written placed places apart coded shows)
 
@@ -126,8 +128,8 @@ pods_kept past next NotJson keeps e = absurd (no_fault next _ (sym e))
 pods_kept past next (Tick moment said) keeps e = tick_keeps past next moment said e
 pods_kept past next (Json d) keeps e = absurd keeps
 
-pub shown_record : (roll : Roll) (moment : Option ℕ) (said : Result TickLine TickLineFault) (at : ℕ) (written : TickLine)
-    (placed : List PlacedEntry) (tick : TickObs) → moment ≡ Some at → said ≡ Ok written
+pub shown_record : (roll : Roll) (moment : Option ℕ) (said : Result TickLine TickLineFault) (at : ℕ)
+    (written : TickLine) (placed : List PlacedEntry) (tick : TickObs) → moment ≡ Some at → said ≡ Ok written
     → placed_of roll written.entries ≡ Ok placed → has_twice are_of_one_pod placed ≡ false
     → list_any repeats placed ≡ false → some_code_missing placed ≡ false → tick ≡ observed at written placed roll
     → IsShown roll (Tick moment said) tick

@@ -5,6 +5,7 @@ pub mod Pod
 pub mod Placing
 pub mod ByPod
 pub mod Observed
+pub mod Slots
 pub mod Past
 pub mod Tick
 pub mod Trace
@@ -12,3 +13,5 @@ pub mod Taken
 pub mod Ahead
 pub mod Sound
 pub mod Laws
+pub mod Tape
+pub mod Noted

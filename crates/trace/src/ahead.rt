@@ -1,7 +1,8 @@
 //! Lines that are read ahead of their turn, each beside the pods that there are.
 
-ghost use Rattle.std.specs.Prelude.{◌≡◌, ◌<◌, false, length, All, IfOk, IfSome};
+ghost use Rattle.std.specs.Prelude.{◌≡◌, ◌≢◌, ◌<◌, false, length, All, IfOk, IfSome, OnErr, OnOk};
 ghost use Rattle.json_lines.specs.Lines.{Tick, line_data};
+ghost use Rattle.trace.specs.declared.fault.FaultKind.TheVariants.{OutOfMemory};
 ghost use Rattle.trace.specs.Ahead.{AreAhead, IsAhead, IsShown};
 ghost use Rattle.trace.specs.Observed.{observed};
 ghost use Rattle.trace.specs.Placing.{are_of_one_pod, has_twice};
@@ -9,8 +10,9 @@ ghost use Rattle.trace.specs.Placing.{are_of_one_pod, has_twice};
 use crate::by_pod::entries_by_pod;
 use crate::fault::FaultKind;
 use crate::placing::{PlacedEntry, some_entry_repeats};
+use crate::tape::shown_on_tape;
 use crate::tick::{observed, placed_by, some_code_missing};
-use json_lines::{Desk, TextLine, TickRecord, text_line};
+use json_lines::{LineBuffers, TextLine, TickRecord, text_line};
 use observations::TickObs;
 use roster::Roster;
 use std::alloc::{AllocError, Global};
@@ -26,7 +28,10 @@ pub(crate) enum LineAhead {
 }
 
 /// Goes on where the fault is another than want of memory.
-fn unless_memory(kind: FaultKind) -> Result<(), AllocError> {
+fn unless_memory(kind: FaultKind) -> Result<(), AllocError>
+    ensures refused { OnErr result (kind ≡ OutOfMemory) }
+    ensures other { OnOk result (kind ≢ OutOfMemory) }
+{
     match kind {
         FaultKind::OutOfMemory => Err(AllocError),
         _ => Ok(()),
@@ -93,11 +98,14 @@ fn line_ahead(
     alloc: Global,
     roster: &Roster,
     line: &[u8],
-    desk: &mut Desk,
+    buffers: &mut LineBuffers,
 ) -> Result<LineAhead, AllocError>
     ensures { IfOk result (IsAhead roster.now (line_data line.now)) }
 {
-    match text_line(alloc, line, desk)? {
+    if let Some(tick) = shown_on_tape(alloc, roster, line, buffers)? {
+        return Ok(LineAhead::Shown(tick));
+    }
+    match text_line(alloc, line, buffers)? {
         TextLine::Tick(tick) => tick_ahead(alloc, roster, tick),
         said => Ok(LineAhead::Said(said)),
     }
@@ -111,10 +119,10 @@ pub(crate) fn read_each(
 ) -> Result<Vec<LineAhead>, AllocError>
     ensures { IfOk result (λ reads. AreAhead roster.now lines.now reads.items) }
 {
-    let mut desk = Desk::new(alloc);
+    let mut buffers = LineBuffers::new(alloc);
     let mut reads = Vec::with_capacity(alloc, lines.len())?;
     for line in lines {
-        let read = line_ahead(alloc, roster, line, &mut desk)?;
+        let read = line_ahead(alloc, roster, line, &mut buffers)?;
         reads.push(read)?;
     }
     Ok(reads)

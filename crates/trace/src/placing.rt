@@ -125,7 +125,7 @@ fn placed_results(
     Ok(all)
 }
 
-fn pod_numbered(pods: &[PodSpec], number: usize) -> Result<&PodSpec, FaultKind>
+pub(crate) fn pod_numbered(pods: &[PodSpec], number: usize) -> Result<&PodSpec, FaultKind>
     ensures { GivesExactly (λ p. p.now) result (pod_numbered pods.now number) }
 {
     match pods.get(number) {

@@ -17,7 +17,7 @@ use crate::past::{Reader, Trace};
 use crate::reading::{take_line, take_shown};
 use crate::windows::{Window, window_alone, window_by_workers};
 use following::Following;
-use json_lines::{Desk, TextLine, text_line};
+use json_lines::{LineBuffers, TextLine, text_line};
 use node_config::Format;
 use roster::Roster;
 use sequence::Sequence;
@@ -42,8 +42,8 @@ fn nothing(alloc: Global, format: Format) -> Reader
 fn take_anew(alloc: Global, reader: Reader, line: &[u8]) -> Result<Reader, FaultKind>
     ensures { Gives (λ r. r) result (any_line_at reader (line_data line.now)) }
 {
-    let mut desk = Desk::new(alloc);
-    match text_line(alloc, line, &mut desk) {
+    let mut buffers = LineBuffers::new(alloc);
+    match text_line(alloc, line, &mut buffers) {
         Ok(line) => take_line(alloc, reader, &line),
         Err(error) => {
             drop(reader);

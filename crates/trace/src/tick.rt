@@ -50,7 +50,7 @@ fn moment_from(ticks: &[TickObs], written: Option<u64>) -> Result<u64, FaultKind
 
 /// The instance that a listing says. Where the exit code is missing, 0 stands in its place until
 /// that is refused.
-fn seen_listed(instance: ListedInstance) -> Seen
+pub(crate) fn seen_listed(instance: ListedInstance) -> Seen
     ensures { result ≡ seen_listed instance }
 {
     let code = match instance.state {
@@ -151,7 +151,7 @@ fn pod_observed(
 }
 
 /// The same, if the pod is present.
-fn shown(
+pub(crate) fn shown(
     alloc: Global,
     at: u64,
     entry: Option<&PlacedEntry>,
@@ -207,7 +207,7 @@ pub(crate) fn observed(
     })
 }
 
-fn lacks_code(instance: ListedInstance) -> bool
+pub(crate) fn lacks_code(instance: ListedInstance) -> bool
     ensures { result ≡ lacks_code instance }
 {
     instance.state.is_exited() && instance.code.is_none()

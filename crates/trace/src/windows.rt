@@ -1,13 +1,11 @@
 //! Windows of a text, whose lines are read ahead.
 
-ghost use Rattle.std.specs.Prelude.{◌≡◌, ◌<◌, ◌≤◌, ◌+◌, ◌++◌, All, IfOk, IsOk, OnOk, length, map};
-ghost use Rattle.std.specs.List.{AllZip, flat_map};
+ghost use Rattle.std.specs.Prelude.{◌≡◌, ◌<◌, ◌≤◌, ◌+◌, ◌++◌, IfOk, length, map};
 ghost use Rattle.json_lines.specs.Lines.{line_data, lines_of};
-ghost use Rattle.json_lines.specs.Parts.{read_in};
 ghost use Rattle.trace.specs.Ahead.{AreAhead};
 
 use crate::ahead::{LineAhead, read_each};
-use json_lines::next_tick_lines;
+use json_lines::{joined, next_tick_lines};
 use roster::Roster;
 use std::alloc::{AllocError, Global};
 use std::thread::{Threads, map_chunks};
@@ -25,22 +23,6 @@ pub(crate) struct Window<'t> {
     pub(crate) lines: Vec<&'t [u8]>,
     pub(crate) reads: Vec<LineAhead>,
     pub(crate) rest: &'t [u8],
-}
-
-/// What the parts have read, one after the other.
-fn joined(
-    alloc: Global,
-    parts: Vec<Result<Vec<LineAhead>, AllocError>>,
-) -> Result<Vec<LineAhead>, AllocError>
-    ensures reads { IfOk result (λ all. all.items ≡ flat_map (read_in (λ reads. reads.items)) parts.items) }
-    ensures every { OnOk result (All IsOk parts.items) }
-{
-    let mut all = Vec::new(alloc);
-    for part in parts {
-        let mut lines = part?;
-        all.append(&mut lines)?;
-    }
-    Ok(all)
 }
 
 /// What is read of each line ahead, in their order; so many workers share the lines.

@@ -14,14 +14,16 @@ returns-in_err-reader c =
     rw (p.1, p.2)
     (stops c.args.format c.args.text.now c.loop-rest.number c.loop-rest.reader c.loop-rest.rest.now
     c.in-Ok.window.rest.now _
-    c.in_err-reader.field-0.0 c.loop-rest.invariant.0 (window_cut c.loop-rest.rest.now c.in-Ok.window.rest.now c.in-Ok.window.lines.items c.in-Ok.ensures.lines)
+    c.in_err-reader.field-0.0 c.loop-rest.invariant.0
+    (window_cut c.loop-rest.rest.now c.in-Ok.window.rest.now c.in-Ok.window.lines.items c.in-Ok.ensures.lines)
     (rw c.deref.ensures.value at c.in_err-reader.ensures))
 
 pub loop-rest-preserved : goal.loop-rest-preserved
 loop-rest-preserved c = (
-  leads_on (λ line. line_data line.now) c.args.format c.args.text.now c.loop-rest.number c.loop-rest.reader c.loop-rest.rest.now
-      c.in-Ok.window.rest.now c.in-Ok.window.lines.items c.len.result c.in_ok-reader.reader
-      c.loop-rest.invariant.0 (window_cut c.loop-rest.rest.now c.in-Ok.window.rest.now c.in-Ok.window.lines.items c.in-Ok.ensures.lines)
+  leads_on (λ line. line_data line.now) c.args.format c.args.text.now c.loop-rest.number c.loop-rest.reader
+      c.loop-rest.rest.now c.in-Ok.window.rest.now c.in-Ok.window.lines.items c.len.result c.in_ok-reader.reader
+      c.loop-rest.invariant.0
+      (window_cut c.loop-rest.rest.now c.in-Ok.window.rest.now c.in-Ok.window.lines.items c.in-Ok.ensures.lines)
       (rw c.deref.ensures.value at c.in_ok-reader.ensures) (search rules),
   search rules,
 )

@@ -2,7 +2,7 @@ use Rattle.std.proofs.Common.{◌≡◌, ◌+◌, ◌*◌, ◌/◌, ◌%◌, ◌
 use Rattle.std.proofs.lemmas.Grind.{div_ceil_times}
 use Rattle.json_lines.specs.Lines.{line_data}
 use Rattle.trace.specs.Ahead.{IsAhead}
-use Rattle.trace.proofs.ZippedParts.{shared_zipped}
+use Rattle.json_lines.proofs.ZippedParts.{shared_zipped}
 use Rattle.trace.proofs.windows.read_shared.Goals as goal
 
 pub returns : goal.returns

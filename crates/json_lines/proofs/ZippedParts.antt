@@ -1,6 +1,6 @@
 -- Lines that several threads share, each beside what was read of it.
-use Rattle.std.proofs.Common.{◌≡◌, ℕ, suc, ◌+◌, ◌*◌, ◌<◌, ◌≤◌, List, [], ◌∷◌, ◌++◌, length, take, drop}
-use Rattle.std.proofs.Common.{get_or, All, IsOk, IfOk, OnOk, Result, Ok, Err, refl, sym, subst, arith}
+use Rattle.std.proofs.Common.{◌≡◌, ℕ, suc, ◌+◌, ◌*◌, ◌<◌, ◌≤◌, List, [], ◌∷◌, ◌++◌, length, map, take, drop}
+use Rattle.std.proofs.Common.{get_or, All, IsOk, IfOk, OnOk, Result, Ok, Err, refl, sym, subst, ap₂, arith}
 use Rattle.std.specs.List.{AllZip, flat_map}
 use Rattle.std.proofs.lemmas.List.{drop_all}
 use Rattle.std.proofs.lemmas.Simd.{chunk-drop}
@@ -14,7 +14,8 @@ zip_append R (x ∷ xs) ys [] vs first rest = absurd first
 zip_append R (x ∷ xs) ys (u ∷ us) vs first rest = (first.0, zip_append R xs ys us vs first.1 rest)
 
 -- the parts are what was read of chunks of this size, from a place on
-abbrev pub AreZipped : {A B X E : Type 0} → (X → B → Type 0) → (A → List B) → ℕ → List X → ℕ → List (Result A E) → Type 0
+abbrev pub AreZipped : {A B X E : Type 0} → (X → B → Type 0) → (A → List B) → ℕ → List X → ℕ → List (Result A E)
+    → Type 0
 AreZipped {A} {B} {X} {E} R view size xs at parts = (n : ℕ) (d : Result A E) → n < length parts
     → IfOk (get_or parts n d) (λ a. AllZip R (take size (drop (at + n * size) xs)) (view a))
 
@@ -24,7 +25,8 @@ pub parts_zipped : {A B X E : Type 0} (R : X → B → Type 0) (view : A → Lis
 parts_zipped R view size xs at [] zipped every enough =
     let over : drop at xs ≡ [] = drop_all at xs (omega (enough, arith)) in
     rw over tt
-parts_zipped R view size xs at (Err e ∷ parts) zipped every enough = let bad = every 0 (Err e) (omega arith) in absurd (cc)
+parts_zipped R view size xs at (Err e ∷ parts) zipped every enough =
+    let bad = every 0 (Err e) (omega arith) in absurd (cc)
 parts_zipped R view size xs at (Ok a ∷ parts) zipped every enough =
     let here : at + 0 * size ≡ at = omega arith in
     let first : AllZip R (take size (drop at xs)) (view a) = rw here at (zipped 0 (Ok a) (omega arith)) in
@@ -47,3 +49,33 @@ shared_zipped R view joined size xs parts (Ok all) reads every zipped enough =
     let all : length parts * size ≡ 0 + length parts * size = omega arith in
     rw reads (parts_zipped R view size xs 0 parts zipped every (subst (λ (n : ℕ). length xs ≤ n) all enough))
 shared_zipped R view joined size xs parts (Err e) reads every zipped enough = tt
+
+-- ---- each beside what it is mapped to
+
+zip_of_map : {A B C : Type 0} (f : A → C) (g : B → C) (xs : List A) (ys : List B) → map g ys ≡ map f xs
+    → AllZip (λ x y. g y ≡ f x) xs ys
+zip_of_map f g [] [] e = tt
+zip_of_map f g [] (y ∷ ys) e = absurd (cc)
+zip_of_map f g (x ∷ xs) [] e = absurd (cc)
+zip_of_map f g (x ∷ xs) (y ∷ ys) e =
+    let first : g y ≡ f x = cc in
+    let rest : map g ys ≡ map f xs = cc in
+    (first, zip_of_map f g xs ys rest)
+
+map_of_zip : {A B C : Type 0} (f : A → C) (g : B → C) (xs : List A) (ys : List B) → AllZip (λ x y. g y ≡ f x) xs ys
+    → map g ys ≡ map f xs
+map_of_zip f g [] [] zipped = refl
+map_of_zip f g [] (y ∷ ys) zipped = absurd zipped
+map_of_zip f g (x ∷ xs) [] zipped = absurd zipped
+map_of_zip {C = C} f g (x ∷ xs) (y ∷ ys) zipped =
+    ap₂ (λ (c : C) (cs : List C). c ∷ cs) zipped.0 (map_of_zip f g xs ys zipped.1)
+
+pub zip_of_mapped : {A B C X E : Type 0} (f : A → C) (g : B → C) (xs : List A) (view : X → List B) (r : Result X E)
+    → IfOk r (λ all. map g (view all) ≡ map f xs) → IfOk r (λ all. AllZip (λ x y. g y ≡ f x) xs (view all))
+zip_of_mapped f g xs view (Ok all) e = zip_of_map f g xs (view all) e
+zip_of_mapped f g xs view (Err e) none = tt
+
+pub map_of_zipped : {A B C X E : Type 0} (f : A → C) (g : B → C) (xs : List A) (view : X → List B) (r : Result X E)
+    → IfOk r (λ all. AllZip (λ x y. g y ≡ f x) xs (view all)) → IfOk r (λ all. map g (view all) ≡ map f xs)
+map_of_zipped f g xs view (Ok all) zipped = map_of_zip f g xs (view all) zipped
+map_of_zipped f g xs view (Err e) none = tt

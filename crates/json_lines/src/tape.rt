@@ -1,0 +1,75 @@
+//! Tick lines of the common shape, as the tape of their tokens.
+
+ghost use Rattle.std.specs.Prelude.{◌≡◌, Some, IfOk, IfSome};
+ghost use Rattle.json_fields.specs.Tape.{data_at};
+ghost use Rattle.tick_lines.specs.Line.{tick_line_of};
+ghost use Rattle.json_lines.specs.Lines.{line_data, said_in, Tick};
+ghost use Rattle.json_lines.specs.Ticks.{is_tick, moment_at};
+
+use crate::line::LONGEST_LINE;
+use crate::lines::is_blank;
+use crate::plain::{LineBuffers, refused_memory};
+use crate::tick::moment_written;
+use json::{Scratch, Tape, Value};
+use json_fields::{TapeValue, is_plain_tape};
+use simdutf8::compat::from_utf8;
+use std::alloc::{AllocError, Global};
+
+/// The tape of a text, if it is a tick line, each of its numbers is one that digits alone write, below 2^64, and
+/// nothing in it nests deeper than 127.
+#[tactic(auto, using(crate::proofs::OnTape::tape_said))]
+fn tape_in<'a>(
+    alloc: Global,
+    line: &'a [u8],
+    scratch: &'a mut Scratch,
+) -> Result<Option<Tape<'a>>, AllocError>
+    ensures { IfOk result (λ found. IfSome found (λ tape.
+        said_in line.now ≡ Tick (moment_at (data_at tape)) (tick_line_of (data_at tape)))) }
+{
+    let Ok(text) = from_utf8(line) else {
+        return Ok(None);
+    };
+    match Tape::parse(text, scratch, Vec::new(alloc)) {
+        Ok(tape) if is_plain_tape(&tape) && is_tick_tape(&tape) => Ok(Some(tape)),
+        Ok(_) => Ok(None),
+        Err(error) => {
+            refused_memory(error)?;
+            Ok(None)
+        }
+    }
+}
+
+/// Whether the value on the tape says that it is a tick.
+fn is_tick_tape(tape: &Tape<'_>) -> bool
+    ensures { result ≡ is_tick (data_at tape.now) }
+{
+    TapeValue::root(tape).text_at("kind") == Some("tick")
+}
+
+/// The tape of a line, if it is a tick line of the common shape. So almost every tick line is read; the other lines are
+/// read by `text_line`.
+pub fn tick_tape<'a>(
+    alloc: Global,
+    line: &'a [u8],
+    buffers: &'a mut LineBuffers,
+) -> Result<Option<Tape<'a>>, AllocError>
+    ensures { IfOk result (λ found. IfSome found (λ tape.
+        line_data line.now ≡ Tick (moment_at (data_at tape)) (tick_line_of (data_at tape)))) }
+{
+    if !buffers.is_worth_a_try() || is_blank(line) || line.len() > LONGEST_LINE {
+        return Ok(None);
+    }
+    let found = tape_in(alloc, line, &mut buffers.scratch)?;
+    if found.is_some() {
+        buffers.missed = 0;
+    }
+    Ok(found)
+}
+
+/// The whole number that a tick line gives as its moment, in seconds.
+pub fn tape_moment(value: &TapeValue<'_, '_>) -> Option<u64>
+    ensures { IfSome result (λ at. moment_at (data_at value.now) ≡ Some at) }
+{
+    let found: Option<Value<'_>> = value.scalar_at("at")?;
+    moment_written(found.as_ref())
+}

@@ -1,0 +1,249 @@
+-- What was read of a tick line's items and placed at once is what the line shows.
+use Rattle.std.proofs.Common.{◌≡◌, ◌∙◌, ◌||◌, ◌<◌, ◌≤◌, ℕ, List, [], ◌∷◌, ◌++◌, length, take, drop, Bool, true, false}
+use Rattle.std.proofs.Common.{Option, Some, Result, Ok}
+use Rattle.std.proofs.Common.{Err, arith, not, refl, sym, ap, true≢false}
+use Rattle.std.proofs.lemmas.List.{append-nil, drop_all, take_all}
+use Rattle.std.specs.List.{list_any}
+use Rattle.std.specs.Prelude.{All, slice_get, codes}
+use Rattle.std.proofs.lemmas.List.Elements.{All-nil, All-cons, All-head, All-tail}
+use Rattle.json_fields.specs.Fields.{field_at, text_at}
+use Rattle.json_fields.specs.Reading.{◌>>=◌, each}
+use Rattle.json_fields.proofs.Only.{same_value}
+use Rattle.json_fields.proofs.Steps.{bind_ok, then_ok, there_is}
+use Rattle.json_lines.specs.Lines.{Tick}
+use Rattle.manifest.specs.declared.pod.PodSpec.{PodSpec}
+use Rattle.observations.specs.declared.tick.TickObs.{TickObs}
+use Rattle.observations.specs.declared.container.ContainerObs.{ContainerObs}
+use Rattle.observations.specs.Pods.{PodObs, pod_obs}
+use Rattle.roster.specs.Roll.{Roll, number_of, is_present}
+use Rattle.serde_json.specs.Data.{Data}
+use Rattle.tick_lines.specs.declared.entry.Entry.{Entry}
+use Rattle.tick_lines.specs.declared.fault.TickLineFault.{TickLineFault}
+use Rattle.tick_lines.specs.declared.line.TickLine.{TickLine}
+use Rattle.tick_lines.specs.declared.listing.Listing.{Listing}
+use Rattle.tick_lines.specs.declared.probing.ProbeResult.{ProbeResult}
+use Rattle.tick_lines.specs.declared.tape.EntryText.{EntryText}
+use Rattle.tick_lines.specs.declared.tape.LineText.{LineText}
+use Rattle.tick_lines.specs.Entries.{entry_of, entries_of}
+use Rattle.tick_lines.specs.Line.{tick_line_of}
+use Rattle.tick_lines.specs.Listings.{listing_of, listings_of}
+use Rattle.tick_lines.specs.Results.{result_of, results_of}
+use Rattle.tick_lines.specs.Tape.{left_in, IsEntry, IsLine}
+use Rattle.trace.specs.Ahead.{IsShown}
+use Rattle.trace.specs.declared.fault.FaultKind.{FaultKind}
+use Rattle.trace.specs.declared.placing.PlacedEntry.{PlacedEntry}
+use Rattle.trace.specs.declared.placing.PlacedListing.{PlacedListing}
+use Rattle.trace.specs.declared.placing.PlacedResult.{PlacedResult}
+use Rattle.trace.specs.Observed.{containers_from, pod_observed, pods_from, lacks_code}
+use Rattle.trace.specs.Placing.{number_in, pod_numbered, placed_listing, placed_result, entry_of_pod, placed_entry}
+use Rattle.trace.specs.Placing.{placed_of, repeats}
+use Rattle.trace.specs.Noted.{ListingsNoted, ResultsNoted}
+use Rattle.trace.specs.Slots.{slots_from, has_entry}
+use Rattle.trace.specs.Tape.{of_item, listing_read, result_read, entry_read, EntriesNoted}
+use Rattle.trace.proofs.NotedItems.{each_more}
+use Rattle.trace.proofs.NotedPods.{apart_more, found_present, slots_length}
+use Rattle.trace.proofs.TakenAhead.{shown_record}
+
+of_item_ok : {A : Type 0} (r : Result A TickLineFault) (x : A) → of_item r ≡ Ok x → r ≡ Ok x
+of_item_ok (Ok y) x e = ap Ok (same_value {E = FaultKind} y x e)
+of_item_ok (Err fault) x e = absurd (cc)
+
+-- a step that has gone well, before the rest
+then_each : {A E : Type 0} (r : Result A E) (rest : Result (List A) E) (x : A) (xs : List A) → r ≡ Ok x → rest ≡ Ok xs
+    → (r >>= λ y. rest >>= λ ys. Ok (y ∷ ys)) ≡ Ok (x ∷ xs)
+then_each r rest x xs first others = rw (first, others) refl
+
+-- read and placed one by one is all read, then all placed
+read_then_placed : {A B : Type 0} (f : Data → Result A TickLineFault) (g : A → Result B FaultKind) (ds : List Data)
+    (ys : List B) → each (λ d. of_item (f d) >>= g) ds ≡ Ok ys
+    → (xs : List A) × (each f ds ≡ Ok xs) × (each g xs ≡ Ok ys)
+read_then_placed f g [] ys e = ([], refl, e)
+read_then_placed {A} {B} f g (d ∷ ds) ys e =
+    let one = bind_ok (of_item (f d) >>= g) (λ y. each (λ c. of_item (f c) >>= g) ds >>= λ zs. Ok (y ∷ zs)) ys e in
+    let rest = bind_ok (each (λ c. of_item (f c) >>= g) ds) (λ zs. Ok (one.0 ∷ zs)) ys one.2 in
+    let read = bind_ok (of_item (f d)) g one.0 one.1 in
+    let later = read_then_placed f g ds rest.0 rest.1 in (
+      read.0 ∷ later.0,
+      then_each (f d) (each f ds) read.0 later.0 (of_item_ok (f d) read.0 read.1) later.1,
+      then_each (g read.0) (each g later.0) one.0 rest.0 read.2 later.2 ∙ rest.2,
+    )
+
+entry_by_parts : (roll : Roll) (entry : Entry) (n : ℕ) (pod : PodSpec) (ls : List PlacedListing)
+    (rs : List PlacedResult) → number_of roll entry.key ≡ Some n → slice_get roll.pods n ≡ Some pod
+    → each (placed_listing pod) entry.listings ≡ Ok ls → each (placed_result pod) entry.results ≡ Ok rs
+    → placed_entry roll entry ≡ Ok (record { pod = n; listings = ls; results = rs; usage = entry.usage })
+unfolding placed_entry entry_of_pod
+entry_by_parts roll entry n pod ls rs number there listings results = rw (number, there, listings, results) refl
+
+entry_spoken : (d : Data) (key : List ℕ) (ws : List Listing) (ps : List ProbeResult) (text : EntryText)
+    → text_at (codes "pod") d ≡ Some key → listings_of (field_at (codes "containers") d) ≡ Ok ws
+    → results_of (field_at (codes "probes") d) ≡ Ok ps → IsEntry d text
+    → entry_of d ≡ Ok (record { key = key; listings = ws; results = ps; usage = text.usage })
+unfolding entry_of
+entry_spoken d key ws ps text named listings results is = rw (named, listings, results, is.usage) refl
+
+-- an entry that was read in parts and placed is what its item says, placed
+entry_placed : (roll : Roll) (d : Data) (text : EntryText) (n : ℕ) (pod : PodSpec) (ls : List PlacedListing)
+    (rs : List PlacedResult) → IsEntry d text → number_of roll text.key.now ≡ Some n → slice_get roll.pods n ≡ Some pod
+    → each (listing_read pod) (left_in text.listings) ≡ Ok ls → each (result_read pod) (left_in text.results) ≡ Ok rs
+    → entry_read roll d ≡ Ok (record { pod = n; listings = ls; results = rs; usage = text.usage })
+entry_placed roll d text n pod ls rs is number there read_listings read_results =
+    let listings = read_then_placed listing_of (placed_listing pod) (left_in text.listings) ls read_listings in
+    let results = read_then_placed result_of (placed_result pod) (left_in text.results) rs read_results in
+    let written : Entry = record {
+      key = text.key.now;
+      listings = listings.0;
+      results = results.0;
+      usage = text.usage;
+    } in
+    let listed : listings_of (field_at (codes "containers") d) ≡ Ok listings.0 = rw is.listings listings.1 in
+    let probed : results_of (field_at (codes "probes") d) ≡ Ok results.0 = rw is.results results.1 in
+    rw (entry_spoken d text.key.now listings.0 results.0 text is.key listed probed is)
+    (entry_by_parts roll written n pod ls rs number there listings.2 results.2)
+
+-- ---- all entries
+
+numbers_known : (roll : Roll) (es : List Entry) (placed : List PlacedEntry) → each (placed_entry roll) es ≡ Ok placed
+    → (ns : List ℕ) × (each (number_in roll) es ≡ Ok ns)
+unfolding placed_entry
+numbers_known roll [] placed e = ([], refl)
+numbers_known roll (x ∷ xs) placed e =
+    let one = bind_ok (placed_entry roll x) (λ y. each (placed_entry roll) xs >>= λ ys. Ok (y ∷ ys)) placed e in
+    let rest = bind_ok (each (placed_entry roll) xs) (λ ys. Ok (one.0 ∷ ys)) placed one.2 in
+    let number = bind_ok (number_in roll x) (λ n. entry_of_pod roll.pods n x) one.0 one.1 in
+    let later = numbers_known roll xs rest.0 rest.1 in (
+      number.0 ∷ later.0,
+      then_each (number_in roll x) (each (number_in roll) xs) number.0 later.0 number.1 later.1,
+    )
+
+all_placed : (roll : Roll) (es : List Entry) (placed : List PlacedEntry) → each (placed_entry roll) es ≡ Ok placed
+    → placed_of roll es ≡ Ok placed
+unfolding placed_of
+all_placed roll es placed e =
+    let numbers = numbers_known roll es placed e in
+    then_ok (each (number_in roll) es) (λ ns. each (placed_entry roll) es) numbers.0 numbers.1 ∙ e
+
+line_spoken : (d : Data) (es : List Entry) (line : LineText) → entries_of (field_at (codes "pods") d) ≡ Ok es
+    → IsLine d line
+    → tick_line_of d ≡ Ok (record { entries = es; signals = line.signals; after_reclaim = line.after_reclaim })
+unfolding tick_line_of
+line_spoken d es line entries is = rw (entries, is.signals, is.after_reclaim) refl
+
+-- ---- entries that are noted as they come
+
+neither : (a b : Bool) → a || b ≡ false → (a ≡ false) × (b ≡ false)
+neither true b e = absurd (true≢false e)
+neither false b e = (refl, e)
+
+none_more : {A : Type 0} (test : A → Bool) (xs : List A) (x : A) → list_any test xs ≡ false → test x ≡ false
+    → list_any test (xs ++ x ∷ []) ≡ false
+none_more test [] x none last = rw last refl
+none_more test (w ∷ ws) x none last =
+    let both = neither (test w) (list_any test ws) none in
+    rw (both.0, none_more test ws x both.1 last) refl
+
+all_more : {A : Type 0} (P : A → Type 0) (xs : List A) (x : A) → All P xs → P x → All P (xs ++ x ∷ [])
+all_more P [] x all last = All-cons P x [] last (All-nil P)
+all_more P (w ∷ ws) x all last =
+    All-cons P w (ws ++ x ∷ []) (All-head P w ws all) (all_more P ws x (All-tail P w ws all) last)
+
+pub none_noted : (roll : Roll) (at : ℕ) (slots : List (Option PodObs)) → slots ≡ slots_from at [] 0 roll.pods
+    → EntriesNoted roll at [] slots
+none_noted roll at slots noted = record {
+  entries = [];
+  read = refl;
+  once = refl;
+  apart = refl;
+  coded = refl;
+  present = All-nil _;
+  noted = noted;
+}
+
+-- the entries with one more
+pub one_more_noted : (roll : Roll) (at : ℕ) (ds : List Data) (d : Data) (old new : List (Option PodObs))
+    (text : EntryText) (n : ℕ) (pod : PodSpec) (listed all : List ContainerObs)
+    (ls : ListingsNoted pod (left_in text.listings) listed)
+    → (rs : ResultsNoted pod ls.listings (left_in text.results) all) → (before : EntriesNoted roll at ds old)
+    → IsEntry d text → number_of roll text.key.now ≡ Some n → pod_numbered roll.pods n ≡ Ok pod
+    → has_entry before.entries n ≡ false
+    → new ≡ slots_from at (before.entries
+    ++ record { pod = n; listings = ls.listings; results = rs.results; usage = text.usage } ∷ []) 0 roll.pods
+    → EntriesNoted roll at (ds ++ d ∷ []) new
+one_more_noted roll at ds d old new text n pod listed all ls rs before is number numbered free noted =
+    let there : slice_get roll.pods n ≡ Some pod = there_is _ (slice_get roll.pods n) pod numbered in
+    let entry : PlacedEntry = record { pod = n; listings = ls.listings; results = rs.results; usage = text.usage } in
+    let placed = entry_placed roll d text n pod ls.listings rs.results is number there ls.read rs.read in
+    record {
+      entries = before.entries ++ entry ∷ [];
+      read = each_more (entry_read roll) ds d before.entries entry before.read placed;
+      once = apart_more before.entries entry before.once free;
+      apart = none_more repeats before.entries entry before.apart (rw (ls.once, rs.once) refl);
+      coded = none_more (λ (e : PlacedEntry). list_any (λ l. lacks_code l.instance) e.listings) before.entries entry
+          before.coded ls.coded;
+      present = all_more (λ (e : PlacedEntry). is_present roll.departures e.pod ≡ true) before.entries entry
+          before.present (found_present roll text.key.now n number).0;
+      noted = noted;
+    }
+
+-- what was written over the whole of a list is the list
+pub written_over : {A : Type 0} (count : ℕ) (new old : List A) → count ≡ length old → length new ≡ length old
+    → take count (new ++ drop (length new) old) ≡ new
+written_over count new old all same =
+    let none : drop (length new) old ≡ [] = drop_all (length new) old (omega (arith, same)) in
+    let enough : length new ≤ count = omega (arith, all, same) in
+    rw (none, append-nil new) (take_all count new enough)
+
+pub not_false : (b : Bool) → not b ≡ true → b ≡ false
+not_false true e = sym e
+not_false false e = refl
+
+-- what was noted of an entry beside the earlier ones
+pub entry_noted : (roll : Roll) (at : ℕ) (ds : List Data) (d : Data) (old new : List (Option PodObs)) (text : EntryText)
+    (n : ℕ) (pod : PodSpec) (listed all : List ContainerObs) (shown : PodObs)
+    → ListingsNoted pod (left_in text.listings) listed
+    → ((ls : List PlacedListing) → listed ≡ containers_from ls [] 0 pod.containers
+    → ResultsNoted pod ls (left_in text.results) all)
+    → EntriesNoted roll at ds old → IsEntry d text → number_of roll text.key.now ≡ Some n
+    → pod_numbered roll.pods n ≡ Ok pod → shown ≡ pod_obs at all text.usage
+    → ((es : List PlacedEntry) → old ≡ slots_from at es 0 roll.pods → n < length roll.pods → has_entry es n ≡ false)
+    → ((es : List PlacedEntry) (e : PlacedEntry) → old ≡ slots_from at es 0 roll.pods → e.pod ≡ n
+    → slice_get roll.pods n ≡ Some pod → shown ≡ pod_observed at (Some e) pod
+    → new ≡ slots_from at (es ++ e ∷ []) 0 roll.pods)
+    → EntriesNoted roll at (ds ++ d ∷ []) new
+entry_noted roll at ds d old new text n pod listed all shown listings results before is number known made free noted =
+    let rs = results listings.listings listings.noted in
+    let there : slice_get roll.pods n ≡ Some pod = there_is _ (slice_get roll.pods n) pod known in
+    let entry : PlacedEntry =
+    record { pod = n; listings = listings.listings; results = rs.results; usage = text.usage } in
+    let shows : shown ≡ pod_observed at (Some entry) pod = made ∙ rw rs.noted refl in
+    one_more_noted roll at ds d old new text n pod listed all listings rs before is number known
+    (free before.entries before.noted (found_present roll text.key.now n number).1)
+    (noted before.entries entry before.noted refl there shows)
+
+-- so many pods, so many places
+pub noted_length : (roll : Roll) (at : ℕ) (ds : List Data) (slots : List (Option PodObs))
+    → EntriesNoted roll at ds slots → length slots ≡ length roll.pods
+noted_length roll at ds slots is = ap (λ (os : List (Option PodObs)). length os) is.noted
+    ∙ slots_length at is.entries 0 roll.pods
+
+-- a line whose entries are noted shows what they show, and nothing of the containers of the other pods
+pub line_shown : (roll : Roll) (d : Data) (moment : Option ℕ) (line : LineText) (at : ℕ) (slots : List (Option PodObs))
+    (tick : TickObs) (noted : EntriesNoted roll at (left_in line.entries) slots) → moment ≡ Some at → IsLine d line
+    → tick ≡ record {
+      at = at;
+      pods = pods_from at noted.entries roll.departures 0 roll.pods;
+      signals = line.signals;
+      after_reclaim = line.after_reclaim;
+    }
+    → IsShown roll (Tick moment (tick_line_of d)) tick
+line_shown roll d moment line at slots tick noted early is shows =
+    let entries = read_then_placed entry_of (placed_entry roll) (left_in line.entries) noted.entries noted.read in
+    let listed : entries_of (field_at (codes "pods") d) ≡ Ok entries.0 = rw is.entries entries.1 in
+    let written : TickLine = record {
+      entries = entries.0;
+      signals = line.signals;
+      after_reclaim = line.after_reclaim;
+    } in
+    shown_record roll moment (tick_line_of d) at written noted.entries tick early
+    (line_spoken d entries.0 line listed is) (all_placed roll entries.0 noted.entries entries.2) noted.once noted.apart
+    noted.coded shows

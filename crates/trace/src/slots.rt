@@ -1,0 +1,64 @@
+//! What a tick line shows of the pods, put at the pods' numbers as their entries come.
+
+ghost use Rattle.std.specs.Prelude.{◌≡◌, ◌++◌, ◌∷◌, [], ℕ, ◌<◌, false, true, All, IfOk, List, Some, length};
+ghost use Rattle.std.specs.Prelude.{slice_get};
+ghost use Rattle.manifest.specs.declared.pod.PodSpec.{PodSpec};
+ghost use Rattle.roster.specs.Roll.{is_present};
+ghost use Rattle.trace.specs.declared.placing.PlacedEntry.{PlacedEntry};
+ghost use Rattle.trace.specs.Observed.{pod_observed, pods_from};
+ghost use Rattle.trace.specs.Slots.{has_entry, slots_from};
+
+use crate::tick::shown;
+use observations::PodObs;
+use roster::Roster;
+use std::alloc::{AllocError, Global};
+
+/// So many pods, of which nothing is shown yet.
+pub(crate) fn no_pods(alloc: Global, pods: usize) -> Result<Vec<Option<PodObs>>, AllocError>
+    ensures { IfOk result (λ v. (at : ℕ) (ps : List PodSpec) → pods ≡ length ps → v.items ≡ slots_from at [] 0 ps) }
+{
+    let mut all = Vec::with_capacity(alloc, pods)?;
+    for _ in 0..pods {
+        all.push(None)?;
+    }
+    Ok(all)
+}
+
+/// Notes what an entry shows of the pod with the number, unless an earlier one shows something of it, and says whether
+/// one does.
+pub(crate) fn note_pod(slots: &mut [Option<PodObs>], number: usize, shown: PodObs) -> bool
+    requires { number < length slots.old }
+    ensures earlier { (at : ℕ) (es : List PlacedEntry) (ps : List PodSpec) → slots.old ≡ slots_from at es 0 ps
+        → number < length ps → result ≡ has_entry es number }
+    ensures kept { result ≡ true → slots.new ≡ slots.old }
+    ensures noted { (at : ℕ) (es : List PlacedEntry) (ps : List PodSpec) (e : PlacedEntry) (p : PodSpec)
+        → slots.old ≡ slots_from at es 0 ps → e.pod ≡ number → slice_get ps number ≡ Some p
+        → shown ≡ pod_observed at (Some e) p → result ≡ false → slots.new ≡ slots_from at (es ++ e ∷ []) 0 ps }
+{
+    if slots[number].is_some() {
+        return true;
+    }
+    slots[number] = Some(shown);
+    false
+}
+
+/// What is shown of all pods, where each entry is of one that is present: of one that is present and has no entry an
+/// observation with nothing of its containers.
+pub(crate) fn with_others(
+    alloc: Global,
+    at: u64,
+    mut slots: Vec<Option<PodObs>>,
+    roster: &Roster,
+) -> Result<Vec<Option<PodObs>>, AllocError>
+    requires { length slots.items ≡ length roster.now.pods }
+    ensures { IfOk result (λ v. (es : List PlacedEntry) → slots.items ≡ slots_from at es 0 roster.now.pods
+        → All (λ e. is_present roster.now.departures e.pod ≡ true) es
+        → v.items ≡ pods_from at es roster.now.departures 0 roster.now.pods) }
+{
+    for (number, pod) in roster.pods().iter().enumerate() {
+        if slots[number].is_none() {
+            slots[number] = shown(alloc, at, None, pod, roster.is_present(number))?;
+        }
+    }
+    Ok(slots)
+}

@@ -1,0 +1,135 @@
+//! The tick that a line shows, read from the tape of its tokens beside the pods that there are: no text is copied, and
+//! names become numbers where they stand. Where one of these finds none, the line is read as a `TickRecord`.
+
+ghost use Rattle.std.specs.Prelude.{◌≡◌, ◌++◌, ◌∷◌, [], true, length, List, IfOk, IfSome};
+ghost use Rattle.serde_json.specs.Data.{Data};
+ghost use Rattle.json_fields.specs.Tape.{data_at, datas_in};
+ghost use Rattle.json_lines.specs.Lines.{Tick, line_data};
+ghost use Rattle.json_lines.specs.Ticks.{moment_at};
+ghost use Rattle.tick_lines.specs.Line.{tick_line_of};
+ghost use Rattle.tick_lines.specs.Tape.{left_in};
+ghost use Rattle.trace.specs.Ahead.{IsShown};
+ghost use Rattle.trace.specs.Tape.{EntriesNoted};
+
+use crate::noted::{clear, note_listings, note_results};
+use crate::placing::pod_numbered;
+use crate::slots::{no_pods, note_pod, with_others};
+use json_fields::{TapeItems, TapeValue};
+use json_lines::{LineBuffers, tape_moment, tick_tape};
+use observations::{ContainerObs, PodObs, TickObs};
+use roster::Roster;
+use sequence::Sequence;
+use std::alloc::{AllocError, Global};
+use tick_lines::{entry_text, line_text};
+
+/// Notes what an entry shows of its pod, and says whether it could: not where the pod is not known, has an earlier
+/// entry, or something in the entry is at fault.
+fn note_entry(
+    alloc: Global,
+    roster: &Roster,
+    at: u64,
+    value: &TapeValue<'_, '_>,
+    containers: &mut Vec<ContainerObs>,
+    slots: &mut Vec<Option<PodObs>>,
+) -> Result<bool, AllocError>
+    requires { length slots.old.items ≡ length roster.now.pods }
+    ensures { (ds : List Data) → EntriesNoted roster.now at ds slots.old.items → IfOk result (λ noted. noted ≡ true
+        → EntriesNoted roster.now at (ds ++ data_at value.now ∷ []) slots.new.items) }
+{
+    let Some(entry) = entry_text(value) else {
+        return Ok(false);
+    };
+    let Some(number) = roster.number_of(entry.key) else {
+        return Ok(false);
+    };
+    let Ok(pod) = pod_numbered(roster.pods(), number) else {
+        return Ok(false);
+    };
+    clear(containers, pod.containers.as_slice())?;
+    if !note_listings(pod, entry.listings, containers)
+        || !note_results(pod, entry.results, containers)
+    {
+        return Ok(false);
+    }
+    let shown = PodObs::new(alloc, at, containers, entry.usage)?;
+    Ok(!note_pod(slots, number, shown))
+}
+
+/// What entries show of the pods, each of another pod; none where one of them is left to the other reader.
+fn note_entries(
+    alloc: Global,
+    roster: &Roster,
+    at: u64,
+    mut items: TapeItems<'_, '_>,
+) -> Result<Option<Vec<Option<PodObs>>>, AllocError>
+    ensures { IfOk result (λ found. IfSome found (λ slots.
+        EntriesNoted roster.now at (datas_in items.entry) slots.items)) }
+{
+    let mut containers = Vec::new(alloc);
+    let mut slots = no_pods(alloc, roster.pods().len())?;
+    while let Some(value) = items.next() {
+        if !note_entry(alloc, roster, at, &value, &mut containers, &mut slots)? {
+            return Ok(None);
+        }
+    }
+    Ok(Some(slots))
+}
+
+/// The same of entries that may be left out.
+fn entries_noted(
+    alloc: Global,
+    roster: &Roster,
+    at: u64,
+    items: Option<TapeItems<'_, '_>>,
+) -> Result<Option<Vec<Option<PodObs>>>, AllocError>
+    ensures { IfOk result (λ found. IfSome found (λ slots.
+        EntriesNoted roster.now at (left_in items.entry) slots.items)) }
+{
+    match items {
+        Some(items) => note_entries(alloc, roster, at, items),
+        None => Ok(Some(no_pods(alloc, roster.pods().len())?)),
+    }
+}
+
+/// The tick that a tick line shows of these pods.
+fn shown_by_value(
+    alloc: Global,
+    roster: &Roster,
+    value: &TapeValue<'_, '_>,
+) -> Result<Option<TickObs>, AllocError>
+    ensures { IfOk result (λ found. IfSome found
+        (IsShown roster.now (Tick (moment_at (data_at value.now)) (tick_line_of (data_at value.now))))) }
+{
+    let Some(at) = tape_moment(value) else {
+        return Ok(None);
+    };
+    let Some(line) = line_text(alloc, value)? else {
+        return Ok(None);
+    };
+    let Some(slots) = entries_noted(alloc, roster, at, line.entries)? else {
+        return Ok(None);
+    };
+    let pods = with_others(alloc, at, slots, roster)?;
+    Ok(Some(TickObs {
+        at,
+        pods: Sequence::from_vec(pods),
+        signals: line.signals,
+        after_reclaim: line.after_reclaim,
+    }))
+}
+
+/// The tick that a line shows of these pods, if it is a tick line of the common shape and nothing in it is at fault by
+/// itself.
+pub(crate) fn shown_on_tape(
+    alloc: Global,
+    roster: &Roster,
+    line: &[u8],
+    buffers: &mut LineBuffers,
+) -> Result<Option<TickObs>, AllocError>
+    ensures { IfOk result (λ found. IfSome found (IsShown roster.now (line_data line.now))) }
+{
+    match tick_tape(alloc, line, buffers)? {
+        Some(tape) => shown_by_value(alloc, roster, &TapeValue::root(&tape)),
+        None => Ok(None),
+    }
+}
