@@ -1,5 +1,5 @@
 -- A tick line whose numbers are plain is what serde_json reads of it.
-use Rattle.std.proofs.Common.{◌≡◌, List, ℕ, Bool, true, Option, Some, None, option_and_then, refl, sym, ap, ◌∙◌}
+use Rattle.std.proofs.Common.{◌≡◌, List, ℕ, true, Some, option_and_then, refl, sym, ap, ◌∙◌}
 use Rattle.std.specs.Str.{IsUtf8}
 use Rattle.json.specs.Json.{Json}
 use Rattle.json_fields.proofs.Plain.{of_json_plain}
@@ -7,7 +7,7 @@ use Rattle.json_fields.specs.Borrowed.{data_of, is_plain}
 use Rattle.serde_json.specs.Data.{Data}
 use Rattle.serde_json.specs.Read.{read, of_json}
 use Rattle.tick_lines.specs.Line.{tick_line_of}
-use Rattle.json_lines.specs.Lines.{LineData, Tick, line_value, said_in, said_or_not, said_by}
+use Rattle.json_lines.specs.Lines.{Tick, line_value, said_in, said_or_not, said_by}
 use Rattle.json_lines.specs.Ticks.{is_tick, moment_at}
 use Rattle.json_lines.proofs.Found.{json_found}
 

@@ -9,7 +9,7 @@ mod tape;
 mod tick;
 mod window;
 
-pub use line::{TextLine, text_line};
+pub use line::{TextLine, other_line, text_line};
 pub use parts::joined;
 pub use plain::LineBuffers;
 pub use tape::{tape_moment, tick_tape};

@@ -1,6 +1,6 @@
 //! What a line says by itself.
 
-ghost use Rattle.std.specs.Prelude.{◌≡◌, IfOk, OnOk, OnErr, map, option_map};
+ghost use Rattle.std.specs.Prelude.{◌≡◌, IfOk, MatchOption, OnOk, OnErr, map, option_map};
 ghost use Rattle.serde_json.specs.Errors.{IsMemory};
 ghost use Rattle.serde_json.specs.View.{view};
 ghost use Rattle.json_lines.specs.Lines.{json_in, said_by, said_in, line_data, data_of};
@@ -66,17 +66,37 @@ fn said_by(alloc: Global, value: Value) -> Result<TextLine, AllocError>
     Ok(TextLine::Tick(tick?))
 }
 
-/// What a line says, other than blanks, that is not too long.
+/// What a line says, other than blanks, that is not too long, as `serde_json` reads it.
+fn said_by_value(alloc: Global, line: &[u8]) -> Result<TextLine, AllocError>
+    ensures { IfOk result (λ read. data_of read ≡ said_in line.now) }
+{
+    match json(alloc, line)? {
+        Some(value) => said_by(alloc, value),
+        None => Ok(TextLine::NotJson),
+    }
+}
+
+/// The same, where a plain tick is read faster.
 fn said_in(alloc: Global, line: &[u8], buffers: &mut LineBuffers) -> Result<TextLine, AllocError>
     ensures { IfOk result (λ read. data_of read ≡ said_in line.now) }
 {
     if let Some(tick) = plain_tick(alloc, line, buffers)? {
         return Ok(TextLine::Tick(tick));
     }
-    match json(alloc, line)? {
-        Some(value) => said_by(alloc, value),
-        None => Ok(TextLine::NotJson),
+    said_by_value(alloc, line)
+}
+
+/// What a line says that is not read: one of blanks alone, or one that is too long.
+fn unread(line: &[u8]) -> Option<TextLine>
+    ensures { MatchOption result (line_data line.now ≡ said_in line.now) (λ read. data_of read ≡ line_data line.now) }
+{
+    if is_blank(line) {
+        return Some(TextLine::Blank);
     }
+    if line.len() > LONGEST_LINE {
+        return Some(TextLine::TooLong);
+    }
+    None
 }
 
 /// What a line says by itself.
@@ -87,13 +107,21 @@ pub fn text_line(
 ) -> Result<TextLine, AllocError>
     ensures { IfOk result (λ read. data_of read ≡ line_data line.now) }
 {
-    if is_blank(line) {
-        return Ok(TextLine::Blank);
+    match unread(line) {
+        Some(read) => Ok(read),
+        None => said_in(alloc, line, buffers),
     }
-    if line.len() > LONGEST_LINE {
-        return Ok(TextLine::TooLong);
+}
+
+/// The same as [`text_line`], for a line of which [`tick_tape`](crate::tick_tape) made no tape: it has another shape
+/// than the common one, so that `serde_json` alone can read it.
+pub fn other_line(alloc: Global, line: &[u8]) -> Result<TextLine, AllocError>
+    ensures { IfOk result (λ read. data_of read ≡ line_data line.now) }
+{
+    match unread(line) {
+        Some(read) => Ok(read),
+        None => said_by_value(alloc, line),
     }
-    said_in(alloc, line, buffers)
 }
 
 /// What each line says, in their order.

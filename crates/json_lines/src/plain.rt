@@ -58,13 +58,11 @@ impl LineBuffers {
         self.missed < MISSES || self.missed % MISSES_A_TRY == 0
     }
 
-    fn note(&mut self, is_plain: bool) {
-        self.missed = if is_plain {
-            0
-        } else {
-            self.missed.wrapping_add(1)
-        };
-    }
+}
+
+/// So many lines in a row were not read as plain ones, behind one more that was or was not.
+pub(crate) fn missed_after(missed: u32, is_plain: bool) -> u32 {
+    if is_plain { 0 } else { missed.wrapping_add(1) }
 }
 
 /// The one value of the text, if it has one that nests no deeper than 127.
@@ -91,8 +89,8 @@ fn only_value<'a>(
     }
 }
 
-/// What the text says, if it is a tick line and each of its numbers is one that digits alone write, below 2^64: so
-/// almost every tick line is read, some four times as fast as by `serde_json`, which reads the others.
+/// What the text says, if it is a tick line and each of its numbers is one that digits alone write, below 2^64: so a
+/// line is read some four times as fast as by `serde_json`, which reads the others.
 #[tactic(auto, using(crate::proofs::Said::plain_said))]
 fn tick_in(
     alloc: Global,
@@ -122,12 +120,12 @@ pub(crate) fn plain_tick(
     ensures { IfOk result (λ found. IfSome found (λ tick. said_in line.now ≡ Tick tick.at tick.written)) }
 {
     if !buffers.is_worth_a_try() {
-        buffers.note(false);
+        buffers.missed = missed_after(buffers.missed, false);
         return Ok(None);
     }
     let found = tick_in(alloc, line, &mut buffers.scratch, &buffers.values);
     // no value is left; where it refused all the same, the next line's would come beside this one's
     let _given_up = buffers.values.reset();
-    buffers.note(matches!(found, Ok(Some(_))));
+    buffers.missed = missed_after(buffers.missed, matches!(found, Ok(Some(_))));
     found
 }

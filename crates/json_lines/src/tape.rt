@@ -8,7 +8,7 @@ ghost use Rattle.json_lines.specs.Ticks.{is_tick, moment_at};
 
 use crate::line::LONGEST_LINE;
 use crate::lines::is_blank;
-use crate::plain::{LineBuffers, refused_memory};
+use crate::plain::{LineBuffers, missed_after, refused_memory};
 use crate::tick::moment_written;
 use json::{Scratch, Tape, Value};
 use json_fields::{TapeValue, is_plain_tape};
@@ -47,7 +47,7 @@ fn is_tick_tape(tape: &Tape<'_>) -> bool
 }
 
 /// The tape of a line, if it is a tick line of the common shape. So almost every tick line is read; the other lines are
-/// read by `text_line`.
+/// read by `other_line`.
 pub fn tick_tape<'a>(
     alloc: Global,
     line: &'a [u8],
@@ -56,13 +56,15 @@ pub fn tick_tape<'a>(
     ensures { IfOk result (λ found. IfSome found (λ tape.
         line_data line.now ≡ Tick (moment_at (data_at tape)) (tick_line_of (data_at tape)))) }
 {
-    if !buffers.is_worth_a_try() || is_blank(line) || line.len() > LONGEST_LINE {
+    if is_blank(line) || line.len() > LONGEST_LINE {
+        return Ok(None);
+    }
+    if !buffers.is_worth_a_try() {
+        buffers.missed = missed_after(buffers.missed, false);
         return Ok(None);
     }
     let found = tape_in(alloc, line, &mut buffers.scratch)?;
-    if found.is_some() {
-        buffers.missed = 0;
-    }
+    buffers.missed = missed_after(buffers.missed, found.is_some());
     Ok(found)
 }
 

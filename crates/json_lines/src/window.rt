@@ -26,8 +26,11 @@ pub struct Window<'t> {
     pub rest: &'t [u8],
 }
 
-/// Lines that tell of a pod itself have one of these words near their beginning; tick lines have none of them.
+/// Lines that tell of a pod itself have one of these words near their beginning.
 const WORDS_OF_PODS: [&[u8]; 2] = [b"\"metadata\"", b"\"gone\""];
+
+/// Tick lines have this word near their beginning.
+const WORD_OF_TICKS: &[u8] = b"\"tick\"";
 
 /// So many bytes are near the beginning of a line.
 const BEGINNING: usize = 128;
@@ -37,52 +40,72 @@ fn seems_of_pod(line: &[u8]) -> bool {
     let beginning = &line[..line.len().min(BEGINNING)];
     for word in WORDS_OF_PODS {
         if find(beginning, word).is_some() {
-            return true;
+            return find(beginning, WORD_OF_TICKS).is_none();
         }
     }
     false
 }
 
-/// The next lines, of at least so many bytes with their newlines where there are so many, and the text after them;
-/// where they stop at pods it may be fewer, which end with a line that seems to tell of a pod itself.
+/// The next lines, as [`next_lines`] and [`next_tick_lines`] take them, and the text after them; `stops_behind_pods` says
+/// whether the last of several lines that seem to tell of pods is the last one.
 fn lines_of_window(
     alloc: Global,
     text: &[u8],
     bytes: usize,
-    stop_at_pods: bool,
+    most: usize,
+    stops_behind_pods: bool,
 ) -> Result<(Vec<&[u8]>, &[u8]), AllocError>
-    requires { 0 < bytes }
+    requires bytes { 0 < bytes }
+    requires most { 0 < most }
     ensures lines { IfOk result (λ p. lines_of text.now ≡ map (λ line. line.now) p.0.items ++ lines_of p.1.now) }
     ensures shorter { 0 < length text.now → IfOk result (λ p. length p.1.now < length text.now) }
     ensures few { IfOk result (λ p. length p.0.items + length p.1.now ≤ length text.now) }
+    ensures most { IfOk result (λ p. length p.0.items ≤ most) }
 {
     let mut found = Vec::new(alloc);
     let mut rest = text;
-    let mut is_last = false;
-    while text.len() - rest.len() < bytes && !is_last {
+    let mut is_of_pod = false;
+    while text.len() - rest.len() < bytes && found.len() < most {
         let Some((line, after)) = first_line(rest) else {
             return Ok((found, rest));
         };
-        is_last = stop_at_pods && seems_of_pod(line);
+        let was_of_pod = is_of_pod;
+        is_of_pod = stops_behind_pods && seems_of_pod(line);
+        if was_of_pod && !is_of_pod {
+            return Ok((found, rest));
+        }
         found.push(line)?;
         rest = after;
     }
     Ok((found, rest))
 }
 
-/// The next lines, of at least so many bytes with their newlines where there are so many, and the text after them; or
-/// fewer, which end with a line that seems to tell of a pod itself.
-pub fn next_tick_lines(
-    alloc: Global,
-    text: &[u8],
-    bytes: usize,
-) -> Result<(Vec<&[u8]>, &[u8]), AllocError>
+/// The next lines, of at least so many bytes with their newlines where there are so many, and the text after them.
+fn next_lines(alloc: Global, text: &[u8], bytes: usize) -> Result<(Vec<&[u8]>, &[u8]), AllocError>
     requires { 0 < bytes }
     ensures lines { IfOk result (λ p. lines_of text.now ≡ map (λ line. line.now) p.0.items ++ lines_of p.1.now) }
     ensures shorter { 0 < length text.now → IfOk result (λ p. length p.1.now < length text.now) }
     ensures few { IfOk result (λ p. length p.0.items + length p.1.now ≤ length text.now) }
 {
-    lines_of_window(alloc, text, bytes, true)
+    lines_of_window(alloc, text, bytes, usize::MAX, false)
+}
+
+/// The next lines, of at least so many bytes with their newlines where there are so many, and the text after them; or
+/// fewer: so many lines at most, and none behind lines that seem to tell of pods themselves.
+pub fn next_tick_lines(
+    alloc: Global,
+    text: &[u8],
+    bytes: usize,
+    most: usize,
+) -> Result<(Vec<&[u8]>, &[u8]), AllocError>
+    requires bytes { 0 < bytes }
+    requires most { 0 < most }
+    ensures lines { IfOk result (λ p. lines_of text.now ≡ map (λ line. line.now) p.0.items ++ lines_of p.1.now) }
+    ensures shorter { 0 < length text.now → IfOk result (λ p. length p.1.now < length text.now) }
+    ensures few { IfOk result (λ p. length p.0.items + length p.1.now ≤ length text.now) }
+    ensures most { IfOk result (λ p. length p.0.items ≤ most) }
+{
+    lines_of_window(alloc, text, bytes, most, true)
 }
 
 /// The next window, read by this thread. It is never without a line where the text isn't empty.
@@ -92,7 +115,7 @@ pub fn window_alone(alloc: Global, text: &[u8]) -> Result<Window<'_>, AllocError
     ensures shorter { 0 < length text.now → IfOk result (λ window. length window.rest.now < length text.now) }
     ensures few { IfOk result (λ window. length window.lines.items + length window.rest.now ≤ length text.now) }
 {
-    let (lines, rest) = lines_of_window(alloc, text, ALONE, false)?;
+    let (lines, rest) = next_lines(alloc, text, ALONE)?;
     let lines = read_each(alloc, &lines)?;
     Ok(Window { lines, rest })
 }
@@ -114,7 +137,7 @@ pub fn window_by_workers<'t, R: Threads + Sync>(
     if text.len() < ALONE {
         return window_alone(alloc, text);
     }
-    let (lines, rest) = lines_of_window(alloc, text, SHARED, false)?;
+    let (lines, rest) = next_lines(alloc, text, SHARED)?;
     let lines = read_shared(rt, alloc, &lines, workers)?;
     Ok(Window { lines, rest })
 }

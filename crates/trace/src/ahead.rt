@@ -1,7 +1,7 @@
 //! Lines that are read ahead of their turn, each beside the pods that there are.
 
 ghost use Rattle.std.specs.Prelude.{◌≡◌, ◌≢◌, ◌<◌, false, length, All, IfOk, IfSome, OnErr, OnOk};
-ghost use Rattle.json_lines.specs.Lines.{Tick, line_data};
+ghost use Rattle.json_lines.specs.Lines.{Tick, data_of, line_data};
 ghost use Rattle.trace.specs.declared.fault.FaultKind.TheVariants.{OutOfMemory};
 ghost use Rattle.trace.specs.Ahead.{AreAhead, IsAhead, IsShown};
 ghost use Rattle.trace.specs.Observed.{observed};
@@ -12,7 +12,7 @@ use crate::fault::FaultKind;
 use crate::placing::{PlacedEntry, some_entry_repeats};
 use crate::tape::shown_on_tape;
 use crate::tick::{observed, placed_by, some_code_missing};
-use json_lines::{LineBuffers, TextLine, TickRecord, text_line};
+use json_lines::{LineBuffers, TextLine, TickRecord, other_line, text_line};
 use observations::TickObs;
 use roster::Roster;
 use std::alloc::{AllocError, Global};
@@ -94,7 +94,18 @@ fn tick_ahead(alloc: Global, roster: &Roster, line: TickRecord) -> Result<LineAh
     }
 }
 
-fn line_ahead(
+/// Reads ahead a line that says this.
+fn said_ahead(alloc: Global, roster: &Roster, said: TextLine) -> Result<LineAhead, AllocError>
+    ensures { IfOk result (IsAhead roster.now (data_of said)) }
+{
+    match said {
+        TextLine::Tick(tick) => tick_ahead(alloc, roster, tick),
+        said => Ok(LineAhead::Said(said)),
+    }
+}
+
+/// Reads a line ahead.
+pub(crate) fn line_ahead(
     alloc: Global,
     roster: &Roster,
     line: &[u8],
@@ -102,12 +113,16 @@ fn line_ahead(
 ) -> Result<LineAhead, AllocError>
     ensures { IfOk result (IsAhead roster.now (line_data line.now)) }
 {
-    if let Some(tick) = shown_on_tape(alloc, roster, line, buffers)? {
-        return Ok(LineAhead::Shown(tick));
-    }
-    match text_line(alloc, line, buffers)? {
-        TextLine::Tick(tick) => tick_ahead(alloc, roster, tick),
-        said => Ok(LineAhead::Said(said)),
+    match shown_on_tape(alloc, roster, line, buffers)? {
+        Some(Some(tick)) => Ok(LineAhead::Shown(tick)),
+        Some(None) => {
+            let said = text_line(alloc, line, buffers)?;
+            said_ahead(alloc, roster, said)
+        }
+        None => {
+            let said = other_line(alloc, line)?;
+            said_ahead(alloc, roster, said)
+        }
     }
 }
 

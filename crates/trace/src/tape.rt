@@ -1,5 +1,5 @@
 //! The tick that a line shows, read from the tape of its tokens beside the pods that there are: no text is copied, and
-//! names become numbers where they stand. Where one of these finds none, the line is read as a `TickRecord`.
+//! names become numbers where they stand. Where one of these finds none, the line is read as a `TextLine`.
 
 ghost use Rattle.std.specs.Prelude.{◌≡◌, ◌++◌, ◌∷◌, [], true, length, List, IfOk, IfSome};
 ghost use Rattle.serde_json.specs.Data.{Data};
@@ -118,18 +118,19 @@ fn shown_by_value(
     }))
 }
 
-/// The tick that a line shows of these pods, if it is a tick line of the common shape and nothing in it is at fault by
-/// itself.
+/// The tick that a line shows of these pods, if nothing in it is at fault by itself; none where it is no tick line of
+/// the common shape.
 pub(crate) fn shown_on_tape(
     alloc: Global,
     roster: &Roster,
     line: &[u8],
     buffers: &mut LineBuffers,
-) -> Result<Option<TickObs>, AllocError>
-    ensures { IfOk result (λ found. IfSome found (IsShown roster.now (line_data line.now))) }
+) -> Result<Option<Option<TickObs>>, AllocError>
+    ensures { IfOk result (λ on_tape. IfSome on_tape (λ found.
+        IfSome found (IsShown roster.now (line_data line.now)))) }
 {
     match tick_tape(alloc, line, buffers)? {
-        Some(tape) => shown_by_value(alloc, roster, &TapeValue::root(&tape)),
+        Some(tape) => Ok(Some(shown_by_value(alloc, roster, &TapeValue::root(&tape))?)),
         None => Ok(None),
     }
 }

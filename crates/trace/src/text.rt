@@ -11,13 +11,13 @@ ghost use Rattle.trace.specs.Sound.{AreAcceptable, AreRising, HasShape};
 ghost use Rattle.trace.specs.Taken.{any_line_at, lines_at};
 ghost use Rattle.trace.specs.Trace.{at_line, finished, nothing, trace_of};
 
-use crate::ahead::LineAhead;
+use crate::ahead::{LineAhead, line_ahead};
 use crate::fault::{FaultKind, LineFault};
 use crate::past::{Reader, Trace};
 use crate::reading::{take_line, take_shown};
-use crate::windows::{Window, window_alone, window_by_workers};
+use crate::windows::{FIRST, Window, bytes_behind, window_alone, window_by_workers};
 use following::Following;
-use json_lines::{LineBuffers, TextLine, text_line};
+use json_lines::{LineBuffers, TextLine};
 use node_config::Format;
 use roster::Roster;
 use sequence::Sequence;
@@ -43,8 +43,9 @@ fn take_anew(alloc: Global, reader: Reader, line: &[u8]) -> Result<Reader, Fault
     ensures { Gives (λ r. r) result (any_line_at reader (line_data line.now)) }
 {
     let mut buffers = LineBuffers::new(alloc);
-    match text_line(alloc, line, &mut buffers) {
-        Ok(line) => take_line(alloc, reader, &line),
+    match line_ahead(alloc, &reader.roster, line, &mut buffers) {
+        Ok(LineAhead::Shown(tick)) => take_shown(reader, tick),
+        Ok(LineAhead::Said(said)) => take_line(alloc, reader, &said),
         Err(error) => {
             drop(reader);
             Err(FaultKind::from(error))
@@ -116,23 +117,26 @@ fn next_read(reads: &mut IntoIter<LineAhead>) -> Option<LineAhead>
     reads.next()
 }
 
-/// Takes lines that were read ahead, the first of which has this number.
+/// Takes lines that were read ahead, the first of which has this number, and says whether each was read beside the pods
+/// that there were when its turn came.
 fn take_lines(
     alloc: Global,
     reader: Reader,
     first: u64,
     lines: &[&[u8]],
     reads: Vec<LineAhead>,
-) -> Result<Reader, LineFault>
+) -> Result<(Reader, bool), LineFault>
     requires few { first + length lines.now < 2 ^ 64 }
     requires ahead { AreAhead reader.roll lines.now reads.items }
-    ensures { GivesAt (λ r. r) result (lines_at first reader (map (λ line. line_data line.now) lines.now)) }
+    ensures { GivesAt (λ r. r.0) result (lines_at first reader (map (λ line. line_data line.now) lines.now)) }
 {
     let mut reader = reader;
     let mut number = first;
     let mut is_fresh = true;
+    let mut were_fresh = true;
     let mut reads = reads.into_iter();
     for line in lines {
+        were_fresh = is_fresh;
         let Some(read) = next_read(&mut reads) else {
             unreachable!()
         };
@@ -141,7 +145,7 @@ fn take_lines(
         is_fresh = stays_fresh;
         number += 1;
     }
-    Ok(reader)
+    Ok((reader, were_fresh))
 }
 
 /// A refused growth of memory, at this line.
@@ -200,7 +204,8 @@ fn read_alone(alloc: Global, format: Format, text: &[u8]) -> Result<Trace, LineF
             reads,
             rest: after,
         } = window;
-        reader = take_lines(alloc, reader, number, &lines, reads)?;
+        let (next, _) = take_lines(alloc, reader, number, &lines, reads)?;
+        reader = next;
         rest = after;
         number += lines.len() as u64;
     }
@@ -231,8 +236,9 @@ fn read_by_workers<R: Threads + Sync>(
     let mut reader = nothing(alloc, format);
     let mut rest = text;
     let mut number = 1u64;
+    let mut bytes = FIRST;
     while !rest.is_empty() {
-        let Ok(window) = window_by_workers(rt, alloc, &reader.roster, rest, workers) else {
+        let Ok(window) = window_by_workers(rt, alloc, &reader.roster, rest, bytes, workers) else {
             drop(reader);
             return Err(no_memory(number));
         };
@@ -241,9 +247,11 @@ fn read_by_workers<R: Threads + Sync>(
             reads,
             rest: after,
         } = window;
-        reader = take_lines(alloc, reader, number, &lines, reads)?;
+        let (next, were_fresh) = take_lines(alloc, reader, number, &lines, reads)?;
+        reader = next;
         rest = after;
         number += lines.len() as u64;
+        bytes = bytes_behind(bytes, were_fresh);
     }
     finished(number, reader)
 }

@@ -14,8 +14,37 @@ use std::thread::{Threads, map_chunks};
 /// text.
 const ALONE: usize = 65_536;
 
-/// A window that workers share has so many bytes, 4 MiB, and the end of its last line: the threads start anew for each.
+/// The first window that workers share has as many bytes: where an early line is at fault, little was read in vain.
+pub(crate) const FIRST: usize = ALONE;
+
+/// A window that workers share has no more bytes than these, 4 MiB, and the end of its last line: the threads start
+/// anew for each.
 const SHARED: usize = 4_194_304;
+
+/// The lines of a window show so many pods together, each of them in each line, and no more.
+const SHOWN: usize = 262_144;
+
+/// What is read of a line takes as much memory as so many pods, beside those that it shows.
+const LINE: usize = 8;
+
+/// So many lines a window has at most.
+fn most_lines(roster: &Roster) -> usize
+    ensures { 0 < result }
+{
+    (SHOWN / roster.pods().len().saturating_add(LINE)).max(1)
+}
+
+/// How many bytes the window behind one of so many has: twice as many, up to 4 MiB, so that reading ahead at most
+/// doubles what is read in vain; as many as the first one where lines were read beside pods that changed meanwhile.
+pub(crate) fn bytes_behind(bytes: usize, were_fresh: bool) -> usize
+    ensures { 0 < result }
+{
+    if were_fresh {
+        bytes.saturating_mul(2).clamp(FIRST, SHARED)
+    } else {
+        FIRST
+    }
+}
 
 /// The lines at the beginning of a text, what was read of each ahead, and the text after them.
 #[derive(Drop)]
@@ -55,28 +84,30 @@ pub(crate) fn window_alone<'t>(
     ensures few { IfOk result (λ window. length window.lines.items + length window.rest.now ≤ length text.now) }
     ensures ahead { IfOk result (λ window. AreAhead roster.now window.lines.items window.reads.items) }
 {
-    let (lines, rest) = next_tick_lines(alloc, text, ALONE)?;
+    let (lines, rest) = next_tick_lines(alloc, text, ALONE, most_lines(roster))?;
     let reads = read_each(alloc, roster, &lines)?;
     Ok(Window { lines, reads, rest })
 }
 
-/// The next window, read by this many workers beside these pods, or by this thread where there are less than 64 KiB of
-/// text. It is never without a line where the text isn't empty.
+/// The next window, of so many bytes or fewer, read by this many workers beside these pods, or by this thread where there
+/// are less than 64 KiB of text. It is never without a line where the text isn't empty.
 pub(crate) fn window_by_workers<'t, R: Threads + Sync>(
     rt: &R,
     alloc: Global,
     roster: &Roster,
     text: &'t [u8],
+    bytes: usize,
     workers: usize,
 ) -> Result<Window<'t>, AllocError>
-    requires { 0 < workers }
+    requires bytes { 0 < bytes }
+    requires workers { 0 < workers }
     ensures lines { IfOk result (λ window. lines_of text.now
         ≡ map (λ line. line.now) window.lines.items ++ lines_of window.rest.now) }
     ensures shorter { 0 < length text.now → IfOk result (λ window. length window.rest.now < length text.now) }
     ensures few { IfOk result (λ window. length window.lines.items + length window.rest.now ≤ length text.now) }
     ensures ahead { IfOk result (λ window. AreAhead roster.now window.lines.items window.reads.items) }
 {
-    let (lines, rest) = next_tick_lines(alloc, text, SHARED)?;
+    let (lines, rest) = next_tick_lines(alloc, text, bytes, most_lines(roster))?;
     let reads = if text.len() - rest.len() < ALONE {
         read_each(alloc, roster, &lines)?
     } else {

@@ -5,7 +5,8 @@ use Rattle.json_lines.proofs.window.lines_of_window.Given as goal
 abbrev pub invariant-loop-rest : goal.invariant-loop-rest
 invariant-loop-rest l = (lines_of l.fn.text ≡ map (λ line. line.now) l.found.items ++ lines_of l.rest)
     × (length l.found.items + length l.rest ≤ length l.fn.text)
-    × (IsTrue l.is_last → length l.rest < length l.fn.text)
+    × (length l.found.items ≤ l.fn.most)
+    × (IsTrue l.is_of_pod → length l.rest < length l.fn.text)
 
 abbrev pub decreases-loop-rest : goal.decreases-loop-rest
 decreases-loop-rest l = length l.rest

@@ -1,4 +1,4 @@
-use Rattle.std.proofs.Common.{◌∙◌, [], ap, false, length, rules, sym}
+use Rattle.std.proofs.Common.{◌∙◌, [], ap, length, rules, sym}
 use Rattle.json_fields.specs.Tape.{data_at}
 use Rattle.trace.proofs.NotedItems.{as_many_shown}
 use Rattle.trace.proofs.NotedPods.{found_present}
