@@ -34,13 +34,16 @@ fn most_lines(roster: &Roster) -> usize
     (SHOWN / roster.pods().len().saturating_add(LINE)).max(1)
 }
 
-/// How many bytes the window behind one of so many has: twice as many, up to 4 MiB, so that reading ahead at most
-/// doubles what is read in vain; as many as the first one where lines were read beside pods that changed meanwhile.
+/// A window has so many times the bytes of the one before it, until it has 4 MiB.
+const GROWTH: usize = 4;
+
+/// How many bytes the window behind one of so many has: as many as the first one where lines were read beside pods that
+/// changed meanwhile, so that little is read twice.
 pub(crate) fn bytes_behind(bytes: usize, were_fresh: bool) -> usize
     ensures { 0 < result }
 {
     if were_fresh {
-        bytes.saturating_mul(2).clamp(FIRST, SHARED)
+        bytes.saturating_mul(GROWTH).clamp(FIRST, SHARED)
     } else {
         FIRST
     }
