@@ -57,7 +57,6 @@ impl LineBuffers {
     pub(crate) fn is_worth_a_try(&self) -> bool {
         self.missed < MISSES || self.missed % MISSES_A_TRY == 0
     }
-
 }
 
 /// So many lines in a row were not read as plain ones, behind one more that was or was not.
