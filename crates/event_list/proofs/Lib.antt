@@ -2,3 +2,4 @@ pub mod More
 pub mod Unique
 pub mod Exists
 pub mod Adds
+pub mod Cut

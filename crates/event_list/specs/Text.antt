@@ -1,5 +1,5 @@
 -- The line of an event in a report.
-use Rattle.std.specs.Prelude.{ℕ, Bool, List, [], ◌∷◌, ◌++◌, slice_get, Option, Some, None, codes}
+use Rattle.std.specs.Prelude.{◌≡◌, ℕ, Bool, List, [], ◌∷◌, ◌++◌, length, take, slice_get, Option, Some, None, codes}
 use Rattle.std.specs.Prelude.{if◌then◌else◌}
 use Rattle.std.specs.Fmt.{decimal, signed_decimal}
 use Rattle.signals.specs.Signals.{name_of, kind_name}
@@ -20,6 +20,10 @@ use Rattle.pod_piece.specs.declared.order.EvictOrder.{EvictOrder}
 use Rattle.event_list.specs.declared.event.Event.{Event}
 use Rattle.event_list.specs.declared.event.EventKind.{EventKind}
 use Rattle.event_list.specs.declared.event.EventKind.TheVariants.{Pod, Node, Evicted}
+
+-- the new text begins with the old one
+abbrev pub Extends : List ℕ → List ℕ → Type 0
+Extends old new = take (length old) new ≡ old
 
 -- the parts one after the other
 abbrev pub joined : List (List ℕ) → List ℕ

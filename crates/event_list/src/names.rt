@@ -2,7 +2,7 @@
 
 ghost use Rattle.std.specs.Prelude.{◌≡◌, ◌++◌, IfOk, OnOk, IfSome, IfNone, None, Some, string_bytes};
 ghost use Rattle.event_list.specs.Names.{pod_in};
-ghost use Rattle.event_list.specs.Text.{key_of};
+ghost use Rattle.event_list.specs.Text.{key_of, Extends};
 
 use crate::phrases::add;
 use manifest::PodSpec;
@@ -34,8 +34,9 @@ impl<'n> Names<'n> {
 
     /// Appends the key of the pod with the number, as `key` writes it.
     pub(crate) fn add_key(self, text: &mut String, number: usize) -> Result<(), AllocError>
-        ensures { OnOk result (string_bytes text.new
+        ensures ok { OnOk result (string_bytes text.new
             ≡ string_bytes text.old ++ key_of (pod_in self.entry.pods.now number)) }
+        ensures more { Extends (string_bytes text.old) (string_bytes text.new) }
     {
         let Some(pod) = self.pod(number) else {
             return Ok(());

@@ -1,8 +1,8 @@
 //! The line of an event.
 
-ghost use Rattle.std.specs.Prelude.{◌≡◌, ◌++◌, IfOk, OnOk, string_bytes, Option, codes};
+ghost use Rattle.std.specs.Prelude.{◌≡◌, ◌++◌, IfOk, OnOk, OnErr, string_bytes, Option, codes};
 ghost use Rattle.event_list.specs.Text.{container_of, what_words, pod_event_words, node_event_words};
-ghost use Rattle.event_list.specs.Text.{event_words, event_line, key_of, eviction_words};
+ghost use Rattle.event_list.specs.Text.{event_words, event_line, key_of, eviction_words, Extends};
 ghost use Rattle.event_list.specs.declared.event.EventKind.TheVariants.{Evicted};
 ghost use Rattle.node_signals.specs.declared.event.NodeEvent.TheVariants.{Reclaim};
 ghost use Rattle.pod_piece.specs.Piece.{pods_in};
@@ -10,7 +10,7 @@ ghost use Rattle.event_list.specs.Names.{pod_in};
 
 use crate::event::{Event, EventKind};
 use crate::names::Names;
-use crate::phrases::{add, add_with_number};
+use crate::phrases::{add, add_with_number, whole_or_nothing};
 use crate::words::{activity_word, add_order, add_threshold, cause_word, phase_word, truth_word};
 use containers::What;
 use eviction::Eviction;
@@ -37,7 +37,8 @@ fn container_text(names: Names<'_>, number: usize, container: Option<usize>) -> 
 /// Appends a space, and what happened to a container or to a pod.
 #[tactic(auto, unfolding(crate::specs::Text::what_words))]
 fn add_what(text: &mut String, what: What) -> Result<(), AllocError>
-    ensures { OnOk result (string_bytes text.new ≡ string_bytes text.old ++ (codes " " ++ what_words what)) }
+    ensures ok { OnOk result (string_bytes text.new ≡ string_bytes text.old ++ (codes " " ++ what_words what)) }
+    ensures more { Extends (string_bytes text.old) (string_bytes text.new) }
 {
     match what {
         What::Died(attempt, code) => {
@@ -69,8 +70,9 @@ fn add_pod_event(
     number: usize,
     event: PodEvent,
 ) -> Result<(), AllocError>
-    ensures { OnOk result (string_bytes text.new
+    ensures ok { OnOk result (string_bytes text.new
         ≡ string_bytes text.old ++ pod_event_words (pod_in names.entry.pods.now number) event) }
+    ensures more { Extends (string_bytes text.old) (string_bytes text.new) }
 {
     names.add_key(text, number)?;
     add(text, " ")?;
@@ -80,7 +82,8 @@ fn add_pod_event(
 
 #[tactic(auto, unfolding(crate::specs::Text::node_event_words))]
 fn add_reclaim(text: &mut String, key: ThresholdKey) -> Result<(), AllocError>
-    ensures { OnOk result (string_bytes text.new ≡ string_bytes text.old ++ node_event_words (Reclaim key)) }
+    ensures ok { OnOk result (string_bytes text.new ≡ string_bytes text.old ++ node_event_words (Reclaim key)) }
+    ensures more { Extends (string_bytes text.old) (string_bytes text.new) }
 {
     add(text, "node reclaim ")?;
     add_threshold(text, key.signal, key.kind)
@@ -88,7 +91,8 @@ fn add_reclaim(text: &mut String, key: ThresholdKey) -> Result<(), AllocError>
 
 #[tactic(auto, unfolding(crate::specs::Text::node_event_words))]
 fn add_node_event(text: &mut String, event: NodeEvent) -> Result<(), AllocError>
-    ensures { OnOk result (string_bytes text.new ≡ string_bytes text.old ++ node_event_words event) }
+    ensures ok { OnOk result (string_bytes text.new ≡ string_bytes text.old ++ node_event_words event) }
+    ensures more { Extends (string_bytes text.old) (string_bytes text.new) }
 {
     match event {
         NodeEvent::Threshold { key, active } => {
@@ -107,35 +111,52 @@ fn add_node_event(text: &mut String, event: NodeEvent) -> Result<(), AllocError>
     }
 }
 
-/// Appends an eviction: `KEY SIGNAL KIND GRACE`, with the key of its pod and the grace period in
-/// seconds.
 #[tactic(auto, unfolding(crate::specs::Text::eviction_words))]
-pub fn add_eviction_words(
+fn add_key_and_order(
     text: &mut String,
     eviction: Eviction,
     names: Names<'_>,
 ) -> Result<(), AllocError>
-    ensures { OnOk result (string_bytes text.new
+    ensures ok { OnOk result (string_bytes text.new
         ≡ string_bytes text.old ++ eviction_words (key_of (pod_in names.entry.pods.now eviction.pod)) eviction.order) }
+    ensures more { Extends (string_bytes text.old) (string_bytes text.new) }
 {
     names.add_key(text, eviction.pod)?;
     add_order(text, eviction.order)
 }
 
+/// Appends an eviction: `KEY SIGNAL KIND GRACE`, with the key of its pod and the grace period in
+/// seconds. Where memory is refused, the text stays as it was.
+pub fn add_eviction_words(
+    text: &mut String,
+    eviction: Eviction,
+    names: Names<'_>,
+) -> Result<(), AllocError>
+    ensures ok { OnOk result (string_bytes text.new
+        ≡ string_bytes text.old ++ eviction_words (key_of (pod_in names.entry.pods.now eviction.pod)) eviction.order) }
+    ensures err { OnErr result (string_bytes text.new ≡ string_bytes text.old) }
+{
+    let length = text.len();
+    let added = add_key_and_order(text, eviction, names);
+    whole_or_nothing(text, length, added)
+}
+
 #[tactic(auto, unfolding(crate::specs::Text::event_words))]
 fn add_evicted(text: &mut String, eviction: Eviction, names: Names<'_>) -> Result<(), AllocError>
-    ensures { OnOk result (string_bytes text.new
+    ensures ok { OnOk result (string_bytes text.new
         ≡ string_bytes text.old ++ event_words (pods_in names.entry.pods.now) (Evicted eviction)) }
+    ensures more { Extends (string_bytes text.old) (string_bytes text.new) }
 {
     add(text, "node evicted ")?;
-    add_eviction_words(text, eviction, names)
+    add_key_and_order(text, eviction, names)
 }
 
 /// Appends the words of an event.
 #[tactic(auto, unfolding(crate::specs::Text::event_words))]
 fn add_words(text: &mut String, event: EventKind, names: Names<'_>) -> Result<(), AllocError>
-    ensures { OnOk result (string_bytes text.new
+    ensures ok { OnOk result (string_bytes text.new
         ≡ string_bytes text.old ++ event_words (pods_in names.entry.pods.now) event) }
+    ensures more { Extends (string_bytes text.old) (string_bytes text.new) }
 {
     match event {
         EventKind::Pod(number, event) => add_pod_event(text, names, number, event),
@@ -144,16 +165,28 @@ fn add_words(text: &mut String, event: EventKind, names: Names<'_>) -> Result<()
     }
 }
 
-/// Appends the line of an event, as `event_text` writes it.
 #[tactic(auto, unfolding(crate::specs::Text::event_line))]
-pub fn add_event_text(text: &mut String, event: &Event, names: Names<'_>) -> Result<(), AllocError>
-    ensures { OnOk result (string_bytes text.new
+fn add_line(text: &mut String, event: &Event, names: Names<'_>) -> Result<(), AllocError>
+    ensures ok { OnOk result (string_bytes text.new
         ≡ string_bytes text.old ++ event_line (pods_in names.entry.pods.now) event.now) }
+    ensures more { Extends (string_bytes text.old) (string_bytes text.new) }
 {
     add_with_number(text, "event ", event.at)?;
     add(text, " ")?;
     add_words(text, event.what, names)?;
     add(text, "\n")
+}
+
+/// Appends the line of an event, as `event_text` writes it. Where memory is refused, the text stays
+/// as it was.
+pub fn add_event_text(text: &mut String, event: &Event, names: Names<'_>) -> Result<(), AllocError>
+    ensures ok { OnOk result (string_bytes text.new
+        ≡ string_bytes text.old ++ event_line (pods_in names.entry.pods.now) event.now) }
+    ensures err { OnErr result (string_bytes text.new ≡ string_bytes text.old) }
+{
+    let length = text.len();
+    let added = add_line(text, event, names);
+    whole_or_nothing(text, length, added)
 }
 
 /// The line of an event in a report, with its newline: `event`, the moment in seconds, and what

@@ -3,7 +3,7 @@
 ghost use Rattle.std.specs.Prelude.{◌≡◌, ◌++◌, codes, IfOk, OnOk, string_bytes};
 ghost use Rattle.std.specs.Fmt.{decimal};
 ghost use Rattle.signals.specs.Signals.{name_of, kind_name};
-ghost use Rattle.event_list.specs.Text.{phase_word, truth, cause_word, activity, eviction_words};
+ghost use Rattle.event_list.specs.Text.{phase_word, truth, cause_word, activity, eviction_words, Extends};
 
 use crate::phrases::{add, add_with_number};
 use phase::Phase;
@@ -52,8 +52,9 @@ pub(crate) fn add_threshold(
     signal: Signal,
     kind: ThresholdKind,
 ) -> Result<(), AllocError>
-    ensures { OnOk result (string_bytes text.new
+    ensures ok { OnOk result (string_bytes text.new
         ≡ string_bytes text.old ++ (name_of signal ++ (codes " " ++ kind_name kind))) }
+    ensures more { Extends (string_bytes text.old) (string_bytes text.new) }
 {
     add(text, signal.name())?;
     add(text, " ")?;
@@ -62,9 +63,10 @@ pub(crate) fn add_threshold(
 
 /// Appends what follows the key of the pod that is evicted, with a space before each part.
 pub(crate) fn add_order(text: &mut String, order: EvictOrder) -> Result<(), AllocError>
-    ensures { OnOk result (string_bytes text.new ≡ string_bytes text.old
+    ensures ok { OnOk result (string_bytes text.new ≡ string_bytes text.old
         ++ (codes " " ++ ((name_of order.signal ++ (codes " " ++ kind_name order.kind))
         ++ (codes " " ++ decimal order.grace)))) }
+    ensures more { Extends (string_bytes text.old) (string_bytes text.new) }
 {
     add(text, " ")?;
     add_threshold(text, order.signal, order.kind)?;

@@ -9,9 +9,9 @@ one_more : {X E : Type 0} (r : Result X E) (old now new a b : List ℕ) → now 
 one_more (Ok x) old now new a b is more = more ∙ (ap (λ (xs : List ℕ). xs ++ b) is ∙ append_assoc old a b)
 one_more (Err e) old now new a b is more = more
 
-pub returns : goal.returns
+pub returns-clause-ok : goal.returns-clause-ok
 unfolding node_event_words
-returns c =
+returns-clause-ok c =
     one_more c.add_threshold.result (string_bytes c.args.text.now) (string_bytes c.add.new.text)
     (string_bytes c.add_threshold.new.text) (codes "node reclaim ") (threshold_words c.args.key)
-    c.in_ok-add.ensures c.add_threshold.ensures
+    c.in_ok-add.ensures.ok c.add_threshold.ensures.ok
