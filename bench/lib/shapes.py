@@ -1,4 +1,5 @@
 """Inputs of the worst shapes, of as many bytes as a trace may have."""
+import itertools
 
 LONGEST_INPUT, MIB = 64 << 20, 1 << 20
 NODE = b'{"kind":"node","name":"n1"}\n'
@@ -38,10 +39,20 @@ def crowd(listed, length=4, ticks=20_000, behind=b""):
     return lines_up_to(NODE + b"".join(pod % (name, containers) for name in names), tick + behind, ticks)
 
 
-def filled(before, first, again, last, after=b""):
-    """A line of 1 MiB at most, with a value that fills it."""
-    times = (MIB - len(before + first + last + after)) // len(again)
+def filled(before, first, again, last, after=b"", most=MIB):
+    """A line of 1 MiB at most, or of so many bytes, with a value that fills it."""
+    times = (most - len(before + first + last + after)) // len(again)
     return before + first + again * times + last + after
+
+
+def long_pods():
+    """256 pods, whose manifests fill 64 MiB with what a kubelet writes of each field, and ticks that list nothing."""
+    before = b'{"kind":"pod","pod":{"metadata":{"name":"p%d","managedFields":'
+    after = b'},"spec":{"containers":[{"name":"a"}]}}}\n'
+    for number in range(256):
+        yield filled(before % number, b'[{"f:a":{}}', b',{"f:a":{}}', b"]", after, 261_000)
+    for number in range(1_000):
+        yield NOTHING.replace(b"#", b"%d" % number)
 
 
 def shapes():
@@ -52,6 +63,8 @@ def shapes():
     yield "such names, each starting and vanishing by turns", crowd(RUNNING, 253, behind=NOTHING)
     yield "the same pods, 1,000 ticks that list nothing", crowd(b"", ticks=1_000)
     yield "the same pods, 20,000 ticks that list nothing", crowd(b"")
+    yield "the same pods, as many such ticks as 64 MiB hold", crowd(b"", ticks=LONGEST_INPUT)
+    yield "256 pods of 250 KiB each, 1,000 ticks that list nothing", itertools.chain([NODE], long_pods())
     for name, first, again, last in VALUES:
         yield "one line of 1 MiB: " + name, [filled(b"", first, again, last)]
     for name, first, again, last in VALUES[1:]:

@@ -132,9 +132,10 @@ def workers_words(measured):
                      + ("More workers pay." if pays else "More workers do not pay."))
     told = f"More workers pay in {' and '.join(paying) or 'none of these traces'}"
     told += f", and not in {' or '.join(idle)}." if paying and idle else "."
-    return [paragraph(told + " They share the lines of each 4 MiB of the text, for which their threads start anew. What"
-                      " the lines say is taken by one thread, line after line, and so are the updates of a tick: a tick"
-                      " has 256 pods at most, and the start of a second thread costs more than it brings there."),
+    return [paragraph(told + " They share the lines of windows of the text, of 4 MiB behind smaller ones, and their"
+                      " threads start anew for each. What the lines say is taken by one thread, line after line, and so"
+                      " are the updates of a tick: a tick has 256 pods at most, and the start of a second thread costs"
+                      " more than it brings there."),
             "", *items]
 
 

@@ -84,7 +84,7 @@ class Shapes(Case):
         for name, pieces in shapes.shapes():
             # the long ones of small lines take minutes
             sizes[name] = sum(map(len, itertools.islice(pieces, 70)))
-        self.assertEqual(len(sizes), 25)
+        self.assertEqual(len(sizes), 27)
         over = [name for name, size in sizes.items() if size > shapes.LONGEST_INPUT]
         self.assertEqual(over, ["64 MiB and 1 byte"])
 
