@@ -157,8 +157,8 @@ class Container:
             number = self.attempt + 1
         missed = 0 if self.attempt is None else number - self.attempt - 1
         if missed:
-            self.say(f"{self.place}: {missed} {'instance' if missed == 1 else 'instances'} before attempt {number} came "
-                     "and went unseen")
+            instances = "instance" if missed == 1 else "instances"
+            self.say(f"{self.place}: {missed} {instances} before attempt {number} came and went unseen")
         self.shift = number - instance.attempt
         self.attempt = number
         self.newest, self.is_listed = replace(instance, state=CREATED), True
