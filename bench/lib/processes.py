@@ -1,5 +1,5 @@
 """What processes cost: the processor seconds and the peak memory of one that this one ran, of those that there are,
-and of the machine."""
+and of the machine. Nothing else in bench/ measures memory."""
 import os
 import re
 import resource
@@ -9,6 +9,7 @@ import time
 from typing import NamedTuple
 
 TICK = os.sysconf("SC_CLK_TCK")
+PAGE = os.sysconf("SC_PAGE_SIZE")
 
 
 class Cost(NamedTuple):
@@ -23,11 +24,13 @@ class Process(NamedTuple):
     parent: int
     seconds: float  # of processors, with those of children that it waited for
     start: str
+    resident: int   # bytes
 
 
-def peak_of(used):
-    """The most memory that an ended process has held, in bytes, by what the system says that it used."""
-    return used.ru_maxrss * 1024
+def wait(pid):
+    """Waits for a child's end: its status, negative by a signal, and the most memory that it has held, in bytes."""
+    _, status, used = os.wait4(pid, 0)
+    return os.waitstatus_to_exitcode(status), used.ru_maxrss * 1024
 
 
 def run(words, given=subprocess.DEVNULL, written=subprocess.DEVNULL, longest=None):
@@ -38,12 +41,11 @@ def run(words, given=subprocess.DEVNULL, written=subprocess.DEVNULL, longest=Non
     if timer:
         timer.daemon = True
         timer.start()
-    _, status, used = os.wait4(child.pid, 0)
+    child.returncode, peak = wait(child.pid)
     seconds = time.monotonic() - started
     if timer:
         timer.cancel()
-    child.returncode = os.waitstatus_to_exitcode(status)
-    return Cost(child.returncode, seconds, peak_of(used))
+    return Cost(child.returncode, seconds, peak)
 
 
 def children_seconds():
@@ -77,7 +79,7 @@ def all_processes():
 def process_of(text):
     """A process by its file stat, in which a name with blanks and brackets may stand."""
     words = text.rpartition(")")[2].split()
-    return Process(int(words[1]), sum(map(int, words[11:15])) / TICK, words[19])
+    return Process(int(words[1]), sum(map(int, words[11:15])) / TICK, words[19], int(words[21]) * PAGE)
 
 
 def children_in(found):
@@ -86,6 +88,18 @@ def children_in(found):
     for pid, process in found.items():
         children.setdefault(process.parent, []).append(pid)
     return children
+
+
+def resident_of(pids):
+    """The bytes that some processes and all below them hold now; what they share counts for each."""
+    found, counted, left = all_processes(), set(), list(pids)
+    children = children_in(found)
+    while left:
+        pid = left.pop()
+        if pid not in counted:
+            counted.add(pid)
+            left += children.get(pid, [])
+    return sum(found[pid].resident for pid in counted if pid in found)
 
 
 def read(pid, name):

@@ -47,8 +47,22 @@ class Processes(Case):
         self.assertGreater(held, 64 << 20)
         self.assertEqual((processes.memory_of(child.pid), processes.read(child.pid, "stat")), (0, ""))
 
+    def test_what_processes_hold_together(self):
+        words = ["sh", "-c", '"$0" -c "$1"; exit', sys.executable, WORK + "\nprint(1, flush=True)\nopen(0).read()"]
+        with subprocess.Popen(words, stdin=subprocess.PIPE, stdout=subprocess.PIPE) as shell:
+            shell.stdout.readline()
+            held, all_held = processes.resident_of([shell.pid]), processes.resident_of([os.getpid()])
+            # one that is named beside the one above it counts once
+            named_twice = processes.resident_of([os.getpid(), shell.pid])
+            shell.stdin.close()
+        self.assertTrue(64 << 20 < held < 128 << 20, held)
+        self.assertGreater(all_held, held + (1 << 20))
+        self.assertAlmostEqual(all_held, named_twice, delta=16 << 20)
+        self.assertEqual(processes.resident_of([shell.pid]), 0)
+
     def test_a_process_by_its_file(self):
-        self.assertEqual(processes.process_of(STAT), processes.Process(12, 300 / processes.TICK, "4321"))
+        self.assertEqual(processes.process_of(STAT), processes.Process(
+            12, 300 / processes.TICK, "4321", 100 * processes.PAGE))
 
     def test_the_machine(self):
         self.assertRegex(processes.machine(), r"^\d+ processors, \d+ GB$")
