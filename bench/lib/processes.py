@@ -90,16 +90,21 @@ def children_in(found):
     return children
 
 
-def resident_of(pids):
-    """The bytes that some processes and all below them hold now; what they share counts for each."""
-    found, counted, left = all_processes(), set(), list(pids)
-    children = children_in(found)
+def with_descendants(pids, found):
+    """Some processes, and all that descend from them."""
+    descendants, left, children = set(), list(pids), children_in(found)
     while left:
         pid = left.pop()
-        if pid not in counted:
-            counted.add(pid)
+        if pid not in descendants:
+            descendants.add(pid)
             left += children.get(pid, [])
-    return sum(found[pid].resident for pid in counted if pid in found)
+    return descendants
+
+
+def resident_of(pids):
+    """The bytes that some processes and all below them hold now; what they share counts for each."""
+    found = all_processes()
+    return sum(found[pid].resident for pid in with_descendants(pids, found) if pid in found)
 
 
 def read(pid, name):
