@@ -1,11 +1,12 @@
 """What processes cost: the processor seconds and the peak memory of one that this one ran, of those that there are,
 and of the machine. Nothing else in bench/ measures memory."""
+import contextlib
 import os
 import re
 import resource
+import signal
 import subprocess
 import threading
-import time
 from typing import NamedTuple
 
 TICK = os.sysconf("SC_CLK_TCK")
@@ -14,9 +15,9 @@ PAGE = os.sysconf("SC_PAGE_SIZE")
 
 class Cost(NamedTuple):
     """Of a run."""
-    status: int    # negative by a signal
-    seconds: float
-    peak: int      # bytes; never below what this process had when it began the run
+    status: int  # negative by a signal
+    peak: int    # bytes; never below what this process had when it began the run
+    late: bool   # it was ended after the seconds that it might take
 
 
 class Process(NamedTuple):
@@ -33,19 +34,32 @@ def wait(pid):
     return os.waitstatus_to_exitcode(status), used.ru_maxrss * 1024
 
 
-def run(words, given=subprocess.DEVNULL, written=subprocess.DEVNULL, longest=None):
-    """Runs a command from its begin to its end, which comes after so many seconds at the latest."""
-    started = time.monotonic()
-    child = subprocess.Popen(words, stdin=given, stdout=written)
-    timer = threading.Timer(longest, child.kill) if longest else None
-    if timer:
-        timer.daemon = True
-        timer.start()
-    child.returncode, peak = wait(child.pid)
-    seconds = time.monotonic() - started
-    if timer:
+def run(words, given=subprocess.DEVNULL, written=subprocess.DEVNULL, said=None, longest=None):
+    """Runs a command from its begin to its end. After so many seconds it is ended, and so is all that it began."""
+    child, late = subprocess.Popen(words, stdin=given, stdout=written, stderr=said, process_group=0), []
+
+    def end():
+        late.append(True)
+        end_group(child.pid)
+
+    timer = threading.Timer(longest or threading.TIMEOUT_MAX, end)
+    timer.daemon = True
+    timer.start()
+    try:
+        child.returncode, peak = wait(child.pid)
+    except KeyboardInterrupt:
+        # it stands in a group of its own, which an interrupt does not reach
+        end_group(child.pid)
+        raise
+    finally:
         timer.cancel()
-    return Cost(child.returncode, seconds, peak)
+    return Cost(child.returncode, peak, bool(late))
+
+
+def end_group(pid):
+    """Ends the group of a process by a signal, if it is still there."""
+    with contextlib.suppress(ProcessLookupError):
+        os.killpg(pid, signal.SIGKILL)
 
 
 def children_seconds():

@@ -36,8 +36,9 @@ class Version(Case):
 
     def test_the_program_says_another(self):
         write(CONSTANT.replace("1.2.3", "1.2.2"), self.top, "crates/commands/src/program.rt")
-        self.assertEqual(self.version(), (1, "", (
-            "bench/version: crates/commands/src has the constant VERSION of '1.2.2', and the file VERSION says 1.2.3\n")))
+        self.assertEqual(self.version(), (
+            1, "", "bench/version: crates/commands/src has the constant VERSION of '1.2.2', and the file VERSION says "
+                   "1.2.3\n"))
 
     def test_the_changes_have_another(self):
         write("# Changes\n\n## 1.2.2\n", self.top, "CHANGELOG.md")
