@@ -58,6 +58,7 @@ def moment_of(text):
 
 
 def instance_of(item):
+    """A container of the runtime's list. Raises Failed where the list is none that the runtime gives."""
     labels, metadata = item.get("labels") or {}, item.get("metadata") or {}
     state, identity = item.get("state"), item.get("id")
     if state not in (CREATED, RUNNING, EXITED, UNKNOWN):
@@ -165,6 +166,7 @@ class Container:
         self.has_started = self.is_unknown = False
 
     def of_instance(self, instance, moment):
+        """The changes that an instance shows, which may be the newest or one more."""
         was_replaced = self.newest is not None
         if not self.is_listed or self.newest.id != instance.id or self.has_come_back(instance):
             self.begin(instance)
