@@ -148,7 +148,7 @@ class Timeline:
             self.last_placed[(*key, "listing")] = second - 1
 
     def place_result(self, pod, container, result, arrived):
-        """Gives a result its second: behind the start of what it was found on, and with no other of its probe."""
+        """Gives a result its second: not before the start of what it was found on, and with no other of its probe."""
         key = pod.uid, container
         listed = self.last_placed.get((*key, "listing"), 0)
         after = [listed, self.last_placed.get((*key, result.probe), -1) + 1]
