@@ -29,7 +29,8 @@ class Process(NamedTuple):
 
 
 def wait(pid):
-    """Waits for a child's end: its status, negative by a signal, and the most memory that it has held, in bytes."""
+    """Waits for a child's end: its status, negative by a signal, and the bytes that it has held at most, or one that it
+    waited for itself."""
     _, status, used = os.wait4(pid, 0)
     return os.waitstatus_to_exitcode(status), used.ru_maxrss * 1024
 
