@@ -1,13 +1,20 @@
-/* An allocator that refuses the growth with the number in the variable REFUSE, and then writes a byte into the file that
-   REFUSED names. A process that still runs after 20 seconds is ended by a signal. */
+/* An allocator that refuses the growth with the number in the variable REFUSE, and then writes a byte into the file
+   that REFUSED names. A process that still runs after 20 seconds is ended by a signal. */
 #define _GNU_SOURCE
 #include <dlfcn.h>
 #include <stdlib.h>
 #include <errno.h>
 #include <fcntl.h>
 #include <unistd.h>
+
 static long left;
-__attribute__((constructor)) static void begin(void) { const char *n = getenv("REFUSE"); left = n ? atol(n) : 0; alarm(20); }
+
+__attribute__((constructor)) static void begin(void) {
+    const char *number = getenv("REFUSE");
+    left = number ? atol(number) : 0;
+    alarm(20);
+}
+
 static int refused(void) {
     /* threads grow memory side by side: one of them alone meets the number */
     if (__atomic_load_n(&left, __ATOMIC_SEQ_CST) <= 0 || __atomic_sub_fetch(&left, 1, __ATOMIC_SEQ_CST) != 0) return 0;
@@ -19,8 +26,53 @@ static int refused(void) {
     }
     return 1;
 }
-void *malloc(size_t n) { static void *(*real)(size_t); if (!real) real = dlsym(RTLD_NEXT, "malloc"); if (refused()) { errno = ENOMEM; return 0; } return real(n); }
-void *realloc(void *p, size_t n) { static void *(*real)(void *, size_t); if (!real) real = dlsym(RTLD_NEXT, "realloc"); if (refused()) { errno = ENOMEM; return 0; } return real(p, n); }
-int posix_memalign(void **p, size_t a, size_t n) { static int (*real)(void **, size_t, size_t); if (!real) real = dlsym(RTLD_NEXT, "posix_memalign"); if (refused()) return ENOMEM; return real(p, a, n); }
-void *aligned_alloc(size_t a, size_t n) { static void *(*real)(size_t, size_t); if (!real) real = dlsym(RTLD_NEXT, "aligned_alloc"); if (refused()) { errno = ENOMEM; return 0; } return real(a, n); }
-void *calloc(size_t a, size_t n) { static void *(*real)(size_t, size_t); if (!real) real = dlsym(RTLD_NEXT, "calloc"); if (refused()) { errno = ENOMEM; return 0; } return real(a, n); }
+
+/* finds the function of this name that stands behind this one, once */
+#define FIND(real, name) do { if (!real) real = dlsym(RTLD_NEXT, name); } while (0)
+
+void *malloc(size_t size) {
+    static void *(*real)(size_t);
+    FIND(real, "malloc");
+    if (refused()) {
+        errno = ENOMEM;
+        return 0;
+    }
+    return real(size);
+}
+
+void *calloc(size_t count, size_t size) {
+    static void *(*real)(size_t, size_t);
+    FIND(real, "calloc");
+    if (refused()) {
+        errno = ENOMEM;
+        return 0;
+    }
+    return real(count, size);
+}
+
+void *realloc(void *old, size_t size) {
+    static void *(*real)(void *, size_t);
+    FIND(real, "realloc");
+    if (refused()) {
+        errno = ENOMEM;
+        return 0;
+    }
+    return real(old, size);
+}
+
+void *aligned_alloc(size_t alignment, size_t size) {
+    static void *(*real)(size_t, size_t);
+    FIND(real, "aligned_alloc");
+    if (refused()) {
+        errno = ENOMEM;
+        return 0;
+    }
+    return real(alignment, size);
+}
+
+int posix_memalign(void **made, size_t alignment, size_t size) {
+    static int (*real)(void **, size_t, size_t);
+    FIND(real, "posix_memalign");
+    if (refused()) return ENOMEM;
+    return real(made, alignment, size);
+}

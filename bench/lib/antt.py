@@ -100,24 +100,36 @@ def read_module(text, is_constructor):
     """A module. What it imports is looked up by is_constructor(scope, word), which says whether the word is one."""
     scope, raw, comment = {}, [], ""
     for number, block in blocks_of(text.split("\n")):
-        notes, block = [], textwrap.dedent("\n".join(block)).split("\n")
-        while block and (block[0].startswith(("--", "infix")) or imports_in(block[0], scope)):
-            if block[0].startswith("--"):
-                notes.append(block[0])
-            elif notes and not comment:
-                comment, notes = comment_of(notes), []
-            block, number = block[1:], number + 1
+        number, comment, notes, block = without_head(number, block, scope, comment)
         if block and HEAD.match(block[0]) and not block[0].startswith("pub mod "):
             raw.append((number, notes, block))
-        elif notes and not raw and not comment:
-            comment = comment_of(notes)
+        elif not raw:
+            comment = comment or comment_of(notes)
+    return Module(comment, scope, definitions_of(raw, lambda word: is_constructor(scope, word)))
+
+
+def without_head(number, block, scope, comment):
+    """A block without the comments and imports that it begins with. The first comment before an import is the module's;
+    the lines of another are the block's own."""
+    notes, block = [], textwrap.dedent("\n".join(block)).split("\n")
+    while block and (block[0].startswith(("--", "infix")) or imports_in(block[0], scope)):
+        if block[0].startswith("--"):
+            notes.append(block[0])
+        elif notes and not comment:
+            comment, notes = comment_of(notes), []
+        block, number = block[1:], number + 1
+    return number, comment, notes, block
+
+
+def definitions_of(raw, is_constructor):
+    """The definitions of a module, each from the number of its first line, its comment and its own lines."""
     made = [(number, notes, block, *constructors_of(block)) for number, notes, block in raw]
     own = {constructor for *_, found in made for constructor in found}
     definitions = []
     for number, notes, block, name, constructors in made:
-        names = names_in(block, name, lambda word: word in own or is_constructor(scope, word))
+        names = names_in(block, name, lambda word: word in own or is_constructor(word))
         definitions.append(Definition(name, comment_of(notes), "\n".join(block), number, names, constructors))
-    return Module(comment, scope, definitions)
+    return definitions
 
 
 def constructors_of(block):

@@ -1,8 +1,14 @@
 """The crates of crates.txt, storey by storey: a line `## Rules` begins a storey, and the line above a crate's own
-says in some words what it has. All of bench/ that is Python reads them here; bench/lib/current.sh reads which crate
-stands on which by itself, since ./kubelet_replay wants no python3."""
+says in some words what it has. Nothing else reads that file.
+
+    crates.py TOP NAME
+
+prints the crates that NAME stands on in the repository TOP, with its own, for what is shell.
+"""
 import os
 from typing import NamedTuple
+
+import script
 
 STOREYS = ("Base", "Format", "Rules", "Threads", "Node", "Program", "Tests")
 
@@ -21,6 +27,7 @@ def read_crates(top):
 
 
 def crates_in(text):
+    """The crates of the file's text, each with the crates of the repository alone that it names."""
     found, storey, words = [], None, ""
     for number, line in enumerate(text.split("\n"), 1):
         name, colon, below = line.partition("#")[0].partition(":")
@@ -53,3 +60,21 @@ def standing_below(below, name):
             found.add(name)
             left += below[name]
     return found
+
+
+def main(words):
+    if len(words) != 2:
+        raise script.Usage("crates.py TOP NAME")
+    top, name = words
+    try:
+        below = below_of(top)
+    except (OSError, ValueError) as fault:
+        raise script.Fault(str(fault)) from None
+    if name not in below:
+        raise script.Fault(f"there is no crate {name}", 2)
+    found = standing_below(below, name)
+    print(*(crate for crate in below if crate in found), sep="\n")
+
+
+if __name__ == "__main__":
+    script.run("crates.py", main, __doc__)

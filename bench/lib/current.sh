@@ -5,28 +5,33 @@
 program=$top/crates/replay_program/out/replay_program
 # the sum of the program that was proved last
 proved=$top/crates/replay_program/out/proved
+# the names of the crates that it stands on
+crates_of_program=$top/crates/replay_program/out/crates
 
-# the crates that a crate stands on, with itself; each is looked at once, since there are many ways down to it
-crates_below() {
-    awk -F: -v named="$1" '
-        { sub(/#.*/, "") }
-        /^[a-z_]+:/ { below[$1] = $2 }
-        END {
-            while (split(named, names, " ")) {
-                named = ""
-                for (at in names) if (names[at] in below && !(names[at] in seen)) {
-                    seen[names[at]]
-                    print names[at]
-                    named = named " " below[names[at]]
-                }
-            }
-        }' "$top/crates.txt"
+# The names of the crates that the program stands on, with its own, go into the array crates. They are kept beside it
+# until crates.txt is newer, since Python takes longer than most replays.
+read_crates() {
+    local names
+    if [ "$crates_of_program" -nt "$top/crates.txt" ]; then
+        mapfile -t crates <"$crates_of_program"
+        return
+    fi
+    if ! command -v python3 >/dev/null 2>&1; then
+        echo "${0##*/}: python3 is missing; it reads crates.txt" >&2
+        exit 127
+    fi
+    names=$(python3 -B "$top/bench/lib/crates.py" "$top" replay_program) || exit
+    mapfile -t crates <<<"$names"
+    # where nothing can be written they are read again the next time
+    { printf '%s\n' "$names" >"$crates_of_program.$$" && mv "$crates_of_program.$$" "$crates_of_program"; } 2>/dev/null
 }
 
 # no source of the program is newer than it
 is_current() {
-    local name part parts=("$top/crates.txt")
-    for name in $(crates_below replay_program); do
+    local name part parts=() crates=()
+    [ ! "$top/crates.txt" -nt "$program" ] || return
+    read_crates
+    for name in "${crates[@]}"; do
         for part in src specs proofs; do
             [ -d "$top/crates/$name/$part" ] && parts+=("$top/crates/$name/$part")
         done

@@ -1,8 +1,6 @@
 """Runs of tools/fleet, with what they cost, over processes of its own or workers of Dask distributed on loopback."""
-
 import glob
 import os
-import resource
 import shutil
 import signal
 import subprocess
@@ -10,36 +8,7 @@ import sys
 import tempfile
 import time
 
-PAGE = os.sysconf("SC_PAGE_SIZE")
-
-
-def processes():
-    """The parent of each process and its resident memory in bytes."""
-    found = {}
-    for path in glob.glob("/proc/[0-9]*/stat"):
-        try:
-            with open(path) as file:
-                pid, _, rest = file.read().partition(" (")
-        except OSError:
-            continue
-        words = rest.rpartition(") ")[2].split()
-        found[int(pid)] = int(words[1]), int(words[21]) * PAGE
-    return found
-
-
-def memory(pids):
-    """The resident memory of some processes and all below them; what they share counts for each."""
-    found, below, more = processes(), set(), set(pids)
-    while more:
-        below |= more
-        more = {pid for pid, (parent, _) in found.items() if parent in below} - below
-    return sum(found[pid][1] for pid in below if pid in found)
-
-
-def processor_seconds():
-    """Those of all processes below this one that have ended and were waited for."""
-    used = resource.getrusage(resource.RUSAGE_CHILDREN)
-    return used.ru_utime + used.ru_stime
+import processes
 
 
 class Run:
@@ -48,22 +17,23 @@ class Run:
     def __init__(self, name, words, folder, others=()):
         self.name, self.folder, self.others, self.peak = name, folder, list(others), 0
         os.makedirs(folder, exist_ok=True)
-        self.used, self.began, self.seconds = processor_seconds(), time.monotonic(), 0.0
+        self.used, self.began, self.seconds = processes.children_seconds(), time.monotonic(), 0.0
         self.process = subprocess.Popen([*words, "--out", f"{folder}/fleet.db"], stdout=subprocess.DEVNULL)
 
     def done(self):
+        """How many traces it has done."""
         return len(glob.glob(f"{self.folder}/fleet.db.done/*.rows.gz"))
 
     def look_until(self, done=None):
         """Waits until so many traces are done, or until the end."""
         while self.process.poll() is None and (done is None or self.done() < done):
-            self.peak = max(self.peak, memory([self.process.pid, *self.others]))
+            self.peak = max(self.peak, processes.resident_of([self.process.pid, *self.others]))
             time.sleep(0.1)
         self.seconds = time.monotonic() - self.began
 
     def told(self):
         """The database; what the run cost is printed."""
-        used = processor_seconds() - self.used
+        used = processes.children_seconds() - self.used
         print(f"{self.name:36} status {self.process.returncode}  {self.seconds:6.1f} s  {used:6.1f} processor s  "
               f"{self.peak >> 20:4} MiB  {self.done()} answers", flush=True)
         with open(f"{self.folder}/fleet.db", "rb") as file:
@@ -86,6 +56,7 @@ class Cluster:
             self.address = file.read().split('"address": "')[1].split('"')[0]
 
     def start(self, python, module, *words):
+        """A process of Dask, whose log nobody reads."""
         return subprocess.Popen([python, "-m", module, *words], stdout=subprocess.DEVNULL, stderr=subprocess.DEVNULL)
 
     def pids(self):
@@ -106,6 +77,7 @@ class Cluster:
 
 
 def local_runs(fleet, traces, python, work):
+    """The databases of runs with processes of their own; that of one process comes first."""
     for count in (1, 2, 4):
         run = Run(f"{count} processes", [python, fleet, "run", traces, "--processes", str(count)],
                   f"{work}/local-{count}")
@@ -114,6 +86,7 @@ def local_runs(fleet, traces, python, work):
 
 
 def dask_run(fleet, traces, python, work, count, ends=False):
+    """The database of a run with so many workers, of which one may be ended by its id meanwhile."""
     name = f"{count} workers of Dask" + (", one of them ended" if ends else "")
     folder = f"{work}/dask-{count}-{ends}"
     os.makedirs(folder)
@@ -144,6 +117,7 @@ def stopped_run(fleet, traces, python, work):
 
 
 def measure(fleet, traces, python=sys.executable):
+    """Runs it in each way, and says what each costs. The status is 1 where a database is another."""
     work = tempfile.mkdtemp()
     try:
         alone, *others = local_runs(fleet, traces, python, work)

@@ -9,6 +9,7 @@ import sys
 
 
 def said(program, *words):
+    """What the program writes on standard output; that it fails is no text of a manual."""
     return subprocess.run([program, *words], capture_output=True, text=True, check=True).stdout
 
 
@@ -42,11 +43,13 @@ def items_of(lines):
 
 
 def escaped(text):
+    """The text as groff reads it: a hyphen is that of a word, and a line's first point no request."""
     text = text.replace("\\", "\\e").replace("-", "\\-")
     return "\\&" + text if text[:1] in (".", "'") else text
 
 
 def list_of(items):
+    """The lines of a list of words, each with what it means."""
     return [line for name, words in items for line in (".TP", f"\\fB{escaped(name)}\\fR", escaped(words))]
 
 
@@ -60,6 +63,7 @@ def statuses(top):
 
 
 def command(program, name):
+    """The lines on a command, from its own help."""
     parts = parts_of(said(program, "help", name))
     lines = [f".SS {escaped(name)}", *map(escaped, parts[""]), ".PP", f"\\fB{escaped(parts['Usage'][0])}\\fR"]
     for title in ("Arguments", "Options"):
@@ -68,6 +72,7 @@ def command(program, name):
 
 
 def page(program, top, version, date):
+    """The whole page, of the program's help and of the documents in a folder."""
     parts = parts_of(said(program, "help"))
     about, commands = parts[""][0], items_of(parts["Commands"])
     lines = [f'.TH KUBELET_REPLAY 1 "{date}" "kubelet_replay {version}"', ".SH NAME",
@@ -87,7 +92,11 @@ def page(program, top, version, date):
     return "\n".join(lines) + "\n"
 
 
-if __name__ == "__main__":
-    if len(sys.argv) != 5:
+def main(words):
+    if len(words) != 4:
         sys.exit("usage: manual.py PROGRAM TOP VERSION DATE")
-    sys.stdout.write(page(*sys.argv[1:]))
+    sys.stdout.write(page(*words))
+
+
+if __name__ == "__main__":
+    main(sys.argv[1:])

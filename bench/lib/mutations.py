@@ -30,107 +30,108 @@ def put(data, at, end, new):
     return data[:at] + new + data[end:]
 
 
-def place(rng, data):
-    return rng.randrange(len(data) + 1)
+def place(chance, data):
+    return chance.randrange(len(data) + 1)
 
 
-def span(rng, data):
+def span(chance, data):
     """Two places, most often near to each other."""
-    at = place(rng, data)
-    return at, min(len(data), at + rng.choice((1, 2, 8, 64, 1024, len(data))))
+    at = place(chance, data)
+    return at, min(len(data), at + chance.choice((1, 2, 8, 64, 1024, len(data))))
 
 
-def pick(rng, data, pattern):
+def pick(chance, data, pattern):
     """A place where the pattern fits, if there is one: the first behind some place, or the first of all."""
-    return pattern.search(data, place(rng, data)) or pattern.search(data)
+    return pattern.search(data, place(chance, data)) or pattern.search(data)
 
 
-def flip(rng, data, _):
+def flip(chance, data, _):
     changed = bytearray(data)
-    for _ in range(min(len(changed), rng.choice((1, 1, 2, 8)))):
-        changed[rng.randrange(len(changed))] ^= 1 << rng.randrange(8)
+    for _ in range(min(len(changed), chance.choice((1, 1, 2, 8)))):
+        changed[chance.randrange(len(changed))] ^= 1 << chance.randrange(8)
     return bytes(changed)
 
 
-def cut(rng, data, _):
-    return data[:place(rng, data)] if rng.random() < 0.5 else put(data, *span(rng, data), b"")
+def cut(chance, data, _):
+    return data[:place(chance, data)] if chance.random() < 0.5 else put(data, *span(chance, data), b"")
 
 
-def double(rng, data, _):
-    at, end = span(rng, data)
+def double(chance, data, _):
+    at, end = span(chance, data)
     return put(data, end, end, data[at:end])
 
 
-def strange_bytes(rng, data, _):
-    at = place(rng, data)
-    return put(data, at, at, rng.choice(BYTES) * rng.choice((1, 1, 3)))
+def strange_bytes(chance, data, _):
+    at = place(chance, data)
+    return put(data, at, at, chance.choice(BYTES) * chance.choice((1, 1, 3)))
 
 
-def blank_lines(rng, data, _):
+def blank_lines(chance, data, _):
     lines = data.split(b"\n")
-    at = rng.randrange(len(lines))
-    lines[at] = rng.choice(BLANKS) + lines[at]
+    at = chance.randrange(len(lines))
+    lines[at] = chance.choice(BLANKS) + lines[at]
     return b"\n".join(lines)
 
 
-def moved_lines(rng, data, _):
+def moved_lines(chance, data, _):
     """Two lines change places, or one is lost, doubled or there 300 times."""
     lines = data.split(b"\n")
-    one, other = rng.randrange(len(lines)), rng.randrange(len(lines))
-    if rng.random() < 0.5:
+    one, other = chance.randrange(len(lines)), chance.randrange(len(lines))
+    if chance.random() < 0.5:
         lines[one], lines[other] = lines[other], lines[one]
     else:
-        lines[one:one + 1] = [lines[one]] * rng.choice((0, 0, 0, 2, 2, 2, 2, 300))
+        lines[one:one + 1] = [lines[one]] * chance.choice((0, 0, 0, 2, 2, 2, 2, 300))
     return b"\n".join(lines)
 
 
-def line_of_another(rng, data, seeds):
-    lines, others = data.split(b"\n"), rng.choice(seeds).split(b"\n")
-    at, begin = rng.randrange(len(lines)), rng.randrange(len(others))
-    lines[at:at + rng.randrange(2)] = others[begin:begin + rng.choice((1, 1, 5))]
+def line_of_another(chance, data, seeds):
+    lines, others = data.split(b"\n"), chance.choice(seeds).split(b"\n")
+    at, begin = chance.randrange(len(lines)), chance.randrange(len(others))
+    lines[at:at + chance.randrange(2)] = others[begin:begin + chance.choice((1, 1, 5))]
     return b"\n".join(lines)
 
 
-def nested(rng, data, _):
+def nested(chance, data, _):
     """A value, or a place anywhere, becomes deep; half of the time what was opened is not closed."""
-    depth, (left, right) = rng.choice(DEPTHS), rng.choice(((b"[", b"]"), (b'{"a":', b"}")))
-    deep = left * depth + b"0" + right * (depth if rng.random() < 0.5 else 0)
-    found = pick(rng, data, SCALAR)
+    depth, (left, right) = chance.choice(DEPTHS), chance.choice(((b"[", b"]"), (b'{"a":', b"}")))
+    deep = left * depth + b"0" + right * (depth if chance.random() < 0.5 else 0)
+    found = pick(chance, data, SCALAR)
     return put(data, *found.span(), deep) if found else data + deep
 
 
-def huge_number(rng, data, _):
-    number = rng.choice(NUMBERS + ["9" * rng.choice((20, 400, 10_000)), "0." + "0" * 5000 + "1", "1e" + "9" * 400])
-    found = pick(rng, data, re.compile(rb"-?\d+"))
+def huge_number(chance, data, _):
+    long_ones = ["9" * chance.choice((20, 400, 10_000)), "0." + "0" * 5000 + "1", "1e" + "9" * 400]
+    number = chance.choice(NUMBERS + long_ones)
+    found = pick(chance, data, re.compile(rb"-?\d+"))
     return put(data, *found.span(), number.encode()) if found else data
 
 
-def another_text(rng, data, _):
-    found = pick(rng, data, SCALAR)
-    return put(data, *found.span(), b'"%s"' % rng.choice(TEXTS).encode()) if found else data
+def another_text(chance, data, _):
+    found = pick(chance, data, SCALAR)
+    return put(data, *found.span(), b'"%s"' % chance.choice(TEXTS).encode()) if found else data
 
 
-def long_text(rng, data, _):
-    length = LONGEST_LINE if rng.random() < 0.02 else rng.choice(LENGTHS)
-    text = rng.choice((b"a", b"9", b"-", b"\\n", b"\xc3\xa9")) * length
-    found = pick(rng, data, SCALAR)
+def long_text(chance, data, _):
+    length = LONGEST_LINE if chance.random() < 0.02 else chance.choice(LENGTHS)
+    text = chance.choice((b"a", b"9", b"-", b"\\n", b"\xc3\xa9")) * length
+    found = pick(chance, data, SCALAR)
     return put(data, *found.span(), b'"%s"' % text) if found else data
 
 
-def other_value(rng, data, seeds):
+def other_value(chance, data, seeds):
     """A value of this trace or of another in place of one."""
-    found, value = pick(rng, data, SCALAR), pick(rng, rng.choice((data, rng.choice(seeds))), SCALAR)
-    new = rng.choice((value[0] if value else b"{}", b"null", b"{}", b"[]", b"[null]", b"true"))
+    found, value = pick(chance, data, SCALAR), pick(chance, chance.choice((data, chance.choice(seeds))), SCALAR)
+    new = chance.choice((value[0] if value else b"{}", b"null", b"{}", b"[]", b"[null]", b"true"))
     return put(data, *found.span(), new) if found else data
 
 
-def doubled_key(rng, data, _):
+def doubled_key(chance, data, _):
     """The key a second time in its object, before or behind the first, with another value."""
-    found, other = pick(rng, data, PAIR), pick(rng, data, PAIR)
+    found, other = pick(chance, data, PAIR), pick(chance, data, PAIR)
     if not found:
         return data
-    times = rng.choice((1, 2, 500))
-    copies = [b"%s:%s," % (found[1], rng.choice((other[2], b"null", b"{}"))) for _ in range(times)]
+    times = chance.choice((1, 2, 500))
+    copies = [b"%s:%s," % (found[1], chance.choice((other[2], b"null", b"{}"))) for _ in range(times)]
     return put(data, found.start(), found.start(), b"".join(copies))
 
 
@@ -141,11 +142,11 @@ MUTATIONS = [flip, cut, double, strange_bytes, blank_lines, nested, long_text] +
 
 def mutated(seed, number, seeds):
     """The trace with this number, and the number of its workers: none for standard input."""
-    rng = random.Random(f"{seed} {number}")
-    data = rng.choice(seeds)
-    for _ in range(rng.choice((1, 1, 1, 2, 3, 5))):
-        data = rng.choice(MUTATIONS)(rng, data, seeds)
-    return data, rng.choice((None, None, 1, 3, 64))
+    chance = random.Random(f"{seed} {number}")
+    data = chance.choice(seeds)
+    for _ in range(chance.choice((1, 1, 1, 2, 3, 5))):
+        data = chance.choice(MUTATIONS)(chance, data, seeds)
+    return data, chance.choice((None, None, 1, 3, 64))
 
 
 def seeds_of(top):

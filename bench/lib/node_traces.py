@@ -57,6 +57,7 @@ def pressure(chance, ticks):
 
 
 def tick(chance, pods, at, pressed):
+    """A tick line; a signal that is pressed falls below its threshold in it."""
     signals = {signal: calm for signal, (calm, _) in SIGNALS.items()}
     if pressed and pressed[1] <= at < pressed[2]:
         signals[pressed[0]] = SIGNALS[pressed[0]][1]
@@ -64,6 +65,7 @@ def tick(chance, pods, at, pressed):
 
 
 def entry(chance, made, at):
+    """What a tick shows of a pod, by its way and its age."""
     attempt, age = divmod(at, made["runs"] + made["rests"])
     code = 1
     if made["way"] in ("steady", "flaps"):

@@ -90,6 +90,7 @@ class Page:
         return [(module, top_down(keys_of[module], lambda key: self.nodes[key].below)) for module in order]
 
     def ordered_parts(self):
+        """The parts of the page behind the contracts, each a title with its modules; none is empty."""
         kinds = {kind: [key for key, node in self.nodes.items() if node.kind == kind]
                  for kind in ("trait", "definition", "type")}
         storey = {key: self.repository.crates[key[0]].storey for key in self.nodes}
@@ -149,13 +150,14 @@ class Page:
         return lines + [""]
 
     def words(self):
+        """The words of the library that are used, module by module."""
         lines = []
         for path, words in sorted(self.library.items()):
             lines.append(wrapped(f"`{path}`: " + " ".join(f"`{word}`" for word in sorted(set(words))), "- ", "  "))
         return lines
 
-    def text(self, said):
-        """The whole page. Of each key `said` has what the other pages say of it."""
+    def head(self):
+        """What the page is, with how much of each it has."""
         definitions = [node for node in self.nodes.values() if node.kind == "definition"]
         names = [f"`{node.name}`" for node in self.contracts]
         counts = {"functions": ", ".join(names[:-1]) + " and " + names[-1], "definitions": len(definitions),
@@ -164,17 +166,24 @@ class Page:
         lines = ["# The theorem", ""]
         for paragraph in HEAD:
             lines += [wrapped(paragraph.format(**counts)), ""]
-        lines += self.contents() + ["## The contracts", ""]
+        return lines
+
+    def module_lines(self, module, keys, said):
+        """A module with each of its keys."""
+        lines, read = [f"### {self.module_title(module)}", ""], self.repository.modules.get(module)
+        lines += [wrapped(prose(read.comment)), ""] if read and read.comment else []
+        for key in keys:
+            lines += [f"#### {self.title(key)}", "", *self.entry(self.nodes[key], said.get(key, ()))]
+        return lines
+
+    def text(self, said):
+        """The whole page. Of each key `said` has what the other pages say of it."""
+        lines = [*self.head(), *self.contents(), "## The contracts", ""]
         for node in self.contracts:
             lines += [f"### `{node.name}`", "", *self.entry(node, said.get(node.key, ()))]
         for title, modules in self.parts:
             lines += [f"## {title}", ""]
-            for module, keys in modules:
-                lines += [f"### {self.module_title(module)}", ""]
-                read = self.repository.modules.get(module)
-                lines += [wrapped(prose(read.comment)), ""] if read and read.comment else []
-                for key in keys:
-                    lines += [f"#### {self.title(key)}", "", *self.entry(self.nodes[key], said.get(key, ()))]
+            lines += [line for module, keys in modules for line in self.module_lines(module, keys, said)]
         lines += ["## The words of the library", "", wrapped(
             "These stand in the kit, and are not defined here; `rt lemma NAME` shows each."), "", *self.words()]
         return "\n".join(lines) + "\n"

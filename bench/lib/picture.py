@@ -35,6 +35,7 @@ def text_of(x, y, words, style=""):
 
 
 def box_of(crate, place, below):
+    """A crate's box, with its words and the crates below it in lines that fit."""
     x, y = place
     lines = [f'<rect x="{x}" y="{y}" width="{WIDTH}" height="{HEIGHT}" rx="4" fill="#fff" stroke="#90a4ae"/>',
              text_of(x + 8, y + 17, crate.name, ' font-size="13" font-weight="bold"')]
@@ -54,6 +55,7 @@ def line_of(above, below):
 
 
 def picture(crates):
+    """The whole picture, as SVG: the storeys, the lines over them, and the boxes over these."""
     named = {crate.name: crate.below for crate in crates}
     places, bands, height = places_of(crates)
     width = LEFT + COLUMNS * (WIDTH + GAP)

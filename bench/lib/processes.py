@@ -1,21 +1,23 @@
 """What processes cost: the processor seconds and the peak memory of one that this one ran, of those that there are,
-and of the machine."""
+and of the machine. Nothing else in bench/ measures memory."""
+import contextlib
 import os
 import re
 import resource
+import signal
 import subprocess
 import threading
-import time
 from typing import NamedTuple
 
 TICK = os.sysconf("SC_CLK_TCK")
+PAGE = os.sysconf("SC_PAGE_SIZE")
 
 
 class Cost(NamedTuple):
     """Of a run."""
-    status: int    # negative by a signal
-    seconds: float
-    peak: int      # bytes; never below what this process had when it began the run
+    status: int  # negative by a signal
+    peak: int    # bytes; never below what this process had when it began the run
+    late: bool   # it was ended after the seconds that it might take
 
 
 class Process(NamedTuple):
@@ -23,27 +25,42 @@ class Process(NamedTuple):
     parent: int
     seconds: float  # of processors, with those of children that it waited for
     start: str
+    resident: int   # bytes
 
 
-def peak_of(used):
-    """The most memory that an ended process has held, in bytes, by what the system says that it used."""
-    return used.ru_maxrss * 1024
+def wait(pid):
+    """Waits for a child's end: its status, negative by a signal, and the bytes that it has held at most, or one that it
+    waited for itself."""
+    _, status, used = os.wait4(pid, 0)
+    return os.waitstatus_to_exitcode(status), used.ru_maxrss * 1024
 
 
-def run(words, given=subprocess.DEVNULL, written=subprocess.DEVNULL, longest=None):
-    """Runs a command from its begin to its end, which comes after so many seconds at the latest."""
-    started = time.monotonic()
-    child = subprocess.Popen(words, stdin=given, stdout=written)
-    timer = threading.Timer(longest, child.kill) if longest else None
-    if timer:
-        timer.daemon = True
-        timer.start()
-    _, status, used = os.wait4(child.pid, 0)
-    seconds = time.monotonic() - started
-    if timer:
+def run(words, given=subprocess.DEVNULL, written=subprocess.DEVNULL, said=None, longest=None):
+    """Runs a command from its begin to its end. After so many seconds it is ended, and so is all that it began."""
+    child, late = subprocess.Popen(words, stdin=given, stdout=written, stderr=said, process_group=0), []
+
+    def end():
+        late.append(True)
+        end_group(child.pid)
+
+    timer = threading.Timer(longest or threading.TIMEOUT_MAX, end)
+    timer.daemon = True
+    timer.start()
+    try:
+        child.returncode, peak = wait(child.pid)
+    except KeyboardInterrupt:
+        # it stands in a group of its own, which an interrupt does not reach
+        end_group(child.pid)
+        raise
+    finally:
         timer.cancel()
-    child.returncode = os.waitstatus_to_exitcode(status)
-    return Cost(child.returncode, seconds, peak_of(used))
+    return Cost(child.returncode, peak, bool(late))
+
+
+def end_group(pid):
+    """Ends the group of a process by a signal, if it is still there."""
+    with contextlib.suppress(ProcessLookupError):
+        os.killpg(pid, signal.SIGKILL)
 
 
 def children_seconds():
@@ -77,7 +94,7 @@ def all_processes():
 def process_of(text):
     """A process by its file stat, in which a name with blanks and brackets may stand."""
     words = text.rpartition(")")[2].split()
-    return Process(int(words[1]), sum(map(int, words[11:15])) / TICK, words[19])
+    return Process(int(words[1]), sum(map(int, words[11:15])) / TICK, words[19], int(words[21]) * PAGE)
 
 
 def children_in(found):
@@ -86,6 +103,23 @@ def children_in(found):
     for pid, process in found.items():
         children.setdefault(process.parent, []).append(pid)
     return children
+
+
+def with_descendants(pids, found):
+    """Some processes, and all that descend from them."""
+    descendants, left, children = set(), list(pids), children_in(found)
+    while left:
+        pid = left.pop()
+        if pid not in descendants:
+            descendants.add(pid)
+            left += children.get(pid, [])
+    return descendants
+
+
+def resident_of(pids):
+    """The bytes that some processes and all below them hold now; what they share counts for each."""
+    found = all_processes()
+    return sum(found[pid].resident for pid in with_descendants(pids, found) if pid in found)
 
 
 def read(pid, name):

@@ -64,6 +64,7 @@ class Repository:
         return None
 
     def is_constructor(self, scope, word):
+        """Whether a word names a constructor: then a clause whose left side has it binds no variable of that name."""
         head, _, rest = word.partition(".")
         path, name = scope.get(head, ("", None))
         if "TheVariants" in path:
@@ -105,6 +106,7 @@ class Repository:
         return list(dict.fromkeys(key for key in found if key))
 
     def node(self, key):
+        """What a key stands for, with the keys of what it names."""
         crate, module, name = key
         if module.endswith(".rt"):
             return self.declared(crate, name)
@@ -131,6 +133,7 @@ class Repository:
         return None
 
     def field_types(self, crate, file, names):
+        """The keys of the types of a type's fields, where a crate of the repository declares them."""
         found = []
         for name in names:
             root = file.uses.get(name, "crate").split("::")[0]

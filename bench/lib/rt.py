@@ -22,6 +22,7 @@ class File(NamedTuple):
 
 
 def read_file(text):
+    """A file with what it imports, which says of what a name in it is."""
     scope, uses = {}, {}
     for line in text.split("\n"):
         if line.strip().startswith("ghost use "):

@@ -53,6 +53,7 @@ class Walk:
             self.found.setdefault(token)
 
     def take(self, tokens):
+        """The words that are bound nowhere, of these tokens and those before them, in their order."""
         before, bound_here = "", 0
         for at, token in enumerate(tokens):
             after = tokens[at + 1] if at + 1 < len(tokens) else ""

@@ -3,6 +3,8 @@ import os
 import subprocess
 import sys
 import tempfile
+import time
+from unittest import mock
 
 from common import Case
 import processes
@@ -16,8 +18,7 @@ class Processes(Case):
     def test_a_run_is_measured(self):
         before = processes.children_seconds()
         cost = processes.run([sys.executable, "-c", WORK])
-        self.assertEqual(cost.status, 0)
-        self.assertGreater(cost.seconds, 0.15)
+        self.assertEqual((cost.status, cost.late), (0, False))
         self.assertGreater(cost.peak, 64 << 20)
         self.assertGreater(processes.children_seconds() - before, 0.15)
 
@@ -29,10 +30,31 @@ class Processes(Case):
             written.seek(0)
             self.assertEqual(written.read(), b"text")
 
-    def test_a_run_is_ended(self):
-        cost = processes.run(["sleep", "20"], longest=0.1)
-        self.assertEqual(cost.status, -9)
-        self.assertLess(cost.seconds, 10)
+    def test_what_a_run_says(self):
+        with tempfile.TemporaryFile() as said:
+            self.assertEqual(processes.run(["sh", "-c", "echo text >&2; exit 3"], said=said).status, 3)
+            said.seek(0)
+            self.assertEqual(said.read(), b"text\n")
+
+    def test_a_run_is_ended_with_all_that_it_began(self):
+        begun = time.monotonic()
+        with tempfile.TemporaryFile() as written:
+            cost = processes.run(["sh", "-c", "sleep 20 & echo $!; wait"], written=written, longest=0.5)
+            written.seek(0)
+            below = int(written.read())
+        self.assertEqual((cost.status, cost.late), (-9, True))
+        while processes.read(below, "stat").rpartition(")")[2].split()[:1] not in ([], ["Z"]):
+            self.assertLess(time.monotonic() - begun, 10)
+            time.sleep(0.01)
+
+    def test_a_run_is_interrupted(self):
+        begun = time.monotonic()
+        with mock.patch.object(processes, "wait", side_effect=KeyboardInterrupt), \
+                mock.patch.object(processes, "end_group") as ended, self.assertRaises(KeyboardInterrupt):
+            processes.run(["true"])
+        [[child], _] = ended.call_args
+        self.assertEqual(processes.wait(child)[0], 0)
+        self.assertLess(time.monotonic() - begun, 10)
 
     def test_processes_that_there_are(self):
         with subprocess.Popen([sys.executable, "-c", WORK + "\nprint(1, flush=True)\nopen(0).read()"],
@@ -47,8 +69,22 @@ class Processes(Case):
         self.assertGreater(held, 64 << 20)
         self.assertEqual((processes.memory_of(child.pid), processes.read(child.pid, "stat")), (0, ""))
 
+    def test_what_processes_hold_together(self):
+        words = ["sh", "-c", '"$0" -c "$1"; exit', sys.executable, WORK + "\nprint(1, flush=True)\nopen(0).read()"]
+        with subprocess.Popen(words, stdin=subprocess.PIPE, stdout=subprocess.PIPE) as shell:
+            shell.stdout.readline()
+            held, all_held = processes.resident_of([shell.pid]), processes.resident_of([os.getpid()])
+            # one that is named beside the one above it counts once
+            named_twice = processes.resident_of([os.getpid(), shell.pid])
+            shell.stdin.close()
+        self.assertTrue(64 << 20 < held < 128 << 20, held)
+        self.assertGreater(all_held, held + (1 << 20))
+        self.assertAlmostEqual(all_held, named_twice, delta=16 << 20)
+        self.assertEqual(processes.resident_of([shell.pid]), 0)
+
     def test_a_process_by_its_file(self):
-        self.assertEqual(processes.process_of(STAT), processes.Process(12, 300 / processes.TICK, "4321"))
+        self.assertEqual(processes.process_of(STAT), processes.Process(
+            12, 300 / processes.TICK, "4321", 100 * processes.PAGE))
 
     def test_the_machine(self):
         self.assertRegex(processes.machine(), r"^\d+ processors, \d+ GB$")

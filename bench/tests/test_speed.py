@@ -3,8 +3,9 @@ import contextlib
 import io
 import os
 import tempfile
+from unittest import mock
 
-from common import COMMANDS, TESTS, Case, commands_in, loaded, read, run, write
+from common import COMMANDS, PATH_WITH_COMMANDS, TESTS, Case, commands_in, loaded, read, run, write
 import script
 import speed_page
 from speed_page import Trace
@@ -34,6 +35,7 @@ class Runs(Case):
     def setUp(self):
         self.speed, self.work = loaded("speed"), self.enterContext(tempfile.TemporaryDirectory())
         self.speed.ROUNDS = 2
+        self.enterContext(mock.patch.dict(os.environ, PATH=PATH_WITH_COMMANDS))
         os.makedirs(os.path.dirname(f"{self.work}/{self.speed.BASELINE}"))
         write(BASELINE, self.work, self.speed.BASELINE)
         os.chmod(f"{self.work}/{self.speed.BASELINE}", 0o755)
@@ -49,7 +51,7 @@ class Runs(Case):
         self.assertEqual(said, "bench/speed: round 1 of 2\nbench/speed: round 2 of 2\n")
         self.assertEqual(measured.traces["many_pods"], Trace(1, 2, 0, 8, 2))
         self.assertEqual(measured.traces["ticks_6000"], Trace(1, 2, 0, 8, None))
-        self.assertEqual({*measured.seconds}, {*SECONDS})
+        self.assertEqual(measured.seconds, dict.fromkeys(SECONDS, 0.5))
         self.assertEqual({*measured.peaks}, {*PEAKS})
         self.assertGreater(measured.floor, 1 << 20)
 
@@ -93,3 +95,6 @@ class Page(Case):
             os.symlink("/bin/true", f"{path}/rt")
             self.assertEqual(run("speed", PATH=path), (
                 127, "", "bench/speed: cargo is missing; it builds the baseline\n"))
+            os.symlink("/bin/true", f"{path}/cargo")
+            self.assertEqual(run("speed", PATH=path), (
+                127, "", "bench/speed: hyperfine is missing: apt-get install hyperfine; it measures the seconds\n"))

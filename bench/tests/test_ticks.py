@@ -1,29 +1,68 @@
 """Tests of bench/ticks and of what times commands, where stand-ins take the place of hyperfine and the program."""
+import contextlib
+import io
 import os
+import shutil
+import sys
 import tempfile
+import unittest
+from unittest import mock
 
-from common import PATH_WITH_COMMANDS, Case, commands_in, run, write
+from common import PATH_WITH_COMMANDS, Case, commands_in, read, run, write
 import script
 import timing
+
+PATH = os.environ["PATH"]
 
 
 class Timing(Case):
     def setUp(self):
-        path = os.environ["PATH"]
-        self.addCleanup(os.environ.__setitem__, "PATH", path)
-        os.environ["PATH"] = PATH_WITH_COMMANDS
+        self.room = self.enterContext(tempfile.TemporaryDirectory())
+        self.enterContext(mock.patch.dict(os.environ, PATH=PATH_WITH_COMMANDS))
 
     def test_the_least_of_the_runs(self):
-        with tempfile.TemporaryDirectory() as room:
-            given, written = f"{room}/it's given", f"{room}/it's written"
-            write("text", given)
-            self.assertEqual(timing.seconds_of(["tee", written], given), 0.25)
-            self.assertEqual(os.path.getsize(written), 4)
+        given, written = f"{self.room}/it's given", f"{self.room}/it's written"
+        write("text", given)
+        self.assertEqual(timing.seconds_of(["tee", written], given), 0.25)
+        self.assertEqual(os.path.getsize(written), 4)
 
     def test_a_command_that_fails(self):
         with self.assertRaises(script.Fault) as fault:
             timing.seconds_of(["false"], "/dev/null")
         self.assertEqual(str(fault.exception), "hyperfine failed: Error: Command terminated with non-zero exit code.")
+
+    def ran(self, text):
+        """How a run of the shell ended, what it wrote and what is said of it."""
+        output = f"{self.room}/it's written"
+        with contextlib.redirect_stderr(io.StringIO()) as said:
+            took = timing.run(["sh", "-c", text], output, 20)
+        self.assertGreater(took.peak, 1 << 20)
+        self.assertFalse(took.late)
+        return took.status, took.seconds, read(output), said.getvalue()
+
+    def check_runs(self, seconds):
+        for text, status, written, said in (("echo a; echo b >&2", 0, "a\n", ""),
+                                            ("echo a; echo b >&2; exit 3", 3, "a\n", "b\n"),
+                                            ("echo \"it's\"; kill -9 $$", -9, "it's\n", "")):
+            ended = self.ran(text)
+            self.assertEqual((ended[0], *ended[2:]), (status, written, said))
+            self.assertTrue(seconds[0] <= ended[1] <= seconds[1], ended)
+
+    def test_a_run(self):
+        self.check_runs((0.5, 0.5))
+
+    def test_a_run_that_is_late(self):
+        took = timing.run(["sleep", "20"], f"{self.room}/written", 0.5)
+        self.assertEqual(took._replace(peak=0), timing.Timed(-9, 0.5, 0, True))
+
+    @unittest.skipUnless(shutil.which("hyperfine"), "hyperfine is missing")
+    def test_a_run_by_hyperfine_itself(self):
+        os.environ["PATH"] = PATH
+        self.check_runs((0, 20))
+        self.assertGreater(self.ran("exec sleep 0.2")[1], 0.15)
+        took = timing.run([sys.executable, "-c", "held = bytearray(128 << 20)"], f"{self.room}/written", 20)
+        self.assertGreater(took.peak, 128 << 20)
+        self.assertGreater(timing.seconds_of(["sleep", "0.1"], "/dev/null"), 0.05)
 
 
 class Ticks(Case):

@@ -43,13 +43,13 @@ class Workers(Case):
             1, "", "run 1 with workers=4 differs from 1 worker at line 3:\nb''\nb'more\\n'\n"))
 
     def test_costs(self):
-        status, said, fault = run("workers", REPLAY)
+        status, said, fault = run("workers", REPLAY, PATH=PATH_WITH_COMMANDS)
         self.assertEqual((status, fault), (0, ""))
         lines = said.splitlines()
         self.assertRegex(lines[0], r"^256 pods by 500 ticks, 35\.8 MB of trace; processors: \d+$")
         self.assertEqual(lines[1], "workers  seconds  peak MB")
         for line, workers in zip(lines[2:5], (1, 2, 4)):
-            self.assertRegex(line, rf"^      {workers} +\d+\.\d\d +\d+\.\d$")
+            self.assertRegex(line, rf"^      {workers}     0\.50 +\d+\.\d$")
         self.assertEqual(lines[5:], ["all reports are the same"])
 
     def test_reports_of_helgrind(self):
@@ -61,6 +61,8 @@ class Workers(Case):
     def test_a_run_that_fails(self):
         self.assertEqual(run("workers", "--same", "/bin/false"), (
             1, "", "bench/workers: with workers=1 the program ended with 1\n"))
+        self.assertEqual(run("workers", "/bin/false", PATH=PATH_WITH_COMMANDS)[::2], (
+            1, "bench/workers: with workers=1 the program ended with 1\n"))
 
     def test_words(self):
         for words in (("--all",), ("/bin/true", "/bin/true"), ("--same", "0", REPLAY), ("--same", "2", REPLAY, "3")):
@@ -69,3 +71,5 @@ class Workers(Case):
         with tempfile.TemporaryDirectory() as room:
             self.assertEqual(run("workers", "--helgrind", PATH=commands_in(room, "python3", "env")), (
                 127, "", "bench/workers: valgrind is missing; helgrind is a part of it\n"))
+            self.assertEqual(run("workers", REPLAY, PATH=f"{room}/commands"), (
+                127, "", "bench/workers: hyperfine is missing: apt-get install hyperfine; it measures the seconds\n"))

@@ -67,6 +67,7 @@ WORDS = {
 
 
 def pod_record(report, pod, last):
+    """A pod, with what its events come to."""
     namespace, _, name = pod.key.partition("/")
     ended, ready, seen = reports.end_of(pod), pod.condition("Ready"), reports.has_ticks(report, pod)
     evicted = next((eviction for eviction in report.evictions if eviction.number == pod.number), None)
@@ -108,6 +109,7 @@ def none_of(text):
 
 
 def container_record(report, pod, container):
+    """A container, with how often each event was of it."""
     return {
         "record": "container", "node": report.node, "pod": pod.key, "pod_number": pod.number, "name": container.name,
         "state": container.state, "code": None if container.code == "-" else int(container.code),

@@ -122,6 +122,7 @@ RESTS = {word: re.compile(form, re.ASCII) for word, form in RESTS.items()}
 
 
 def parts_of(line):
+    """What kind of line it is, with its parts."""
     for kind, form in FORMS.items():
         found = form.fullmatch(line)
         if found:
@@ -154,29 +155,35 @@ def read_report(text):
         raise ReportFault("standard input has no whole report: the line of totals is missing")
     check_whole(report)
     named = pods_by_key(report)
-    for pods in named.values():
-        tell_left(pods)
+    tell_left(named)
+    tell_pods(report, named)
+    return report
+
+
+def tell_pods(report, named):
+    """Gives each event and each eviction the pod that it is of, and each pod its events."""
     for said in (*report.events, *report.evictions):
         pod = pod_at(named.get(said.pod, ()), said.at)
         said.number = pod.number if pod else None
         if pod and isinstance(said, Event):
             pod.events.append(said)
-    return report
 
 
 def pods_by_key(report):
+    """The pods of each key, one after the other."""
     named = {}
     for pod in report.pods:
         named.setdefault(pod.key, []).append(pod)
     return named
 
 
-def tell_left(pods):
+def tell_left(named):
     """Of pods of one key, one after the other, each has left by the first tick of the next one."""
-    following = None
-    for pod in reversed(pods):
-        pod.left = following
-        following = first_tick(pod) or following
+    for pods in named.values():
+        following = None
+        for pod in reversed(pods):
+            pod.left = following
+            following = first_tick(pod) or following
 
 
 def pod_at(pods, at):
@@ -198,6 +205,7 @@ def number_words(report, pod):
 
 
 def check_whole(report):
+    """Raises ReportFault where something is missing that each report has."""
     if [condition.kind for condition in report.conditions] != list(CONDITIONS):
         raise ReportFault("standard input has no whole report: a condition of the node is missing")
     if len(report.pods) != report.pod_count:
@@ -209,6 +217,7 @@ def check_whole(report):
 
 
 def add_line(report, kind, parts):
+    """Adds what a line says. Raises IndexError or ValueError where it is none of this report."""
     if kind == "event":
         at, pod, container, word, rest = parts
         report.events.append(checked(Event(int(at), pod, None if container == "-" else container, word, rest.split())))

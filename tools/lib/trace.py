@@ -303,6 +303,12 @@ def check_belongs(trace, report, path):
     ):
         if here != there:
             raise TraceFault(f"{path} does not belong to the report: its {what} is {here}, the report's {there}")
+    check_pods(trace, report, path)
+    check_events(trace, report, path)
+
+
+def check_pods(trace, report, path):
+    """Raises TraceFault unless each pod is the report's, with its containers."""
     for ours, theirs in zip(trace.pods, report.pods):
         named = [container.name for container in theirs.containers]
         if ours.key != theirs.key or [container.name for container in ours.containers] != named:
@@ -310,6 +316,10 @@ def check_belongs(trace, report, path):
                              f"containers than the report's {theirs.key}" if ours.key == theirs.key else
                              f"{path} does not belong to the report: pod {ours.number} is {ours.key}, the report's "
                              f"{theirs.key}")
+
+
+def check_events(trace, report, path):
+    """Raises TraceFault unless each event is at a tick, and each start is of what that lists."""
     for event in report.events:
         if event.at not in trace.places:
             raise TraceFault(f"{path} does not belong to the report: it has no tick at {event.at}")

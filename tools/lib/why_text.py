@@ -72,6 +72,7 @@ def listed_lines(listed, show):
 
 
 def result_lines(results, show):
+    """A probe with its thresholds, and the results that count towards them."""
     probe = results.probe
     since = "the first tick" if results.since is None else show(results.since)
     head = f"{results.kind} results since the instance started at {since}:"
@@ -105,6 +106,7 @@ def exit_lines(trace, pod, around, show):
 
 
 def evicted_lines(evicted, show):
+    """The threshold of an eviction, its samples, and the pods in the order in which they were ranked."""
     of_bytes = evicted.signal in traces.BYTE_SIGNALS
     lines = threshold_lines(evicted, of_bytes, show) + pause_lines(evicted, show)
     lines += sample_lines(evicted, of_bytes, show)
@@ -131,6 +133,7 @@ def pause_lines(evicted, show):
 
 
 def threshold_words(evicted, of_bytes):
+    """The threshold as the node line sets it, with what that comes to in bytes or numbers."""
     threshold = evicted.threshold
     if threshold is None:
         return f"the trace sets no such threshold for {evicted.signal}"

@@ -1,6 +1,7 @@
-"""The tests of bench/real_node: what its run is compared with, and that it leaves nothing behind."""
+"""The tests of bench/real_node: what its run is compared with, what it keeps, and that it leaves nothing behind."""
 
 import gzip
+import json
 import os
 import re
 import shutil
@@ -10,11 +11,14 @@ import sys
 import tempfile
 import time
 
-from checks import HERE, REPLAY, TOP, expect, expect_kept, read
+from checks import HERE, REPLAY, TOP, expect, expect_kept, read, run
 
-sys.path.insert(0, f"{TOP}/bench/lib/real_node")
+PARTS = f"{TOP}/bench/lib/real_node"
+sys.path.insert(0, PARTS)
+sys.path.append(f"{TOP}/bench/lib")
 import beside  # noqa: E402
 import ending  # noqa: E402
+import trimmed  # noqa: E402
 
 RECORDING = f"{HERE}/recordings/real_node"
 PAGE = f"{TOP}/docs/real.md"
@@ -63,6 +67,63 @@ def test_real_counts():
     for page in ("real", "profile"):
         expect(f"real_node: their delay in docs/{page}.md", f"{least} to {most} s later" in
                " ".join(read(f"{TOP}/docs/{page}.md").split()), True)
+
+
+# --- the answers that a run keeps ---
+
+
+def test_captured_answers():
+    """What the recorder was given is kept, and made into a recording that gives the same trace."""
+    folder = tempfile.mkdtemp()
+    words = "--node worker-3 --standard --every 1 --look 1 --ticks 2".split()
+    settings = {"PATH": f"{HERE}/commands:{os.environ['PATH']}", "RECORDING": f"{HERE}/recordings/crash_loop",
+                "RUN": folder}
+    status, trace, said = run([sys.executable, f"{PARTS}/captured.py", f"{folder}/answers.jsonl", *words], **settings)
+    expect("captured: the trace", (status, trace.count('"kind":"tick"'), said), (0, 2, ""))
+    kept = [json.loads(line) for line in read(f"{folder}/answers.jsonl").splitlines()]
+    expect("captured: each command", [" ".join(entry["words"]) for entry in kept if "now" not in entry],
+           read(f"{folder}/asked").splitlines())
+    made = run([sys.executable, f"{PARTS}/trimmed.py", f"{folder}/answers.jsonl", f"{folder}/answers.jsonl.gz"])
+    expect("trimmed: it is made", made, (0, "", ""))
+    again = run([f"{HERE}/commands/played_record", *words], **{**settings, "RECORDING": folder})
+    expect("trimmed: the trace of the recording", again, (0, trace, ""))
+    shutil.rmtree(folder)
+
+
+def test_trimmed_answers():
+    """A look has the answers that are others than before, without the fields that the recorder does not read."""
+    pod = {"metadata": {"name": "a", "uid": "1", "labels": {}}, "status": {"phase": "Running", "hostIP": "10.0.0.1"},
+           "spec": {"priority": 1, "hostNetwork": True, "containers": [{"name": "c", "command": ["sh"]}]}}
+    listed = {"id": "5", "state": 1, "image": {}, "labels": {"io.kubernetes.pod.uid": "1", "app": "a"}}
+    answers = {
+        "pods": ("curl https://127.0.0.1:10250/pods", json.dumps({"kind": "PodList", "items": [pod]})),
+        "ps": ("crictl ps -a -o json", json.dumps({"containers": [listed]})),
+        "5": ("crictl inspect -o json 5", json.dumps({"status": {}})),
+        "configz": ("curl https://127.0.0.1:10250/configz",
+                    json.dumps({"kubeletconfig": {"clusterDomain": "local", "staticPodPath": "/etc/pods"}})),
+        "summary": ("curl https://127.0.0.1:10250/stats/summary",
+                    json.dumps({"node": {"memory": {"availableBytes": 7, "rssBytes": 3}, "cpu": {"time": "1"}}})),
+        "probes": ("curl https://127.0.0.1:10250/metrics/probes", "# HELP\nprober_probe_total{} 1\nother 2\n"),
+    }
+    asked = [{"at": 1, "words": words.split(), "answer": answer} for words, answer in answers.values()]
+    silent = {"at": 3, "words": "crictl ps -a -o json".split(), "failed": "no answer"}
+    lines = [{"now": 1.0}, *asked, {"now": 2.0}, *asked, {"now": 3.0}, *asked[:1], silent, {"now": 4.0}]
+    folder = tempfile.mkdtemp()
+    with open(f"{folder}/kept", "w", encoding="utf-8") as file:
+        file.writelines(json.dumps(line) + "\n" for line in lines)
+    trimmed.main(f"{folder}/kept", f"{folder}/made.gz")
+    with gzip.open(f"{folder}/made.gz", "rt", encoding="utf-8") as file:
+        made = [json.loads(line) for line in file]
+    shutil.rmtree(folder)
+    expect("trimmed: the first look", made[0], {"at": 1.0, "answers": {
+        "pods": {"kind": "PodList", "items": [
+            {"metadata": {"name": "a", "uid": "1"}, "status": {"phase": "Running"},
+             "spec": {"priority": 1, "containers": [{"name": "c"}]}}]},
+        "ps": {"containers": [{"id": "5", "state": 1, "labels": {"io.kubernetes.pod.uid": "1"}}]},
+        "5": {"status": {}}, "configz": {"kubeletconfig": {"clusterDomain": "local"}},
+        "summary": {"node": {"memory": {"availableBytes": 7}}}, "probes": "prober_probe_total{} 1\n"}})
+    expect("trimmed: the other looks", made[1:],
+           [{"at": 2.0, "answers": {}}, {"at": 3.0, "answers": {"ps": {"failed": "no answer"}}}])
 
 
 # --- what a run leaves behind ---

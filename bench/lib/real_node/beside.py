@@ -167,6 +167,7 @@ def kind_of(fact):
 
 
 def show_pod(key, pairs, left, show):
+    """A pod's facts in the order of their moments, the kubelet's beside the report's."""
     show(f"\n{key}\n  {'':32} kubelet   report   apart")
     lines = [(fact.moment, f"{fact.container} {fact.what}", at(fact.moment),
               at(found.moment) if found else "-", f"{found.moment - fact.moment:+d} s" if found else "missing")

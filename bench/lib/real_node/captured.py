@@ -29,6 +29,7 @@ class KeptClock:
 def main(path, words):
     with open(path, "w", encoding="utf-8") as file:
         def run(command, seconds):
+            """Asks as the recorder does, and keeps the answer or what failed."""
             entry = {"at": round(time.time(), 3), "words": command}
             try:
                 entry["answer"] = sources.run_command(command, seconds)

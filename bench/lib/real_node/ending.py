@@ -8,6 +8,8 @@ import subprocess
 import time
 from collections import Counter
 
+import processes
+
 INTERRUPTS = (signal.SIGINT, signal.SIGTERM, signal.SIGHUP)
 PR_SET_CHILD_SUBREAPER = 36
 MOUNTS = "/proc/self/mountinfo"
@@ -43,26 +45,9 @@ def adopt_orphans():
     ctypes.CDLL(None, use_errno=True).prctl(PR_SET_CHILD_SUBREAPER, 1, 0, 0, 0)
 
 
-def parents():
-    """The parent of each process of the machine, by ids."""
-    found = {}
-    for name in filter(str.isdigit, os.listdir("/proc")):
-        try:
-            with open(f"/proc/{name}/stat", encoding="utf-8", errors="replace") as file:
-                # behind the command's name, which may have any characters: state, parent ..
-                found[int(name)] = int(file.read().rpartition(")")[2].split()[1])
-        except OSError:
-            continue
-    return found
-
-
 def descendants(root):
     """The ids of all that descends from a process."""
-    of, found, wanted = parents(), set(), {root}
-    while wanted:
-        wanted = {child for child, parent in of.items() if parent in wanted} - found
-        found |= wanted
-    return found
+    return processes.with_descendants([root], processes.all_processes()) - {root}
 
 
 def end_descendants(seconds=20):

@@ -24,6 +24,7 @@ def pod(name, containers, inits=(), policy="Always", has_volume=False):
 
 
 def pods():
+    """The manifests. Each pod shows one thing that the rules speak of, within the minutes of a run."""
     few = {"requests": {"cpu": "10m", "memory": "16Mi"}, "limits": {}}
     tight = {"limits": {"cpu": "100m", "memory": "24Mi"}}
     flag = "while :; do touch /tmp/ok; sleep 25; rm /tmp/ok; sleep 25; done"

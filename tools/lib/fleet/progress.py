@@ -18,6 +18,7 @@ class Progress:
         self.is_seen = sys.stderr.isatty()
 
     def step(self, status):
+        """One more trace is done; it is told now and then, and not for each."""
         self.done += 1
         self.refused += status == "refused"
         self.failed += status == "failed"

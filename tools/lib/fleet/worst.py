@@ -46,6 +46,7 @@ def text(path, by, top):
 
 
 def lines_of(connection, by, top):
+    """What a database has: the worst pods by a measure, evictions by signal, and traces without a report."""
     [counts] = connection.execute(COUNTS)
     lines = ["{} traces: {} replayed, {} refused, {} failed; {} pods on {} nodes".format(*counts), ""]
     order = [MEASURES[by], *(measure for name, measure in MEASURES.items() if name != by)]

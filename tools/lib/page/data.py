@@ -42,6 +42,7 @@ def differences(moments):
 
 
 def data_of(report, trace, utc):
+    """All that the page shows; what a trace alone would tell is left out without one."""
     span = Span(report, trace)
     left = [] if trace else list(WITHOUT_TRACE)
     ticks = why.ticks_of(trace, trace.pods) if trace else {}
@@ -129,6 +130,7 @@ def pressure_of(report, span):
 
 
 def evictions_of(report, trace, span, left):
+    """The evictions, with a trace each with the table of its pods, of which a long one is cut."""
     gathered = why.gather_evictions(trace, report, {one.at for one in report.evictions}) if trace else {}
     found, cut = [], 0
     for eviction in report.evictions:
@@ -145,6 +147,7 @@ def evictions_of(report, trace, span, left):
 
 
 def around_of(evicted, span):
+    """What the trace holds around an eviction, in the words of tools/why."""
     of_bytes = evicted.signal in traces.BYTE_SIGNALS
     rows = [why_text.candidate_row(place, candidate, of_bytes)
             for place, candidate in enumerate(evicted.candidates[:MOST_ROWS], 1)]
@@ -159,6 +162,7 @@ def around_of(evicted, span):
 
 
 def pod_of(report, trace, span, pod, ticks, budget):
+    """What the page shows of a pod: that of the report, and with a trace its listings and results."""
     ended, seen = reports.end_of(pod), has_ticks(report, trace, pod)
     found = {
         "key": pod.key, "phase": pod.phase, "reason": records.none_of(pod.reason), "qos": pod.qos,

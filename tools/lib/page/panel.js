@@ -266,6 +266,6 @@ function openKeys() {
     row.append(element('td', what));
   }
   openPanel('Keys', [made, said('Drag over a lane or a chart to zoom. A click on a pod opens its story, one on a mark '
-    + 'or a cross the why of the events there. A mark stands for all events within five pixels. A click on the name of a '
-    + 'signal makes its chart tall or low.')]);
+    + 'or a cross the why of the events there. A mark stands for all events within five pixels. A click on the name of '
+    + 'a signal makes its chart tall or low.')]);
 }

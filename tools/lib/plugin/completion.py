@@ -60,6 +60,7 @@ def pods(found, last):
 
 
 def fleet_words(before, last):
+    """What may follow among the words of tools/fleet."""
     if len(before) == 1:
         return beginning(("run", "worst"), last), NO_FILES
     if before[-1] == "--by":

@@ -22,6 +22,7 @@ def wish(sources, what):
 
 
 def runtime_checks(sources):
+    """What asks the runtime: its list, and then the newest container of it."""
     wanted = "it wants root, on the node, and the runtime's socket (crictl --runtime-endpoint, /etc/crictl.yaml)"
     listed = []
 
@@ -40,6 +41,7 @@ def runtime_checks(sources):
 
 
 def node_checks(sources, node, trace_format):
+    """What asks the kubelet for the node line, which takes the capacities from the summary."""
     summaries = [Summary({}, False, {}, {}, {})]
 
     def summarize():

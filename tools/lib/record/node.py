@@ -76,6 +76,7 @@ class Reader:
         return value
 
     def is_kept(self, field, signal, value):
+        """Whether a threshold stays in the node line; a note says of each other why the formats would refuse it."""
         if signal not in SIGNALS:
             self.notes.append(f"{field} {signal} is left out: the formats have no such signal")
             return False

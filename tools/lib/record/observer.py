@@ -58,6 +58,7 @@ class Observer:
                 self.details[each.id] = each
 
     def look(self, moment):
+        """What the sources show at a moment; a source that is silent shows nothing."""
         seen = Seen(moment)
         # the probes come first: a result that is counted was found on an instance that the list then shows
         seen.counters = self.attempt(PROBES, moment, lambda: counters_of(self.sources.probes()))

@@ -56,6 +56,7 @@ def pods_of(text, what):
 
 
 def pod_of(item):
+    """A pod as its source lists it, with why the formats refuse its manifest, if they do."""
     metadata = item.get("metadata") or {}
     status = item.get("status") or {}
     try:
@@ -118,6 +119,7 @@ def whole_field_fault(fields, name, least, most):
 
 
 def probe_fault(container, probe):
+    """What the formats refuse of a container's probe, if it has one."""
     fields = container.get(PROBES[probe])
     if fields is None:
         return None

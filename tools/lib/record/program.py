@@ -68,6 +68,7 @@ class Output:
             self.is_busy = False
 
     def write(self, lines):
+        """Writes whole lines, all of them or none where they reach the most that a trace takes."""
         data = "".join(f"{line}\n" for line in lines).encode()
         self.bytes_left -= len(data)
         if self.bytes_left < 0:

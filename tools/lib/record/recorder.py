@@ -98,6 +98,7 @@ class Recorder:
         return [recorded for recorded in self.recorded.values() if recorded.is_followed]
 
     def take_pods(self, seen):
+        """Follows the pods that come, and no longer those that their source does not list any more."""
         there = {pod.uid for pod in seen.pods} | {pod.key for pod in seen.pods}
         for recorded in self.followed():
             if recorded.pod.uid not in there and recorded.pod.key not in there:
@@ -110,6 +111,7 @@ class Recorder:
                 self.see_evicted(recorded, seen)
 
     def arrive(self, pod, seen):
+        """A pod comes: it is recorded, or left out, which is said once."""
         reason = self.reason_to_leave_out(pod)
         before = next((each for each in self.followed() if each.pod.key == pod.key), None)
         if reason is None and before is not None:

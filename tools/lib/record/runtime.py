@@ -58,6 +58,7 @@ def moment_of(text):
 
 
 def instance_of(item):
+    """A container of the runtime's list. Raises Failed where the list is none that the runtime gives."""
     labels, metadata = item.get("labels") or {}, item.get("metadata") or {}
     state, identity = item.get("state"), item.get("id")
     if state not in (CREATED, RUNNING, EXITED, UNKNOWN):
@@ -157,14 +158,15 @@ class Container:
             number = self.attempt + 1
         missed = 0 if self.attempt is None else number - self.attempt - 1
         if missed:
-            self.say(f"{self.place}: {missed} {'instance' if missed == 1 else 'instances'} before attempt {number} came "
-                     "and went unseen")
+            instances = "instance" if missed == 1 else "instances"
+            self.say(f"{self.place}: {missed} {instances} before attempt {number} came and went unseen")
         self.shift = number - instance.attempt
         self.attempt = number
         self.newest, self.is_listed = replace(instance, state=CREATED), True
         self.has_started = self.is_unknown = False
 
     def of_instance(self, instance, moment):
+        """The changes that an instance shows, which may be the newest or one more."""
         was_replaced = self.newest is not None
         if not self.is_listed or self.newest.id != instance.id or self.has_come_back(instance):
             self.begin(instance)

@@ -55,6 +55,7 @@ def difference(whole, part):
 
 @reads("/stats/summary")
 def summary_of(text):
+    """The capacities and samples of the summary, by the names that the formats have for signals."""
     answer = read_json(text, "/stats/summary")
     node = answer.get("node") if isinstance(answer, dict) else None
     if not isinstance(node, dict):

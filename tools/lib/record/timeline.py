@@ -128,6 +128,7 @@ class Timeline:
                 self.place_result(pod, container, item, arrived)
 
     def place_change(self, pod, container, change, arrived):
+        """Gives a change its second, in which no other listing of the container is, nor a result from before it."""
         key = pod.uid, container
         self.take_back_exit(key, change)
         self.successes = {place: run for place, run in self.successes.items() if place[:2] != key}
@@ -147,6 +148,7 @@ class Timeline:
             self.last_placed[(*key, "listing")] = second - 1
 
     def place_result(self, pod, container, result, arrived):
+        """Gives a result its second: not before the start of what it was found on, and with no other of its probe."""
         key = pod.uid, container
         listed = self.last_placed.get((*key, "listing"), 0)
         after = [listed, self.last_placed.get((*key, result.probe), -1) + 1]
@@ -181,6 +183,7 @@ class Timeline:
         self.next_second = max(self.next_second, before)
 
     def lines_of(self, second, tick, is_silent):
+        """The lines of a second: the pods that come, the tick if one is wanted, the pods that go."""
         lines = [pod_line(pod) for pod in tick.arrivals]
         self.present += tick.arrivals
         if not self.format.says_gone:

@@ -114,6 +114,7 @@ def number(given, word, default):
 
 
 def trace_format(given):
+    """The format that the words ask for. Raises BadWord where they ask for two."""
     text = given.get("--eviction-pause")
     if "--standard" in given and "--extended" in given:
         raise BadWord("--standard and --extended are two formats: give one")
