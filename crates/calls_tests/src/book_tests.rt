@@ -3,13 +3,11 @@
 ghost use Rattle.std.specs.Prelude.{◌≡◌, ◌<◌};
 ghost use Rattle.event_book.specs.Shares.{most_parts};
 
+use crate::blanks::Blanks;
 use event_book::{Entry, EventBook, Shares, Totals};
 use std::marker::Brand;
 use std::process::Abort;
 use std::sync::ledger::{Blank, Ledger};
-
-/// So many parts has the whole share of a book.
-const PARTS: u64 = 65;
 
 /// Whether the book has room for an update with so many events and orders, which it then has.
 fn is_entered<U: Ledger, E: Ledger, O: Ledger>(
@@ -51,8 +49,6 @@ fn fill<U: Ledger, E: Ledger, O: Ledger>(
 
 #[test]
 fn a_full_book_takes_nothing_more(rt: HostRuntime) {
-    let updates = Blank::new(PARTS);
-    let events = Blank::new(PARTS);
-    let orders = Blank::new(PARTS);
-    fill::<Brand, Brand, Brand>(&rt, updates, events, orders);
+    let blanks = Blanks::new();
+    fill::<Brand, Brand, Brand>(&rt, blanks.updates, blanks.events, blanks.orders);
 }

@@ -34,12 +34,13 @@ pub(crate) struct Meeting<'a, C> {
     workers: u64,
     arrivals: AtomicU64,
     missed: AtomicU64,
-    entered: Vec<AtomicU64>,
-    left: Vec<AtomicU64>,
+    /// The calls of each pod: its updates begin where they are even, and end where they are odd.
+    calls: Vec<AtomicU64>,
+    disordered: AtomicU64,
     ghost some: { 0 < workers },
 }
 
-fn zeros(alloc: Global, count: usize) -> Result<Vec<AtomicU64>, AllocError> {
+pub(crate) fn zeros(alloc: Global, count: usize) -> Result<Vec<AtomicU64>, AllocError> {
     let mut counts = Vec::new(alloc);
     for _ in 0..count {
         counts.push(AtomicU64::new(0))?;
@@ -68,20 +69,17 @@ impl<'a, C: AllocGlobal + Clock> Meeting<'a, C> {
             workers: workers as u64,
             arrivals: AtomicU64::new(0),
             missed: AtomicU64::new(0),
-            entered: zeros(alloc, pods)?,
-            left: zeros(alloc, pods)?,
+            calls: zeros(alloc, pods)?,
+            disordered: AtomicU64::new(0),
         })
     }
 
-    /// Whether each pod has entered and left so many times, and no other has.
+    /// Whether each pod has entered and left so many times in turn, and no other has.
     fn has_counted(&self, times: u64) -> bool {
-        let all = times.saturating_mul(self.entered.len() as u64);
-        are_all(&self.entered, times)
-            && are_all(&self.left, times)
-            && self.arrivals.load(Ordering::SeqCst) == all
+        are_all(&self.calls, times.saturating_mul(2)) && self.disordered.load(Ordering::SeqCst) == 0
     }
 
-    /// No update gave up, and each pod has entered and left so many times.
+    /// No update gave up, and each pod has entered and left so many times in turn.
     pub(crate) fn expect(&self, rt: &impl Abort, times: u64) {
         let workers = self.workers;
         assert!(rt;
@@ -90,16 +88,27 @@ impl<'a, C: AllocGlobal + Clock> Meeting<'a, C> {
         );
         assert!(rt;
             self.has_counted(times),
-            "a pod did not pass the gate {times} times, with {workers} workers"
+            "a pod did not enter and leave {times} times in turn, with {workers} workers"
         );
+    }
+}
+
+impl<C> Meeting<'_, C> {
+    /// Counts a call, and whether it came out of its turn.
+    fn count(&self, pod: usize, turn: u64) {
+        let in_turn = match self.calls.get(pod) {
+            Some(calls) => calls.fetch_add(1, Ordering::SeqCst) % 2 == turn,
+            None => false,
+        };
+        if !in_turn {
+            self.disordered.fetch_add(1, Ordering::SeqCst);
+        }
     }
 }
 
 impl<C: Clock + Sync> Gate for Meeting<'_, C> {
     fn enter(&self, pod: usize) {
-        if let Some(count) = self.entered.get(pod) {
-            count.fetch_add(1, Ordering::SeqCst);
-        }
+        self.count(pod, 0);
         let before = self.arrivals.fetch_add(1, Ordering::SeqCst);
         let wanted = (before / self.workers)
             .saturating_add(1)
@@ -110,9 +119,7 @@ impl<C: Clock + Sync> Gate for Meeting<'_, C> {
     }
 
     fn leave(&self, pod: usize) {
-        if let Some(count) = self.left.get(pod) {
-            count.fetch_add(1, Ordering::SeqCst);
-        }
+        self.count(pod, 1);
     }
 }
 

@@ -1,8 +1,10 @@
 //! Tests of calls that no text of a case reaches: quantities made of numbers, readers and writers over memory, inputs
-//! that are cut, large or stop, writers that stop, a full book, and what the workers of a replay do in threads: how
-//! many updates stand side by side, and that pods are stolen.
+//! that are cut, large or stop, writers that stop, a full book, and what the workers of a replay, of a tick and of a
+//! pool do in threads: how many updates stand side by side, between which calls of the gate, and that pods are stolen.
 #![tactic(auto)]
 
+#[cfg(test)]
+mod blanks;
 #[cfg(test)]
 mod book_tests;
 #[cfg(test)]
@@ -12,7 +14,11 @@ mod gates;
 #[cfg(test)]
 mod halting;
 #[cfg(test)]
+mod nodes;
+#[cfg(test)]
 mod overlap_tests;
+#[cfg(test)]
+mod pods;
 #[cfg(test)]
 mod quantity_tests;
 #[cfg(test)]
@@ -22,8 +28,12 @@ mod replay_tests;
 #[cfg(test)]
 mod replays;
 #[cfg(test)]
+mod rounds;
+#[cfg(test)]
 mod size_tests;
 #[cfg(test)]
 mod steal_tests;
+#[cfg(test)]
+mod stopwatch;
 #[cfg(test)]
 mod traces;

@@ -1,18 +1,25 @@
-//! As many updates stand side by side as there are workers.
+//! As many updates stand side by side as there are workers, each between the two calls of its pod.
 
 use crate::gates::Meeting;
 use crate::replays::replay_text;
-use crate::traces::trace_text;
+use crate::rounds::ROUNDS;
+use crate::stopwatch::Stopwatch;
+use crate::traces::{full_text, trace_text};
+use kubelet_replay::Gate;
+use std::alloc::{AllocError, Global};
 use std::test::Fail;
+use std::time::Clock;
 
 #[test]
 fn workers_overlap(rt: HostRuntime) -> Result<(), Fail> {
     for workers in 2..6usize {
         for pods in [workers, 60] {
-            let gate = Meeting::new(&rt, workers, pods)?;
             let text = trace_text(rt.alloc(), pods, 1)?;
-            replay_text(&rt, text.as_str(), workers, &gate)?;
-            gate.expect(&rt, 1);
+            for round in ROUNDS {
+                let gate = Meeting::new(&rt, workers, pods)?;
+                round.make(&rt, text.as_str(), workers, &gate)?;
+                gate.expect(&rt, 1);
+            }
         }
     }
     Ok(())
@@ -25,5 +32,37 @@ fn each_tick_passes_the_gate_once_for_each_pod(rt: HostRuntime) -> Result<(), Fa
     let text = trace_text(rt.alloc(), 20, 50)?;
     replay_text(&rt, text.as_str(), 3, &gate)?;
     gate.expect(&rt, 50);
+    Ok(())
+}
+
+/// The time between the two calls where nothing lies between: the median of as many as there are pods.
+fn idle_time<C: Clock + Sync>(
+    gate: &Stopwatch<'_, C>,
+    alloc: Global,
+    pods: usize,
+) -> Result<u64, AllocError> {
+    for pod in 0..pods {
+        gate.enter(pod);
+        gate.leave(pod);
+    }
+    let times = gate.sorted(alloc)?;
+    Ok(times.get(pods / 2).copied().unwrap_or(u64::MAX))
+}
+
+#[test]
+fn updates_take_their_time_between_the_calls(rt: HostRuntime) -> Result<(), Fail> {
+    let text = full_text(rt.alloc(), 60)?;
+    for round in ROUNDS {
+        let gate = Stopwatch::new(&rt, 60)?;
+        let idle = idle_time(&gate, rt.alloc(), 60)?;
+        round.make(&rt, text.as_str(), 2, &gate)?;
+        let times = gate.sorted(rt.alloc())?;
+        let shortest = times.first().copied().unwrap_or(0);
+        // an update of sixteen containers takes some seventy times as long as the two calls
+        assert!(rt;
+            shortest > idle.saturating_mul(4),
+            "an update took {shortest} ns between its calls, and the calls alone {idle} ns"
+        );
+    }
     Ok(())
 }

@@ -1,0 +1,70 @@
+//! A gate that takes times.
+
+use crate::gates::zeros;
+use kubelet_replay::Gate;
+use std::alloc::{AllocError, AllocGlobal, Global};
+use std::sync::atomic::{AtomicU64, Ordering};
+use std::time::Clock;
+
+/// Takes the time between the two calls of each pod.
+#[derive(Drop)]
+pub(crate) struct Stopwatch<'a, C> {
+    clock: &'a C,
+    /// When it was entered, in nanoseconds.
+    entered: Vec<AtomicU64>,
+    /// How many nanoseconds later it was left.
+    times: Vec<AtomicU64>,
+}
+
+/// What the clock shows in nanoseconds, and 0 where it cannot be read.
+fn nanos(clock: &impl Clock) -> u64 {
+    match clock.monotonic() {
+        Ok(time) => time
+            .as_secs()
+            .saturating_mul(1_000_000_000)
+            .saturating_add(u64::from(time.subsec_nanos())),
+        Err(_) => 0,
+    }
+}
+
+impl<'a, C: AllocGlobal> Stopwatch<'a, C> {
+    /// A gate for so many pods.
+    pub(crate) fn new(clock: &'a C, pods: usize) -> Result<Stopwatch<'a, C>, AllocError> {
+        let alloc = clock.alloc();
+        Ok(Stopwatch {
+            clock,
+            entered: zeros(alloc, pods)?,
+            times: zeros(alloc, pods)?,
+        })
+    }
+}
+
+impl<C> Stopwatch<'_, C> {
+    /// The times of the pods, from the shortest to the longest.
+    pub(crate) fn sorted(&self, alloc: Global) -> Result<Vec<u64>, AllocError> {
+        let mut times = Vec::new(alloc);
+        for time in self.times.iter() {
+            times.push(time.load(Ordering::SeqCst))?;
+        }
+        times.sort()?;
+        Ok(times)
+    }
+}
+
+impl<C: Clock + Sync> Gate for Stopwatch<'_, C> {
+    fn enter(&self, pod: usize) {
+        if let Some(entered) = self.entered.get(pod) {
+            entered.store(nanos(self.clock), Ordering::SeqCst);
+        }
+    }
+
+    fn leave(&self, pod: usize) {
+        let now = nanos(self.clock);
+        if let Some(entered) = self.entered.get(pod) {
+            let time = now.saturating_sub(entered.load(Ordering::SeqCst));
+            if let Some(kept) = self.times.get(pod) {
+                kept.store(time, Ordering::SeqCst);
+            }
+        }
+    }
+}
