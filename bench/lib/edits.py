@@ -1,4 +1,4 @@
-"""Wrong bodies: where a crate's edits are, what they make of its files, and what refuses them."""
+"""Mutants: where a crate's edits are, what they make of its files, and what refuses them."""
 import os
 import re
 

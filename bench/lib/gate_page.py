@@ -20,7 +20,7 @@ have gone on, which makes processors slower.
 
 The longest chain of parts that wait for one another takes {chain} processor minutes: {steps}.
 
-Lines are those of `src/`, `specs/` and `proofs/`; edits are the wrong bodies in `must-fail/`.
+Lines are those of `src/`, `specs/` and `proofs/`; edits are the mutants in `must-fail/`.
 Seconds are processor seconds, looked at five times a second.
 The proof is that of the crate from nothing, with the two builds of a program.
 The tests are their proof and their run; refused memory stands under the tests of `replay_program`.
@@ -29,7 +29,7 @@ The dearest edit is that of those after the first, which stand on what the first
 The memory is that of the largest process.
 
 """
-OUTSIDE = "## Wrong bodies outside of the gate"
+OUTSIDE = "## Mutants outside of the gate"
 SHELF = OUTSIDE + """
 
 What `bench/wrong_bodies` found in `crates/NAME/wrong-bodies/` when it was last run over a crate:
@@ -114,7 +114,7 @@ def text_of(top, below, found, run, machine, ticks):
 
 
 def costs(top, ticks):
-    """What the page says of wrong bodies outside of the gate, and of a replay's costs."""
+    """What the page says of mutants outside of the gate, and of a replay's costs."""
     return [*shelf(top), *replays(ticks)]
 
 

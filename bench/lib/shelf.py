@@ -1,4 +1,4 @@
-"""What bench/wrong_bodies found of the wrong bodies outside of the gate, as bench/wrong_bodies.tsv keeps it."""
+"""What bench/wrong_bodies found of the mutants outside of the gate, as bench/wrong_bodies.tsv keeps it."""
 import csv
 import os
 

@@ -174,7 +174,7 @@ class Page(Case):
 
     def test_without_a_shelf_nothing_is_said_of_it(self):
         os.remove(f"{self.top}/bench/wrong_bodies.tsv")
-        self.assertNotIn("Wrong bodies outside", self.text())
+        self.assertNotIn("Mutants outside", self.text())
 
 
 class Whole(Case):

@@ -54,7 +54,8 @@ some_run k d x changes start run left died is are runs left_is died_is a e = eli
     there (Some r) ran n = refl
 
 -- the back-off after the tick
-pub counted_more : (greatest : ℕ) (h : List ContainerTick) (x : ContainerTick) (exits : List Exit) (d after : Differ)
+pub counted_more : (max_restart_delay : ℕ) (h : List ContainerTick) (x : ContainerTick) (exits : List Exit)
+    (d after : Differ)
     (changes : Changes) (start run left died delay : Option ℕ) (backoff : Backoff)
     → IsDifferOf (listings h) d → IsDifferOf (listings (h ++ x ∷ [])) after → DifferAccepts d x.entry.seen
     → AreChanges (listings (h ++ x ∷ [])) (length h) changes
@@ -63,11 +64,12 @@ pub counted_more : (greatest : ℕ) (h : List ContainerTick) (x : ContainerTick)
     → IsNewestRun (listings (h ++ x ∷ [])) run
     → left ≡ (if changes.removed_died then Some (x.moment - unwrap_or start x.moment) else None)
     → died ≡ option_and changes.died run
-    → IsBackoffOf greatest ((exits ++ exits_at x.moment left) ++ exits_at x.moment died) backoff
+    → IsBackoffOf max_restart_delay ((exits ++ exits_at x.moment left) ++ exits_at x.moment died) backoff
     → (IsSome left ⊎ IsSome died
-    → IsSomeAnd delay (λ n. IsDelay greatest ((exits ++ exits_at x.moment left) ++ exits_at x.moment died) n))
-    → AreCounted greatest h x backoff delay
-counted_more greatest h x exits d after changes start run left died delay backoff is is_after accepts are_changes are
+    → IsSomeAnd delay (λ n. IsDelay max_restart_delay ((exits ++ exits_at x.moment left) ++ exits_at x.moment died) n))
+    → AreCounted max_restart_delay h x backoff delay
+counted_more max_restart_delay h x exits d after changes start run left died delay backoff is is_after accepts
+    are_changes are
     first runs left_is died_is counted delayed =
     let k = listings h in
     let y = listing x in

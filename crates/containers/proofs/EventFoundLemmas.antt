@@ -29,16 +29,17 @@ use Rattle.probes.proofs.Counted.{passed_lasts}
 use Rattle.probes.proofs.Kills.{kill_lasts}
 use Rattle.probes.proofs.Decided.{has_passed_or_not, kill_or_not}
 use Rattle.restarts.specs.Exits.{Exit}
-use Rattle.restarts.specs.Delays.{IsDelay, IsDue}
+use Rattle.restarts.specs.Delays.{IsDelay, IsRestartDue}
 use Rattle.restarts.proofs.LawLemmas.{one_delay}
-use Rattle.containers.specs.declared.what.What.{What}
-use Rattle.containers.specs.declared.what.What.TheVariants.{Died, Started, StartupPassed, Kill, Ready, Unready}
-use Rattle.containers.specs.declared.what.What.TheVariants.{Backoff, Restart}
+use Rattle.containers.specs.declared.pod_event_kind.PodEventKind.{PodEventKind}
+use Rattle.containers.specs.declared.pod_event_kind.PodEventKind.TheVariants.{Died, Started, StartupPassed, Kill, Ready}
+use Rattle.containers.specs.declared.pod_event_kind.PodEventKind.TheVariants.{Unready}
+use Rattle.containers.specs.declared.pod_event_kind.PodEventKind.TheVariants.{Backoff, Restart}
 use Rattle.containers.specs.Ticks.{ContainerTick, listings, BelongsTo, results_of, AreTicksOf, SaysOf}
 use Rattle.containers.specs.Probed.{HasPassed, IsKillOrdered, IsReady}
 use Rattle.containers.specs.Exits.{AreExits, IsToRestart, IsDelayed, FallsDue}
 use Rattle.containers.specs.Events.{IsGone, HasStarted, HasDied, Passes, IsKilled, WasReady, ChangesReadiness}
-use Rattle.containers.specs.Events.{IsPutOff, IsRestarted, Gives}
+use Rattle.containers.specs.Events.{IsBackedOff, IsRestarted, Gives}
 use Rattle.containers.specs.Laws.{SomeListOfEvents}
 use Rattle.containers.proofs.TickLemmas.{seen_now, start_cases}
 use Rattle.containers.proofs.FollowLemmas.{belongs_listed, none_before_start}
@@ -48,14 +49,15 @@ use Rattle.containers.proofs.LawLemmas.{killed_once}
 use Rattle.containers.proofs.FoundLemmas.{belongs_or_not, says_or_not, ready_or_not, some_list_of_exits, some_delay}
 
 -- where some event or none has it, and no two have, it gives an event or none
-pub given_event : (P : What → Type 0) → OrNot ((what : What) × P what) → ((v w : What) → P v → P w → v ≡ w)
-    → (event : Option What) × Gives P event
+pub given_event : (P : PodEventKind → Type 0) → OrNot ((what : PodEventKind) × P what)
+    → ((v w : PodEventKind) → P v → P w → v ≡ w)
+    → (event : Option PodEventKind) × Gives P event
 given_event P (inl (what, p)) one =
     (Some what, (λ v. ((λ e. subst P (same_Some what v e) p), (λ q. ap (λ k. Some k) (one what v p q)))))
 given_event P (inr none) one = (None, (λ v. ((λ e. absurd (cc)), (λ q. absurd (none (v, q))))))
 
 -- the instance that is gone
-gone_one : (h : List ContainerTick) (t : ℕ) (v w : What) → IsGone h t v → IsGone h t w → v ≡ w
+gone_one : (h : List ContainerTick) (t : ℕ) (v w : PodEventKind) → IsGone h t v → IsGone h t w → v ≡ w
 gone_one h t v w (a, e, exit, gone) (b, f, exit', gone') =
     let k = listings h in
     let same : a ≡ b =
@@ -68,7 +70,7 @@ IsGoneAt k t a = IsExit k a t × (Listed k a t → ⊥)
 gone_or_not : (k : List Tick) (t a : ℕ) → OrNot (IsGoneAt k t a)
 gone_or_not k t a = both (exit_or_not k a t) (negated (listed_or_not k a t))
 
-gone_event : (h : List ContainerTick) (t : ℕ) → (event : Option What) × Gives (IsGone h t) event
+gone_event : (h : List ContainerTick) (t : ℕ) → (event : Option PodEventKind) × Gives (IsGone h t) event
 gone_event h t =
     let k = listings h in
     let some = attempt_or_none k (IsGoneAt k t) (gone_or_not k t) (λ a w. ended_listed k a t w.0.holds) in
@@ -81,13 +83,13 @@ gone_event h t =
 started_listed : (k : List Tick) (a t : ℕ) → IsStart k a t → Listed k a t
 started_listed k a t start = of_weaker a Running (seen_at k t) start.holds
 
-started_one : (h : List ContainerTick) (t : ℕ) (v w : What) → HasStarted h t v → HasStarted h t w → v ≡ w
+started_one : (h : List ContainerTick) (t : ℕ) (v w : PodEventKind) → HasStarted h t v → HasStarted h t w → v ≡ w
 started_one h t v w (a, e, start) (b, f, start') =
     let k = listings h in
     let same : a ≡ b = one_listed (seen_at k t) a b (started_listed k a t start) (started_listed k b t start') in
     e ∙ ap (λ c. Started c) same ∙ sym f
 
-started_event : (h : List ContainerTick) (t : ℕ) → (event : Option What) × Gives (HasStarted h t) event
+started_event : (h : List ContainerTick) (t : ℕ) → (event : Option PodEventKind) × Gives (HasStarted h t) event
 started_event h t =
     let k = listings h in
     let some =
@@ -98,14 +100,14 @@ started_event h t =
     ]) (started_one h t)
 
 -- the listed one that died
-died_one : (h : List ContainerTick) (t : ℕ) (v w : What) → HasDied h t v → HasDied h t w → v ≡ w
+died_one : (h : List ContainerTick) (t : ℕ) (v w : PodEventKind) → HasDied h t v → HasDied h t w → v ≡ w
 died_one h t v w (a, c, e, exit, l, is) (b, d, f, exit', l', is') =
     let k = listings h in
     let same : a ≡ b = one_listed (seen_at k t) a b l l' in
     let code : c ≡ d = IsCodeAt-unique k b c d t (subst (λ (i : ℕ). IsCodeAt k i c t) same is) is' in
     e ∙ ap (λ i. Died i c) same ∙ ap (λ j. Died b j) code ∙ sym f
 
-died_event : (h : List ContainerTick) (t : ℕ) → (event : Option What) × Gives (HasDied h t) event
+died_event : (h : List ContainerTick) (t : ℕ) → (event : Option PodEventKind) × Gives (HasDied h t) event
 died_event h t =
     let k = listings h in
     let died = λ (a : ℕ). both (exit_or_not k a t) (listed_or_not k a t) in
@@ -154,7 +156,7 @@ passes_or_not startup h t a = given_or_not _ (λ probe. comes_or_not (HasPassed 
     passed : (probe : Probe) (k : List ContainerTick) → OrNot (HasPassed probe a k)
     passed probe k = says_or_not (PassesBy probe) (has_passed_or_not probe) k a
 
-passed_one : (spec : ContainerSpec) (h : List ContainerTick) (x : ContainerTick) (v w : What)
+passed_one : (spec : ContainerSpec) (h : List ContainerTick) (x : ContainerTick) (v w : PodEventKind)
     → Passes spec (h ++ x ∷ []) (length h) v
     → Passes spec (h ++ x ∷ []) (length h) w → v ≡ w
 passed_one spec h x v w (a, e, passes) (b, f, passes') =
@@ -162,7 +164,7 @@ passed_one spec h x v w (a, e, passes) (b, f, passes') =
     e ∙ ap (λ c. StartupPassed c) (one_listed x.entry.seen a b (listed a passes) (listed b passes')) ∙ sym f
 
 passed_event : (spec : ContainerSpec) (h : List ContainerTick) (x : ContainerTick)
-    → (event : Option What) × Gives (Passes spec (h ++ x ∷ []) (length h)) event
+    → (event : Option PodEventKind) × Gives (Passes spec (h ++ x ∷ []) (length h)) event
 passed_event spec h x =
     let now = h ++ x ∷ [] in
     let startup = spec.probes.startup in
@@ -204,7 +206,8 @@ kill_listed spec h x a range (cause, comes) =
     let nothing = λ (start : ℕ). (kill_lasts spec.probes start cause range).none in
     comes_listed (λ start. IsOrderedBy spec.probes start cause) h x a nothing comes
 
-killed_one : (spec : ContainerSpec) (h : List ContainerTick) (x : ContainerTick) → AreInRange spec.probes → (v w : What)
+killed_one : (spec : ContainerSpec) (h : List ContainerTick) (x : ContainerTick) → AreInRange spec.probes
+    → (v w : PodEventKind)
     → IsKilled spec (h ++ x ∷ []) (length h) v → IsKilled spec (h ++ x ∷ []) (length h) w → v ≡ w
 killed_one spec h x range v w (a, c, e, comes) (b, d, f, comes') =
     let now = h ++ x ∷ [] in
@@ -216,7 +219,7 @@ killed_one spec h x range v w (a, c, e, comes) (b, d, f, comes') =
     e ∙ ap (λ i. Kill i c) same ∙ ap (λ j. Kill b j) cause ∙ sym f
 
 kill_event : (spec : ContainerSpec) (h : List ContainerTick) (x : ContainerTick) → AreInRange spec.probes
-    → (event : Option What) × Gives (IsKilled spec (h ++ x ∷ []) (length h)) event
+    → (event : Option PodEventKind) × Gives (IsKilled spec (h ++ x ∷ []) (length h)) event
 kill_event spec h x range =
     let now = h ++ x ∷ [] in
     let some = attempt_or_none (listings now) (IsKilledAt spec now (length h)) (killed_or_not spec now (length h))
@@ -234,7 +237,8 @@ was_ready_or_not spec h t =
       | inr none ↦ inr (λ (u, e, s). none (u, omega (arith, e), (e, s)))
     ]
 
-readiness_one : (spec : ContainerSpec) (h : List ContainerTick) (t : ℕ) (v w : What) → ChangesReadiness spec h t v
+readiness_one : (spec : ContainerSpec) (h : List ContainerTick) (t : ℕ) (v w : PodEventKind)
+    → ChangesReadiness spec h t v
     → ChangesReadiness spec h t w → v ≡ w
 readiness_one spec h t v w (inl p) (inl q) = p.0 ∙ sym q.0
 readiness_one spec h t v w (inl p) (inr q) = absurd (q.1 p.1)
@@ -242,12 +246,13 @@ readiness_one spec h t v w (inr p) (inl q) = absurd (p.1 q.1)
 readiness_one spec h t v w (inr p) (inr q) = p.0 ∙ sym q.0
 
 readiness_event : (spec : ContainerSpec) (h : List ContainerTick) (t : ℕ)
-    → (event : Option What) × Gives (ChangesReadiness spec h t) event
+    → (event : Option PodEventKind) × Gives (ChangesReadiness spec h t) event
 readiness_event spec h t =
     let some = by (ready_or_not spec h) (was_ready_or_not spec h t) in
     given_event (ChangesReadiness spec h t) some (readiness_one spec h t)
   where
-    by : OrNot (IsReady spec h) → OrNot (WasReady spec h t) → OrNot ((what : What) × ChangesReadiness spec h t what)
+    by : OrNot (IsReady spec h) → OrNot (WasReady spec h t)
+        → OrNot ((what : PodEventKind) × ChangesReadiness spec h t what)
     by (inl now) (inl was) = inr (λ (what, c). elim c [ inl p ↦ p.2 was | inr p ↦ p.1 now ])
     by (inl now) (inr was_not) = inl (Ready, inl (refl, now, was_not))
     by (inr not_now) (inl was) = inl (Unready, inr (refl, not_now, was))
@@ -282,42 +287,45 @@ to_restart_or_none policy spec h = elim (newest_or_none (listings h)) [
 ]
 
 -- the delay of its restart
-delay_one : (greatest : ℕ) (h : List ContainerTick) (c d : ℕ) → IsDelayed greatest h c → IsDelayed greatest h d → c ≡ d
-delay_one greatest h c d (exits, are, is) (others, are', is') =
+delay_one : (max_restart_delay : ℕ) (h : List ContainerTick) (c d : ℕ) → IsDelayed max_restart_delay h c
+    → IsDelayed max_restart_delay h d → c ≡ d
+delay_one max_restart_delay h c d (exits, are, is) (others, are', is') =
     let same : exits ≡ others = exits_one (listings h) exits others are are' in
-    (one_delay greatest others).1 c d (subst (λ (es : List Exit). IsDelay greatest es c) same is) is'
+    (one_delay max_restart_delay others).1 c d (subst (λ (es : List Exit). IsDelay max_restart_delay es c) same is) is'
 
-backoff_one : (policy : Policy) (greatest : ℕ) (spec : ContainerSpec) (h : List ContainerTick) (t : ℕ) (v w : What)
-    → IsPutOff policy greatest spec h t v → IsPutOff policy greatest spec h t w → v ≡ w
-backoff_one policy greatest spec h t v w (a, c, e, exit, to, is, lt) (b, d, f, exit', to', is', lt') =
-    e ∙ ap (λ n. Backoff n) (delay_one greatest h c d is is') ∙ sym f
+backoff_one : (policy : Policy) (max_restart_delay : ℕ) (spec : ContainerSpec) (h : List ContainerTick) (t : ℕ)
+    (v w : PodEventKind)
+    → IsBackedOff policy max_restart_delay spec h t v → IsBackedOff policy max_restart_delay spec h t w → v ≡ w
+backoff_one policy max_restart_delay spec h t v w (a, c, e, exit, to, is, lt) (b, d, f, exit', to', is', lt') =
+    e ∙ ap (λ n. Backoff n) (delay_one max_restart_delay h c d is is') ∙ sym f
 
-backoff_event : (policy : Policy) (greatest : ℕ) (spec : ContainerSpec) (h : List ContainerTick) (t : ℕ)
-    → (event : Option What) × Gives (IsPutOff policy greatest spec h t) event
-backoff_event policy greatest spec h t =
-    given_event (IsPutOff policy greatest spec h t) some (backoff_one policy greatest spec h t)
+backoff_event : (policy : Policy) (max_restart_delay : ℕ) (spec : ContainerSpec) (h : List ContainerTick) (t : ℕ)
+    → (event : Option PodEventKind) × Gives (IsBackedOff policy max_restart_delay spec h t) event
+backoff_event policy max_restart_delay spec h t =
+    given_event (IsBackedOff policy max_restart_delay spec h t) some (backoff_one policy max_restart_delay spec h t)
   where
-    some : OrNot ((what : What) × IsPutOff policy greatest spec h t what)
+    some : OrNot ((what : PodEventKind) × IsBackedOff policy max_restart_delay spec h t what)
     some =
         let k = listings h in
-        let delay = some_delay greatest h in
+        let delay = some_delay max_restart_delay h in
         elim (to_restart_or_none policy spec h) [
           | inr none ↦ inr (λ (what, (a, d, e, exit, to, is, lt)). none (a, to))
           | inl (a, to) ↦ elim (both (exit_or_not k a t) (less_or_not 0 delay.0)) [
             | inl w ↦ inl (Backoff delay.0, (a, delay.0, refl, w.0, to, delay.1, w.1))
             | inr not ↦ inr (λ (what, (b, d, e, exit, to', is, lt)). not (
               subst (λ (c : ℕ). IsExit k c t) (IsNewest-unique k b a to'.newest to.newest) exit,
-              subst (λ (n : ℕ). 0 < n) (delay_one greatest h d delay.0 is delay.1) lt,
+              subst (λ (n : ℕ). 0 < n) (delay_one max_restart_delay h d delay.0 is delay.1) lt,
             ))
           ]
         ]
 
 -- the tick at which it falls due
-due_of : (greatest : ℕ) (exits : List Exit) (o : Option ℕ) → last_moment exits ≡ o
-    → OrNot ((due : ℕ) × IsDue greatest exits (Some due))
-due_of greatest exits None e = inr (λ (due, (last, delay, at, is, s)). let x : None ≡ Some last = sym e ∙ at in cc)
-due_of greatest exits (Some last) e =
-    let delay = (one_delay greatest exits).0 in
+due_of : (max_restart_delay : ℕ) (exits : List Exit) (o : Option ℕ) → last_moment exits ≡ o
+    → OrNot ((due : ℕ) × IsRestartDue max_restart_delay exits (Some due))
+due_of max_restart_delay exits None e =
+    inr (λ (due, (last, delay, at, is, s)). let x : None ≡ Some last = sym e ∙ at in cc)
+due_of max_restart_delay exits (Some last) e =
+    let delay = (one_delay max_restart_delay exits).0 in
     inl (last + delay.0, (last, delay.0, e, delay.1, refl))
 
 first_due_or_not : (h : List ContainerTick) (due t : ℕ)
@@ -326,13 +334,13 @@ first_due_or_not h due t =
     let reached = λ (u : ℕ). given_or_not (λ (moment : ℕ). due ≤ moment) (at_most_or_not due) (moment_at h u) in
     first_or_not _ (first_place _ reached (length h) (moment_given-below _ h)) t
 
-falls_due_or_not : (greatest : ℕ) (h : List ContainerTick) (t : ℕ) → OrNot (FallsDue greatest h t)
-falls_due_or_not greatest h t = elim (due_of greatest exits.0 (last_moment exits.0) refl) [
+falls_due_or_not : (max_restart_delay : ℕ) (h : List ContainerTick) (t : ℕ) → OrNot (FallsDue max_restart_delay h t)
+falls_due_or_not max_restart_delay h t = elim (due_of max_restart_delay exits.0 (last_moment exits.0) refl) [
   | inr none ↦ inr (λ (es, d, are, is, first). none (d, mine es d are is))
   | inl (due, is) ↦ elim (first_due_or_not h due t) [
     | inl first ↦ inl (exits.0, due, exits.1, is, first)
     | inr not ↦ inr (λ (es, d, are, is', first).
-        let same : d ≡ due = due_one greatest exits.0 d due (mine es d are is') is in
+        let same : d ≡ due = due_one max_restart_delay exits.0 d due (mine es d are is') is in
         not (subst (λ (c : ℕ). IsFirst (λ u. IsSomeAnd (moment_at h u) (λ moment. c ≤ moment)) t) same first))
   ]
 ]
@@ -340,30 +348,32 @@ falls_due_or_not greatest h t = elim (due_of greatest exits.0 (last_moment exits
     exits : (exits : List Exit) × AreExits (listings h) exits
     exits = some_list_of_exits (listings h)
 
-    mine : (es : List Exit) (d : ℕ) → AreExits (listings h) es → IsDue greatest es (Some d)
-        → IsDue greatest exits.0 (Some d)
+    mine : (es : List Exit) (d : ℕ) → AreExits (listings h) es → IsRestartDue max_restart_delay es (Some d)
+        → IsRestartDue max_restart_delay exits.0 (Some d)
     mine es d are is =
-        subst (λ (xs : List Exit). IsDue greatest xs (Some d)) (exits_one (listings h) es exits.0 are exits.1) is
+        subst (λ (xs : List Exit). IsRestartDue max_restart_delay xs (Some d))
+        (exits_one (listings h) es exits.0 are exits.1) is
 
-restart_one : (policy : Policy) (greatest : ℕ) (spec : ContainerSpec) (h : List ContainerTick) (t : ℕ) (v w : What)
-    → IsRestarted policy greatest spec h t v → IsRestarted policy greatest spec h t w → v ≡ w
-restart_one policy greatest spec h t v w (a, e, to, falls) (b, f, to', falls') =
+restart_one : (policy : Policy) (max_restart_delay : ℕ) (spec : ContainerSpec) (h : List ContainerTick) (t : ℕ)
+    (v w : PodEventKind)
+    → IsRestarted policy max_restart_delay spec h t v → IsRestarted policy max_restart_delay spec h t w → v ≡ w
+restart_one policy max_restart_delay spec h t v w (a, e, to, falls) (b, f, to', falls') =
     e ∙ ap (λ c. Restart c) (IsNewest-unique (listings h) a b to.newest to'.newest) ∙ sym f
 
-restart_event : (policy : Policy) (greatest : ℕ) (spec : ContainerSpec) (h : List ContainerTick) (t : ℕ)
-    → (event : Option What) × Gives (IsRestarted policy greatest spec h t) event
-restart_event policy greatest spec h t =
-    given_event (IsRestarted policy greatest spec h t) some (restart_one policy greatest spec h t)
+restart_event : (policy : Policy) (max_restart_delay : ℕ) (spec : ContainerSpec) (h : List ContainerTick) (t : ℕ)
+    → (event : Option PodEventKind) × Gives (IsRestarted policy max_restart_delay spec h t) event
+restart_event policy max_restart_delay spec h t =
+    given_event (IsRestarted policy max_restart_delay spec h t) some (restart_one policy max_restart_delay spec h t)
   where
-    some : OrNot ((what : What) × IsRestarted policy greatest spec h t what)
-    some = elim (both (to_restart_or_none policy spec h) (falls_due_or_not greatest h t)) [
+    some : OrNot ((what : PodEventKind) × IsRestarted policy max_restart_delay spec h t what)
+    some = elim (both (to_restart_or_none policy spec h) (falls_due_or_not max_restart_delay h t)) [
       | inl w ↦ inl (Restart w.0.0, (w.0.0, refl, w.0.1, w.1))
       | inr not ↦ inr (λ (what, (a, e, to, falls)). not ((a, to), falls))
     ]
 
 -- the events of a tick
 pub some_list_of_events : SomeListOfEvents
-some_list_of_events policy greatest spec h x range =
+some_list_of_events policy max_restart_delay spec h x range =
     let now = h ++ x ∷ [] in
     let t = length h in
     let gone = gone_event now t in
@@ -372,8 +382,8 @@ some_list_of_events policy greatest spec h x range =
     let passed = passed_event spec h x in
     let kill = kill_event spec h x range in
     let readiness = readiness_event spec now t in
-    let backoff = backoff_event policy greatest spec now t in
-    let restart = restart_event policy greatest spec now t in (
+    let backoff = backoff_event policy max_restart_delay spec now t in
+    let restart = restart_event policy max_restart_delay spec now t in (
       record {
         gone = gone.0;
         started = started.0;

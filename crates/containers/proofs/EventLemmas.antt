@@ -19,14 +19,14 @@ use Rattle.state_diff.proofs.Places.{kept}
 use Rattle.state_diff.proofs.Unique.{of_coded}
 use Rattle.restarts.specs.declared.backoff.Backoff.{Backoff as RestartBackoff}
 use Rattle.restarts.specs.Exits.{Exit}
-use Rattle.restarts.specs.Delays.{IsDelay, IsDue}
+use Rattle.restarts.specs.Delays.{IsDelay, IsRestartDue}
 use Rattle.restarts.proofs.LawLemmas.{one_delay}
-use Rattle.containers.specs.declared.what.What.{What}
-use Rattle.containers.specs.declared.what.What.TheVariants.{Died, Ready, Unready, Backoff, Restart}
+use Rattle.containers.specs.declared.pod_event_kind.PodEventKind.{PodEventKind}
+use Rattle.containers.specs.declared.pod_event_kind.PodEventKind.TheVariants.{Died, Ready, Unready, Backoff, Restart}
 use Rattle.containers.specs.Ticks.{ContainerTick, listings}
 use Rattle.containers.specs.Probed.{IsReady}
 use Rattle.containers.specs.Exits.{IsToRestart}
-use Rattle.containers.specs.Events.{IsGone, HasDied, WasReady, ChangesReadiness, IsPutOff, IsRestarted, Gives}
+use Rattle.containers.specs.Events.{IsGone, HasDied, WasReady, ChangesReadiness, IsBackedOff, IsRestarted, Gives}
 use Rattle.containers.specs.Step.{AreCounted}
 use Rattle.containers.proofs.TickLemmas.{listing, onto_at, from_at}
 use Rattle.containers.proofs.ExitLemmas.{IsGoneNow, leaving}
@@ -48,10 +48,11 @@ gone_is k d x changes is are a = (
     removed : (b : ℕ) → IsGoneNow k x b → changes.removed ≡ Some b
     removed b g = (are.removed b).1 (kept (IsOf b) k x (length k - 1) (leaving k d x b is g).listed, g.1)
 
-pub gone_gives : (h : List ContainerTick) (x : ContainerTick) (d : Differ) (changes : Changes) (event : Option What)
+pub gone_gives : (h : List ContainerTick) (x : ContainerTick) (d : Differ) (changes : Changes)
+    (event : Option PodEventKind)
     → IsDifferOf (listings h) d
     → AreChanges (listings (h ++ x ∷ [])) (length h) changes
-    → ((what : What) → ((event ≡ Some what) ↔ ((a : ℕ) × (what ≡ Died a (pos 137)) × (changes.removed ≡ Some a)
+    → ((what : PodEventKind) → ((event ≡ Some what) ↔ ((a : ℕ) × (what ≡ Died a (pos 137)) × (changes.removed ≡ Some a)
     × IsTrue changes.removed_died)))
     → Gives (IsGone (h ++ x ∷ []) (length h)) event
 gone_gives h x d changes event is are gives what =
@@ -68,9 +69,9 @@ gone_gives h x d changes event is are gives what =
     )
 
 -- the listed one that died
-pub died_gives : (h : List ContainerTick) (x : ContainerTick) (changes : Changes) (event : Option What)
+pub died_gives : (h : List ContainerTick) (x : ContainerTick) (changes : Changes) (event : Option PodEventKind)
     → AreChanges (listings (h ++ x ∷ [])) (length h) changes
-    → ((what : What) → ((event ≡ Some what)
+    → ((what : PodEventKind) → ((event ≡ Some what)
     ↔ ((a : ℕ) × (code : ℤ) × (what ≡ Died a code) × (changes.died ≡ Some (a, code)))))
     → Gives (HasDied (h ++ x ∷ []) (length h)) event
 died_gives h x changes event are gives what = (
@@ -108,9 +109,9 @@ was_ready spec h x = (forth, back h)
     )
 
 pub readiness_gives : (spec : ContainerSpec) (h : List ContainerTick) (x : ContainerTick) (before now : Bool)
-    (event : Option What) → (IsTrue before ↔ IsReady spec h)
+    (event : Option PodEventKind) → (IsTrue before ↔ IsReady spec h)
     → (IsTrue now ↔ IsReady spec (h ++ x ∷ []))
-    → ((what : What) → ((event ≡ Some what)
+    → ((what : PodEventKind) → ((event ≡ Some what)
     ↔ (((what ≡ Ready) × IsTrue now × (IsTrue before → ⊥)) ⊎ ((what ≡ Unready) × (IsTrue now → ⊥)
     × IsTrue before))))
     → Gives (ChangesReadiness spec (h ++ x ∷ []) (length h)) event
@@ -159,26 +160,27 @@ delay_there : (P : ℕ → Type 0) (o : Option ℕ) → IsSomeAnd o P → (d : �
 delay_there P None q = absurd q
 delay_there P (Some d) q = (d, refl, q)
 
-pub backoff_gives : (policy : Policy) (greatest : ℕ) (spec : ContainerSpec) (h : List ContainerTick)
-    (x : ContainerTick) (backoff : RestartBackoff) (delay : Option ℕ) (puts_off : Bool) (event : Option What)
-    → IsRising (h ++ x ∷ []) → AreCounted greatest h x backoff delay
-    → (IsTrue puts_off ↔ ((a : ℕ) × IsToRestart policy spec (h ++ x ∷ []) a × IsFirstMoment (listings (h ++ x ∷ []))
+pub backoff_gives : (policy : Policy) (max_restart_delay : ℕ) (spec : ContainerSpec) (h : List ContainerTick)
+    (x : ContainerTick) (backoff : RestartBackoff) (delay : Option ℕ) (backs_off : Bool) (event : Option PodEventKind)
+    → IsRising (h ++ x ∷ []) → AreCounted max_restart_delay h x backoff delay
+    → (IsTrue backs_off ↔ ((a : ℕ) × IsToRestart policy spec (h ++ x ∷ []) a × IsFirstMoment (listings (h ++ x ∷ []))
     (Ends (listings (h ++ x ∷ [])) a) (Some x.moment)))
-    → ((what : What) → ((event ≡ Some what)
-    ↔ ((d : ℕ) × (what ≡ Backoff d) × (delay ≡ Some d) × (0 < d) × IsTrue puts_off)))
-    → Gives (IsPutOff policy greatest spec (h ++ x ∷ []) (length h)) event
-backoff_gives policy greatest spec h x backoff delay puts_off event rising counted off gives what = (
+    → ((what : PodEventKind) → ((event ≡ Some what)
+    ↔ ((d : ℕ) × (what ≡ Backoff d) × (delay ≡ Some d) × (0 < d) × IsTrue backs_off)))
+    → Gives (IsBackedOff policy max_restart_delay spec (h ++ x ∷ []) (length h)) event
+backoff_gives policy max_restart_delay spec h x backoff delay backs_off event rising counted off gives what = (
   (λ e.
       let w = (gives what).0 e in
       let p = off.0 w.4 in
       let exit = (exit_now h x p.0 rising).0 p.2 in
-      let d = delay_at (λ n. IsDelay greatest counted.exits n) delay w.0 w.2 (counted.delayed p.0 exit) in
+      let d = delay_at (λ n. IsDelay max_restart_delay counted.exits n) delay w.0 w.2 (counted.delayed p.0 exit) in
       (p.0, w.0, w.1, exit, p.1, (counted.exits, counted.are_exits, d), w.3)),
   (λ (a, d, e, exit, to, (exits, are, is), lt).
-      let w = delay_there (λ n. IsDelay greatest counted.exits n) delay (counted.delayed a exit) in
+      let w = delay_there (λ n. IsDelay max_restart_delay counted.exits n) delay (counted.delayed a exit) in
       let same : exits ≡ counted.exits = exits_one (listings (h ++ x ∷ [])) exits counted.exits are counted.are_exits in
-      let mine : IsDelay greatest counted.exits d = subst (λ (es : List Exit). IsDelay greatest es d) same is in
-      let one : w.0 ≡ d = (one_delay greatest counted.exits).1 w.0 d w.2 mine in
+      let mine : IsDelay max_restart_delay counted.exits d =
+      subst (λ (es : List Exit). IsDelay max_restart_delay es d) same is in
+      let one : w.0 ≡ d = (one_delay max_restart_delay counted.exits).1 w.0 d w.2 mine in
       (gives what).1 (
         d,
         e,
@@ -223,16 +225,18 @@ first_due h x due rising = (
               (sym (moment_at-old h x (length h - 1) m at)) (let le : due ≤ m = omega arith in le)))
         ]
 
-pub restart_gives : (policy : Policy) (greatest : ℕ) (spec : ContainerSpec) (h : List ContainerTick)
+pub restart_gives : (policy : Policy) (max_restart_delay : ℕ) (spec : ContainerSpec) (h : List ContainerTick)
     (x : ContainerTick) (backoff : RestartBackoff) (delay attempt last_at : Option ℕ) (is_due : Bool)
-    (event : Option What)
-    → IsRising h → (counted : AreCounted greatest h x backoff delay) → last_at ≡ last_moment h
+    (event : Option PodEventKind)
+    → IsRising h → (counted : AreCounted max_restart_delay h x backoff delay) → last_at ≡ last_moment h
     → ((a : ℕ) → ((attempt ≡ Some a) ↔ IsToRestart policy spec (h ++ x ∷ []) a))
-    → (IsTrue is_due ↔ ((due : ℕ) × IsDue greatest counted.exits (Some due) × (due ≤ x.moment)
+    → (IsTrue is_due ↔ ((due : ℕ) × IsRestartDue max_restart_delay counted.exits (Some due) × (due ≤ x.moment)
     × IfSome last_at (λ last. last < due)))
-    → ((what : What) → ((event ≡ Some what) ↔ ((a : ℕ) × (what ≡ Restart a) × (attempt ≡ Some a) × IsTrue is_due)))
-    → Gives (IsRestarted policy greatest spec (h ++ x ∷ []) (length h)) event
-restart_gives policy greatest spec h x backoff delay attempt last_at is_due event rising counted last to due gives
+    → ((what : PodEventKind)
+    → ((event ≡ Some what) ↔ ((a : ℕ) × (what ≡ Restart a) × (attempt ≡ Some a) × IsTrue is_due)))
+    → Gives (IsRestarted policy max_restart_delay spec (h ++ x ∷ []) (length h)) event
+restart_gives policy max_restart_delay spec h x backoff delay attempt last_at is_due event rising counted last to due
+    gives
     what = (
       (λ e.
           let w = (gives what).0 e in
@@ -255,7 +259,7 @@ restart_gives policy greatest spec h x backoff delay attempt last_at is_due even
           let before = subst (λ (o : Option ℕ). IfSome o (λ last. last < at)) (sym last) w.1 in
           let same : exits ≡ counted.exits =
           exits_one (listings (h ++ x ∷ [])) exits counted.exits are counted.are_exits in
-          let mine : IsDue greatest counted.exits (Some at) =
-          subst (λ (es : List Exit). IsDue greatest es (Some at)) same is in
+          let mine : IsRestartDue max_restart_delay counted.exits (Some at) =
+          subst (λ (es : List Exit). IsRestartDue max_restart_delay es (Some at)) same is in
           (gives what).1 (a, e, (to a).1 t, due.1 (at, mine, w.0, before))),
     )

@@ -299,9 +299,9 @@ died_more k d x exits (Some (a, code)) run is iff runs are = there run runs
             died.0.none_before p.0 lt ((grows_ends k a x).old p.0 p.1.holds)
         other (inr g) = g.1 (added (IsOf a) k x listed)
 
-pub none_more_exits : (greatest at : ℕ) (exits : List Exit) (died : Option ℕ) → died ≡ None → (d : ℕ)
-    → IsDelay greatest exits d → IsDelay greatest (exits ++ exits_at at died) d
-none_more_exits greatest at exits died none d is =
-    let P : List Exit → Type 0 = λ es. IsDelay greatest es d in
-    let Q : Option ℕ → Type 0 = λ o. IsDelay greatest (exits ++ exits_at at o) d in
+pub none_more_exits : (max_restart_delay at : ℕ) (exits : List Exit) (died : Option ℕ) → died ≡ None → (d : ℕ)
+    → IsDelay max_restart_delay exits d → IsDelay max_restart_delay (exits ++ exits_at at died) d
+none_more_exits max_restart_delay at exits died none d is =
+    let P : List Exit → Type 0 = λ es. IsDelay max_restart_delay es d in
+    let Q : Option ℕ → Type 0 = λ o. IsDelay max_restart_delay (exits ++ exits_at at o) d in
     subst Q (sym none) (subst P (sym (append-nil exits)) is)

@@ -27,12 +27,12 @@ no_exits = record {
   each = tt;
 }
 
-pub first_is : (spec : ContainerSpec) (greatest : ℕ) (role : Role) (differ : Differ) (probes : ProbeSet)
+pub first_is : (spec : ContainerSpec) (max_restart_delay : ℕ) (role : Role) (differ : Differ) (probes : ProbeSet)
     (backoff : Backoff)
-    → role ≡ spec.role → IsDifferOf [] differ → Follows probes spec.probes → IsBackoffOf greatest [] backoff
-    → IsStateOf spec greatest []
+    → role ≡ spec.role → IsDifferOf [] differ → Follows probes spec.probes → IsBackoffOf max_restart_delay [] backoff
+    → IsStateOf spec max_restart_delay []
     (record { role = role; differ = differ; probes = probes; backoff = backoff; was_started = false })
-first_is spec greatest role differ probes backoff same is follows backs = record {
+first_is spec max_restart_delay role differ probes backoff same is follows backs = record {
   role = same;
   rising = λ t u m n lt e f. cc;
   differ = is;

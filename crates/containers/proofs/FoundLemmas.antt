@@ -114,9 +114,9 @@ some_list_of_exits k =
     )
 
 pub some_delay : SomeDelay
-some_delay greatest h =
+some_delay max_restart_delay h =
     let exits = some_list_of_exits (listings h) in
-    let delay = (one_delay greatest exits.0).0 in
+    let delay = (one_delay max_restart_delay exits.0).0 in
     (delay.0, (exits.0, exits.1, delay.1))
 
 -- the results that are an instance's

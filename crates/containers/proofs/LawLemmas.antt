@@ -12,8 +12,8 @@ use Rattle.probes.specs.declared.probe_set.Cause.TheVariants.{Startup, Liveness}
 use Rattle.probes.specs.Ticks.{Tick as ProbeTick}
 use Rattle.probes.specs.Container.{AreInRange, IsKillOrdered as IsOrderedBy}
 use Rattle.probes.proofs.Kills.{kill_lasts, one_cause}
-use Rattle.containers.specs.declared.what.What.{What}
-use Rattle.containers.specs.declared.what.What.TheVariants.{Kill}
+use Rattle.containers.specs.declared.pod_event_kind.PodEventKind.{PodEventKind}
+use Rattle.containers.specs.declared.pod_event_kind.PodEventKind.TheVariants.{Kill}
 use Rattle.containers.specs.declared.events.ContainerEvents.{ContainerEvents}
 use Rattle.containers.specs.Ticks.{ContainerTick, BelongsTo, results_of}
 use Rattle.containers.specs.Probed.{IsKillOrdered}
@@ -31,7 +31,7 @@ one_list_of_results h a ticks others are are' = picked_one (IsSo (BelongsTo a) h
     are'
 
 pub restarts_the_newest : RestartsTheNewest
-restarts_the_newest policy greatest spec h t a (b, e, to, due) =
+restarts_the_newest policy max_restart_delay spec h t a (b, e, to, due) =
     let same : b ≡ a = cc in
     let newest : IsToRestart policy spec h a = subst (λ (c : ℕ). IsToRestart policy spec h c) same to in
     (newest.newest, (newest.exited.0, newest.exited.1))
@@ -98,7 +98,7 @@ killed_once spec h t u a cause other range killed killed' =
     (IsFirst-unique (IsSo (IsKillOrdered spec other a) h) t u k' l, same)
 
 -- there is one event of a place
-pub event_one : (P : What → Type 0) (o p : Option What) → Gives P o → Gives P p → o ≡ p
+pub event_one : (P : PodEventKind → Type 0) (o p : Option PodEventKind) → Gives P o → Gives P p → o ≡ p
 event_one P None None is is' = refl
 event_one P None (Some w) is is' = (is w).1 ((is' w).0 refl)
 event_one P (Some w) p is is' = sym ((is' w).1 ((is w).0 refl))
@@ -107,21 +107,29 @@ events_same : (e f : ContainerEvents) → e.gone ≡ f.gone → e.started ≡ f.
     → e.passed ≡ f.passed → e.kill ≡ f.kill
     → e.readiness ≡ f.readiness → e.backoff ≡ f.backoff → e.restart ≡ f.restart → e ≡ f
 events_same e f gone started died passed kill readiness backoff restart =
-    let made : (a b c d i j k l : Option What) → ContainerEvents = λ a b c d i j k l.
+    let made : (a b c d i j k l : Option PodEventKind) → ContainerEvents = λ a b c d i j k l.
     record { gone = a; started = b; died = c; passed = d; kill = i; readiness = j; backoff = k; restart = l } in
-    let A : Option What → Type 0 = λ o. e ≡ made o e.started e.died e.passed e.kill e.readiness e.backoff e.restart in
-    let B : Option What → Type 0 = λ o. e ≡ made f.gone o e.died e.passed e.kill e.readiness e.backoff e.restart in
-    let C : Option What → Type 0 = λ o. e ≡ made f.gone f.started o e.passed e.kill e.readiness e.backoff e.restart in
-    let D : Option What → Type 0 = λ o. e ≡ made f.gone f.started f.died o e.kill e.readiness e.backoff e.restart in
-    let I : Option What → Type 0 = λ o. e ≡ made f.gone f.started f.died f.passed o e.readiness e.backoff e.restart in
-    let J : Option What → Type 0 = λ o. e ≡ made f.gone f.started f.died f.passed f.kill o e.backoff e.restart in
-    let K : Option What → Type 0 = λ o. e ≡ made f.gone f.started f.died f.passed f.kill f.readiness o e.restart in
-    let L : Option What → Type 0 = λ o. e ≡ made f.gone f.started f.died f.passed f.kill f.readiness f.backoff o in
+    let A : Option PodEventKind → Type 0 =
+    λ o. e ≡ made o e.started e.died e.passed e.kill e.readiness e.backoff e.restart in
+    let B : Option PodEventKind → Type 0 =
+    λ o. e ≡ made f.gone o e.died e.passed e.kill e.readiness e.backoff e.restart in
+    let C : Option PodEventKind → Type 0 =
+    λ o. e ≡ made f.gone f.started o e.passed e.kill e.readiness e.backoff e.restart in
+    let D : Option PodEventKind → Type 0 =
+    λ o. e ≡ made f.gone f.started f.died o e.kill e.readiness e.backoff e.restart in
+    let I : Option PodEventKind → Type 0 =
+    λ o. e ≡ made f.gone f.started f.died f.passed o e.readiness e.backoff e.restart in
+    let J : Option PodEventKind → Type 0 =
+    λ o. e ≡ made f.gone f.started f.died f.passed f.kill o e.backoff e.restart in
+    let K : Option PodEventKind → Type 0 =
+    λ o. e ≡ made f.gone f.started f.died f.passed f.kill f.readiness o e.restart in
+    let L : Option PodEventKind → Type 0 =
+    λ o. e ≡ made f.gone f.started f.died f.passed f.kill f.readiness f.backoff o in
     subst L restart (subst K backoff
     (subst J readiness (subst I kill (subst D passed (subst C died (subst B started (subst A gone refl)))))))
 
 pub one_list_of_events : OneListOfEvents
-one_list_of_events policy greatest spec h t e f are are' =
+one_list_of_events policy max_restart_delay spec h t e f are are' =
     events_same e f (event_one _ _ _ are.gone are'.gone) (event_one _ _ _ are.started are'.started)
     (event_one _ _ _ are.died are'.died)
     (event_one _ _ _ are.passed are'.passed) (event_one _ _ _ are.kill are'.kill)

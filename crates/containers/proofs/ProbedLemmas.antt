@@ -90,6 +90,7 @@ pub says_none : (Q : ℕ → List ProbeTick → Type 0) (spec : ContainerSpec) (
 says_none Q spec h b iff none = ((λ e. absurd (none (iff.0 e))), (λ w. absurd (none (w.0, w.1))))
 
 -- the value of a container follows its instances and its probes
-pub following : (spec : ContainerSpec) (greatest : ℕ) (h : List ContainerTick) (c : Container)
-    → IsStateOf spec greatest h c → IsFollowing spec h c
-following spec greatest h c is = record { role = is.role; differ = is.differ; follows = is.follows; probed = is.probed }
+pub following : (spec : ContainerSpec) (max_restart_delay : ℕ) (h : List ContainerTick) (c : Container)
+    → IsStateOf spec max_restart_delay h c → IsFollowing spec h c
+following spec max_restart_delay h c is =
+    record { role = is.role; differ = is.differ; follows = is.follows; probed = is.probed }

@@ -15,7 +15,7 @@ use Rattle.state_diff.specs.Instances.{Tick, Ends, ListedAs, IsNewest, IsExitCod
 use Rattle.state_diff.specs.Differ.{IsNewestSeen, IsOfNewest}
 use Rattle.state_diff.proofs.Unique.{IsNewest-unique}
 use Rattle.restarts.specs.Exits.{Exit}
-use Rattle.restarts.specs.Delays.{IsDue}
+use Rattle.restarts.specs.Delays.{IsRestartDue}
 use Rattle.restarts.proofs.LawLemmas.{one_delay}
 use Rattle.containers.specs.Ticks.{ContainerTick, listings}
 use Rattle.containers.specs.Exits.{IsExitOf, AreExitsOf, AreExits, IsToRestart}
@@ -89,41 +89,43 @@ exits_one k exits others are are' =
     exits_same k are'.attempts exits others (subst P same are.each) are'.each
 
 -- and so is the moment from which on the restart is due
-pub due_one : (greatest : ℕ) (exits : List Exit) (d e : ℕ) → IsDue greatest exits (Some d)
-    → IsDue greatest exits (Some e) → d ≡ e
-due_one greatest exits d e (last, delay, l, is, s) (last', delay', l', is', s') =
+pub due_one : (max_restart_delay : ℕ) (exits : List Exit) (d e : ℕ) → IsRestartDue max_restart_delay exits (Some d)
+    → IsRestartDue max_restart_delay exits (Some e) → d ≡ e
+due_one max_restart_delay exits d e (last, delay, l, is, s) (last', delay', l', is', s') =
     let both : Some last ≡ Some last' = sym l ∙ l' in
     let one : last ≡ last' = cc in
-    let two : delay ≡ delay' = (one_delay greatest exits).1 delay delay' is is' in
+    let two : delay ≡ delay' = (one_delay max_restart_delay exits).1 delay delay' is is' in
     omega (arith, one, two, s, s')
 
-pub due_by : (greatest : ℕ) (exits : List Exit) (o last_at : Option ℕ) (at : ℕ) (b : Bool) → IsDue greatest exits o
+pub due_by : (max_restart_delay : ℕ) (exits : List Exit) (o last_at : Option ℕ) (at : ℕ) (b : Bool)
+    → IsRestartDue max_restart_delay exits o
     → (IsTrue b ↔ IsSomeAnd o (λ d. (d ≤ at) × IfSome last_at (λ last. last < d)))
-    → (IsTrue b ↔ ((due : ℕ) × IsDue greatest exits (Some due) × (due ≤ at) × IfSome last_at (λ last. last < due)))
-due_by greatest exits None last_at at b none iff = (
+    → (IsTrue b
+    ↔ ((due : ℕ) × IsRestartDue max_restart_delay exits (Some due) × (due ≤ at) × IfSome last_at (λ last. last < due)))
+due_by max_restart_delay exits None last_at at b none iff = (
   (λ e. absurd (iff.0 e)),
   (λ w.
-      let d : IsDue greatest exits (Some w.0) = w.1 in
+      let d : IsRestartDue max_restart_delay exits (Some w.0) = w.1 in
       let P : List Exit → Type 0 = λ es. last_moment es ≡ Some d.0 in
       let e : P [] = subst P none d.2 in
       absurd (let f : None ≡ Some d.0 = e in cc)),
 )
-due_by greatest exits (Some d) last_at at b is iff = (
+due_by max_restart_delay exits (Some d) last_at at b is iff = (
   (λ e. let w = iff.0 e in (d, is, w.0, w.1)),
   (λ w.
-      let same : w.0 ≡ d = due_one greatest exits w.0 d w.1 is in
+      let same : w.0 ≡ d = due_one max_restart_delay exits w.0 d w.1 is in
       let P : ℕ → Type 0 = λ k. (k ≤ at) × IfSome last_at (λ last. last < k) in
       iff.1 (subst P same (w.2, w.3))),
 )
 
--- the restart of one that has exited at the moment is put off
-pub puts_off_by : (policy : Policy) (spec : ContainerSpec) (h : List ContainerTick) (attempt exited_at : Option ℕ)
+-- the restart of one that has exited at the moment is backed off
+pub backs_off_by : (policy : Policy) (spec : ContainerSpec) (h : List ContainerTick) (attempt exited_at : Option ℕ)
     (at : ℕ) (b : Bool)
     → ((a : ℕ) → ((attempt ≡ Some a) ↔ IsToRestart policy spec h a))
     → IsOfNewest (listings h) (λ a. IsFirstMoment (listings h) (Ends (listings h) a)) exited_at
     → (IsTrue b ↔ (IsSome attempt × (exited_at ≡ Some at)))
     → (IsTrue b ↔ ((a : ℕ) × IsToRestart policy spec h a × IsFirstMoment (listings h) (Ends (listings h) a) (Some at)))
-puts_off_by policy spec h attempt exited_at at b to of iff = (
+backs_off_by policy spec h attempt exited_at at b to of iff = (
   (λ e.
       let w = iff.0 e in
       let a = some_given attempt w.0 in

@@ -17,8 +17,8 @@ use Rattle.probes.specs.declared.probe_set.ProbeSet.{ProbeSet}
 use Rattle.probes.specs.declared.probe_set.Verdicts.{Verdicts}
 use Rattle.probes.specs.ProbeSet.{Follows, IsStateOf as IsProbeSetOf}
 use Rattle.containers.specs.declared.container.Container.{Container}
-use Rattle.containers.specs.declared.what.What.{What}
-use Rattle.containers.specs.declared.what.What.TheVariants.{Started, StartupPassed, Kill}
+use Rattle.containers.specs.declared.pod_event_kind.PodEventKind.{PodEventKind}
+use Rattle.containers.specs.declared.pod_event_kind.PodEventKind.TheVariants.{Started, StartupPassed, Kill}
 use Rattle.containers.specs.Ticks.{ContainerTick, listings}
 use Rattle.containers.specs.Probed.{IsStarted, WasStarted}
 use Rattle.containers.specs.Events.{HasStarted, Passes, IsKilled, Gives}
@@ -77,12 +77,12 @@ was_more P h x before now was is =
       ])),
     )
 
-pub state_more : (spec : ContainerSpec) (greatest : ℕ) (h : List ContainerTick) (x : ContainerTick)
-    (before c : Container) (started : Bool) (delay : Option ℕ) → IsStateOf spec greatest h before
+pub state_more : (spec : ContainerSpec) (max_restart_delay : ℕ) (h : List ContainerTick) (x : ContainerTick)
+    (before c : Container) (started : Bool) (delay : Option ℕ) → IsStateOf spec max_restart_delay h before
     → IsBefore before x.moment → IsFollowing spec (h ++ x ∷ []) c → c.was_started ≡ before.was_started
-    → AreCounted greatest h x c.backoff delay
+    → AreCounted max_restart_delay h x c.backoff delay
     → (IsTrue started ↔ IsStarted spec (h ++ x ∷ []))
-    → IsStateOf spec greatest (h ++ x ∷ [])
+    → IsStateOf spec max_restart_delay (h ++ x ∷ [])
     (record {
       role = c.role;
       differ = c.differ;
@@ -90,7 +90,7 @@ pub state_more : (spec : ContainerSpec) (greatest : ℕ) (h : List ContainerTick
       backoff = c.backoff;
       was_started = c.was_started || started;
     })
-state_more spec greatest h x before c started delay is later follows same counted now = record {
+state_more spec max_restart_delay h x before c started delay is later follows same counted now = record {
   role = follows.role;
   rising = IsRising-more h x is.rising (ends_before h before.differ x.moment is.differ later);
   differ = follows.differ;
@@ -105,9 +105,9 @@ state_more spec greatest h x before c started delay is later follows same counte
 }
 
 -- the place of the start
-pub started_gives : (h : List ContainerTick) (x : ContainerTick) (changes : Changes) (event : Option What)
+pub started_gives : (h : List ContainerTick) (x : ContainerTick) (changes : Changes) (event : Option PodEventKind)
     → AreChanges (listings (h ++ x ∷ [])) (length h) changes
-    → ((what : What) → ((event ≡ Some what) ↔ ((a : ℕ) × (what ≡ Started a) × (changes.started ≡ Some a))))
+    → ((what : PodEventKind) → ((event ≡ Some what) ↔ ((a : ℕ) × (what ≡ Started a) × (changes.started ≡ Some a))))
     → Gives (HasStarted (h ++ x ∷ []) (length h)) event
 started_gives h x changes event are gives what = (
   (λ e. let w = (gives what).0 e in (w.0, w.1, (are.started w.0).0 w.2)),
@@ -116,9 +116,10 @@ started_gives h x changes event are gives what = (
 
 -- the places of the probes
 pub passed_gives : (spec : ContainerSpec) (h : List ContainerTick) (x : ContainerTick) (d : Differ)
-    (verdicts : Option Verdicts) (event : Option What)
+    (verdicts : Option Verdicts) (event : Option PodEventKind)
     → IsDifferOf (listings h) d → DifferAccepts d x.entry.seen → AreVerdictsOf spec h x verdicts
-    → ((what : What) → ((event ≡ Some what) ↔ ((a : ℕ) × (what ≡ StartupPassed a) × IsSomeAnd x.entry.seen (IsOf a)
+    → ((what : PodEventKind)
+    → ((event ≡ Some what) ↔ ((a : ℕ) × (what ≡ StartupPassed a) × IsSomeAnd x.entry.seen (IsOf a)
     × IsSomeAnd verdicts (λ v. IsTrue v.passed))))
     → Gives (Passes spec (h ++ x ∷ []) (length h)) event
 passed_gives spec h x d verdicts event is accepts are gives what = (
@@ -127,9 +128,9 @@ passed_gives spec h x d verdicts event is accepts are gives what = (
 )
 
 pub kill_gives : (spec : ContainerSpec) (h : List ContainerTick) (x : ContainerTick) (d : Differ)
-    (verdicts : Option Verdicts) (event : Option What)
+    (verdicts : Option Verdicts) (event : Option PodEventKind)
     → IsDifferOf (listings h) d → DifferAccepts d x.entry.seen → AreVerdictsOf spec h x verdicts
-    → ((what : What) → ((event ≡ Some what)
+    → ((what : PodEventKind) → ((event ≡ Some what)
     ↔ ((a : ℕ) × (cause : Cause) × (what ≡ Kill a cause) × IsSomeAnd x.entry.seen (IsOf a)
     × IsSomeAnd verdicts (λ v. v.kill ≡ Some cause))))
     → Gives (IsKilled spec (h ++ x ∷ []) (length h)) event

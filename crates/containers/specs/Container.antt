@@ -29,7 +29,8 @@ pub record IsFollowing (spec : ContainerSpec) (h : List ContainerTick) (c : Cont
   pub probed : (a start : ℕ) → IsNewest (listings h) a → StartsAt h a start → IsFollowedBy spec h c start a
 
 -- the container's value after these ticks, on a node with a greatest restart delay
-pub record IsStateOf (spec : ContainerSpec) (greatest : ℕ) (h : List ContainerTick) (c : Container) : Type 0 where
+pub record IsStateOf (spec : ContainerSpec) (max_restart_delay : ℕ) (h : List ContainerTick)
+    (c : Container) : Type 0 where
   pub role : c.role ≡ spec.role
   pub rising : IsRising h
   pub differ : IsDifferOf (listings h) c.differ
@@ -37,7 +38,7 @@ pub record IsStateOf (spec : ContainerSpec) (greatest : ℕ) (h : List Container
   pub probed : (a start : ℕ) → IsNewest (listings h) a → StartsAt h a start → IsFollowedBy spec h c start a
   pub exits : List Exit
   pub are_exits : AreExits (listings h) exits
-  pub backoff : IsBackoffOf greatest exits c.backoff
+  pub backoff : IsBackoffOf max_restart_delay exits c.backoff
   pub was_started : IsTrue c.was_started ↔ WasStarted spec h
 
 -- the listing, or none, may come next

@@ -5,35 +5,36 @@ use Rattle.manifest.specs.declared.policy.Policy.{Policy}
 use Rattle.manifest.specs.declared.pod.ContainerSpec.{ContainerSpec}
 use Rattle.state_diff.specs.Instances.{Listed, IsStart, IsExit, IsCodeAt}
 use Rattle.probes.specs.declared.probe_set.Cause.{Cause}
-use Rattle.containers.specs.declared.what.What.{What}
-use Rattle.containers.specs.declared.what.What.TheVariants.{Died, Started, StartupPassed, Kill, Ready, Unready, Backoff}
-use Rattle.containers.specs.declared.what.What.TheVariants.{Restart}
+use Rattle.containers.specs.declared.pod_event_kind.PodEventKind.{PodEventKind}
+use Rattle.containers.specs.declared.pod_event_kind.PodEventKind.TheVariants.{Died, Started, StartupPassed, Kill, Ready}
+use Rattle.containers.specs.declared.pod_event_kind.PodEventKind.TheVariants.{Unready, Backoff}
+use Rattle.containers.specs.declared.pod_event_kind.PodEventKind.TheVariants.{Restart}
 use Rattle.containers.specs.declared.events.ContainerEvents.{ContainerEvents}
 use Rattle.containers.specs.Ticks.{ContainerTick, listings}
 use Rattle.containers.specs.Probed.{HasPassed, IsKillOrdered, IsReady}
 use Rattle.containers.specs.Exits.{IsToRestart, IsDelayed, FallsDue}
 
 -- an instance died because the tick no longer lists it
-abbrev pub IsGone : List ContainerTick → ℕ → What → Type 0
+abbrev pub IsGone : List ContainerTick → ℕ → PodEventKind → Type 0
 IsGone h t what = (a : ℕ) × (what ≡ Died a (pos 137)) × IsExit (listings h) a t × (Listed (listings h) a t → ⊥)
 
 -- the listed instance started
-abbrev pub HasStarted : List ContainerTick → ℕ → What → Type 0
+abbrev pub HasStarted : List ContainerTick → ℕ → PodEventKind → Type 0
 HasStarted h t what = (a : ℕ) × (what ≡ Started a) × IsStart (listings h) a t
 
 -- the listed instance died
-abbrev pub HasDied : List ContainerTick → ℕ → What → Type 0
+abbrev pub HasDied : List ContainerTick → ℕ → PodEventKind → Type 0
 HasDied h t what =
     (a : ℕ) × (code : ℤ) × (what ≡ Died a code) × IsExit (listings h) a t × Listed (listings h) a t
     × IsCodeAt (listings h) a code t
 
 -- its startup probe passed, if it has one
-abbrev pub Passes : ContainerSpec → List ContainerTick → ℕ → What → Type 0
+abbrev pub Passes : ContainerSpec → List ContainerTick → ℕ → PodEventKind → Type 0
 Passes spec h t what =
     (a : ℕ) × (what ≡ StartupPassed a) × IsSomeAnd spec.probes.startup (λ probe. ComesTrue (HasPassed probe a) h t)
 
 -- it is to be killed
-abbrev pub IsKilled : ContainerSpec → List ContainerTick → ℕ → What → Type 0
+abbrev pub IsKilled : ContainerSpec → List ContainerTick → ℕ → PodEventKind → Type 0
 IsKilled spec h t what =
     (a : ℕ) × (cause : Cause) × (what ≡ Kill a cause) × ComesTrue (IsKillOrdered spec cause a) h t
 
@@ -42,28 +43,28 @@ abbrev pub WasReady : ContainerSpec → List ContainerTick → ℕ → Type 0
 WasReady spec h t = (u : ℕ) × (suc u ≡ t) × IsSo (IsReady spec) h u
 
 -- the container became ready, or is no longer
-abbrev pub ChangesReadiness : ContainerSpec → List ContainerTick → ℕ → What → Type 0
+abbrev pub ChangesReadiness : ContainerSpec → List ContainerTick → ℕ → PodEventKind → Type 0
 ChangesReadiness spec h t what =
     ((what ≡ Ready) × IsReady spec h × (WasReady spec h t → ⊥))
     ⊎ ((what ≡ Unready) × (IsReady spec h → ⊥) × WasReady spec h t)
 
--- the newest instance died, and its restart is put off
-abbrev pub IsPutOff : Policy → ℕ → ContainerSpec → List ContainerTick → ℕ → What → Type 0
-IsPutOff policy greatest spec h t what =
+-- the newest instance died, and its restart is backed off
+abbrev pub IsBackedOff : Policy → ℕ → ContainerSpec → List ContainerTick → ℕ → PodEventKind → Type 0
+IsBackedOff policy max_restart_delay spec h t what =
     (a : ℕ) × (delay : ℕ) × (what ≡ Backoff delay) × IsExit (listings h) a t × IsToRestart policy spec h a
-    × IsDelayed greatest h delay × (0 < delay)
+    × IsDelayed max_restart_delay h delay × (0 < delay)
 
 -- the restart of the newest instance falls due; it comes unless the pod has succeeded or failed
-abbrev pub IsRestarted : Policy → ℕ → ContainerSpec → List ContainerTick → ℕ → What → Type 0
-IsRestarted policy greatest spec h t what =
-    (a : ℕ) × (what ≡ Restart a) × IsToRestart policy spec h a × FallsDue greatest h t
+abbrev pub IsRestarted : Policy → ℕ → ContainerSpec → List ContainerTick → ℕ → PodEventKind → Type 0
+IsRestarted policy max_restart_delay spec h t what =
+    (a : ℕ) × (what ≡ Restart a) × IsToRestart policy spec h a × FallsDue max_restart_delay h t
 
 -- the event of a place, if there is one
-abbrev pub Gives : (What → Type 0) → Option What → Type 0
-Gives P event = (what : What) → ((event ≡ Some what) ↔ P what)
+abbrev pub Gives : (PodEventKind → Type 0) → Option PodEventKind → Type 0
+Gives P event = (what : PodEventKind) → ((event ≡ Some what) ↔ P what)
 
 -- the events of the tick, place by place
-pub record AreEvents (policy : Policy) (greatest : ℕ) (spec : ContainerSpec) (h : List ContainerTick) (t : ℕ)
+pub record AreEvents (policy : Policy) (max_restart_delay : ℕ) (spec : ContainerSpec) (h : List ContainerTick) (t : ℕ)
     (events : ContainerEvents) : Type 0 where
   pub gone : Gives (IsGone h t) events.gone
   pub started : Gives (HasStarted h t) events.started
@@ -71,5 +72,5 @@ pub record AreEvents (policy : Policy) (greatest : ℕ) (spec : ContainerSpec) (
   pub passed : Gives (Passes spec h t) events.passed
   pub kill : Gives (IsKilled spec h t) events.kill
   pub readiness : Gives (ChangesReadiness spec h t) events.readiness
-  pub backoff : Gives (IsPutOff policy greatest spec h t) events.backoff
-  pub restart : Gives (IsRestarted policy greatest spec h t) events.restart
+  pub backoff : Gives (IsBackedOff policy max_restart_delay spec h t) events.backoff
+  pub restart : Gives (IsRestarted policy max_restart_delay spec h t) events.restart

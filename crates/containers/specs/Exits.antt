@@ -8,7 +8,7 @@ use Rattle.manifest.specs.declared.pod.ContainerSpec.{ContainerSpec}
 use Rattle.manifest.specs.Policy.{WantsRestart}
 use Rattle.state_diff.specs.Instances.{Tick, Ends, IsNewest, IsExit, IsExitCode, IsRun}
 use Rattle.restarts.specs.Exits.{Exit}
-use Rattle.restarts.specs.Delays.{IsDelay, IsDue}
+use Rattle.restarts.specs.Delays.{IsDelay, IsRestartDue}
 use Rattle.containers.specs.Ticks.{ContainerTick, listings}
 
 -- the exit of an instance: its moment, and for how many seconds the instance ran
@@ -43,10 +43,11 @@ pub record IsToRestart (policy : Policy) (spec : ContainerSpec) (h : List Contai
 
 -- the delay after the last exit, on a node with a greatest delay
 abbrev pub IsDelayed : ℕ → List ContainerTick → ℕ → Type 0
-IsDelayed greatest h delay = (exits : List Exit) × AreExits (listings h) exits × IsDelay greatest exits delay
+IsDelayed max_restart_delay h delay = (exits : List Exit) × AreExits (listings h) exits
+    × IsDelay max_restart_delay exits delay
 
 -- the first tick that is not before the moment from which on the restart is due
 abbrev pub FallsDue : ℕ → List ContainerTick → ℕ → Type 0
-FallsDue greatest h t =
-    (exits : List Exit) × (due : ℕ) × AreExits (listings h) exits × IsDue greatest exits (Some due)
+FallsDue max_restart_delay h t =
+    (exits : List Exit) × (due : ℕ) × AreExits (listings h) exits × IsRestartDue max_restart_delay exits (Some due)
     × IsFirst (λ u. IsSomeAnd (moment_at h u) (λ moment. due ≤ moment)) t

@@ -9,7 +9,7 @@ use Rattle.probes.specs.Container.{AreInRange}
 use Rattle.restarts.specs.Exits.{Exit}
 use Rattle.phase.specs.declared.view.ContainerView.{ContainerView}
 use Rattle.containers.specs.declared.status.ContainerStatus.{ContainerStatus}
-use Rattle.containers.specs.declared.what.What.TheVariants.{Kill, Restart}
+use Rattle.containers.specs.declared.pod_event_kind.PodEventKind.TheVariants.{Kill, Restart}
 use Rattle.containers.specs.declared.events.ContainerEvents.{ContainerEvents}
 use Rattle.containers.specs.Ticks.{ContainerTick, listings, AreTicksOf}
 use Rattle.containers.specs.Exits.{AreExits, IsDelayed}
@@ -22,7 +22,7 @@ SomeListOfExits = (h : List Tick) → (exits : List Exit) × AreExits h exits
 
 -- with a delay after the last of them
 abbrev pub SomeDelay : Type 0
-SomeDelay = (greatest : ℕ) (h : List ContainerTick) → (delay : ℕ) × IsDelayed greatest h delay
+SomeDelay = (max_restart_delay : ℕ) (h : List ContainerTick) → (delay : ℕ) × IsDelayed max_restart_delay h delay
 
 -- each of its instances has a list of results
 abbrev pub SomeListOfResults : Type 0
@@ -46,8 +46,8 @@ OneListOfResults = (h : List ContainerTick) (a : ℕ) (ticks others : List Probe
 -- what is restarted is the newest instance, and it has exited
 abbrev pub RestartsTheNewest : Type 0
 RestartsTheNewest =
-    (policy : Policy) (greatest : ℕ) (spec : ContainerSpec) (h : List ContainerTick) (t a : ℕ)
-    → IsRestarted policy greatest spec h t (Restart a)
+    (policy : Policy) (max_restart_delay : ℕ) (spec : ContainerSpec) (h : List ContainerTick) (t a : ℕ)
+    → IsRestarted policy max_restart_delay spec h t (Restart a)
     → IsNewest (listings h) a × ((u : ℕ) × IsExit (listings h) a u)
 
 -- an instance is to be killed at one tick at most, and for one cause
@@ -59,13 +59,14 @@ KilledOnce =
 -- a tick makes events of a container, where the numbers of its probes are in their ranges
 abbrev pub SomeListOfEvents : Type 0
 SomeListOfEvents =
-    (policy : Policy) (greatest : ℕ) (spec : ContainerSpec) (h : List ContainerTick) (x : ContainerTick)
+    (policy : Policy) (max_restart_delay : ℕ) (spec : ContainerSpec) (h : List ContainerTick) (x : ContainerTick)
     → AreInRange spec.probes
-    → (events : ContainerEvents) × AreEvents policy greatest spec (h ++ x ∷ []) (length h) events
+    → (events : ContainerEvents) × AreEvents policy max_restart_delay spec (h ++ x ∷ []) (length h) events
 
 -- the events of a tick are determined
 abbrev pub OneListOfEvents : Type 0
 OneListOfEvents =
-    (policy : Policy) (greatest : ℕ) (spec : ContainerSpec) (h : List ContainerTick) (t : ℕ)
+    (policy : Policy) (max_restart_delay : ℕ) (spec : ContainerSpec) (h : List ContainerTick) (t : ℕ)
     (events others : ContainerEvents)
-    → AreEvents policy greatest spec h t events → AreEvents policy greatest spec h t others → events ≡ others
+    → AreEvents policy max_restart_delay spec h t events → AreEvents policy max_restart_delay spec h t others
+    → events ≡ others

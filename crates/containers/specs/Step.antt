@@ -44,9 +44,10 @@ AreVerdictsOf spec h x (Some verdicts) =
     × AreVerdicts spec.probes start (ticks ++ results_of x ∷ []) (length ticks) verdicts)
 
 -- the exits with those of the tick are counted; where there was one, its delay is known
-pub record AreCounted (greatest : ℕ) (h : List ContainerTick) (x : ContainerTick) (backoff : RestartBackoff)
+pub record AreCounted (max_restart_delay : ℕ) (h : List ContainerTick) (x : ContainerTick) (backoff : RestartBackoff)
     (delay : Option ℕ) : Type 0 where
   pub exits : List Exit
   pub are_exits : AreExits (listings (h ++ x ∷ [])) exits
-  pub counted : IsBackoffOf greatest exits backoff
-  pub delayed : (a : ℕ) → IsExit (listings (h ++ x ∷ [])) a (length h) → IsSomeAnd delay (λ d. IsDelay greatest exits d)
+  pub counted : IsBackoffOf max_restart_delay exits backoff
+  pub delayed : (a : ℕ) → IsExit (listings (h ++ x ∷ [])) a (length h)
+      → IsSomeAnd delay (λ d. IsDelay max_restart_delay exits d)

@@ -8,7 +8,7 @@ ghost use Rattle.state_diff.specs.Instances.{Ends, ListedAs, IsAcceptable};
 ghost use Rattle.state_diff.specs.declared.differ.Differ.{Differ};
 ghost use Rattle.state_diff.specs.Differ.{IsStateOf as IsDifferOf, Accepts as DifferAccepts, AreChanges, IsOfNewest};
 ghost use Rattle.restarts.specs.Exits.{Exit};
-ghost use Rattle.restarts.specs.Delays.{IsDue};
+ghost use Rattle.restarts.specs.Delays.{IsRestartDue};
 ghost use Rattle.restarts.specs.Backoff.{IsStateOf as IsBackoffOf};
 ghost use Rattle.containers.specs.Ticks.{ContainerTick, listings};
 ghost use Rattle.containers.specs.Probed.{Serves, IsStarted, IsReady};
@@ -19,7 +19,7 @@ ghost use Rattle.containers.specs.Container.{Accepts, IsBefore, IsStateOf, IsFol
 ghost use Rattle.containers.specs.Step.{AreVerdictsOf, AreCounted};
 
 use crate::events::ContainerEvents;
-use crate::exits::{count_both, is_put_off, run_until, to_restart};
+use crate::exits::{count_both, is_backed_off, run_until, to_restart};
 use crate::follow::{Followed, begin, is_running, lists_running, take};
 use crate::places;
 use crate::status::ContainerStatus;
@@ -42,14 +42,14 @@ pub struct Container {
 
 impl Container {
     /// A container that no tick has shown yet, on a node with this greatest restart delay.
-    pub fn new(spec: &ContainerSpec, greatest: MaxRestartDelay) -> Self
-        ensures { IsStateOf spec.now greatest [] result }
+    pub fn new(spec: &ContainerSpec, max_restart_delay: MaxRestartDelay) -> Self
+        ensures { IsStateOf spec.now max_restart_delay [] result }
     {
         Container {
             role: spec.role(),
             differ: Differ::new(),
             probes: ProbeSet::new(spec),
-            backoff: Backoff::new(greatest),
+            backoff: Backoff::new(max_restart_delay),
             was_started: false,
         }
     }
@@ -57,16 +57,16 @@ impl Container {
     /// Whether the listing, or none, may come next.
     pub fn accepts(&self, seen: Option<Seen>) -> bool
         ensures value { IsTrue result ↔ Accepts self.now seen }
-        ensures acceptable { (spec : ContainerSpec) (greatest : ℕ) (h : List ContainerTick)
-            → IsStateOf spec greatest h self.now → (IsTrue result ↔ IsAcceptable (listings h) seen) }
+        ensures acceptable { (spec : ContainerSpec) (max_restart_delay : ℕ) (h : List ContainerTick)
+            → IsStateOf spec max_restart_delay h self.now → (IsTrue result ↔ IsAcceptable (listings h) seen) }
     {
         self.differ.accepts(seen)
     }
 
     /// The moment of the last tick, in seconds; none before the first.
     pub fn last_at(&self) -> Option<u64>
-        ensures moment { (spec : ContainerSpec) (greatest : ℕ) (h : List ContainerTick)
-            → IsStateOf spec greatest h self.now → result ≡ last_moment h }
+        ensures moment { (spec : ContainerSpec) (max_restart_delay : ℕ) (h : List ContainerTick)
+            → IsStateOf spec max_restart_delay h self.now → result ≡ last_moment h }
         ensures before { (moment : ℕ)
             → (IfSome result (λ last. last < moment) ↔ IsBefore self.now moment) }
     {
@@ -75,8 +75,8 @@ impl Container {
 
     /// The container as the rules on phases see it.
     pub fn view(&self) -> ContainerView
-        ensures { (spec : ContainerSpec) (greatest : ℕ) (h : List ContainerTick)
-            → IsStateOf spec greatest h self.now → IsViewOf spec h result }
+        ensures { (spec : ContainerSpec) (max_restart_delay : ℕ) (h : List ContainerTick)
+            → IsStateOf spec max_restart_delay h self.now → IsViewOf spec h result }
     {
         ContainerView {
             role: self.role,
@@ -88,16 +88,16 @@ impl Container {
 
     /// Whether it is started, and ready by its readiness probe, if it has one.
     pub fn is_ready(&self) -> bool
-        ensures { (spec : ContainerSpec) (greatest : ℕ) (h : List ContainerTick)
-            → IsStateOf spec greatest h self.now → (IsTrue result ↔ IsReady spec h) }
+        ensures { (spec : ContainerSpec) (max_restart_delay : ℕ) (h : List ContainerTick)
+            → IsStateOf spec max_restart_delay h self.now → (IsTrue result ↔ IsReady spec h) }
     {
         self.serves() && self.probes.ready()
     }
 
     /// What its pod's status shows of it; `is_evicted` says whether the pod was evicted.
     pub fn status(&self, is_evicted: bool) -> ContainerStatus
-        ensures { (spec : ContainerSpec) (greatest : ℕ) (h : List ContainerTick)
-            → IsStateOf spec greatest h self.now → IsShown spec (IsTrue is_evicted) h result }
+        ensures { (spec : ContainerSpec) (max_restart_delay : ℕ) (h : List ContainerTick)
+            → IsStateOf spec max_restart_delay h self.now → IsShown spec (IsTrue is_evicted) h result }
     {
         let view = self.view();
         ContainerStatus {
@@ -137,22 +137,22 @@ impl Container {
     /// Whether the restart after the last exit falls due at this moment, and was not due at the last
     /// tick's.
     fn is_due(&self, last_at: Option<u64>, at: u64) -> bool
-        ensures { (greatest : ℕ) (exits : List Exit)
-            → IsBackoffOf greatest exits self.now.backoff
-            → (IsTrue result ↔ ((due : ℕ) × IsDue greatest exits (Some due) × (due ≤ at)
+        ensures { (max_restart_delay : ℕ) (exits : List Exit)
+            → IsBackoffOf max_restart_delay exits self.now.backoff
+            → (IsTrue result ↔ ((due : ℕ) × IsRestartDue max_restart_delay exits (Some due) × (due ≤ at)
             × IfSome last_at (λ last. last < due))) }
     {
         places::falls_due(self.backoff.due(), last_at, at)
     }
 
     /// Whether the newest instance has exited at the moment, and is to be started again.
-    fn puts_off(&self, policy: Policy, at: u64) -> bool
+    fn backs_off(&self, policy: Policy, at: u64) -> bool
         ensures { (spec : ContainerSpec) (h : List ContainerTick)
             → IsFollowing spec h self.now
             → (IsTrue result ↔ ((a : ℕ) × IsToRestart policy spec h a
             × IsFirstMoment (listings h) (Ends (listings h) a) (Some at))) }
     {
-        is_put_off(self.to_restart(policy), self.differ.exited_at(), at)
+        is_backed_off(self.to_restart(policy), self.differ.exited_at(), at)
     }
 
     /// Takes what the tick lists, and its results: the changes, and the verdicts of the instance
@@ -182,14 +182,14 @@ impl Container {
 
     /// Counts the exits of a tick at the moment, by its changes and by when the newest instance of
     /// the container before it began to run: by how many seconds the restart after the last exit is
-    /// put off.
+    /// backed off.
     fn count_exits(&mut self, start: Option<u64>, changes: &Changes, at: u64) -> Option<u64>
         requires { at < 2 ^ 40 }
         ensures role { self.new.role ≡ self.old.role }
         ensures differ { self.new.differ ≡ self.old.differ }
         ensures probes { self.new.probes ≡ self.old.probes }
         ensures was_started { self.new.was_started ≡ self.old.was_started }
-        ensures counted { (greatest : ℕ) (h : List ContainerTick) (observed : ContainerObs) (exits : List Exit)
+        ensures counted { (max_restart_delay : ℕ) (h : List ContainerTick) (observed : ContainerObs) (exits : List Exit)
             (before : Differ)
             → IsDifferOf (listings h) before
             → IsOfNewest (listings h) (λ a. IsFirstMoment (listings h) (ListedAs (listings h) a Running)) start
@@ -197,8 +197,8 @@ impl Container {
             → DifferAccepts before observed.seen
             → AreChanges (listings (h ++ recorded at observed ∷ [])) (length h) changes.now
             → AreExits (listings h) exits
-            → IsBackoffOf greatest exits self.old.backoff
-            → AreCounted greatest h (recorded at observed) self.new.backoff result }
+            → IsBackoffOf max_restart_delay exits self.old.backoff
+            → AreCounted max_restart_delay h (recorded at observed) self.new.backoff result }
     {
         let gone = run_until(changes.removed_died, start, at);
         let died = changes.died.and(self.differ.run());
@@ -211,12 +211,12 @@ impl Container {
         requires accepted { Accepts self.old observed.seen }
         requires later { IsBefore self.old at }
         requires bounded { at < 2 ^ 40 }
-        ensures state { (spec : ContainerSpec) (greatest : ℕ) (h : List ContainerTick)
-            → IsStateOf spec greatest h self.old
-            → IsStateOf spec greatest (h ++ recorded at observed ∷ []) self.new }
-        ensures events { (spec : ContainerSpec) (greatest : ℕ) (h : List ContainerTick)
-            → IsStateOf spec greatest h self.old
-            → AreEvents policy greatest spec (h ++ recorded at observed ∷ []) (length h) result }
+        ensures state { (spec : ContainerSpec) (max_restart_delay : ℕ) (h : List ContainerTick)
+            → IsStateOf spec max_restart_delay h self.old
+            → IsStateOf spec max_restart_delay (h ++ recorded at observed ∷ []) self.new }
+        ensures events { (spec : ContainerSpec) (max_restart_delay : ℕ) (h : List ContainerTick)
+            → IsStateOf spec max_restart_delay h self.old
+            → AreEvents policy max_restart_delay spec (h ++ recorded at observed ∷ []) (length h) result }
     {
         let last_at = self.differ.last_at();
         let start = self.differ.first_running();
@@ -232,7 +232,7 @@ impl Container {
             passed: places::passed(observed.seen, followed.verdicts),
             kill: places::kill(observed.seen, followed.verdicts),
             readiness: places::readiness(was_ready, self.is_ready()),
-            backoff: places::backoff(delay, self.puts_off(policy, at)),
+            backoff: places::backoff(delay, self.backs_off(policy, at)),
             restart: places::restart(self.to_restart(policy), is_due),
         }
     }

@@ -25,16 +25,16 @@ pub fn run_until(died: bool, start: Option<u64>, at: u64) -> Option<u64>
 }
 
 /// An exit at this moment, if there is one, after a run of so many seconds; by how many seconds its
-/// restart is put off.
+/// restart is backed off.
 fn count(backoff: &mut Backoff, at: u64, run: Option<u64>) -> Option<u64>
     requires { at < 2 ^ 40 }
-    ensures state { (greatest : ℕ) (exits : List Exit)
-        → IsStateOf greatest exits backoff.old
-        → IsStateOf greatest (exits ++ exits_at at run) backoff.new }
-    ensures delay { (greatest : ℕ) (exits : List Exit)
-        → IsStateOf greatest exits backoff.old
+    ensures state { (max_restart_delay : ℕ) (exits : List Exit)
+        → IsStateOf max_restart_delay exits backoff.old
+        → IsStateOf max_restart_delay (exits ++ exits_at at run) backoff.new }
+    ensures delay { (max_restart_delay : ℕ) (exits : List Exit)
+        → IsStateOf max_restart_delay exits backoff.old
         → IsSome run
-        → IsSomeAnd result (λ delay. IsDelay greatest (exits ++ exits_at at run) delay) }
+        → IsSomeAnd result (λ delay. IsDelay max_restart_delay (exits ++ exits_at at run) delay) }
     ensures none { run ≡ None → result ≡ None }
 {
     match run {
@@ -45,7 +45,7 @@ fn count(backoff: &mut Backoff, at: u64, run: Option<u64>) -> Option<u64>
 
 /// The exits of a tick at this moment, of which each gives its run: that of the instance which is
 /// no longer listed comes first, and then that of the listed one. By how many seconds the restart
-/// after the last of them is put off.
+/// after the last of them is backed off.
 pub fn count_both(
     backoff: &mut Backoff,
     at: u64,
@@ -53,13 +53,14 @@ pub fn count_both(
     died: Option<u64>,
 ) -> Option<u64>
     requires { at < 2 ^ 40 }
-    ensures state { (greatest : ℕ) (exits : List Exit)
-        → IsStateOf greatest exits backoff.old
-        → IsStateOf greatest ((exits ++ exits_at at gone) ++ exits_at at died) backoff.new }
-    ensures delay { (greatest : ℕ) (exits : List Exit)
-        → IsStateOf greatest exits backoff.old
+    ensures state { (max_restart_delay : ℕ) (exits : List Exit)
+        → IsStateOf max_restart_delay exits backoff.old
+        → IsStateOf max_restart_delay ((exits ++ exits_at at gone) ++ exits_at at died) backoff.new }
+    ensures delay { (max_restart_delay : ℕ) (exits : List Exit)
+        → IsStateOf max_restart_delay exits backoff.old
         → IsSome gone ⊎ IsSome died
-        → IsSomeAnd result (λ delay. IsDelay greatest ((exits ++ exits_at at gone) ++ exits_at at died) delay) }
+        → IsSomeAnd result
+        (λ delay. IsDelay max_restart_delay ((exits ++ exits_at at gone) ++ exits_at at died) delay) }
 {
     let first = count(backoff, at, gone);
     count(backoff, at, died).or(first)
@@ -80,7 +81,7 @@ pub fn to_restart(policy: Policy, role: Role, newest: Option<Seen>) -> Option<u3
 }
 
 /// Whether the attempt that is to be started again has exited at the moment.
-pub fn is_put_off(attempt: Option<u32>, exited_at: Option<u64>, at: u64) -> bool
+pub fn is_backed_off(attempt: Option<u32>, exited_at: Option<u64>, at: u64) -> bool
     ensures { IsTrue result ↔ (IsSome attempt × (exited_at ≡ Some at)) }
 {
     attempt.is_some() && exited_at == Some(at)

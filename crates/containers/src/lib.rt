@@ -8,10 +8,10 @@ mod exits;
 mod follow;
 pub mod laws;
 mod places;
+mod pod_event_kind;
 mod status;
-mod what;
 
 pub use container::Container;
 pub use events::ContainerEvents;
+pub use pod_event_kind::PodEventKind;
 pub use status::ContainerStatus;
-pub use what::What;

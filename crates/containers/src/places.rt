@@ -3,11 +3,12 @@
 ghost use Rattle.std.specs.Prelude.{◌≡◌, ◌⊎◌, ◌↔◌, ◌<◌, ◌≤◌, ℕ, ℤ, pos, Option, Some, IsTrue, IsSomeAnd, IfSome};
 ghost use Rattle.state_diff.specs.Instances.{IsOf};
 ghost use Rattle.probes.specs.declared.probe_set.Cause.{Cause};
-ghost use Rattle.containers.specs.declared.what.What.{What};
-ghost use Rattle.containers.specs.declared.what.What.TheVariants.{Died, Started, StartupPassed, Kill, Ready, Unready};
-ghost use Rattle.containers.specs.declared.what.What.TheVariants.{Backoff, Restart};
+ghost use Rattle.containers.specs.declared.pod_event_kind.PodEventKind.{PodEventKind};
+ghost use Rattle.containers.specs.declared.pod_event_kind.PodEventKind.TheVariants.{Died, Started, StartupPassed, Kill};
+ghost use Rattle.containers.specs.declared.pod_event_kind.PodEventKind.TheVariants.{Ready, Unready};
+ghost use Rattle.containers.specs.declared.pod_event_kind.PodEventKind.TheVariants.{Backoff, Restart};
 
-use crate::what::What;
+use crate::pod_event_kind::PodEventKind;
 use probes::Verdicts;
 use state_diff::{Changes, Seen};
 
@@ -15,100 +16,108 @@ use state_diff::{Changes, Seen};
 const KILLED: i32 = 137;
 
 /// An instance died because it is no longer listed.
-pub fn gone(changes: &Changes) -> Option<What>
-    ensures { (what : What) → ((result ≡ Some what)
+pub fn gone(changes: &Changes) -> Option<PodEventKind>
+    ensures { (what : PodEventKind) → ((result ≡ Some what)
         ↔ ((a : ℕ) × (what ≡ Died a (pos 137)) × (changes.now.removed ≡ Some a)
         × IsTrue changes.now.removed_died)) }
 {
     let attempt = changes.removed?;
     if changes.removed_died {
-        Some(What::Died(attempt, KILLED))
+        Some(PodEventKind::Died {
+            attempt,
+            exit_code: KILLED,
+        })
     } else {
         None
     }
 }
 
 /// The listed instance started.
-pub fn started(changes: &Changes) -> Option<What>
-    ensures { (what : What) → ((result ≡ Some what)
+pub fn started(changes: &Changes) -> Option<PodEventKind>
+    ensures { (what : PodEventKind) → ((result ≡ Some what)
         ↔ ((a : ℕ) × (what ≡ Started a) × (changes.now.started ≡ Some a))) }
 {
     let attempt = changes.started?;
-    Some(What::Started(attempt))
+    Some(PodEventKind::Started { attempt })
 }
 
 /// The listed instance died.
-pub fn died(changes: &Changes) -> Option<What>
-    ensures { (what : What) → ((result ≡ Some what)
+pub fn died(changes: &Changes) -> Option<PodEventKind>
+    ensures { (what : PodEventKind) → ((result ≡ Some what)
         ↔ ((a : ℕ) × (code : ℤ) × (what ≡ Died a code) × (changes.now.died ≡ Some (a, code)))) }
 {
-    let (attempt, code) = changes.died?;
-    Some(What::Died(attempt, code))
+    let (attempt, exit_code) = changes.died?;
+    Some(PodEventKind::Died { attempt, exit_code })
 }
 
 /// The startup probe of the listed instance passed.
-pub fn passed(seen: Option<Seen>, verdicts: Option<Verdicts>) -> Option<What>
-    ensures { (what : What) → ((result ≡ Some what)
+pub fn passed(seen: Option<Seen>, verdicts: Option<Verdicts>) -> Option<PodEventKind>
+    ensures { (what : PodEventKind) → ((result ≡ Some what)
         ↔ ((a : ℕ) × (what ≡ StartupPassed a) × IsSomeAnd seen (IsOf a)
         × IsSomeAnd verdicts (λ v. IsTrue v.passed))) }
 {
     let seen = seen?;
     let verdicts = verdicts?;
     if verdicts.passed {
-        Some(What::StartupPassed(seen.attempt))
+        Some(PodEventKind::StartupPassed {
+            attempt: seen.attempt,
+        })
     } else {
         None
     }
 }
 
 /// The listed instance is to be killed.
-pub fn kill(seen: Option<Seen>, verdicts: Option<Verdicts>) -> Option<What>
-    ensures { (what : What) → ((result ≡ Some what)
+pub fn kill(seen: Option<Seen>, verdicts: Option<Verdicts>) -> Option<PodEventKind>
+    ensures { (what : PodEventKind) → ((result ≡ Some what)
         ↔ ((a : ℕ) × (cause : Cause) × (what ≡ Kill a cause) × IsSomeAnd seen (IsOf a)
         × IsSomeAnd verdicts (λ v. v.kill ≡ Some cause))) }
 {
     let seen = seen?;
     let verdicts = verdicts?;
     let cause = verdicts.kill?;
-    Some(What::Kill(seen.attempt, cause))
+    Some(PodEventKind::Kill {
+        attempt: seen.attempt,
+        cause,
+    })
 }
 
 /// The container became ready, or is no longer.
-pub fn readiness(before: bool, now: bool) -> Option<What>
-    ensures { (what : What) → ((result ≡ Some what)
+pub fn readiness(before: bool, now: bool) -> Option<PodEventKind>
+    ensures { (what : PodEventKind) → ((result ≡ Some what)
         ↔ (((what ≡ Ready) × IsTrue now × (IsTrue before → ⊥))
         ⊎ ((what ≡ Unready) × (IsTrue now → ⊥) × IsTrue before))) }
 {
     if now && !before {
-        Some(What::Ready)
+        Some(PodEventKind::Ready)
     } else if before && !now {
-        Some(What::Unready)
+        Some(PodEventKind::Unready)
     } else {
         None
     }
 }
 
-/// The restart is put off by the delay, if it is of an instance that has exited now and wants one.
-pub fn backoff(delay: Option<u64>, puts_off: bool) -> Option<What>
-    ensures { (what : What) → ((result ≡ Some what)
-        ↔ ((d : ℕ) × (what ≡ Backoff d) × (delay ≡ Some d) × (0 < d) × IsTrue puts_off)) }
+/// The restart is backed off by the delay, if it is of an instance that has exited now and wants one.
+pub fn backoff(delay: Option<u64>, backs_off: bool) -> Option<PodEventKind>
+    ensures { (what : PodEventKind) → ((result ≡ Some what)
+        ↔ ((d : ℕ) × (what ≡ Backoff d) × (delay ≡ Some d) × (0 < d) × IsTrue backs_off)) }
 {
     let delay = delay?;
-    if puts_off && delay > 0 {
-        Some(What::Backoff(delay))
+    if backs_off && delay > 0 {
+        Some(PodEventKind::Backoff { delay })
     } else {
         None
     }
 }
 
 /// The instance that is to be started again, where that falls due.
-pub fn restart(attempt: Option<u32>, is_due: bool) -> Option<What>
-    ensures { (what : What) → ((result ≡ Some what)
+pub fn restart(attempt: Option<u32>, is_due: bool) -> Option<PodEventKind>
+    ensures { (what : PodEventKind) → ((result ≡ Some what)
         ↔ ((a : ℕ) × (what ≡ Restart a) × (attempt ≡ Some a) × IsTrue is_due)) }
 {
     let attempt = attempt?;
     if is_due {
-        Some(What::Restart(attempt))
+        Some(PodEventKind::Restart { attempt })
     } else {
         None
     }

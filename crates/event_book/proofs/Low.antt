@@ -5,7 +5,7 @@ use Rattle.std.specs.Prelude.{MatchOption}
 use Rattle.std.proofs.lemmas.List.Sums.{length-filter, count_by-le-length}
 use Rattle.manifest.specs.declared.pod.PodSpec.{PodSpec}
 use Rattle.phase.specs.declared.phase.Phase.{Phase}
-use Rattle.containers.specs.declared.what.What.{What}
+use Rattle.containers.specs.declared.pod_event_kind.PodEventKind.{PodEventKind}
 use Rattle.containers.specs.declared.events.ContainerEvents.{ContainerEvents}
 use Rattle.pod_state.specs.declared.events.PodEvent.{PodEvent}
 use Rattle.pod_state.specs.Pods.{PodTick}
@@ -17,7 +17,8 @@ use Rattle.event_book.specs.declared.totals.Entry.{Entry}
 use Rattle.event_book.specs.Totals.{is_order, entry_of, IsEntryOf}
 use Rattle.event_book.specs.Limits.{IsLow}
 
-few_at : (container : Option ℕ) (places : List (Option What)) → length (events_at container places) ≤ length places
+few_at : (container : Option ℕ) (places : List (Option PodEventKind))
+    → length (events_at container places) ≤ length places
 few_at container [] = omega arith
 few_at container (None ∷ places) = let rest = few_at container places in omega arith
 few_at container (Some what ∷ places) = let rest = few_at container places in omega arith
@@ -30,10 +31,10 @@ few_from phase n (made ∷ rest) =
     let both = length-append (events_at (Some n) (places_in phase made)) (events_from phase (n + 1) rest) in
     omega arith
 
-few_news : (pod : PodSpec) (greatest : ℕ) (evicted : Option ℕ) (before : List PodTick) (tick : PodTick)
-    (events : List PodEvent) → length pod.containers ≤ 16 → AreNews pod greatest evicted before tick events
+few_news : (pod : PodSpec) (max_restart_delay : ℕ) (evicted : Option ℕ) (before : List PodTick) (tick : PodTick)
+    (events : List PodEvent) → length pod.containers ≤ 16 → AreNews pod max_restart_delay evicted before tick events
     → length events ≤ 129
-few_news pod greatest evicted before tick events few news =
+few_news pod max_restart_delay evicted before tick events few news =
     let all = ap length news.in_order in
     let both = length-append (events_from news.phase 0 news.made) (events_at None (news.change ∷ [])) in
     let of_containers = few_from news.phase 0 news.made in
@@ -41,21 +42,22 @@ few_news pod greatest evicted before tick events few news =
     let as_many = news.are_made.as_many in
     omega arith
 
-few_events : (pod : PodSpec) (greatest : ℕ) (evicted : Option ℕ) (before : List PodTick) (tick : PodTick)
-    (events : List PodEvent) → length pod.containers ≤ 16 → AreEventsOf pod greatest evicted before tick events
+few_events : (pod : PodSpec) (max_restart_delay : ℕ) (evicted : Option ℕ) (before : List PodTick) (tick : PodTick)
+    (events : List PodEvent) → length pod.containers ≤ 16 → AreEventsOf pod max_restart_delay evicted before tick events
     → length events ≤ 129
-few_events pod greatest evicted before tick events few (inl ended) = let none = ap length ended.1 in omega arith
-few_events pod greatest evicted before tick events few (inr lives) =
-    few_news pod greatest evicted before tick events few lives.1
+few_events pod max_restart_delay evicted before tick events few (inl ended) = let none =
+    ap length ended.1 in omega arith
+few_events pod max_restart_delay evicted before tick events few (inr lives) =
+    few_news pod max_restart_delay evicted before tick events few lives.1
 
 few_last : (p : Piece) (events : List PodEvent) (last : Option PodTick) → length p.pod.containers ≤ 16
     → MatchOption last (events ≡ [])
-    (λ tick. AreEventsOf p.pod p.greatest (evicted_before (evicted_at p) (length (before_last (ticks p))))
+    (λ tick. AreEventsOf p.pod p.max_restart_delay (evicted_before (evicted_at p) (length (before_last (ticks p))))
     (before_last (ticks p)) tick events)
     → length events ≤ 129
 few_last p events None few none = let nothing = ap length none in omega arith
 few_last p events (Some tick) few are =
-    few_events p.pod p.greatest (evicted_before (evicted_at p) (length (before_last (ticks p))))
+    few_events p.pod p.max_restart_delay (evicted_before (evicted_at p) (length (before_last (ticks p))))
     (before_last (ticks p)) tick events few are
 
 -- the entry of a pod's last update is low
@@ -75,15 +77,16 @@ one_last p events others is is' = by (last_of (ticks p)) is is'
   where
     by : (o : Option PodTick)
         → MatchOption o (events ≡ []) (λ tick.
-        AreEventsOf p.pod p.greatest (evicted_before (evicted_at p) (length (before_last (ticks p))))
+        AreEventsOf p.pod p.max_restart_delay (evicted_before (evicted_at p) (length (before_last (ticks p))))
         (before_last (ticks p)) tick events)
         → MatchOption o (others ≡ []) (λ tick.
-        AreEventsOf p.pod p.greatest (evicted_before (evicted_at p) (length (before_last (ticks p))))
+        AreEventsOf p.pod p.max_restart_delay (evicted_before (evicted_at p) (length (before_last (ticks p))))
         (before_last (ticks p)) tick others)
         → events ≡ others
     by None none none' = none ∙ sym none'
     by (Some tick) some some' =
-        one_list_of_pod_events p.pod p.greatest (evicted_before (evicted_at p) (length (before_last (ticks p))))
+        one_list_of_pod_events p.pod p.max_restart_delay
+        (evicted_before (evicted_at p) (length (before_last (ticks p))))
         (before_last (ticks p)) tick events others some some'
 
 -- and its entry

@@ -1,8 +1,8 @@
 -- How much happened.
 use Rattle.std.specs.Prelude.{◌≡◌, ℕ, ◌+◌, Bool, true, false, List, length, slice_get, Some}
 use Rattle.std.specs.List.{filter, sum_by}
-use Rattle.containers.specs.declared.what.What.{What}
-use Rattle.containers.specs.declared.what.What.TheVariants as whats
+use Rattle.containers.specs.declared.pod_event_kind.PodEventKind.{PodEventKind}
+use Rattle.containers.specs.declared.pod_event_kind.PodEventKind.TheVariants as whats
 use Rattle.pod_state.specs.declared.events.PodEvent.{PodEvent}
 use Rattle.pod_piece.specs.Piece.{Piece}
 use Rattle.pod_piece.specs.Status.{AreLastEvents}
@@ -10,7 +10,7 @@ use Rattle.event_book.specs.declared.totals.Totals.{Totals}
 use Rattle.event_book.specs.declared.totals.Entry.{Entry}
 
 -- it orders a kubelet to kill or to restart a container
-abbrev pub orders : What → Bool
+abbrev pub orders : PodEventKind → Bool
 orders (whats.Died attempt code) = false
 orders (whats.Started attempt) = false
 orders (whats.StartupPassed attempt) = false

@@ -5,7 +5,7 @@ ghost use Rattle.std.specs.List.{filter};
 ghost use Rattle.event_book.specs.Totals.{entry_of, is_order, IsEntryOf};
 ghost use Rattle.event_book.specs.Limits.{IsLow};
 
-use containers::What;
+use containers::PodEventKind;
 use pod_piece::PodPiece;
 use pod_state::PodEvent;
 
@@ -33,7 +33,10 @@ pub struct Entry {
 fn is_order(event: &PodEvent) -> bool
     ensures { result ≡ is_order event.now }
 {
-    matches!(event.what, What::Kill(_, _) | What::Restart(_))
+    matches!(
+        event.what,
+        PodEventKind::Kill { .. } | PodEventKind::Restart { .. }
+    )
 }
 
 /// How many of these order a kubelet to kill or to restart a container.

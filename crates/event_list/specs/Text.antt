@@ -13,8 +13,8 @@ use Rattle.node_signals.specs.declared.event.NodeEvent.TheVariants.{Threshold, P
 use Rattle.node_signals.specs.Conditions.{name_of as condition_name}
 use Rattle.phase.specs.declared.phase.Phase.{Phase}
 use Rattle.phase.specs.declared.phase.Phase.TheVariants.{Pending, Running, Succeeded, Failed}
-use Rattle.containers.specs.declared.what.What.{What}
-use Rattle.containers.specs.declared.what.What.TheVariants as whats
+use Rattle.containers.specs.declared.pod_event_kind.PodEventKind.{PodEventKind}
+use Rattle.containers.specs.declared.pod_event_kind.PodEventKind.TheVariants as whats
 use Rattle.pod_state.specs.declared.events.PodEvent.{PodEvent}
 use Rattle.pod_piece.specs.declared.order.EvictOrder.{EvictOrder}
 use Rattle.event_list.specs.declared.event.Event.{Event}
@@ -63,7 +63,7 @@ container_of (Some pod) (Some container) = name_in (slice_get pod.containers con
 abbrev pub of_attempt : List ℕ → ℕ → List ℕ
 of_attempt word attempt = joined (word ∷ codes " " ∷ decimal attempt ∷ [])
 
-unfoldable pub what_words : What → List ℕ
+unfoldable pub what_words : PodEventKind → List ℕ
 what_words (whats.Died attempt code) =
     joined (codes "died " ∷ decimal attempt ∷ codes " " ∷ signed_decimal code ∷ [])
 what_words (whats.Started attempt) = of_attempt (codes "started") attempt

@@ -12,7 +12,7 @@ use crate::event::{Event, EventKind};
 use crate::names::Names;
 use crate::phrases::{add, add_with_number, whole_or_nothing};
 use crate::words::{activity_word, add_order, add_threshold, cause_word, phase_word, truth_word};
-use containers::What;
+use containers::PodEventKind;
 use eviction::Eviction;
 use node_signals::{NodeEvent, ThresholdKey};
 use pod_state::PodEvent;
@@ -36,27 +36,29 @@ fn container_text(names: Names<'_>, number: usize, container: Option<usize>) -> 
 
 /// Appends a space, and what happened to a container or to a pod.
 #[tactic(auto, unfolding(crate::specs::Text::what_words))]
-fn add_what(text: &mut String, what: What) -> Result<(), AllocError>
+fn add_what(text: &mut String, what: PodEventKind) -> Result<(), AllocError>
     ensures ok { OnOk result (string_bytes text.new ≡ string_bytes text.old ++ (codes " " ++ what_words what)) }
     ensures more { Extends (string_bytes text.old) (string_bytes text.new) }
 {
     match what {
-        What::Died(attempt, code) => {
+        PodEventKind::Died { attempt, exit_code } => {
             add_with_number(text, " died ", attempt)?;
-            add_with_number(text, " ", code)
+            add_with_number(text, " ", exit_code)
         }
-        What::Started(attempt) => add_with_number(text, " started ", attempt),
-        What::StartupPassed(attempt) => add_with_number(text, " startup-passed ", attempt),
-        What::Kill(attempt, cause) => {
+        PodEventKind::Started { attempt } => add_with_number(text, " started ", attempt),
+        PodEventKind::StartupPassed { attempt } => {
+            add_with_number(text, " startup-passed ", attempt)
+        }
+        PodEventKind::Kill { attempt, cause } => {
             add_with_number(text, " kill ", attempt)?;
             add(text, " ")?;
             add(text, cause_word(cause))
         }
-        What::Ready => add(text, " ready"),
-        What::Unready => add(text, " unready"),
-        What::Backoff(delay) => add_with_number(text, " backoff ", delay),
-        What::Restart(attempt) => add_with_number(text, " restart ", attempt),
-        What::Phase(phase) => {
+        PodEventKind::Ready => add(text, " ready"),
+        PodEventKind::Unready => add(text, " unready"),
+        PodEventKind::Backoff { delay } => add_with_number(text, " backoff ", delay),
+        PodEventKind::Restart { attempt } => add_with_number(text, " restart ", attempt),
+        PodEventKind::Phase { phase } => {
             add(text, " phase ")?;
             add(text, phase_word(phase))
         }

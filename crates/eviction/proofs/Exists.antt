@@ -11,7 +11,7 @@ use Rattle.manifest.specs.declared.pod.PodSpec.{PodSpec}
 use Rattle.observations.specs.declared.tick.TickObs.{TickObs}
 use Rattle.observations.specs.Observations.{shown_of}
 use Rattle.node_config.specs.declared.node.NodeConfig.{NodeConfig}
-use Rattle.node_config.specs.Eviction.{Eviction as EvictionConfig}
+use Rattle.node_config.specs.EvictionConfig.{EvictionConfig}
 use Rattle.node_signals.specs.declared.key.ThresholdKey.{ThresholdKey}
 use Rattle.node_signals.specs.Keys.{serving_order}
 use Rattle.node_signals.specs.Thresholds.{Asks, AsksAt, IsServed}
@@ -20,7 +20,7 @@ use Rattle.phase.specs.RawPhase.{IsTerminal}
 use Rattle.phase.proofs.DecideLemmas.{terminal_cases}
 use Rattle.pod_state.specs.Pods.{PodTick}
 use Rattle.pod_state.proofs.EndLemmas.{IsPhase-unique}
-use Rattle.pod_piece.specs.declared.piece.Eviction.{Eviction as EvictionOfPod}
+use Rattle.pod_piece.specs.declared.piece.EvictionRecord.{EvictionRecord}
 use Rattle.pod_piece.specs.declared.status.PodStatus.{PodStatus}
 use Rattle.pod_piece.specs.Piece.{place_of}
 use Rattle.pod_piece.specs.Status.{IsStatusAfter}
@@ -55,7 +55,7 @@ some_served eviction before tick =
     (option_and_then (slice_get serving_order) first.0, (first.0, first.1, refl))
 
 -- the number of a pod's containers, where it has a status
-few_containers : (number : ℕ) (pod : PodSpec) (eviction : Option EvictionOfPod) (h : List PodTick) (status : PodStatus)
+few_containers : (number : ℕ) (pod : PodSpec) (eviction : Option EvictionRecord) (h : List PodTick) (status : PodStatus)
     → IsStatusAfter number pod eviction h status → length pod.containers < 2 ^ 63
 few_containers number pod eviction h status is =
     let many : length status.containers.items ≡ length pod.containers = is.containers.as_many in
@@ -65,7 +65,7 @@ few_containers number pod eviction h status is =
     omega arith
 
 -- two statuses of a pod rank it alike, and show one phase
-status_alike : (number : ℕ) (pod : PodSpec) (eviction : Option EvictionOfPod) (h : List PodTick) (p q : PodStatus)
+status_alike : (number : ℕ) (pod : PodSpec) (eviction : Option EvictionRecord) (h : List PodTick) (p q : PodStatus)
     → IsStatusAfter number pod eviction h p → IsStatusAfter number pod eviction h q → RankAlike p q
 status_alike number pod eviction h p q v w = record {
   usage = one_usage pod (place_of eviction) h p.usage q.usage v.usage w.usage;
@@ -90,7 +90,7 @@ candidate_or_not : (pods : List PodSpec) (before : List TickObs) (tick : TickObs
     → Known (IsCandidate pods before tick evictions n)
 candidate_or_not pods before tick evictions n = by (slice_get pods n) refl
   where
-    eviction : Option EvictionOfPod
+    eviction : Option EvictionRecord
     eviction = own_eviction n (before ++ tick ∷ []) evictions
 
     h : List PodTick

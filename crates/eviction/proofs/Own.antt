@@ -10,7 +10,7 @@ use Rattle.observations.specs.Observations.{shown_of}
 use Rattle.observations.proofs.OwnTicks.{own_more, own_rests}
 use Rattle.pod_state.specs.Pods.{pod_tick}
 use Rattle.pod_piece.specs.declared.order.EvictOrder.{EvictOrder}
-use Rattle.pod_piece.specs.declared.piece.Eviction.{Eviction as EvictionOfPod}
+use Rattle.pod_piece.specs.declared.piece.EvictionRecord.{EvictionRecord}
 use Rattle.eviction.specs.declared.eviction.Eviction.{Eviction}
 use Rattle.eviction.specs.Replay.{pod_ticks, EvictedAt, later, evicted_at, own_eviction}
 
@@ -102,10 +102,10 @@ evicted_at-below n (Some d ∷ es) f e = elim (alike d.pod n) [
         let t : suc g.tick ≡ f.tick = ap (λ (v : EvictedAt). v.tick) z in
         let lt : g.tick < length es = rest g refl in omega arith
 
-abbrev of_place : ℕ → EvictOrder → EvictionOfPod
+abbrev of_place : ℕ → EvictOrder → EvictionRecord
 of_place place order = record { place = place; order = order }
 
-abbrev pub of_pod : List TickObs → ℕ → EvictedAt → EvictionOfPod
+abbrev pub of_pod : List TickObs → ℕ → EvictedAt → EvictionRecord
 of_pod ticks n found = record { place = length (pod_ticks (take found.tick ticks) n); order = found.order }
 
 -- one more tick leaves an eviction before it where it was

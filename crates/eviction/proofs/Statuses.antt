@@ -15,7 +15,7 @@ use Rattle.pod_state.specs.Pods.{PodTick, EndsPod}
 use Rattle.pod_state.specs.Containers.{AreStatusesOf}
 use Rattle.pod_state.proofs.FoundLemmas.{some_end}
 use Rattle.pod_state.proofs.FoundLemmas as found
-use Rattle.pod_piece.specs.declared.piece.Eviction.{Eviction}
+use Rattle.pod_piece.specs.declared.piece.EvictionRecord.{EvictionRecord}
 use Rattle.pod_piece.specs.Piece.{place_of}
 use Rattle.pod_piece.specs.Status.{requests_of}
 use Rattle.pod_piece.specs.Usage.{IsUsageOf, nothing}
@@ -72,7 +72,7 @@ some_status number pod eviction h few =
         requests = requests_of pod;
         usage = usage.0;
         priority = pod.priority;
-        order = option_map (λ (e : Eviction). e.order) eviction;
+        order = option_map (λ (e : EvictionRecord). e.order) eviction;
       },
       record {
         number_is = refl;

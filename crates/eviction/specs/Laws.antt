@@ -8,7 +8,7 @@ use Rattle.node_config.specs.declared.node.NodeConfig.{NodeConfig}
 use Rattle.node_signals.specs.declared.key.ThresholdKey.{ThresholdKey}
 use Rattle.node_signals.specs.Thresholds.{Asks, IsServed}
 use Rattle.pod_state.specs.Pods.{PodTick, HasEnded}
-use Rattle.pod_piece.specs.declared.piece.Eviction.{Eviction as EvictionOfPod}
+use Rattle.pod_piece.specs.declared.piece.EvictionRecord.{EvictionRecord}
 use Rattle.pod_piece.specs.declared.status.PodStatus.{PodStatus}
 use Rattle.pod_piece.specs.Piece.{place_of}
 use Rattle.pod_piece.specs.Status.{IsStatusAfter}
@@ -19,7 +19,7 @@ use Rattle.eviction.specs.Replay.{pod_ticks, own_eviction, IsReplay}
 -- its ticks are
 abbrev pub SomeStatus : Type 0
 SomeStatus =
-    (number : ℕ) (pod : PodSpec) (eviction : Option EvictionOfPod) (h : List PodTick)
+    (number : ℕ) (pod : PodSpec) (eviction : Option EvictionRecord) (h : List PodTick)
     → length pod.containers < 2 ^ 63
     → (status : PodStatus) × IsStatusAfter number pod eviction h status
 

@@ -16,7 +16,7 @@ use Rattle.node_signals.specs.Thresholds.{IsServed}
 use Rattle.phase.specs.RawPhase.{IsTerminal}
 use Rattle.pod_state.specs.Pods.{PodTick, pod_tick}
 use Rattle.pod_piece.specs.declared.order.EvictOrder.{EvictOrder}
-use Rattle.pod_piece.specs.declared.piece.Eviction.{Eviction as EvictionOfPod}
+use Rattle.pod_piece.specs.declared.piece.EvictionRecord.{EvictionRecord}
 use Rattle.pod_piece.specs.declared.status.PodStatus.{PodStatus}
 use Rattle.pod_piece.specs.Status.{IsStatusAfter}
 use Rattle.ranking.specs.Order.{IsVictim}
@@ -44,7 +44,7 @@ evicted_at n (Some eviction ∷ evictions) =
     else option_map later (evicted_at n evictions)
 
 -- the pod's eviction, by its place among the pod's own ticks: as many of them are before it
-abbrev pub own_eviction : ℕ → List TickObs → List (Option Eviction) → Option EvictionOfPod
+abbrev pub own_eviction : ℕ → List TickObs → List (Option Eviction) → Option EvictionRecord
 own_eviction n ticks evictions =
     option_map
     (λ (found : EvictedAt). record { place = length (pod_ticks (take found.tick ticks) n); order = found.order })

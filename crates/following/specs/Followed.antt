@@ -9,7 +9,7 @@ use Rattle.observations.specs.Pods.{PodObs}
 use Rattle.observations.specs.declared.tick.TickObs.{TickObs}
 use Rattle.observations.specs.Observations.{shown_of, own_ticks, history}
 use Rattle.following.specs.Backwards.{is_backwards}
-use Rattle.following.specs.declared.following.Following.{Following}
+use Rattle.following.specs.declared.listing_order.ListingOrder.{ListingOrder}
 
 -- the last of the ticks, if there is one, is before the moment
 abbrev pub EndBefore : List TickObs → ℕ → Type 0
@@ -33,7 +33,7 @@ pub record AreFollowed (ticks : List TickObs) (counts : List ℕ) (differs : Lis
   pub of_pods : AreOfPods ticks (length counts)
 
 -- these ticks, of pods with so many containers, have left it so
-abbrev pub HasFollowed : List TickObs → List ℕ → Following → Type 0
+abbrev pub HasFollowed : List TickObs → List ℕ → ListingOrder → Type 0
 HasFollowed ticks counts following = AreFollowed ticks counts following.differs.items
 
 -- the tick may stand behind these: it says of each of the pods that it is not present, or shows it with so many
@@ -46,17 +46,17 @@ pub record ComesNext (ticks : List TickObs) (counts : List ℕ) (tick : TickObs)
   pub later : EndBefore ticks tick.at
 
 -- it follows a pod more, of so many containers, through the same ticks
-abbrev pub HasNewPod : Following → ℕ → Following → Type 0
+abbrev pub HasNewPod : ListingOrder → ℕ → ListingOrder → Type 0
 HasNewPod old containers next = (ticks : List TickObs) (counts : List ℕ) → HasFollowed ticks counts old
     → HasFollowed ticks (counts ++ containers ∷ []) next
 
 -- of a tick that may stand behind the ticks that it has followed, the test tells whether none of its listings goes back
-abbrev pub Tells : Bool → Following → TickObs → Type 0
+abbrev pub Tells : Bool → ListingOrder → TickObs → Type 0
 Tells test following tick = (ticks : List TickObs) (counts : List ℕ) → HasFollowed ticks counts following
     → ComesNext ticks counts tick → (IsTrue test ↔ is_backwards ticks tick ≡ false)
 
 -- the tick may stand behind some ticks that it has followed, and doesn't go back behind them
-pub record MayFollow (following : Following) (tick : TickObs) : Type 0 where
+pub record MayFollow (following : ListingOrder) (tick : TickObs) : Type 0 where
   pub ticks : List TickObs
   pub counts : List ℕ
   pub followed : HasFollowed ticks counts following
@@ -64,6 +64,6 @@ pub record MayFollow (following : Following) (tick : TickObs) : Type 0 where
   pub forwards : is_backwards ticks tick ≡ false
 
 -- the tick is followed now as well
-abbrev pub HasNewTick : Following → TickObs → Following → Type 0
+abbrev pub HasNewTick : ListingOrder → TickObs → ListingOrder → Type 0
 HasNewTick old tick next = (ticks : List TickObs) (counts : List ℕ) → HasFollowed ticks counts old
     → ComesNext ticks counts tick → HasFollowed (ticks ++ tick ∷ []) counts next

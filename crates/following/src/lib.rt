@@ -1,6 +1,6 @@
 //! Follows the containers of a node's pods, tick by tick: which listings may come next.
 #![tactic(auto)]
 
-mod following;
+mod listing_order;
 
-pub use following::Following;
+pub use listing_order::ListingOrder;

@@ -53,7 +53,7 @@ fn json(alloc: Global, line: &[u8]) -> Result<Option<Value>, AllocError>
     }
 }
 
-/// What a JSON value says. A tick's is given up here, by the thread that made it.
+/// What a JSON value says. A tick's is dropped here, by the thread that made it.
 #[tactic(auto, unfolding(crate::specs::Lines::said_by))]
 fn said_by(alloc: Global, value: Value) -> Result<TextLine, AllocError>
     ensures { IfOk result (λ read. data_of read ≡ said_by (view value)) }

@@ -32,7 +32,7 @@ pub(crate) fn refused_memory(error: Error) -> Result<(), AllocError>
     }
 }
 
-/// What is kept from line to line: where texts are unescaped, and the memory of a line's values, which is given up at
+/// What is kept from line to line: where texts are unescaped, and the memory of a line's values, which is freed at
 /// once.
 #[derive(Drop)]
 pub struct LineBuffers {
@@ -110,7 +110,7 @@ fn tick_in(
     }
 }
 
-/// The same, and the memory of the line's values is given up.
+/// The same, and the memory of the line's values is freed.
 pub(crate) fn plain_tick(
     alloc: Global,
     line: &[u8],

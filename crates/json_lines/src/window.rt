@@ -46,8 +46,8 @@ fn seems_of_pod(line: &[u8]) -> bool {
     false
 }
 
-/// The next lines, as [`next_lines`] and [`next_tick_lines`] take them, and the text after them; `stops_behind_pods` says
-/// whether the last of several lines that seem to tell of pods is the last one.
+/// The next lines, as [`next_lines`] and [`next_tick_lines`] take them, and the text after them; `stops_behind_pods`
+/// says whether the last of several lines that seem to tell of pods is the last one.
 fn lines_of_window(
     alloc: Global,
     text: &[u8],

@@ -1,7 +1,7 @@
 -- Laws of reports, over the definitions alone.
 use Rattle.std.specs.Prelude.{◌≡◌, ℕ, List, Ok}
 use Rattle.node_config.specs.declared.node.Format.{Format}
-use Rattle.trace.specs.declared.past.Trace.{Trace}
+use Rattle.trace.specs.declared.trace_so_far.Trace.{Trace}
 use Rattle.trace.specs.Trace.{trace_of}
 use Rattle.kubelet_replay.specs.Run.{IsReportIn}
 

@@ -6,7 +6,7 @@ use Rattle.node_config.specs.declared.node.Format.{Format}
 use Rattle.node_config.specs.declared.node.Format.TheVariants.{Standard}
 use Rattle.replay_stream.specs.declared.fault.ReadAllFault.{ReadAllFault}
 use Rattle.replay_stream.specs.declared.fault.ReadAllFault.TheVariants as stream
-use Rattle.trace.specs.declared.past.Trace.{Trace}
+use Rattle.trace.specs.declared.trace_so_far.Trace.{Trace}
 use Rattle.trace.specs.declared.fault.FaultKind.{FaultKind}
 use Rattle.trace.specs.declared.fault.FaultKind.TheVariants as kinds
 use Rattle.trace.specs.declared.fault.LineFault.{LineFault}
@@ -82,7 +82,7 @@ abbrev pub run_fault : FaultKind → LineFault → RunFault
 run_fault kinds.OutOfMemory fault = OutOfMemory
 run_fault kind fault = Line fault
 
--- a faulty line is named, but for want of memory
+-- a faulty line is named, unless memory ran out
 abbrev pub fault_of : LineFault → RunFault
 fault_of fault = run_fault fault.kind fault
 
@@ -114,7 +114,7 @@ Refuses left (Line fault) = ⊥
 Refuses left OutOfMemory = Unit {0}
 Refuses left Write = ⊥
 
--- the text is refused: at its first faulty line, or for want of memory
+-- the text is refused: at its first faulty line, or because memory ran out
 abbrev pub RefusesText : Format → List ℕ → RunFault → Type 0
 RefusesText format text Read = ⊥
 RefusesText format text TooLong = ⊥

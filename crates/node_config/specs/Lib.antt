@@ -1,1 +1,1 @@
-pub mod Eviction
+pub mod EvictionConfig

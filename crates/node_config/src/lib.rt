@@ -1,8 +1,8 @@
 //! What a node is configured with, as a kubelet is.
 #![tactic(auto)]
 
-mod eviction;
+mod eviction_config;
 mod node;
 
-pub use eviction::Eviction;
+pub use eviction_config::EvictionConfig;
 pub use node::{Format, NodeConfig, Version};

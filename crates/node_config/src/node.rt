@@ -2,9 +2,9 @@
 
 ghost use Rattle.std.specs.Prelude.{◌≡◌, IfSome};
 ghost use Rattle.signals.specs.BySignal.{of};
-ghost use Rattle.node_config.specs.Eviction.{threshold_of, HasCapacity};
+ghost use Rattle.node_config.specs.EvictionConfig.{threshold_of, HasCapacity};
 
-use crate::eviction::Eviction;
+use crate::eviction_config::EvictionConfig;
 use manifest::{MaxRestartDelay, Text};
 use quantity::Quantity;
 use signals::{Signal, Threshold, ThresholdKind};
@@ -35,12 +35,12 @@ pub struct NodeConfig {
     /// 1 to 253 bytes.
     pub name: Text,
     pub version: Version,
-    /// By how much a restart is put off at most.
+    /// By how much a restart is backed off at most.
     pub max_restart_delay: MaxRestartDelay,
     /// Whether images and containers have a file system of their own.
     pub has_dedicated_imagefs: bool,
     /// `capacity`, `evictionHard`, `evictionSoft` and what belongs to them.
-    pub eviction: Eviction,
+    pub eviction: EvictionConfig,
     /// `evictionMaxPodGracePeriod`, in seconds.
     pub eviction_max_pod_grace_period: u32,
     /// `evictionPressureTransitionPeriod`, in seconds.

@@ -21,7 +21,7 @@ use Rattle.signals.specs.declared.signal.Signal.TheVariants.{NodefsInodesFree, I
 use Rattle.signals.specs.declared.threshold.Threshold.{Threshold}
 use Rattle.signals.specs.BySignal.{of, for_each}
 use Rattle.node_config.specs.declared.node.NodeConfig.{NodeConfig}
-use Rattle.node_config.specs.Eviction.{Eviction}
+use Rattle.node_config.specs.EvictionConfig.{EvictionConfig}
 use Rattle.node_lines.specs.declared.eviction.Written.{Written}
 use Rattle.node_lines.specs.declared.fault.NodeFault.{NodeFault}
 use Rattle.node_lines.specs.declared.fault.NodeFault.TheVariants.{Config}
@@ -148,12 +148,13 @@ in_read d written e = let a = bind_ok (map_of (λ signal. quantity_at) (field_at
     over_read a.0 d written a.2
 
 -- the thresholds that were made of it
-pub record IsSet (written : Written) (eviction : Eviction) : Type 0 where
+pub record IsSet (written : Written) (eviction : EvictionConfig) : Type 0 where
   pub capacity : written.capacity ≡ eviction.capacity
   pub hard : hard_thresholds written ≡ eviction.hard
   pub soft : soft_thresholds written ≡ Ok eviction.soft
 
-set_read : (written : Written) (eviction : Eviction) → eviction_from written ≡ Ok eviction → IsSet written eviction
+set_read : (written : Written) (eviction : EvictionConfig) → eviction_from written ≡ Ok eviction
+    → IsSet written eviction
 set_read written eviction e =
     let a = bind_ok (soft_thresholds written) _ eviction e in
     subst (IsSet written) (same_value {E = NodeFault} _ eviction a.2)
@@ -206,13 +207,13 @@ of_each f ImagefsInodesFree = refl
 of_each f PidAvailable = refl
 
 -- by the signal
-pub hard_of : (written : Written) (eviction : Eviction) (signal : Signal) → IsSet written eviction
+pub hard_of : (written : Written) (eviction : EvictionConfig) (signal : Signal) → IsSet written eviction
     → hard_threshold (of written.hard signal) (of written.reclaims signal) ≡ of eviction.hard signal
 hard_of written eviction signal set =
     let f : Signal → Option Threshold = λ s. hard_threshold (of written.hard s) (of written.reclaims s) in
     sym (of_each f signal) ∙ ap (λ (all : BySignal (Option Threshold)). of all signal) set.hard
 
-pub soft_of : (written : Written) (eviction : Eviction) (signal : Signal) → IsSet written eviction
+pub soft_of : (written : Written) (eviction : EvictionConfig) (signal : Signal) → IsSet written eviction
     → soft_threshold (of written.soft signal) (of written.reclaims signal) (of written.graces signal)
     ≡ Ok (of eviction.soft signal)
 soft_of written eviction signal set =

@@ -16,7 +16,7 @@ use Rattle.signals.specs.declared.threshold.Threshold.{Threshold}
 use Rattle.signals.specs.declared.threshold.ThresholdKind.TheVariants.{Hard, Soft}
 use Rattle.signals.specs.BySignal.{of}
 use Rattle.node_config.specs.declared.node.NodeConfig.{NodeConfig}
-use Rattle.node_config.specs.Eviction.{threshold_of}
+use Rattle.node_config.specs.EvictionConfig.{threshold_of}
 use Rattle.node_lines.specs.declared.fault.NodeFault.{NodeFault}
 use Rattle.node_lines.specs.declared.fault.NodeFault.TheVariants.{Config}
 use Rattle.node_lines.specs.Laws.{held, grace_written, SwitchesOff, SetsThreshold, threshold_with, IsDefault}

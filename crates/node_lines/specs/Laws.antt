@@ -15,7 +15,7 @@ use Rattle.signals.specs.declared.threshold.Threshold.{Threshold}
 use Rattle.signals.specs.declared.threshold.ThresholdKind.TheVariants.{Hard, Soft}
 use Rattle.signals.specs.BySignal.{of}
 use Rattle.node_config.specs.declared.node.NodeConfig.{NodeConfig}
-use Rattle.node_config.specs.Eviction.{threshold_of}
+use Rattle.node_config.specs.EvictionConfig.{threshold_of}
 use Rattle.node_lines.specs.declared.fault.NodeFault.TheVariants.{SoftWithoutGrace}
 use Rattle.node_lines.specs.Limits.{default_limit, where_possible}
 use Rattle.signal_maps.specs.Maps.{in_map}

@@ -9,7 +9,7 @@ use Rattle.signals.specs.declared.by_signal.BySignal.{BySignal}
 use Rattle.signals.specs.declared.signal.Signal.{Signal}
 use Rattle.signals.specs.declared.threshold.Threshold.{Threshold}
 use Rattle.signals.specs.BySignal.{of, for_each}
-use Rattle.node_config.specs.Eviction.{Eviction}
+use Rattle.node_config.specs.EvictionConfig.{EvictionConfig}
 use Rattle.node_lines.specs.declared.eviction.Written.{Written}
 use Rattle.node_lines.specs.declared.fault.NodeFault.{NodeFault}
 use Rattle.node_lines.specs.declared.fault.NodeFault.TheVariants.{SoftWithoutGrace}
@@ -59,7 +59,7 @@ abbrev pub soft_thresholds : Written → Result (BySignal (Option Threshold)) No
 soft_thresholds written = read_each (soft_threshold_of written)
 
 -- the thresholds, over the capacity
-abbrev pub eviction_from : Written → Result Eviction NodeFault
+abbrev pub eviction_from : Written → Result EvictionConfig NodeFault
 eviction_from written = soft_thresholds written >>= λ soft.
     Ok (record { capacity = written.capacity; hard = hard_thresholds written; soft = soft })
 

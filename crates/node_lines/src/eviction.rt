@@ -10,7 +10,7 @@ use crate::fault::NodeFault;
 use crate::maps::{durations, limits, quantities, reclaims};
 use crate::thresholds::{hard_thresholds, soft_thresholds};
 use json_fields::field;
-use node_config::Eviction;
+use node_config::EvictionConfig;
 use quantity::{Limit, Percent, Quantity};
 use serde_json::Value;
 use signals::BySignal;
@@ -95,11 +95,11 @@ pub(crate) fn written_in(node: &Value) -> Result<Written, NodeFault>
 }
 
 /// The thresholds of what was written.
-pub(crate) fn eviction_from(written: &Written) -> Result<Eviction, NodeFault>
+pub(crate) fn eviction_from(written: &Written) -> Result<EvictionConfig, NodeFault>
     requires { HasCapacities written.now }
     ensures { result ≡ eviction_from written.now }
 {
     let soft = soft_thresholds(written)?;
     let hard = hard_thresholds(written);
-    Ok(Eviction::new(written.capacity, hard, soft))
+    Ok(EvictionConfig::new(written.capacity, hard, soft))
 }

@@ -23,9 +23,9 @@ use Rattle.node_pods.proofs.Candidates.{same_piece}
 use Rattle.node_pods.proofs.Steps.{after_handed}
 
 -- where each pod has its number
-pub free_all : (pieces : List Piece) (greatest : ℕ) (dedicated : Bool)
-    → ArePlaced (pods_of pieces greatest dedicated) → AreFree pieces
-free_all pieces greatest dedicated placed n piece at = (placed n piece at).free
+pub free_all : (pieces : List Piece) (max_restart_delay : ℕ) (dedicated : Bool)
+    → ArePlaced (pods_of pieces max_restart_delay dedicated) → AreFree pieces
+free_all pieces max_restart_delay dedicated placed n piece at = (placed n piece at).free
 
 -- one pod more
 pub others_arrived : (pieces : List Piece) (x : Piece) (n : ℕ) → n ≢ length pieces
@@ -38,71 +38,75 @@ others_arrived pieces x n apart = elim (cases_order n (length pieces)) [
       ∙ sym (slice_get_past pieces n (omega (arith, gt)))
 ]
 
-pub placed_arrived : (pieces : List Piece) (greatest : ℕ) (dedicated : Bool) (pod : PodSpec)
-    → ArePlaced (pods_of pieces greatest dedicated)
-    → ArePlaced (pods_of (pieces ++ new_piece (length pieces) pod greatest ∷ []) greatest dedicated)
-placed_arrived pieces greatest dedicated pod placed n piece at = elim (cases_eq n (length pieces)) [
+pub placed_arrived : (pieces : List Piece) (max_restart_delay : ℕ) (dedicated : Bool) (pod : PodSpec)
+    → ArePlaced (pods_of pieces max_restart_delay dedicated)
+    → ArePlaced (pods_of (pieces ++ new_piece (length pieces) pod max_restart_delay ∷ []) max_restart_delay dedicated)
+placed_arrived pieces max_restart_delay dedicated pod placed n piece at = elim (cases_eq n (length pieces)) [
   | inl same ↦
-      let x = new_piece (length pieces) pod greatest in
+      let x = new_piece (length pieces) pod max_restart_delay in
       let new = subst (λ (k : ℕ). slice_get (pieces ++ x ∷ []) k ≡ Some x) (sym same) (slice_get-new pieces x) in
-      subst (λ (p : Piece). IsPlaced greatest n p) (same_piece (pieces ++ x ∷ []) n x piece new at)
+      subst (λ (p : Piece). IsPlaced max_restart_delay n p) (same_piece (pieces ++ x ∷ []) n x piece new at)
       (record { number_is = sym same; greatest_is = refl; free = refl })
   | inr apart ↦
-      placed n piece (sym (others_arrived pieces (new_piece (length pieces) pod greatest) n apart) ∙ at)
+      placed n piece (sym (others_arrived pieces (new_piece (length pieces) pod max_restart_delay) n apart) ∙ at)
 ]
 
 -- after a tick
-pub placed_after : (old : List Piece) (greatest : ℕ) (dedicated : Bool) (shown : List (Option PodObs))
-    (new : List Piece) → ArePlaced (pods_of old greatest dedicated) → AreNext old shown → AreAfter old shown new
-    → ArePlaced (pods_of new greatest dedicated)
-placed_after old greatest dedicated shown new placed next are n piece at =
+pub placed_after : (old : List Piece) (max_restart_delay : ℕ) (dedicated : Bool) (shown : List (Option PodObs))
+    (new : List Piece) → ArePlaced (pods_of old max_restart_delay dedicated) → AreNext old shown
+    → AreAfter old shown new
+    → ArePlaced (pods_of new max_restart_delay dedicated)
+placed_after old max_restart_delay dedicated shown new placed next are n piece at =
     let lt = slice_get_within new n piece at in
     let p = given_at old n (omega (arith, lt, are.as_many)) in
     let o = given_at shown n (omega (arith, lt, are.as_many, next.as_many)) in
     by p.0 p.1 o.0 o.1
   where
     by : (p : Piece) → slice_get old n ≡ Some p → (o : Option PodObs) → slice_get shown n ≡ Some o
-        → IsPlaced greatest n piece
+        → IsPlaced max_restart_delay n piece
     by p was None there =
-        subst (λ (q : Piece). IsPlaced greatest n q) (same_piece new n p piece (are.absent n p was there) at)
+        subst (λ (q : Piece). IsPlaced max_restart_delay n q) (same_piece new n p piece (are.absent n p was there) at)
         (placed n p was)
     by p was (Some o) there =
         let before = placed n p was in
-        subst (λ (q : Piece). IsPlaced greatest n q)
+        subst (λ (q : Piece). IsPlaced max_restart_delay n q)
         (same_piece new n (updated (with_tick p (pod_tick o))) piece (are.each n p o was there) at)
         (record { number_is = before.number_is; greatest_is = before.greatest_is; free = refl })
 
 -- once the pieces that went out have come back
-pub placed_joined : (old : List Piece) (greatest : ℕ) (dedicated : Bool) (shown : List (Option PodObs))
-    → ArePlaced (pods_of old greatest dedicated) → AreNext old shown
-    → ArePlaced (joined (awaited (kept_of old shown) greatest dedicated) (map updated (handed_from 0 old shown)))
-placed_joined old greatest dedicated shown placed next =
-    placed_after old greatest dedicated shown
+pub placed_joined : (old : List Piece) (max_restart_delay : ℕ) (dedicated : Bool) (shown : List (Option PodObs))
+    → ArePlaced (pods_of old max_restart_delay dedicated) → AreNext old shown
+    → ArePlaced
+    (joined (awaited (kept_of old shown) max_restart_delay dedicated) (map updated (handed_from 0 old shown)))
+placed_joined old max_restart_delay dedicated shown placed next =
+    placed_after old max_restart_delay dedicated shown
     (joined_from 0 (kept_of old shown) (map updated (handed_from 0 old shown))) placed next
     (after_handed old shown next.as_many (λ n piece at. (placed n piece at).number_is))
 
-pub placed_as_joined : (old : List Piece) (greatest : ℕ) (dedicated : Bool) (shown : List (Option PodObs))
-    (out : List Piece) (kept : List (Option Piece)) → ArePlaced (pods_of old greatest dedicated) → AreNext old shown
+pub placed_as_joined : (old : List Piece) (max_restart_delay : ℕ) (dedicated : Bool) (shown : List (Option PodObs))
+    (out : List Piece) (kept : List (Option Piece)) → ArePlaced (pods_of old max_restart_delay dedicated)
+    → AreNext old shown
     → out ≡ handed_from 0 old shown → kept ≡ kept_of old shown
-    → ArePlaced (joined (awaited kept greatest dedicated) (map updated out))
-placed_as_joined old greatest dedicated shown out kept placed next out_is kept_is =
-    subst (λ (k : List (Option Piece)). ArePlaced (joined (awaited k greatest dedicated) (map updated out)))
+    → ArePlaced (joined (awaited kept max_restart_delay dedicated) (map updated out))
+placed_as_joined old max_restart_delay dedicated shown out kept placed next out_is kept_is =
+    subst (λ (k : List (Option Piece)). ArePlaced (joined (awaited k max_restart_delay dedicated) (map updated out)))
     (sym kept_is)
-    (subst (λ (o : List Piece). ArePlaced (joined (awaited (kept_of old shown) greatest dedicated) (map updated o)))
-    (sym out_is) (placed_joined old greatest dedicated shown placed next))
+    (subst (λ (o : List Piece). ArePlaced
+    (joined (awaited (kept_of old shown) max_restart_delay dedicated) (map updated o)))
+    (sym out_is) (placed_joined old max_restart_delay dedicated shown placed next))
 
 -- after an eviction
-pub placed_evicted : (old : List Piece) (greatest : ℕ) (dedicated : Bool) (number : ℕ) (order : EvictOrder)
-    (new : List Piece) → ArePlaced (pods_of old greatest dedicated) → AreEvicted old number order new
-    → ArePlaced (pods_of new greatest dedicated)
-placed_evicted old greatest dedicated number order new placed are n piece at = elim (cases_eq n number) [
+pub placed_evicted : (old : List Piece) (max_restart_delay : ℕ) (dedicated : Bool) (number : ℕ) (order : EvictOrder)
+    (new : List Piece) → ArePlaced (pods_of old max_restart_delay dedicated) → AreEvicted old number order new
+    → ArePlaced (pods_of new max_restart_delay dedicated)
+placed_evicted old max_restart_delay dedicated number order new placed are n piece at = elim (cases_eq n number) [
   | inl same ↦
       let lt = slice_get_within new n piece at in
       let p = given_at old n (omega (arith, lt, are.as_many)) in
       let was = placed n p.0 p.1 in
       let there = subst (λ (k : ℕ). slice_get old k ≡ Some p.0) same p.1 in
       let here = subst (λ (k : ℕ). slice_get new k ≡ Some (with_eviction p.0 order)) (sym same) (are.here p.0 there) in
-      subst (λ (q : Piece). IsPlaced greatest n q) (same_piece new n (with_eviction p.0 order) piece here at)
+      subst (λ (q : Piece). IsPlaced max_restart_delay n q) (same_piece new n (with_eviction p.0 order) piece here at)
       (record { number_is = was.number_is; greatest_is = was.greatest_is; free = was.free })
   | inr apart ↦ placed n piece (sym (are.others n apart) ∙ at)
 ]

@@ -44,9 +44,10 @@ lives_by piece p is lives ended =
     lives ((ended_is piece.pod (evicted_at piece) (ticks piece) p.phase is.lifecycle.phase).1 ended)
 
 -- a pod that nothing was handed to has not ended
-pub new_lives : (n : ℕ) (pod : PodSpec) (greatest : ℕ) (p : PodStatus) → IsStatusOf (new_piece n pod greatest) p
+pub new_lives : (n : ℕ) (pod : PodSpec) (max_restart_delay : ℕ) (p : PodStatus)
+    → IsStatusOf (new_piece n pod max_restart_delay) p
     → IsTerminal p.phase → ⊥
-new_lives n pod greatest p is ended =
+new_lives n pod max_restart_delay p is ended =
     let end = (ended_is pod None [] p.phase is.lifecycle.phase).0 ended in
     let within : end.0 < 0 = end.1.holds.within in
     absurd (omega arith)

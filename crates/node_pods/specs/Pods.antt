@@ -18,27 +18,28 @@ use Rattle.pod_piece.specs.Status.{IsStatusOf}
 pub record Pods : Type 0 where
   pub pieces : List Piece
   -- the node's greatest restart delay, in seconds
-  pub greatest : ℕ
+  pub max_restart_delay : ℕ
   pub has_dedicated_imagefs : Bool
 
 abbrev pub pods_of : List Piece → ℕ → Bool → Pods
-pods_of pieces greatest has_dedicated_imagefs =
-    record { pieces = pieces; greatest = greatest; has_dedicated_imagefs = has_dedicated_imagefs }
+pods_of pieces max_restart_delay has_dedicated_imagefs =
+    record { pieces = pieces; max_restart_delay = max_restart_delay; has_dedicated_imagefs = has_dedicated_imagefs }
 
 -- one pod more, behind the others
 abbrev pub with_pod : Pods → PodSpec → Pods
 with_pod pods pod =
-    pods_of (pods.pieces ++ new_piece (length pods.pieces) pod pods.greatest ∷ []) pods.greatest
+    pods_of (pods.pieces ++ new_piece (length pods.pieces) pod pods.max_restart_delay ∷ []) pods.max_restart_delay
     pods.has_dedicated_imagefs
 
 -- a pod of a node: its number is its place, and all that was handed to it has come into its status
-pub record IsPlaced (greatest : ℕ) (n : ℕ) (piece : Piece) : Type 0 where
+pub record IsPlaced (max_restart_delay : ℕ) (n : ℕ) (piece : Piece) : Type 0 where
   pub number_is : piece.number ≡ n
-  pub greatest_is : piece.greatest ≡ greatest
+  pub greatest_is : piece.max_restart_delay ≡ max_restart_delay
   pub free : piece.is_pending ≡ false
 
 abbrev pub ArePlaced : Pods → Type 0
-ArePlaced pods = (n : ℕ) (piece : Piece) → slice_get pods.pieces n ≡ Some piece → IsPlaced pods.greatest n piece
+ArePlaced pods = (n : ℕ) (piece : Piece) → slice_get pods.pieces n ≡ Some piece
+    → IsPlaced pods.max_restart_delay n piece
 
 -- a pod that may be evicted at a moment, and its status: it is present, since the tick of the moment shows it, and it
 -- has not ended
@@ -98,16 +99,16 @@ pub record AreAfter (old : List Piece) (shown : List (Option PodObs)) (new : Lis
 -- what a node keeps of its pods while the pieces of those that are present take a tick into their statuses
 pub record Awaited : Type 0 where
   pub kept : List (Option Piece)
-  pub greatest : ℕ
+  pub max_restart_delay : ℕ
   pub has_dedicated_imagefs : Bool
 
 abbrev pub awaited : List (Option Piece) → ℕ → Bool → Awaited
-awaited kept greatest has_dedicated_imagefs =
-    record { kept = kept; greatest = greatest; has_dedicated_imagefs = has_dedicated_imagefs }
+awaited kept max_restart_delay has_dedicated_imagefs =
+    record { kept = kept; max_restart_delay = max_restart_delay; has_dedicated_imagefs = has_dedicated_imagefs }
 
 -- the pods of the node with the pieces that come back
 abbrev pub joined : Awaited → List Piece → Pods
-joined a back = pods_of (joined_from 0 a.kept back) a.greatest a.has_dedicated_imagefs
+joined a back = pods_of (joined_from 0 a.kept back) a.max_restart_delay a.has_dedicated_imagefs
 
 -- the pod with the number may be evicted by the tick of this moment
 abbrev pub IsEvictable : List Piece → ℕ → ℕ → Type 0

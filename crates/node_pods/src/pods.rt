@@ -20,7 +20,7 @@ use std::marker::Model;
 #[derive(Drop)]
 pub struct NodePods {
     alloc: Global,
-    greatest: MaxRestartDelay,
+    max_restart_delay: MaxRestartDelay,
     has_dedicated_imagefs: bool,
     pieces: Vec<PodPiece>,
 }
@@ -30,20 +30,24 @@ impl Model for NodePods {
 
     ghost Value = { Pods };
 
-    ghost view = { λ p. pods_of p.pieces.items p.greatest p.has_dedicated_imagefs };
+    ghost view = { λ p. pods_of p.pieces.items p.max_restart_delay p.has_dedicated_imagefs };
 
-    ghost invariant = { λ p. ArePlaced (pods_of p.pieces.items p.greatest p.has_dedicated_imagefs) };
+    ghost invariant = { λ p. ArePlaced (pods_of p.pieces.items p.max_restart_delay p.has_dedicated_imagefs) };
 }
 
 impl NodePods {
     /// No pods, on a node with this greatest restart delay. Whether images and containers have a file
     /// system of their own decides how pods are ranked. It takes no memory.
-    pub fn new(alloc: Global, greatest: MaxRestartDelay, has_dedicated_imagefs: bool) -> NodePods
-        ensures { result ≡ pods_of [] greatest has_dedicated_imagefs }
+    pub fn new(
+        alloc: Global,
+        max_restart_delay: MaxRestartDelay,
+        has_dedicated_imagefs: bool,
+    ) -> NodePods
+        ensures { result ≡ pods_of [] max_restart_delay has_dedicated_imagefs }
     {
         NodePods {
             alloc,
-            greatest,
+            max_restart_delay,
             has_dedicated_imagefs,
             pieces: Vec::new(alloc),
         }
@@ -64,7 +68,7 @@ impl NodePods {
         ensures err { OnErr result (self.new ≡ self.old) }
     {
         self.pieces.try_reserve(1)?;
-        let piece = PodPiece::new(self.alloc, self.pieces.len(), pod, self.greatest)?;
+        let piece = PodPiece::new(self.alloc, self.pieces.len(), pod, self.max_restart_delay)?;
         self.pieces.push_reserved(piece);
         Ok(())
     }
@@ -89,12 +93,12 @@ impl NodePods {
         requires { AreNext self.pieces shown.items }
         ensures handed { IfOk result (λ r. r.0.items ≡ handed_from 0 self.pieces shown.items) }
         ensures awaited { IfOk result (λ r. r.1
-            ≡ awaited (kept_of self.pieces shown.items) self.greatest self.has_dedicated_imagefs) }
+            ≡ awaited (kept_of self.pieces shown.items) self.max_restart_delay self.has_dedicated_imagefs) }
         ensures updated { IfOk result (λ r. ArePlaced (joined r.1 (map updated r.0.items))) }
     {
         let NodePods {
             alloc,
-            greatest,
+            max_restart_delay,
             has_dedicated_imagefs,
             pieces,
         } = self;
@@ -103,7 +107,7 @@ impl NodePods {
             out,
             AwaitedPods {
                 alloc,
-                greatest,
+                max_restart_delay,
                 has_dedicated_imagefs,
                 kept,
             },
@@ -127,7 +131,7 @@ impl NodePods {
     pub fn evict(&mut self, number: usize, order: EvictOrder)
         requires { IsEvictable self.old.pieces number order.at }
         ensures evicted { AreEvicted self.old.pieces number order self.new.pieces }
-        ensures greatest { self.new.greatest ≡ self.old.greatest }
+        ensures max_restart_delay { self.new.max_restart_delay ≡ self.old.max_restart_delay }
         ensures dedicated { self.new.has_dedicated_imagefs ≡ self.old.has_dedicated_imagefs }
     {
         evict_at(&mut self.pieces, number, order);
@@ -138,7 +142,7 @@ impl NodePods {
 #[derive(Drop)]
 pub struct AwaitedPods {
     alloc: Global,
-    greatest: MaxRestartDelay,
+    max_restart_delay: MaxRestartDelay,
     has_dedicated_imagefs: bool,
     kept: Vec<Option<PodPiece>>,
 }
@@ -148,7 +152,7 @@ impl Model for AwaitedPods {
 
     ghost Value = { Awaited };
 
-    ghost view = { λ a. awaited a.kept.items a.greatest a.has_dedicated_imagefs };
+    ghost view = { λ a. awaited a.kept.items a.max_restart_delay a.has_dedicated_imagefs };
 }
 
 impl AwaitedPods {
@@ -160,14 +164,14 @@ impl AwaitedPods {
     {
         let AwaitedPods {
             alloc,
-            greatest,
+            max_restart_delay,
             has_dedicated_imagefs,
             kept,
         } = self;
         let pieces = all_joined(alloc, kept, back)?;
         Ok(NodePods {
             alloc,
-            greatest,
+            max_restart_delay,
             has_dedicated_imagefs,
             pieces,
         })

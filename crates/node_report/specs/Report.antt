@@ -11,7 +11,7 @@ use Rattle.pod_state.specs.declared.lifecycle.Lifecycle.{Lifecycle}
 use Rattle.pod_state.specs.Containers.{AreStatusesOf}
 use Rattle.pod_state.specs.Lifecycles.{IsLifecycleOf}
 use Rattle.pod_piece.specs.declared.order.EvictOrder.{EvictOrder}
-use Rattle.pod_piece.specs.declared.piece.Eviction.{Eviction as EvictionOfPod}
+use Rattle.pod_piece.specs.declared.piece.EvictionRecord.{EvictionRecord}
 use Rattle.pod_piece.specs.Piece.{place_of}
 use Rattle.eviction.specs.declared.eviction.Eviction.{Eviction}
 use Rattle.eviction.specs.Replay.{pod_ticks, own_eviction, IsReplay}
@@ -28,7 +28,7 @@ evicting_tick n ticks evictions = place_of (own_eviction n ticks evictions)
 
 -- the order by which
 abbrev pub evicting_order : ℕ → List TickObs → List (Option Eviction) → Option EvictOrder
-evicting_order n ticks evictions = option_map (λ (e : EvictionOfPod). e.order) (own_eviction n ticks evictions)
+evicting_order n ticks evictions = option_map (λ (e : EvictionRecord). e.order) (own_eviction n ticks evictions)
 
 -- the lines of the pod with the number after these ticks with these evictions
 pub record ArePodLines (ticks : List TickObs) (evictions : List (Option Eviction)) (n : ℕ) (pod : PodSpec)

@@ -11,7 +11,7 @@ use Rattle.histories.proofs.Lists.{place_split, given_at}
 use Rattle.pressure.specs.Pressures.{Observation, IsMetAt, IsUnderPressure, IsSince}
 use Rattle.pressure.specs.declared.pressure.Pressure.{Pressure}
 use Rattle.pressure.specs.State.{IsStateOf as IsPressureState}
-use Rattle.node_config.specs.Eviction.{Eviction}
+use Rattle.node_config.specs.EvictionConfig.{EvictionConfig}
 use Rattle.observations.specs.declared.tick.TickObs.{TickObs}
 use Rattle.node_signals.specs.declared.condition.NodeCondition.{NodeCondition}
 use Rattle.node_signals.specs.Conditions.{IsMet, AreObservations, IsTrueAfter, IsSinceMoment}
@@ -36,7 +36,7 @@ same_observations (x ∷ h) (y ∷ k) len moments met =
     subst P head (subst Q rest refl)
 
 -- the ticks say one thing of a condition
-pub one_list : (eviction : Eviction) (condition : NodeCondition) (ticks : List TickObs) (h k : List Observation)
+pub one_list : (eviction : EvictionConfig) (condition : NodeCondition) (ticks : List TickObs) (h k : List Observation)
     → AreObservations eviction condition ticks h → AreObservations eviction condition ticks k → h ≡ k
 one_list eviction condition ticks h k a b =
     same_observations h k (a.as_many ∙ sym b.as_many)
@@ -47,7 +47,7 @@ one_list eviction condition ticks h k a b =
     let other = b.met t there.0 there.1 in
     ((λ m. other.1 (one.0 m)), (λ m. one.1 (other.0 m))))
 
-pub none_observed : (eviction : Eviction) (condition : NodeCondition) → AreObservations eviction condition [] []
+pub none_observed : (eviction : EvictionConfig) (condition : NodeCondition) → AreObservations eviction condition [] []
 none_observed eviction condition = record {
   as_many = refl;
   moments = λ t tick e. absurd (cc);
@@ -65,7 +65,7 @@ met_before (x ∷ h) at b zero lt = ((λ m. m), (λ m. m))
 met_before (x ∷ h) at b (suc t) lt = met_before h at b t (omega arith)
 
 -- with one more tick
-pub observed_more : (eviction : Eviction) (condition : NodeCondition) (before : List TickObs) (tick : TickObs)
+pub observed_more : (eviction : EvictionConfig) (condition : NodeCondition) (before : List TickObs) (tick : TickObs)
     (h : List Observation) (met : Bool)
     → (IsTrue met ↔ IsMet eviction condition (before ++ tick ∷ [])) → AreObservations eviction condition before h
     → AreObservations eviction condition (before ++ tick ∷ []) (h ++ recorded tick.at met ∷ [])
@@ -104,7 +104,7 @@ observed_more eviction condition before tick h met is a = record {
 }
 
 -- a value that says of the observations whether the condition is true says it of the ticks
-pub true_after : (eviction : Eviction) (period : ℕ) (condition : NodeCondition) (ticks : List TickObs)
+pub true_after : (eviction : EvictionConfig) (period : ℕ) (condition : NodeCondition) (ticks : List TickObs)
     (h : List Observation) (value : Bool)
     → AreObservations eviction condition ticks h → (IsTrue value ↔ IsUnderPressure period h)
     → (IsTrue value ↔ IsTrueAfter eviction period condition ticks)
@@ -118,7 +118,7 @@ abbrev pub TakesMore : Pressure → ℕ → Bool → Pressure → Type 0
 TakesMore old at met new = (period : ℕ) (h : List Observation) → IsPressureState period h old
     → IsPressureState period (h ++ recorded at met ∷ []) new
 
-pub pressure_more : (eviction : Eviction) (period : ℕ) (condition : NodeCondition) (before : List TickObs)
+pub pressure_more : (eviction : EvictionConfig) (period : ℕ) (condition : NodeCondition) (before : List TickObs)
     (tick : TickObs) (at : ℕ) (met : Bool) (old new : Pressure)
     → tick.at ≡ at → (IsTrue met ↔ IsMet eviction condition (before ++ tick ∷ [])) → TakesMore old at met new
     → IsPressureOf eviction period condition before old
@@ -129,7 +129,7 @@ pressure_more eviction period condition before tick at met old new is_at is take
   subst (λ k. IsPressureState period (h ++ recorded k met ∷ []) new) (sym is_at) (takes period h state),
 )
 
-pub is_true_of : (eviction : Eviction) (period : ℕ) (condition : NodeCondition) (ticks : List TickObs)
+pub is_true_of : (eviction : EvictionConfig) (period : ℕ) (condition : NodeCondition) (ticks : List TickObs)
     (pressure : Pressure) (value : Bool)
     → IsPressureOf eviction period condition ticks pressure
     → ((p : ℕ) (h : List Observation) → IsPressureState p h pressure → (IsTrue value ↔ IsUnderPressure p h))
@@ -137,7 +137,7 @@ pub is_true_of : (eviction : Eviction) (period : ℕ) (condition : NodeCondition
 is_true_of eviction period condition ticks pressure value (h, observed, state) tells =
     true_after eviction period condition ticks h value observed (tells period h state)
 
-pub since_of : (eviction : Eviction) (period : ℕ) (condition : NodeCondition) (ticks : List TickObs)
+pub since_of : (eviction : EvictionConfig) (period : ℕ) (condition : NodeCondition) (ticks : List TickObs)
     (pressure : Pressure) (since : ℕ)
     → IsPressureOf eviction period condition ticks pressure
     → ((p : ℕ) (h : List Observation) → IsPressureState p h pressure → IsSince p h since)

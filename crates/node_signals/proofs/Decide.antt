@@ -16,7 +16,7 @@ use Rattle.thresholds.specs.Thresholds.{IsThresholdActive, IsThresholdDue}
 use Rattle.thresholds.proofs.LawLemmas.{one_active_since}
 use Rattle.thresholds.proofs.Since.{due_by}
 use Rattle.pressure.specs.Pressures.{Observation, IsMetAt, WasMetLately, IsUnderPressure}
-use Rattle.node_config.specs.Eviction.{Eviction}
+use Rattle.node_config.specs.EvictionConfig.{EvictionConfig}
 use Rattle.observations.specs.declared.tick.TickObs.{TickObs}
 use Rattle.node_signals.specs.declared.key.ThresholdKey.{ThresholdKey}
 use Rattle.node_signals.specs.declared.condition.NodeCondition.{NodeCondition}
@@ -34,7 +34,7 @@ threshold_active_or_not threshold capacity h =
     let since = one_active_since.exists limit reclaim h in
     of_test (is_some since.0) (one_active_since.some limit reclaim h since.0 since.1)
 
-pub active_or_not : (eviction : Eviction) (ticks : List TickObs) (key : ThresholdKey)
+pub active_or_not : (eviction : EvictionConfig) (ticks : List TickObs) (key : ThresholdKey)
     → OrNot (IsActive eviction ticks key)
 active_or_not eviction ticks key =
     let capacity = of eviction.capacity key.signal in
@@ -55,7 +55,7 @@ threshold_due_or_not threshold capacity h x =
       | inr not ↦ inr (λ due. not (same.1 due))
     ]
 
-pub due_or_not : (eviction : Eviction) (before : List TickObs) (tick : TickObs) (key : ThresholdKey)
+pub due_or_not : (eviction : EvictionConfig) (before : List TickObs) (tick : TickObs) (key : ThresholdKey)
     → OrNot (IsDue eviction (before ++ tick ∷ []) key)
 due_or_not eviction before tick key =
     let capacity = of eviction.capacity key.signal in
@@ -66,7 +66,7 @@ due_or_not eviction before tick key =
     given_or_not (λ threshold. IsThresholdDue threshold capacity (samples key.signal (before ++ tick ∷ []))) each
     (threshold_at eviction key)
 
-pub reclaimed_or_not : (eviction : Eviction) (tick : TickObs) (key : ThresholdKey)
+pub reclaimed_or_not : (eviction : EvictionConfig) (tick : TickObs) (key : ThresholdKey)
     → OrNot (IsReclaimed eviction tick key)
 reclaimed_or_not eviction tick key =
     let capacity = of eviction.capacity key.signal in
@@ -87,7 +87,7 @@ same_condition_or_not DiskPressure DiskPressure = inl refl
 same_condition_or_not PidPressure PidPressure = inl refl
 same_condition_or_not c d = inr (λ e. cc)
 
-meets_or_not : (eviction : Eviction) (condition : NodeCondition) (ticks : List TickObs) (key : ThresholdKey)
+meets_or_not : (eviction : EvictionConfig) (condition : NodeCondition) (ticks : List TickObs) (key : ThresholdKey)
     → OrNot (Meets eviction condition ticks key)
 meets_or_not eviction condition ticks key =
     elim (both (same_condition_or_not (condition_of key.signal) condition) (active_or_not eviction ticks key)) [
@@ -95,7 +95,7 @@ meets_or_not eviction condition ticks key =
       | inr not ↦ inr (λ meets. not (meets.belongs, meets.active))
     ]
 
-pub met_or_not : (eviction : Eviction) (condition : NodeCondition) (ticks : List TickObs)
+pub met_or_not : (eviction : EvictionConfig) (condition : NodeCondition) (ticks : List TickObs)
     → OrNot (IsMet eviction condition ticks)
 met_or_not eviction condition ticks =
     let each = meets_or_not eviction condition ticks in

@@ -7,7 +7,7 @@ use Rattle.std.proofs.lemmas.List.{take_all}
 use Rattle.histories.proofs.Decide.{same_bool}
 use Rattle.histories.proofs.Lists.{take_more}
 use Rattle.node_signals.specs.declared.event.NodeEvent.{NodeEvent}
-use Rattle.node_config.specs.Eviction.{Eviction}
+use Rattle.node_config.specs.EvictionConfig.{EvictionConfig}
 use Rattle.observations.specs.declared.tick.TickObs.{TickObs}
 use Rattle.node_signals.specs.declared.key.ThresholdKey.{ThresholdKey}
 use Rattle.node_signals.specs.Keys.{serving_order}
@@ -132,7 +132,7 @@ adds_three P x y z old first second new a b c gives_a gives_b gives_c one two th
     gives_b two) gives_c three
 
 -- the three kinds, one after the other
-pub all_events : (eviction : Eviction) (period : ℕ) (before : List TickObs) (tick : TickObs)
+pub all_events : (eviction : EvictionConfig) (period : ℕ) (before : List TickObs) (tick : TickObs)
     (first second all : List NodeEvent)
     → Adds (ChangesThreshold eviction before tick) serving_order [] first
     → Adds (ChangesCondition eviction period before tick) conditions first second

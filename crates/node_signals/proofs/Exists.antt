@@ -7,7 +7,7 @@ use Rattle.histories.specs.Histories.{recorded}
 use Rattle.histories.proofs.Decide.{both, test_of}
 use Rattle.pressure.specs.Pressures.{Observation}
 use Rattle.pressure.proofs.LawLemmas.{one_since}
-use Rattle.node_config.specs.Eviction.{Eviction}
+use Rattle.node_config.specs.EvictionConfig.{EvictionConfig}
 use Rattle.observations.specs.declared.tick.TickObs.{TickObs}
 use Rattle.node_signals.specs.declared.key.ThresholdKey.{ThresholdKey}
 use Rattle.node_signals.specs.declared.condition.NodeCondition.{NodeCondition}
@@ -23,7 +23,8 @@ use Rattle.node_signals.proofs.Decide.{active_or_not, due_or_not, reclaimed_or_n
 use Rattle.node_signals.proofs.EventLemmas.{gives_none, gives_one, changed, unchanged}
 
 -- what the ticks say of a condition
-observed_after : (eviction : Eviction) (condition : NodeCondition) (later before : List TickObs) (h : List Observation)
+observed_after : (eviction : EvictionConfig) (condition : NodeCondition) (later before : List TickObs)
+    (h : List Observation)
     → AreObservations eviction condition before h
     → (all : List Observation) × AreObservations eviction condition (before ++ later) all
 observed_after eviction condition [] before h are =
@@ -36,19 +37,19 @@ observed_after eviction condition (tick ∷ later) before h are =
     subst All (append_assoc before (tick ∷ []) later)
     (observed_after eviction condition later (before ++ tick ∷ []) (h ++ recorded tick.at met.0 ∷ []) next)
 
-some_observations : (eviction : Eviction) (condition : NodeCondition) (ticks : List TickObs)
+some_observations : (eviction : EvictionConfig) (condition : NodeCondition) (ticks : List TickObs)
     → (h : List Observation) × AreObservations eviction condition ticks h
 some_observations eviction condition ticks =
     observed_after eviction condition ticks [] [] (none_observed eviction condition)
 
-some_value : (eviction : Eviction) (period : ℕ) (condition : NodeCondition) (ticks : List TickObs)
+some_value : (eviction : EvictionConfig) (period : ℕ) (condition : NodeCondition) (ticks : List TickObs)
     → (value : Bool) × (IsTrue value ↔ IsTrueAfter eviction period condition ticks)
 some_value eviction period condition ticks =
     let observed = some_observations eviction condition ticks in
     let value = test_of (pressure_or_not period observed.0) in
     (value.0, true_after eviction period condition ticks observed.0 value.0 observed.1 value.1)
 
-some_moment : (eviction : Eviction) (period : ℕ) (condition : NodeCondition) (ticks : List TickObs)
+some_moment : (eviction : EvictionConfig) (period : ℕ) (condition : NodeCondition) (ticks : List TickObs)
     → (since : ℕ) × IsSinceMoment eviction period condition ticks since
 some_moment eviction period condition ticks =
     let observed = some_observations eviction condition ticks in
@@ -68,13 +69,13 @@ change_of event_of N O (now, is) (old, was) = by (beq now old) refl
     by true e = (None, unchanged event_of N O now old is was e)
     by false e = (Some (event_of now), changed event_of N O now old is was e)
 
-threshold_event : (eviction : Eviction) (before : List TickObs) (tick : TickObs) (key : ThresholdKey)
+threshold_event : (eviction : EvictionConfig) (before : List TickObs) (tick : TickObs) (key : ThresholdKey)
     → (event : Option NodeEvent) × Gives (ChangesThreshold eviction before tick key) event
 threshold_event eviction before tick key =
     change_of (Threshold key) (IsActive eviction (before ++ tick ∷ []) key) (IsActive eviction before key)
     (test_of (active_or_not eviction (before ++ tick ∷ []) key)) (test_of (active_or_not eviction before key))
 
-condition_event : (eviction : Eviction) (period : ℕ) (before : List TickObs) (tick : TickObs)
+condition_event : (eviction : EvictionConfig) (period : ℕ) (before : List TickObs) (tick : TickObs)
     (condition : NodeCondition)
     → (event : Option NodeEvent) × Gives (ChangesCondition eviction period before tick condition) event
 condition_event eviction period before tick condition =
@@ -82,7 +83,7 @@ condition_event eviction period before tick condition =
     (IsTrueAfter eviction period condition before)
     (some_value eviction period condition (before ++ tick ∷ [])) (some_value eviction period condition before)
 
-reclaim_event : (eviction : Eviction) (before : List TickObs) (tick : TickObs) (key : ThresholdKey)
+reclaim_event : (eviction : EvictionConfig) (before : List TickObs) (tick : TickObs) (key : ThresholdKey)
     → (event : Option NodeEvent) × Gives (Reclaims eviction before tick key) event
 reclaim_event eviction before tick key =
     elim (both (due_or_not eviction before tick key) (reclaimed_or_not eviction tick key)) [

@@ -4,7 +4,7 @@ use Rattle.std.proofs.Common.{Some, None, refl, sym, subst, ◌∙◌, arith}
 use Rattle.std.specs.Prelude.{◌↔◌, IsTrue, IsSomeAnd, slice_get}
 use Rattle.histories.proofs.First.{none_next}
 use Rattle.histories.proofs.Lists.{within_and, given}
-use Rattle.node_config.specs.Eviction.{Eviction}
+use Rattle.node_config.specs.EvictionConfig.{EvictionConfig}
 use Rattle.observations.specs.declared.tick.TickObs.{TickObs}
 use Rattle.node_signals.specs.declared.key.ThresholdKey.{ThresholdKey}
 use Rattle.node_signals.specs.declared.condition.NodeCondition.{NodeCondition}
@@ -45,14 +45,14 @@ pub none_at_all : (P : ThresholdKey → Type 0) (place : ℕ) → 12 ≤ place �
 none_at_all P place le none t p = none t (let lt : t < 12 = within_and P serving_order t p in omega arith) p
 
 -- the first that asks is served
-pub served_here : (eviction : Eviction) (before : List TickObs) (tick : TickObs) (place : ℕ) (key : ThresholdKey)
+pub served_here : (eviction : EvictionConfig) (before : List TickObs) (tick : TickObs) (place : ℕ) (key : ThresholdKey)
     → slice_get serving_order place ≡ Some key
     → Asks eviction before tick key → NoneBelow (Asks eviction before tick) place
     → IsServed eviction before tick (Some key)
 served_here eviction before tick place key at asks none =
     (Some place, record { holds = at_key (Asks eviction before tick) place key at asks; none_before = none }, sym at)
 
-pub none_served : (eviction : Eviction) (before : List TickObs) (tick : TickObs) (place : ℕ) → 12 ≤ place
+pub none_served : (eviction : EvictionConfig) (before : List TickObs) (tick : TickObs) (place : ℕ) → 12 ≤ place
     → NoneBelow (Asks eviction before tick) place
     → IsServed eviction before tick None
 none_served eviction before tick place le none = (None, none_at_all (Asks eviction before tick) place le none, refl)
@@ -68,14 +68,14 @@ pub one_key : (place : ℕ) (key other : ThresholdKey) → slice_get serving_ord
     → slice_get serving_order place ≡ Some other → key ≡ other
 one_key place key other at there = let both : Some key ≡ Some other = sym at ∙ there in cc
 
-pub some_met : (eviction : Eviction) (condition : NodeCondition) (ticks : List TickObs) (place : ℕ) → place < 12
+pub some_met : (eviction : EvictionConfig) (condition : NodeCondition) (ticks : List TickObs) (place : ℕ) → place < 12
     → ((key : ThresholdKey) → slice_get serving_order place ≡ Some key → Meets eviction condition ticks key)
     → (IsTrue true ↔ IsMet eviction condition ticks)
 some_met eviction condition ticks place lt meets =
     let here = key_at serving_order place lt in
     ((λ t. (place, at_key (Meets eviction condition ticks) place here.0 here.1 (meets here.0 here.1))), (λ met. refl))
 
-pub none_met : (eviction : Eviction) (condition : NodeCondition) (ticks : List TickObs) (place : ℕ) → 12 ≤ place
+pub none_met : (eviction : EvictionConfig) (condition : NodeCondition) (ticks : List TickObs) (place : ℕ) → 12 ≤ place
     → NoneBelow (Meets eviction condition ticks) place
     → (IsTrue false ↔ IsMet eviction condition ticks)
 none_met eviction condition ticks place le none = (

@@ -9,7 +9,7 @@ use Rattle.signals.specs.BySignal.{of}
 use Rattle.thresholds.specs.Samples.{Sample, sample}
 use Rattle.thresholds.specs.declared.watch.Watch.{Watch}
 use Rattle.thresholds.specs.Watch.{IsStateOf as IsWatchState}
-use Rattle.node_config.specs.Eviction.{Eviction}
+use Rattle.node_config.specs.EvictionConfig.{EvictionConfig}
 use Rattle.observations.specs.declared.tick.TickObs.{TickObs}
 use Rattle.node_signals.specs.declared.key.ThresholdKey.{ThresholdKey}
 use Rattle.node_signals.specs.Keys.{serving_order, threshold_at}
@@ -22,7 +22,7 @@ Tells Q watch b = (threshold : Threshold) (capacity : Option ℕ) (h : List Samp
     → IsWatchState threshold capacity h watch → (IsTrue b ↔ Q threshold capacity h)
 
 -- the same of the node's threshold
-abbrev pub Holds : (Threshold → Option ℕ → List Sample → Type 0) → Eviction → List TickObs → ThresholdKey → Type 0
+abbrev pub Holds : (Threshold → Option ℕ → List Sample → Type 0) → EvictionConfig → List TickObs → ThresholdKey → Type 0
 Holds Q eviction ticks key =
     IsSomeAnd (threshold_at eviction key) (λ t. Q t (of eviction.capacity key.signal) (samples key.signal ticks))
 
@@ -40,7 +40,7 @@ silent Q None capacity h w = ((λ e. let f : false ≡ true = e in absurd (cc)),
 silent Q (Some t) capacity h w = absurd w
 
 -- a watch at a place tells of the threshold there
-pub watched : (Q : Threshold → Option ℕ → List Sample → Type 0) (eviction : Eviction) (ticks : List TickObs)
+pub watched : (Q : Threshold → Option ℕ → List Sample → Type 0) (eviction : EvictionConfig) (ticks : List TickObs)
     (key : ThresholdKey) (place : ℕ)
     (watches : List (Option Watch)) (found : Option Watch) (watch : Watch) (b : Bool)
     → slice_get serving_order place ≡ Some key → AreWatches eviction ticks watches
@@ -51,7 +51,7 @@ watched Q eviction ticks key place watches found watch b at w there is tells =
     (subst (IsWatchAt eviction ticks key) is (w.each place key found at there)) tells
 
 -- where there is none, there is no threshold
-pub unwatched : (Q : Threshold → Option ℕ → List Sample → Type 0) (eviction : Eviction) (ticks : List TickObs)
+pub unwatched : (Q : Threshold → Option ℕ → List Sample → Type 0) (eviction : EvictionConfig) (ticks : List TickObs)
     (key : ThresholdKey) (place : ℕ)
     (watches : List (Option Watch)) (found : Option Watch)
     → slice_get serving_order place ≡ Some key → AreWatches eviction ticks watches
@@ -62,18 +62,19 @@ unwatched Q eviction ticks key place watches found at w there is =
     (subst (IsWatchAt eviction ticks key) is (w.each place key found at there))
 
 -- the watches at the places below one
-pub record AreMade (eviction : Eviction) (ticks : List TickObs) (i : ℕ) (watches : List (Option Watch)) : Type 0 where
+pub record AreMade (eviction : EvictionConfig) (ticks : List TickObs) (i : ℕ)
+    (watches : List (Option Watch)) : Type 0 where
   pub as_many : length watches ≡ length serving_order
   pub each : (place : ℕ) (key : ThresholdKey) (watch : Option Watch) → place < i
       → slice_get serving_order place ≡ Some key
       → slice_get watches place ≡ Some watch → IsWatchAt eviction ticks key watch
 
-pub none_made : (eviction : Eviction) (ticks : List TickObs) (watches : List (Option Watch))
+pub none_made : (eviction : EvictionConfig) (ticks : List TickObs) (watches : List (Option Watch))
     → length watches ≡ length serving_order → AreMade eviction ticks 0 watches
 none_made eviction ticks watches many =
     record { as_many = many; each = λ place key watch lt at e. absurd (omega arith) }
 
-pub made_more : (eviction : Eviction) (ticks : List TickObs) (i : ℕ) (watches : List (Option Watch))
+pub made_more : (eviction : EvictionConfig) (ticks : List TickObs) (i : ℕ) (watches : List (Option Watch))
     (key : ThresholdKey) (watch : Option Watch)
     → slice_get serving_order i ≡ Some key → IsWatchAt eviction ticks key watch
     → AreMade eviction ticks i watches → AreMade eviction ticks (i + 1) (slice_set watches i watch)
@@ -91,7 +92,7 @@ made_more eviction ticks i watches key watch at is m = record {
   ];
 }
 
-pub all_made : (eviction : Eviction) (ticks : List TickObs) (i : ℕ) (watches : List (Option Watch)) → 12 ≤ i
+pub all_made : (eviction : EvictionConfig) (ticks : List TickObs) (i : ℕ) (watches : List (Option Watch)) → 12 ≤ i
     → AreMade eviction ticks i watches → AreWatches eviction ticks watches
 all_made eviction ticks i watches le m = record {
   as_many = m.as_many;
@@ -100,14 +101,14 @@ all_made eviction ticks i watches le m = record {
 }
 
 -- the watches, of which those below a place have taken the new sample
-pub record AreSampled (eviction : Eviction) (before : List TickObs) (tick : TickObs) (i : ℕ)
+pub record AreSampled (eviction : EvictionConfig) (before : List TickObs) (tick : TickObs) (i : ℕ)
     (watches : List (Option Watch)) : Type 0 where
   pub made : AreMade eviction (before ++ tick ∷ []) i watches
   pub left : (place : ℕ) (key : ThresholdKey) (watch : Option Watch) → i ≤ place
       → slice_get serving_order place ≡ Some key
       → slice_get watches place ≡ Some watch → IsWatchAt eviction before key watch
 
-pub none_sampled : (eviction : Eviction) (before : List TickObs) (tick : TickObs) (watches : List (Option Watch))
+pub none_sampled : (eviction : EvictionConfig) (before : List TickObs) (tick : TickObs) (watches : List (Option Watch))
     → AreWatches eviction before watches → AreSampled eviction before tick 0 watches
 none_sampled eviction before tick watches w = record {
   made = none_made eviction (before ++ tick ∷ []) watches w.as_many;
@@ -119,7 +120,7 @@ abbrev pub TakesSample : Option Watch → ℕ → Option ℕ → Option Watch �
 TakesSample old at value new = (threshold : Option Threshold) (capacity : Option ℕ) (h : List Sample)
     → IsWatchOf threshold capacity h old → IsWatchOf threshold capacity (h ++ sample at value ∷ []) new
 
-pub sampled_more : (eviction : Eviction) (before : List TickObs) (tick : TickObs) (i : ℕ)
+pub sampled_more : (eviction : EvictionConfig) (before : List TickObs) (tick : TickObs) (i : ℕ)
     (watches : List (Option Watch)) (key : ThresholdKey) (old new : Option Watch) (value : Option ℕ)
     → slice_get serving_order i ≡ Some key → slice_get watches i ≡ Some old → value ≡ of tick.signals key.signal
     → TakesSample old tick.at value new

@@ -6,7 +6,7 @@ use Rattle.signals.specs.declared.signal.Signal.{Signal}
 use Rattle.signals.specs.declared.signal.Signal.TheVariants.{MemoryAvailable, NodefsAvailable, ImagefsAvailable}
 use Rattle.signals.specs.declared.signal.Signal.TheVariants.{NodefsInodesFree, ImagefsInodesFree, PidAvailable}
 use Rattle.pressure.specs.Pressures.{Observation, IsMetAt, IsUnderPressure, IsSince}
-use Rattle.node_config.specs.Eviction.{Eviction}
+use Rattle.node_config.specs.EvictionConfig.{EvictionConfig}
 use Rattle.observations.specs.declared.tick.TickObs.{TickObs}
 use Rattle.node_signals.specs.declared.key.ThresholdKey.{ThresholdKey}
 use Rattle.node_signals.specs.declared.condition.NodeCondition.{NodeCondition}
@@ -31,18 +31,18 @@ abbrev pub conditions : List NodeCondition
 conditions = MemoryPressure ∷ DiskPressure ∷ PidPressure ∷ []
 
 -- the threshold is one of the condition's, and active after these ticks
-pub record Meets (eviction : Eviction) (condition : NodeCondition) (ticks : List TickObs)
+pub record Meets (eviction : EvictionConfig) (condition : NodeCondition) (ticks : List TickObs)
     (key : ThresholdKey) : Type 0 where
   pub belongs : condition_of key.signal ≡ condition
   pub active : IsActive eviction ticks key
 
 -- the condition is met after these ticks: one of its thresholds is active
-abbrev pub IsMet : Eviction → NodeCondition → List TickObs → Type 0
+abbrev pub IsMet : EvictionConfig → NodeCondition → List TickObs → Type 0
 IsMet eviction condition ticks =
     (place : ℕ) × IsSomeAnd (slice_get serving_order place) (Meets eviction condition ticks)
 
 -- these say of each tick, at its moment, whether the condition is met after it
-pub record AreObservations (eviction : Eviction) (condition : NodeCondition) (ticks : List TickObs)
+pub record AreObservations (eviction : EvictionConfig) (condition : NodeCondition) (ticks : List TickObs)
     (h : List Observation) : Type 0 where
   pub as_many : length h ≡ length ticks
   pub moments : (t : ℕ) (tick : TickObs) → slice_get ticks t ≡ Some tick → moment_at h t ≡ Some tick.at
@@ -50,11 +50,11 @@ pub record AreObservations (eviction : Eviction) (condition : NodeCondition) (ti
       → (IsMetAt h t ↔ IsMet eviction condition (take (suc t) ticks))
 
 -- the condition is true after these ticks, with this transition period in seconds
-abbrev pub IsTrueAfter : Eviction → ℕ → NodeCondition → List TickObs → Type 0
+abbrev pub IsTrueAfter : EvictionConfig → ℕ → NodeCondition → List TickObs → Type 0
 IsTrueAfter eviction period condition ticks =
     (h : List Observation) × AreObservations eviction condition ticks h × IsUnderPressure period h
 
 -- it has been true, or not been, since this moment
-abbrev pub IsSinceMoment : Eviction → ℕ → NodeCondition → List TickObs → ℕ → Type 0
+abbrev pub IsSinceMoment : EvictionConfig → ℕ → NodeCondition → List TickObs → ℕ → Type 0
 IsSinceMoment eviction period condition ticks since =
     (h : List Observation) × AreObservations eviction condition ticks h × IsSince period h since

@@ -1,7 +1,7 @@
 -- The events of a node in a tick that comes after these ticks, by their places (Kubernetes,
 -- "Node-pressure Eviction"; the places are this profile's).
 use Rattle.std.specs.Prelude.{◌≡◌, ◌↔◌, List, [], ◌∷◌, ◌++◌, ℕ, Bool, Option, Some, None, IsTrue}
-use Rattle.node_config.specs.Eviction.{Eviction}
+use Rattle.node_config.specs.EvictionConfig.{EvictionConfig}
 use Rattle.observations.specs.declared.tick.TickObs.{TickObs}
 use Rattle.node_signals.specs.declared.key.ThresholdKey.{ThresholdKey}
 use Rattle.node_signals.specs.declared.condition.NodeCondition.{NodeCondition}
@@ -16,18 +16,18 @@ abbrev pub Changes : (Bool → NodeEvent) → Type 0 → Type 0 → NodeEvent �
 Changes event_of N O event = (value : Bool) × (event ≡ event_of value) × (IsTrue value ↔ N) × ((IsTrue value ↔ O) → ⊥)
 
 -- the threshold is active after the tick and was not before, or the other way round
-abbrev pub ChangesThreshold : Eviction → List TickObs → TickObs → ThresholdKey → NodeEvent → Type 0
+abbrev pub ChangesThreshold : EvictionConfig → List TickObs → TickObs → ThresholdKey → NodeEvent → Type 0
 ChangesThreshold eviction before tick key =
     Changes (Threshold key) (IsActive eviction (before ++ tick ∷ []) key) (IsActive eviction before key)
 
 -- the same of a condition
-abbrev pub ChangesCondition : Eviction → ℕ → List TickObs → TickObs → NodeCondition → NodeEvent → Type 0
+abbrev pub ChangesCondition : EvictionConfig → ℕ → List TickObs → TickObs → NodeCondition → NodeEvent → Type 0
 ChangesCondition eviction period before tick condition =
     Changes (Pressure condition)
     (IsTrueAfter eviction period condition (before ++ tick ∷ [])) (IsTrueAfter eviction period condition before)
 
 -- the threshold is due, and the node has freed enough by itself
-abbrev pub Reclaims : Eviction → List TickObs → TickObs → ThresholdKey → NodeEvent → Type 0
+abbrev pub Reclaims : EvictionConfig → List TickObs → TickObs → ThresholdKey → NodeEvent → Type 0
 Reclaims eviction before tick key event =
     (event ≡ Reclaim key) × IsDue eviction (before ++ tick ∷ []) key × IsReclaimed eviction tick key
 
@@ -47,7 +47,7 @@ AreGiven P (x ∷ xs) events =
     × (events ≡ as_list event ++ rest)
 
 -- all events of the tick: thresholds in their serving order, conditions, then what was reclaimed
-pub record AreNodeEvents (eviction : Eviction) (period : ℕ) (before : List TickObs) (tick : TickObs)
+pub record AreNodeEvents (eviction : EvictionConfig) (period : ℕ) (before : List TickObs) (tick : TickObs)
     (events : List NodeEvent) : Type 0 where
   pub thresholds : List NodeEvent
   pub of_thresholds : AreGiven (ChangesThreshold eviction before tick) serving_order thresholds

@@ -8,7 +8,7 @@ use Rattle.signals.specs.declared.signal.Signal.TheVariants.{NodefsInodesFree, I
 use Rattle.signals.specs.declared.threshold.Threshold.{Threshold}
 use Rattle.signals.specs.declared.threshold.ThresholdKind.{ThresholdKind}
 use Rattle.signals.specs.declared.threshold.ThresholdKind.TheVariants.{Hard, Soft}
-use Rattle.node_config.specs.Eviction.{Eviction, threshold_of}
+use Rattle.node_config.specs.EvictionConfig.{EvictionConfig, threshold_of}
 use Rattle.node_signals.specs.declared.key.ThresholdKey.{ThresholdKey}
 
 abbrev pub key : Signal → ThresholdKind → ThresholdKey
@@ -25,5 +25,5 @@ serving_order =
     ∷ []
 
 -- the node's threshold, if it has it
-abbrev pub threshold_at : Eviction → ThresholdKey → Option Threshold
+abbrev pub threshold_at : EvictionConfig → ThresholdKey → Option Threshold
 threshold_at eviction key = threshold_of eviction key.kind key.signal

@@ -1,6 +1,6 @@
 -- The statements of the laws.
 use Rattle.std.specs.Prelude.{◌≡◌, ◌↔◌, ℕ, Bool, List, Option, Some, IsTrue}
-use Rattle.node_config.specs.Eviction.{Eviction}
+use Rattle.node_config.specs.EvictionConfig.{EvictionConfig}
 use Rattle.observations.specs.declared.tick.TickObs.{TickObs}
 use Rattle.node_signals.specs.declared.key.ThresholdKey.{ThresholdKey}
 use Rattle.node_signals.specs.declared.condition.NodeCondition.{NodeCondition}
@@ -11,29 +11,29 @@ use Rattle.node_signals.specs.Events.{AreNodeEvents}
 
 abbrev pub OneServed : Type 0
 OneServed =
-    (eviction : Eviction) (before : List TickObs) (tick : TickObs) (one other : Option ThresholdKey)
+    (eviction : EvictionConfig) (before : List TickObs) (tick : TickObs) (one other : Option ThresholdKey)
     → IsServed eviction before tick one → IsServed eviction before tick other → one ≡ other
 
 abbrev pub ServedIsDue : Type 0
 ServedIsDue =
-    (eviction : Eviction) (before : List TickObs) (tick : TickObs) (key : ThresholdKey)
+    (eviction : EvictionConfig) (before : List TickObs) (tick : TickObs) (key : ThresholdKey)
     → IsServed eviction before tick (Some key) → Asks eviction before tick key
 
 abbrev pub OneListOfNodeEvents : Type 0
 OneListOfNodeEvents =
-    (eviction : Eviction) (period : ℕ) (before : List TickObs) (tick : TickObs) (events others : List NodeEvent)
+    (eviction : EvictionConfig) (period : ℕ) (before : List TickObs) (tick : TickObs) (events others : List NodeEvent)
     → AreNodeEvents eviction period before tick events → AreNodeEvents eviction period before tick others
     → events ≡ others
 
 -- a condition is true after some ticks or it isn't, and there is a moment since which it has been so
 pub record SomeCondition : Type 0 where
-  pub value : (eviction : Eviction) (period : ℕ) (condition : NodeCondition) (ticks : List TickObs)
+  pub value : (eviction : EvictionConfig) (period : ℕ) (condition : NodeCondition) (ticks : List TickObs)
       → (value : Bool) × (IsTrue value ↔ IsTrueAfter eviction period condition ticks)
-  pub since : (eviction : Eviction) (period : ℕ) (condition : NodeCondition) (ticks : List TickObs)
+  pub since : (eviction : EvictionConfig) (period : ℕ) (condition : NodeCondition) (ticks : List TickObs)
       → (since : ℕ) × IsSinceMoment eviction period condition ticks since
 
 -- every tick has a list of events, whatever ticks came before it
 abbrev pub SomeListOfNodeEvents : Type 0
 SomeListOfNodeEvents =
-    (eviction : Eviction) (period : ℕ) (before : List TickObs) (tick : TickObs)
+    (eviction : EvictionConfig) (period : ℕ) (before : List TickObs) (tick : TickObs)
     → (events : List NodeEvent) × AreNodeEvents eviction period before tick events

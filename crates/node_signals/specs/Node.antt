@@ -8,7 +8,7 @@ use Rattle.thresholds.specs.Watch.{IsStateOf as IsWatchState}
 use Rattle.pressure.specs.declared.pressure.Pressure.{Pressure}
 use Rattle.pressure.specs.Pressures.{Observation}
 use Rattle.pressure.specs.State.{IsStateOf as IsPressureState}
-use Rattle.node_config.specs.Eviction.{Eviction}
+use Rattle.node_config.specs.EvictionConfig.{EvictionConfig}
 use Rattle.observations.specs.declared.tick.TickObs.{TickObs}
 use Rattle.node_signals.specs.declared.key.ThresholdKey.{ThresholdKey}
 use Rattle.node_signals.specs.declared.condition.NodeCondition.{NodeCondition}
@@ -26,27 +26,28 @@ IsWatchOf None capacity h (Some watch) = ⊥
 IsWatchOf (Some threshold) capacity h None = ⊥
 IsWatchOf (Some threshold) capacity h (Some watch) = IsWatchState threshold capacity h watch
 
-abbrev pub IsWatchAt : Eviction → List TickObs → ThresholdKey → Option Watch → Type 0
+abbrev pub IsWatchAt : EvictionConfig → List TickObs → ThresholdKey → Option Watch → Type 0
 IsWatchAt eviction ticks key watch =
     IsWatchOf (threshold_at eviction key) (of eviction.capacity key.signal) (samples key.signal ticks) watch
 
 -- one for each place of the serving order
-pub record AreWatches (eviction : Eviction) (ticks : List TickObs) (watches : List (Option Watch)) : Type 0 where
+pub record AreWatches (eviction : EvictionConfig) (ticks : List TickObs) (watches : List (Option Watch)) : Type 0 where
   pub as_many : length watches ≡ length serving_order
   pub each : (place : ℕ) (key : ThresholdKey) (watch : Option Watch) → slice_get serving_order place ≡ Some key
       → slice_get watches place ≡ Some watch → IsWatchAt eviction ticks key watch
 
 -- the pressure is the state of what the ticks say of the condition
-abbrev pub IsPressureOf : Eviction → ℕ → NodeCondition → List TickObs → Pressure → Type 0
+abbrev pub IsPressureOf : EvictionConfig → ℕ → NodeCondition → List TickObs → Pressure → Type 0
 IsPressureOf eviction period condition ticks pressure =
     (h : List Observation) × AreObservations eviction condition ticks h × IsPressureState period h pressure
 
-pub record ArePressures (eviction : Eviction) (period : ℕ) (ticks : List TickObs) (pressures : Pressures) : Type 0 where
+pub record ArePressures (eviction : EvictionConfig) (period : ℕ) (ticks : List TickObs)
+    (pressures : Pressures) : Type 0 where
   pub memory : IsPressureOf eviction period MemoryPressure ticks pressures.memory
   pub disk : IsPressureOf eviction period DiskPressure ticks pressures.disk
   pub pid : IsPressureOf eviction period PidPressure ticks pressures.pid
 
 -- the node's value after these ticks, with these thresholds and this transition period in seconds
-pub record IsStateOf (eviction : Eviction) (period : ℕ) (ticks : List TickObs) (node : NodeSignals) : Type 0 where
+pub record IsStateOf (eviction : EvictionConfig) (period : ℕ) (ticks : List TickObs) (node : NodeSignals) : Type 0 where
   pub watches : AreWatches eviction ticks node.watches
   pub pressures : ArePressures eviction period ticks node.pressures

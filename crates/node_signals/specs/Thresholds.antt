@@ -11,7 +11,7 @@ use Rattle.signals.specs.Signals.{is_of_file_system}
 use Rattle.quantity.specs.Limit.{amount_of}
 use Rattle.thresholds.specs.Samples.{Sample, sample}
 use Rattle.thresholds.specs.Thresholds.{IsThresholdActive, IsThresholdDue}
-use Rattle.node_config.specs.Eviction.{Eviction}
+use Rattle.node_config.specs.EvictionConfig.{EvictionConfig}
 use Rattle.observations.specs.declared.tick.TickObs.{TickObs}
 use Rattle.node_signals.specs.declared.key.ThresholdKey.{ThresholdKey}
 use Rattle.node_signals.specs.Keys.{serving_order, threshold_at}
@@ -21,13 +21,13 @@ abbrev pub samples : Signal → List TickObs → List Sample
 samples signal ticks = map (λ (tick : TickObs). sample tick.at (of tick.signals signal)) ticks
 
 -- the node has the threshold, and it is active after these ticks
-abbrev pub IsActive : Eviction → List TickObs → ThresholdKey → Type 0
+abbrev pub IsActive : EvictionConfig → List TickObs → ThresholdKey → Type 0
 IsActive eviction ticks key =
     IsSomeAnd (threshold_at eviction key)
     (λ threshold. IsThresholdActive threshold (of eviction.capacity key.signal) (samples key.signal ticks))
 
 -- the same, and it is due
-abbrev pub IsDue : Eviction → List TickObs → ThresholdKey → Type 0
+abbrev pub IsDue : EvictionConfig → List TickObs → ThresholdKey → Type 0
 IsDue eviction ticks key =
     IsSomeAnd (threshold_at eviction key)
     (λ threshold. IsThresholdDue threshold (of eviction.capacity key.signal) (samples key.signal ticks))
@@ -37,23 +37,23 @@ abbrev pub IsEnough : Option ℕ → Threshold → ℕ → Type 0
 IsEnough capacity threshold value = amount_of capacity threshold.limit + amount_of capacity threshold.reclaim ≤ value
 
 -- the node has freed enough by itself: after that the file system's signal has a value that is enough
-pub record IsReclaimed (eviction : Eviction) (tick : TickObs) (key : ThresholdKey) : Type 0 where
+pub record IsReclaimed (eviction : EvictionConfig) (tick : TickObs) (key : ThresholdKey) : Type 0 where
   pub of_file_system : is_of_file_system key.signal ≡ true
   pub freed : IsSomeAnd (threshold_at eviction key)
       (λ threshold. IsSomeAnd (of tick.after_reclaim key.signal) (IsEnough (of eviction.capacity key.signal) threshold))
 
 -- the threshold asks for an eviction in a tick that comes after these: it is due, and the node has
 -- not freed enough by itself
-pub record Asks (eviction : Eviction) (before : List TickObs) (tick : TickObs) (key : ThresholdKey) : Type 0 where
+pub record Asks (eviction : EvictionConfig) (before : List TickObs) (tick : TickObs) (key : ThresholdKey) : Type 0 where
   pub due : IsDue eviction (before ++ tick ∷ []) key
   pub not_reclaimed : IsReclaimed eviction tick key → ⊥
 
 -- the threshold at a place of the serving order does
-abbrev pub AsksAt : Eviction → List TickObs → TickObs → ℕ → Type 0
+abbrev pub AsksAt : EvictionConfig → List TickObs → TickObs → ℕ → Type 0
 AsksAt eviction before tick place = IsSomeAnd (slice_get serving_order place) (Asks eviction before tick)
 
 -- the threshold that is served: the first in the serving order that asks for an eviction
-abbrev pub IsServed : Eviction → List TickObs → TickObs → Option ThresholdKey → Type 0
+abbrev pub IsServed : EvictionConfig → List TickObs → TickObs → Option ThresholdKey → Type 0
 IsServed eviction before tick served =
     (place : Option ℕ) × IsFirstPlace (AsksAt eviction before tick) place
     × (served ≡ option_and_then (slice_get serving_order) place)

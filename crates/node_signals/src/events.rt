@@ -1,7 +1,7 @@
 //! The events of a node in a tick.
 
 ghost use Rattle.std.specs.Prelude.{◌≡◌, ◌↔◌, ◌<◌, ◌++◌, ◌∷◌, [], ℕ, List, slice_get, Some, OnOk};
-ghost use Rattle.node_config.specs.Eviction.{Eviction};
+ghost use Rattle.node_config.specs.EvictionConfig.{EvictionConfig};
 ghost use Rattle.observations.specs.declared.tick.TickObs.{TickObs};
 ghost use Rattle.node_signals.specs.declared.key.ThresholdKey.{ThresholdKey};
 ghost use Rattle.node_signals.specs.Keys.{serving_order};
@@ -14,7 +14,7 @@ use crate::event::NodeEvent;
 use crate::key::key_at;
 use crate::pressures::Pressures;
 use crate::watches::{is_active, is_due, is_reclaimed};
-use node_config::Eviction;
+use node_config::EvictionConfig;
 use observations::TickObs;
 use std::alloc::AllocError;
 use thresholds::Watch;
@@ -37,7 +37,7 @@ fn threshold_event(
     place: usize,
 ) -> Option<NodeEvent>
     requires { place < 12 }
-    ensures { (eviction : Eviction) (before : List TickObs) (tick : TickObs) (key : ThresholdKey)
+    ensures { (eviction : EvictionConfig) (before : List TickObs) (tick : TickObs) (key : ThresholdKey)
         → slice_get serving_order place ≡ Some key
         → AreWatches eviction before old.now
         → AreWatches eviction (before ++ tick ∷ []) new.now
@@ -59,7 +59,7 @@ pub(crate) fn add_threshold_events(
     old: &[Option<Watch>; 12],
     new: &[Option<Watch>; 12],
 ) -> Result<(), AllocError>
-    ensures { (eviction : Eviction) (before : List TickObs) (tick : TickObs)
+    ensures { (eviction : EvictionConfig) (before : List TickObs) (tick : TickObs)
         → AreWatches eviction before old.now
         → AreWatches eviction (before ++ tick ∷ []) new.now
         → OnOk result (Adds (ChangesThreshold eviction before tick) serving_order events.old.items events.new.items) }
@@ -72,7 +72,7 @@ pub(crate) fn add_threshold_events(
 
 /// Whether the condition became true or is no longer, by the pressures before and after the tick.
 fn condition_event(old: &Pressures, new: &Pressures, condition: NodeCondition) -> Option<NodeEvent>
-    ensures { (eviction : Eviction) (period : ℕ) (before : List TickObs) (tick : TickObs)
+    ensures { (eviction : EvictionConfig) (period : ℕ) (before : List TickObs) (tick : TickObs)
         → ArePressures eviction period before old.now
         → ArePressures eviction period (before ++ tick ∷ []) new.now
         → Gives (ChangesCondition eviction period before tick condition) result }
@@ -90,7 +90,7 @@ pub(crate) fn add_condition_events(
     old: &Pressures,
     new: &Pressures,
 ) -> Result<(), AllocError>
-    ensures { (eviction : Eviction) (period : ℕ) (before : List TickObs) (tick : TickObs)
+    ensures { (eviction : EvictionConfig) (period : ℕ) (before : List TickObs) (tick : TickObs)
         → ArePressures eviction period before old.now
         → ArePressures eviction period (before ++ tick ∷ []) new.now
         → OnOk result
@@ -114,7 +114,7 @@ pub(crate) fn add_condition_events(
 /// Whether the threshold at this place is due and the node has freed enough by itself.
 fn reclaim_event(
     watches: &[Option<Watch>; 12],
-    eviction: &Eviction,
+    eviction: &EvictionConfig,
     tick: &TickObs,
     place: usize,
 ) -> Option<NodeEvent>
@@ -136,7 +136,7 @@ fn reclaim_event(
 pub(crate) fn add_reclaim_events(
     events: &mut Vec<NodeEvent>,
     watches: &[Option<Watch>; 12],
-    eviction: &Eviction,
+    eviction: &EvictionConfig,
     tick: &TickObs,
 ) -> Result<(), AllocError>
     ensures { (before : List TickObs)

@@ -1,7 +1,7 @@
 //! A node's thresholds and conditions, tick by tick.
 
 ghost use Rattle.std.specs.Prelude.{◌≡◌, ◌↔◌, ℕ, IsTrue, List, [], ◌∷◌, ◌++◌, OnOk, OnErr, IfOk};
-ghost use Rattle.node_config.specs.Eviction.{Eviction};
+ghost use Rattle.node_config.specs.EvictionConfig.{EvictionConfig};
 ghost use Rattle.observations.specs.declared.tick.TickObs.{TickObs};
 ghost use Rattle.node_signals.specs.Thresholds.{IsServed};
 ghost use Rattle.node_signals.specs.Conditions.{IsTrueAfter, IsSinceMoment};
@@ -14,7 +14,7 @@ use crate::events::{add_condition_events, add_reclaim_events, add_threshold_even
 use crate::key::ThresholdKey;
 use crate::pressures::Pressures;
 use crate::watches::{first_watches, sample_all, served};
-use node_config::Eviction;
+use node_config::EvictionConfig;
 use observations::TickObs;
 use std::alloc::{AllocError, Global};
 use thresholds::Watch;
@@ -30,7 +30,7 @@ pub struct NodeSignals {
 impl NodeSignals {
     /// A node with these thresholds and this transition period of its conditions, in seconds,
     /// before any tick.
-    pub fn new(eviction: &Eviction, period: u64) -> NodeSignals
+    pub fn new(eviction: &EvictionConfig, period: u64) -> NodeSignals
         ensures { IsStateOf eviction.now period [] result }
     {
         NodeSignals {
@@ -41,7 +41,7 @@ impl NodeSignals {
 
     /// The node after one more tick.
     fn after(&self, tick: &TickObs) -> NodeSignals
-        ensures { (eviction : Eviction) (period : ℕ) (before : List TickObs)
+        ensures { (eviction : EvictionConfig) (period : ℕ) (before : List TickObs)
             → IsStateOf eviction period before self.now
             → IsStateOf eviction period (before ++ tick.now ∷ []) result }
     {
@@ -57,7 +57,7 @@ impl NodeSignals {
         &self,
         alloc: Global,
         old: &NodeSignals,
-        eviction: &Eviction,
+        eviction: &EvictionConfig,
         tick: &TickObs,
     ) -> Result<Vec<NodeEvent>, AllocError>
         ensures { (period : ℕ) (before : List TickObs)
@@ -78,7 +78,7 @@ impl NodeSignals {
     pub fn take(
         &mut self,
         alloc: Global,
-        eviction: &Eviction,
+        eviction: &EvictionConfig,
         tick: &TickObs,
     ) -> Result<Vec<NodeEvent>, AllocError>
         ensures state { (period : ℕ) (before : List TickObs)
@@ -97,7 +97,7 @@ impl NodeSignals {
 
     /// The threshold for which a pod is to be evicted in the last tick taken: the first in the
     /// serving order that is due and for which the node has not freed enough by itself.
-    pub fn served(&self, eviction: &Eviction, tick: &TickObs) -> Option<ThresholdKey>
+    pub fn served(&self, eviction: &EvictionConfig, tick: &TickObs) -> Option<ThresholdKey>
         ensures { (period : ℕ) (before : List TickObs)
             → IsStateOf eviction.now period (before ++ tick.now ∷ []) self.now
             → IsServed eviction.now before tick.now result }
@@ -107,7 +107,7 @@ impl NodeSignals {
 
     /// Whether a condition is true. (Kubernetes, "Node-pressure Eviction", "Node conditions".)
     pub fn is_true(&self, condition: NodeCondition) -> bool
-        ensures { (eviction : Eviction) (period : ℕ) (ticks : List TickObs)
+        ensures { (eviction : EvictionConfig) (period : ℕ) (ticks : List TickObs)
             → IsStateOf eviction period ticks self.now
             → (IsTrue result ↔ IsTrueAfter eviction period condition ticks) }
     {
@@ -116,7 +116,7 @@ impl NodeSignals {
 
     /// Since when a condition has been true, or has not been, in seconds; 0 without ticks.
     pub fn since(&self, condition: NodeCondition) -> u64
-        ensures { (eviction : Eviction) (period : ℕ) (ticks : List TickObs)
+        ensures { (eviction : EvictionConfig) (period : ℕ) (ticks : List TickObs)
             → IsStateOf eviction period ticks self.now
             → IsSinceMoment eviction period condition ticks result }
     {

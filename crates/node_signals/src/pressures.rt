@@ -1,7 +1,7 @@
 //! A node's conditions over its ticks.
 
 ghost use Rattle.std.specs.Prelude.{◌≡◌, ◌↔◌, ◌<◌, ℕ, slice_get, Some, IsTrue, List, [], ◌∷◌, ◌++◌};
-ghost use Rattle.node_config.specs.Eviction.{Eviction};
+ghost use Rattle.node_config.specs.EvictionConfig.{EvictionConfig};
 ghost use Rattle.observations.specs.declared.tick.TickObs.{TickObs};
 ghost use Rattle.node_signals.specs.declared.key.ThresholdKey.{ThresholdKey};
 ghost use Rattle.node_signals.specs.Keys.{serving_order};
@@ -26,7 +26,7 @@ pub(crate) struct Pressures {
 /// Whether the threshold at this place is one of the condition's, and active.
 fn meets(watches: &[Option<Watch>; 12], condition: NodeCondition, place: usize) -> bool
     requires { place < 12 }
-    ensures { (eviction : Eviction) (ticks : List TickObs) (key : ThresholdKey)
+    ensures { (eviction : EvictionConfig) (ticks : List TickObs) (key : ThresholdKey)
         → slice_get serving_order place ≡ Some key
         → AreWatches eviction ticks watches.now
         → (IsTrue result ↔ Meets eviction condition ticks key) }
@@ -36,7 +36,7 @@ fn meets(watches: &[Option<Watch>; 12], condition: NodeCondition, place: usize) 
 
 /// Whether the condition is met: one of its thresholds is active.
 fn is_met(watches: &[Option<Watch>; 12], condition: NodeCondition) -> bool
-    ensures { (eviction : Eviction) (ticks : List TickObs)
+    ensures { (eviction : EvictionConfig) (ticks : List TickObs)
         → AreWatches eviction ticks watches.now
         → (IsTrue result ↔ IsMet eviction condition ticks) }
 {
@@ -55,7 +55,7 @@ fn observed(
     at: u64,
     watches: &[Option<Watch>; 12],
 ) -> Pressure
-    ensures { (eviction : Eviction) (period : ℕ) (before : List TickObs) (tick : TickObs)
+    ensures { (eviction : EvictionConfig) (period : ℕ) (before : List TickObs) (tick : TickObs)
         → tick.at ≡ at
         → AreWatches eviction (before ++ tick ∷ []) watches.now
         → IsPressureOf eviction period condition before pressure
@@ -69,7 +69,7 @@ fn observed(
 impl Pressures {
     /// Those of a node before any tick, with this transition period in seconds.
     pub(crate) fn new(period: u64) -> Pressures
-        ensures { (eviction : Eviction) → ArePressures eviction period [] result }
+        ensures { (eviction : EvictionConfig) → ArePressures eviction period [] result }
     {
         let pressure = Pressure::new(period);
         Pressures {
@@ -81,7 +81,7 @@ impl Pressures {
 
     /// Those after one more tick, at this moment, which leaves the watches so.
     pub(crate) fn observe(&mut self, at: u64, watches: &[Option<Watch>; 12])
-        ensures { (eviction : Eviction) (period : ℕ) (before : List TickObs) (tick : TickObs)
+        ensures { (eviction : EvictionConfig) (period : ℕ) (before : List TickObs) (tick : TickObs)
             → tick.at ≡ at
             → AreWatches eviction (before ++ tick ∷ []) watches.now
             → ArePressures eviction period before self.old
@@ -94,7 +94,7 @@ impl Pressures {
 
     /// That of a condition.
     pub(crate) fn of(&self, condition: NodeCondition) -> Pressure
-        ensures { (eviction : Eviction) (period : ℕ) (ticks : List TickObs)
+        ensures { (eviction : EvictionConfig) (period : ℕ) (ticks : List TickObs)
             → ArePressures eviction period ticks self.now
             → IsPressureOf eviction period condition ticks result }
     {

@@ -5,7 +5,7 @@ ghost use Rattle.std.specs.Prelude.{Option, Some, None};
 ghost use Rattle.quantity.specs.Quantity.{greatest};
 ghost use Rattle.signals.specs.declared.threshold.Threshold.{Threshold};
 ghost use Rattle.thresholds.specs.Samples.{Sample, sample as sample_of};
-ghost use Rattle.node_config.specs.Eviction.{Eviction, HasCapacity};
+ghost use Rattle.node_config.specs.EvictionConfig.{EvictionConfig, HasCapacity};
 ghost use Rattle.observations.specs.declared.tick.TickObs.{TickObs};
 ghost use Rattle.node_signals.specs.declared.key.ThresholdKey.{ThresholdKey};
 ghost use Rattle.node_signals.specs.Keys.{serving_order};
@@ -13,7 +13,7 @@ ghost use Rattle.node_signals.specs.Thresholds.{IsActive, IsDue, IsEnough, IsRec
 ghost use Rattle.node_signals.specs.Node.{IsWatchOf, IsWatchAt, AreWatches};
 
 use crate::key::{ThresholdKey, key_at};
-use node_config::Eviction;
+use node_config::EvictionConfig;
 use observations::TickObs;
 use quantity::Quantity;
 use signals::Threshold;
@@ -39,7 +39,7 @@ fn milli(value: Option<Quantity>) -> Option<u128>
 }
 
 /// The watch of a threshold before any sample.
-fn first_watch(eviction: &Eviction, key: ThresholdKey) -> Option<Watch>
+fn first_watch(eviction: &EvictionConfig, key: ThresholdKey) -> Option<Watch>
     ensures { IsWatchAt eviction.now [] key result }
 {
     match eviction.threshold(key.kind, key.signal) {
@@ -49,7 +49,7 @@ fn first_watch(eviction: &Eviction, key: ThresholdKey) -> Option<Watch>
 }
 
 /// The watches of a node before any tick.
-pub(crate) fn first_watches(eviction: &Eviction) -> [Option<Watch>; 12]
+pub(crate) fn first_watches(eviction: &EvictionConfig) -> [Option<Watch>; 12]
     ensures { AreWatches eviction.now [] result }
 {
     let mut watches = [None; 12];
@@ -76,7 +76,7 @@ fn sampled(watch: Option<Watch>, at: u64, value: Option<u128>) -> Option<Watch>
 
 /// Each watch takes its signal's sample of the tick.
 pub(crate) fn sample_all(watches: &mut [Option<Watch>; 12], tick: &TickObs)
-    ensures { (eviction : Eviction) (before : List TickObs)
+    ensures { (eviction : EvictionConfig) (before : List TickObs)
         → AreWatches eviction before watches.old
         → AreWatches eviction (before ++ tick.now ∷ []) watches.new }
 {
@@ -89,7 +89,7 @@ pub(crate) fn sample_all(watches: &mut [Option<Watch>; 12], tick: &TickObs)
 /// Whether the threshold at this place is active.
 pub(crate) fn is_active(watches: &[Option<Watch>; 12], place: usize) -> bool
     requires { place < 12 }
-    ensures { (eviction : Eviction) (ticks : List TickObs) (key : ThresholdKey)
+    ensures { (eviction : EvictionConfig) (ticks : List TickObs) (key : ThresholdKey)
         → slice_get serving_order place ≡ Some key
         → AreWatches eviction ticks watches.now
         → (IsTrue result ↔ IsActive eviction ticks key) }
@@ -103,7 +103,7 @@ pub(crate) fn is_active(watches: &[Option<Watch>; 12], place: usize) -> bool
 /// Whether the threshold at this place is due.
 pub(crate) fn is_due(watches: &[Option<Watch>; 12], place: usize) -> bool
     requires { place < 12 }
-    ensures { (eviction : Eviction) (ticks : List TickObs) (key : ThresholdKey)
+    ensures { (eviction : EvictionConfig) (ticks : List TickObs) (key : ThresholdKey)
         → slice_get serving_order place ≡ Some key
         → AreWatches eviction ticks watches.now
         → (IsTrue result ↔ IsDue eviction ticks key) }
@@ -129,7 +129,7 @@ fn is_enough(threshold: Threshold, capacity: Option<u128>, value: Option<u128>) 
 }
 
 /// Whether the node has freed enough by itself for this threshold.
-pub(crate) fn is_reclaimed(eviction: &Eviction, key: ThresholdKey, tick: &TickObs) -> bool
+pub(crate) fn is_reclaimed(eviction: &EvictionConfig, key: ThresholdKey, tick: &TickObs) -> bool
     ensures { IsTrue result ↔ IsReclaimed eviction.now tick.now key }
 {
     let Some(threshold) = eviction.threshold(key.kind, key.signal) else {
@@ -142,7 +142,12 @@ pub(crate) fn is_reclaimed(eviction: &Eviction, key: ThresholdKey, tick: &TickOb
 
 /// Whether the threshold at this place asks for an eviction: it is due, and the node has not freed
 /// enough by itself.
-fn asks(watches: &[Option<Watch>; 12], eviction: &Eviction, tick: &TickObs, place: usize) -> bool
+fn asks(
+    watches: &[Option<Watch>; 12],
+    eviction: &EvictionConfig,
+    tick: &TickObs,
+    place: usize,
+) -> bool
     requires { place < 12 }
     ensures { (before : List TickObs) (key : ThresholdKey)
         → slice_get serving_order place ≡ Some key
@@ -155,7 +160,7 @@ fn asks(watches: &[Option<Watch>; 12], eviction: &Eviction, tick: &TickObs, plac
 /// The threshold that is served.
 pub(crate) fn served(
     watches: &[Option<Watch>; 12],
-    eviction: &Eviction,
+    eviction: &EvictionConfig,
     tick: &TickObs,
 ) -> Option<ThresholdKey>
     ensures { (before : List TickObs)

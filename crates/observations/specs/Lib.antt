@@ -1,4 +1,4 @@
-pub mod Kept
+pub mod PackedContainer
 pub mod Observations
 pub mod Pods
 pub mod Limits

@@ -3,9 +3,9 @@ use Rattle.std.specs.Prelude.{ℕ, List, [], ◌∷◌, Option, Some, None}
 use Rattle.observations.specs.declared.container.ContainerObs.{ContainerObs}
 use Rattle.observations.specs.declared.containers.Containers.{Containers}
 use Rattle.observations.specs.declared.containers.Containers.TheVariants as containers
-use Rattle.observations.specs.declared.kept.Kept.{Kept}
-use Rattle.observations.specs.declared.shown.Shown.{Shown}
-use Rattle.observations.specs.declared.shown.Shown.TheVariants as shown
+use Rattle.observations.specs.declared.packed_container.PackedContainer.{PackedContainer}
+use Rattle.observations.specs.declared.packed_containers.PackedContainers.{PackedContainers}
+use Rattle.observations.specs.declared.packed_containers.PackedContainers.TheVariants as shown
 use Rattle.observations.specs.declared.usage.Usage.{Usage}
 use Rattle.observations.specs.Whole.{memory_as, usage_as}
 
@@ -20,13 +20,13 @@ abbrev pub pod_obs : ℕ → List ContainerObs → Option Usage → PodObs
 pod_obs at containers usage = record { at = at; containers = containers; usage = usage }
 
 -- what is kept of containers in a block
-abbrev pub containers_in : Containers → List Kept
+abbrev pub containers_in : Containers → List PackedContainer
 containers_in (containers.One one) = one ∷ []
 containers_in (containers.Two one two) = one ∷ two ∷ []
 containers_in (containers.More more) = more.items
 
 -- what is kept of the containers
-abbrev pub kept_in : Shown → List Kept
+abbrev pub kept_in : PackedContainers → List PackedContainer
 kept_in (shown.One one) = one ∷ []
 kept_in (shown.Two one two) = one ∷ two ∷ []
 kept_in (shown.OneWithMemory one memory) = one ∷ []
@@ -36,7 +36,7 @@ kept_in (shown.Whole whole) = containers_in whole.value.containers
 kept_in (shown.Used used) = containers_in used.value.containers
 
 -- and of the use of the node
-abbrev pub usage_in : Shown → Option Usage
+abbrev pub usage_in : PackedContainers → Option Usage
 usage_in (shown.OneWithMemory one memory) = Some (memory_as memory)
 usage_in (shown.TwoWithMemory one two memory) = Some (memory_as memory)
 usage_in (shown.Whole whole) = Some (usage_as whole.value.usage)

@@ -1,20 +1,23 @@
 //! What a tick shows of a pod's containers, as it is kept in a block.
 
 ghost use Rattle.std.specs.Prelude.{◌≡◌, length, map, IfOk, slice_get};
-ghost use Rattle.observations.specs.Kept.{shown_as};
+ghost use Rattle.observations.specs.PackedContainer.{shown_as};
 ghost use Rattle.observations.specs.Pods.{containers_in};
 
 use crate::container::ContainerObs;
-use crate::kept::Kept;
+use crate::packed_container::PackedContainer;
 use std::alloc::{AllocError, Global};
 
 /// What is kept of these.
-pub(crate) fn kept(alloc: Global, containers: &[ContainerObs]) -> Result<Vec<Kept>, AllocError>
+pub(crate) fn kept(
+    alloc: Global,
+    containers: &[ContainerObs],
+) -> Result<Vec<PackedContainer>, AllocError>
     ensures { IfOk result (λ kept. map shown_as kept.items ≡ containers.now) }
 {
     let mut kept = Vec::with_capacity(alloc, containers.len())?;
     for one in containers {
-        kept.push(Kept::of(*one))?;
+        kept.push(PackedContainer::of(*one))?;
     }
     Ok(kept)
 }
@@ -22,9 +25,9 @@ pub(crate) fn kept(alloc: Global, containers: &[ContainerObs]) -> Result<Vec<Kep
 /// Of one or two containers in place: few pods have more.
 #[derive(Drop)]
 pub(crate) enum Containers {
-    One(Kept),
-    Two(Kept, Kept),
-    More(Vec<Kept>),
+    One(PackedContainer),
+    Two(PackedContainer, PackedContainer),
+    More(Vec<PackedContainer>),
 }
 
 impl Containers {
@@ -32,8 +35,8 @@ impl Containers {
         ensures { IfOk result (λ c. map shown_as (containers_in c) ≡ containers.now) }
     {
         match containers {
-            [one] => Ok(Containers::One(Kept::of(*one))),
-            [one, two] => Ok(Containers::Two(Kept::of(*one), Kept::of(*two))),
+            [one] => Ok(Containers::One(PackedContainer::of(*one))),
+            [one, two] => Ok(Containers::Two(PackedContainer::of(*one), PackedContainer::of(*two))),
             _ => Ok(Containers::More(kept(alloc, containers)?)),
         }
     }
@@ -48,7 +51,7 @@ impl Containers {
         }
     }
 
-    pub(crate) fn get(&self, number: usize) -> Option<Kept>
+    pub(crate) fn get(&self, number: usize) -> Option<PackedContainer>
         ensures { result ≡ slice_get (containers_in self.now) number }
     {
         match self {

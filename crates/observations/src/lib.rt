@@ -3,10 +3,10 @@
 
 mod container;
 mod containers;
-mod kept;
 mod limits;
+mod packed_container;
+mod packed_containers;
 mod pod;
-mod shown;
 mod tick;
 mod usage;
 mod whole;

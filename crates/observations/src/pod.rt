@@ -2,7 +2,7 @@ ghost use Rattle.std.specs.Prelude.{◌≡◌, length, IfOk, slice_get};
 ghost use Rattle.observations.specs.Pods.{pod_obs};
 
 use crate::container::ContainerObs;
-use crate::shown::Shown;
+use crate::packed_containers::PackedContainers;
 use crate::usage::Usage;
 use std::alloc::{AllocError, Global};
 use std::marker::Model;
@@ -12,12 +12,12 @@ use std::marker::Model;
 #[derive(Drop)]
 pub struct PodObs {
     at: u64,
-    shown: Shown,
+    shown: PackedContainers,
 }
 
 impl Model for PodObs {
     ghost use Rattle.std.specs.Prelude.{map};
-    ghost use Rattle.observations.specs.Kept.{shown_as};
+    ghost use Rattle.observations.specs.PackedContainer.{shown_as};
     ghost use Rattle.observations.specs.Pods.{PodObs, pod_obs, kept_in, usage_in};
 
     ghost Value = { PodObs };
@@ -36,7 +36,7 @@ impl PodObs {
     ) -> Result<PodObs, AllocError>
         ensures { IfOk result (λ o. o ≡ pod_obs at containers.now usage) }
     {
-        let shown = Shown::new(alloc, containers, usage)?;
+        let shown = PackedContainers::new(alloc, containers, usage)?;
         Ok(PodObs { at, shown })
     }
 

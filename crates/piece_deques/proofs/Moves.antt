@@ -12,7 +12,7 @@ use Rattle.crossbeam_deque.specs.Tasks.{Pushes, Takes, Finds, FindsFew, Forks, M
 use Rattle.crossbeam_deque.proofs.Lists.{at_set, at_snoc, set_here, set_else}
 use Rattle.pod_piece.specs.Piece.{Piece}
 use Rattle.piece_deques.specs.declared.rule.Tally.{Tally}
-use Rattle.piece_deques.specs.Rule.{all_parts, number_of, tally, IsDue, Lists, IsDealt, Took, IsEmptied}
+use Rattle.piece_deques.specs.Rule.{all_parts, number_of, tally, IsPieceDue, Lists, IsDealt, Took, IsEmptied}
 use Rattle.piece_deques.specs.Rule.{FoundEmpty, IsBounded}
 use Rattle.piece_deques.proofs.Lists.{all_left, all_right, ones, set_sum, place_within}
 
@@ -85,7 +85,7 @@ alone views port v j u at all other there =
 
 -- pieces that are due may be pushed by an owner that is alone
 pub pushes : (all : List Piece) (port : ℕ) (v : Tally) (pieces : List Piece) → v.parts ≡ all_parts
-    → All (IsDue all) pieces
+    → All (IsPieceDue all) pieces
     → Pushes (IsDealt all) port v pieces (λ w. w ≡ tally v.parts (v.pushed ++ map number_of pieces) v.taken)
 pushes all port v pieces every due items views d at =
     let numbers = map number_of pieces in
@@ -114,7 +114,7 @@ pushes all port v pieces every due items views d at =
                   let none = alone views port v j u at (d.whole ∙ sym every) x.0 x.1 in absurd (omega arith);
             })
             (at_set views port j w u e);
-        due = All-append (IsDue all) items pieces d.due due;
+        due = All-append (IsPieceDue all) items pieces d.due due;
       },
       refl,
     )
@@ -150,7 +150,7 @@ takes all port v most some_part pieces items views _ _ d at =
       whole = let s = set_sum (λ (u : Tally). u.parts) views port v w at in let p = d.whole in omega arith;
       listed = each_set (Lists d.pushed) views port w
           (record { idle = λ none. absurd (omega arith); same = (d.listed port v at).same }) d.listed;
-      due = all_right (IsDue all) pieces items d.due;
+      due = all_right (IsPieceDue all) pieces items d.due;
     } in (
       w,
       after,
@@ -158,15 +158,15 @@ takes all port v most some_part pieces items views _ _ d at =
         grown = refl;
         few = no_more all items (set views port w) port w after
             (set_here views port w (place_within views port v at)) some_part;
-        due = all_left (IsDue all) pieces items d.due;
+        due = all_left (IsPieceDue all) pieces items d.due;
       },
     )
 
-pub one_due : (all : List Piece) (v w : Tally) (piece : Piece) → Took all v (piece ∷ []) w → IsDue all piece
+pub one_due : (all : List Piece) (v w : Tally) (piece : Piece) → Took all v (piece ∷ []) w → IsPieceDue all piece
 one_due all v w piece took = took.due 0 piece (omega arith)
 
 pub some_due : (all : List Piece) (v w : Tally) (P : Type 0) (found : Option Piece)
-    → MatchOption found P (λ piece. Took all v (piece ∷ []) w) → IfSome found (IsDue all)
+    → MatchOption found P (λ piece. Took all v (piece ∷ []) w) → IfSome found (IsPieceDue all)
 some_due all v w P None took = tt
 some_due all v w P (Some piece) took = one_due all v w piece took
 

@@ -21,7 +21,7 @@ abbrev pub AreNumbered : List Piece → Type 0
 AreNumbered pieces = (n : ℕ) (piece : Piece) → slice_get pieces n ≡ Some piece → piece.number ≡ n
 
 -- the piece stands in the list under its number, and is still to be updated
-pub record IsDue (all : List Piece) (piece : Piece) : Type 0 where
+pub record IsPieceDue (all : List Piece) (piece : Piece) : Type 0 where
   pub stands : slice_get all piece.number ≡ Some piece
   pub pending : IsTrue piece.is_pending
 
@@ -40,13 +40,13 @@ pub record IsDealt (all : List Piece) (items : List Piece) (views : List Tally) 
   pub once : (weight : ℕ → ℕ) → sum_by weight taken ≡ sum_by (λ v. sum_by weight v.taken) views
   pub whole : sum_by (λ v. v.parts) views ≡ all_parts
   pub listed : (port : ℕ) (v : Tally) → get_elem? views port ≡ some v → Lists pushed v
-  pub due : All (IsDue all) items
+  pub due : All (IsPieceDue all) items
 
 -- a pass took these pieces, which are due: their numbers join those that it has taken, no more than were pushed
 pub record Took (all : List Piece) (old : Tally) (pieces : List Piece) (new : Tally) : Type 0 where
   pub grown : new ≡ tally old.parts old.pushed (old.taken ++ map number_of pieces)
   pub few : length new.taken ≤ length new.pushed
-  pub due : All (IsDue all) pieces
+  pub due : All (IsPieceDue all) pieces
 
 -- where a pass has every part, each number pushed was taken, as often as it was pushed
 abbrev pub IsEmptied : Tally → Type 0

@@ -3,7 +3,7 @@
 ghost use Rattle.std.specs.Prelude.{◌≡◌, ◌<◌, ◌≤◌, ◌+◌, ◌-◌, ◌^◌, [], ◌∷◌, ◌++◌, IfOk, IfSome, IfNone};
 ghost use Rattle.crossbeam_deque.specs.Handles.{view, IsPassOf, SameWorker, stealer_deque, stealer_flavor};
 ghost use Rattle.crossbeam_deque.specs.Handles.{worker_capacity, worker_deque, worker_index, worker_view};
-ghost use Rattle.piece_deques.specs.Rule.{all_parts, tally, IsDue, Took, IsEmptied, FoundEmpty, IsBounded};
+ghost use Rattle.piece_deques.specs.Rule.{all_parts, tally, IsPieceDue, Took, IsEmptied, FoundEmpty, IsBounded};
 ghost use Rattle.piece_deques.specs.Ends.{IsOwner};
 
 use crate::rule::{Cut, Deal, Dealing, Few, Popped, Pushed, Stolen, Tally};
@@ -40,7 +40,7 @@ pub fn open<D: Deal>(alloc: Global, room: usize) -> Result<Owner<D>, AllocError>
 
 /// Pushes a piece to a deque that has room for it and has no seats.
 pub fn push<D: Deal>(owner: &mut Owner<D>, piece: PodPiece)
-    requires due { IsDue D.all piece }
+    requires due { IsPieceDue D.all piece }
     requires alone { (worker_view owner.old).parts ≡ all_parts }
     requires room { worker_index owner.old < worker_capacity owner.old }
     requires few { worker_index owner.old < 2 ^ 62 }
@@ -87,14 +87,14 @@ pub fn pop<D: Deal>(owner: &mut Owner<D>) -> Option<PodPiece>
     ensures none { IfNone result (worker_view owner.new ≡ worker_view owner.old) }
     ensures emptied { IfNone result (IsEmptied (worker_view owner.old)) }
     ensures found { IfNone result (FoundEmpty D.all (worker_view owner.old)) }
-    ensures due { IfSome result (IsDue D.all) }
+    ensures due { IfSome result (IsPieceDue D.all) }
     ensures took { IfSome result (λ piece. Took D.all (worker_view owner.old) (piece ∷ []) (worker_view owner.new)) }
 {
     owner.pop_as::<Popped<D>>()
 }
 
-/// The first piece of a deque that is first in first out, for a thief. None where it found no piece in it: where another
-/// took a piece in between, it tries again.
+/// The first piece of a deque that is first in first out, for a thief. None where it found no piece in it: where
+/// another took a piece in between, it tries again.
 pub fn steal<D: Deal, R: Wait>(rt: &R, thief: &Thief<D>, seat: &mut Seat) -> Option<PodPiece>
     requires in_order { stealer_flavor thief.now ≡ 0 }
     requires fits { IsPassOf (stealer_deque thief.now) seat.old }
@@ -102,7 +102,7 @@ pub fn steal<D: Deal, R: Wait>(rt: &R, thief: &Thief<D>, seat: &mut Seat) -> Opt
     ensures same { IsPassOf (stealer_deque thief.now) seat.new }
     ensures none { IfNone result (view seat.new ≡ view seat.old) }
     ensures found { IfNone result (FoundEmpty D.all (view seat.old)) }
-    ensures due { IfSome result (IsDue D.all) }
+    ensures due { IfSome result (IsPieceDue D.all) }
     ensures took { IfSome result (λ piece. Took D.all (view seat.old) (piece ∷ []) (view seat.new)) }
 {
     for _ in rt.forever() {

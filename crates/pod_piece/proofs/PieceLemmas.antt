@@ -25,7 +25,7 @@ use Rattle.state_diff.proofs.Steps.{is_before}
 use Rattle.pod_state.proofs.StateLemmas.{may_follow}
 use Rattle.pod_state.proofs.EndLemmas.{end_old, ended_is, IsEnd-unique}
 use Rattle.pod_piece.specs.declared.order.EvictOrder.{EvictOrder}
-use Rattle.pod_piece.specs.declared.piece.Eviction.{Eviction}
+use Rattle.pod_piece.specs.declared.piece.EvictionRecord.{EvictionRecord}
 use Rattle.pod_piece.specs.declared.status.PodStatus.{PodStatus}
 use Rattle.pod_piece.specs.Listings.{listed_in, IsNextTick, AreListed, AllFollow}
 use Rattle.pod_piece.specs.Piece.{Piece, piece, before_last, last_of, taken, ticks, place_of, evicted_at, Lives}
@@ -66,13 +66,13 @@ ends_more pod h x (Some place) ends = record {
   is_end = end_old pod (Some place) h x place ends.is_end;
 }
 
-pub state_more : (pod : PodSpec) (greatest : ℕ) (evicted : Option ℕ) (h : List PodTick) (x : PodTick)
-    (old new : PodState) → IsStateAfter pod greatest evicted h old
-    → ((e : Option ℕ) → (e ≡ Some (length h) → ⊥) → IsStateOf pod greatest e h old
-    → IsStateOf pod greatest e (h ++ x ∷ []) new)
-    → ((e : Option ℕ) → IsStateOf pod greatest e h old → IsProgressOf pod e h (before_of new))
-    → IsStateAfter pod greatest evicted (h ++ x ∷ []) new
-state_more pod greatest evicted h x old new after step was = record {
+pub state_more : (pod : PodSpec) (max_restart_delay : ℕ) (evicted : Option ℕ) (h : List PodTick) (x : PodTick)
+    (old new : PodState) → IsStateAfter pod max_restart_delay evicted h old
+    → ((e : Option ℕ) → (e ≡ Some (length h) → ⊥) → IsStateOf pod max_restart_delay e h old
+    → IsStateOf pod max_restart_delay e (h ++ x ∷ []) new)
+    → ((e : Option ℕ) → IsStateOf pod max_restart_delay e h old → IsProgressOf pod e h (before_of new))
+    → IsStateAfter pod max_restart_delay evicted (h ++ x ∷ []) new
+state_more pod max_restart_delay evicted h x old new after step was = record {
   ended = ends_more pod h x evicted after.ended;
   now = λ e may.
       let long = length-more h x in
@@ -95,36 +95,38 @@ not_before : (n : ℕ) (b : Bool) → nat_lt n n ≡ b → (if b then Some n els
 not_before n false e = refl
 not_before n true e = let lt : n < n = ltb-true n n e in absurd (omega (arith, lt))
 
-pub events_after : (pod : PodSpec) (greatest : ℕ) (evicted : Option ℕ) (h : List PodTick) (x : PodTick)
+pub events_after : (pod : PodSpec) (max_restart_delay : ℕ) (evicted : Option ℕ) (h : List PodTick) (x : PodTick)
     (events : List PodEvent)
-    → AreEventsOf pod greatest (evicted_before evicted (length h)) h x events → AreEventsAfter pod greatest evicted
+    → AreEventsOf pod max_restart_delay (evicted_before evicted (length h)) h x events
+    → AreEventsAfter pod max_restart_delay evicted
     (h ++ x ∷ []) events
-events_after pod greatest evicted h x events are =
+events_after pod max_restart_delay evicted h x events are =
     let P : List PodTick → Option PodTick → Type 0 = λ k o. MatchOption o (events ≡ [])
-    (λ tick. AreEventsOf pod greatest (evicted_before evicted (length k)) k tick events) in
+    (λ tick. AreEventsOf pod max_restart_delay (evicted_before evicted (length k)) k tick events) in
     subst (λ (k : List PodTick). P k (last_of (h ++ x ∷ []))) (sym (front_more h x))
     (subst (λ (o : Option PodTick). P h o) (sym (last_more h x)) are)
 
 -- they stay where the tick evicts the pod
-pub events_evicted : (pod : PodSpec) (greatest : ℕ) (h : List PodTick) (x : PodTick) (events : List PodEvent)
-    → AreEventsAfter pod greatest None (h ++ x ∷ []) events
-    → AreEventsAfter pod greatest (Some (length h)) (h ++ x ∷ []) events
-events_evicted pod greatest h x events are =
+pub events_evicted : (pod : PodSpec) (max_restart_delay : ℕ) (h : List PodTick) (x : PodTick) (events : List PodEvent)
+    → AreEventsAfter pod max_restart_delay None (h ++ x ∷ []) events
+    → AreEventsAfter pod max_restart_delay (Some (length h)) (h ++ x ∷ []) events
+events_evicted pod max_restart_delay h x events are =
     let P : List PodTick → Option PodTick → Type 0 = λ k o. MatchOption o (events ≡ [])
-    (λ tick. AreEventsOf pod greatest None k tick events) in
-    let made : AreEventsOf pod greatest None h x events = subst (λ (o : Option PodTick). P h o) (last_more h x)
+    (λ tick. AreEventsOf pod max_restart_delay None k tick events) in
+    let made : AreEventsOf pod max_restart_delay None h x events = subst (λ (o : Option PodTick). P h o) (last_more h x)
     (subst (λ (k : List PodTick). P k (last_of (h ++ x ∷ []))) (front_more h x) are) in
-    events_after pod greatest (Some (length h)) h x events
-    (subst (λ (o : Option ℕ). AreEventsOf pod greatest o h x events)
+    events_after pod max_restart_delay (Some (length h)) h x events
+    (subst (λ (o : Option ℕ). AreEventsOf pod max_restart_delay o h x events)
     (sym (not_before (length h) (nat_lt (length h) (length h)) refl)) made)
 
 -- a piece that nothing was handed to
-pub kept_new : (number : ℕ) (pod : PodSpec) (greatest : ℕ) (differs : List Differ) (state : PodState)
+pub kept_new : (number : ℕ) (pod : PodSpec) (max_restart_delay : ℕ) (differs : List Differ) (state : PodState)
     (status : PodStatus) → AreListed pod [] differs
-    → ((e : Option ℕ) → IsStateOf pod greatest e [] state)
-    → ((e : Option ℕ) → IsProgressOf pod e [] (before_of state)) → IsStatusOf (new_piece number pod greatest) status
-    → IsKept (new_piece number pod greatest) differs state status []
-kept_new number pod greatest differs state status listed is was shown = record {
+    → ((e : Option ℕ) → IsStateOf pod max_restart_delay e [] state)
+    → ((e : Option ℕ) → IsProgressOf pod e [] (before_of state))
+    → IsStatusOf (new_piece number pod max_restart_delay) status
+    → IsKept (new_piece number pod max_restart_delay) differs state status []
+kept_new number pod max_restart_delay differs state status listed is was shown = record {
   listed = listed;
   next = λ t. absurd (let w : false ≡ true = t in cc);
   after = record { ended = tt; now = λ e may. is e; before = λ none e may. was e };
@@ -153,9 +155,11 @@ kept_handed p tick old new state status events free next listed kept =
       next = λ t. subst (λ (o : Option PodTick). IsSomeAnd o (IsNextTick p.pod (before_last (p.handed ++ tick ∷ []))))
           (sym (last_more p.handed tick))
           (subst (λ (h : List PodTick). IsNextTick p.pod h tick) (sym front) next);
-      after = subst (λ (h : List PodTick). IsStateAfter p.pod p.greatest (evicted_at p) h state) same kept.after;
+      after = subst
+          (λ (h : List PodTick). IsStateAfter p.pod p.max_restart_delay (evicted_at p) h state) same kept.after;
       shown = subst (λ (h : List PodTick). IsStatusAfter p.number p.pod p.eviction h status) same kept.shown;
-      made = subst (λ (h : List PodTick). AreEventsAfter p.pod p.greatest (evicted_at p) h events) same kept.made;
+      made = subst
+          (λ (h : List PodTick). AreEventsAfter p.pod p.max_restart_delay (evicted_at p) h events) same kept.made;
     }
 
 abbrev numbered : PodStatus → ℕ → PodStatus
@@ -204,34 +208,35 @@ by_eviction (Some place) end b says ends =
     ((λ t. subst (λ (o : Option ℕ). EndsEvicted (Some place) o) (sym ends) refl), (λ w. says.1 refl))
 
 -- it has as many containers as its specification
-pub has_containers : (pod : PodSpec) (greatest : ℕ) (e : Option ℕ) (h : List PodTick) (state : PodState)
-    → IsStateOf pod greatest e h state → HasContainers (length pod.containers) state
-has_containers pod greatest e h state is = sym is.containers.kept.as_many
+pub has_containers : (pod : PodSpec) (max_restart_delay : ℕ) (e : Option ℕ) (h : List PodTick) (state : PodState)
+    → IsStateOf pod max_restart_delay e h state → HasContainers (length pod.containers) state
+has_containers pod max_restart_delay e h state is = sym is.containers.kept.as_many
 
 -- one whose pending tick has come into its status
 pub kept_updated : (p : Piece) (x : PodTick) (differs : List Differ) (old new : PodState) (before after : PodStatus)
     (olds news : List PodEvent) → IsTrue p.is_pending → last_of p.handed ≡ Some x
     → IsKept p differs old before olds
     → ((e : Option ℕ) → (e ≡ Some (length (before_last p.handed)) → ⊥)
-    → IsStateOf p.pod p.greatest e (before_last p.handed) old
-    → IsStateOf p.pod p.greatest e (before_last p.handed ++ x ∷ []) new)
-    → ((e : Option ℕ) → IsStateOf p.pod p.greatest e (before_last p.handed) old
+    → IsStateOf p.pod p.max_restart_delay e (before_last p.handed) old
+    → IsStateOf p.pod p.max_restart_delay e (before_last p.handed ++ x ∷ []) new)
+    → ((e : Option ℕ) → IsStateOf p.pod p.max_restart_delay e (before_last p.handed) old
     → IsProgressOf p.pod e (before_last p.handed) (before_of new))
     → ((e : Option ℕ) → (e ≡ Some (length (before_last p.handed)) → ⊥)
-    → IsStateOf p.pod p.greatest e (before_last p.handed) old
-    → AreEventsOf p.pod p.greatest e (before_last p.handed) x news)
+    → IsStateOf p.pod p.max_restart_delay e (before_last p.handed) old
+    → AreEventsOf p.pod p.max_restart_delay e (before_last p.handed) x news)
     → (IsStatusAfter p.number p.pod p.eviction (before_last p.handed) before
-    → IsStateAfter p.pod p.greatest (evicted_at p) (before_last p.handed) old
-    → IsStateAfter p.pod p.greatest (evicted_at p) (before_last p.handed ++ x ∷ []) new
+    → IsStateAfter p.pod p.max_restart_delay (evicted_at p) (before_last p.handed) old
+    → IsStateAfter p.pod p.max_restart_delay (evicted_at p) (before_last p.handed ++ x ∷ []) new
     → IsStatusAfter p.number p.pod p.eviction (before_last p.handed ++ x ∷ []) after)
     → IsKept (updated p) differs new after news
 kept_updated p x differs old new before after olds news pending last kept step was made shown =
     let h = before_last p.handed in
     let whole : p.handed ≡ h ++ x ∷ [] = split_last p.handed x last in
     let same : ticks p ≡ h = taken_pending p.is_pending p.handed pending in
-    let after_h = subst (λ (k : List PodTick). IsStateAfter p.pod p.greatest (evicted_at p) k old) same kept.after in
+    let after_h =
+    subst (λ (k : List PodTick). IsStateAfter p.pod p.max_restart_delay (evicted_at p) k old) same kept.after in
     let shown_h = subst (λ (k : List PodTick). IsStatusAfter p.number p.pod p.eviction k before) same kept.shown in
-    let state = state_more p.pod p.greatest (evicted_at p) h x old new after_h step was in
+    let state = state_more p.pod p.max_restart_delay (evicted_at p) h x old new after_h step was in
     let within = ends_within p.pod h (evicted_at p) after_h.ended in
     let here = made (evicted_at p) (not_now (evicted_at p) (length h) (suc (length h)) (evicted_at p) (omega arith)
     within (may_self (evicted_at p) (suc (length h))))
@@ -239,12 +244,13 @@ kept_updated p x differs old new before after olds news pending last kept step w
     record {
       listed = kept.listed;
       next = λ t. absurd (let w : false ≡ true = t in cc);
-      after = subst (λ (k : List PodTick). IsStateAfter p.pod p.greatest (evicted_at p) k new) (sym whole) state;
+      after = subst (λ (k : List PodTick). IsStateAfter p.pod p.max_restart_delay (evicted_at p) k new)
+          (sym whole) state;
       shown = subst (λ (k : List PodTick). IsStatusAfter p.number p.pod p.eviction k after) (sym whole)
           (shown shown_h after_h state);
-      made = subst (λ (k : List PodTick). AreEventsAfter p.pod p.greatest (evicted_at p) k news) (sym whole)
-          (events_after p.pod p.greatest (evicted_at p) h x news
-          (subst (λ (o : Option ℕ). AreEventsOf p.pod p.greatest o h x news)
+      made = subst (λ (k : List PodTick). AreEventsAfter p.pod p.max_restart_delay (evicted_at p) k news) (sym whole)
+          (events_after p.pod p.max_restart_delay (evicted_at p) h x news
+          (subst (λ (o : Option ℕ). AreEventsOf p.pod p.max_restart_delay o h x news)
           (sym (before_is (evicted_at p) (length h) within)) here));
     }
 
@@ -260,7 +266,7 @@ not_evicted : (pod : PodSpec) (h : List PodTick) (o : Option ℕ) → IfSome o (
 not_evicted pod h None ends lives = refl
 not_evicted pod h (Some place) ends lives = absurd (lives (place, ends.is_end))
 
-no_eviction : (o : Option Eviction) → place_of o ≡ None → o ≡ None
+no_eviction : (o : Option EvictionRecord) → place_of o ≡ None → o ≡ None
 no_eviction None e = refl
 no_eviction (Some eviction) e = absurd (let w : Some eviction.place ≡ None = e in cc)
 
@@ -270,25 +276,25 @@ still_lives pod e h None lives is = is
 still_lives pod e h (Some t) lives is = absurd (lives (t, is))
 
 -- nor has its phase come to an end
-pub goes_on : (pod : PodSpec) (greatest : ℕ) (e : Option ℕ) (h : List PodTick) (state : PodState)
-    → IsStateOf pod greatest e h state → (HasEnded pod e h → ⊥)
+pub goes_on : (pod : PodSpec) (max_restart_delay : ℕ) (e : Option ℕ) (h : List PodTick) (state : PodState)
+    → IsStateOf pod max_restart_delay e h state → (HasEnded pod e h → ⊥)
     → IsTerminal state.lifecycle.phase → ⊥
-goes_on pod greatest e h state is lives ended =
+goes_on pod max_restart_delay e h state is lives ended =
     lives ((ended_is pod e h state.lifecycle.phase is.progress.so_far.phase).0 ended)
 
 -- the counters of a piece, while a tick is pending and while none is
 pub state_pending : (p : Piece) (differs : List Differ) (state : PodState) (status : PodStatus)
     (events : List PodEvent) → IsTrue p.is_pending → IsKept p differs state status events
-    → IsStateAfter p.pod p.greatest (evicted_at p) (before_last p.handed) state
+    → IsStateAfter p.pod p.max_restart_delay (evicted_at p) (before_last p.handed) state
 state_pending p differs state status events pending kept =
-    subst (λ (k : List PodTick). IsStateAfter p.pod p.greatest (evicted_at p) k state)
+    subst (λ (k : List PodTick). IsStateAfter p.pod p.max_restart_delay (evicted_at p) k state)
     (taken_pending p.is_pending p.handed pending) kept.after
 
 pub state_free : (p : Piece) (differs : List Differ) (state : PodState) (status : PodStatus) (events : List PodEvent)
     → p.is_pending ≡ false → IsKept p differs state status events
-    → IsStateAfter p.pod p.greatest (evicted_at p) p.handed state
+    → IsStateAfter p.pod p.max_restart_delay (evicted_at p) p.handed state
 state_free p differs state status events free kept =
-    subst (λ (k : List PodTick). IsStateAfter p.pod p.greatest (evicted_at p) k state)
+    subst (λ (k : List PodTick). IsStateAfter p.pod p.max_restart_delay (evicted_at p) k state)
     (taken_free p.is_pending p.handed free) kept.after
 
 pub lives_free : (p : Piece) → p.is_pending ≡ false → Lives p → HasEnded p.pod (evicted_at p) p.handed → ⊥
@@ -303,7 +309,7 @@ record IsEvictable (p : Piece) (x : PodTick) (old : PodState) : Type 0 where
   pub none : p.eviction ≡ None
   pub lifecycle : IsLifecycleOf p.pod None (before_last p.handed) (before_of old)
   pub progress : IsProgressOf p.pod (Some (length (before_last p.handed))) (before_last p.handed) (before_of old)
-  pub now : IsStateOf p.pod p.greatest None (before_last p.handed ++ x ∷ []) old
+  pub now : IsStateOf p.pod p.max_restart_delay None (before_last p.handed ++ x ∷ []) old
   pub lives : HasEnded p.pod None (before_last p.handed ++ x ∷ []) → ⊥
 
 evictable : (p : Piece) (x : PodTick) (differs : List Differ) (old : PodState) (status : PodStatus)
@@ -315,9 +321,9 @@ evictable p x differs old status events free lives last kept =
     let same : ticks p ≡ k = taken_free p.is_pending p.handed free ∙ split_last p.handed x last in
     let front : before_last k ≡ h = front_more h x in
     let no_place : evicted_at p ≡ None = not_evicted p.pod (ticks p) (evicted_at p) kept.after.ended lives in
-    let state_k : IsStateAfter p.pod p.greatest None k old =
-    subst (λ (o : Option ℕ). IsStateAfter p.pod p.greatest o k old) no_place
-    (subst (λ (t : List PodTick). IsStateAfter p.pod p.greatest (evicted_at p) t old) same kept.after) in
+    let state_k : IsStateAfter p.pod p.max_restart_delay None k old =
+    subst (λ (o : Option ℕ). IsStateAfter p.pod p.max_restart_delay o k old) no_place
+    (subst (λ (t : List PodTick). IsStateAfter p.pod p.max_restart_delay (evicted_at p) t old) same kept.after) in
     let was = λ (e : Option ℕ) (may : MayBe None (length h) e). subst
     (λ (t : List PodTick). IsProgressOf p.pod e t (before_of old)) front
     (state_k.before refl e (subst (λ (t : List PodTick). MayBe None (length t) e) (sym front) may)) in
@@ -337,9 +343,9 @@ pub evicted_state : (p : Piece) (x : PodTick) (differs : List Differ) (old new :
     → IsKept p differs old status events
     → (IsLifecycleOf p.pod None (before_last p.handed) (before_of old)
     → IsProgressOf p.pod (Some (length (before_last p.handed))) (before_last p.handed) (before_of old)
-    → IsStateOf p.pod p.greatest None (before_last p.handed ++ x ∷ []) old
-    → IsStateOf p.pod p.greatest (Some (length (before_last p.handed))) (before_last p.handed ++ x ∷ []) new)
-    → IsStateOf p.pod p.greatest (Some (length (before_last p.handed))) (before_last p.handed ++ x ∷ []) new
+    → IsStateOf p.pod p.max_restart_delay None (before_last p.handed ++ x ∷ []) old
+    → IsStateOf p.pod p.max_restart_delay (Some (length (before_last p.handed))) (before_last p.handed ++ x ∷ []) new)
+    → IsStateOf p.pod p.max_restart_delay (Some (length (before_last p.handed))) (before_last p.handed ++ x ∷ []) new
 evicted_state p x differs old new status events free lives last kept evict =
     let from = evictable p x differs old status events free lives last kept in
     evict from.lifecycle from.progress from.now
@@ -350,13 +356,13 @@ pub kept_evicted : (p : Piece) (x : PodTick) (order : EvictOrder) (differs : Lis
     → last_of p.handed ≡ Some x → IsKept p differs old before events
     → (IsLifecycleOf p.pod None (before_last p.handed) (before_of old)
     → IsProgressOf p.pod (Some (length (before_last p.handed))) (before_last p.handed) (before_of old)
-    → IsStateOf p.pod p.greatest None (before_last p.handed ++ x ∷ []) old
-    → IsStateOf p.pod p.greatest (Some (length (before_last p.handed))) (before_last p.handed ++ x ∷ []) new
+    → IsStateOf p.pod p.max_restart_delay None (before_last p.handed ++ x ∷ []) old
+    → IsStateOf p.pod p.max_restart_delay (Some (length (before_last p.handed))) (before_last p.handed ++ x ∷ []) new
     × IsEnd p.pod (Some (length (before_last p.handed))) (before_last p.handed ++ x ∷ [])
     (Some (length (before_last p.handed))))
     → (IsStatusAfter p.number p.pod None (before_last p.handed ++ x ∷ []) before
     → IsEnd p.pod None (before_last p.handed ++ x ∷ []) None
-    → IsStateOf p.pod p.greatest (Some (length (before_last p.handed))) (before_last p.handed ++ x ∷ []) new
+    → IsStateOf p.pod p.max_restart_delay (Some (length (before_last p.handed))) (before_last p.handed ++ x ∷ []) new
     → IsEnd p.pod (Some (length (before_last p.handed))) (before_last p.handed ++ x ∷ [])
     (Some (length (before_last p.handed)))
     → IsStatusAfter p.number p.pod (Some (record { place = length (before_last p.handed); order = order }))
@@ -371,31 +377,33 @@ kept_evicted p x order differs old new before after events free lives last kept 
     let both = evict from.lifecycle from.progress from.now in
     let phase = from.now.progress.so_far.phase in
     let status_k : IsStatusAfter p.number p.pod None k before =
-    subst (λ (o : Option Eviction). IsStatusAfter p.number p.pod o k before) from.none
+    subst (λ (o : Option EvictionRecord). IsStatusAfter p.number p.pod o k before) from.none
     (subst (λ (t : List PodTick). IsStatusAfter p.number p.pod p.eviction t before) from.same kept.shown) in
-    let made_k : AreEventsAfter p.pod p.greatest None k events =
-    subst (λ (o : Option ℕ). AreEventsAfter p.pod p.greatest o k events) from.no_place
-    (subst (λ (t : List PodTick). AreEventsAfter p.pod p.greatest (evicted_at p) t events) from.same kept.made) in
-    let state' : IsStateAfter p.pod p.greatest (Some (length h)) k new = record {
+    let made_k : AreEventsAfter p.pod p.max_restart_delay None k events =
+    subst (λ (o : Option ℕ). AreEventsAfter p.pod p.max_restart_delay o k events) from.no_place
+    (subst (λ (t : List PodTick). AreEventsAfter p.pod p.max_restart_delay (evicted_at p) t events) from.same
+    kept.made) in
+    let state' : IsStateAfter p.pod p.max_restart_delay (Some (length h)) k new = record {
       ended = record { within = omega (arith, length-more h x); is_end = both.1 };
-      now = λ e may. subst (λ (o : Option ℕ). IsStateOf p.pod p.greatest o k new) (sym may) both.0;
+      now = λ e may. subst (λ (o : Option ℕ). IsStateOf p.pod p.max_restart_delay o k new) (sym may) both.0;
       before = λ never. absurd (let w : Some (length h) ≡ None = never in cc);
     } in
     record {
       listed = kept.listed;
       next = λ t. absurd (not_free p.is_pending free t);
-      after = subst (λ (t : List PodTick). IsStateAfter p.pod p.greatest (Some (length p.handed - 1)) t new)
+      after = subst (λ (t : List PodTick). IsStateAfter p.pod p.max_restart_delay (Some (length p.handed - 1)) t new)
           (sym from.same)
-          (subst (λ (n : ℕ). IsStateAfter p.pod p.greatest (Some n) k new) (sym is_place) state');
+          (subst (λ (n : ℕ). IsStateAfter p.pod p.max_restart_delay (Some n) k new) (sym is_place) state');
       shown = subst (λ (t : List PodTick). IsStatusAfter p.number p.pod
           (Some (record { place = length p.handed - 1; order = order })) t after) (sym from.same)
           (subst (λ (n : ℕ). IsStatusAfter p.number p.pod (Some (record { place = n; order = order })) k after)
           (sym is_place)
           (shown status_k (still_lives p.pod None k phase.0 from.lives phase.1) both.0 both.1));
-      made = subst (λ (t : List PodTick). AreEventsAfter p.pod p.greatest (Some (length p.handed - 1)) t events)
+      made = subst
+          (λ (t : List PodTick). AreEventsAfter p.pod p.max_restart_delay (Some (length p.handed - 1)) t events)
           (sym from.same)
-          (subst (λ (n : ℕ). AreEventsAfter p.pod p.greatest (Some n) k events) (sym is_place)
-          (events_evicted p.pod p.greatest h x events made_k));
+          (subst (λ (n : ℕ). AreEventsAfter p.pod p.max_restart_delay (Some n) k events) (sym is_place)
+          (events_evicted p.pod p.max_restart_delay h x events made_k));
     }
   where
     not_free : (b : Bool) → b ≡ false → IsTrue b → ⊥
@@ -403,7 +411,7 @@ kept_evicted p x order differs old new before after events free lives last kept 
     not_free true e t = let w : true ≡ false = e in absurd (cc)
 
 -- whether there is an eviction
-pub flag_says : (o : Option Eviction) (b : Bool) → b ≡ is_some o → (IsTrue b ↔ IsSome (place_of o))
+pub flag_says : (o : Option EvictionRecord) (b : Bool) → b ≡ is_some o → (IsTrue b ↔ IsSome (place_of o))
 flag_says None b e = ((λ t. sym e ∙ t), (λ w. e ∙ w))
 flag_says (Some eviction) b e = ((λ t. refl), (λ w. e))
 
@@ -419,11 +427,12 @@ ends_too h n at later =
     subst (λ (o : Option ℕ). IfSome o (λ last. last < at)) (sym same) later
 
 -- what may come next may be taken
-pub may_take : (pod : PodSpec) (greatest : ℕ) (e : Option ℕ) (h : List PodTick) (state : PodState) (observed : PodObs)
-    → IsStateOf pod greatest e h state → IsNextTick pod h (pod_tick observed)
+pub may_take : (pod : PodSpec) (max_restart_delay : ℕ) (e : Option ℕ) (h : List PodTick) (state : PodState)
+    (observed : PodObs)
+    → IsStateOf pod max_restart_delay e h state → IsNextTick pod h (pod_tick observed)
     → MayFollow state observed.at observed.containers
-may_take pod greatest e h state observed is next =
-    may_follow pod greatest e h state observed.at observed.containers is
+may_take pod max_restart_delay e h state observed is next =
+    may_follow pod max_restart_delay e h state observed.at observed.containers is
     (λ n. elim (cases_lt n (length pod.containers)) [
       | inl lt ↦ next.shown.acceptable n lt
       | inr ge ↦
@@ -448,43 +457,45 @@ all_follow pod h differs observed are next = λ n d lt.
     }
 
 -- a piece that one more observation is handed to
-pub piece_handed : (number : ℕ) (pod : PodSpec) (greatest : ℕ) (items : List PodObs) (was_pending : Bool)
-    (eviction : Option Eviction) (observed : PodObs)
-    → piece number pod greatest (items ++ observed ∷ []) true eviction ≡ with_tick
-    (piece number pod greatest items was_pending eviction) (pod_tick observed)
-piece_handed number pod greatest items was_pending eviction observed =
+pub piece_handed : (number : ℕ) (pod : PodSpec) (max_restart_delay : ℕ) (items : List PodObs) (was_pending : Bool)
+    (eviction : Option EvictionRecord) (observed : PodObs)
+    → piece number pod max_restart_delay (items ++ observed ∷ []) true eviction ≡ with_tick
+    (piece number pod max_restart_delay items was_pending eviction) (pod_tick observed)
+piece_handed number pod max_restart_delay items was_pending eviction observed =
     ap (λ (h : List PodTick). record {
       number = number;
       pod = pod;
-      greatest = greatest;
+      max_restart_delay = max_restart_delay;
       handed = h;
       is_pending = true;
       eviction = eviction;
     }) (map-append pod_tick items (observed ∷ []))
 
 -- what is known of a piece whose tick is pending
-pub record IsAtLast (number : ℕ) (pod : PodSpec) (greatest : ℕ) (items : List PodObs) (is_pending : Bool)
-    (eviction : Option Eviction) (state : PodState) (observed : PodObs) : Type 0 where
+pub record IsAtLast (number : ℕ) (pod : PodSpec) (max_restart_delay : ℕ) (items : List PodObs) (is_pending : Bool)
+    (eviction : Option EvictionRecord) (state : PodState) (observed : PodObs) : Type 0 where
   pub pending : IsTrue is_pending
   pub last : last_of (map pod_tick items) ≡ Some (pod_tick observed)
   pub next : IsNextTick pod (before_last (map pod_tick items)) (pod_tick observed)
-  pub now : IsStateOf pod greatest (place_of eviction) (before_last (map pod_tick items)) state
+  pub now : IsStateOf pod max_restart_delay (place_of eviction) (before_last (map pod_tick items)) state
   pub not_now : place_of eviction ≡ Some (length (before_last (map pod_tick items))) → ⊥
 
-pub at_last : (p : Piece) (number : ℕ) (pod : PodSpec) (greatest : ℕ) (items : List PodObs) (is_pending : Bool)
-    (eviction : Option Eviction) (differs : List Differ) (state : PodState)
+pub at_last : (p : Piece) (number : ℕ) (pod : PodSpec) (max_restart_delay : ℕ) (items : List PodObs) (is_pending : Bool)
+    (eviction : Option EvictionRecord) (differs : List Differ) (state : PodState)
     (status : PodStatus) (events : List PodEvent) (n : ℕ) (observed : PodObs)
-    → piece number pod greatest items is_pending eviction ≡ p → IsTrue p.is_pending
-    → IsKept (piece number pod greatest items is_pending eviction) differs state status events → n ≡ length items
+    → piece number pod max_restart_delay items is_pending eviction ≡ p → IsTrue p.is_pending
+    → IsKept (piece number pod max_restart_delay items is_pending eviction) differs state status events
+    → n ≡ length items
     → observed ≡ get_or items (n - 1) observed
-    → IsAtLast number pod greatest items is_pending eviction state observed
-at_last p number pod greatest items is_pending eviction differs state status events n observed view pending' kept long
+    → IsAtLast number pod max_restart_delay items is_pending eviction state observed
+at_last p number pod max_restart_delay items is_pending eviction differs state status events n observed view pending'
+    kept long
     is =
     let pending : IsTrue is_pending = ap (λ (q : Piece). q.is_pending) view ∙ pending' in
     let here = kept.next pending in
     let last = observed_last items n observed long
     (some_last items (IsNextTick pod (before_last (map pod_tick items))) here) is in
-    let after = state_pending (piece number pod greatest items is_pending eviction) differs state status events
+    let after = state_pending (piece number pod max_restart_delay items is_pending eviction) differs state status events
     pending kept in
     let h = before_last (map pod_tick items) in
     record {

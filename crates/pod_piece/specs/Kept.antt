@@ -26,10 +26,10 @@ pub record EndsAt (pod : PodSpec) (h : List PodTick) (place : ℕ) : Type 0 wher
   pub is_end : IsEnd pod (Some place) h (Some place)
 
 -- the counters are the state of these ticks, whatever eviction is still to come
-pub record IsStateAfter (pod : PodSpec) (greatest : ℕ) (evicted : Option ℕ) (h : List PodTick)
+pub record IsStateAfter (pod : PodSpec) (max_restart_delay : ℕ) (evicted : Option ℕ) (h : List PodTick)
     (state : PodState) : Type 0 where
   pub ended : IfSome evicted (EndsAt pod h)
-  pub now : (e : Option ℕ) → MayBe evicted (length h) e → IsStateOf pod greatest e h state
+  pub now : (e : Option ℕ) → MayBe evicted (length h) e → IsStateOf pod max_restart_delay e h state
   pub before : evicted ≡ None → (e : Option ℕ) → MayBe None (length (before_last h)) e
       → IsProgressOf pod e (before_last h) (before_of state)
 
@@ -38,13 +38,13 @@ pub record IsKept (p : Piece) (differs : List Differ) (state : PodState) (status
     (events : List PodEvent) : Type 0 where
   pub listed : AreListed p.pod p.handed differs
   pub next : IsTrue p.is_pending → IsSomeAnd (last_of p.handed) (IsNextTick p.pod (before_last p.handed))
-  pub after : IsStateAfter p.pod p.greatest (evicted_at p) (ticks p) state
+  pub after : IsStateAfter p.pod p.max_restart_delay (evicted_at p) (ticks p) state
   pub shown : IsStatusOf p status
   pub made : AreLastEvents p events
 
 -- the piece of these fields, and that they are kept so
 abbrev pub piece_of : Parts → Piece
-piece_of parts = piece parts.number parts.pod parts.greatest parts.history parts.is_pending parts.eviction
+piece_of parts = piece parts.number parts.pod parts.max_restart_delay parts.history parts.is_pending parts.eviction
 
 abbrev pub AreKept : Parts → Type 0
 AreKept parts = IsKept (piece_of parts) parts.differs.items parts.state parts.status parts.events.items

@@ -5,25 +5,25 @@ use Rattle.manifest.specs.declared.pod.PodSpec.{PodSpec}
 use Rattle.pod_state.specs.Pods.{PodTick, pod_tick, HasEnded}
 use Rattle.observations.specs.Pods.{PodObs}
 use Rattle.pod_piece.specs.declared.order.EvictOrder.{EvictOrder}
-use Rattle.pod_piece.specs.declared.piece.Eviction.{Eviction}
+use Rattle.pod_piece.specs.declared.piece.EvictionRecord.{EvictionRecord}
 
 pub record Piece : Type 0 where
   pub number : ℕ
   pub pod : PodSpec
   -- the node's greatest restart delay, in seconds
-  pub greatest : ℕ
+  pub max_restart_delay : ℕ
   -- every tick that was handed to it
   pub handed : List PodTick
   -- the last of them is still to come into its status
   pub is_pending : Bool
-  pub eviction : Option Eviction
+  pub eviction : Option EvictionRecord
 
 -- one of these values, with its observations as ticks
-abbrev pub piece : ℕ → PodSpec → ℕ → List PodObs → Bool → Option Eviction → Piece
-piece number pod greatest history is_pending eviction = record {
+abbrev pub piece : ℕ → PodSpec → ℕ → List PodObs → Bool → Option EvictionRecord → Piece
+piece number pod max_restart_delay history is_pending eviction = record {
   number = number;
   pod = pod;
-  greatest = greatest;
+  max_restart_delay = max_restart_delay;
   handed = map pod_tick history;
   is_pending = is_pending;
   eviction = eviction;
@@ -50,8 +50,8 @@ abbrev pub ticks : Piece → List PodTick
 ticks p = taken p.is_pending p.handed
 
 -- the place of the tick that evicts a pod
-abbrev pub place_of : Option Eviction → Option ℕ
-place_of eviction = option_map (λ (e : Eviction). e.place) eviction
+abbrev pub place_of : Option EvictionRecord → Option ℕ
+place_of eviction = option_map (λ (e : EvictionRecord). e.place) eviction
 
 abbrev pub evicted_at : Piece → Option ℕ
 evicted_at p = place_of p.eviction
@@ -67,10 +67,10 @@ Lives p = HasEnded p.pod (evicted_at p) (ticks p) → ⊥
 
 -- a pod that nothing was handed to
 abbrev pub new_piece : ℕ → PodSpec → ℕ → Piece
-new_piece number pod greatest = record {
+new_piece number pod max_restart_delay = record {
   number = number;
   pod = pod;
-  greatest = greatest;
+  max_restart_delay = max_restart_delay;
   handed = [];
   is_pending = false;
   eviction = None;
@@ -81,7 +81,7 @@ abbrev pub with_tick : Piece → PodTick → Piece
 with_tick p tick = record {
   number = p.number;
   pod = p.pod;
-  greatest = p.greatest;
+  max_restart_delay = p.max_restart_delay;
   handed = p.handed ++ tick ∷ [];
   is_pending = true;
   eviction = p.eviction;
@@ -92,7 +92,7 @@ abbrev pub updated : Piece → Piece
 updated p = record {
   number = p.number;
   pod = p.pod;
-  greatest = p.greatest;
+  max_restart_delay = p.max_restart_delay;
   handed = p.handed;
   is_pending = false;
   eviction = p.eviction;
@@ -103,7 +103,7 @@ abbrev pub with_eviction : Piece → EvictOrder → Piece
 with_eviction p order = record {
   number = p.number;
   pod = p.pod;
-  greatest = p.greatest;
+  max_restart_delay = p.max_restart_delay;
   handed = p.handed;
   is_pending = p.is_pending;
   eviction = Some (record { place = length p.handed - 1; order = order });
@@ -114,7 +114,7 @@ abbrev pub with_number : Piece → ℕ → Piece
 with_number p number = record {
   number = number;
   pod = p.pod;
-  greatest = p.greatest;
+  max_restart_delay = p.max_restart_delay;
   handed = p.handed;
   is_pending = p.is_pending;
   eviction = p.eviction;

@@ -10,7 +10,7 @@ use Rattle.pod_state.specs.Pods.{PodTick}
 use Rattle.pod_state.specs.Containers.{AreStatusesOf}
 use Rattle.pod_state.specs.Lifecycles.{IsLifecycleOf}
 use Rattle.pod_state.specs.Events.{AreEventsOf}
-use Rattle.pod_piece.specs.declared.piece.Eviction.{Eviction}
+use Rattle.pod_piece.specs.declared.piece.EvictionRecord.{EvictionRecord}
 use Rattle.pod_piece.specs.declared.status.EffectiveRequests.{EffectiveRequests}
 use Rattle.pod_piece.specs.declared.status.PodStatus.{PodStatus}
 use Rattle.pod_piece.specs.Piece.{Piece, before_last, last_of, ticks, place_of, evicted_at, evicted_before}
@@ -25,7 +25,7 @@ requests_of pod = record {
 }
 
 -- what a status shows of a pod with a number, after these ticks of it
-pub record IsStatusAfter (number : ℕ) (pod : PodSpec) (eviction : Option Eviction) (h : List PodTick)
+pub record IsStatusAfter (number : ℕ) (pod : PodSpec) (eviction : Option EvictionRecord) (h : List PodTick)
     (status : PodStatus) : Type 0 where
   pub number_is : status.number ≡ number
   pub lifecycle : IsLifecycleOf pod (place_of eviction) h
@@ -35,7 +35,7 @@ pub record IsStatusAfter (number : ℕ) (pod : PodSpec) (eviction : Option Evict
   pub requests : status.requests ≡ requests_of pod
   pub usage : IsUsageOf pod (place_of eviction) h status.usage
   pub priority : status.priority ≡ pod.priority
-  pub order : status.order ≡ option_map (λ (e : Eviction). e.order) eviction
+  pub order : status.order ≡ option_map (λ (e : EvictionRecord). e.order) eviction
 
 -- the status of a piece, after the ticks that have come into it
 abbrev pub IsStatusOf : Piece → PodStatus → Type 0
@@ -44,10 +44,11 @@ IsStatusOf p status = IsStatusAfter p.number p.pod p.eviction (ticks p) status
 -- the events of the last of these ticks, as that tick made them: an eviction in it adds none and
 -- takes none away
 abbrev pub AreEventsAfter : PodSpec → ℕ → Option ℕ → List PodTick → List PodEvent → Type 0
-AreEventsAfter pod greatest evicted h events =
+AreEventsAfter pod max_restart_delay evicted h events =
     MatchOption (last_of h) (events ≡ [])
-    (λ tick. AreEventsOf pod greatest (evicted_before evicted (length (before_last h))) (before_last h) tick events)
+    (λ tick. AreEventsOf pod max_restart_delay (evicted_before evicted (length (before_last h)))
+    (before_last h) tick events)
 
 -- the events of a piece
 abbrev pub AreLastEvents : Piece → List PodEvent → Type 0
-AreLastEvents p events = AreEventsAfter p.pod p.greatest (evicted_at p) (ticks p) events
+AreLastEvents p events = AreEventsAfter p.pod p.max_restart_delay (evicted_at p) (ticks p) events

@@ -10,5 +10,5 @@ mod usage;
 
 pub use order::EvictOrder;
 pub use piece::{PodPiece, Refused};
-pub use pod_state::{ContainerStatus, PodEvent, What};
+pub use pod_state::{ContainerStatus, PodEvent, PodEventKind};
 pub use status::{EffectiveRequests, PodStatus, Reason};

@@ -27,7 +27,7 @@ use std::marker::Model;
 
 /// The eviction of a pod: the place of its tick in the pod's history, and the order.
 #[derive(Clone, Copy, Debug, PartialEq, Eq)]
-pub(crate) struct Eviction {
+pub(crate) struct EvictionRecord {
     pub(crate) place: usize,
     pub(crate) order: EvictOrder,
 }
@@ -38,10 +38,10 @@ struct Parts {
     alloc: Global,
     number: usize,
     pod: PodSpec,
-    greatest: MaxRestartDelay,
+    max_restart_delay: MaxRestartDelay,
     history: ChunkedList<PodObs>,
     is_pending: bool,
-    eviction: Option<Eviction>,
+    eviction: Option<EvictionRecord>,
     differs: Vec<Differ>,
     state: PodState,
     status: PodStatus,
@@ -67,7 +67,7 @@ impl Model for PodPiece {
     ghost invariant = { λ p. AreKept p.parts.value };
 }
 
-/// A piece whose update was refused for want of memory.
+/// A piece whose update failed because memory ran out.
 #[derive(Drop)]
 pub struct Refused {
     /// The piece as it was, still pending.
@@ -88,11 +88,11 @@ fn first_status(
     alloc: Global,
     number: usize,
     pod: &PodSpec,
-    greatest: MaxRestartDelay,
+    max_restart_delay: MaxRestartDelay,
     state: &PodState,
 ) -> Result<PodStatus, AllocError>
-    requires { (e : Option ℕ) → IsStateOf pod.now greatest e [] state.now }
-    ensures { IfOk result (IsStatusOf (new_piece number pod.now greatest)) }
+    requires { (e : Option ℕ) → IsStateOf pod.now max_restart_delay e [] state.now }
+    ensures { IfOk result (IsStatusOf (new_piece number pod.now max_restart_delay)) }
 {
     let count = pod.containers.as_slice().len();
     let mut containers = vec![in alloc; UNLISTED; count]?;
@@ -129,18 +129,18 @@ impl PodPiece {
         alloc: Global,
         number: usize,
         pod: PodSpec,
-        greatest: MaxRestartDelay,
+        max_restart_delay: MaxRestartDelay,
     ) -> Result<PodPiece, AllocError>
-        ensures { IfOk result (λ piece. piece ≡ new_piece number pod greatest) }
+        ensures { IfOk result (λ piece. piece ≡ new_piece number pod max_restart_delay) }
     {
         let differs = first_differs(alloc, pod.containers.as_slice().len())?;
-        let state = PodState::new(alloc, &pod, greatest)?;
-        let status = first_status(alloc, number, &pod, greatest, &state)?;
+        let state = PodState::new(alloc, &pod, max_restart_delay)?;
+        let status = first_status(alloc, number, &pod, max_restart_delay, &state)?;
         let parts = Parts {
             alloc,
             number,
             pod,
-            greatest,
+            max_restart_delay,
             history: ChunkedList::new(alloc),
             is_pending: false,
             eviction: None,
@@ -256,7 +256,7 @@ impl PodPiece {
         parts.status.conditions = lifecycle.conditions;
         parts.status.order = Some(order);
         let place = parts.history.len() - 1;
-        parts.eviction = Some(Eviction { place, order });
+        parts.eviction = Some(EvictionRecord { place, order });
     }
 
     /// Gives it this number in the place of its own. It takes no memory.

@@ -2,7 +2,7 @@
 use Rattle.std.proofs.Common.{◌≡◌, ℕ, List, ◌++◌, map, length, take, drop, sym, ap, ◌∙◌, subst}
 use Rattle.std.proofs.lemmas.List.{length-map, take_at}
 use Rattle.pod_piece.specs.Piece.{Piece}
-use Rattle.pool_worker.specs.Bundles.{Tag, AreLaid}
+use Rattle.pool_worker.specs.Contexts.{Tag, AreLaid}
 
 pub returned : {X Y : Type 0} (f : X → Y) (was given now : List X) (n : ℕ) → given ≡ was → map f now ≡ map f given
     → length was ≡ n → map f (take n (now ++ drop (length now) was)) ≡ map f was
@@ -12,7 +12,7 @@ returned f was given now n from same len =
     sym (length-map now f) ∙ (ap (λ l. length l) back ∙ (length-map was f ∙ len)) in
     ap (map f) (take_at now (drop (length now) was) n size) ∙ back
 
--- bundles stay laid out where their tags stay the same
+-- contexts stay laid out where their tags stay the same
 pub still_laid : (all pieces : List Piece) (now was : List Tag) → all ≡ pieces → now ≡ was → AreLaid pieces was
     → AreLaid all now
 still_laid all pieces now was same tags laid =

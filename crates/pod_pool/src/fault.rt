@@ -4,11 +4,11 @@ use event_book::Shares;
 use pod_piece::PodPiece;
 use std::sync::ledger::Ledger;
 
-/// Why a round was not made. Both are want of memory.
+/// Why a round was not made. Both mean out of memory.
 #[derive(Drop)]
 pub enum PoolFault<U: Ledger, E: Ledger, O: Ledger> {
     /// A growth of memory before the first thread was refused. The pieces and the share come back as they were.
     NoRoom(Vec<PodPiece>, Shares<U, E, O>),
-    /// The update of this piece was refused: it is as it was, still pending. The others are given up.
+    /// The update of this piece was refused: it is as it was, still pending. The others are dropped.
     Update(PodPiece),
 }

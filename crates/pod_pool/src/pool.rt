@@ -15,9 +15,9 @@ use crate::run::run;
 use event_book::{EventBook, Shares};
 use piece_deques::Deal;
 use pod_piece::PodPiece;
-use pool_gather::{Room, gather};
+use pool_gather::{ResultBuffers, gather};
 use pool_harvest::Gate;
-use pool_worker::{lay_out, make_plan};
+use pool_worker::{lay_out, make_buffers};
 use std::alloc::Global;
 use std::marker::Brand;
 use std::sync::ledger::Ledger;
@@ -67,16 +67,16 @@ fn pool<
         × (r.1 ≡ part most_parts (plus share.numbers (sums_of entries)))) }
     ensures fault { IfErr result (GivesBack pieces share) }
 {
-    let Ok(plan) = make_plan::<D, U, E, O>(alloc, pieces.len(), workers) else {
+    let Ok(buffers) = make_buffers::<D, U, E, O>(alloc, pieces.len(), workers) else {
         return Err(PoolFault::NoRoom(pieces, share));
     };
-    let Ok(room) = Room::<D, U, E, O>::new(alloc, workers) else {
+    let Ok(room) = ResultBuffers::<D, U, E, O>::new(alloc, workers) else {
         return Err(PoolFault::NoRoom(pieces, share));
     };
     let mut share = share;
-    let mut bundles = lay_out(plan, pieces, &mut share);
-    run(rt, book, gate, bundles.as_mut_slice());
-    match gather(rt, book, gate, room, bundles, share) {
+    let mut contexts = lay_out(buffers, pieces, &mut share);
+    run(rt, book, gate, contexts.as_mut_slice());
+    match gather(rt, book, gate, room, contexts, share) {
         Ok(answer) => Ok(answer),
         Err(piece) => Err(PoolFault::Update(piece)),
     }

@@ -28,62 +28,68 @@ use Rattle.pod_state.proofs.TickLemmas.{ticks_more, of_spec, implies, within}
 use Rattle.pod_state.proofs.ViewLemmas.{serves_is}
 
 -- one that no tick has shown
-pub first_is : (pod : PodSpec) (greatest n : ℕ) (spec : ContainerSpec) (container : Container)
-    → slice_get pod.containers n ≡ Some spec → IsStateOf spec greatest [] container
-    → IsContainerOf pod greatest [] n container
-first_is pod greatest n spec container at is = of_spec pod n (λ s. IsStateOf s greatest [] container) spec at is
+pub first_is : (pod : PodSpec) (max_restart_delay n : ℕ) (spec : ContainerSpec) (container : Container)
+    → slice_get pod.containers n ≡ Some spec → IsStateOf spec max_restart_delay [] container
+    → IsContainerOf pod max_restart_delay [] n container
+first_is pod max_restart_delay n spec container at is =
+    of_spec pod n (λ s. IsStateOf s max_restart_delay [] container) spec at is
 
 -- after one more tick
-pub next_is : (pod : PodSpec) (greatest n : ℕ) (h : List PodTick) (observed : PodObs) (before after : Container)
-    → ((spec : ContainerSpec) (k : List ContainerTick) → IsStateOf spec greatest k before
-    → IsStateOf spec greatest (k ++ recorded observed.at (unwrap_or (slice_get observed.containers n) unseen) ∷ [])
+pub next_is : (pod : PodSpec) (max_restart_delay n : ℕ) (h : List PodTick) (observed : PodObs)
+    (before after : Container)
+    → ((spec : ContainerSpec) (k : List ContainerTick) → IsStateOf spec max_restart_delay k before
+    → IsStateOf spec max_restart_delay
+    (k ++ recorded observed.at (unwrap_or (slice_get observed.containers n) unseen) ∷ [])
     after)
-    → IsContainerOf pod greatest h n before → IsContainerOf pod greatest (h ++ pod_tick observed ∷ []) n after
-next_is pod greatest n h observed before after step is =
+    → IsContainerOf pod max_restart_delay h n before
+    → IsContainerOf pod max_restart_delay (h ++ pod_tick observed ∷ []) n after
+next_is pod max_restart_delay n h observed before after step is =
     let more = sym (ticks_more h (pod_tick observed) n) in
-    implies pod n (λ spec. IsStateOf spec greatest (ticks_of h n) before)
-    (λ spec. IsStateOf spec greatest (ticks_of (h ++ pod_tick observed ∷ []) n) after)
-    (λ spec st. subst (λ (k : List ContainerTick). IsStateOf spec greatest k after) more
+    implies pod n (λ spec. IsStateOf spec max_restart_delay (ticks_of h n) before)
+    (λ spec. IsStateOf spec max_restart_delay (ticks_of (h ++ pod_tick observed ∷ []) n) after)
+    (λ spec st. subst (λ (k : List ContainerTick). IsStateOf spec max_restart_delay k after) more
     (step spec (ticks_of h n) st)) is
 
 -- and what the tick makes of it
-pub made_is : (pod : PodSpec) (greatest n : ℕ) (h : List PodTick) (observed : PodObs) (policy : Policy)
+pub made_is : (pod : PodSpec) (max_restart_delay n : ℕ) (h : List PodTick) (observed : PodObs) (policy : Policy)
     (before : Container) (made : ContainerEvents) → pod.policy ≡ policy
-    → ((spec : ContainerSpec) (k : List ContainerTick) → IsStateOf spec greatest k before
-    → AreEvents policy greatest spec
+    → ((spec : ContainerSpec) (k : List ContainerTick) → IsStateOf spec max_restart_delay k before
+    → AreEvents policy max_restart_delay spec
     (k ++ recorded observed.at (unwrap_or (slice_get observed.containers n) unseen) ∷ []) (length k) made)
-    → IsContainerOf pod greatest h n before → IsMadeOf pod greatest h (pod_tick observed) n made
-made_is pod greatest n h observed policy before made same step is =
+    → IsContainerOf pod max_restart_delay h n before → IsMadeOf pod max_restart_delay h (pod_tick observed) n made
+made_is pod max_restart_delay n h observed policy before made same step is =
     let more = sym (ticks_more h (pod_tick observed) n) in
     let long = length-project (λ (entry : PodEntry). unwrap_or (slice_get entry.containers n) unseen) h in
-    let Q : ContainerSpec → Type 0 = λ spec. AreEvents pod.policy greatest spec
+    let Q : ContainerSpec → Type 0 = λ spec. AreEvents pod.policy max_restart_delay spec
     (ticks_of (h ++ pod_tick observed ∷ []) n) (length h) made in
-    implies pod n (λ spec. IsStateOf spec greatest (ticks_of h n) before) Q
+    implies pod n (λ spec. IsStateOf spec max_restart_delay (ticks_of h n) before) Q
     (λ spec st.
-    subst (λ (p : Policy). AreEvents p greatest spec (ticks_of (h ++ pod_tick observed ∷ []) n) (length h) made)
+    subst (λ (p : Policy). AreEvents p max_restart_delay spec (ticks_of (h ++ pod_tick observed ∷ []) n)
+    (length h) made)
     (sym same)
-    (subst (λ (t : ℕ). AreEvents policy greatest spec (ticks_of (h ++ pod_tick observed ∷ []) n) t made) long
-    (subst (λ (k : List ContainerTick). AreEvents policy greatest spec k (length (ticks_of h n)) made) more
+    (subst (λ (t : ℕ). AreEvents policy max_restart_delay spec (ticks_of (h ++ pod_tick observed ∷ []) n) t made) long
+    (subst (λ (k : List ContainerTick). AreEvents policy max_restart_delay spec k (length (ticks_of h n)) made) more
     (step spec (ticks_of h n) st)))) is
 
 -- as a view shows it
-pub view_is : (pod : PodSpec) (greatest n : ℕ) (h : List PodTick) (container : Container) (view : ContainerView)
-    → ((spec : ContainerSpec) (k : List ContainerTick) → IsStateOf spec greatest k container
+pub view_is : (pod : PodSpec) (max_restart_delay n : ℕ) (h : List PodTick) (container : Container)
+    (view : ContainerView)
+    → ((spec : ContainerSpec) (k : List ContainerTick) → IsStateOf spec max_restart_delay k container
     → shown.IsViewOf spec k view)
-    → IsContainerOf pod greatest h n container → IsViewOf pod h n view
-view_is pod greatest n h container view shows is =
-    implies pod n (λ spec. IsStateOf spec greatest (ticks_of h n) container)
+    → IsContainerOf pod max_restart_delay h n container → IsViewOf pod h n view
+view_is pod max_restart_delay n h container view shows is =
+    implies pod n (λ spec. IsStateOf spec max_restart_delay (ticks_of h n) container)
     (λ spec. shown.IsViewOf spec (ticks_of h n) view) (λ spec st. shows spec (ticks_of h n) st) is
 
 -- whether it is ready if it serves
-pub serving_ready : (pod : PodSpec) (greatest n : ℕ) (h : List PodTick) (container : Container) (ready : Bool)
-    → ((spec : ContainerSpec) (k : List ContainerTick) → IsStateOf spec greatest k container
+pub serving_ready : (pod : PodSpec) (max_restart_delay n : ℕ) (h : List PodTick) (container : Container) (ready : Bool)
+    → ((spec : ContainerSpec) (k : List ContainerTick) → IsStateOf spec max_restart_delay k container
     → (IsTrue ready ↔ (spec.role ≢ Init → probed.IsReady spec k)))
-    → IsContainerOf pod greatest h n container → (IsTrue ready ↔ (Serves pod n → IsReady pod h n))
-serving_ready pod greatest n h container ready says is = there (slice_get pod.containers n) refl is
+    → IsContainerOf pod max_restart_delay h n container → (IsTrue ready ↔ (Serves pod n → IsReady pod h n))
+serving_ready pod max_restart_delay n h container ready says is = there (slice_get pod.containers n) refl is
   where
     there : (o : Option ContainerSpec) → slice_get pod.containers n ≡ o
-        → IsSomeAnd o (λ spec. IsStateOf spec greatest (ticks_of h n) container)
+        → IsSomeAnd o (λ spec. IsStateOf spec max_restart_delay (ticks_of h n) container)
         → (IsTrue ready ↔ (Serves pod n → IsReady pod h n))
     there None e st = absurd st
     there (Some spec) e st =
@@ -97,13 +103,14 @@ serving_ready pod greatest n h container ready says is = there (slice_get pod.co
         )
 
 -- as a status shows it
-pub shown_is : (pod : PodSpec) (greatest n : ℕ) (h : List PodTick) (container : Container) (is_evicted : Type 0)
+pub shown_is : (pod : PodSpec) (max_restart_delay n : ℕ) (h : List PodTick) (container : Container)
+    (is_evicted : Type 0)
     (status : ContainerStatus)
-    → ((spec : ContainerSpec) (k : List ContainerTick) → IsStateOf spec greatest k container
+    → ((spec : ContainerSpec) (k : List ContainerTick) → IsStateOf spec max_restart_delay k container
     → shown.IsShown spec is_evicted k status)
-    → IsContainerOf pod greatest h n container → IsShownOf pod is_evicted h n status
-shown_is pod greatest n h container is_evicted status shows is =
-    implies pod n (λ spec. IsStateOf spec greatest (ticks_of h n) container)
+    → IsContainerOf pod max_restart_delay h n container → IsShownOf pod is_evicted h n status
+shown_is pod max_restart_delay n h container is_evicted status shows is =
+    implies pod n (λ spec. IsStateOf spec max_restart_delay (ticks_of h n) container)
     (λ spec. shown.IsShown spec is_evicted (ticks_of h n) status) (λ spec st. shows spec (ticks_of h n) st) is
 
 -- two ways to say that the pod was evicted
@@ -121,13 +128,14 @@ evicted_same E F spec k status same is = record {
 }
 
 -- the statuses of a pod, of its containers as they are kept
-pub statuses_are : (pod : PodSpec) (greatest : ℕ) (evicted end : Option ℕ) (h : List PodTick)
+pub statuses_are : (pod : PodSpec) (max_restart_delay : ℕ) (evicted end : Option ℕ) (h : List PodTick)
     (containers : List Container) (is_evicted : Type 0) (statuses : List ContainerStatus)
-    → IsEnd pod evicted h end → (is_evicted ↔ EndsEvicted evicted end) → AreKept pod greatest evicted h containers
-    → ((k : List PodTick) → AreContainersOf pod greatest k containers → AreShown pod is_evicted k statuses)
+    → IsEnd pod evicted h end → (is_evicted ↔ EndsEvicted evicted end)
+    → AreKept pod max_restart_delay evicted h containers
+    → ((k : List PodTick) → AreContainersOf pod max_restart_delay k containers → AreShown pod is_evicted k statuses)
     → AreStatusesOf pod evicted h statuses
-statuses_are pod greatest evicted end h containers is_evicted statuses is same kept shows =
-    let P : Option ℕ → Type 0 = λ o. AreContainersOf pod greatest (counted h o) containers in
+statuses_are pod max_restart_delay evicted end h containers is_evicted statuses is same kept shows =
+    let P : Option ℕ → Type 0 = λ o. AreContainersOf pod max_restart_delay (counted h o) containers in
     let are = shows (counted h end) (subst P (IsEnd-unique pod evicted h kept.end end kept.is_end is) kept.kept) in
     record {
       as_many = are.as_many;
@@ -140,11 +148,13 @@ statuses_are pod greatest evicted end h containers is_evicted statuses is same k
     }
 
 -- the container at a place of a list
-pub item_at : (pod : PodSpec) (greatest : ℕ) (h : List PodTick) (n : ℕ) (containers : List Container)
+pub item_at : (pod : PodSpec) (max_restart_delay : ℕ) (h : List PodTick) (n : ℕ) (containers : List Container)
     (container e : Container) → n < length containers → container ≡ get_or containers n container
-    → IsContainerOf pod greatest h n (get_or containers n e) → IsContainerOf pod greatest h n container
-item_at pod greatest h n containers container e lt is of =
-    subst (λ (x : Container). IsContainerOf pod greatest h n x) (any_default containers n e container lt ∙ sym is) of
+    → IsContainerOf pod max_restart_delay h n (get_or containers n e)
+    → IsContainerOf pod max_restart_delay h n container
+item_at pod max_restart_delay h n containers container e lt is of =
+    subst (λ (x : Container). IsContainerOf pod max_restart_delay h n x) (any_default containers n e container lt
+    ∙ sym is) of
 
 -- what holds of what stands at the place, whatever stands for an item that is missing
 pub item_at_any : (containers : List Container) (n : ℕ) (container : Container) → n < length containers

@@ -231,22 +231,24 @@ ready_is pod evicted h x q is = (
 )
 
 -- as long as the pod hasn't ended the containers that are kept are those after all ticks
-pub kept_all : (pod : PodSpec) (greatest : ℕ) (evicted : Option ℕ) (h : List PodTick) (p : Phase)
+pub kept_all : (pod : PodSpec) (max_restart_delay : ℕ) (evicted : Option ℕ) (h : List PodTick) (p : Phase)
     (containers : List Container) → IsPhase pod evicted h p → (IsTerminal p → ⊥)
-    → AreKept pod greatest evicted h containers → AreContainersOf pod greatest h containers
-kept_all pod greatest evicted h p containers is not are =
-    let P : Option ℕ → Type 0 = λ o. AreContainersOf pod greatest (counted h o) containers in
+    → AreKept pod max_restart_delay evicted h containers → AreContainersOf pod max_restart_delay h containers
+kept_all pod max_restart_delay evicted h p containers is not are =
+    let P : Option ℕ → Type 0 = λ o. AreContainersOf pod max_restart_delay (counted h o) containers in
     subst P (IsEnd-unique pod evicted h are.end None are.is_end (lives pod evicted h p is not)) are.kept
 
 -- once the pod has ended they stay
-pub kept_ended : (pod : PodSpec) (greatest : ℕ) (evicted : Option ℕ) (h : List PodTick) (x : PodTick) (p : Phase)
+pub kept_ended : (pod : PodSpec) (max_restart_delay : ℕ) (evicted : Option ℕ) (h : List PodTick) (x : PodTick)
+    (p : Phase)
     (containers : List Container) → IsPhase pod evicted h p → IsTerminal p
-    → AreKept pod greatest evicted h containers → AreKept pod greatest evicted (h ++ x ∷ []) containers
-kept_ended pod greatest evicted h x p containers is term are =
+    → AreKept pod max_restart_delay evicted h containers
+    → AreKept pod max_restart_delay evicted (h ++ x ∷ []) containers
+kept_ended pod max_restart_delay evicted h x p containers is term are =
     let w = terminal_end pod evicted h p is term in
     let e : are.end ≡ Some w.0 = IsEnd-unique pod evicted h are.end (Some w.0) are.is_end w.1 in
-    let P : Option ℕ → Type 0 = λ o. AreContainersOf pod greatest (counted h o) containers in
-    let Q : List PodTick → Type 0 = λ k. AreContainersOf pod greatest k containers in
+    let P : Option ℕ → Type 0 = λ o. AreContainersOf pod max_restart_delay (counted h o) containers in
+    let Q : List PodTick → Type 0 = λ k. AreContainersOf pod max_restart_delay k containers in
     record {
       end = Some w.0;
       is_end = end_old pod evicted h x w.0 w.1;
@@ -254,19 +256,20 @@ kept_ended pod greatest evicted h x p containers is term are =
     }
 
 -- and until then those after all ticks are kept
-pub kept_lives : (pod : PodSpec) (greatest : ℕ) (evicted : Option ℕ) (h : List PodTick) (x : PodTick) (p q : Phase)
+pub kept_lives : (pod : PodSpec) (max_restart_delay : ℕ) (evicted : Option ℕ) (h : List PodTick) (x : PodTick)
+    (p q : Phase)
     (containers : List Container) → IsPhase pod evicted h p → (IsTerminal p → ⊥)
-    → IsPhase pod evicted (h ++ x ∷ []) q → AreContainersOf pod greatest (h ++ x ∷ []) containers
-    → AreKept pod greatest evicted (h ++ x ∷ []) containers
-kept_lives pod greatest evicted h x p q containers is not next are =
+    → IsPhase pod evicted (h ++ x ∷ []) q → AreContainersOf pod max_restart_delay (h ++ x ∷ []) containers
+    → AreKept pod max_restart_delay evicted (h ++ x ∷ []) containers
+kept_lives pod max_restart_delay evicted h x p q containers is not next are =
     let none = lives pod evicted h p is not in
-    let Q : List PodTick → Type 0 = λ k. AreContainersOf pod greatest k containers in
+    let Q : List PodTick → Type 0 = λ k. AreContainersOf pod max_restart_delay k containers in
     record { end = next.0; is_end = next.1; kept = subst Q (sym (counted_all pod evicted h x none next.0 next.1)) are }
 
 -- before any tick
-pub kept_none : (pod : PodSpec) (greatest : ℕ) (evicted : Option ℕ) (containers : List Container)
-    → AreContainersOf pod greatest [] containers → AreKept pod greatest evicted [] containers
-kept_none pod greatest evicted containers are = record {
+pub kept_none : (pod : PodSpec) (max_restart_delay : ℕ) (evicted : Option ℕ) (containers : List Container)
+    → AreContainersOf pod max_restart_delay [] containers → AreKept pod max_restart_delay evicted [] containers
+kept_none pod max_restart_delay evicted containers are = record {
   end = None;
   is_end = λ t s. let lt : t < 0 = s.within in
       absurd (omega arith);

@@ -13,8 +13,8 @@ use Rattle.manifest.specs.declared.pod.PodSpec.{PodSpec}
 use Rattle.phase.specs.declared.phase.Phase.{Phase}
 use Rattle.phase.specs.declared.phase.Phase.TheVariants.{Pending, Running, Succeeded, Failed}
 use Rattle.probes.specs.Container.{AreInRange}
-use Rattle.containers.specs.declared.what.What.{What}
-use Rattle.containers.specs.declared.what.What.TheVariants as whats
+use Rattle.containers.specs.declared.pod_event_kind.PodEventKind.{PodEventKind}
+use Rattle.containers.specs.declared.pod_event_kind.PodEventKind.TheVariants as whats
 use Rattle.containers.specs.declared.events.ContainerEvents.{ContainerEvents}
 use Rattle.containers.specs.Ticks.{ContainerTick}
 use Rattle.containers.specs.Events.{Gives, AreEvents}
@@ -28,18 +28,20 @@ use Rattle.pod_state.proofs.EndLemmas.{raw_unique, IsPhase-unique}
 use Rattle.pod_state.proofs.FoundLemmas.{some_raw_phase, some_end, some_phase}
 
 -- what the tick makes of a container
-made_of : (pod : PodSpec) (greatest : ℕ) (before : List PodTick) (tick : PodTick) (number : ℕ) (spec : ContainerSpec)
+made_of : (pod : PodSpec) (max_restart_delay : ℕ) (before : List PodTick) (tick : PodTick) (number : ℕ)
+    (spec : ContainerSpec)
     → AreInRange spec.probes
     → (made : ContainerEvents)
-    × AreEvents pod.policy greatest spec (ticks_of (before ++ tick ∷ []) number) (length before) made
-made_of pod greatest before tick number spec range =
+    × AreEvents pod.policy max_restart_delay spec (ticks_of (before ++ tick ∷ []) number) (length before) made
+made_of pod max_restart_delay before tick number spec range =
     let x : ContainerTick = recorded tick.moment (unwrap_or (slice_get tick.entry.containers number) unseen) in
-    let w = some_of_container pod.policy greatest spec (ticks_of before number) x range in
+    let w = some_of_container pod.policy max_restart_delay spec (ticks_of before number) x range in
     let long : length (ticks_of before number) ≡ length before =
     length-project (λ (entry : PodEntry). unwrap_or (slice_get entry.containers number) unseen) before in
     let P : List ContainerTick → Type 0 =
-    λ h. AreEvents pod.policy greatest spec h (length (ticks_of before number)) w.0 in
-    let Q : ℕ → Type 0 = λ t. AreEvents pod.policy greatest spec (ticks_of (before ++ tick ∷ []) number) t w.0 in
+    λ h. AreEvents pod.policy max_restart_delay spec h (length (ticks_of before number)) w.0 in
+    let Q : ℕ
+    → Type 0 = λ t. AreEvents pod.policy max_restart_delay spec (ticks_of (before ++ tick ∷ []) number) t w.0 in
     (w.0, subst Q long (subst P (sym (ticks_more before tick number)) w.1))
 
 in_range_at : (containers : List ContainerSpec) (number : ℕ) (spec : ContainerSpec)
@@ -49,15 +51,16 @@ in_range_at containers number spec range lt is =
     let same = get_or_from_slice_get containers number spec spec is in
     subst (λ (s : ContainerSpec). AreInRange s.probes) same (range number spec lt)
 
-made_at : (pod : PodSpec) (greatest : ℕ) (before : List PodTick) (tick : PodTick)
+made_at : (pod : PodSpec) (max_restart_delay : ℕ) (before : List PodTick) (tick : PodTick)
     → All (λ spec. AreInRange spec.probes) pod.containers
     → (number : ℕ) → number < length pod.containers
-    → (made : ContainerEvents) × IsMadeOf pod greatest before tick number made
-made_at pod greatest before tick range number lt =
+    → (made : ContainerEvents) × IsMadeOf pod max_restart_delay before tick number made
+made_at pod max_restart_delay before tick range number lt =
     let spec = given_at pod.containers number lt in
-    let w = made_of pod greatest before tick number spec.0 (in_range_at pod.containers number spec.0 range lt spec.1) in
+    let w = made_of pod max_restart_delay before tick number spec.0
+    (in_range_at pod.containers number spec.0 range lt spec.1) in
     let P : ContainerSpec → Type 0 =
-    λ s. AreEvents pod.policy greatest s (ticks_of (before ++ tick ∷ []) number) (length before) w.0 in
+    λ s. AreEvents pod.policy max_restart_delay s (ticks_of (before ++ tick ∷ []) number) (length before) w.0 in
     (w.0, of_spec pod number P spec.0 spec.1 w.1)
 
 -- the change of the phase
@@ -76,17 +79,17 @@ was_phase_or_not pod evicted h p =
       | inr not ↦ inr (λ is. not (IsPhase-unique pod evicted h q.0 p q.1 is))
     ]
 
-change_one : (pod : PodSpec) (evicted : Option ℕ) (before : List PodTick) (tick : PodTick) (v w : What)
+change_one : (pod : PodSpec) (evicted : Option ℕ) (before : List PodTick) (tick : PodTick) (v w : PodEventKind)
     → ChangesPhase pod evicted before tick v → ChangesPhase pod evicted before tick w → v ≡ w
 change_one pod evicted before tick v w (p, e, raw, not) (q, f, raw', not') =
     e ∙ ap (λ r. whats.Phase r) (raw_unique pod (before ++ tick ∷ []) p q raw raw') ∙ sym f
 
 change_event : (pod : PodSpec) (evicted : Option ℕ) (before : List PodTick) (tick : PodTick)
-    → (event : Option What) × Gives (ChangesPhase pod evicted before tick) event
+    → (event : Option PodEventKind) × Gives (ChangesPhase pod evicted before tick) event
 change_event pod evicted before tick =
     given_event (ChangesPhase pod evicted before tick) some (change_one pod evicted before tick)
   where
-    some : OrNot ((what : What) × ChangesPhase pod evicted before tick what)
+    some : OrNot ((what : PodEventKind) × ChangesPhase pod evicted before tick what)
     some =
         let raw = some_raw_phase pod (before ++ tick ∷ []) in
         elim (was_phase_or_not pod evicted before raw.0) [
@@ -97,12 +100,13 @@ change_event pod evicted before tick =
         ]
 
 -- the events of a tick of a pod that lives
-some_news : (pod : PodSpec) (greatest : ℕ) (evicted : Option ℕ) (before : List PodTick) (tick : PodTick)
+some_news : (pod : PodSpec) (max_restart_delay : ℕ) (evicted : Option ℕ) (before : List PodTick) (tick : PodTick)
     → All (λ spec. AreInRange spec.probes) pod.containers
-    → (events : List PodEvent) × AreNews pod greatest evicted before tick events
-some_news pod greatest evicted before tick range =
+    → (events : List PodEvent) × AreNews pod max_restart_delay evicted before tick events
+some_news pod max_restart_delay evicted before tick range =
     let made =
-    list_of (IsMadeOf pod greatest before tick) (length pod.containers) (made_at pod greatest before tick range) in
+    list_of (IsMadeOf pod max_restart_delay before tick) (length pod.containers)
+    (made_at pod max_restart_delay before tick range) in
     let raw = some_raw_phase pod (before ++ tick ∷ []) in
     let change = change_event pod evicted before tick in (
       events_from raw.0 0 made.0 ++ events_at None (change.0 ∷ []),
@@ -123,9 +127,10 @@ ended_or_not pod evicted h (Some t) end = inl (t, end)
 ended_or_not pod evicted h None lives = inr (λ (t, end). lives t end.holds)
 
 pub some_list_of_events : SomeListOfEvents
-some_list_of_events pod greatest evicted before tick range =
+some_list_of_events pod max_restart_delay evicted before tick range =
     let end = some_end pod evicted before in
     elim (ended_or_not pod evicted before end.0 end.1) [
       | inl ended ↦ ([], inl (ended, refl))
-      | inr lives ↦ let news = some_news pod greatest evicted before tick range in (news.0, inr (lives, news.1))
+      | inr lives ↦ let news =
+          some_news pod max_restart_delay evicted before tick range in (news.0, inr (lives, news.1))
     ]

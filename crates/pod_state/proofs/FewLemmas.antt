@@ -22,84 +22,88 @@ each_of_two P x y is also (suc zero) d lt = also
 each_of_two P x y is also (suc (suc n)) d lt = absurd (omega (arith, lt))
 
 -- the containers after the tick
-pub one_next : (pod : PodSpec) (greatest : ℕ) (h : List PodTick) (tick : PodTick) (containers : List Container)
+pub one_next : (pod : PodSpec) (max_restart_delay : ℕ) (h : List PodTick) (tick : PodTick) (containers : List Container)
     (old new : Container) → length containers ≡ 1 → old ≡ get_or containers 0 old
-    → (IsContainerOf pod greatest h 0 old → IsContainerOf pod greatest (h ++ tick ∷ []) 0 new)
-    → AreContainersOf pod greatest h containers → AreContainersOf pod greatest (h ++ tick ∷ []) (new ∷ [])
-one_next pod greatest h tick containers old new long is step are =
+    → (IsContainerOf pod max_restart_delay h 0 old → IsContainerOf pod max_restart_delay (h ++ tick ∷ []) 0 new)
+    → AreContainersOf pod max_restart_delay h containers
+    → AreContainersOf pod max_restart_delay (h ++ tick ∷ []) (new ∷ [])
+one_next pod max_restart_delay h tick containers old new long is step are =
     let count : length pod.containers ≡ 1 = omega (arith, long, are.as_many) in
-    let now = step (item_at pod greatest h 0 containers old old (omega (arith, long)) is
+    let now = step (item_at pod max_restart_delay h 0 containers old old (omega (arith, long)) is
     (are.each 0 old (omega (arith, count)))) in
     record {
       as_many = sym count;
-      each = λ n d lt. each_of_one (IsContainerOf pod greatest (h ++ tick ∷ [])) new now n d (omega (arith, count, lt));
+      each = λ n d lt. each_of_one (IsContainerOf pod max_restart_delay (h ++ tick ∷ [])) new now n d
+          (omega (arith, count, lt));
     }
 
-pub two_next : (pod : PodSpec) (greatest : ℕ) (h : List PodTick) (tick : PodTick) (containers : List Container)
+pub two_next : (pod : PodSpec) (max_restart_delay : ℕ) (h : List PodTick) (tick : PodTick) (containers : List Container)
     (one other next also : Container) → length containers ≡ 2 → one ≡ get_or containers 0 one
     → other ≡ get_or containers 1 other
-    → (IsContainerOf pod greatest h 0 one → IsContainerOf pod greatest (h ++ tick ∷ []) 0 next)
-    → (IsContainerOf pod greatest h 1 other → IsContainerOf pod greatest (h ++ tick ∷ []) 1 also)
-    → AreContainersOf pod greatest h containers → AreContainersOf pod greatest (h ++ tick ∷ []) (next ∷ also ∷ [])
-two_next pod greatest h tick containers one other next also long is is_other step step_other are =
+    → (IsContainerOf pod max_restart_delay h 0 one → IsContainerOf pod max_restart_delay (h ++ tick ∷ []) 0 next)
+    → (IsContainerOf pod max_restart_delay h 1 other → IsContainerOf pod max_restart_delay (h ++ tick ∷ []) 1 also)
+    → AreContainersOf pod max_restart_delay h containers
+    → AreContainersOf pod max_restart_delay (h ++ tick ∷ []) (next ∷ also ∷ [])
+two_next pod max_restart_delay h tick containers one other next also long is is_other step step_other are =
     let count : length pod.containers ≡ 2 = omega (arith, long, are.as_many) in
-    let now = step (item_at pod greatest h 0 containers one one (omega (arith, long)) is
+    let now = step (item_at pod max_restart_delay h 0 containers one one (omega (arith, long)) is
     (are.each 0 one (omega (arith, count)))) in
-    let now_other = step_other (item_at pod greatest h 1 containers other other (omega (arith, long)) is_other
+    let now_other = step_other (item_at pod max_restart_delay h 1 containers other other (omega (arith, long)) is_other
     (are.each 1 other (omega (arith, count)))) in
     record {
       as_many = sym count;
-      each = λ n d lt. each_of_two (IsContainerOf pod greatest (h ++ tick ∷ [])) next also now now_other n d
+      each = λ n d lt. each_of_two (IsContainerOf pod max_restart_delay (h ++ tick ∷ [])) next also now now_other n d
           (omega (arith, count, lt));
     }
 
 -- what the tick made of them
-pub one_made : (pod : PodSpec) (greatest : ℕ) (h : List PodTick) (tick : PodTick) (containers : List Container)
+pub one_made : (pod : PodSpec) (max_restart_delay : ℕ) (h : List PodTick) (tick : PodTick) (containers : List Container)
     (old : Container) (made : ContainerEvents) → length containers ≡ 1 → old ≡ get_or containers 0 old
-    → (IsContainerOf pod greatest h 0 old → IsMadeOf pod greatest h tick 0 made)
-    → AreContainersOf pod greatest h containers → AreMade pod greatest h tick (made ∷ [])
-one_made pod greatest h tick containers old made long is step are =
+    → (IsContainerOf pod max_restart_delay h 0 old → IsMadeOf pod max_restart_delay h tick 0 made)
+    → AreContainersOf pod max_restart_delay h containers → AreMade pod max_restart_delay h tick (made ∷ [])
+one_made pod max_restart_delay h tick containers old made long is step are =
     let count : length pod.containers ≡ 1 = omega (arith, long, are.as_many) in
-    let now = step (item_at pod greatest h 0 containers old old (omega (arith, long)) is
+    let now = step (item_at pod max_restart_delay h 0 containers old old (omega (arith, long)) is
     (are.each 0 old (omega (arith, count)))) in
     record {
       as_many = sym count;
-      each = λ n d lt. each_of_one (IsMadeOf pod greatest h tick) made now n d (omega (arith, count, lt));
+      each = λ n d lt. each_of_one (IsMadeOf pod max_restart_delay h tick) made now n d (omega (arith, count, lt));
     }
 
-pub two_made : (pod : PodSpec) (greatest : ℕ) (h : List PodTick) (tick : PodTick) (containers : List Container)
+pub two_made : (pod : PodSpec) (max_restart_delay : ℕ) (h : List PodTick) (tick : PodTick) (containers : List Container)
     (one other : Container) (made also : ContainerEvents) → length containers ≡ 2 → one ≡ get_or containers 0 one
     → other ≡ get_or containers 1 other
-    → (IsContainerOf pod greatest h 0 one → IsMadeOf pod greatest h tick 0 made)
-    → (IsContainerOf pod greatest h 1 other → IsMadeOf pod greatest h tick 1 also)
-    → AreContainersOf pod greatest h containers → AreMade pod greatest h tick (made ∷ also ∷ [])
-two_made pod greatest h tick containers one other made also long is is_other step step_other are =
+    → (IsContainerOf pod max_restart_delay h 0 one → IsMadeOf pod max_restart_delay h tick 0 made)
+    → (IsContainerOf pod max_restart_delay h 1 other → IsMadeOf pod max_restart_delay h tick 1 also)
+    → AreContainersOf pod max_restart_delay h containers → AreMade pod max_restart_delay h tick (made ∷ also ∷ [])
+two_made pod max_restart_delay h tick containers one other made also long is is_other step step_other are =
     let count : length pod.containers ≡ 2 = omega (arith, long, are.as_many) in
-    let now = step (item_at pod greatest h 0 containers one one (omega (arith, long)) is
+    let now = step (item_at pod max_restart_delay h 0 containers one one (omega (arith, long)) is
     (are.each 0 one (omega (arith, count)))) in
-    let now_other = step_other (item_at pod greatest h 1 containers other other (omega (arith, long)) is_other
+    let now_other = step_other (item_at pod max_restart_delay h 1 containers other other (omega (arith, long)) is_other
     (are.each 1 other (omega (arith, count)))) in
     record {
       as_many = sym count;
-      each = λ n d lt. each_of_two (IsMadeOf pod greatest h tick) made also now now_other n d
+      each = λ n d lt. each_of_two (IsMadeOf pod max_restart_delay h tick) made also now now_other n d
           (omega (arith, count, lt));
     }
 
 -- and their views
-pub one_view : (pod : PodSpec) (greatest : ℕ) (h : List PodTick) (container : Container) (view : ContainerView)
-    → (IsContainerOf pod greatest h 0 container → IsViewOf pod h 0 view)
-    → AreContainersOf pod greatest h (container ∷ []) → AreViewsOf pod h (view ∷ [])
-one_view pod greatest h container view shows are = record {
+pub one_view : (pod : PodSpec) (max_restart_delay : ℕ) (h : List PodTick) (container : Container) (view : ContainerView)
+    → (IsContainerOf pod max_restart_delay h 0 container → IsViewOf pod h 0 view)
+    → AreContainersOf pod max_restart_delay h (container ∷ []) → AreViewsOf pod h (view ∷ [])
+one_view pod max_restart_delay h container view shows are = record {
   as_many = are.as_many;
   each = λ n d lt. each_of_one (IsViewOf pod h) view (shows (are.each 0 container (omega (arith, are.as_many)))) n d
       (omega (arith, are.as_many, lt));
 }
 
-pub two_views : (pod : PodSpec) (greatest : ℕ) (h : List PodTick) (one other : Container) (view also : ContainerView)
-    → (IsContainerOf pod greatest h 0 one → IsViewOf pod h 0 view)
-    → (IsContainerOf pod greatest h 1 other → IsViewOf pod h 1 also)
-    → AreContainersOf pod greatest h (one ∷ other ∷ []) → AreViewsOf pod h (view ∷ also ∷ [])
-two_views pod greatest h one other view also shows shows_other are = record {
+pub two_views : (pod : PodSpec) (max_restart_delay : ℕ) (h : List PodTick) (one other : Container)
+    (view also : ContainerView)
+    → (IsContainerOf pod max_restart_delay h 0 one → IsViewOf pod h 0 view)
+    → (IsContainerOf pod max_restart_delay h 1 other → IsViewOf pod h 1 also)
+    → AreContainersOf pod max_restart_delay h (one ∷ other ∷ []) → AreViewsOf pod h (view ∷ also ∷ [])
+two_views pod max_restart_delay h one other view also shows shows_other are = record {
   as_many = are.as_many;
   each = λ n d lt. each_of_two (IsViewOf pod h) view also (shows (are.each 0 one (omega (arith, are.as_many))))
       (shows_other (are.each 1 other (omega (arith, are.as_many)))) n d (omega (arith, are.as_many, lt));

@@ -7,7 +7,7 @@ use Rattle.std.proofs.lemmas.List.{append_assoc, append-nil, length-take-le}
 use Rattle.std.proofs.lemmas.List.Elements.{filter_map-append}
 use Rattle.histories.proofs.Lists.{same_items}
 use Rattle.phase.specs.declared.phase.Phase.{Phase}
-use Rattle.containers.specs.declared.what.What.{What}
+use Rattle.containers.specs.declared.pod_event_kind.PodEventKind.{PodEventKind}
 use Rattle.containers.specs.declared.events.ContainerEvents.{ContainerEvents}
 use Rattle.pod_state.specs.declared.events.PodEvent.{PodEvent}
 use Rattle.containers.specs.Events.{AreEvents}
@@ -26,7 +26,7 @@ taken_more : {A : Type 0} (xs : List A) (i : ℕ) (d : A) → i < length xs → 
 taken_more xs i d lt = ap (λ n. take n xs) {x = i + 1} {y = suc i} (omega arith) ∙ take-suc xs i d lt
 
 -- the events of one place more
-pub place_more : (container : Option ℕ) (places : List (Option What)) (place : Option What)
+pub place_more : (container : Option ℕ) (places : List (Option PodEventKind)) (place : Option PodEventKind)
     (old new after : List PodEvent) → new ≡ old ++ events_at container places
     → after ≡ new ++ events_at container (place ∷ []) → after ≡ old ++ events_at container (places ++ place ∷ [])
 place_more container places place old new after so_far here =
@@ -62,29 +62,31 @@ containers_more phase made i d old new lt so_far here =
 
 -- a pod that has ended makes none
 pub no_events_after_the_end : NoEventsAfterTheEnd
-no_events_after_the_end pod greatest evicted before tick events ended is = elim is [
+no_events_after_the_end pod max_restart_delay evicted before tick events ended is = elim is [
   | inl none ↦ none.1
   | inr w ↦ absurd (w.0 ended)
 ]
 
 -- there is one list of them
-made_one : (pod : PodSpec) (greatest : ℕ) (before : List PodTick) (tick : PodTick) (number : ℕ)
-    (made other : ContainerEvents) → IsMadeOf pod greatest before tick number made
-    → IsMadeOf pod greatest before tick number other → made ≡ other
-made_one pod greatest before tick number made other is was =
+made_one : (pod : PodSpec) (max_restart_delay : ℕ) (before : List PodTick) (tick : PodTick) (number : ℕ)
+    (made other : ContainerEvents) → IsMadeOf pod max_restart_delay before tick number made
+    → IsMadeOf pod max_restart_delay before tick number other → made ≡ other
+made_one pod max_restart_delay before tick number made other is was =
     let h = ticks_of (before ++ tick ∷ []) number in
-    let A : ContainerEvents → ContainerSpec → Type 0 = λ es spec. AreEvents pod.policy greatest spec h (length before)
+    let A : ContainerEvents → ContainerSpec
+    → Type 0 = λ es spec. AreEvents pod.policy max_restart_delay spec h (length before)
     es in
     whatever pod number (λ spec. made ≡ other) (made ≡ other) (λ spec e. e)
     (together pod number (A made) (A other) (λ spec. made ≡ other)
-    (λ spec one two. one_list_of_events pod.policy greatest spec h (length before) made other one two) is was)
+    (λ spec one two. one_list_of_events pod.policy max_restart_delay spec h (length before) made other one two) is was)
 
-news_one : (pod : PodSpec) (greatest : ℕ) (evicted : Option ℕ) (before : List PodTick) (tick : PodTick)
-    (events others : List PodEvent) → AreNews pod greatest evicted before tick events
-    → AreNews pod greatest evicted before tick others → events ≡ others
-news_one pod greatest evicted before tick events others one two =
+news_one : (pod : PodSpec) (max_restart_delay : ℕ) (evicted : Option ℕ) (before : List PodTick) (tick : PodTick)
+    (events others : List PodEvent) → AreNews pod max_restart_delay evicted before tick events
+    → AreNews pod max_restart_delay evicted before tick others → events ≡ others
+news_one pod max_restart_delay evicted before tick events others one two =
     let made : one.made ≡ two.made = same_items one.made two.made (one.are_made.as_many ∙ sym two.are_made.as_many)
-    (λ n d lt. made_one pod greatest before tick n _ _ (one.are_made.each n d (omega (arith, one.are_made.as_many)))
+    (λ n d lt. made_one pod max_restart_delay before tick n _ _
+    (one.are_made.each n d (omega (arith, one.are_made.as_many)))
     (two.are_made.each n d (omega (arith, one.are_made.as_many)))) in
     let phase : one.phase ≡ two.phase = raw_unique pod (before ++ tick ∷ []) one.phase two.phase one.is_phase
     two.is_phase in
@@ -92,16 +94,17 @@ news_one pod greatest evicted before tick events others one two =
     one.changes two.changes in
     one.in_order ∙ ap (λ (p : Phase). events_from p 0 one.made ++ events_at None (one.change ∷ [])) phase
     ∙ ap (λ (ms : List ContainerEvents). events_from two.phase 0 ms ++ events_at None (one.change ∷ [])) made
-    ∙ ap (λ (c : Option What). events_from two.phase 0 two.made ++ events_at None (c ∷ [])) change ∙ sym two.in_order
+    ∙ ap (λ (c : Option PodEventKind). events_from two.phase 0 two.made ++ events_at None (c ∷ [])) change
+    ∙ sym two.in_order
 
 pub one_list_of_pod_events : OneListOfEvents
-one_list_of_pod_events pod greatest evicted before tick events others is was = elim is [
+one_list_of_pod_events pod max_restart_delay evicted before tick events others is was = elim is [
   | inl none ↦ elim was [
     | inl never ↦ none.1 ∙ sym never.1
     | inr w ↦ absurd (w.0 none.0)
   ]
   | inr v ↦ elim was [
     | inl never ↦ absurd (v.0 never.0)
-    | inr w ↦ news_one pod greatest evicted before tick events others v.1 w.1
+    | inr w ↦ news_one pod max_restart_delay evicted before tick events others v.1 w.1
   ]
 ]

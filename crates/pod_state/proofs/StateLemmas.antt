@@ -21,8 +21,8 @@ use Rattle.pod_state.specs.States.{IsStateOf, MayFollow}
 use Rattle.pod_state.specs.Events.{AreMade, AreEventsOf, events_at, events_from}
 use Rattle.pod_state.specs.declared.events.PodEvent.{PodEvent}
 use Rattle.pod_state.specs.declared.lifecycle.Lifecycle.{Lifecycle}
-use Rattle.containers.specs.declared.what.What.{What}
-use Rattle.containers.specs.declared.what.What.TheVariants as whats
+use Rattle.containers.specs.declared.pod_event_kind.PodEventKind.{PodEventKind}
+use Rattle.containers.specs.declared.pod_event_kind.PodEventKind.TheVariants as whats
 use Rattle.containers.specs.declared.events.ContainerEvents.{ContainerEvents}
 use Rattle.pod_state.proofs.EndLemmas.{IsPhase-unique, raw_unique, ended_is, phase_ended, phase_raw, end_evicted}
 use Rattle.pod_state.proofs.EndLemmas.{kept_all, kept_ended, kept_lives}
@@ -33,87 +33,99 @@ pub not_evicted : (evicted : Option ℕ) (h : List PodTick) → (evicted ≡ Som
 not_evicted evicted h stays = ((λ e. absurd (let t : IsTrue false = e in cc)), (λ e. absurd (stays e)))
 
 -- once it has ended
-pub after_end : (pod : PodSpec) (greatest : ℕ) (evicted : Option ℕ) (h : List PodTick) (x : PodTick)
-    (old new : PodState) → IsStateOf pod greatest evicted h old → IsTerminal old.lifecycle.phase
+pub after_end : (pod : PodSpec) (max_restart_delay : ℕ) (evicted : Option ℕ) (h : List PodTick) (x : PodTick)
+    (old new : PodState) → IsStateOf pod max_restart_delay evicted h old → IsTerminal old.lifecycle.phase
     → new.containers ≡ old.containers → IsProgressOf pod evicted (h ++ x ∷ []) new.lifecycle
-    → IsStateOf pod greatest evicted (h ++ x ∷ []) new
-after_end pod greatest evicted h x old new is ended same progress =
-    let kept = kept_ended pod greatest evicted h x old.lifecycle.phase old.containers.items is.progress.so_far.phase
+    → IsStateOf pod max_restart_delay evicted (h ++ x ∷ []) new
+after_end pod max_restart_delay evicted h x old new is ended same progress =
+    let kept =
+    kept_ended pod max_restart_delay evicted h x old.lifecycle.phase old.containers.items is.progress.so_far.phase
     ended is.containers in
     record {
       progress = progress;
-      containers = subst (λ cs. AreKept pod greatest evicted (h ++ x ∷ []) cs.items) (sym same) kept;
+      containers = subst (λ cs. AreKept pod max_restart_delay evicted (h ++ x ∷ []) cs.items) (sym same) kept;
     }
 
 -- until then, where its containers are these after the tick
-pub before_end : (pod : PodSpec) (greatest : ℕ) (evicted : Option ℕ) (h : List PodTick) (x : PodTick)
-    (old new : PodState) (containers : List Container) → IsStateOf pod greatest evicted h old
+pub before_end : (pod : PodSpec) (max_restart_delay : ℕ) (evicted : Option ℕ) (h : List PodTick) (x : PodTick)
+    (old new : PodState) (containers : List Container) → IsStateOf pod max_restart_delay evicted h old
     → (IsTerminal old.lifecycle.phase → ⊥) → new.containers.items ≡ containers
-    → (AreContainersOf pod greatest h old.containers.items → AreContainersOf pod greatest (h ++ x ∷ []) containers)
-    → (AreContainersOf pod greatest (h ++ x ∷ []) containers → IsProgressOf pod evicted (h ++ x ∷ []) new.lifecycle)
-    → IsStateOf pod greatest evicted (h ++ x ∷ []) new
-before_end pod greatest evicted h x old new containers is lives same step advance =
+    → (AreContainersOf pod max_restart_delay h old.containers.items
+    → AreContainersOf pod max_restart_delay (h ++ x ∷ []) containers)
+    → (AreContainersOf pod max_restart_delay (h ++ x ∷ []) containers
+    → IsProgressOf pod evicted (h ++ x ∷ []) new.lifecycle)
+    → IsStateOf pod max_restart_delay evicted (h ++ x ∷ []) new
+before_end pod max_restart_delay evicted h x old new containers is lives same step advance =
     let phase = is.progress.so_far.phase in
-    let before = kept_all pod greatest evicted h old.lifecycle.phase old.containers.items phase lives is.containers in
+    let before =
+    kept_all pod max_restart_delay evicted h old.lifecycle.phase old.containers.items phase lives is.containers in
     let after = step before in
     let progress = advance after in
-    let kept = kept_lives pod greatest evicted h x old.lifecycle.phase new.lifecycle.phase containers phase lives
+    let kept =
+    kept_lives pod max_restart_delay evicted h x old.lifecycle.phase new.lifecycle.phase containers phase lives
     progress.so_far.phase after in
     record {
       progress = progress;
-      containers = subst (λ (cs : List Container). AreKept pod greatest evicted (h ++ x ∷ []) cs) (sym same) kept;
+      containers =
+          subst (λ (cs : List Container). AreKept pod max_restart_delay evicted (h ++ x ∷ []) cs) (sym same) kept;
     }
 
 -- what comes next may come, where each listing may and each container's last tick is before it
-accepts_next : (o : Option ContainerSpec) (greatest : ℕ) (k : List ContainerTick) (c : Container) (seen : Option Seen)
-    → IsSomeAnd o (λ spec. IsContainerStateOf spec greatest k c)
+accepts_next : (o : Option ContainerSpec) (max_restart_delay : ℕ) (k : List ContainerTick) (c : Container)
+    (seen : Option Seen)
+    → IsSomeAnd o (λ spec. IsContainerStateOf spec max_restart_delay k c)
     → IsAcceptable (listings k) seen → Accepts c seen
-accepts_next None greatest k c seen is may = absurd is
-accepts_next (Some spec) greatest k c seen is may = (is.differ.accepts seen).1 may
+accepts_next None max_restart_delay k c seen is may = absurd is
+accepts_next (Some spec) max_restart_delay k c seen is may = (is.differ.accepts seen).1 may
 
-before_next : (o : Option ContainerSpec) (greatest : ℕ) (k : List ContainerTick) (c : Container) (at : ℕ)
-    → IsSomeAnd o (λ spec. IsContainerStateOf spec greatest k c)
+before_next : (o : Option ContainerSpec) (max_restart_delay : ℕ) (k : List ContainerTick) (c : Container) (at : ℕ)
+    → IsSomeAnd o (λ spec. IsContainerStateOf spec max_restart_delay k c)
     → EndsBefore (listings k) at → IsBefore c at
-before_next None greatest k c at is ends = absurd is
-before_next (Some spec) greatest k c at is ends = is_before (listings k) c.differ at is.differ ends
+before_next None max_restart_delay k c at is ends = absurd is
+before_next (Some spec) max_restart_delay k c at is ends = is_before (listings k) c.differ at is.differ ends
 
-pub may_follow : (pod : PodSpec) (greatest : ℕ) (evicted : Option ℕ) (h : List PodTick) (state : PodState) (at : ℕ)
-    (shown : List ContainerObs) → IsStateOf pod greatest evicted h state
+pub may_follow : (pod : PodSpec) (max_restart_delay : ℕ) (evicted : Option ℕ) (h : List PodTick) (state : PodState)
+    (at : ℕ)
+    (shown : List ContainerObs) → IsStateOf pod max_restart_delay evicted h state
     → ((n : ℕ) → IsAcceptable (listings (ticks_of h n)) (unwrap_or (slice_get shown n) unseen).seen)
     → ((n : ℕ) → EndsBefore (listings (ticks_of h n)) at) → MayFollow state at shown
-may_follow pod greatest evicted h state at shown is may ends =
+may_follow pod max_restart_delay evicted h state at shown is may ends =
     let all = λ (lives : IsTerminal state.lifecycle.phase → ⊥).
-    kept_all pod greatest evicted h state.lifecycle.phase state.containers.items is.progress.so_far.phase lives
+    kept_all pod max_restart_delay evicted h state.lifecycle.phase state.containers.items is.progress.so_far.phase lives
     is.containers in
     record {
       accepted = λ lives n d lt. let are = all lives in
-          accepts_next (slice_get pod.containers n) greatest (ticks_of h n)
+          accepts_next (slice_get pod.containers n) max_restart_delay (ticks_of h n)
           (slice_index_or state.containers.items n d) _ (are.each n d (omega (arith, are.as_many))) (may n);
       later = λ lives n d lt. let are = all lives in
-          before_next (slice_get pod.containers n) greatest (ticks_of h n) (slice_index_or state.containers.items n d)
+          before_next (slice_get pod.containers n) max_restart_delay (ticks_of h n)
+          (slice_index_or state.containers.items n d)
           at (are.each n d (omega (arith, are.as_many))) (ends n);
     }
 
 -- the events of a pod that had ended before the tick, and of one that had not
-pub events_ended : (pod : PodSpec) (greatest : ℕ) (evicted : Option ℕ) (h : List PodTick) (x : PodTick)
-    (state : PodState) (events : List PodEvent) → IsStateOf pod greatest evicted h state
-    → IsTerminal state.lifecycle.phase → events ≡ [] → AreEventsOf pod greatest evicted h x events
-events_ended pod greatest evicted h x state events is ended none =
+pub events_ended : (pod : PodSpec) (max_restart_delay : ℕ) (evicted : Option ℕ) (h : List PodTick) (x : PodTick)
+    (state : PodState) (events : List PodEvent) → IsStateOf pod max_restart_delay evicted h state
+    → IsTerminal state.lifecycle.phase → events ≡ [] → AreEventsOf pod max_restart_delay evicted h x events
+events_ended pod max_restart_delay evicted h x state events is ended none =
     inl ((ended_is pod evicted h state.lifecycle.phase is.progress.so_far.phase).0 ended, none)
 
-pub events_lives : (pod : PodSpec) (greatest : ℕ) (evicted : Option ℕ) (h : List PodTick) (x : PodTick)
-    (state : PodState) (next : Lifecycle) (made : List ContainerEvents) (change : Option What) (events : List PodEvent)
-    → IsStateOf pod greatest evicted h state → (IsTerminal state.lifecycle.phase → ⊥) → (evicted ≡ Some (length h) → ⊥)
-    → (AreContainersOf pod greatest h state.containers.items → AreMade pod greatest h x made)
-    → (AreContainersOf pod greatest h state.containers.items → IsPhase pod evicted (h ++ x ∷ []) next.phase)
-    → ((what : What) → ((change ≡ Some what)
+pub events_lives : (pod : PodSpec) (max_restart_delay : ℕ) (evicted : Option ℕ) (h : List PodTick) (x : PodTick)
+    (state : PodState) (next : Lifecycle) (made : List ContainerEvents) (change : Option PodEventKind)
+    (events : List PodEvent)
+    → IsStateOf pod max_restart_delay evicted h state → (IsTerminal state.lifecycle.phase → ⊥)
+    → (evicted ≡ Some (length h) → ⊥)
+    → (AreContainersOf pod max_restart_delay h state.containers.items → AreMade pod max_restart_delay h x made)
+    → (AreContainersOf pod max_restart_delay h state.containers.items → IsPhase pod evicted (h ++ x ∷ []) next.phase)
+    → ((what : PodEventKind) → ((change ≡ Some what)
     ↔ ((what ≡ whats.Phase next.phase) × (state.lifecycle.phase ≢ next.phase))))
     → events ≡ events_from next.phase 0 made ++ events_at None (change ∷ [])
-    → AreEventsOf pod greatest evicted h x events
-events_lives pod greatest evicted h x state next made change events is lives stays made_by phase_by changes in_order =
+    → AreEventsOf pod max_restart_delay evicted h x events
+events_lives pod max_restart_delay evicted h x state next made change events is lives stays made_by phase_by changes
+    in_order =
     let phase = is.progress.so_far.phase in
     let old = state.lifecycle.phase in
-    let containers = kept_all pod greatest evicted h old state.containers.items phase lives is.containers in
+    let containers = kept_all pod max_restart_delay evicted h old state.containers.items phase lives is.containers in
     let raw = phase_raw pod evicted h x old next.phase phase lives stays (phase_by containers) in
     inr (
       (λ ended. lives ((ended_is pod evicted h old phase).1 ended)),
@@ -137,35 +149,37 @@ events_lives pod greatest evicted h x state next made change events is lives sta
     )
 
 -- a pod that has not ended had not before the last tick
-lived : (pod : PodSpec) (greatest : ℕ) (h : List PodTick) (x : PodTick) (old : PodState)
+lived : (pod : PodSpec) (max_restart_delay : ℕ) (h : List PodTick) (x : PodTick) (old : PodState)
     → (IsTerminal old.lifecycle.phase → ⊥) → IsLifecycleOf pod None h old.before
-    → IsStateOf pod greatest None (h ++ x ∷ []) old → IsTerminal old.before.phase → ⊥
-lived pod greatest h x old goes_on was is ended =
+    → IsStateOf pod max_restart_delay None (h ++ x ∷ []) old → IsTerminal old.before.phase → ⊥
+lived pod max_restart_delay h x old goes_on was is ended =
     goes_on (subst IsTerminal (IsPhase-unique pod None (h ++ x ∷ []) old.before.phase old.lifecycle.phase
     (phase_ended pod None h x old.before.phase was.phase ended) is.progress.so_far.phase) ended)
 
 -- so an eviction ends it
-pub ends_evicted : (pod : PodSpec) (greatest : ℕ) (h : List PodTick) (x : PodTick) (old : PodState)
+pub ends_evicted : (pod : PodSpec) (max_restart_delay : ℕ) (h : List PodTick) (x : PodTick) (old : PodState)
     → (IsTerminal old.lifecycle.phase → ⊥) → IsLifecycleOf pod None h old.before
-    → IsProgressOf pod (Some (length h)) h old.before → IsStateOf pod greatest None (h ++ x ∷ []) old
+    → IsProgressOf pod (Some (length h)) h old.before → IsStateOf pod max_restart_delay None (h ++ x ∷ []) old
     → IsEnd pod (Some (length h)) (h ++ x ∷ []) (Some (length h))
-ends_evicted pod greatest h x old goes_on was before is = end_evicted pod (Some (length h)) h x old.before.phase
-    before.so_far.phase (lived pod greatest h x old goes_on was is) refl
+ends_evicted pod max_restart_delay h x old goes_on was before is =
+    end_evicted pod (Some (length h)) h x old.before.phase
+    before.so_far.phase (lived pod max_restart_delay h x old goes_on was is) refl
 
 -- where the last tick evicts the pod
-pub when_evicted : (pod : PodSpec) (greatest : ℕ) (h : List PodTick) (x : PodTick) (old new : PodState)
+pub when_evicted : (pod : PodSpec) (max_restart_delay : ℕ) (h : List PodTick) (x : PodTick) (old new : PodState)
     → (IsTerminal old.lifecycle.phase → ⊥) → new.containers ≡ old.containers
-    → IsLifecycleOf pod None h old.before → IsStateOf pod greatest None (h ++ x ∷ []) old
+    → IsLifecycleOf pod None h old.before → IsStateOf pod max_restart_delay None (h ++ x ∷ []) old
     → IsProgressOf pod (Some (length h)) h old.before
-    → IsProgressOf pod (Some (length h)) (h ++ x ∷ []) new.lifecycle → IsStateOf pod greatest (Some (length h))
+    → IsProgressOf pod (Some (length h)) (h ++ x ∷ []) new.lifecycle → IsStateOf pod max_restart_delay (Some (length h))
     (h ++ x ∷ []) new
-when_evicted pod greatest h x old new goes_on same was is before progress =
-    let lives = lived pod greatest h x old goes_on was is in
-    let containers = kept_all pod greatest None (h ++ x ∷ []) old.lifecycle.phase old.containers.items
+when_evicted pod max_restart_delay h x old new goes_on same was is before progress =
+    let lives = lived pod max_restart_delay h x old goes_on was is in
+    let containers = kept_all pod max_restart_delay None (h ++ x ∷ []) old.lifecycle.phase old.containers.items
     is.progress.so_far.phase goes_on is.containers in
-    let kept = kept_lives pod greatest (Some (length h)) h x old.before.phase new.lifecycle.phase old.containers.items
+    let kept =
+    kept_lives pod max_restart_delay (Some (length h)) h x old.before.phase new.lifecycle.phase old.containers.items
     before.so_far.phase lives progress.so_far.phase containers in
     record {
       progress = progress;
-      containers = subst (λ cs. AreKept pod greatest (Some (length h)) (h ++ x ∷ []) cs.items) (sym same) kept;
+      containers = subst (λ cs. AreKept pod max_restart_delay (Some (length h)) (h ++ x ∷ []) cs.items) (sym same) kept;
     }

@@ -36,19 +36,19 @@ pub record AreStatusesOf (pod : PodSpec) (evicted : Option ℕ) (h : List PodTic
 -- the container with the number, as these ticks of its pod leave it, on a node with a greatest
 -- restart delay
 abbrev pub IsContainerOf : PodSpec → ℕ → List PodTick → ℕ → Container → Type 0
-IsContainerOf pod greatest h number container =
-    OfSpec pod number (λ spec. IsStateOf spec greatest (ticks_of h number) container)
+IsContainerOf pod max_restart_delay h number container =
+    OfSpec pod number (λ spec. IsStateOf spec max_restart_delay (ticks_of h number) container)
 
 -- all of them
-pub record AreContainersOf (pod : PodSpec) (greatest : ℕ) (h : List PodTick)
+pub record AreContainersOf (pod : PodSpec) (max_restart_delay : ℕ) (h : List PodTick)
     (containers : List Container) : Type 0 where
   pub as_many : length containers ≡ length pod.containers
   pub each : (number : ℕ) (d : Container) → number < length pod.containers
-      → IsContainerOf pod greatest h number (slice_index_or containers number d)
+      → IsContainerOf pod max_restart_delay h number (slice_index_or containers number d)
 
 -- the containers as the ticks that count leave them
-pub record AreKept (pod : PodSpec) (greatest : ℕ) (evicted : Option ℕ) (h : List PodTick)
+pub record AreKept (pod : PodSpec) (max_restart_delay : ℕ) (evicted : Option ℕ) (h : List PodTick)
     (containers : List Container) : Type 0 where
   pub end : Option ℕ
   pub is_end : IsEnd pod evicted h end
-  pub kept : AreContainersOf pod greatest (counted h end) containers
+  pub kept : AreContainersOf pod max_restart_delay (counted h end) containers

@@ -74,21 +74,22 @@ pub record OneStatus : Type 0 where
 -- a pod that has ended makes no events, whatever its containers do
 abbrev pub NoEventsAfterTheEnd : Type 0
 NoEventsAfterTheEnd =
-    (pod : PodSpec) (greatest : ℕ) (evicted : Option ℕ) (before : List PodTick) (tick : PodTick)
+    (pod : PodSpec) (max_restart_delay : ℕ) (evicted : Option ℕ) (before : List PodTick) (tick : PodTick)
     (events : List PodEvent)
-    → HasEnded pod evicted before → AreEventsOf pod greatest evicted before tick events → events ≡ []
+    → HasEnded pod evicted before → AreEventsOf pod max_restart_delay evicted before tick events → events ≡ []
 
 -- a tick makes a list of events, where the numbers of the probes of each container are in their ranges
 abbrev pub SomeListOfEvents : Type 0
 SomeListOfEvents =
-    (pod : PodSpec) (greatest : ℕ) (evicted : Option ℕ) (before : List PodTick) (tick : PodTick)
+    (pod : PodSpec) (max_restart_delay : ℕ) (evicted : Option ℕ) (before : List PodTick) (tick : PodTick)
     → All (λ spec. AreInRange spec.probes) pod.containers
-    → (events : List PodEvent) × AreEventsOf pod greatest evicted before tick events
+    → (events : List PodEvent) × AreEventsOf pod max_restart_delay evicted before tick events
 
 -- the events of a tick are determined, with their order
 abbrev pub OneListOfEvents : Type 0
 OneListOfEvents =
-    (pod : PodSpec) (greatest : ℕ) (evicted : Option ℕ) (before : List PodTick) (tick : PodTick)
+    (pod : PodSpec) (max_restart_delay : ℕ) (evicted : Option ℕ) (before : List PodTick) (tick : PodTick)
     (events others : List PodEvent)
-    → AreEventsOf pod greatest evicted before tick events → AreEventsOf pod greatest evicted before tick others
+    → AreEventsOf pod max_restart_delay evicted before tick events
+    → AreEventsOf pod max_restart_delay evicted before tick others
     → events ≡ others

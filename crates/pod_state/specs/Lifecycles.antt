@@ -33,7 +33,7 @@ pub record AreValuesOf (C : List PodTick → Type 0) (h : List PodTick) (values 
   pub moments : (t : ℕ) → moment_at values t ≡ moment_at h t
   pub same : (t : ℕ) → t < length values → (IsSomeAnd (entry_at values t) IsTrue ↔ IsSo C h t)
 
--- the same, with the values that led to it
+-- the same, and what each tick says of the three conditions
 pub record IsProgressOf (pod : PodSpec) (evicted : Option ℕ) (h : List PodTick) (status : Lifecycle) : Type 0 where
   pub so_far : IsLifecycleOf pod evicted h status
   pub values : List (Recorded Values)
@@ -43,9 +43,9 @@ pub record IsProgressOf (pod : PodSpec) (evicted : Option ℕ) (h : List PodTick
   pub initialized : AreValuesOf (IsInitialized pod evicted) h (project (λ v. v.initialized) values)
   pub containers_ready : AreValuesOf (AreContainersReady pod evicted) h (project (λ v. v.containers_ready) values)
 
--- over every history of a pod with the policy: a tick follows it, after which the containers are as
--- the views show them unless the pod had ended, and which evicts the pod exactly if the flag says
--- so; then p, if it was the phase, becomes q
+-- a pod of this policy was in phase p, whatever its history; one tick more comes, after which its containers are as
+-- these views show them (unless the pod had ended), and which evicts the pod exactly if the flag says so: then its
+-- phase is q
 abbrev pub IsNextPhase : Policy → List ContainerView → Bool → Phase → Phase → Type 0
 IsNextPhase policy views is_evicted p q =
     (pod : PodSpec) (evicted : Option ℕ) (h : List PodTick) (at : ℕ) (entry : PodEntry)

@@ -13,10 +13,10 @@ use Rattle.pod_state.specs.Lifecycles.{IsProgressOf}
 
 -- the pod's phase and conditions after these ticks, and its containers after those that count, on a
 -- node with a greatest restart delay
-pub record IsStateOf (pod : PodSpec) (greatest : ℕ) (evicted : Option ℕ) (h : List PodTick)
+pub record IsStateOf (pod : PodSpec) (max_restart_delay : ℕ) (evicted : Option ℕ) (h : List PodTick)
     (state : PodState) : Type 0 where
   pub progress : IsProgressOf pod evicted h state.lifecycle
-  pub containers : AreKept pod greatest evicted h state.containers.items
+  pub containers : AreKept pod max_restart_delay evicted h state.containers.items
 
 -- it has so many containers
 abbrev pub HasContainers : ℕ → PodState → Type 0

@@ -1,11 +1,11 @@
 //! The events of a tick, one pod's containers after the other.
 
 ghost use Rattle.std.specs.Prelude.{◌≡◌, ◌≢◌, ◌↔◌, ◌++◌, ◌∷◌, [], Some, None, OnOk, IfOk};
-ghost use Rattle.containers.specs.declared.what.What.{What};
-ghost use Rattle.containers.specs.declared.what.What.TheVariants as whats;
+ghost use Rattle.containers.specs.declared.pod_event_kind.PodEventKind.{PodEventKind};
+ghost use Rattle.containers.specs.declared.pod_event_kind.PodEventKind.TheVariants as whats;
 ghost use Rattle.pod_state.specs.Events.{restart_in, places_in, events_at, events_from};
 
-use containers::{ContainerEvents, What};
+use containers::{ContainerEvents, PodEventKind};
 use phase::Phase;
 use std::alloc::{AllocError, Global};
 
@@ -15,11 +15,11 @@ pub struct PodEvent {
     /// The container's number; none where it happened to the pod.
     pub container: Option<usize>,
     /// What happened.
-    pub what: What,
+    pub what: PodEventKind,
 }
 
 /// A restart, in a pod that a tick leaves in this phase.
-fn restart_in(phase: Phase, restart: Option<What>) -> Option<What>
+fn restart_in(phase: Phase, restart: Option<PodEventKind>) -> Option<PodEventKind>
     ensures { result ≡ restart_in phase restart }
 {
     match phase {
@@ -32,7 +32,7 @@ fn restart_in(phase: Phase, restart: Option<What>) -> Option<What>
 fn add_event(
     events: &mut Vec<PodEvent>,
     container: Option<usize>,
-    place: Option<What>,
+    place: Option<PodEventKind>,
 ) -> Result<(), AllocError>
     ensures { OnOk result (events.new.items ≡ events.old.items ++ events_at container (place ∷ [])) }
 {
@@ -65,13 +65,13 @@ fn add_events(
 }
 
 /// The pod's new phase, if it is another than the old one.
-pub(crate) fn phase_event(old: Phase, new: Phase) -> Option<What>
-    ensures { (what : What) → ((result ≡ Some what) ↔ ((what ≡ whats.Phase new) × (old ≢ new))) }
+pub(crate) fn phase_event(old: Phase, new: Phase) -> Option<PodEventKind>
+    ensures { (what : PodEventKind) → ((result ≡ Some what) ↔ ((what ≡ whats.Phase new) × (old ≢ new))) }
 {
     if old == new {
         None
     } else {
-        Some(What::Phase(new))
+        Some(PodEventKind::Phase { phase: new })
     }
 }
 
@@ -81,7 +81,7 @@ pub(crate) fn events_of(
     alloc: Global,
     made: &[ContainerEvents],
     phase: Phase,
-    change: Option<What>,
+    change: Option<PodEventKind>,
 ) -> Result<Vec<PodEvent>, AllocError>
     ensures { IfOk result (λ v. v.items ≡ events_from phase 0 made.now ++ events_at None (change ∷ [])) }
 {

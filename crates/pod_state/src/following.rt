@@ -23,14 +23,14 @@ use std::alloc::{AllocError, Global};
 pub(crate) fn first_containers(
     alloc: Global,
     specs: &[ContainerSpec],
-    greatest: MaxRestartDelay,
+    max_restart_delay: MaxRestartDelay,
 ) -> Result<Vec<Container>, AllocError>
     ensures { IfOk result (λ v. (pod : PodSpec) → pod.containers ≡ specs.now
-        → AreContainersOf pod greatest [] v.items) }
+        → AreContainersOf pod max_restart_delay [] v.items) }
 {
     let mut containers = Vec::with_capacity(alloc, specs.len())?;
     for spec in specs {
-        let container = Container::new(spec, greatest);
+        let container = Container::new(spec, max_restart_delay);
         containers.push(container)?;
     }
     Ok(containers)
@@ -66,12 +66,12 @@ pub(crate) fn step(
     requires accepted { Accepts container.old (unwrap_or (slice_get observed.now.containers number) unseen).seen }
     requires later { IsBefore container.old observed.now.at }
     requires bounded { observed.now.at < 2 ^ 40 }
-    ensures state { (pod : PodSpec) (greatest : ℕ) (h : List PodTick)
-        → IsContainerOf pod greatest h number container.old
-        → IsContainerOf pod greatest (h ++ pod_tick observed.now ∷ []) number container.new }
-    ensures made { (pod : PodSpec) (greatest : ℕ) (h : List PodTick) → pod.policy ≡ policy
-        → IsContainerOf pod greatest h number container.old
-        → IsMadeOf pod greatest h (pod_tick observed.now) number result }
+    ensures state { (pod : PodSpec) (max_restart_delay : ℕ) (h : List PodTick)
+        → IsContainerOf pod max_restart_delay h number container.old
+        → IsContainerOf pod max_restart_delay (h ++ pod_tick observed.now ∷ []) number container.new }
+    ensures made { (pod : PodSpec) (max_restart_delay : ℕ) (h : List PodTick) → pod.policy ≡ policy
+        → IsContainerOf pod max_restart_delay h number container.old
+        → IsMadeOf pod max_restart_delay h (pod_tick observed.now) number result }
 {
     let shown = shown_of(observed, number);
     container.step(policy, observed.at(), shown)
@@ -88,12 +88,12 @@ pub(crate) fn next_containers(
     requires later { AllBefore containers.now observed.now.at }
     requires bounded { observed.now.at < 2 ^ 40 }
     ensures count { IfOk result (λ next. length next.containers.items ≡ length containers.now) }
-    ensures containers { IfOk result (λ next. (pod : PodSpec) (greatest : ℕ) (h : List PodTick)
-        → AreContainersOf pod greatest h containers.now
-        → AreContainersOf pod greatest (h ++ pod_tick observed.now ∷ []) next.containers.items) }
-    ensures made { IfOk result (λ next. (pod : PodSpec) (greatest : ℕ) (h : List PodTick)
-        → pod.policy ≡ policy → AreContainersOf pod greatest h containers.now
-        → AreMade pod greatest h (pod_tick observed.now) next.made.items) }
+    ensures containers { IfOk result (λ next. (pod : PodSpec) (max_restart_delay : ℕ) (h : List PodTick)
+        → AreContainersOf pod max_restart_delay h containers.now
+        → AreContainersOf pod max_restart_delay (h ++ pod_tick observed.now ∷ []) next.containers.items) }
+    ensures made { IfOk result (λ next. (pod : PodSpec) (max_restart_delay : ℕ) (h : List PodTick)
+        → pod.policy ≡ policy → AreContainersOf pod max_restart_delay h containers.now
+        → AreMade pod max_restart_delay h (pod_tick observed.now) next.made.items) }
 {
     let mut all = Vec::with_capacity(alloc, containers.len())?;
     let mut made = Vec::with_capacity(alloc, containers.len())?;
@@ -114,8 +114,8 @@ pub(crate) fn views_of(
     alloc: Global,
     containers: &[Container],
 ) -> Result<Vec<ContainerView>, AllocError>
-    ensures { IfOk result (λ v. (pod : PodSpec) (greatest : ℕ) (h : List PodTick)
-        → AreContainersOf pod greatest h containers.now → AreViewsOf pod h v.items) }
+    ensures { IfOk result (λ v. (pod : PodSpec) (max_restart_delay : ℕ) (h : List PodTick)
+        → AreContainersOf pod max_restart_delay h containers.now → AreViewsOf pod h v.items) }
 {
     let mut views = Vec::with_capacity(alloc, containers.len())?;
     for container in containers {
@@ -127,8 +127,9 @@ pub(crate) fn views_of(
 /// Shows each container in its place; `is_evicted` says whether the pod was evicted.
 pub(crate) fn show(containers: &[Container], is_evicted: bool, statuses: &mut Vec<ContainerStatus>)
     requires { length statuses.old.items ≡ length containers.now }
-    ensures { (pod : PodSpec) (greatest : ℕ) (h : List PodTick)
-        → AreContainersOf pod greatest h containers.now → AreShown pod (IsTrue is_evicted) h statuses.new.items }
+    ensures { (pod : PodSpec) (max_restart_delay : ℕ) (h : List PodTick)
+        → AreContainersOf pod max_restart_delay h containers.now
+        → AreShown pod (IsTrue is_evicted) h statuses.new.items }
 {
     for (number, container) in containers.iter().enumerate() {
         statuses[number] = container.status(is_evicted);
@@ -137,8 +138,8 @@ pub(crate) fn show(containers: &[Container], is_evicted: bool, statuses: &mut Ve
 
 /// Whether it is ready, or an init container.
 fn is_ready_or_init(container: &Container) -> bool
-    ensures { (spec : ContainerSpec) (greatest : ℕ) (h : List ContainerTick)
-        → IsStateOf spec greatest h container.now
+    ensures { (spec : ContainerSpec) (max_restart_delay : ℕ) (h : List ContainerTick)
+        → IsStateOf spec max_restart_delay h container.now
         → (IsTrue result ↔ (spec.role ≢ Init → IsReady spec h)) }
 {
     container.view().is_init() || container.is_ready()
@@ -146,8 +147,8 @@ fn is_ready_or_init(container: &Container) -> bool
 
 /// Whether all app containers and sidecars are ready.
 pub(crate) fn all_ready(containers: &[Container]) -> bool
-    ensures { (pod : PodSpec) (greatest : ℕ) (h : List PodTick)
-        → AreContainersOf pod greatest h containers.now → (IsTrue result ↔ AllReady pod h) }
+    ensures { (pod : PodSpec) (max_restart_delay : ℕ) (h : List PodTick)
+        → AreContainersOf pod max_restart_delay h containers.now → (IsTrue result ↔ AllReady pod h) }
 {
     for container in containers {
         if !is_ready_or_init(container) {

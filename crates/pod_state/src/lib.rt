@@ -8,7 +8,7 @@ pub mod laws;
 mod lifecycle;
 mod state;
 
-pub use containers::{ContainerStatus, What};
+pub use containers::{ContainerStatus, PodEventKind};
 pub use events::PodEvent;
 pub use lifecycle::Lifecycle;
 pub use state::PodState;

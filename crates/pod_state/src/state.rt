@@ -33,13 +33,14 @@ impl PodState {
     pub fn new(
         alloc: Global,
         spec: &PodSpec,
-        greatest: MaxRestartDelay,
+        max_restart_delay: MaxRestartDelay,
     ) -> Result<PodState, AllocError>
-        ensures state { IfOk result (λ state. (evicted : Option ℕ) → IsStateOf spec.now greatest evicted [] state) }
+        ensures state { IfOk result (λ state. (evicted : Option ℕ)
+            → IsStateOf spec.now max_restart_delay evicted [] state) }
         ensures before { IfOk result (λ state. (evicted : Option ℕ)
             → IsProgressOf spec.now evicted [] (before_of state)) }
     {
-        let containers = first_containers(alloc, spec.containers.as_slice(), greatest)?;
+        let containers = first_containers(alloc, spec.containers.as_slice(), max_restart_delay)?;
         let views = views_of(alloc, &containers)?;
         let lifecycle = Lifecycle::new(&views);
         Ok(PodState {
@@ -67,17 +68,18 @@ impl PodState {
     ) -> Result<Vec<PodEvent>, AllocError>
         requires follows { MayFollow self.old observed.now.at observed.now.containers }
         requires bounded { observed.now.at < 2 ^ 40 }
-        ensures ok { OnOk result ((pod : PodSpec) (greatest : ℕ) (evicted : Option ℕ) (h : List PodTick)
+        ensures ok { OnOk result ((pod : PodSpec) (max_restart_delay : ℕ) (evicted : Option ℕ) (h : List PodTick)
             → pod.policy ≡ policy
             → (evicted ≡ Some (length h) → ⊥)
-            → IsStateOf pod greatest evicted h self.old
-            → IsStateOf pod greatest evicted (h ++ pod_tick observed.now ∷ []) self.new) }
+            → IsStateOf pod max_restart_delay evicted h self.old
+            → IsStateOf pod max_restart_delay evicted (h ++ pod_tick observed.now ∷ []) self.new) }
         ensures before { OnOk result (before_of self.new ≡ self.old.lifecycle) }
-        ensures events { IfOk result (λ v. (pod : PodSpec) (greatest : ℕ) (evicted : Option ℕ) (h : List PodTick)
+        ensures events { IfOk result (λ v. (pod : PodSpec) (max_restart_delay : ℕ) (evicted : Option ℕ)
+            (h : List PodTick)
             → pod.policy ≡ policy
             → (evicted ≡ Some (length h) → ⊥)
-            → IsStateOf pod greatest evicted h self.old
-            → AreEventsOf pod greatest evicted h (pod_tick observed.now) v.items) }
+            → IsStateOf pod max_restart_delay evicted h self.old
+            → AreEventsOf pod max_restart_delay evicted h (pod_tick observed.now) v.items) }
         ensures err { OnErr result (self.new ≡ self.old) }
     {
         let mut lifecycle = self.lifecycle;
@@ -122,25 +124,26 @@ impl PodState {
     ) -> Result<Vec<PodEvent>, AllocError>
         requires lives { IsTerminal self.old.lifecycle.phase → ⊥ }
         requires count { vec_len self.old.containers ≡ length next.now }
-        requires containers { (pod : PodSpec) (greatest : ℕ) (h : List PodTick)
-            → AreContainersOf pod greatest h self.old.containers.items
-            → AreContainersOf pod greatest (h ++ pod_tick observed.now ∷ []) next.now }
-        requires made { (pod : PodSpec) (greatest : ℕ) (h : List PodTick)
-            → pod.policy ≡ policy → AreContainersOf pod greatest h self.old.containers.items
-            → AreMade pod greatest h (pod_tick observed.now) made.now }
-        requires views { (pod : PodSpec) (greatest : ℕ) (h : List PodTick)
-            → AreContainersOf pod greatest h next.now → AreViewsOf pod h views.now }
-        ensures ok { OnOk result ((pod : PodSpec) (greatest : ℕ) (evicted : Option ℕ) (h : List PodTick)
+        requires containers { (pod : PodSpec) (max_restart_delay : ℕ) (h : List PodTick)
+            → AreContainersOf pod max_restart_delay h self.old.containers.items
+            → AreContainersOf pod max_restart_delay (h ++ pod_tick observed.now ∷ []) next.now }
+        requires made { (pod : PodSpec) (max_restart_delay : ℕ) (h : List PodTick)
+            → pod.policy ≡ policy → AreContainersOf pod max_restart_delay h self.old.containers.items
+            → AreMade pod max_restart_delay h (pod_tick observed.now) made.now }
+        requires views { (pod : PodSpec) (max_restart_delay : ℕ) (h : List PodTick)
+            → AreContainersOf pod max_restart_delay h next.now → AreViewsOf pod h views.now }
+        ensures ok { OnOk result ((pod : PodSpec) (max_restart_delay : ℕ) (evicted : Option ℕ) (h : List PodTick)
             → pod.policy ≡ policy
             → (evicted ≡ Some (length h) → ⊥)
-            → IsStateOf pod greatest evicted h self.old
-            → IsStateOf pod greatest evicted (h ++ pod_tick observed.now ∷ []) self.new) }
+            → IsStateOf pod max_restart_delay evicted h self.old
+            → IsStateOf pod max_restart_delay evicted (h ++ pod_tick observed.now ∷ []) self.new) }
         ensures before { OnOk result (before_of self.new ≡ self.old.lifecycle) }
-        ensures events { IfOk result (λ v. (pod : PodSpec) (greatest : ℕ) (evicted : Option ℕ) (h : List PodTick)
+        ensures events { IfOk result (λ v. (pod : PodSpec) (max_restart_delay : ℕ) (evicted : Option ℕ)
+            (h : List PodTick)
             → pod.policy ≡ policy
             → (evicted ≡ Some (length h) → ⊥)
-            → IsStateOf pod greatest evicted h self.old
-            → AreEventsOf pod greatest evicted h (pod_tick observed.now) v.items) }
+            → IsStateOf pod max_restart_delay evicted h self.old
+            → AreEventsOf pod max_restart_delay evicted h (pod_tick observed.now) v.items) }
         ensures err { OnErr result (self.new ≡ self.old) }
     {
         let ready = all_ready(next);
@@ -157,15 +160,15 @@ impl PodState {
     /// The pod is evicted by the tick that came last, at the moment. It makes no event.
     pub fn evict(&mut self, at: u64)
         requires { IsTerminal self.old.lifecycle.phase → ⊥ }
-        ensures state { (pod : PodSpec) (greatest : ℕ) (h : List PodTick) (entry : PodEntry)
+        ensures state { (pod : PodSpec) (max_restart_delay : ℕ) (h : List PodTick) (entry : PodEntry)
             → IsLifecycleOf pod None h (before_of self.old)
             → IsProgressOf pod (Some (length h)) h (before_of self.old)
-            → IsStateOf pod greatest None (h ++ recorded at entry ∷ []) self.old
-            → IsStateOf pod greatest (Some (length h)) (h ++ recorded at entry ∷ []) self.new }
-        ensures ends { (pod : PodSpec) (greatest : ℕ) (h : List PodTick) (entry : PodEntry)
+            → IsStateOf pod max_restart_delay None (h ++ recorded at entry ∷ []) self.old
+            → IsStateOf pod max_restart_delay (Some (length h)) (h ++ recorded at entry ∷ []) self.new }
+        ensures ends { (pod : PodSpec) (max_restart_delay : ℕ) (h : List PodTick) (entry : PodEntry)
             → IsLifecycleOf pod None h (before_of self.old)
             → IsProgressOf pod (Some (length h)) h (before_of self.old)
-            → IsStateOf pod greatest None (h ++ recorded at entry ∷ []) self.old
+            → IsStateOf pod max_restart_delay None (h ++ recorded at entry ∷ []) self.old
             → IsEnd pod (Some (length h)) (h ++ recorded at entry ∷ []) (Some (length h)) }
     {
         self.lifecycle = self.before.evicted(at, &self.lifecycle);
@@ -175,10 +178,10 @@ impl PodState {
     /// pod has ended by its eviction.
     pub fn show(&self, is_evicted: bool, statuses: &mut Vec<ContainerStatus>)
         requires { HasContainers (length statuses.old.items) self.now }
-        ensures { (pod : PodSpec) (greatest : ℕ) (evicted end : Option ℕ) (h : List PodTick)
+        ensures { (pod : PodSpec) (max_restart_delay : ℕ) (evicted end : Option ℕ) (h : List PodTick)
             → IsEnd pod evicted h end
             → (IsTrue is_evicted ↔ EndsEvicted evicted end)
-            → IsStateOf pod greatest evicted h self.now
+            → IsStateOf pod max_restart_delay evicted h self.now
             → AreStatusesOf pod evicted h statuses.new.items }
     {
         show(&self.containers, is_evicted, statuses);

@@ -55,8 +55,8 @@ listed entry [] (e ∷ es) len same = absurd (omega arith)
 listed entry (p ∷ ps) [] len same = absurd (omega arith)
 listed entry (p ∷ ps) (e ∷ es) len same =
     let first : entry p ≡ e = same 0 p refl in
-    let rest = listed entry ps es (omega arith) (λ n q at. same (suc n) q at) in
-    λ k. first k ∷ rest k
+    let ended = listed entry ps es (omega arith) (λ n q at. same (suc n) q at) in
+    λ k. first k ∷ ended k
 
 module _ (pieces : List Piece) (es : List Entry) (numbered : AreNumbered pieces) (are : AreEntriesOf pieces es) where
   abbrev by_number : Piece → Entry

@@ -1,2 +1,2 @@
-pub mod Rests
+pub mod FinishedWorkers
 pub mod Entries

@@ -1,3 +1,3 @@
 pub mod Order
-pub mod Rests
+pub mod FinishedWorkers
 pub mod Rooms

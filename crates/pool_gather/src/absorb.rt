@@ -3,47 +3,50 @@
 ghost use Rattle.std.specs.Prelude.{◌≡◌, ◌+◌, ◌*◌, ℕ, All, length, map, vec_len};
 ghost use Rattle.std.specs.List.{sum_by};
 ghost use Rattle.pool_worker.specs.Seats.{taken_by};
-ghost use Rattle.pool_gather.specs.Rests.{rest_place, rest_parts, rest_taken, IsRow, StandAt};
+ghost use Rattle.pool_gather.specs.FinishedWorkers.{finished_place, finished_parts, finished_taken, IsRow, StandAt};
 
-use crate::rest::Rest;
+use crate::finished_worker::FinishedWorker;
 use piece_deques::Deal;
-use pool_harvest::Reach;
+use pool_harvest::StealHandle;
 use std::sync::ledger::Ledger;
 
 /// Takes the seats of one row back.
 fn absorb<D: Deal, U: Ledger, E: Ledger, O: Ledger>(
-    rests: &mut Vec<Rest<D, U, E, O>>,
-    row: Vec<Reach<D>>,
+    finished: &mut Vec<FinishedWorker<D, U, E, O>>,
+    row: Vec<StealHandle<D>>,
 )
-    requires { StandAt row.items (map rest_place rests.old.items) }
-    ensures places { map rest_place rests.new.items ≡ map rest_place rests.old.items }
-    ensures harvests { map (λ r. r.harvest) rests.new.items ≡ map (λ r. r.harvest) rests.old.items }
-    ensures parts { sum_by rest_parts rests.new.items ≡ sum_by rest_parts rests.old.items + length row.items }
-    ensures taken { (weight : ℕ → ℕ) → sum_by (rest_taken weight) rests.new.items
-        ≡ sum_by (rest_taken weight) rests.old.items + taken_by weight row.items }
+    requires { StandAt row.items (map finished_place finished.old.items) }
+    ensures places { map finished_place finished.new.items ≡ map finished_place finished.old.items }
+    ensures worker_results { map (λ r. r.worker_result) finished.new.items
+        ≡ map (λ r. r.worker_result) finished.old.items }
+    ensures parts { sum_by finished_parts finished.new.items
+        ≡ sum_by finished_parts finished.old.items + length row.items }
+    ensures taken { (weight : ℕ → ℕ) → sum_by (finished_taken weight) finished.new.items
+        ≡ sum_by (finished_taken weight) finished.old.items + taken_by weight row.items }
 {
     let mut row = row;
-    while let Some(reach) = row.pop() {
+    while let Some(handle) = row.pop() {
         let at = row.len();
-        rests[at].absorb(reach);
+        finished[at].absorb(handle);
     }
 }
 
 /// Takes the seats of all rows back.
 pub(crate) fn absorb_all<D: Deal, U: Ledger, E: Ledger, O: Ledger>(
-    rests: &mut Vec<Rest<D, U, E, O>>,
-    rows: Vec<Vec<Reach<D>>>,
+    finished: &mut Vec<FinishedWorker<D, U, E, O>>,
+    rows: Vec<Vec<StealHandle<D>>>,
 )
-    requires { All (IsRow (map rest_place rests.old.items)) rows.items }
-    ensures places { map rest_place rests.new.items ≡ map rest_place rests.old.items }
-    ensures harvests { map (λ r. r.harvest) rests.new.items ≡ map (λ r. r.harvest) rests.old.items }
-    ensures parts { sum_by rest_parts rests.new.items
-        ≡ sum_by rest_parts rests.old.items + vec_len rows * vec_len rests.old }
-    ensures taken { (weight : ℕ → ℕ) → sum_by (rest_taken weight) rests.new.items
-        ≡ sum_by (rest_taken weight) rests.old.items + sum_by (λ row. taken_by weight row.items) rows.items }
+    requires { All (IsRow (map finished_place finished.old.items)) rows.items }
+    ensures places { map finished_place finished.new.items ≡ map finished_place finished.old.items }
+    ensures worker_results { map (λ r. r.worker_result) finished.new.items
+        ≡ map (λ r. r.worker_result) finished.old.items }
+    ensures parts { sum_by finished_parts finished.new.items
+        ≡ sum_by finished_parts finished.old.items + vec_len rows * vec_len finished.old }
+    ensures taken { (weight : ℕ → ℕ) → sum_by (finished_taken weight) finished.new.items
+        ≡ sum_by (finished_taken weight) finished.old.items + sum_by (λ row. taken_by weight row.items) rows.items }
 {
     let mut rows = rows;
     while let Some(row) = rows.pop() {
-        absorb(rests, row);
+        absorb(finished, row);
     }
 }

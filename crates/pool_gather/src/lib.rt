@@ -5,9 +5,9 @@
 mod absorb;
 mod collect;
 mod drain;
+mod finished_worker;
 mod gathered;
 mod part;
-mod rest;
 mod settle;
 
-pub use gathered::{Room, gather};
+pub use gathered::{ResultBuffers, gather};

@@ -1,4 +1,4 @@
-//! The end of a round: late pieces are entered, and all pieces are put in order.
+//! The end of a round: pieces that the book had no room for are entered, and all pieces are put in order.
 
 ghost use Rattle.std.specs.Prelude.{◌≡◌, ◌≤◌, ◌+◌, ℕ, List, None, length, map, vec_capacity};
 ghost use Rattle.observations.specs.Limits.{most_pods};
@@ -9,12 +9,12 @@ ghost use Rattle.event_book.specs.Shares.{most_parts, part};
 ghost use Rattle.event_book.specs.Limits.{AreLow};
 ghost use Rattle.piece_deques.specs.Rule.{AreNumbered};
 ghost use Rattle.pool_harvest.specs.Done.{weigh};
-ghost use Rattle.pool_harvest.specs.Harvests.{kept};
+ghost use Rattle.pool_harvest.specs.WorkerResults.{kept};
 
 use event_book::{Entry, EventBook, Shares};
 use piece_deques::Deal;
 use pod_piece::PodPiece;
-use pool_harvest::{Harvest, in_order};
+use pool_harvest::{WorkerResult, in_order};
 use std::sync::ledger::Ledger;
 use std::sync::{Mutex, Wait};
 
@@ -27,11 +27,11 @@ fn look_over(pieces: &[PodPiece])
     }
 }
 
-/// Enters the late pieces with the whole share, and puts all pieces in order.
+/// Enters the uncounted pieces with the whole share, and puts all pieces in order.
 pub(crate) fn settle<D: Deal, U: Ledger, E: Ledger, O: Ledger, R: Wait>(
     rt: &R,
     book: &Mutex<EventBook<U, E, O>>,
-    total: Harvest<D, U, E, O>,
+    total: WorkerResult<D, U, E, O>,
     share: Shares<U, E, O>,
 ) -> (Vec<PodPiece>, Shares<U, E, O>)
     requires numbered { AreNumbered D.all }
@@ -46,9 +46,9 @@ pub(crate) fn settle<D: Deal, U: Ledger, E: Ledger, O: Ledger, R: Wait>(
     ensures share { (entries : List Entry) × AreEntriesOf result.0.items entries
         × (result.1 ≡ part most_parts (plus share.numbers (sums_of entries))) }
 {
-    let Harvest {
+    let WorkerResult {
         done,
-        late,
+        uncounted,
         refused: _,
         share: theirs,
         of: _,
@@ -56,8 +56,8 @@ pub(crate) fn settle<D: Deal, U: Ledger, E: Ledger, O: Ledger, R: Wait>(
     let mut share = share;
     share.join(theirs);
     let mut done = done;
-    let mut late = late;
-    'entered: while let Some(piece) = late.pop() {
+    let mut uncounted = uncounted;
+    'entered: while let Some(piece) = uncounted.pop() {
         let entry = Entry::last_of(&piece);
         book.lock(rt).enter_whole(entry, &mut share);
         done.push_reserved(piece);

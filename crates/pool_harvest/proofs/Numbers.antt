@@ -4,12 +4,12 @@ use Rattle.std.proofs.Common.{subst}
 use Rattle.std.specs.Prelude.{slice_get, option_map, Result, Ok, Err, OnOk}
 use Rattle.std.proofs.lemmas.Option.{slice_get-map}
 use Rattle.pod_piece.specs.Piece.{Piece, updated}
-use Rattle.piece_deques.specs.Rule.{IsDue}
+use Rattle.piece_deques.specs.Rule.{IsPieceDue}
 use Rattle.piece_deques.proofs.Lists.{sum_grown}
 use Rattle.pool_harvest.specs.Done.{IsDone, weigh}
 
 -- a piece that was due is done once it is updated
-pub done_once : (all : List Piece) (piece new : Piece) → IsDue all piece → new ≡ updated piece → IsDone all new
+pub done_once : (all : List Piece) (piece new : Piece) → IsPieceDue all piece → new ≡ updated piece → IsDone all new
 done_once all piece new due is =
     let there : slice_get (map updated all) piece.number ≡ Some (updated piece) =
     slice_get-map updated all piece.number ∙ ap (option_map updated) due.stands in

@@ -4,12 +4,12 @@ ghost use Rattle.std.specs.Prelude.{◌≡◌, ◌<◌, ◌≤◌, ◌+◌, [], 
 ghost use Rattle.std.specs.Prelude.{IfOk, IfErr, OnOk, OnErr, is_ok, if◌then◌else◌};
 ghost use Rattle.event_book.specs.Totals.{nothing, plus};
 ghost use Rattle.event_book.specs.Shares.{part, one_update};
-ghost use Rattle.piece_deques.specs.Rule.{IsDue};
+ghost use Rattle.piece_deques.specs.Rule.{IsPieceDue};
 ghost use Rattle.pool_harvest.specs.Done.{IsDone};
-ghost use Rattle.pool_harvest.specs.Harvests.{kept};
+ghost use Rattle.pool_harvest.specs.WorkerResults.{kept};
 
 use crate::gate::{Gate, update};
-use crate::harvest::Harvest;
+use crate::worker_result::WorkerResult;
 use event_book::{Entry, EventBook, Full, Shares};
 use piece_deques::Deal;
 use pod_piece::PodPiece;
@@ -32,32 +32,32 @@ fn enter<R: Wait, U: Ledger, E: Ledger, O: Ledger>(
     book.lock(rt).enter(entry, share)
 }
 
-impl<D: Deal, U: Ledger, E: Ledger, O: Ledger> Harvest<D, U, E, O> {
+impl<D: Deal, U: Ledger, E: Ledger, O: Ledger> WorkerResult<D, U, E, O> {
     /// What a worker keeps that has done nothing yet, in vectors with room for all that it may keep.
     pub fn new(
         done: Vec<PodPiece>,
-        late: Vec<PodPiece>,
+        uncounted: Vec<PodPiece>,
         share: Shares<U, E, O>,
-    ) -> Harvest<D, U, E, O>
+    ) -> WorkerResult<D, U, E, O>
         requires empty { done.items ≡ [] }
-        requires empty_late { late.items ≡ [] }
+        requires empty_uncounted { uncounted.items ≡ [] }
         requires share { share ≡ part 1 nothing }
         ensures done { result.done ≡ done }
-        ensures late { result.late ≡ late }
+        ensures uncounted { result.uncounted ≡ uncounted }
         ensures none { result.refused ≡ None }
         ensures share { result.share ≡ share }
     {
-        Harvest {
+        WorkerResult {
             done,
-            late,
+            uncounted,
             refused: None,
             share,
             of: PhantomData,
         }
     }
 
-    /// Keeps a piece, and says whether it was updated: enters it where it was, else keeps it as the refused one. It takes
-    /// no memory.
+    /// Keeps a piece, and says whether it was updated: enters it where it was, else keeps it as the refused one. It
+    /// takes no memory.
     fn keep<R: Wait>(
         &mut self,
         rt: &R,
@@ -66,13 +66,13 @@ impl<D: Deal, U: Ledger, E: Ledger, O: Ledger> Harvest<D, U, E, O> {
         updated: Result<(), AllocError>,
     ) -> bool
         requires ok { OnOk updated (IsDone D.all piece) }
-        requires err { OnErr updated (IsDue D.all piece) }
+        requires err { OnErr updated (IsPieceDue D.all piece) }
         requires none { self.old.refused ≡ None }
         requires room { vec_len self.old.done < vec_capacity self.old.done }
-        requires room_late { vec_len self.old.late < vec_capacity self.old.late }
+        requires room_uncounted { vec_len self.old.uncounted < vec_capacity self.old.uncounted }
         ensures kept { (weight : ℕ → ℕ) → kept weight self.new ≡ kept weight self.old + weight piece.number }
         ensures room { vec_capacity self.new.done ≡ vec_capacity self.old.done }
-        ensures room_late { vec_capacity self.new.late ≡ vec_capacity self.old.late }
+        ensures room_uncounted { vec_capacity self.new.uncounted ≡ vec_capacity self.old.uncounted }
         ensures parts { self.new.share.parts ≡ self.old.share.parts }
         ensures updated { result ≡ is_ok updated }
         ensures refused { self.new.refused ≡ (if is_ok updated then None else Some piece) }
@@ -83,7 +83,7 @@ impl<D: Deal, U: Ledger, E: Ledger, O: Ledger> Harvest<D, U, E, O> {
                 let entered = enter(rt, book, entry, &mut self.share);
                 match entered {
                     Ok(()) => self.done.push_reserved(piece),
-                    Err(Full) => self.late.push_reserved(piece),
+                    Err(Full) => self.uncounted.push_reserved(piece),
                 }
                 true
             }
@@ -102,13 +102,13 @@ impl<D: Deal, U: Ledger, E: Ledger, O: Ledger> Harvest<D, U, E, O> {
         gate: &G,
         piece: PodPiece,
     ) -> bool
-        requires due { IsDue D.all piece }
+        requires due { IsPieceDue D.all piece }
         requires none { self.old.refused ≡ None }
         requires room { vec_len self.old.done < vec_capacity self.old.done }
-        requires room_late { vec_len self.old.late < vec_capacity self.old.late }
+        requires room_uncounted { vec_len self.old.uncounted < vec_capacity self.old.uncounted }
         ensures kept { (weight : ℕ → ℕ) → kept weight self.new ≡ kept weight self.old + weight piece.number }
         ensures room { vec_capacity self.new.done ≡ vec_capacity self.old.done }
-        ensures room_late { vec_capacity self.new.late ≡ vec_capacity self.old.late }
+        ensures room_uncounted { vec_capacity self.new.uncounted ≡ vec_capacity self.old.uncounted }
         ensures parts { self.new.share.parts ≡ self.old.share.parts }
         ensures more { result ≡ true → self.new.refused ≡ None }
         ensures last { self.new.refused ≡ None → result ≡ true }
@@ -121,18 +121,18 @@ impl<D: Deal, U: Ledger, E: Ledger, O: Ledger> Harvest<D, U, E, O> {
     }
 
     /// The same harvest, or the piece whose update was refused.
-    pub fn complete(self) -> Result<Harvest<D, U, E, O>, PodPiece>
-        ensures ok { IfOk result (λ harvest. harvest ≡ self) }
-        ensures none { IfOk result (λ harvest. harvest.refused ≡ None) }
-        ensures err { IfErr result (IsDue D.all) }
+    pub fn complete(self) -> Result<WorkerResult<D, U, E, O>, PodPiece>
+        ensures ok { IfOk result (λ worker_result. worker_result ≡ self) }
+        ensures none { IfOk result (λ worker_result. worker_result.refused ≡ None) }
+        ensures err { IfErr result (IsPieceDue D.all) }
         ensures refused { IfErr result (λ piece. self.refused ≡ Some piece) }
     {
         if self.refused.is_none() {
             return Ok(self);
         }
-        let Harvest {
+        let WorkerResult {
             done: _,
-            late: _,
+            uncounted: _,
             refused,
             share: _,
             of: _,
@@ -144,32 +144,33 @@ impl<D: Deal, U: Ledger, E: Ledger, O: Ledger> Harvest<D, U, E, O> {
     }
 
     /// Takes in what another worker keeps.
-    pub fn merge(&mut self, other: Harvest<D, U, E, O>)
+    pub fn merge(&mut self, other: WorkerResult<D, U, E, O>)
         requires none { self.old.refused ≡ None }
         requires other { other.refused ≡ None }
         requires room { vec_len self.old.done + vec_len other.done ≤ vec_capacity self.old.done }
-        requires room_late { vec_len self.old.late + vec_len other.late ≤ vec_capacity self.old.late }
+        requires room_uncounted { vec_len self.old.uncounted + vec_len other.uncounted
+            ≤ vec_capacity self.old.uncounted }
         ensures kept { (weight : ℕ → ℕ) → kept weight self.new ≡ kept weight self.old + kept weight other }
         ensures room { vec_capacity self.old.done ≤ vec_capacity self.new.done }
-        ensures room_late { vec_capacity self.old.late ≤ vec_capacity self.new.late }
+        ensures room_uncounted { vec_capacity self.old.uncounted ≤ vec_capacity self.new.uncounted }
         ensures none { self.new.refused ≡ None }
         ensures parts { self.new.share.parts ≡ self.old.share.parts + other.share.parts }
     {
-        let Harvest {
+        let WorkerResult {
             done,
-            late,
+            uncounted,
             refused: _,
             share,
             of: _,
         } = other;
         let mut done = done;
-        let mut late = late;
+        let mut uncounted = uncounted;
         self.share.join(share);
         match self.done.append(&mut done) {
             Ok(()) => {}
             Err(_) => unreachable!(),
         }
-        match self.late.append(&mut late) {
+        match self.uncounted.append(&mut uncounted) {
             Ok(()) => {}
             Err(_) => unreachable!(),
         }

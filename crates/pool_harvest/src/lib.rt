@@ -4,11 +4,11 @@
 
 mod finish;
 mod gate;
-mod harvest;
+mod handle;
 mod order;
-mod reach;
+mod worker_result;
 
 pub use gate::{Gate, NoGate, update};
-pub use harvest::Harvest;
+pub use handle::StealHandle;
 pub use order::in_order;
-pub use reach::Reach;
+pub use worker_result::WorkerResult;

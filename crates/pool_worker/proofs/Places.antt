@@ -15,7 +15,7 @@ use Rattle.piece_deques.specs.declared.rule.Tally.{Tally}
 use Rattle.piece_deques.specs.Ends.{pushed_weight}
 use Rattle.piece_deques.proofs.Lists.{drop_map_more, map_same, ones, sum_map, sum_same}
 use Rattle.piece_deques.proofs.Lists.{take_map_more}
-use Rattle.pool_harvest.specs.declared.reach.Reach.{Reach}
+use Rattle.pool_harvest.specs.declared.handle.StealHandle.{StealHandle}
 use Rattle.pool_worker.specs.Seats.{Place, owner_place, seat_place, places_len, pushed_to}
 
 module _ {T P : Type 0} where
@@ -39,7 +39,7 @@ module _ {T P : Type 0} where
         sum_by-cons (pushed_weight (λ _. 1)) x xs,
       )
 
-pub row_pushed : {D : Type 0} (row : List (Reach D)) (places : List Place) → map seat_place row ≡ places
+pub row_pushed : {D : Type 0} (row : List (StealHandle D)) (places : List Place) → map seat_place row ≡ places
     → pushed_to row ≡ places_len places
 row_pushed row places e = sym (sum_map seat_place (λ (p : Place). length p.pushed) row) ∙ ap places_len e
 

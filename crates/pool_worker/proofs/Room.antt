@@ -18,11 +18,11 @@ use Rattle.pod_piece.specs.Piece.{Piece}
 use Rattle.piece_deques.specs.declared.rule.Tally.{Tally}
 use Rattle.piece_deques.specs.Rule.{FoundEmpty}
 use Rattle.piece_deques.proofs.Lists.{map_set, ones, sum_set}
-use Rattle.pool_harvest.specs.declared.reach.Reach.{Reach}
+use Rattle.pool_harvest.specs.declared.handle.StealHandle.{StealHandle}
 use Rattle.pool_harvest.specs.Done.{weigh}
 use Rattle.pool_worker.specs.Seats.{Place, place, seat_place, owner_place, taken_by, pushed_to}
 use Rattle.pool_worker.specs.Seats.{IsUnused, FoundAllEmpty}
-use Rattle.pool_worker.specs.Bundles.{tag, tag_of}
+use Rattle.pool_worker.specs.Contexts.{tag, tag_of}
 
 pub place_same : (a b : RowsId × Global) (xs ys : List ℕ) → a ≡ b → xs ≡ ys → place a xs ≡ place b ys
 place_same a b xs ys deque pushed = λ k. place (deque k) (pushed k)
@@ -33,93 +33,93 @@ no_numbers (x ∷ xs) e = let o = ones (x ∷ xs) in absurd (omega arith)
 
 module _ {D : Type 0} where
   -- no more was taken by seats than was pushed
-  pub no_more : (reaches : List (Reach D)) → taken_by (λ _. 1) reaches ≤ pushed_to reaches
+  pub no_more : (handles : List (StealHandle D)) → taken_by (λ _. 1) handles ≤ pushed_to handles
   no_more [] = omega arith
   no_more (r ∷ rs) =
       let rest = no_more rs in
-      let a = sum_by-cons (λ (r : Reach D). sum_by (λ _. 1) (view r.seat).taken) r rs in
-      let b = sum_by-cons (λ (r : Reach D). length (view r.seat).pushed) r rs in
+      let a = sum_by-cons (λ (r : StealHandle D). sum_by (λ _. 1) (view r.seat).taken) r rs in
+      let b = sum_by-cons (λ (r : StealHandle D). length (view r.seat).pushed) r rs in
       let e = ones (view r.seat).taken in
       let f = r.few in
       omega arith
 
   -- nor was more taken by those of other deques than was pushed to these
-  pub no_more_of_others : (deque : Place) (own : ℕ) (reaches : List (Reach D)) → IsUnused deque own reaches
-      → taken_by (λ _. 1) reaches + length deque.pushed ≤ pushed_to reaches
+  pub no_more_of_others : (deque : Place) (own : ℕ) (handles : List (StealHandle D)) → IsUnused deque own handles
+      → taken_by (λ _. 1) handles + length deque.pushed ≤ pushed_to handles
   no_more_of_others deque own [] unused = absurd (some-ne-none deque (sym unused.stands))
   no_more_of_others deque zero (r ∷ rs) unused =
       let rest = no_more rs in
-      let a = sum_by-cons (λ (r : Reach D). sum_by (λ _. 1) (view r.seat).taken) r rs in
-      let b = sum_by-cons (λ (r : Reach D). length (view r.seat).pushed) r rs in
+      let a = sum_by-cons (λ (r : StealHandle D). sum_by (λ _. 1) (view r.seat).taken) r rs in
+      let b = sum_by-cons (λ (r : StealHandle D). length (view r.seat).pushed) r rs in
       let is : seat_place r ≡ deque = some-injective (seat_place r) deque unused.stands in
       let pushed : length (view r.seat).pushed ≡ length deque.pushed = ap (λ (p : Place). length p.pushed) is in
       let none : sum_by (λ _. 1) (view r.seat).taken ≡ 0 = ap (sum_by (λ _. 1)) (unused.none r refl) in
       omega arith
   no_more_of_others deque (suc own) (r ∷ rs) unused =
       let rest = no_more_of_others deque own rs (record { stands = unused.stands; none = unused.none }) in
-      let a = sum_by-cons (λ (r : Reach D). sum_by (λ _. 1) (view r.seat).taken) r rs in
-      let b = sum_by-cons (λ (r : Reach D). length (view r.seat).pushed) r rs in
+      let a = sum_by-cons (λ (r : StealHandle D). sum_by (λ _. 1) (view r.seat).taken) r rs in
+      let b = sum_by-cons (λ (r : StealHandle D). length (view r.seat).pushed) r rs in
       let e = ones (view r.seat).taken in
       let f = r.few in
       omega arith
 
   -- where nothing was taken by any seat, nothing was by this one
-  pub none_taken : (reaches : List (Reach D)) (i : ℕ) (r : Reach D) → taken_by (λ _. 1) reaches ≡ 0
-      → get_elem? reaches i ≡ some r → (view r.seat).taken ≡ []
+  pub none_taken : (handles : List (StealHandle D)) (i : ℕ) (r : StealHandle D) → taken_by (λ _. 1) handles ≡ 0
+      → get_elem? handles i ≡ some r → (view r.seat).taken ≡ []
   none_taken [] i r none at = absurd (some-ne-none r (sym at))
   none_taken (x ∷ xs) zero r none at =
-      let a = sum_by-cons (λ (r : Reach D). sum_by (λ _. 1) (view r.seat).taken) x xs in
+      let a = sum_by-cons (λ (r : StealHandle D). sum_by (λ _. 1) (view r.seat).taken) x xs in
       let mine : (view x.seat).taken ≡ [] = no_numbers (view x.seat).taken (omega arith) in
-      subst (λ (y : Reach D). (view y.seat).taken ≡ []) (some-injective x r at) mine
+      subst (λ (y : StealHandle D). (view y.seat).taken ≡ []) (some-injective x r at) mine
   none_taken (x ∷ xs) (suc i) r none at =
-      let a = sum_by-cons (λ (r : Reach D). sum_by (λ _. 1) (view r.seat).taken) x xs in
+      let a = sum_by-cons (λ (r : StealHandle D). sum_by (λ _. 1) (view r.seat).taken) x xs in
       none_taken xs i r (omega arith) at
 
   -- the seats before this one have found their deques empty, and this one is the worker's own
-  pub found_but_own : (all : List Piece) (own n : ℕ) (reaches : List (Reach D)) → n ≡ own
-      → FoundAllEmpty all own n reaches → FoundAllEmpty all own (n + 1) reaches
-  found_but_own all own n reaches is found k d in' other =
+  pub found_but_own : (all : List Piece) (own n : ℕ) (handles : List (StealHandle D)) → n ≡ own
+      → FoundAllEmpty all own n handles → FoundAllEmpty all own (n + 1) handles
+  found_but_own all own n handles is found k d in' other =
       ⊎_elim
       (λ (less : k < n). found k d less other)
       (λ (more : n ≤ k). absurd (other (let e : k ≡ n = omega arith in e ∙ is))) (cases_lt k n)
 
-  pub tag_same : {T P : Type 0} (owner : Worker T Global Tally P) (old new : List (Reach D)) (a b : ℕ)
+  pub tag_same : {T P : Type 0} (owner : Worker T Global Tally P) (old new : List (StealHandle D)) (a b : ℕ)
       → map seat_place new ≡ map seat_place old → b ≡ a → tag_of owner new b ≡ tag_of owner old a
   tag_same owner old new a b places parts =
       λ k. tag (owner_place owner) (worker_view owner).parts (places k) (parts k)
 
-  module _ (reaches : List (Reach D)) (i : ℕ) (old new : Reach D) (in' : i < length reaches)
-      (at : old ≡ get_or reaches i old) (same : (view new.seat).pushed ≡ (view old.seat).pushed) where
+  module _ (handles : List (StealHandle D)) (i : ℕ) (old new : StealHandle D) (in' : i < length handles)
+      (at : old ≡ get_or handles i old) (same : (view new.seat).pushed ≡ (view old.seat).pushed) where
     -- a seat took a piece: its place is the same
     pub seat_tag : {T P : Type 0} (owner : Worker T Global Tally P) (a b : ℕ)
         → stealer_deque new.thief ≡ stealer_deque old.thief → b ≡ a
-        → tag_of owner (set reaches i new) b ≡ tag_of owner reaches a
+        → tag_of owner (set handles i new) b ≡ tag_of owner handles a
     seat_tag owner a b deque parts =
         let stays = place_same (stealer_deque new.thief) (stealer_deque old.thief) (view new.seat).pushed
         (view old.seat).pushed deque same in
-        tag_same owner reaches (set reaches i new) a b (map_set seat_place reaches i old new at stays) parts
+        tag_same owner handles (set handles i new) a b (map_set seat_place handles i old new at stays) parts
 
     -- the seat of the worker's own deque is another one
     pub unused_still : (deque : Place) (own : ℕ) → i ≢ own → stealer_deque new.thief ≡ stealer_deque old.thief
-        → IsUnused deque own reaches → IsUnused deque own (set reaches i new)
+        → IsUnused deque own handles → IsUnused deque own (set handles i new)
     unused_still deque own other thief unused =
         let stays = place_same (stealer_deque new.thief) (stealer_deque old.thief) (view new.seat).pushed
         (view old.seat).pushed thief same in
         record {
           stands =
-              ap (λ (l : List Place). get_elem? l own) (map_set seat_place reaches i old new at stays) ∙ unused.stands;
-          none = λ reach there. unused.none reach (sym (set_else reaches i own new (λ e. other (sym e))) ∙ there);
+              ap (λ (l : List Place). get_elem? l own) (map_set seat_place handles i old new at stays) ∙ unused.stands;
+          none = λ handle there. unused.none handle (sym (set_else handles i own new (λ e. other (sym e))) ∙ there);
         }
 
     -- and before that not all was taken of the other deques
     pub fewer : (number : ℕ) (deque : Place) (own : ℕ) → i ≢ own
-        → stealer_deque new.thief ≡ stealer_deque old.thief → IsUnused deque own reaches
+        → stealer_deque new.thief ≡ stealer_deque old.thief → IsUnused deque own handles
         → (view new.seat).taken ≡ (view old.seat).taken ++ number ∷ []
-        → taken_by (λ _. 1) reaches + length deque.pushed < pushed_to reaches
+        → taken_by (λ _. 1) handles + length deque.pushed < pushed_to handles
     fewer number deque own other thief unused grown =
-        let a = sum_set (λ (r : Reach D). sum_by (λ _. 1) (view r.seat).taken) reaches i old new in' at in
-        let b = sum_set (λ (r : Reach D). length (view r.seat).pushed) reaches i old new in' at in
-        let m = no_more_of_others deque own (set reaches i new) (unused_still deque own other thief unused) in
+        let a = sum_set (λ (r : StealHandle D). sum_by (λ _. 1) (view r.seat).taken) handles i old new in' at in
+        let b = sum_set (λ (r : StealHandle D). length (view r.seat).pushed) handles i old new in' at in
+        let m = no_more_of_others deque own (set handles i new) (unused_still deque own other thief unused) in
         let p : length (view new.seat).pushed ≡ length (view old.seat).pushed = ap (λ l. length l) same in
         let g = ap (sum_by (λ _. 1)) grown in
         let o = sum_by-append (λ _. 1) (view old.seat).taken (number ∷ []) in
@@ -127,57 +127,58 @@ module _ {D : Type 0} where
 
     -- the seats have taken one piece more
     pub took_one : (weight : ℕ → ℕ) (number : ℕ) → (view new.seat).taken ≡ (view old.seat).taken ++ number ∷ []
-        → taken_by weight (set reaches i new) ≡ taken_by weight reaches + weight number
+        → taken_by weight (set handles i new) ≡ taken_by weight handles + weight number
     took_one weight number grown =
-        let a = sum_set (λ (r : Reach D). sum_by weight (view r.seat).taken) reaches i old new in' at in
+        let a = sum_set (λ (r : StealHandle D). sum_by weight (view r.seat).taken) handles i old new in' at in
         let g = ap (sum_by weight) grown in
         let o = sum_by_push weight (view old.seat).taken number in
         omega arith
 
     -- the seats have taken what they had
     pub took_none : (weight : ℕ → ℕ) → (view new.seat).taken ≡ (view old.seat).taken
-        → taken_by weight (set reaches i new) ≡ taken_by weight reaches
+        → taken_by weight (set handles i new) ≡ taken_by weight handles
     took_none weight none =
-        let a = sum_set (λ (r : Reach D). sum_by weight (view r.seat).taken) reaches i old new in' at in
+        let a = sum_set (λ (r : StealHandle D). sum_by weight (view r.seat).taken) handles i old new in' at in
         let e = ap (sum_by weight) none in
         omega arith
 
-    pub pushed_same : pushed_to (set reaches i new) ≡ pushed_to reaches
+    pub pushed_same : pushed_to (set handles i new) ≡ pushed_to handles
     pushed_same =
-        let b = sum_set (λ (r : Reach D). length (view r.seat).pushed) reaches i old new in' at in
+        let b = sum_set (λ (r : StealHandle D). length (view r.seat).pushed) handles i old new in' at in
         let p : length (view new.seat).pushed ≡ length (view old.seat).pushed = ap (λ l. length l) same in
         omega arith
 
   -- the seats before this one, when it has changed
 
-  pub found_before : (all : List Piece) (own i : ℕ) (reaches : List (Reach D)) (new : Reach D)
-      → FoundAllEmpty all own i reaches → FoundAllEmpty all own i (set reaches i new)
-  found_before all own i reaches new found k d in' other =
-      let same = get_or-set_other reaches i k new d (λ e. absurd (omega arith)) in
-      subst (λ (r : Reach D). FoundEmpty all (view r.seat)) (sym same) (found k d in' other)
+  pub found_before : (all : List Piece) (own i : ℕ) (handles : List (StealHandle D)) (new : StealHandle D)
+      → FoundAllEmpty all own i handles → FoundAllEmpty all own i (set handles i new)
+  found_before all own i handles new found k d in' other =
+      let same = get_or-set_other handles i k new d (λ e. absurd (omega arith)) in
+      subst (λ (r : StealHandle D). FoundEmpty all (view r.seat)) (sym same) (found k d in' other)
 
   -- and when it has found its deque empty
-  pub found_one_more : (all : List Piece) (own i : ℕ) (reaches : List (Reach D)) (new : Reach D) → i < length reaches
-      → FoundEmpty all (view new.seat) → FoundAllEmpty all own i reaches
-      → FoundAllEmpty all own (i + 1) (set reaches i new)
-  found_one_more all own i reaches new within mine found k d in' other =
+  pub found_one_more : (all : List Piece) (own i : ℕ) (handles : List (StealHandle D)) (new : StealHandle D)
+      → i < length handles
+      → FoundEmpty all (view new.seat) → FoundAllEmpty all own i handles
+      → FoundAllEmpty all own (i + 1) (set handles i new)
+  found_one_more all own i handles new within mine found k d in' other =
       ⊎_elim
-      (λ (less : k < i). found_before all own i reaches new found k d less other)
+      (λ (less : k < i). found_before all own i handles new found k d less other)
       (λ (more : i ≤ k).
       let e : i ≡ k = omega arith in
-      subst (λ (j : ℕ). FoundEmpty all (view (get_or (set reaches i new) j d).seat)) e
-      (subst (λ (r : Reach D). FoundEmpty all (view r.seat)) (sym (get_or-set_same reaches i new d within)) mine))
+      subst (λ (j : ℕ). FoundEmpty all (view (get_or (set handles i new) j d).seat)) e
+      (subst (λ (r : StealHandle D). FoundEmpty all (view r.seat)) (sym (get_or-set_same handles i new d within)) mine))
       (cases_lt k i)
 
   -- where not all was taken, there is room for one piece more of each kind
-  pub room : (taken : List ℕ) (reaches : List (Reach D)) (done late : List Piece) (refused : Option Piece)
+  pub room : (taken : List ℕ) (handles : List (StealHandle D)) (done uncounted : List Piece) (refused : Option Piece)
       (cap : ℕ)
-      → weigh (λ _. 1) done + weigh (λ _. 1) late + weigh (λ _. 1) (option_to_list refused)
-      ≡ sum_by (λ _. 1) taken + taken_by (λ _. 1) reaches
-      → length taken + taken_by (λ _. 1) reaches < cap
-      → (length done < cap) × (length late < cap)
-  room taken reaches done late refused cap matched less =
+      → weigh (λ _. 1) done + weigh (λ _. 1) uncounted + weigh (λ _. 1) (option_to_list refused)
+      ≡ sum_by (λ _. 1) taken + taken_by (λ _. 1) handles
+      → length taken + taken_by (λ _. 1) handles < cap
+      → (length done < cap) × (length uncounted < cap)
+  room taken handles done uncounted refused cap matched less =
       let a = ones taken in
       let b = ones done in
-      let d = ones late in
+      let d = ones uncounted in
       (omega arith, omega arith)

@@ -1,4 +1,4 @@
 pub mod Dealing
 pub mod Seats
-pub mod Bundles
-pub mod Lanes
+pub mod Contexts
+pub mod Slots

@@ -11,7 +11,7 @@ use Rattle.crossbeam_deque.specs.declared.handles.Worker.{Worker}
 use Rattle.pod_piece.specs.Piece.{Piece}
 use Rattle.piece_deques.specs.declared.rule.Tally.{Tally}
 use Rattle.piece_deques.specs.Rule.{FoundEmpty}
-use Rattle.pool_harvest.specs.declared.reach.Reach.{Reach}
+use Rattle.pool_harvest.specs.declared.handle.StealHandle.{StealHandle}
 
 -- which deque, and the numbers of the pieces that were pushed to it
 pub record Place : Type 0 where
@@ -22,20 +22,20 @@ abbrev pub place : RowsId × Global → List ℕ → Place
 place deque pushed = record { deque = deque; pushed = pushed }
 
 -- that of a seat
-abbrev pub seat_place : {D : Type 0} → Reach D → Place
-seat_place reach = place (stealer_deque reach.thief) (view reach.seat).pushed
+abbrev pub seat_place : {D : Type 0} → StealHandle D → Place
+seat_place handle = place (stealer_deque handle.thief) (view handle.seat).pushed
 
 -- that of an owner
 abbrev pub owner_place : {T P : Type 0} → Worker T Global Tally P → Place
 owner_place owner = place (worker_deque owner) (worker_view owner).pushed
 
 -- the numbers of the pieces that were taken by these seats, weighed and added up
-abbrev pub taken_by : {D : Type 0} → (ℕ → ℕ) → List (Reach D) → ℕ
-taken_by {D} weight reaches = sum_by (λ (reach : Reach D). sum_by weight (view reach.seat).taken) reaches
+abbrev pub taken_by : {D : Type 0} → (ℕ → ℕ) → List (StealHandle D) → ℕ
+taken_by {D} weight handles = sum_by (λ (handle : StealHandle D). sum_by weight (view handle.seat).taken) handles
 
 -- how many pieces were pushed to the deques of these seats
-abbrev pub pushed_to : {D : Type 0} → List (Reach D) → ℕ
-pushed_to {D} reaches = sum_by (λ (reach : Reach D). length (view reach.seat).pushed) reaches
+abbrev pub pushed_to : {D : Type 0} → List (StealHandle D) → ℕ
+pushed_to {D} handles = sum_by (λ (handle : StealHandle D). length (view handle.seat).pushed) handles
 
 -- how many pieces were pushed to these deques
 abbrev pub places_len : List Place → ℕ
@@ -50,11 +50,11 @@ abbrev pub IsInOrder : {T P : Type 0} → Stealer T Global Tally P → Type 0
 IsInOrder thief = stealer_flavor thief ≡ 0
 
 -- the seat that stands at this place is of this deque, and nothing was taken by it
-pub record IsUnused {D : Type 0} (deque : Place) (own : ℕ) (reaches : List (Reach D)) : Type 0 where
-  pub stands : get_elem? (map seat_place reaches) own ≡ some deque
-  pub none : (reach : Reach D) → get_elem? reaches own ≡ some reach → (view reach.seat).taken ≡ []
+pub record IsUnused {D : Type 0} (deque : Place) (own : ℕ) (handles : List (StealHandle D)) : Type 0 where
+  pub stands : get_elem? (map seat_place handles) own ≡ some deque
+  pub none : (handle : StealHandle D) → get_elem? handles own ≡ some handle → (view handle.seat).taken ≡ []
 
 -- each of the first n seats, but the one at the worker's own place, has found its deque empty
-abbrev pub FoundAllEmpty : {D : Type 0} → List Piece → ℕ → ℕ → List (Reach D) → Type 0
-FoundAllEmpty {D} all own n reaches =
-    (k : ℕ) (d : Reach D) → k < n → k ≢ own → FoundEmpty all (view (slice_index_or reaches k d).seat)
+abbrev pub FoundAllEmpty : {D : Type 0} → List Piece → ℕ → ℕ → List (StealHandle D) → Type 0
+FoundAllEmpty {D} all own n handles =
+    (k : ℕ) (d : StealHandle D) → k < n → k ≢ own → FoundEmpty all (view (slice_index_or handles k d).seat)

@@ -4,7 +4,7 @@ ghost use Rattle.std.specs.Prelude.{◌≡◌, ◌<◌, ◌≤◌, ◌+◌, ◌%
 ghost use Rattle.std.specs.List.{sum_by};
 ghost use Rattle.crossbeam_deque.specs.Handles.{worker_deque};
 ghost use Rattle.observations.specs.Limits.{most_pods};
-ghost use Rattle.piece_deques.specs.Rule.{number_of, IsDue};
+ghost use Rattle.piece_deques.specs.Rule.{number_of, IsPieceDue};
 ghost use Rattle.piece_deques.specs.Ends.{IsOpen, pushed_weight};
 ghost use Rattle.pool_harvest.specs.Done.{weigh};
 ghost use Rattle.pool_worker.specs.Dealing.{deal, pushed_of};
@@ -25,7 +25,7 @@ fn deque_of(piece: &PodPiece, deques: usize) -> usize
 pub(crate) fn deal<D: Deal>(owners: &mut Vec<Owner<D>>, pieces: Vec<PodPiece>)
     requires some { 0 < vec_len owners.old }
     requires few { vec_len pieces ≤ most_pods }
-    requires due { All (IsDue D.all) pieces.items }
+    requires due { All (IsPieceDue D.all) pieces.items }
     requires opened { All (IsOpen (vec_len pieces) 0) owners.old.items }
     ensures deques { map worker_deque owners.new.items ≡ map worker_deque owners.old.items }
     ensures opened { All (IsOpen (vec_len pieces) (vec_len pieces)) owners.new.items }

@@ -3,16 +3,16 @@
 //! it is taken before the first piece is dealt.
 #![tactic(auto)]
 
-mod bundle;
-mod bundles;
+mod buffers;
+mod context;
+mod contexts;
 mod deal;
-mod lane;
 pub mod laws;
-mod plan;
 mod seats;
+mod slot;
 mod work;
 
-pub use bundle::Bundle;
-pub use bundles::lay_out;
-pub use lane::Plan;
-pub use plan::make_plan;
+pub use buffers::make_buffers;
+pub use context::WorkerContext;
+pub use contexts::lay_out;
+pub use slot::RoundBuffers;

@@ -174,10 +174,11 @@ pub pass_comes : (startup : Option Probe) (start : ℕ) (ticks : List Tick) (nex
     → (IsTrue passed ↔ (IsTrue now × (IsTrue before → ⊥)))
     → (IsTrue before ↔ IsStarted startup start ticks) → (IsTrue now ↔ IsStarted startup start (ticks ++ next ∷ []))
     → (IsTrue passed ↔ IsSomeAnd startup (λ probe. IsPassTick probe start (ticks ++ next ∷ []) (length ticks)))
-pass_comes None start ticks next passed now before is was comes = ((λ t. (is.0 t).1 (was.1 tt)), (λ none. absurd none))
-pass_comes (Some p) start ticks next passed now before is was comes = (
-  (λ t. new.1 (comes.0 (is.0 t).0, (λ earlier. (is.0 t).1 (was.1 earlier)))),
-  (λ f. is.1 (comes.1 (new.0 f).0, (λ b. (new.0 f).1 (was.0 b)))),
+pass_comes None start ticks next passed now before is was became_true =
+    ((λ t. (is.0 t).1 (was.1 tt)), (λ none. absurd none))
+pass_comes (Some p) start ticks next passed now before is was became_true = (
+  (λ t. new.1 (became_true.0 (is.0 t).0, (λ earlier. (is.0 t).1 (was.1 earlier)))),
+  (λ f. is.1 (became_true.1 (new.0 f).0, (λ b. (new.0 f).1 (was.0 b)))),
 )
   where
     new : IsPassTick p start (ticks ++ next ∷ []) (length ticks)

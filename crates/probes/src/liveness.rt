@@ -4,7 +4,7 @@ ghost use Rattle.probes.specs.Liveness.{IsLivenessOf};
 
 use crate::configured::Configured;
 use crate::outcome::{belonging, is_failure};
-use crate::run_length::longer;
+use crate::run_length::extend_run;
 use manifest::Outcome;
 
 /// Follows the liveness probe of one instance over the ticks that count.
@@ -49,7 +49,7 @@ impl Liveness {
             return;
         };
         let limit = probe.failure_threshold();
-        self.failures = longer(self.failures, is_failure(outcome), limit);
+        self.failures = extend_run(self.failures, is_failure(outcome), limit);
         self.failed |= self.failures == limit;
     }
 }

@@ -90,7 +90,7 @@ impl ProbeSet {
         let ordered = self.kill_ordered();
         self.follow(at, startup, liveness, readiness);
         Verdicts {
-            passed: comes(started, self.started()),
+            passed: became_true(started, self.started()),
             kill: first_order(ordered, self.cause()),
             ready: self.ready(),
         }
@@ -168,7 +168,7 @@ impl ProbeSet {
 }
 
 /// Whether a fact comes true: it holds now and didn't before.
-fn comes(before: bool, now: bool) -> bool
+fn became_true(before: bool, now: bool) -> bool
     ensures { IsTrue result ↔ (IsTrue now × (IsTrue before → ⊥)) }
 {
     now && !before

@@ -4,7 +4,7 @@ ghost use Rattle.probes.specs.Readiness.{IsReadinessOf};
 
 use crate::configured::Configured;
 use crate::outcome::{belonging, is_failure, is_success};
-use crate::run_length::longer;
+use crate::run_length::extend_run;
 use manifest::Outcome;
 
 /// Follows the readiness probe of one instance over the ticks that count; without a probe it is
@@ -52,12 +52,12 @@ impl Readiness {
         let Some(outcome) = belonging(probe, age, outcome) else {
             return;
         };
-        self.successes = longer(
+        self.successes = extend_run(
             self.successes,
             is_success(outcome),
             probe.success_threshold(),
         );
-        self.failures = longer(
+        self.failures = extend_run(
             self.failures,
             is_failure(outcome),
             probe.failure_threshold(),

@@ -4,7 +4,7 @@ ghost use Rattle.probes.specs.Outcomes.{IsRunLength};
 
 /// How many results at the end have one outcome, counted up to a limit, after one more result that
 /// has it or not.
-pub fn longer(length: u32, has: bool, limit: u32) -> u32
+pub fn extend_run(length: u32, has: bool, limit: u32) -> u32
     ensures { (outcome next : Outcome) (results : List Outcome) → (IsTrue has ↔ (next ≡ outcome))
         → IsRunLength outcome limit results length → IsRunLength outcome limit (results ++ next ∷ []) result }
 {

@@ -20,8 +20,8 @@ pub(crate) enum Fault {
     Steps(StepsFault),
     /// The words ask for no job, or for help.
     Usage(UsageFault),
-    /// A word is no text.
-    Word,
+    /// An argument is not valid UTF-8.
+    Argument,
 }
 
 impl From<RunFault> for Fault {
@@ -56,7 +56,7 @@ impl From<io::Error> for Fault {
     fn from(error: io::Error) -> Fault {
         match error.kind() {
             ErrorKind::OutOfMemory => Fault::Run(RunFault::OutOfMemory),
-            ErrorKind::InvalidData => Fault::Word,
+            ErrorKind::InvalidData => Fault::Argument,
             _ => Fault::Run(RunFault::Read),
         }
     }
@@ -108,8 +108,8 @@ impl Fault {
             Fault::Usage(UsageFault::OutOfMemory) => ExitCode::from(status_of(
                 &RunFault::OutOfMemory,
             )),
-            Fault::Word => {
-                tell(rt, String::from_str(alloc, "a word is no text"));
+            Fault::Argument => {
+                tell(rt, String::from_str(alloc, "argument is not valid UTF-8"));
                 ExitCode::from(USAGE)
             }
         }

@@ -2,11 +2,11 @@
 use Rattle.std.specs.Prelude.{◌≡◌, ℕ, List}
 use Rattle.restarts.specs.declared.backoff.Backoff.{Backoff}
 use Rattle.restarts.specs.Exits.{Exit}
-use Rattle.restarts.specs.Delays.{IsDue}
+use Rattle.restarts.specs.Delays.{IsRestartDue}
 use Rattle.restarts.specs.Counts.{IsCountOf}
 
 -- the back-off's value after these exits, on a node with this greatest delay
-pub record IsStateOf (greatest : ℕ) (exits : List Exit) (backoff : Backoff) : Type 0 where
-  pub kept : backoff.greatest ≡ greatest
+pub record IsStateOf (max_restart_delay : ℕ) (exits : List Exit) (backoff : Backoff) : Type 0 where
+  pub kept : backoff.max_restart_delay ≡ max_restart_delay
   pub count : IsCountOf exits backoff.count
-  pub due : IsDue greatest exits backoff.due
+  pub due : IsRestartDue max_restart_delay exits backoff.due

@@ -9,33 +9,35 @@ use Rattle.restarts.specs.Backoff.{IsStateOf}
 
 abbrev pub EveryListHasOneDelay : Type 0
 EveryListHasOneDelay =
-    (greatest : ℕ) (exits : List Exit) →
-    ((delay : ℕ) × IsDelay greatest exits delay)
-    × ((c d : ℕ) → IsDelay greatest exits c → IsDelay greatest exits d → c ≡ d)
+    (max_restart_delay : ℕ) (exits : List Exit) →
+    ((delay : ℕ) × IsDelay max_restart_delay exits delay)
+    × ((c d : ℕ) → IsDelay max_restart_delay exits c → IsDelay max_restart_delay exits d → c ≡ d)
 
 abbrev pub DelayIsOneOfSeven : Type 0
 DelayIsOneOfSeven =
-    (greatest : ℕ) (exits : List Exit) (delay : ℕ) → greatest ≤ most_max_delay → IsDelay greatest exits delay
-    → Contains (0 ∷ map (min greatest) (10 ∷ 20 ∷ 40 ∷ 80 ∷ 160 ∷ 300 ∷ [])) delay
+    (max_restart_delay : ℕ) (exits : List Exit) (delay : ℕ) → max_restart_delay ≤ most_max_delay
+    → IsDelay max_restart_delay exits delay
+    → Contains (0 ∷ map (min max_restart_delay) (10 ∷ 20 ∷ 40 ∷ 80 ∷ 160 ∷ 300 ∷ [])) delay
 
 abbrev pub LongRunResets : Type 0
 LongRunResets =
-    (greatest : ℕ) (exits : List Exit) (moment run delay : ℕ) → long_run ≤ run
-    → IsDelay greatest (exits ++ recorded moment run ∷ []) delay → delay ≡ 0
+    (max_restart_delay : ℕ) (exits : List Exit) (moment run delay : ℕ) → long_run ≤ run
+    → IsDelay max_restart_delay (exits ++ recorded moment run ∷ []) delay → delay ≡ 0
 
 abbrev pub DelayDoesNotFall : Type 0
 DelayDoesNotFall =
-    (greatest : ℕ) (exits : List Exit) (moment run before after : ℕ) → run < long_run
-    → IsDelay greatest exits before → IsDelay greatest (exits ++ recorded moment run ∷ []) after → before ≤ after
+    (max_restart_delay : ℕ) (exits : List Exit) (moment run before after : ℕ) → run < long_run
+    → IsDelay max_restart_delay exits before → IsDelay max_restart_delay (exits ++ recorded moment run ∷ []) after
+    → before ≤ after
 
 abbrev pub DelayDoubles : Type 0
 DelayDoubles =
-    (greatest : ℕ) (exits : List Exit) (moment run before after : ℕ) → run < long_run → 0 < before
-    → IsDelay greatest exits before → IsDelay greatest (exits ++ recorded moment run ∷ []) after
-    → after ≡ min greatest (2 * before)
+    (max_restart_delay : ℕ) (exits : List Exit) (moment run before after : ℕ) → run < long_run → 0 < before
+    → IsDelay max_restart_delay exits before → IsDelay max_restart_delay (exits ++ recorded moment run ∷ []) after
+    → after ≡ min max_restart_delay (2 * before)
 
 abbrev pub LongRunForgets : Type 0
 LongRunForgets =
-    (greatest : ℕ) (earlier later : List Exit) (moment run : ℕ) (backoff : Backoff) → long_run ≤ run
-    → (IsStateOf greatest (earlier ++ recorded moment run ∷ later) backoff
-    ↔ IsStateOf greatest (recorded moment run ∷ later) backoff)
+    (max_restart_delay : ℕ) (earlier later : List Exit) (moment run : ℕ) (backoff : Backoff) → long_run ≤ run
+    → (IsStateOf max_restart_delay (earlier ++ recorded moment run ∷ later) backoff
+    ↔ IsStateOf max_restart_delay (recorded moment run ∷ later) backoff)

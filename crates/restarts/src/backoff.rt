@@ -1,4 +1,4 @@
-//! How long a restart is put off.
+//! How long a restart is backed off.
 
 ghost use Rattle.std.specs.Prelude.{◌≡◌, ◌+◌, ◌^◌, ◌<◌, ◌≤◌, ◌↔◌, ℕ, List, [], ◌∷◌, ◌++◌, IsTrue};
 ghost use Rattle.histories.specs.Histories.{recorded};
@@ -18,57 +18,58 @@ const FIRST_DELAY: u64 = 10;
 /// From this number on each delay is the greatest, whatever that is, so the count stops there.
 const LAST_COUNT: u32 = 7;
 
-/// The back-off of one container: how long its restarts are put off, by the exits so far.
+/// The back-off of one container: how long its restarts are backed off, by the exits so far.
 ///
 /// (Kubernetes, "Pod Lifecycle", "Container restart policy": a delay of 10 s, 20 s, 40 s and so on,
 /// up to a greatest of the node's. The first exit has none, and a run of 600 s begins the count
 /// anew.)
 #[derive(Clone, Copy, Debug, PartialEq, Eq)]
 pub struct Backoff {
-    greatest: u64,
+    max_restart_delay: u64,
     count: u32,
     due: Option<u64>,
-    ghost within: { greatest ≤ most_max_delay },
+    ghost within: { max_restart_delay ≤ most_max_delay },
     ghost counted: { count ≤ 7 },
 }
 
 impl Backoff {
-    ghost use Rattle.restarts.specs.Delays.{IsDelay, IsDue};
+    ghost use Rattle.restarts.specs.Delays.{IsDelay, IsRestartDue};
     ghost use Rattle.restarts.specs.Backoff.{IsStateOf};
 
     /// No exit yet, on a node with this greatest delay.
-    pub fn new(greatest: MaxRestartDelay) -> Backoff
-        ensures { IsStateOf greatest [] result }
+    pub fn new(max_restart_delay: MaxRestartDelay) -> Backoff
+        ensures { IsStateOf max_restart_delay [] result }
     {
         Backoff {
-            greatest: greatest.get(),
+            max_restart_delay: max_restart_delay.get(),
             count: 0,
             due: None,
         }
     }
 
     /// Takes the next exit, at the moment `at` (in seconds) and after a run of so many seconds (0
-    /// without a start), and answers by how many seconds its restart is put off. Every exit counts,
+    /// without a start), and answers by how many seconds its restart is backed off. Every exit counts,
     /// also one after which no restart is wanted. Exits come in the order of their moments, and
     /// those of one moment in that of their attempts.
     pub fn exited(&mut self, run_seconds: u64, at: u64) -> u64
         requires { at < 2 ^ 40 }
-        ensures state { (greatest : ℕ) (exits : List Exit)
-            → IsStateOf greatest exits self.old
-            → IsStateOf greatest (exits ++ recorded at run_seconds ∷ []) self.new }
-        ensures delay { (greatest : ℕ) (exits : List Exit)
-            → IsStateOf greatest exits self.old
-            → IsDelay greatest (exits ++ recorded at run_seconds ∷ []) result }
+        ensures state { (max_restart_delay : ℕ) (exits : List Exit)
+            → IsStateOf max_restart_delay exits self.old
+            → IsStateOf max_restart_delay (exits ++ recorded at run_seconds ∷ []) self.new }
+        ensures delay { (max_restart_delay : ℕ) (exits : List Exit)
+            → IsStateOf max_restart_delay exits self.old
+            → IsDelay max_restart_delay (exits ++ recorded at run_seconds ∷ []) result }
     {
         self.count = count_after(self.count, run_seconds);
-        let delay = delay_after(self.count, self.greatest);
+        let delay = delay_after(self.count, self.max_restart_delay);
         self.due = Some(at + delay);
         delay
     }
 
     /// From which moment on the restart after the last exit is due; `None` before any exit.
     pub fn due(&self) -> Option<u64>
-        ensures { (greatest : ℕ) (exits : List Exit) → IsStateOf greatest exits self.now → IsDue greatest exits result }
+        ensures { (max_restart_delay : ℕ) (exits : List Exit) → IsStateOf max_restart_delay exits self.now
+            → IsRestartDue max_restart_delay exits result }
     {
         self.due
     }
@@ -98,13 +99,13 @@ fn is_long(run_seconds: u64) -> bool
 }
 
 /// The delay of an exit with this number.
-fn delay_after(number: u32, greatest: u64) -> u64
+fn delay_after(number: u32, max_restart_delay: u64) -> u64
     requires { number ≤ 7 }
-    ensures { result ≡ delay_of greatest number }
+    ensures { result ≡ delay_of max_restart_delay number }
 {
     if number < 2 {
         0
     } else {
-        (FIRST_DELAY * 2u64.pow(number - 2)).min(greatest)
+        (FIRST_DELAY * 2u64.pow(number - 2)).min(max_restart_delay)
     }
 }

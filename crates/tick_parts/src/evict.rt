@@ -53,7 +53,7 @@ pub fn eviction_for(
 pub fn carry_out(pods: &mut NodePods, eviction: Option<Eviction>)
     requires { MayBeEvicted pods.old.pieces eviction }
     ensures pieces { AreWithout pods.old.pieces eviction pods.new.pieces }
-    ensures greatest { pods.new.greatest ≡ pods.old.greatest }
+    ensures max_restart_delay { pods.new.max_restart_delay ≡ pods.old.max_restart_delay }
     ensures dedicated { pods.new.has_dedicated_imagefs ≡ pods.old.has_dedicated_imagefs }
 {
     if let Some(eviction) = eviction {

@@ -15,7 +15,7 @@ use Rattle.observations.specs.declared.tick.TickObs.{TickObs}
 use Rattle.observations.specs.Limits.{most_pods}
 use Rattle.node_signals.specs.declared.key.ThresholdKey.{ThresholdKey}
 use Rattle.pod_state.specs.Pods.{PodTick, pod_tick}
-use Rattle.pod_piece.specs.declared.piece.Eviction.{Eviction as EvictionOfPod}
+use Rattle.pod_piece.specs.declared.piece.EvictionRecord.{EvictionRecord}
 use Rattle.pod_piece.specs.declared.status.PodStatus.{PodStatus}
 use Rattle.pod_piece.specs.Piece.{Piece, new_piece, pods_in}
 use Rattle.ranking.proofs.LawLemmas.{same_victim}
@@ -49,9 +49,17 @@ unshown (x ∷ ticks) n none =
     (ap option_flatten (slice_get_past x.pods n (none 0 x refl)))
     ∙ unshown ticks n (λ t tick at. none (suc t) tick at)
 
-abbrev piece_of : ℕ → PodSpec → ℕ → List PodTick → Option EvictionOfPod → Piece
-piece_of number pod greatest handed eviction =
-    record { number = number; pod = pod; greatest = greatest; handed = handed; is_pending = false; eviction = eviction }
+abbrev piece_of : ℕ → PodSpec → ℕ → List PodTick → Option EvictionRecord → Piece
+piece_of number pod max_restart_delay handed eviction =
+    record {
+      number = number;
+      pod = pod;
+      max_restart_delay = max_restart_delay;
+      handed = handed;
+      is_pending =
+          false;
+      eviction = eviction;
+    }
 
 -- the round of an earlier tick does not see the pod
 same_round : (config : NodeConfig) (pods : List PodSpec) (pod : PodSpec) (before : List TickObs) (tick : TickObs)
@@ -125,7 +133,7 @@ abbrev with_arrived : State → PodSpec → State
 with_arrived s pod = state s.config s.signals (with_pod s.pods pod) s.evictions s.events s.totals s.last
 
 abbrev pieces_with : State → PodSpec → List Piece
-pieces_with s pod = s.pods.pieces ++ new_piece (length s.pods.pieces) pod s.pods.greatest ∷ []
+pieces_with s pod = s.pods.pieces ++ new_piece (length s.pods.pieces) pod s.pods.max_restart_delay ∷ []
 
 -- it has no eviction
 never : (pods : List PodSpec) (ticks : List TickObs) (s : State) → HasTaken pods ticks s
@@ -151,17 +159,17 @@ newest pods ticks s pod n p taken here same =
     let many : length s.pods.pieces ≡ length pods = taken.pieces.as_many in
     let none : [] ≡ pod_ticks ticks (length pods) = sym (unshown ticks (length pods) taken.shown) in
     let last : slice_get (pieces_with s pod) (length pods)
-    ≡ Some (new_piece (length s.pods.pieces) pod s.pods.greatest) =
+    ≡ Some (new_piece (length s.pods.pieces) pod s.pods.max_restart_delay) =
     subst
-    (λ (k : ℕ). slice_get (pieces_with s pod) k ≡ Some (new_piece (length s.pods.pieces) pod s.pods.greatest))
-    many (slice_get-new s.pods.pieces (new_piece (length s.pods.pieces) pod s.pods.greatest)) in
+    (λ (k : ℕ). slice_get (pieces_with s pod) k ≡ Some (new_piece (length s.pods.pieces) pod s.pods.max_restart_delay))
+    many (slice_get-new s.pods.pieces (new_piece (length s.pods.pieces) pod s.pods.max_restart_delay)) in
     let delay = s.config.max_restart_delay in
     let done : slice_get (pieces_with s pod) (length pods)
     ≡ Some (piece_after s.config ticks s.evictions (length pods) pod) =
-    last ∙ ap (λ (k : ℕ). Some (piece_of k pod s.pods.greatest [] None)) many
-    ∙ ap (λ (k : ℕ). Some (piece_of (length pods) pod k [] None)) taken.greatest
+    last ∙ ap (λ (k : ℕ). Some (piece_of k pod s.pods.max_restart_delay [] None)) many
+    ∙ ap (λ (k : ℕ). Some (piece_of (length pods) pod k [] None)) taken.max_restart_delay
     ∙ ap (λ (h : List PodTick). Some (piece_of (length pods) pod delay h None)) none
-    ∙ ap (λ (e : Option EvictionOfPod). Some (piece_of (length pods) pod delay (pod_ticks ticks (length pods)) e))
+    ∙ ap (λ (e : Option EvictionRecord). Some (piece_of (length pods) pod delay (pod_ticks ticks (length pods)) e))
     (sym (never pods ticks s taken)) in
     let P : ℕ → Type 0 = λ k.
     slice_get (pieces_with s pod) k ≡ Some (piece_after s.config ticks s.evictions k pod) in
@@ -180,10 +188,15 @@ arrives pods ticks s pod taken room = record {
   };
   pieces = record {
     as_many =
-        omega (arith, many, more, length-more s.pods.pieces (new_piece (length s.pods.pieces) pod s.pods.greatest));
+        omega (
+          arith,
+          many,
+          more,
+          length-more s.pods.pieces (new_piece (length s.pods.pieces) pod s.pods.max_restart_delay),
+        );
     each = λ n p at. elim (place_split pods pod p n at) [
       | inl old ↦
-          get_left s.pods.pieces (new_piece (length s.pods.pieces) pod s.pods.greatest) n
+          get_left s.pods.pieces (new_piece (length s.pods.pieces) pod s.pods.max_restart_delay) n
           (piece_after s.config ticks s.evictions n p) (taken.pieces.each n p old)
       | inr w ↦ newest pods ticks s pod n p taken w.0 w.1
     ];
@@ -191,7 +204,7 @@ arrives pods ticks s pod taken room = record {
   events = events_arrived s.config pods pod ticks s.evictions s.events taken.events;
   totals = taken.totals;
   signals = taken.signals;
-  greatest = taken.greatest;
+  max_restart_delay = taken.max_restart_delay;
   dedicated = taken.dedicated;
   shown = λ t tick at. let le : length tick.pods ≤ length pods = taken.shown t tick at in omega (arith, le, more);
   last_is = taken.last_is;

@@ -40,7 +40,7 @@ use Rattle.tick_parts.specs.Evict.{IsEvictionAt, AreWithout}
 use Rattle.tick_parts.specs.Update.{AreUpTo, MayUpdate, AreEntered}
 use Rattle.tick_parts.proofs.Evicts.{get_pod}
 use Rattle.tick_parts.proofs.Updates.{sums_low}
-use Rattle.tick_round.specs.declared.begun.Begun.{Begun}
+use Rattle.tick_round.specs.declared.tick_in_progress.TickInProgress.{TickInProgress}
 use Rattle.tick_round.specs.Node.{State, state, ArePieces, HasTaken, Fits}
 use Rattle.tick_round.specs.Node.{last_of, IsAfter}
 use Rattle.tick_round.specs.Round.{most_of_tick, AreFew, IsKept, IsSampled, HasBegun, AreUpdated, MayEnd}
@@ -64,7 +64,7 @@ starts config signals s = record {
   events = no_events config [];
   totals = refl;
   signals = s;
-  greatest = refl;
+  max_restart_delay = refl;
   dedicated = refl;
   shown = λ t tick at. absurd (cc);
   last_is = refl;
@@ -129,50 +129,52 @@ without config pods ticks es x served (Some e) old new len present are by evicte
     let shown = some_given (shown_of x e.pod) ((present e.pod candidate.piece candidate.at).0 candidate.present) in
     pieces_evicted config pods ticks es x e old new may.0 shown.0 len shown.1 are candidate evicted
 
-pub goes_on : (pods : List PodSpec) (ticks : List TickObs) (s : State) (x : TickObs) (begun : Begun)
+pub goes_on : (pods : List PodSpec) (ticks : List TickObs) (s : State) (x : TickObs) (begun : TickInProgress)
     (back : List Piece) (totals : Totals) (mid : List Piece) (new : Pods) (eviction : Option Eviction)
     (evs : List Event) → HasTaken pods ticks s → MayEnd s x begun back totals → AreAfter s.pods.pieces x.pods mid
     → IsEvictionAt s.config mid x.at (unless_paused (is_paused s.config x.at s.evictions) begun.served) eviction
     → AddsEvents x.at mid begun.news.items eviction s.events evs → AreWithout mid eviction new.pieces
-    → new.greatest ≡ s.pods.greatest → new.has_dedicated_imagefs ≡ s.pods.has_dedicated_imagefs
+    → new.max_restart_delay ≡ s.pods.max_restart_delay → new.has_dedicated_imagefs ≡ s.pods.has_dedicated_imagefs
     → HasTaken pods (ticks ++ x ∷ [])
     (state s.config begun.signals new (s.evictions ++ eviction ∷ []) evs totals (Some x.at))
-goes_on pods ticks s x begun back totals mid new eviction evs taken may after by adds gone greatest dedicated = record {
-  replay = replay_more s.config pods ticks s.evictions x eviction taken.replay
-      (round_of s.config pods ticks x s.evictions mid begun.served eviction present now_pieces served by);
-  pieces = without s.config pods ticks s.evictions x
-      (unless_paused (is_paused s.config x.at s.evictions) begun.served) eviction mid new.pieces len present now_pieces
-      by gone;
-  events = subst (λ (es : List Event). AreEvents s.config pods (ticks ++ x ∷ []) (s.evictions ++ eviction ∷ []) es)
-      (sym adds.added)
-      (events_more s.config pods ticks s.evictions s.events (part adds.made) x eviction len taken.events (record {
-        made = adds.made;
-        are_made = made_by s.config pods ticks s.evictions x mid adds.made taken.replay shown present now_pieces
-            adds.are_made;
-        news = begun.news.items;
-        are_news = may.has_begun.sampled.news_are ticks taken.signals;
-        in_order = refl;
-      }));
-  totals = may.updated.entered.totals ∙ ap (λ (t : Totals). plus t (sums_of entries)) taken.totals
-      ∙ sym (totals_more ticks x s.events x.at adds.made begun.news.items eviction entries
-      (entries_by pods ticks s x mid back adds.made entries may.fits after now_pieces present adds.are_made
-      may.updated.back_are may.updated.entered.are_entries))
-      ∙ ap (λ (es : List Event). totals_of (ticks ++ x ∷ []) es) (sym adds.added);
-  signals = now;
-  greatest = greatest ∙ taken.greatest;
-  dedicated = dedicated ∙ taken.dedicated;
-  shown = λ t tick at. elim (place_split ticks x tick t at) [
-    | inl old ↦ taken.shown t tick old
-    | inr v ↦
-        let same : length x.pods ≡ length tick.pods = ap (λ (y : TickObs). length y.pods) v.1 in
-        omega (arith, same, shown)
-  ];
-  last_is = sym (last_more ticks x);
-  few_ticks =
-      let few : length s.evictions < 20000 = may.fits.few in
-      omega (arith, few, len, length-more ticks x);
-  few_pods = taken.few_pods;
-}
+goes_on pods ticks s x begun back totals mid new eviction evs taken may after by adds gone max_restart_delay
+    dedicated = record {
+      replay = replay_more s.config pods ticks s.evictions x eviction taken.replay
+          (round_of s.config pods ticks x s.evictions mid begun.served eviction present now_pieces served by);
+      pieces = without s.config pods ticks s.evictions x
+          (unless_paused (is_paused s.config x.at s.evictions) begun.served) eviction mid new.pieces len present
+          now_pieces
+          by gone;
+      events = subst (λ (es : List Event). AreEvents s.config pods (ticks ++ x ∷ []) (s.evictions ++ eviction ∷ []) es)
+          (sym adds.added)
+          (events_more s.config pods ticks s.evictions s.events (part adds.made) x eviction len taken.events (record {
+            made = adds.made;
+            are_made = made_by s.config pods ticks s.evictions x mid adds.made taken.replay shown present now_pieces
+                adds.are_made;
+            news = begun.news.items;
+            are_news = may.has_begun.sampled.news_are ticks taken.signals;
+            in_order = refl;
+          }));
+      totals = may.updated.entered.totals ∙ ap (λ (t : Totals). plus t (sums_of entries)) taken.totals
+          ∙ sym (totals_more ticks x s.events x.at adds.made begun.news.items eviction entries
+          (entries_by pods ticks s x mid back adds.made entries may.fits after now_pieces present adds.are_made
+          may.updated.back_are may.updated.entered.are_entries))
+          ∙ ap (λ (es : List Event). totals_of (ticks ++ x ∷ []) es) (sym adds.added);
+      signals = now;
+      max_restart_delay = max_restart_delay ∙ taken.max_restart_delay;
+      dedicated = dedicated ∙ taken.dedicated;
+      shown = λ t tick at. elim (place_split ticks x tick t at) [
+        | inl old ↦ taken.shown t tick old
+        | inr v ↦
+            let same : length x.pods ≡ length tick.pods = ap (λ (y : TickObs). length y.pods) v.1 in
+            omega (arith, same, shown)
+      ];
+      last_is = sym (last_more ticks x);
+      few_ticks =
+          let few : length s.evictions < 20000 = may.fits.few in
+          omega (arith, few, len, length-more ticks x);
+      few_pods = taken.few_pods;
+    }
   where
     len : length s.evictions ≡ length ticks
     len = taken.replay.as_many
@@ -199,7 +201,7 @@ goes_on pods ticks s x begun back totals mid new eviction evs taken may after by
     part made = of_pods x.at 0 made ++ (of_node x.at begun.news.items ++ of_eviction x.at eviction)
 
 -- the pieces once those that went out are back
-pub after_back : (pods : List PodSpec) (ticks : List TickObs) (s : State) (x : TickObs) (begun : Begun)
+pub after_back : (pods : List PodSpec) (ticks : List TickObs) (s : State) (x : TickObs) (begun : TickInProgress)
     (back : List Piece) (totals : Totals) → HasTaken pods ticks s → MayEnd s x begun back totals
     → AreAfter s.pods.pieces x.pods (joined begun.pods back).pieces
 after_back pods ticks s x begun back totals taken may =
@@ -215,17 +217,18 @@ after_back pods ticks s x begun back totals taken may =
         ap (λ (p : Piece). p.number) (pod_at s.config pods ticks s.evictions s.pods.pieces n piece taken.pieces at).2
 
 -- the node that has ended the tick
-pub ends : (pods : List PodSpec) (ticks : List TickObs) (s : State) (x : TickObs) (begun : Begun)
+pub ends : (pods : List PodSpec) (ticks : List TickObs) (s : State) (x : TickObs) (begun : TickInProgress)
     (back : List Piece) (totals : Totals) (between new : Pods) (key : Option ThresholdKey)
     (eviction : Option Eviction) (evs : List Event) (es : List (Option Eviction))
     → HasTaken pods ticks s → MayEnd s x begun back totals → between ≡ joined begun.pods back
     → key ≡ unless_paused (is_paused begun.config begun.at begun.evictions.items) begun.served
     → IsEvictionAt begun.config between.pieces begun.at key eviction
     → AddsEvents begun.at between.pieces begun.news.items eviction begun.events.items evs
-    → AreWithout between.pieces eviction new.pieces → new.greatest ≡ between.greatest
+    → AreWithout between.pieces eviction new.pieces → new.max_restart_delay ≡ between.max_restart_delay
     → new.has_dedicated_imagefs ≡ between.has_dedicated_imagefs → es ≡ begun.evictions.items ++ eviction ∷ []
     → HasTaken pods (ticks ++ x ∷ []) (state begun.config begun.signals new es evs totals (Some begun.at))
-ends pods ticks s x begun back totals between new key eviction evs es taken may is heeds by adds gone greatest dedicated
+ends pods ticks s x begun back totals between new key eviction evs es taken may is heeds by adds gone
+    max_restart_delay dedicated
     more =
     subst (λ (c : NodeConfig). HasTaken pods all (state c begun.signals new es evs totals (Some begun.at)))
     (sym b.config)
@@ -234,7 +237,7 @@ ends pods ticks s x begun back totals between new key eviction evs es taken may 
     (state s.config begun.signals new l evs totals (Some x.at)))
     (sym (more ∙ ap (λ (l : List (Option Eviction)). l ++ eviction ∷ []) b.evictions))
     (goes_on pods ticks s x begun back totals between.pieces new eviction evs taken may after by' adds' gone
-    (greatest ∙ ap (λ (p : Pods). p.greatest) is ∙ ap (λ (a : Awaited). a.greatest) b.pods)
+    (max_restart_delay ∙ ap (λ (p : Pods). p.max_restart_delay) is ∙ ap (λ (a : Awaited). a.max_restart_delay) b.pods)
     (dedicated ∙ ap (λ (p : Pods). p.has_dedicated_imagefs) is
     ∙ ap (λ (a : Awaited). a.has_dedicated_imagefs) b.pods))))
   where
@@ -283,9 +286,9 @@ heeds_as config at es others served key same is =
     is ∙ ap (λ (l : List (Option Eviction)). unless_paused (is_paused config at l) served) same
 
 -- a node that has begun a tick, as its type keeps it
-pub begun_as : (s t : State) (x : TickObs) (b : Begun) → s ≡ t → b.config ≡ s.config
+pub begun_as : (s t : State) (x : TickObs) (b : TickInProgress) → s ≡ t → b.config ≡ s.config
     → IsSampled s.config s.signals x b.signals b.news.items b.served
-    → b.pods ≡ awaited (kept_of s.pods.pieces x.pods) s.pods.greatest s.pods.has_dedicated_imagefs
+    → b.pods ≡ awaited (kept_of s.pods.pieces x.pods) s.pods.max_restart_delay s.pods.has_dedicated_imagefs
     → b.evictions.items ≡ s.evictions → b.events.items ≡ s.events → b.at ≡ x.at → HasBegun t x b
 begun_as s t x b same config sampled pods evictions events at =
     subst (λ (u : State). HasBegun u x b) same (record {
@@ -343,7 +346,7 @@ room_more n pieces old new room entered few many =
       orders = omega (arith, room.orders, o, orders, as_many, many);
     }
 
-pub ends_kept : (s : State) (x : TickObs) (begun : Begun) (back : List Piece) (totals : Totals) (next : State)
+pub ends_kept : (s : State) (x : TickObs) (begun : TickInProgress) (back : List Piece) (totals : Totals) (next : State)
     → (kept : IsKept s) → MayEnd s x begun back totals
     → HasTaken (pods_in s.pods.pieces) (kept.ticks ++ x ∷ []) next → next.totals ≡ totals → IsKept next
 ends_kept s x begun back totals next kept may taken same =

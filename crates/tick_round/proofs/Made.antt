@@ -15,7 +15,7 @@ use Rattle.observations.specs.Observations.{shown_of}
 use Rattle.pod_state.specs.declared.events.PodEvent.{PodEvent}
 use Rattle.pod_state.specs.Pods.{PodTick, pod_tick}
 use Rattle.pod_state.specs.Events.{AreEventsOf}
-use Rattle.pod_piece.specs.declared.piece.Eviction.{Eviction as EvictionOfPod}
+use Rattle.pod_piece.specs.declared.piece.EvictionRecord.{EvictionRecord}
 use Rattle.pod_piece.specs.Piece.{Piece, last_of, place_of, evicted_before, with_tick, updated, with_number}
 use Rattle.pod_piece.specs.Status.{AreEventsAfter, AreLastEvents}
 use Rattle.pod_piece.proofs.PieceLemmas.{before_is}
@@ -36,19 +36,20 @@ use Rattle.tick_round.proofs.Pieces.{fewer}
 use Rattle.tick_round.proofs.Candidates.{ArePresent}
 
 -- the events of a pod's newest tick
-events_of_last : (pod : PodSpec) (greatest : ℕ) (evicted : Option ℕ) (before : List PodTick) (tick : PodTick)
+events_of_last : (pod : PodSpec) (max_restart_delay : ℕ) (evicted : Option ℕ) (before : List PodTick) (tick : PodTick)
     (events : List PodEvent) → IfSome evicted (λ place. place < length before)
-    → AreEventsAfter pod greatest evicted (before ++ tick ∷ []) events
-    → AreEventsOf pod greatest evicted before tick events
-events_of_last pod greatest evicted before tick events lt are =
+    → AreEventsAfter pod max_restart_delay evicted (before ++ tick ∷ []) events
+    → AreEventsOf pod max_restart_delay evicted before tick events
+events_of_last pod max_restart_delay evicted before tick events lt are =
     let P : List PodTick → Option PodTick → Type 0 = λ h o.
     MatchOption o (events ≡ [])
-    (λ (t : PodTick). AreEventsOf pod greatest (evicted_before evicted (length h)) h t events) in
+    (λ (t : PodTick). AreEventsOf pod max_restart_delay (evicted_before evicted (length h)) h t events) in
     let whole = before ++ tick ∷ [] in
     let at : P before (last_of whole) =
     subst (λ (h : List PodTick). P h (last_of whole)) (front_more before tick) are in
     let now : P before (Some tick) = subst (λ (o : Option PodTick). P before o) (last_more before tick) at in
-    subst (λ (e : Option ℕ). AreEventsOf pod greatest e before tick events) (before_is evicted (length before) lt) now
+    subst (λ (e : Option ℕ). AreEventsOf pod max_restart_delay e before tick events)
+    (before_is evicted (length before) lt) now
 
 -- what was found is an eviction of the pod
 found_is : (n : ℕ) (es : List (Option Eviction)) (f : EvictedAt) → evicted_at n es ≡ Some f
@@ -137,7 +138,7 @@ made_by config pods ticks es x pieces made replay shown present are by = record 
       (pod_ticks-more ticks x n observed is) last in
       events_of_last pod config.max_restart_delay (place_of (own_eviction n ticks es)) (pod_ticks ticks n)
       (pod_tick observed) events (evicted_by_own config pods ticks es n replay)
-      (subst (λ (e : Option EvictionOfPod). AreEventsAfter pod config.max_restart_delay (place_of e) whole events) own
+      (subst (λ (e : Option EvictionRecord). AreEventsAfter pod config.max_restart_delay (place_of e) whole events) own
       handed);
   absent = λ n events none found.
       let lt : n < length made = slice_get_within made n events found in

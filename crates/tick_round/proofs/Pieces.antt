@@ -20,7 +20,7 @@ use Rattle.phase.specs.RawPhase.{IsTerminal}
 use Rattle.phase.proofs.DecideLemmas.{terminal_cases}
 use Rattle.pod_state.specs.Pods.{PodTick, pod_tick, EndsPod, IsPhase}
 use Rattle.pod_state.proofs.EndLemmas.{lives}
-use Rattle.pod_piece.specs.declared.piece.Eviction.{Eviction as EvictionOfPod}
+use Rattle.pod_piece.specs.declared.piece.EvictionRecord.{EvictionRecord}
 use Rattle.pod_piece.specs.declared.status.PodStatus.{PodStatus}
 use Rattle.pod_piece.specs.Piece.{Piece}
 use Rattle.pod_piece.specs.Status.{IsStatusOf}
@@ -32,9 +32,17 @@ use Rattle.node_pods.specs.Pods.{IsCandidate, AreAfter, AreEvicted}
 use Rattle.tick_round.specs.Node.{piece_after, ArePieces}
 
 -- a piece by its fields
-abbrev made : ℕ → PodSpec → ℕ → List PodTick → Option EvictionOfPod → Piece
-made number pod greatest handed eviction =
-    record { number = number; pod = pod; greatest = greatest; handed = handed; is_pending = false; eviction = eviction }
+abbrev made : ℕ → PodSpec → ℕ → List PodTick → Option EvictionRecord → Piece
+made number pod max_restart_delay handed eviction =
+    record {
+      number = number;
+      pod = pod;
+      max_restart_delay = max_restart_delay;
+      handed = handed;
+      is_pending =
+          false;
+      eviction = eviction;
+    }
 
 -- the pod at a place, of a piece at that place
 pub pod_at : (config : NodeConfig) (pods : List PodSpec) (ticks : List TickObs) (es : List (Option Eviction))
@@ -117,7 +125,7 @@ candidate_not_evicted config pods ticks es x pieces n status shown len present a
     none here.0 shown present (own_eviction n ticks es) (λ e found. before e found)
     (own_eviction-longer n ticks x es len) is.lifecycle.phase
   where
-    before : (e : EvictionOfPod) → own_eviction n ticks es ≡ Some e → e.place ≤ length (pod_ticks ticks n)
+    before : (e : EvictionRecord) → own_eviction n ticks es ≡ Some e → e.place ≤ length (pod_ticks ticks n)
     before e found = by (evicted_at n es) found
       where
         by : (o : Option EvictedAt)
@@ -127,14 +135,15 @@ candidate_not_evicted config pods ticks es x pieces n status shown len present a
         by None f = absurd (cc)
         by (Some f) is =
             let same : record { place = length (pod_ticks (take f.tick ticks) n); order = f.order } ≡ e = cc in
-            let place : length (pod_ticks (take f.tick ticks) n) ≡ e.place = ap (λ (v : EvictionOfPod). v.place) same in
+            let place : length (pod_ticks (take f.tick ticks) n) ≡ e.place =
+            ap (λ (v : EvictionRecord). v.place) same in
             let le : length (pod_ticks (take f.tick ticks) n) ≤ length (pod_ticks ticks n) =
             fewer ticks f.tick n in omega arith
 
-    none : (pod : PodSpec) (o : PodObs) → shown_of x n ≡ Some o → (e : Option EvictionOfPod)
-        → ((v : EvictionOfPod) → e ≡ Some v → v.place ≤ length (pod_ticks ticks n))
+    none : (pod : PodSpec) (o : PodObs) → shown_of x n ≡ Some o → (e : Option EvictionRecord)
+        → ((v : EvictionRecord) → e ≡ Some v → v.place ≤ length (pod_ticks ticks n))
         → own_eviction n (ticks ++ x ∷ []) es ≡ e
-        → IsPhase pod (option_map (λ (v : EvictionOfPod). v.place) (own_eviction n (ticks ++ x ∷ []) es))
+        → IsPhase pod (option_map (λ (v : EvictionRecord). v.place) (own_eviction n (ticks ++ x ∷ []) es))
         (pod_ticks (ticks ++ x ∷ []) n) status.phase
         → own_eviction n (ticks ++ x ∷ []) es ≡ None
     none pod o at None below is phase = is
@@ -143,7 +152,7 @@ candidate_not_evicted config pods ticks es x pieces n status shown len present a
         let grown : length (pod_ticks (ticks ++ x ∷ []) n) ≡ suc (length (pod_ticks ticks n)) =
         ap length (pod_ticks-more ticks x n o at) ∙ length-more (pod_ticks ticks n) (pod_tick o) in
         let now : IsPhase pod (Some v.place) (pod_ticks (ticks ++ x ∷ []) n) status.phase =
-        subst (λ (e : Option EvictionOfPod). IsPhase pod (option_map (λ (v : EvictionOfPod). v.place) e)
+        subst (λ (e : Option EvictionRecord). IsPhase pod (option_map (λ (v : EvictionRecord). v.place) e)
         (pod_ticks (ticks ++ x ∷ []) n) status.phase) is phase in
         absurd (candidate.lives
         (evicted_ends pod v.place (pod_ticks (ticks ++ x ∷ []) n) status.phase now (omega arith)))
@@ -171,13 +180,13 @@ pieces_evicted config pods ticks es x e old new status shown len present are can
         ∙ ap (λ (k : ℕ). Some
         (made e.pod pod config.max_restart_delay (pod_ticks (ticks ++ x ∷ []) e.pod)
         (Some (record { place = k; order = e.order })))) last
-        ∙ ap (λ (v : Option EvictionOfPod). Some
+        ∙ ap (λ (v : Option EvictionRecord). Some
         (made e.pod pod config.max_restart_delay (pod_ticks (ticks ++ x ∷ []) e.pod) v)) (sym now) in
         subst (λ (k : ℕ). slice_get new k ≡ Some (piece_after config (ticks ++ x ∷ []) (es ++ Some e ∷ []) k pod))
         (sym here) done
     | inr apart ↦
         evicted.others n apart ∙ are.each n pod at
-        ∙ ap (λ (v : Option EvictionOfPod). Some
+        ∙ ap (λ (v : Option EvictionRecord). Some
         (made n pod config.max_restart_delay (pod_ticks (ticks ++ x ∷ []) n) v))
         (sym (own_eviction-other n (ticks ++ x ∷ []) es (Some e) (λ is. apart (sym is))))
   ];
@@ -191,6 +200,6 @@ pieces_spared config pods ticks es old are = record {
   as_many = are.as_many;
   each = λ n pod at.
       are.each n pod at
-      ∙ ap (λ (v : Option EvictionOfPod). Some (made n pod config.max_restart_delay (pod_ticks ticks n) v))
+      ∙ ap (λ (v : Option EvictionRecord). Some (made n pod config.max_restart_delay (pod_ticks ticks n) v))
       (sym (own_eviction-other n ticks es None (λ is. is)));
 }

@@ -45,7 +45,7 @@ abbrev pub piece_after : NodeConfig → List TickObs → List (Option Eviction) 
 piece_after config ticks evictions n pod = record {
   number = n;
   pod = pod;
-  greatest = config.max_restart_delay;
+  max_restart_delay = config.max_restart_delay;
   handed = pod_ticks ticks n;
   is_pending = false;
   eviction = own_eviction n ticks evictions;
@@ -71,7 +71,7 @@ pub record HasTaken (pods : List PodSpec) (ticks : List TickObs) (s : State) : T
   pub events : AreEvents s.config pods ticks s.evictions s.events
   pub totals : s.totals ≡ totals_of ticks s.events
   pub signals : IsStateOf s.config.eviction s.config.eviction_pressure_transition_period ticks s.signals
-  pub greatest : s.pods.greatest ≡ s.config.max_restart_delay
+  pub max_restart_delay : s.pods.max_restart_delay ≡ s.config.max_restart_delay
   pub dedicated : s.pods.has_dedicated_imagefs ≡ s.config.has_dedicated_imagefs
   pub shown : (t : ℕ) (tick : TickObs) → slice_get ticks t ≡ Some tick → length tick.pods ≤ length pods
   pub last_is : s.last ≡ last_of ticks

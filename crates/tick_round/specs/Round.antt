@@ -13,7 +13,7 @@ use Rattle.pod_piece.specs.Piece.{Piece, updated, pods_in}
 use Rattle.event_book.specs.declared.totals.Totals.{Totals}
 use Rattle.node_pods.specs.Pods.{handed_from, kept_of, awaited}
 use Rattle.tick_parts.specs.Update.{AreUpTo, AreEntered}
-use Rattle.tick_round.specs.declared.begun.Begun.{Begun}
+use Rattle.tick_round.specs.declared.tick_in_progress.TickInProgress.{TickInProgress}
 use Rattle.tick_round.specs.Node.{State, HasTaken, Fits}
 
 -- a tick adds so much to each total at most: 129 events of each of 256 pods
@@ -46,10 +46,11 @@ pub record IsSampled (config : NodeConfig) (old : NodeSignals) (tick : TickObs) 
       → IsServed config.eviction before tick served
 
 -- a node in this state has begun the tick: its samples are taken, and its pods are out for their updates
-pub record HasBegun (s : State) (tick : TickObs) (begun : Begun) : Type 0 where
+pub record HasBegun (s : State) (tick : TickObs) (begun : TickInProgress) : Type 0 where
   pub config : begun.config ≡ s.config
   pub sampled : IsSampled s.config s.signals tick begun.signals begun.news.items begun.served
-  pub pods : begun.pods ≡ awaited (kept_of s.pods.pieces tick.pods) s.pods.greatest s.pods.has_dedicated_imagefs
+  pub pods : begun.pods
+      ≡ awaited (kept_of s.pods.pieces tick.pods) s.pods.max_restart_delay s.pods.has_dedicated_imagefs
   pub evictions : begun.evictions.items ≡ s.evictions
   pub events : begun.events.items ≡ s.events
   pub at : begun.at ≡ tick.at
@@ -60,7 +61,7 @@ pub record AreUpdated (s : State) (tick : TickObs) (back : List Piece) (totals :
   pub entered : AreEntered back s.totals totals
 
 -- the node may end the tick
-pub record MayEnd (s : State) (tick : TickObs) (begun : Begun) (back : List Piece)
+pub record MayEnd (s : State) (tick : TickObs) (begun : TickInProgress) (back : List Piece)
     (totals : Totals) : Type 0 where
   pub fits : Fits s tick
   pub has_begun : HasBegun s tick begun

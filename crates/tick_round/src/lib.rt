@@ -6,11 +6,11 @@
 //! between the ways to take a tick.
 #![tactic(auto)]
 
-mod begun;
 mod fault;
 mod node;
 mod running;
 mod summary;
+mod tick_in_progress;
 
 pub use fault::TickFault;
 pub use node::Node;

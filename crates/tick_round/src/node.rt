@@ -29,7 +29,7 @@ use std::sync::ledger::Ledger;
 use std::thread::Threads;
 use tick_parts::Gate;
 
-/// A node with its pods. After a tick that was refused for want of memory it is halted: it takes no
+/// A node with its pods. After a tick that failed because memory ran out it is halted: it takes no
 /// further tick and tells nothing. (Kubernetes, "Node-pressure Eviction".)
 #[derive(Drop)]
 pub struct Node<U: Ledger, E: Ledger, O: Ledger> {

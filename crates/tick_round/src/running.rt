@@ -20,8 +20,8 @@ ghost use Rattle.tick_parts.specs.Played.{AreFinished};
 ghost use Rattle.tick_round.specs.Round.{IsKept, HasBegun};
 ghost use Rattle.tick_round.specs.Summary.{IsSummary};
 
-use crate::begun::Begun;
 use crate::summary::{Summary, conditions_of};
+use crate::tick_in_progress::TickInProgress;
 use event_book::WholeBook;
 use event_list::Event;
 use eviction::Eviction;
@@ -138,7 +138,7 @@ impl<U: Ledger, E: Ledger, O: Ledger> Running<U, E, O> {
     pub(crate) fn begin(
         self,
         tick: TickObs,
-    ) -> Result<(Vec<PodPiece>, WholeBook<U, E, O>, Begun), AllocError>
+    ) -> Result<(Vec<PodPiece>, WholeBook<U, E, O>, TickInProgress), AllocError>
         requires { Fits self tick }
         ensures kept { IfOk result (λ r. IsKept self) }
         ensures handed { IfOk result (λ r. r.0.items ≡ handed_from 0 self.pods.pieces tick.pods) }
@@ -168,7 +168,7 @@ impl<U: Ledger, E: Ledger, O: Ledger> Running<U, E, O> {
         let at = tick.at;
         match pods.hand(tick.pods.into_vec()) {
             Ok((pieces, pods)) => {
-                let begun = Begun {
+                let begun = TickInProgress {
                     alloc,
                     config,
                     signals,

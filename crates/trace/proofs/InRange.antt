@@ -27,7 +27,7 @@ use Rattle.manifest_fields.specs.ProbeFields.{probe_of}
 use Rattle.manifest_fields.specs.ProbeFields.{some_probes, unprobed, probes_of}
 use Rattle.manifest_fields.specs.ResourceFields.{resources_of}
 use Rattle.node_config.specs.declared.node.Format.{Format}
-use Rattle.trace.specs.declared.past.Trace.{Trace}
+use Rattle.trace.specs.declared.trace_so_far.Trace.{Trace}
 use Rattle.trace.specs.Laws.{Says, says_node, says_pod, says_gone, says_tick}
 use Rattle.trace.specs.Past.{Past}
 use Rattle.trace.specs.Pod.{of_manifest, manifest_of}

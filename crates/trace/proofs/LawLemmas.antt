@@ -27,9 +27,9 @@ use Rattle.trace.specs.declared.fault.FaultKind.TheVariants.{TooLong, DuplicateP
 use Rattle.trace.specs.declared.fault.FaultKind.TheVariants.{StrangerPod}
 use Rattle.trace.specs.declared.fault.LineFault.{LineFault}
 use Rattle.node_config.specs.declared.node.NodeConfig.{NodeConfig}
-use Rattle.trace.specs.declared.past.Trace.{Trace}
-use Rattle.trace.specs.declared.past.LineKind.{LineKind}
-use Rattle.trace.specs.declared.past.LineKind.TheVariants as kinds
+use Rattle.trace.specs.declared.trace_so_far.Trace.{Trace}
+use Rattle.trace.specs.declared.trace_so_far.LineKind.{LineKind}
+use Rattle.trace.specs.declared.trace_so_far.LineKind.TheVariants as kinds
 use Rattle.observations.specs.declared.tick.TickObs.{TickObs}
 use Rattle.observations.specs.Limits.{most_pods, most_ticks}
 use Rattle.tick_lines.specs.declared.line.TickLine.{TickLine}

@@ -4,7 +4,7 @@ use Rattle.manifest.specs.declared.pod.PodSpec.{PodSpec}
 use Rattle.observations.specs.declared.tick.TickObs.{TickObs}
 use Rattle.node_config.specs.declared.node.Format.{Format}
 use Rattle.node_config.specs.declared.node.NodeConfig.{NodeConfig}
-use Rattle.trace.specs.declared.past.Trace.{Trace}
+use Rattle.trace.specs.declared.trace_so_far.Trace.{Trace}
 use Rattle.json_lines.specs.Lines.{lines_of}
 use Rattle.roster.specs.Roll.{roll}
 use Rattle.trace.specs.Past.{Past}

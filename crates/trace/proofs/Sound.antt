@@ -15,7 +15,7 @@ use Rattle.observations.specs.Observations.{shown_of, listed_in, seen_of, histor
 use Rattle.observations.proofs.OwnTicks.{seen_shown, history_shown, history_rests}
 use Rattle.node_config.specs.declared.node.Format.{Format}
 use Rattle.trace.specs.declared.fault.LineFault.{LineFault}
-use Rattle.trace.specs.declared.past.Trace.{Trace}
+use Rattle.trace.specs.declared.trace_so_far.Trace.{Trace}
 use Rattle.following.specs.Backwards.{is_backwards}
 use Rattle.trace.specs.Gives.{GivesAt}
 use Rattle.trace.specs.Laws.{Says, says_node, says_pod, says_gone, says_tick}

@@ -20,11 +20,11 @@ use Rattle.tick_lines.specs.Line.{tick_line_of}
 use Rattle.trace.specs.declared.fault.FaultKind.{FaultKind}
 use Rattle.trace.specs.declared.fault.FaultKind.TheVariants.{UnknownKind}
 use Rattle.trace.specs.declared.fault.LineFault.{LineFault}
-use Rattle.trace.specs.declared.past.LineKind.{LineKind}
-use Rattle.trace.specs.declared.past.Trace.{Trace}
+use Rattle.trace.specs.declared.trace_so_far.LineKind.{LineKind}
+use Rattle.trace.specs.declared.trace_so_far.Trace.{Trace}
 use Rattle.trace.specs.Gives.{is_memory}
 use Rattle.trace.specs.Past.{Past, version_in}
-use Rattle.trace.specs.declared.past.LineKind.TheVariants as line_kinds
+use Rattle.trace.specs.declared.trace_so_far.LineKind.TheVariants as line_kinds
 use Rattle.trace.specs.Taken.{tick_of, tick_after, value_at, any_line_at, lines_at}
 use Rattle.trace.specs.Tick.{tick_in, tick_at}
 use Rattle.trace.specs.Trace.{json_of, kind_from, kind_of_line, turn_of, in_order, kind_and_value, line_at, at_line}

@@ -21,8 +21,8 @@ use Rattle.tick_lines.specs.declared.line.TickLine.{TickLine}
 use Rattle.trace.specs.declared.fault.FaultKind.{FaultKind}
 use Rattle.trace.specs.declared.fault.FaultKind.TheVariants.{Moment, Backwards}
 use Rattle.trace.specs.declared.fault.LineFault.{LineFault}
-use Rattle.trace.specs.declared.past.LineKind.TheVariants as line_kinds
-use Rattle.trace.specs.declared.past.Turn.{Turn}
+use Rattle.trace.specs.declared.trace_so_far.LineKind.TheVariants as line_kinds
+use Rattle.trace.specs.declared.trace_so_far.Turn.{Turn}
 use Rattle.trace.specs.declared.placing.PlacedEntry.{PlacedEntry}
 use Rattle.trace.specs.declared.ahead.LineAhead.{LineAhead}
 use Rattle.trace.specs.Ahead.{IsShown, IsAhead, AreAhead, IsReadAhead, KeepsPods, may_stand}

@@ -12,7 +12,7 @@ use Rattle.trace.specs.declared.ahead.LineAhead.{LineAhead}
 use Rattle.trace.specs.declared.ahead.LineAhead.TheVariants as lines_ahead
 use Rattle.trace.specs.declared.fault.FaultKind.{FaultKind}
 use Rattle.trace.specs.declared.fault.FaultKind.TheVariants.{Backwards}
-use Rattle.trace.specs.declared.past.LineKind.TheVariants as line_kinds
+use Rattle.trace.specs.declared.trace_so_far.LineKind.TheVariants as line_kinds
 use Rattle.trace.specs.declared.placing.PlacedEntry.{PlacedEntry}
 use Rattle.trace.specs.Observed.{observed, some_code_missing}
 use Rattle.trace.specs.Past.{Past, version_in}

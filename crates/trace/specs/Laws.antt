@@ -10,9 +10,9 @@ use Rattle.trace.specs.declared.fault.FaultKind.TheVariants.{SoftWithoutGrace, D
 use Rattle.trace.specs.declared.fault.FaultKind.TheVariants.{StrangerContainer, Doubled, Moment, Backwards, ExitCode}
 use Rattle.trace.specs.declared.fault.FaultKind.TheVariants.{TooMany, Usage, OutOfMemory}
 use Rattle.trace.specs.declared.fault.LineFault.{LineFault}
-use Rattle.trace.specs.declared.past.Trace.{Trace}
-use Rattle.trace.specs.declared.past.LineKind.{LineKind}
-use Rattle.trace.specs.declared.past.LineKind.TheVariants as kinds
+use Rattle.trace.specs.declared.trace_so_far.Trace.{Trace}
+use Rattle.trace.specs.declared.trace_so_far.LineKind.{LineKind}
+use Rattle.trace.specs.declared.trace_so_far.LineKind.TheVariants as kinds
 use Rattle.tick_lines.specs.declared.listing.Listing.{Listing}
 use Rattle.tick_lines.specs.declared.entry.Entry.{Entry}
 use Rattle.tick_lines.specs.declared.probing.ProbeResult.{ProbeResult}
@@ -373,7 +373,7 @@ StandardIsExtended =
 abbrev pub IsNotMemory : FaultKind → Type 0
 IsNotMemory kind = (kind ≢ OutOfMemory) × (kind ≢ Manifest manifest_faults.OutOfMemory)
 
--- no line and no text has a fault for want of memory
+-- no line and no text has a fault because memory was refused
 pub record NeverMemory : Type 0 where
   pub line : (past : Past) (line : List ℕ) (kind : FaultKind) → line_at past line ≡ Err kind → IsNotMemory kind
   pub text : (format : Format) (text : List ℕ) (fault : LineFault) → trace_of format text ≡ Err fault

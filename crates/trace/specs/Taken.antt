@@ -9,7 +9,7 @@ use Rattle.tick_lines.specs.declared.line.TickLine.{TickLine}
 use Rattle.trace.specs.declared.fault.FaultKind.{FaultKind}
 use Rattle.trace.specs.declared.fault.FaultKind.TheVariants as kinds
 use Rattle.trace.specs.declared.fault.LineFault.{LineFault}
-use Rattle.trace.specs.declared.past.LineKind.TheVariants as line_kinds
+use Rattle.trace.specs.declared.trace_so_far.LineKind.TheVariants as line_kinds
 use Rattle.trace.specs.Past.{Past, version_in, with_tick}
 use Rattle.trace.specs.Placing.{placed_of}
 use Rattle.trace.specs.Tick.{moment_from, room_for_tick, observed_in}

@@ -13,11 +13,11 @@ use Rattle.node_config.specs.declared.node.NodeConfig.{NodeConfig}
 use Rattle.node_config.specs.declared.node.Format.{Format}
 use Rattle.node_config.specs.declared.node.Version.{Version}
 use Rattle.node_config.specs.declared.node.Version.TheVariants.{One, Two, Three}
-use Rattle.trace.specs.declared.past.Trace.{Trace}
-use Rattle.trace.specs.declared.past.LineKind.{LineKind}
-use Rattle.trace.specs.declared.past.LineKind.TheVariants as kinds
-use Rattle.trace.specs.declared.past.Turn.{Turn}
-use Rattle.trace.specs.declared.past.Turn.TheVariants as turns
+use Rattle.trace.specs.declared.trace_so_far.Trace.{Trace}
+use Rattle.trace.specs.declared.trace_so_far.LineKind.{LineKind}
+use Rattle.trace.specs.declared.trace_so_far.LineKind.TheVariants as kinds
+use Rattle.trace.specs.declared.trace_so_far.Turn.{Turn}
+use Rattle.trace.specs.declared.trace_so_far.Turn.TheVariants as turns
 use Rattle.json_lines.specs.Lines.{lines_of, is_blank, json_in, longest_line}
 use Rattle.trace.specs.Written.{node_in}
 use Rattle.roster.specs.Roll.{Roll, nothing as no_pods}

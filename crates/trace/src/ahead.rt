@@ -27,7 +27,7 @@ pub(crate) enum LineAhead {
     Said(TextLine),
 }
 
-/// Goes on where the fault is another than want of memory.
+/// Goes on where the fault is another than that memory was refused.
 fn unless_memory(kind: FaultKind) -> Result<(), AllocError>
     ensures refused { OnErr result (kind ≡ OutOfMemory) }
     ensures other { OnOk result (kind ≢ OutOfMemory) }
@@ -81,7 +81,7 @@ fn shown_by(
     shown_once(alloc, at, written, &placed, roster)
 }
 
-/// Reads a tick line ahead. The record is given up here, by the thread that made it.
+/// Reads a tick line ahead. The record is dropped here, by the thread that made it.
 fn tick_ahead(alloc: Global, roster: &Roster, line: TickRecord) -> Result<LineAhead, AllocError>
     ensures { IfOk result (IsAhead roster.now (Tick line.at line.written)) }
 {

@@ -74,7 +74,7 @@ pub fn standard_is_extended()
     ensures { StandardIsExtended }
 {}
 
-/// No text has a fault for want of memory.
+/// No text has a fault because memory was refused.
 pub fn never_memory()
     ensures { NeverMemory }
 {}

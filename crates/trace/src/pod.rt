@@ -8,7 +8,7 @@ ghost use Rattle.trace.specs.Gives.{Gives};
 ghost use Rattle.trace.specs.Pod.{has_key, new_key, room_for_pod, manifest_of, pod_from};
 
 use crate::fault::{FaultKind, refused_if};
-use crate::past::Reader;
+use crate::trace_so_far::TraceSoFar;
 use manifest::PodSpec;
 use manifest_reader::{Field, ManifestFault, read_pod};
 use observations::MOST_PODS;
@@ -44,7 +44,7 @@ fn key_text(alloc: Global, pod: &PodSpec) -> Result<String, AllocError>
 }
 
 /// There is room for one pod more.
-pub(crate) fn room_for_pod(reader: &Reader) -> Result<(), FaultKind>
+pub(crate) fn room_for_pod(reader: &TraceSoFar) -> Result<(), FaultKind>
     ensures { GivesExactly (λ t. t) result (room_for_pod reader.now.roll.pods) }
 {
     refused_if(reader.roster.pods().len() >= MOST_PODS, FaultKind::TooMany)
@@ -57,7 +57,11 @@ fn has_key(roster: &Roster, key: &str) -> bool
 }
 
 /// The key of a pod, if no pod that is present has it.
-pub(crate) fn new_key(alloc: Global, reader: &Reader, pod: &PodSpec) -> Result<String, FaultKind>
+pub(crate) fn new_key(
+    alloc: Global,
+    reader: &TraceSoFar,
+    pod: &PodSpec,
+) -> Result<String, FaultKind>
     ensures gives { Gives (λ _. tt) result (new_key reader.now.roll pod.now) }
     ensures key { IfOk result (λ s. string_bytes s ≡ key_of_pod pod.now) }
     ensures new { IfOk result (λ s. number_of reader.now.roll (string_bytes s) ≡ None) }

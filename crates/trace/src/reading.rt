@@ -18,9 +18,9 @@ ghost use Rattle.trace.specs.Trace.{pod_line_at, gone_line_at, turn_of, in_order
 ghost use Rattle.trace.specs.Tick.{MayStandBehind, tick_at};
 
 use crate::fault::{FaultKind, refused_if};
-use crate::past::{LineKind, Reader, Turn};
 use crate::pod::{new_key, pod_from, room_for_pod};
 use crate::tick::{is_backwards, moment_in, room, take_tick, with_tick};
+use crate::trace_so_far::{LineKind, TraceSoFar, Turn};
 use json_fields::{field, text_at};
 use json_lines::{TextLine, TickRecord, tick_record};
 use manifest::PodSpec;
@@ -90,7 +90,7 @@ fn node_in(alloc: Global, format: Format, line: &Value) -> Result<NodeConfig, Fa
 
 /// Takes a node line.
 #[tactic(auto, unfolding(crate::specs::Trace::with_node))]
-fn take_node(alloc: Global, reader: Reader, line: &Value) -> Result<Reader, FaultKind>
+fn take_node(alloc: Global, reader: TraceSoFar, line: &Value) -> Result<TraceSoFar, FaultKind>
     ensures { Gives (λ r. r) result (with_node reader (view line.now)) }
 {
     let node = match node_in(alloc, reader.format, line) {
@@ -100,14 +100,14 @@ fn take_node(alloc: Global, reader: Reader, line: &Value) -> Result<Reader, Faul
             return Err(kind);
         }
     };
-    let Reader {
+    let TraceSoFar {
         format,
         roster,
         ticks,
         following,
         ..
     } = reader;
-    Ok(Reader {
+    Ok(TraceSoFar {
         format,
         node: Some(node),
         roster,
@@ -117,12 +117,17 @@ fn take_node(alloc: Global, reader: Reader, line: &Value) -> Result<Reader, Faul
 }
 
 /// Adds a pod of a new key.
-fn with_pod(alloc: Global, reader: Reader, pod: PodSpec, key: String) -> Result<Reader, FaultKind>
+fn with_pod(
+    alloc: Global,
+    reader: TraceSoFar,
+    pod: PodSpec,
+    key: String,
+) -> Result<TraceSoFar, FaultKind>
     requires key { string_bytes key ≡ key_of_pod pod }
     requires new { number_of reader.roll (string_bytes key) ≡ None }
     ensures { Gives (λ r. r) result (Ok (with_pod reader pod)) }
 {
-    let Reader {
+    let TraceSoFar {
         format,
         node,
         roster,
@@ -137,7 +142,7 @@ fn with_pod(alloc: Global, reader: Reader, pod: PodSpec, key: String) -> Result<
         }
     };
     match roster.with_pod(pod, key, ticks.as_slice().len()) {
-        Ok(roster) => Ok(Reader {
+        Ok(roster) => Ok(TraceSoFar {
             format,
             node,
             roster,
@@ -152,7 +157,7 @@ fn with_pod(alloc: Global, reader: Reader, pod: PodSpec, key: String) -> Result<
 }
 
 /// Adds a pod, if no pod that is present has its key.
-fn with_new_pod(alloc: Global, reader: Reader, pod: PodSpec) -> Result<Reader, FaultKind>
+fn with_new_pod(alloc: Global, reader: TraceSoFar, pod: PodSpec) -> Result<TraceSoFar, FaultKind>
     ensures { Gives (λ r. r) result (with_new_pod reader pod) }
 {
     match new_key(alloc, &reader, &pod) {
@@ -165,7 +170,7 @@ fn with_new_pod(alloc: Global, reader: Reader, pod: PodSpec) -> Result<Reader, F
 }
 
 /// Whether a pod line comes too late behind the ticks so far.
-fn is_late(version: Version, reader: &Reader) -> bool
+fn is_late(version: Version, reader: &TraceSoFar) -> bool
     ensures { result ≡ is_late version reader.now.ticks }
 {
     match version {
@@ -179,7 +184,7 @@ fn is_late(version: Version, reader: &Reader) -> bool
 fn pod_in(
     alloc: Global,
     version: Version,
-    reader: &Reader,
+    reader: &TraceSoFar,
     line: &Value,
 ) -> Result<PodSpec, FaultKind>
     ensures { Gives (λ p. p) result (pod_in version reader.now (view line.now)) }
@@ -194,9 +199,9 @@ fn pod_in(
 fn take_pod(
     alloc: Global,
     version: Version,
-    reader: Reader,
+    reader: TraceSoFar,
     line: &Value,
-) -> Result<Reader, FaultKind>
+) -> Result<TraceSoFar, FaultKind>
     ensures { Gives (λ r. r) result (pod_line_at version reader (view line.now)) }
 {
     match pod_in(alloc, version, &reader, line) {
@@ -216,11 +221,11 @@ fn named_in(roster: &Roster, key: Option<&str>) -> Option<usize>
 }
 
 /// The pod with the number, which has this key, is gone.
-fn without(reader: Reader, number: usize, key: &str) -> Reader
+fn without(reader: TraceSoFar, number: usize, key: &str) -> TraceSoFar
     requires { number_of reader.roll key.now ≡ Some number }
     ensures { result ≡ without reader number }
 {
-    let Reader {
+    let TraceSoFar {
         format,
         node,
         mut roster,
@@ -228,7 +233,7 @@ fn without(reader: Reader, number: usize, key: &str) -> Reader
         following,
     } = reader;
     roster.leave(number, key, ticks.as_slice().len());
-    Reader {
+    TraceSoFar {
         format,
         node,
         roster,
@@ -239,7 +244,7 @@ fn without(reader: Reader, number: usize, key: &str) -> Reader
 
 /// Takes a line by which a pod leaves.
 #[tactic(auto, unfolding(crate::specs::Trace::gone_line_at))]
-fn take_gone(reader: Reader, line: &Value) -> Result<Reader, FaultKind>
+fn take_gone(reader: TraceSoFar, line: &Value) -> Result<TraceSoFar, FaultKind>
     ensures { GivesExactly (λ r. r) result (gone_line_at reader (view line.now)) }
 {
     let key = text_at(line, "pod");
@@ -253,7 +258,7 @@ fn take_gone(reader: Reader, line: &Value) -> Result<Reader, FaultKind>
 }
 
 /// The version of the format, once there is a node.
-fn version_in(reader: &Reader) -> Option<Version>
+fn version_in(reader: &TraceSoFar) -> Option<Version>
     ensures { result ≡ version_in reader.now }
 {
     match &reader.node {
@@ -276,7 +281,7 @@ fn turn_of(version: Option<Version>, line_kind: LineKind) -> Result<Turn, FaultK
 }
 
 /// Takes the JSON value of a tick line.
-fn take_tick_value(alloc: Global, reader: Reader, line: &Value) -> Result<Reader, FaultKind>
+fn take_tick_value(alloc: Global, reader: TraceSoFar, line: &Value) -> Result<TraceSoFar, FaultKind>
     ensures { Gives (λ r. r) result (tick_at reader (view line.now)) }
 {
     match tick_record(alloc, line) {
@@ -290,10 +295,10 @@ fn take_tick_value(alloc: Global, reader: Reader, line: &Value) -> Result<Reader
 
 fn take_in_order(
     alloc: Global,
-    reader: Reader,
+    reader: TraceSoFar,
     line_kind: LineKind,
     line: &Value,
-) -> Result<Reader, FaultKind>
+) -> Result<TraceSoFar, FaultKind>
     ensures { Gives (λ r. r) result (in_order (version_in reader) reader line_kind (view line.now)) }
 {
     match turn_of(version_in(&reader), line_kind) {
@@ -310,7 +315,7 @@ fn take_in_order(
 
 /// Takes a line of JSON.
 #[tactic(auto, unfolding(crate::specs::Taken::value_at))]
-fn take_value(alloc: Global, reader: Reader, line: &Value) -> Result<Reader, FaultKind>
+fn take_value(alloc: Global, reader: TraceSoFar, line: &Value) -> Result<TraceSoFar, FaultKind>
     ensures { Gives (λ r. r) result (value_at reader (view line.now)) }
 {
     match kind_of_line(version_in(&reader), line) {
@@ -323,7 +328,11 @@ fn take_value(alloc: Global, reader: Reader, line: &Value) -> Result<Reader, Fau
 }
 
 /// Takes a tick line, if it may stand where it does.
-fn take_tick_line(alloc: Global, reader: Reader, line: &TickRecord) -> Result<Reader, FaultKind>
+fn take_tick_line(
+    alloc: Global,
+    reader: TraceSoFar,
+    line: &TickRecord,
+) -> Result<TraceSoFar, FaultKind>
     ensures { Gives (λ r. r) result (tick_line_at reader line.now.at line.now.written) }
 {
     match turn_of(version_in(&reader), LineKind::Tick) {
@@ -337,7 +346,7 @@ fn take_tick_line(alloc: Global, reader: Reader, line: &TickRecord) -> Result<Re
 
 /// Whether a tick whose line was read ahead may stand behind the ticks so far.
 #[tactic(auto, unfolding(crate::specs::Ahead::may_stand))]
-fn may_stand(reader: &Reader, tick: &TickObs) -> Result<(), FaultKind>
+fn may_stand(reader: &TraceSoFar, tick: &TickObs) -> Result<(), FaultKind>
     requires { IsReadAhead reader.now.roll tick.now }
     ensures gives { GivesExactly (λ u. u) result (may_stand reader.now tick.now) }
     ensures follows { OnOk result (MayStandBehind reader.now tick.now) }
@@ -349,7 +358,7 @@ fn may_stand(reader: &Reader, tick: &TickObs) -> Result<(), FaultKind>
 }
 
 /// Takes a tick whose line was read ahead, beside the pods that there are.
-pub(crate) fn take_shown(reader: Reader, tick: TickObs) -> Result<Reader, FaultKind>
+pub(crate) fn take_shown(reader: TraceSoFar, tick: TickObs) -> Result<TraceSoFar, FaultKind>
     requires { IsReadAhead reader.roll tick }
     ensures { (said : LineData) → IsShown reader.roll said tick
         → Gives (λ r. r) result (any_line_at reader said) }
@@ -364,7 +373,11 @@ pub(crate) fn take_shown(reader: Reader, tick: TickObs) -> Result<Reader, FaultK
 }
 
 /// Takes a line.
-pub(crate) fn take_line(alloc: Global, reader: Reader, line: &TextLine) -> Result<Reader, FaultKind>
+pub(crate) fn take_line(
+    alloc: Global,
+    reader: TraceSoFar,
+    line: &TextLine,
+) -> Result<TraceSoFar, FaultKind>
     ensures { Gives (λ r. r) result (any_line_at reader (data_of line.now)) }
 {
     let kind = match line {

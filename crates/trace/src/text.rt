@@ -13,10 +13,10 @@ ghost use Rattle.trace.specs.Trace.{at_line, finished, nothing, trace_of};
 
 use crate::ahead::{LineAhead, line_ahead};
 use crate::fault::{FaultKind, LineFault};
-use crate::past::{Reader, Trace};
 use crate::reading::{take_line, take_shown};
-use crate::windows::{FIRST, Window, bytes_behind, window_alone, window_by_workers};
-use following::Following;
+use crate::trace_so_far::{Trace, TraceSoFar};
+use crate::windows::{ALONE, Window, bytes_behind, window_alone, window_by_workers};
+use following::ListingOrder;
 use json_lines::{LineBuffers, TextLine};
 use node_config::Format;
 use roster::Roster;
@@ -26,20 +26,20 @@ use std::thread::Threads;
 use std::vec::IntoIter;
 
 /// What is said before the first line.
-fn nothing(alloc: Global, format: Format) -> Reader
+fn nothing(alloc: Global, format: Format) -> TraceSoFar
     ensures { result ≡ nothing format }
 {
-    Reader {
+    TraceSoFar {
         format,
         node: None,
         roster: Roster::new(alloc),
         ticks: Sequence::new(alloc),
-        following: Following::new(alloc),
+        following: ListingOrder::new(alloc),
     }
 }
 
 /// Takes a line whose turn has come, where the pods are no longer those beside which it was read.
-fn take_anew(alloc: Global, reader: Reader, line: &[u8]) -> Result<Reader, FaultKind>
+fn take_anew(alloc: Global, reader: TraceSoFar, line: &[u8]) -> Result<TraceSoFar, FaultKind>
     ensures { Gives (λ r. r) result (any_line_at reader (line_data line.now)) }
 {
     let mut buffers = LineBuffers::new(alloc);
@@ -56,11 +56,11 @@ fn take_anew(alloc: Global, reader: Reader, line: &[u8]) -> Result<Reader, Fault
 /// Takes a line that was read ahead; `is_fresh` says whether the pods are still those beside which it was read.
 fn take_ahead(
     alloc: Global,
-    reader: Reader,
+    reader: TraceSoFar,
     line: &[u8],
     read: LineAhead,
     is_fresh: bool,
-) -> Result<Reader, FaultKind>
+) -> Result<TraceSoFar, FaultKind>
     requires { (roll : Roll) × IsAhead roll (line_data line.now) read × (IsTrue is_fresh → reader.roll ≡ roll) }
     ensures { Gives (λ r. r) result (any_line_at reader (line_data line.now)) }
 {
@@ -92,12 +92,12 @@ fn stays_fresh(is_fresh: bool, read: &LineAhead) -> bool
 /// Takes the line of this number, and says whether the next one was read beside the pods that there are.
 fn take_next(
     alloc: Global,
-    reader: Reader,
+    reader: TraceSoFar,
     number: u64,
     line: &[u8],
     read: LineAhead,
     is_fresh: bool,
-) -> Result<(Reader, bool), LineFault>
+) -> Result<(TraceSoFar, bool), LineFault>
     requires { (roll : Roll) × IsAhead roll (line_data line.now) read × (IsTrue is_fresh → reader.roll ≡ roll) }
     ensures gives { GivesAt (λ r. r.0) result (at_line number (any_line_at reader (line_data line.now))) }
     ensures fresh { IfOk result (λ r. IsTrue r.1 → IsTrue is_fresh × (r.0.roll ≡ reader.roll)) }
@@ -121,11 +121,11 @@ fn next_read(reads: &mut IntoIter<LineAhead>) -> Option<LineAhead>
 /// that there were when its turn came.
 fn take_lines(
     alloc: Global,
-    reader: Reader,
+    reader: TraceSoFar,
     first: u64,
     lines: &[&[u8]],
     reads: Vec<LineAhead>,
-) -> Result<(Reader, bool), LineFault>
+) -> Result<(TraceSoFar, bool), LineFault>
     requires few { first + length lines.now < 2 ^ 64 }
     requires ahead { AreAhead reader.roll lines.now reads.items }
     ensures { GivesAt (λ r. r.0) result (lines_at first reader (map (λ line. line_data line.now) lines.now)) }
@@ -158,10 +158,10 @@ fn no_memory(line: u64) -> LineFault
     }
 }
 
-fn finished(line: u64, reader: Reader) -> Result<Trace, LineFault>
+fn finished(line: u64, reader: TraceSoFar) -> Result<Trace, LineFault>
     ensures { GivesExactly (λ t. t) result (finished line reader reader.node) }
 {
-    let Reader {
+    let TraceSoFar {
         node,
         roster,
         ticks,
@@ -236,7 +236,7 @@ fn read_by_workers<R: Threads + Sync>(
     let mut reader = nothing(alloc, format);
     let mut rest = text;
     let mut number = 1u64;
-    let mut bytes = FIRST;
+    let mut bytes = ALONE;
     while !rest.is_empty() {
         let Ok(window) = window_by_workers(rt, alloc, &reader.roster, rest, bytes, workers) else {
             drop(reader);

@@ -19,11 +19,11 @@ ghost use Rattle.trace.specs.Written.{of_tick_line};
 
 use crate::by_pod::{EntriesByPod, entries_by_pod, entry_for};
 use crate::fault::{FaultKind, refused_if};
-use crate::past::Reader;
 use crate::placing::{
     PlacedEntry, PlacedListing, PlacedResult, entries_of_pods, is_of_probe, pod_numbers,
     some_entry_repeats,
 };
+use crate::trace_so_far::TraceSoFar;
 use json_lines::TickRecord;
 use manifest::{ContainerSpec, Outcome, PodSpec, ProbeKind};
 use observations::{ContainerObs, MOST_TICKS, PodObs, TickObs, Usage};
@@ -237,7 +237,7 @@ fn written_in(said: &Result<TickLine, TickLineFault>) -> Result<&TickLine, Fault
     }
 }
 
-pub(crate) fn room(reader: &Reader) -> Result<(), FaultKind>
+pub(crate) fn room(reader: &TraceSoFar) -> Result<(), FaultKind>
     ensures { GivesExactly (λ t. t) result (room_for_tick reader.now.ticks) }
 {
     refused_if(
@@ -246,7 +246,7 @@ pub(crate) fn room(reader: &Reader) -> Result<(), FaultKind>
     )
 }
 
-pub(crate) fn moment_in(reader: &Reader, written: Option<u64>) -> Result<u64, FaultKind>
+pub(crate) fn moment_in(reader: &TraceSoFar, written: Option<u64>) -> Result<u64, FaultKind>
     ensures gives { GivesExactly (λ n. n) result (moment_from reader.now.ticks written) }
     ensures later { IfOk result (λ at. EndBefore reader.now.ticks at) }
 {
@@ -271,7 +271,7 @@ pub(crate) fn placed_by(
 /// The same by the pods of the reader.
 fn placed_of(
     alloc: Global,
-    reader: &Reader,
+    reader: &TraceSoFar,
     written: &TickLine,
 ) -> Result<Vec<PlacedEntry>, FaultKind>
     ensures gives { Gives (λ v. v.items) result (placed_of reader.now.roll written.now.entries) }
@@ -281,7 +281,11 @@ fn placed_of(
 }
 
 /// Where the entries of each pod of the reader stand.
-fn by_pod(alloc: Global, reader: &Reader, placed: &[PlacedEntry]) -> Result<EntriesByPod, FaultKind>
+fn by_pod(
+    alloc: Global,
+    reader: &TraceSoFar,
+    placed: &[PlacedEntry],
+) -> Result<EntriesByPod, FaultKind>
     requires { All (λ e. e.pod < length reader.now.roll.pods) placed.now }
     ensures apart { Gives (λ _. tt) result (refused_if (is_doubled placed.now) FaultKind.Doubled) }
     ensures first { IfOk result (λ found. AreFirst placed.now (length reader.now.roll.pods) found.first.items) }
@@ -295,7 +299,7 @@ fn by_pod(alloc: Global, reader: &Reader, placed: &[PlacedEntry]) -> Result<Entr
 }
 
 /// Whether some listing of the tick may not come after those of the earlier ticks.
-pub(crate) fn is_backwards(reader: &Reader, tick: &TickObs) -> bool
+pub(crate) fn is_backwards(reader: &TraceSoFar, tick: &TickObs) -> bool
     requires { ComesNext reader.now.ticks (container_counts reader.now.roll.pods) tick.now }
     ensures { result ≡ is_backwards reader.now.ticks tick.now }
 {
@@ -306,7 +310,7 @@ pub(crate) fn is_backwards(reader: &Reader, tick: &TickObs) -> bool
 #[tactic(auto, unfolding(crate::specs::Tick::observed_in))]
 fn observed_in(
     alloc: Global,
-    reader: &Reader,
+    reader: &TraceSoFar,
     at: u64,
     written: &TickLine,
     placed: &[PlacedEntry],
@@ -323,11 +327,11 @@ fn observed_in(
     Ok(tick)
 }
 
-pub(crate) fn with_tick(reader: Reader, tick: TickObs) -> Result<Reader, FaultKind>
+pub(crate) fn with_tick(reader: TraceSoFar, tick: TickObs) -> Result<TraceSoFar, FaultKind>
     requires { MayStandBehind reader tick }
     ensures { Gives (λ r. r) result (Ok (with_tick reader tick)) }
 {
-    let Reader {
+    let TraceSoFar {
         format,
         node,
         roster,
@@ -336,7 +340,7 @@ pub(crate) fn with_tick(reader: Reader, tick: TickObs) -> Result<Reader, FaultKi
     } = reader;
     following.step(&tick);
     match ticks.push(tick) {
-        Ok(()) => Ok(Reader {
+        Ok(()) => Ok(TraceSoFar {
             format,
             node,
             roster,
@@ -352,7 +356,7 @@ pub(crate) fn with_tick(reader: Reader, tick: TickObs) -> Result<Reader, FaultKi
 
 /// The tick that a tick line says.
 #[tactic(auto, unfolding(crate::specs::Taken::tick_of))]
-fn tick_of(alloc: Global, reader: &Reader, line: &TickRecord) -> Result<TickObs, FaultKind>
+fn tick_of(alloc: Global, reader: &TraceSoFar, line: &TickRecord) -> Result<TickObs, FaultKind>
     ensures gives { Gives (λ t. t) result (tick_of reader.now line.now.at line.now.written) }
     ensures follows { IfOk result (MayStandBehind reader.now) }
 {
@@ -367,9 +371,9 @@ fn tick_of(alloc: Global, reader: &Reader, line: &TickRecord) -> Result<TickObs,
 #[tactic(auto, unfolding(crate::specs::Taken::tick_after))]
 pub(crate) fn take_tick(
     alloc: Global,
-    reader: Reader,
+    reader: TraceSoFar,
     line: &TickRecord,
-) -> Result<Reader, FaultKind>
+) -> Result<TraceSoFar, FaultKind>
     ensures { Gives (λ r. r) result (tick_after reader line.now.at line.now.written) }
 {
     match tick_of(alloc, &reader, line) {

@@ -10,12 +10,9 @@ use roster::Roster;
 use std::alloc::{AllocError, Global};
 use std::thread::{Threads, map_chunks};
 
-/// A window that one thread reads has so many bytes, 64 KiB, and the end of its last line. Workers share no shorter
-/// text.
-const ALONE: usize = 65_536;
-
-/// The first window that workers share has as many bytes: where an early line is at fault, little was read in vain.
-pub(crate) const FIRST: usize = ALONE;
+/// A window that one thread reads has so many bytes, 64 KiB, and the end of its last line, and so has the first one
+/// where there are workers: an early fault is found before threads start. Workers share no shorter window.
+pub(crate) const ALONE: usize = 65_536;
 
 /// A window that workers share has no more bytes than these, 4 MiB, and the end of its last line: the threads start
 /// anew for each.
@@ -34,8 +31,8 @@ fn most_lines(roster: &Roster) -> usize
     (SHOWN / roster.pods().len().saturating_add(LINE)).max(1)
 }
 
-/// A window has so many times the bytes of the one before it, until it has 4 MiB.
-const GROWTH: usize = 4;
+/// A window has so many times the bytes of the one before it, until it has 4 MiB: behind 64 KiB it has 1 MiB.
+const GROWTH: usize = 16;
 
 /// How many bytes the window behind one of so many has: as many as the first one where lines were read beside pods that
 /// changed meanwhile, so that little is read twice.
@@ -43,9 +40,9 @@ pub(crate) fn bytes_behind(bytes: usize, were_fresh: bool) -> usize
     ensures { 0 < result }
 {
     if were_fresh {
-        bytes.saturating_mul(GROWTH).clamp(FIRST, SHARED)
+        bytes.saturating_mul(GROWTH).clamp(ALONE, SHARED)
     } else {
-        FIRST
+        ALONE
     }
 }
 
@@ -92,8 +89,8 @@ pub(crate) fn window_alone<'t>(
     Ok(Window { lines, reads, rest })
 }
 
-/// The next window, of so many bytes or fewer, read by this many workers beside these pods, or by this thread where there
-/// are less than 64 KiB of text. It is never without a line where the text isn't empty.
+/// The next window, of so many bytes or fewer, read by this many workers beside these pods, or by this thread where
+/// that is no more than 64 KiB. It is never without a line where the text isn't empty.
 pub(crate) fn window_by_workers<'t, R: Threads + Sync>(
     rt: &R,
     alloc: Global,
@@ -111,7 +108,7 @@ pub(crate) fn window_by_workers<'t, R: Threads + Sync>(
     ensures ahead { IfOk result (λ window. AreAhead roster.now window.lines.items window.reads.items) }
 {
     let (lines, rest) = next_tick_lines(alloc, text, bytes, most_lines(roster))?;
-    let reads = if text.len() - rest.len() < ALONE {
+    let reads = if bytes <= ALONE || text.len() - rest.len() < ALONE {
         read_each(alloc, roster, &lines)?
     } else {
         read_shared(rt, alloc, roster, &lines, workers)?

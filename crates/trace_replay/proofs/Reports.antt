@@ -2,7 +2,7 @@
 use Rattle.std.proofs.Common.{◌≡◌, ℕ, List, All, get_or}
 use Rattle.std.proofs.lemmas.Option.{slice_get-get_or}
 use Rattle.manifest.specs.declared.pod.PodSpec.{PodSpec}
-use Rattle.trace.specs.declared.past.Trace.{Trace}
+use Rattle.trace.specs.declared.trace_so_far.Trace.{Trace}
 use Rattle.trace.specs.Sound.{AreAcceptable, HasShape}
 use Rattle.trace.proofs.InRange.{HaveProbesInRange as HaveNumbersInRange}
 use Rattle.event_list.specs.Laws.{ShowsKnownPods, HaveProbesInRange}

@@ -15,8 +15,8 @@ use Rattle.trace.specs.declared.fault.FaultKind.TheVariants.{Doubled, Backwards,
 use Rattle.node_config.specs.declared.node.NodeConfig.{NodeConfig}
 use Rattle.node_config.specs.declared.node.Version.{Version}
 use Rattle.node_config.specs.declared.node.Version.TheVariants.{One, Two, Three}
-use Rattle.trace.specs.declared.past.LineKind.{LineKind}
-use Rattle.trace.specs.declared.past.LineKind.TheVariants as kinds
+use Rattle.trace.specs.declared.trace_so_far.LineKind.{LineKind}
+use Rattle.trace.specs.declared.trace_so_far.LineKind.TheVariants as kinds
 use Rattle.observations.specs.declared.tick.TickObs.{TickObs}
 use Rattle.observations.specs.Limits.{most_pods, most_ticks}
 use Rattle.tick_lines.specs.declared.line.TickLine.{TickLine}

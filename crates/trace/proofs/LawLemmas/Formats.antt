@@ -10,8 +10,8 @@ use Rattle.node_lines.specs.Node.{node_of}
 use Rattle.manifest.specs.declared.pod.PodSpec.{PodSpec}
 use Rattle.tick_lines.specs.declared.line.TickLine.{TickLine}
 use Rattle.trace.specs.declared.fault.FaultKind.TheVariants.{Config}
-use Rattle.trace.specs.declared.past.LineKind.{LineKind}
-use Rattle.trace.specs.declared.past.LineKind.TheVariants as kinds
+use Rattle.trace.specs.declared.trace_so_far.LineKind.{LineKind}
+use Rattle.trace.specs.declared.trace_so_far.LineKind.TheVariants as kinds
 use Rattle.trace.specs.declared.placing.PlacedEntry.{PlacedEntry}
 use Rattle.trace.specs.Laws.{Leaves, AreSaid, MayStand, Stands, HasPod, HasMoment, HasWritten, HasPlaces, IsApart}
 use Rattle.trace.specs.Laws.{IsForwards, Says, says_node, says_pod, says_gone, says_tick, StandardIsExtended}

@@ -143,7 +143,7 @@ kinds_of_checks = record {
   places = λ roll es kind e. (placed_only roll es).has kind e;
 }
 
--- a kind that isn't for want of memory
+-- a kind that isn't of refused memory
 is_not : (kind given : FaultKind) → kind ≡ given → IsNotMemory given → IsNotMemory kind
 is_not kind given is never = subst IsNotMemory (sym is) never
 

@@ -1,5 +1,5 @@
 use Rattle.std.proofs.Common.{List, [], ◌∷◌, ◌++◌, take}
-use Rattle.node_config.specs.Eviction.{Eviction}
+use Rattle.node_config.specs.EvictionConfig.{EvictionConfig}
 use Rattle.observations.specs.declared.tick.TickObs.{TickObs}
 use Rattle.node_signals.specs.Keys.{serving_order}
 use Rattle.node_signals.specs.Events.{ChangesThreshold, Adds}
@@ -7,6 +7,6 @@ use Rattle.node_signals.specs.Node.{AreWatches}
 use Rattle.node_signals.proofs.events.add_threshold_events.Given as goal
 
 abbrev pub invariant-loop-place : goal.invariant-loop-place
-invariant-loop-place l = (eviction : Eviction) (before : List TickObs) (tick : TickObs)
+invariant-loop-place l = (eviction : EvictionConfig) (before : List TickObs) (tick : TickObs)
     → AreWatches eviction before l.old → AreWatches eviction (before ++ tick ∷ []) l.new
     → Adds (ChangesThreshold eviction before tick) (take l.place serving_order) l.fn.events.items l.events.items

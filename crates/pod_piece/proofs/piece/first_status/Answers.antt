@@ -10,7 +10,7 @@ use Rattle.pod_piece.proofs.piece.first_status.Goals as goal
 
 pub show-requires : goal.show-requires
 show-requires c =
-    let have = has_containers c.args.pod.now c.args.greatest None [] c.args.state.now (c.requires None) in
+    let have = has_containers c.args.pod.now c.args.max_restart_delay None [] c.args.state.now (c.requires None) in
     omega (arith, have, c.in_ok-containers.ensures.len, ap length c.as_slice-count.ensures.same)
 
 pub returns : goal.returns
@@ -22,7 +22,7 @@ returns c =
       number_is = refl;
       lifecycle = subst (λ (l : Lifecycle). IsLifecycleOf pod None [] l) (sym c.lifecycle-lifecycle.ensures)
           is.progress.so_far;
-      containers = c.show.ensures pod c.args.greatest None phase.0 [] phase.1
+      containers = c.show.ensures pod c.args.max_restart_delay None phase.0 [] phase.1
           (by_eviction None phase.0 false
           ((λ t. let w : false ≡ true = t in absurd (cc)), (λ w. let v : false ≡ true = w in absurd (cc))) tt) is;
       class = c.qos_class.ensures;

@@ -1,15 +1,15 @@
 use Rattle.std.proofs.Common.{List, All, map, length, sym, ap, subst, arith}
 use Rattle.pod_piece.specs.Piece.{Piece}
-use Rattle.piece_deques.specs.Rule.{IsDue, AreNumbered}
-use Rattle.pool_worker.specs.Bundles.{bundle_tag}
+use Rattle.piece_deques.specs.Rule.{IsPieceDue, AreNumbered}
+use Rattle.pool_worker.specs.Contexts.{context_tag}
 use Rattle.pod_pool.proofs.Due.{all_due}
 use Rattle.pod_pool.proofs.Returned.{returned, still_laid}
 use Rattle.pod_pool.proofs.pool.pool.Goals as goal
 
-pub lay_out-bundles-requires-clause-due : goal.lay_out-bundles-requires-clause-due
-lay_out-bundles-requires-clause-due g c =
+pub lay_out-contexts-requires-clause-due : goal.lay_out-contexts-requires-clause-due
+lay_out-contexts-requires-clause-due g c =
     let pieces = c.args.pieces.items in
-    subst (λ (all : List Piece). All (IsDue all) pieces) (sym c.requires.all)
+    subst (λ (all : List Piece). All (IsPieceDue all) pieces) (sym c.requires.all)
     (all_due pieces c.requires.numbered c.requires.pending)
 
 pub gather-requires-clause-numbered : goal.gather-requires-clause-numbered
@@ -21,7 +21,7 @@ gather-requires-clause-few g c κs within =
 
 pub gather-requires-clause-laid : goal.gather-requires-clause-laid
 gather-requires-clause-laid g c κs within =
-    let was = c.lay_out-bundles.result in
-    let tags = returned bundle_tag was.items c.as_mut_slice.result.now c.run.new.bundles was.len
+    let was = c.lay_out-contexts.result in
+    let tags = returned context_tag was.items c.as_mut_slice.result.now c.run.new.contexts was.len
     c.as_mut_slice.ensures.value c.run.ensures.same (sym was.ok.0) in
-    still_laid _ c.args.pieces.items _ (map bundle_tag was.items) c.requires.all tags c.lay_out-bundles.ensures.laid
+    still_laid _ c.args.pieces.items _ (map context_tag was.items) c.requires.all tags c.lay_out-contexts.ensures.laid

@@ -7,5 +7,5 @@ use Rattle.pod_state.proofs.following.all_ready.Given as goal
 
 abbrev pub invariant-loop-container : goal.invariant-loop-container
 invariant-loop-container l =
-    (n : ℕ) (e : Container) → n < l.container-index → (pod : PodSpec) (greatest : ℕ) (h : List PodTick)
-    → IsContainerOf pod greatest h n (slice_index_or l.containers n e) → Serves pod n → IsReady pod h n
+    (n : ℕ) (e : Container) → n < l.container-index → (pod : PodSpec) (max_restart_delay : ℕ) (h : List PodTick)
+    → IsContainerOf pod max_restart_delay h n (slice_index_or l.containers n e) → Serves pod n → IsReady pod h n

@@ -11,10 +11,10 @@ pub loop-spec-preserved : goal.loop-spec-preserved
 loop-spec-preserved c =
     let n = c.loop-spec.spec-index in
     let P : ℕ → Container → Type 0 = λ k x. (pod : PodSpec) → pod.containers ≡ c.args.specs.now
-    → IsContainerOf pod c.args.greatest [] k x in
+    → IsContainerOf pod c.args.max_restart_delay [] k x in
     let so_far = c.loop-spec.invariant in
     let here : P n c.new-container.result = λ pod same.
-    first_is pod c.args.greatest n c.spec-item.result c.new-container.result
+    first_is pod c.args.max_restart_delay n c.spec-item.result c.new-container.result
     (spec_at pod n c.args.specs.now c.spec-item.result same c.loop-spec-test.true c.spec-item.is)
     c.new-container.ensures in
     let Q : List Container → Type 0 = λ xs. (k : ℕ) (d : Container) → k < n + 1 → P k (slice_index_or xs k d) in

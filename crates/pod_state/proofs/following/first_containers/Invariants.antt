@@ -8,5 +8,5 @@ abbrev pub invariant-loop-spec : goal.invariant-loop-spec
 invariant-loop-spec l = record {
   as_many : length l.containers.items ≡ l.spec-index;
   each : (n : ℕ) (d : Container) → n < l.spec-index → (pod : PodSpec) → pod.containers ≡ l.specs
-      → IsContainerOf pod l.greatest [] n (slice_index_or l.containers.items n d);
+      → IsContainerOf pod l.max_restart_delay [] n (slice_index_or l.containers.items n d);
 }

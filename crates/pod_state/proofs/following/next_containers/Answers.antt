@@ -29,16 +29,19 @@ loop-number-preserved c =
     let so_far = c.loop-number.invariant in
     let within = item_at_any c.args.containers.now n c.index-containers-number.result c.loop-number-test.true
     c.index-containers-number.is in
-    let P : ℕ → Container → Type 0 = λ k x. (e : Container) (pod : PodSpec) (greatest : ℕ) (h : List PodTick)
-    → IsContainerOf pod greatest h k (slice_index_or c.args.containers.now k e)
-    → IsContainerOf pod greatest (h ++ pod_tick observed ∷ []) k x in
-    let here : P n next = λ e pod greatest h is.
-    c.step-events.ensures.state pod greatest h (within (λ x. IsContainerOf pod greatest h n x) e is) in
-    let M : ℕ → ContainerEvents → Type 0 = λ k x. (e : Container) (pod : PodSpec) (greatest : ℕ) (h : List PodTick)
-    → pod.policy ≡ c.args.policy → IsContainerOf pod greatest h k (slice_index_or c.args.containers.now k e)
-    → IsMadeOf pod greatest h (pod_tick observed) k x in
-    let made_here : M n events = λ e pod greatest h policy is.
-    c.step-events.ensures.made pod greatest h policy (within (λ x. IsContainerOf pod greatest h n x) e is) in
+    let P : ℕ → Container → Type 0 = λ k x. (e : Container) (pod : PodSpec) (max_restart_delay : ℕ) (h : List PodTick)
+    → IsContainerOf pod max_restart_delay h k (slice_index_or c.args.containers.now k e)
+    → IsContainerOf pod max_restart_delay (h ++ pod_tick observed ∷ []) k x in
+    let here : P n next = λ e pod max_restart_delay h is.
+    c.step-events.ensures.state pod max_restart_delay h
+    (within (λ x. IsContainerOf pod max_restart_delay h n x) e is) in
+    let M : ℕ → ContainerEvents
+    → Type 0 = λ k x. (e : Container) (pod : PodSpec) (max_restart_delay : ℕ) (h : List PodTick)
+    → pod.policy ≡ c.args.policy → IsContainerOf pod max_restart_delay h k (slice_index_or c.args.containers.now k e)
+    → IsMadeOf pod max_restart_delay h (pod_tick observed) k x in
+    let made_here : M n events = λ e pod max_restart_delay h policy is.
+    c.step-events.ensures.made pod max_restart_delay h policy
+    (within (λ x. IsContainerOf pod max_restart_delay h n x) e is) in
     let Q : List Container → Type 0 = λ xs. (k : ℕ) (d : Container) → k < n + 1 → P k (slice_index_or xs k d) in
     let R : List ContainerEvents → Type 0 = λ xs. (k : ℕ) (d : ContainerEvents) → k < n + 1
     → M k (slice_index_or xs k d) in
@@ -58,17 +61,18 @@ pub returns-clause-count : goal.returns-clause-count
 returns-clause-count c = omega (arith, c.loop-number.invariant.as_many)
 
 pub returns-clause-containers : goal.returns-clause-containers
-returns-clause-containers c = λ pod greatest h are. record {
+returns-clause-containers c = λ pod max_restart_delay h are. record {
   as_many = omega (arith, c.loop-number.invariant.as_many, are.as_many);
   each = λ n d lt.
       let e = some_item c.args.containers.now n (omega (arith, are.as_many)) in
-      c.loop-number.invariant.each n d e (omega (arith, are.as_many)) pod greatest h (are.each n e lt);
+      c.loop-number.invariant.each n d e (omega (arith, are.as_many)) pod max_restart_delay h (are.each n e lt);
 }
 
 pub returns-clause-made : goal.returns-clause-made
-returns-clause-made c = λ pod greatest h policy are. record {
+returns-clause-made c = λ pod max_restart_delay h policy are. record {
   as_many = omega (arith, c.loop-number.invariant.as_many_made, are.as_many);
   each = λ n d lt.
       let e = some_item c.args.containers.now n (omega (arith, are.as_many)) in
-      c.loop-number.invariant.each_made n d e (omega (arith, are.as_many)) pod greatest h policy (are.each n e lt);
+      c.loop-number.invariant.each_made n d e (omega (arith, are.as_many)) pod max_restart_delay h policy
+      (are.each n e lt);
 }

@@ -11,11 +11,11 @@ abbrev pub invariant-loop-number : goal.invariant-loop-number
 invariant-loop-number l = record {
   as_many : length l.all.items ≡ l.number;
   as_many_made : length l.made.items ≡ l.number;
-  each : (n : ℕ) (d e : Container) → n < l.number → (pod : PodSpec) (greatest : ℕ) (h : List PodTick)
-      → IsContainerOf pod greatest h n (slice_index_or l.containers n e)
-      → IsContainerOf pod greatest (h ++ pod_tick l.observed ∷ []) n (slice_index_or l.all.items n d);
+  each : (n : ℕ) (d e : Container) → n < l.number → (pod : PodSpec) (max_restart_delay : ℕ) (h : List PodTick)
+      → IsContainerOf pod max_restart_delay h n (slice_index_or l.containers n e)
+      → IsContainerOf pod max_restart_delay (h ++ pod_tick l.observed ∷ []) n (slice_index_or l.all.items n d);
   each_made : (n : ℕ) (d : ContainerEvents) (e : Container) → n < l.number
-      → (pod : PodSpec) (greatest : ℕ) (h : List PodTick)
-      → pod.policy ≡ l.policy → IsContainerOf pod greatest h n (slice_index_or l.containers n e)
-      → IsMadeOf pod greatest h (pod_tick l.observed) n (slice_index_or l.made.items n d);
+      → (pod : PodSpec) (max_restart_delay : ℕ) (h : List PodTick)
+      → pod.policy ≡ l.policy → IsContainerOf pod max_restart_delay h n (slice_index_or l.containers n e)
+      → IsMadeOf pod max_restart_delay h (pod_tick l.observed) n (slice_index_or l.made.items n d);
 }

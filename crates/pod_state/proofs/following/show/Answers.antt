@@ -15,14 +15,15 @@ pub loop-number-preserved : goal.loop-number-preserved
 loop-number-preserved c =
     let n = c.loop-number.number in
     let so_far = c.loop-number.invariant in
-    let P : ℕ → ContainerStatus → Type 0 = λ k s. (e : Container) (pod : PodSpec) (greatest : ℕ) (h : List PodTick)
-    → IsContainerOf pod greatest h k (slice_index_or c.args.containers.now k e)
+    let P : ℕ → ContainerStatus
+    → Type 0 = λ k s. (e : Container) (pod : PodSpec) (max_restart_delay : ℕ) (h : List PodTick)
+    → IsContainerOf pod max_restart_delay h k (slice_index_or c.args.containers.now k e)
     → IsShownOf pod (IsTrue c.args.is_evicted) h k s in
-    let here : P n c.status.result = λ e pod greatest h is.
-    shown_is pod greatest n h c.index-containers-number.result (IsTrue c.args.is_evicted) c.status.result
-    (λ spec k st. c.status.ensures spec greatest k st)
+    let here : P n c.status.result = λ e pod max_restart_delay h is.
+    shown_is pod max_restart_delay n h c.index-containers-number.result (IsTrue c.args.is_evicted) c.status.result
+    (λ spec k st. c.status.ensures spec max_restart_delay k st)
     (item_at_any c.args.containers.now n c.index-containers-number.result c.loop-number-test.true
-    c.index-containers-number.is (λ x. IsContainerOf pod greatest h n x) e is) in
+    c.index-containers-number.is (λ x. IsContainerOf pod max_restart_delay h n x) e is) in
     let all = set_each P c.loop-number.statuses.items c.status.result n
     (omega (arith, so_far.as_many, c.loop-number-test.true)) (λ k d lt e. so_far.each k d e lt) here in
     record {
@@ -31,9 +32,9 @@ loop-number-preserved c =
     }
 
 pub returns : goal.returns
-returns c = λ pod greatest h are. record {
+returns c = λ pod max_restart_delay h are. record {
   as_many = omega (arith, c.loop-number.invariant.as_many, are.as_many);
   each = λ n d lt.
       let e = some_item c.args.containers.now n (omega (arith, are.as_many)) in
-      c.loop-number.invariant.each n d e (omega (arith, are.as_many)) pod greatest h (are.each n e lt);
+      c.loop-number.invariant.each n d e (omega (arith, are.as_many)) pod max_restart_delay h (are.each n e lt);
 }

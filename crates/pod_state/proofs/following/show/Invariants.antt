@@ -11,7 +11,8 @@ abbrev pub invariant-loop-number : goal.invariant-loop-number
 invariant-loop-number l = record {
   as_many : length l.statuses.items ≡ length l.containers;
   each : (n : ℕ) (d : ContainerStatus) (e : Container) → n < l.number
-      → (pod : PodSpec) (greatest : ℕ) (h : List PodTick)
-      → IsContainerOf pod greatest h n (slice_index_or l.containers n e) → IsShownOf pod (IsTrue l.is_evicted) h n
+      → (pod : PodSpec) (max_restart_delay : ℕ) (h : List PodTick)
+      → IsContainerOf pod max_restart_delay h n (slice_index_or l.containers n e)
+      → IsShownOf pod (IsTrue l.is_evicted) h n
       (slice_index_or l.statuses.items n d);
 }

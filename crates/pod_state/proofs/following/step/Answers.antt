@@ -11,22 +11,24 @@ step-requires-clause-accepted c =
     subst (λ (o : ContainerObs). Accepts c.args.container.now o.seen) (sym c.shown_of-shown.ensures) c.requires.accepted
 
 pub returns-clause-state : goal.returns-clause-state
-returns-clause-state c = λ pod greatest h is.
+returns-clause-state c = λ pod max_restart_delay h is.
     let observed = c.args.observed.now in
     let next = c.step.new.self in
-    next_is pod greatest c.args.number h observed c.args.container.now next
-    (λ spec k st. subst (λ (o : ContainerObs). IsStateOf spec greatest (k ++ recorded observed.at o ∷ []) next)
+    next_is pod max_restart_delay c.args.number h observed c.args.container.now next
+    (λ spec k st. subst (λ (o : ContainerObs). IsStateOf spec max_restart_delay (k ++ recorded observed.at o ∷ []) next)
     c.shown_of-shown.ensures
-    (subst (λ (m : ℕ). IsStateOf spec greatest (k ++ recorded m c.shown_of-shown.result ∷ []) next) c.at.ensures
-    (c.step.ensures.state spec greatest k st))) is
+    (subst (λ (m : ℕ). IsStateOf spec max_restart_delay (k ++ recorded m c.shown_of-shown.result ∷ []) next)
+    c.at.ensures
+    (c.step.ensures.state spec max_restart_delay k st))) is
 
 pub returns-clause-made : goal.returns-clause-made
-returns-clause-made c = λ pod greatest h policy is.
+returns-clause-made c = λ pod max_restart_delay h policy is.
     let observed = c.args.observed.now in
     let made = c.step.result in
-    made_is pod greatest c.args.number h observed c.args.policy c.args.container.now made policy
-    (λ spec k st. subst (λ (o : ContainerObs). AreEvents c.args.policy greatest spec
+    made_is pod max_restart_delay c.args.number h observed c.args.policy c.args.container.now made policy
+    (λ spec k st. subst (λ (o : ContainerObs). AreEvents c.args.policy max_restart_delay spec
     (k ++ recorded observed.at o ∷ []) (length k) made) c.shown_of-shown.ensures
-    (subst (λ (m : ℕ). AreEvents c.args.policy greatest spec (k ++ recorded m c.shown_of-shown.result ∷ []) (length k)
+    (subst (λ (m : ℕ). AreEvents c.args.policy max_restart_delay spec (k ++ recorded m c.shown_of-shown.result ∷ [])
+    (length k)
     made) c.at.ensures
-    (c.step.ensures.events spec greatest k st))) is
+    (c.step.ensures.events spec max_restart_delay k st))) is

@@ -9,8 +9,8 @@ use Rattle.pod_state.proofs.following.views_of.Given as goal
 abbrev pub invariant-loop-container : goal.invariant-loop-container
 invariant-loop-container l = record {
   as_many : length l.views.items ≡ l.container-index;
-  each : (n : ℕ) (d : ContainerView) → n < l.container-index → (e : Container) (pod : PodSpec) (greatest : ℕ)
+  each : (n : ℕ) (d : ContainerView) → n < l.container-index → (e : Container) (pod : PodSpec) (max_restart_delay : ℕ)
       (h : List PodTick)
-      → IsContainerOf pod greatest h n (slice_index_or l.containers n e)
+      → IsContainerOf pod max_restart_delay h n (slice_index_or l.containers n e)
       → IsViewOf pod h n (slice_index_or l.views.items n d);
 }

@@ -1,19 +1,19 @@
 use Rattle.std.proofs.Common.{◌≡◌, ◌+◌, ℕ, length, map, vec_len}
 use Rattle.std.specs.List.{sum_by}
 use Rattle.pool_worker.specs.Seats.{taken_by}
-use Rattle.pool_gather.specs.Rests.{StandAt, rest_place, rest_parts, rest_taken}
+use Rattle.pool_gather.specs.FinishedWorkers.{StandAt, finished_place, finished_parts, finished_taken}
 use Rattle.pool_gather.proofs.absorb.absorb.Given as goal
 
-abbrev pub invariant-loop-reach : goal.invariant-loop-reach
-invariant-loop-reach g l = record {
-  stand : StandAt l.row.items (map rest_place l.rests.items);
-  places : map rest_place l.rests.items ≡ map rest_place l.initial.rests.items;
-  harvests : map (λ r. r.harvest) l.rests.items ≡ map (λ r. r.harvest) l.initial.rests.items;
-  parts : sum_by rest_parts l.rests.items + length l.row.items
-      ≡ sum_by rest_parts l.initial.rests.items + length l.initial.row.items;
-  taken : (weight : ℕ → ℕ) → sum_by (rest_taken weight) l.rests.items + taken_by weight l.row.items
-      ≡ sum_by (rest_taken weight) l.initial.rests.items + taken_by weight l.initial.row.items;
+abbrev pub invariant-loop-handle : goal.invariant-loop-handle
+invariant-loop-handle g l = record {
+  stand : StandAt l.row.items (map finished_place l.finished.items);
+  places : map finished_place l.finished.items ≡ map finished_place l.initial.finished.items;
+  worker_results : map (λ r. r.worker_result) l.finished.items ≡ map (λ r. r.worker_result) l.initial.finished.items;
+  parts : sum_by finished_parts l.finished.items + length l.row.items
+      ≡ sum_by finished_parts l.initial.finished.items + length l.initial.row.items;
+  taken : (weight : ℕ → ℕ) → sum_by (finished_taken weight) l.finished.items + taken_by weight l.row.items
+      ≡ sum_by (finished_taken weight) l.initial.finished.items + taken_by weight l.initial.row.items;
 }
 
-abbrev pub decreases-loop-reach : goal.decreases-loop-reach
-decreases-loop-reach g l = vec_len l.row
+abbrev pub decreases-loop-handle : goal.decreases-loop-handle
+decreases-loop-handle g l = vec_len l.row

@@ -1,19 +1,19 @@
 use Rattle.std.proofs.Common.{◌≡◌, ◌+◌, ◌*◌, ℕ, All, map, vec_len}
 use Rattle.std.specs.List.{sum_by}
 use Rattle.pool_worker.specs.Seats.{taken_by}
-use Rattle.pool_gather.specs.Rests.{IsRow, rest_place, rest_parts, rest_taken}
+use Rattle.pool_gather.specs.FinishedWorkers.{IsRow, finished_place, finished_parts, finished_taken}
 use Rattle.pool_gather.proofs.absorb.absorb_all.Given as goal
 
 abbrev pub invariant-loop-row : goal.invariant-loop-row
 invariant-loop-row g l = record {
-  rows : All (IsRow (map rest_place l.initial.rests.items)) l.rows.items;
-  places : map rest_place l.rests.items ≡ map rest_place l.initial.rests.items;
-  harvests : map (λ r. r.harvest) l.rests.items ≡ map (λ r. r.harvest) l.initial.rests.items;
-  parts : sum_by rest_parts l.rests.items + vec_len l.rows * vec_len l.initial.rests
-      ≡ sum_by rest_parts l.initial.rests.items + vec_len l.initial.rows * vec_len l.initial.rests;
+  rows : All (IsRow (map finished_place l.initial.finished.items)) l.rows.items;
+  places : map finished_place l.finished.items ≡ map finished_place l.initial.finished.items;
+  worker_results : map (λ r. r.worker_result) l.finished.items ≡ map (λ r. r.worker_result) l.initial.finished.items;
+  parts : sum_by finished_parts l.finished.items + vec_len l.rows * vec_len l.initial.finished
+      ≡ sum_by finished_parts l.initial.finished.items + vec_len l.initial.rows * vec_len l.initial.finished;
   taken : (weight : ℕ → ℕ)
-      → sum_by (rest_taken weight) l.rests.items + sum_by (λ row. taken_by weight row.items) l.rows.items
-      ≡ sum_by (rest_taken weight) l.initial.rests.items
+      → sum_by (finished_taken weight) l.finished.items + sum_by (λ row. taken_by weight row.items) l.rows.items
+      ≡ sum_by (finished_taken weight) l.initial.finished.items
       + sum_by (λ row. taken_by weight row.items) l.initial.rows.items;
 }
 

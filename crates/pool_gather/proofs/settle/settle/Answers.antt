@@ -16,7 +16,7 @@ entered-init g c =
     let join = ap (λ s. s.numbers) c.join.ensures in
     record {
       right = total.right;
-      right_late = total.right_late;
+      right_uncounted = total.right_uncounted;
       each = λ weight. (
           let none = ap (λ (r : Option Piece). weigh weight (option_to_list r)) c.requires.none in
           omega (arith, c.requires.each weight));
@@ -31,7 +31,7 @@ enter_whole-requires-clause-room g c =
     let i = l.invariant in
     let each = i.each (λ _. 1) in
     let a = ones l.done.items in
-    let b = ones l.late.items in
+    let b = ones l.uncounted.items in
     let d = ones g.D.Deal.all in
     let few = c.requires.few in
     let few_done : length l.done.items ≤ 256 = omega arith in
@@ -61,9 +61,9 @@ push_reserved-requires g c =
     let l = c.entered in
     let each = l.invariant.each (λ _. 1) in
     let a = ones l.done.items in
-    let b = ones l.late.items in
+    let b = ones l.uncounted.items in
     let d = ones g.D.Deal.all in
-    omega (arith, l.done.ok.0, l.late.ok.0, l.invariant.room, c.in-Some.ensures.cases)
+    omega (arith, l.done.ok.0, l.uncounted.ok.0, l.invariant.room, c.in-Some.ensures.cases)
 
 pub entered-preserved : goal.entered-preserved
 entered-preserved g c =
@@ -81,11 +81,11 @@ entered-preserved g c =
     let old = i.added.added in
     record {
       right = grown done' l.done.items new.items piece put.items i.right
-          (last done' l.late.items left.items piece pop i.right_late);
-      right_late = front done' l.late.items left.items piece pop i.right_late;
+          (last done' l.uncounted.items left.items piece pop i.right_uncounted);
+      right_uncounted = front done' l.uncounted.items left.items piece pop i.right_uncounted;
       each = λ weight. (
           let a = weigh_more weight l.done.items new.items piece put.items in
-          let b = weigh_more weight left.items l.late.items piece pop in
+          let b = weigh_more weight left.items l.uncounted.items piece pop in
           omega (arith, i.each weight));
       room = omega (arith, put.capacity, i.room);
       whole = ap (λ s. s.parts) e;

@@ -7,12 +7,12 @@ use Rattle.pool_gather.proofs.settle.settle.Given as goal
 abbrev pub invariant-entered : goal.invariant-entered
 invariant-entered g l = record {
   right : All (IsDone g.D.Deal.all) l.done.items;
-  right_late : All (IsDone g.D.Deal.all) l.late.items;
-  each : (weight : ℕ → ℕ) → weigh weight l.done.items + weigh weight l.late.items ≡ weigh weight g.D.Deal.all;
+  right_uncounted : All (IsDone g.D.Deal.all) l.uncounted.items;
+  each : (weight : ℕ → ℕ) → weigh weight l.done.items + weigh weight l.uncounted.items ≡ weigh weight g.D.Deal.all;
   room : length g.D.Deal.all ≤ vec_capacity l.done;
   whole : l.share.parts ≡ most_parts;
   added : AreAdded l.done.items l.fn.share.numbers l.share.numbers;
 }
 
 abbrev pub decreases-entered : goal.decreases-entered
-decreases-entered g l = vec_len l.late
+decreases-entered g l = vec_len l.uncounted

@@ -1,4 +1,5 @@
-use Rattle.std.proofs.Common.{◌≡◌, ◌+◌, ◌-◌, ◌%◌, ◌<◌, ℕ, List, [], ◌∷◌, length, vec_len, All, map, set, sym, ap, ◌∙◌, subst}
+use Rattle.std.proofs.Common.{◌≡◌, ◌+◌, ◌-◌, ◌%◌, ◌<◌, ℕ, List, [], ◌∷◌, length, vec_len, All, map, set, sym, ap, ◌∙◌}
+use Rattle.std.proofs.Common.{subst}
 use Rattle.std.proofs.Common.{refl, arith, rules}
 use Rattle.std.specs.List.{sum_by}
 use Rattle.std.proofs.lemmas.List.Sums.{sum_by_push}
@@ -6,7 +7,7 @@ use Rattle.std.proofs.lemmas.List.Elements.{All-set, All-weaker}
 use Rattle.std.proofs.lemmas.List.Sorted.{sum_by-IsPermutation}
 use Rattle.crossbeam_deque.specs.Handles.{worker_deque, worker_view}
 use Rattle.pod_piece.specs.Piece.{Piece}
-use Rattle.piece_deques.specs.Rule.{IsDue}
+use Rattle.piece_deques.specs.Rule.{IsPieceDue}
 use Rattle.piece_deques.specs.Ends.{IsOpen, pushed_weight}
 use Rattle.piece_deques.proofs.Lists.{front, map_set, sum_set}
 use Rattle.pool_harvest.specs.Done.{weigh}
@@ -61,7 +62,7 @@ loop-piece-preserved g c =
       few = let had = h.few in omega arith;
     }) l.owners.items i.opened in
     record {
-      due = front (IsDue g.D.Deal.all) l.left.items rest piece row i.due;
+      due = front (IsPieceDue g.D.Deal.all) l.left.items rest piece row i.due;
       within = omega (arith, c.in-Some.ensures.len, i.within);
       some = search rules;
       deques = map_set worker_deque l.owners.items at old new was same.0 ∙ i.deques;

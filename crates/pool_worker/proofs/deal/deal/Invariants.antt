@@ -1,7 +1,7 @@
 use Rattle.std.proofs.Common.{◌≡◌, ◌+◌, ◌-◌, ◌<◌, ◌≤◌, ℕ, All, map, reverse, vec_len}
 use Rattle.std.specs.List.{sum_by}
 use Rattle.crossbeam_deque.specs.Handles.{worker_deque}
-use Rattle.piece_deques.specs.Rule.{number_of, IsDue}
+use Rattle.piece_deques.specs.Rule.{number_of, IsPieceDue}
 use Rattle.piece_deques.specs.Ends.{IsOpen, pushed_weight}
 use Rattle.pool_harvest.specs.Done.{weigh}
 use Rattle.pool_worker.specs.Dealing.{deal, pushed_of}
@@ -9,7 +9,7 @@ use Rattle.pool_worker.proofs.deal.deal.Given as goal
 
 abbrev pub invariant-loop-piece : goal.invariant-loop-piece
 invariant-loop-piece g l = record {
-  due : All (IsDue g.D.Deal.all) l.left.items;
+  due : All (IsPieceDue g.D.Deal.all) l.left.items;
   within : vec_len l.left ≤ vec_len l.initial.left;
   some : 0 < vec_len l.owners;
   deques : map worker_deque l.owners.items ≡ map worker_deque l.initial.owners.items;

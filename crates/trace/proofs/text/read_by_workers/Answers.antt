@@ -6,7 +6,8 @@ use Rattle.trace.proofs.Taken.{leads_from_start, leads_on, stops}
 use Rattle.trace.proofs.text.read_by_workers.Goals as goal
 
 pub loop-rest-init : goal.loop-rest-init
-loop-rest-init g c = (rw c.nothing-reader.ensures (leads_from_start c.args.format c.args.text.now), omega arith, omega arith)
+loop-rest-init g c =
+    (rw c.nothing-reader.ensures (leads_from_start c.args.format c.args.text.now), omega arith, omega arith)
 
 pub returns-in_err-next : goal.returns-in_err-next
 returns-in_err-next g c =

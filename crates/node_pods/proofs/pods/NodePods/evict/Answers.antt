@@ -6,7 +6,7 @@ use Rattle.node_pods.proofs.pods.NodePods.evict.Goals as goal
 pub invariant_of-self : goal.invariant_of-self
 invariant_of-self c =
     let i = c.self.inside in
-    placed_evicted i.pieces.items i.greatest i.has_dedicated_imagefs c.args.number c.args.order
+    placed_evicted i.pieces.items i.max_restart_delay i.has_dedicated_imagefs c.args.number c.args.order
     c.evict_at.new.pieces.items c.self.invariant c.evict_at.ensures
 
 pub evict_at-requires-clause-evictable : goal.evict_at-requires-clause-evictable

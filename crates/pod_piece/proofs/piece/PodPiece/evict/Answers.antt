@@ -22,7 +22,7 @@ evict-requires c =
     let free : i.is_pending ≡ false = ap (λ (q : Piece). q.is_pending) view ∙ c.requires.free in
     let lives = subst (λ (q : Piece). Lives q) (sym view) c.requires.lives in
     let after = state_free p i.differs.items i.state i.status i.events.items free held in
-    goes_on i.pod i.greatest (place_of i.eviction) p.handed i.state
+    goes_on i.pod i.max_restart_delay (place_of i.eviction) p.handed i.state
     (after.now (place_of i.eviction) (may_self (place_of i.eviction) (length p.handed))) (lives_free p free lives)
 
 pub show-requires : goal.show-requires
@@ -38,8 +38,8 @@ show-requires c =
     ∙ c.requires.last) in
     let now = evicted_state p (recorded c.args.order.at last.0) i.differs.items i.state c.evict.new.self i.status
     i.events.items free lives last.1 held
-    (λ was before is. c.evict.ensures.state i.pod i.greatest h last.0 was before is) in
-    held.shown.containers.as_many ∙ has_containers i.pod i.greatest (Some (length h))
+    (λ was before is. c.evict.ensures.state i.pod i.max_restart_delay h last.0 was before is) in
+    held.shown.containers.as_many ∙ has_containers i.pod i.max_restart_delay (Some (length h))
     (h ++ recorded c.args.order.at last.0 ∷ []) c.evict.new.self now
 
 pub invariant_of-self : goal.invariant_of-self
@@ -71,15 +71,15 @@ invariant_of-self c =
     let kept = kept_evicted p x c.args.order i.differs.items i.state c.evict.new.self i.status status i.events.items
     free lives last.1 held
     (λ was before is. (
-      c.evict.ensures.state i.pod i.greatest h last.0 was before is,
+      c.evict.ensures.state i.pod i.max_restart_delay h last.0 was before is,
       c.evict.ensures.ends i.pod
-          i.greatest h last.0 was before is,
+          i.max_restart_delay h last.0 was before is,
     ))
     (λ shown none st end. record {
       number_is = shown.number_is;
       lifecycle = subst (λ (l : Lifecycle). IsLifecycleOf i.pod (Some (length h)) k l)
           (sym c.lifecycle-lifecycle.ensures) st.progress.so_far;
-      containers = c.show.ensures i.pod i.greatest (Some (length h)) (Some (length h)) k end
+      containers = c.show.ensures i.pod i.max_restart_delay (Some (length h)) (Some (length h)) k end
           (by_eviction (Some (length h)) (Some (length h)) true ((λ t. refl), (λ w. refl)) refl) st;
       class = shown.class;
       requests = shown.requests;
@@ -88,5 +88,6 @@ invariant_of-self c =
       order = refl;
     }) in
     subst (λ (n : ℕ). IsKept
-    (piece i.number i.pod i.greatest i.history i.is_pending (Some (record { place = n; order = c.args.order })))
+    (piece i.number i.pod i.max_restart_delay i.history i.is_pending
+    (Some (record { place = n; order = c.args.order })))
     i.differs.items c.evict.new.self status i.events.items) place kept

@@ -30,7 +30,7 @@ invariant_of-self-2 c =
     let held : AreKept i = subst AreKept (sym c.deref_mut-parts.ensures.value) c.self.invariant in
     let obs = c.args.observed in
     let h = map pod_tick i.history in
-    let old : Piece = piece i.number i.pod i.greatest i.history i.is_pending i.eviction in
+    let old : Piece = piece i.number i.pod i.max_restart_delay i.history i.is_pending i.eviction in
     let next = subst (λ (p : Piece). IsNextTick p.pod p.handed (pod_tick obs)) (sym view) c.requires.next in
     let free : i.is_pending ≡ false = ap (λ (p : Piece). p.is_pending) view ∙ c.requires.free in
     let last : c.at.result.now ≡ obs = pushed_last i.history obs c.len-last.result c.at.result.now
@@ -42,7 +42,7 @@ invariant_of-self-2 c =
     (c.follow.ensures i.pod h held.listed) in
     let kept = kept_handed old (pod_tick obs) i.differs.items c.follow.new.differs.items i.state i.status
     i.events.items free next listed held in
-    subst (λ (os : List PodObs). IsKept (piece i.number i.pod i.greatest os true i.eviction)
+    subst (λ (os : List PodObs). IsKept (piece i.number i.pod i.max_restart_delay os true i.eviction)
     c.follow.new.differs.items i.state i.status i.events.items) (sym c.in_ok-push.ensures.ok)
     (subst (λ (p : Piece). IsKept p c.follow.new.differs.items i.state i.status i.events.items)
-    (sym (piece_handed i.number i.pod i.greatest i.history i.is_pending i.eviction obs)) kept)
+    (sym (piece_handed i.number i.pod i.max_restart_delay i.history i.is_pending i.eviction obs)) kept)

@@ -18,10 +18,12 @@ take-requires-clause-follows c =
     let view : piece_of i ≡ c.args.self.now = ap piece_of c.deref_mut-parts.ensures.value ∙ c.self.view_is in
     let held : AreKept i = subst AreKept (sym c.deref_mut-parts.ensures.value) c.self.invariant in
     let observed = c.at-observed.result.now in
-    let here = at_last c.args.self.now i.number i.pod i.greatest i.history i.is_pending i.eviction i.differs.items
+    let here =
+    at_last c.args.self.now i.number i.pod i.max_restart_delay i.history i.is_pending i.eviction i.differs.items
     i.state i.status i.events.items c.len-last.result observed
     view c.requires held c.len-last.ensures c.at-observed.ensures in
-    may_take i.pod i.greatest (place_of i.eviction) (before_last (map pod_tick i.history)) i.state observed here.now
+    may_take i.pod i.max_restart_delay (place_of i.eviction)
+    (before_last (map pod_tick i.history)) i.state observed here.now
     here.next
 
 pub take-requires-clause-bounded : goal.take-requires-clause-bounded
@@ -30,7 +32,8 @@ take-requires-clause-bounded c =
     let view : piece_of i ≡ c.args.self.now = ap piece_of c.deref_mut-parts.ensures.value ∙ c.self.view_is in
     let held : AreKept i = subst AreKept (sym c.deref_mut-parts.ensures.value) c.self.invariant in
     let observed = c.at-observed.result.now in
-    (at_last c.args.self.now i.number i.pod i.greatest i.history i.is_pending i.eviction i.differs.items i.state
+    (at_last c.args.self.now i.number i.pod i.max_restart_delay i.history i.is_pending i.eviction i.differs.items
+    i.state
     i.status i.events.items c.len-last.result observed
     view c.requires held c.len-last.ensures c.at-observed.ensures).next.bounded
 
@@ -41,11 +44,13 @@ show-requires c =
     let held : AreKept i = subst AreKept (sym c.deref_mut-parts.ensures.value) c.self.invariant in
     let observed = c.at-observed.result.now in
     let h = before_last (map pod_tick i.history) in
-    let here = at_last c.args.self.now i.number i.pod i.greatest i.history i.is_pending i.eviction i.differs.items
+    let here =
+    at_last c.args.self.now i.number i.pod i.max_restart_delay i.history i.is_pending i.eviction i.differs.items
     i.state i.status i.events.items c.len-last.result observed
     view c.requires held c.len-last.ensures c.at-observed.ensures in
-    let after = c.in_ok-events.ensures.ok i.pod i.greatest (place_of i.eviction) h refl here.not_now here.now in
-    held.shown.containers.as_many ∙ has_containers i.pod i.greatest (place_of i.eviction)
+    let after =
+    c.in_ok-events.ensures.ok i.pod i.max_restart_delay (place_of i.eviction) h refl here.not_now here.now in
+    held.shown.containers.as_many ∙ has_containers i.pod i.max_restart_delay (place_of i.eviction)
     (h ++ pod_tick observed ∷ []) c.take.new.self after
 
 pub invariant_of-self-2 : goal.invariant_of-self-2
@@ -57,15 +62,16 @@ invariant_of-self-2 c =
     let h = before_last (map pod_tick i.history) in
     let k = h ++ pod_tick observed ∷ [] in
     let e = place_of i.eviction in
-    let here = at_last c.args.self.now i.number i.pod i.greatest i.history i.is_pending i.eviction i.differs.items
+    let here =
+    at_last c.args.self.now i.number i.pod i.max_restart_delay i.history i.is_pending i.eviction i.differs.items
     i.state i.status i.events.items c.len-last.result observed
     view c.requires held c.len-last.ensures c.at-observed.ensures in
-    kept_updated (piece i.number i.pod i.greatest i.history i.is_pending i.eviction) (pod_tick observed)
+    kept_updated (piece i.number i.pod i.max_restart_delay i.history i.is_pending i.eviction) (pod_tick observed)
     i.differs.items i.state c.take.new.self i.status _ i.events.items c.in_ok-events.events.items
     here.pending here.last held
-    (λ e not is. c.in_ok-events.ensures.ok i.pod i.greatest e h refl not is)
+    (λ e not is. c.in_ok-events.ensures.ok i.pod i.max_restart_delay e h refl not is)
     (λ e is. subst (λ (l : Lifecycle). IsProgressOf i.pod e h l) (sym c.in_ok-events.ensures.before) is.progress)
-    (λ e not is. c.in_ok-events.ensures.events i.pod i.greatest e h refl not is)
+    (λ e not is. c.in_ok-events.ensures.events i.pod i.max_restart_delay e h refl not is)
     (λ shown before after.
     let st = after.now e (may_self e (length k)) in
     let phase = st.progress.so_far.phase in
@@ -75,8 +81,9 @@ invariant_of-self-2 c =
       number_is = shown.number_is;
       lifecycle = subst (λ (l : Lifecycle). IsLifecycleOf i.pod e k l) (sym c.lifecycle-lifecycle.ensures)
           st.progress.so_far;
-      containers = c.show.ensures i.pod i.greatest e phase.0 k phase.1
-          (by_eviction e phase.0 c.is_some-is_evicted.result (flag_says i.eviction c.is_some-is_evicted.result c.is_some-is_evicted.ensures)
+      containers = c.show.ensures i.pod i.max_restart_delay e phase.0 k phase.1
+          (by_eviction e phase.0 c.is_some-is_evicted.result
+          (flag_says i.eviction c.is_some-is_evicted.result c.is_some-is_evicted.ensures)
           (end_is i.pod k e phase.0 after.ended phase.1)) st;
       class = shown.class;
       requests = shown.requests;

@@ -4,10 +4,11 @@ use Rattle.pod_state.proofs.StateLemmas.{when_evicted, ends_evicted}
 use Rattle.pod_state.proofs.state.PodState.evict.Goals as goal
 
 pub returns-clause-state : goal.returns-clause-state
-returns-clause-state c = λ pod greatest h entry was before is.
-    when_evicted pod greatest h (recorded c.args.at entry) c.args.self.now _ c.requires refl was is before
+returns-clause-state c = λ pod max_restart_delay h entry was before is.
+    when_evicted pod max_restart_delay h (recorded c.args.at entry) c.args.self.now _ c.requires refl was is before
     (c.evicted-self.ensures pod h entry was is.progress.so_far before)
 
 pub returns-clause-ends : goal.returns-clause-ends
-returns-clause-ends c = λ pod greatest h entry was before is. ends_evicted pod greatest h (recorded c.args.at entry)
+returns-clause-ends c = λ pod max_restart_delay h entry was before is. ends_evicted pod max_restart_delay h
+    (recorded c.args.at entry)
     c.args.self.now c.requires was before is

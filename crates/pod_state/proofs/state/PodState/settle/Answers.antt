@@ -8,29 +8,29 @@ use Rattle.pod_state.proofs.StateLemmas.{not_evicted, before_end, events_lives}
 use Rattle.pod_state.proofs.state.PodState.settle.Goals as goal
 
 -- the lifecycle after the tick
-progress : (c : goal.After-self-3-1) (pod : PodSpec) (greatest : ℕ) (evicted : Option ℕ) (h : List PodTick)
+progress : (c : goal.After-self-3-1) (pod : PodSpec) (max_restart_delay : ℕ) (evicted : Option ℕ) (h : List PodTick)
     → pod.policy ≡ c.args.policy → (evicted ≡ Some (length h) → ⊥)
-    → IsStateOf pod greatest evicted h c.args.self.now
-    → AreContainersOf pod greatest (h ++ pod_tick c.args.observed.now ∷ []) c.args.next.now
+    → IsStateOf pod max_restart_delay evicted h c.args.self.now
+    → AreContainersOf pod max_restart_delay (h ++ pod_tick c.args.observed.now ∷ []) c.args.next.now
     → IsProgressOf pod evicted (h ++ pod_tick c.args.observed.now ∷ []) c.advance.new.self
-progress c pod greatest evicted h policy stays st after =
+progress c pod max_restart_delay evicted h policy stays st after =
     let x = pod_tick c.args.observed.now in
     subst (λ (m : ℕ). IsNext c.args.policy m c.args.views.now c.all_ready-ready.result false
     c.args.self.now.lifecycle c.advance.new.self) c.at.ensures c.advance.ensures pod evicted h x.entry policy
-    (λ lives. c.requires.views pod greatest (h ++ x ∷ []) after)
-    (λ lives. c.all_ready-ready.ensures pod greatest (h ++ x ∷ []) after)
+    (λ lives. c.requires.views pod max_restart_delay (h ++ x ∷ []) after)
+    (λ lives. c.all_ready-ready.ensures pod max_restart_delay (h ++ x ∷ []) after)
     (not_evicted evicted h stays) st.progress
 
 pub returns-clause-ok : goal.returns-clause-ok
-returns-clause-ok c = λ pod greatest evicted h policy stays st.
-    before_end pod greatest evicted h (pod_tick c.args.observed.now) c.args.self.now _ c.args.next.now st
-    c.requires.lives c.copy_from_slice.ensures.items (c.requires.containers pod greatest h)
-    (progress c pod greatest evicted h policy stays st)
+returns-clause-ok c = λ pod max_restart_delay evicted h policy stays st.
+    before_end pod max_restart_delay evicted h (pod_tick c.args.observed.now) c.args.self.now _ c.args.next.now st
+    c.requires.lives c.copy_from_slice.ensures.items (c.requires.containers pod max_restart_delay h)
+    (progress c pod max_restart_delay evicted h policy stays st)
 
 pub returns-clause-events : goal.returns-clause-events
-returns-clause-events c = λ pod greatest evicted h policy stays st.
-    events_lives pod greatest evicted h (pod_tick c.args.observed.now) c.args.self.now c.advance.new.self
-    c.args.made.now _ _ st c.requires.lives stays (c.requires.made pod greatest h policy)
-    (λ before. (progress c pod greatest evicted h policy stays st
-    (c.requires.containers pod greatest h before)).so_far.phase)
+returns-clause-events c = λ pod max_restart_delay evicted h policy stays st.
+    events_lives pod max_restart_delay evicted h (pod_tick c.args.observed.now) c.args.self.now c.advance.new.self
+    c.args.made.now _ _ st c.requires.lives stays (c.requires.made pod max_restart_delay h policy)
+    (λ before. (progress c pod max_restart_delay evicted h policy stays st
+    (c.requires.containers pod max_restart_delay h before)).so_far.phase)
     c.phase_event-change.ensures c.in_ok-events.ensures

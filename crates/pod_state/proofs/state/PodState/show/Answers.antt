@@ -5,8 +5,10 @@ use Rattle.pod_state.proofs.ContainerLemmas.{statuses_are}
 use Rattle.pod_state.proofs.state.PodState.show.Goals as goal
 
 pub returns : goal.returns
-returns c = λ pod greatest evicted end h is same st.
-    statuses_are pod greatest evicted end h c.args.self.now.containers.items (IsTrue c.args.is_evicted) _ is same
+returns c = λ pod max_restart_delay evicted end h is same st.
+    statuses_are pod max_restart_delay evicted end h c.args.self.now.containers.items
+    (IsTrue c.args.is_evicted) _ is same
     st.containers
-    (λ k are. c.show.ensures pod greatest k (subst (λ (cs : List Container). AreContainersOf pod greatest k cs)
+    (λ k are. c.show.ensures pod max_restart_delay k
+    (subst (λ (cs : List Container). AreContainersOf pod max_restart_delay k cs)
     (sym c.deref.ensures.value) are))

@@ -14,84 +14,88 @@ use Rattle.pod_state.proofs.StateLemmas.{not_evicted, after_end, events_ended}
 use Rattle.pod_state.proofs.state.PodState.take.Goals as goal
 
 pub returns-then-has_ended-clause-ok : goal.returns-then-has_ended-clause-ok
-returns-then-has_ended-clause-ok c = λ pod greatest evicted h policy stays st.
+returns-then-has_ended-clause-ok c = λ pod max_restart_delay evicted h policy stays st.
     let ended = c.has_ended.ensures.terminal.0 c.if-has_ended.true in
     let x = pod_tick c.args.observed.now in
-    after_end pod greatest evicted h x c.args.self.now _ st ended refl
+    after_end pod max_restart_delay evicted h x c.args.self.now _ st ended refl
     (subst (λ (m : ℕ). IsNext c.args.policy m [] false false c.args.self.now.lifecycle c.advance.new.self)
     c.at.ensures c.advance.ensures pod evicted h x.entry policy (λ lives. absurd (lives ended))
     (λ lives. absurd (lives ended)) (not_evicted evicted h stays) st.progress)
 
 pub returns-then-has_ended-clause-events : goal.returns-then-has_ended-clause-events
-returns-then-has_ended-clause-events c = λ pod greatest evicted h policy stays st.
-    events_ended pod greatest evicted h (pod_tick c.args.observed.now) c.args.self.now _ st
+returns-then-has_ended-clause-events c = λ pod max_restart_delay evicted h policy stays st.
+    events_ended pod max_restart_delay evicted h (pod_tick c.args.observed.now) c.args.self.now _ st
     (c.has_ended.ensures.terminal.0 c.if-has_ended.true) c.new.ensures.items
 
 -- of one container
 pub settle-requires-clause-containers : goal.settle-requires-clause-containers
-settle-requires-clause-containers c = λ pod greatest h before.
+settle-requires-clause-containers c = λ pod max_restart_delay h before.
     let long : length c.args.self.now.containers.items ≡ 1 = omega (
       arith,
       c.len.ensures,
       c.if-len-eq1.true,
       c.args.self.now.containers.ok.0,
     ) in
-    one_next pod greatest h (pod_tick c.args.observed.now) c.args.self.now.containers.items c.index.result.now
-    c.step.new.container long c.index.ensures (c.step.ensures.state pod greatest h) before
+    one_next pod max_restart_delay h (pod_tick c.args.observed.now) c.args.self.now.containers.items c.index.result.now
+    c.step.new.container long c.index.ensures (c.step.ensures.state pod max_restart_delay h) before
 
 pub settle-requires-clause-made : goal.settle-requires-clause-made
-settle-requires-clause-made c = λ pod greatest h policy before.
+settle-requires-clause-made c = λ pod max_restart_delay h policy before.
     let long : length c.args.self.now.containers.items ≡ 1 = omega (
       arith,
       c.len.ensures,
       c.if-len-eq1.true,
       c.args.self.now.containers.ok.0,
     ) in
-    one_made pod greatest h (pod_tick c.args.observed.now) c.args.self.now.containers.items c.index.result.now
-    c.step.result long c.index.ensures (c.step.ensures.made pod greatest h policy) before
+    one_made pod max_restart_delay h (pod_tick c.args.observed.now) c.args.self.now.containers.items c.index.result.now
+    c.step.result long c.index.ensures (c.step.ensures.made pod max_restart_delay h policy) before
 
 pub settle-requires-clause-views : goal.settle-requires-clause-views
-settle-requires-clause-views c = λ pod greatest h are.
-    one_view pod greatest h c.step.new.container c.view.result
-    (view_is pod greatest 0 h c.step.new.container c.view.result (λ spec k st. c.view.ensures spec greatest k st)) are
+settle-requires-clause-views c = λ pod max_restart_delay h are.
+    one_view pod max_restart_delay h c.step.new.container c.view.result
+    (view_is pod max_restart_delay 0 h c.step.new.container c.view.result
+    (λ spec k st. c.view.ensures spec max_restart_delay k st)) are
 
 -- of two
 pub settle-requires-then-len-eq2-clause-containers : goal.settle-requires-then-len-eq2-clause-containers
-settle-requires-then-len-eq2-clause-containers c = λ pod greatest h before.
+settle-requires-then-len-eq2-clause-containers c = λ pod max_restart_delay h before.
     let long : length c.args.self.now.containers.items ≡ 2 = omega (
       arith,
       c.len-2.ensures,
       c.if-len-eq2.true,
       c.args.self.now.containers.ok.0,
     ) in
-    two_next pod greatest h (pod_tick c.args.observed.now) c.args.self.now.containers.items
+    two_next pod max_restart_delay h (pod_tick c.args.observed.now) c.args.self.now.containers.items
     c.index-then-len-eq2.result.now c.index-then-len-eq2-2.result.now c.step-then-len-eq2.new.container
     c.step-then-len-eq2-2.new.container long c.index-then-len-eq2.ensures c.index-then-len-eq2-2.ensures
-    (c.step-then-len-eq2.ensures.state pod greatest h) (c.step-then-len-eq2-2.ensures.state pod greatest h) before
+    (c.step-then-len-eq2.ensures.state pod max_restart_delay h)
+    (c.step-then-len-eq2-2.ensures.state pod max_restart_delay h) before
 
 pub settle-requires-then-len-eq2-clause-made : goal.settle-requires-then-len-eq2-clause-made
-settle-requires-then-len-eq2-clause-made c = λ pod greatest h policy before.
+settle-requires-then-len-eq2-clause-made c = λ pod max_restart_delay h policy before.
     let long : length c.args.self.now.containers.items ≡ 2 = omega (
       arith,
       c.len-2.ensures,
       c.if-len-eq2.true,
       c.args.self.now.containers.ok.0,
     ) in
-    two_made pod greatest h (pod_tick c.args.observed.now) c.args.self.now.containers.items
+    two_made pod max_restart_delay h (pod_tick c.args.observed.now) c.args.self.now.containers.items
     c.index-then-len-eq2.result.now c.index-then-len-eq2-2.result.now c.step-then-len-eq2.result
     c.step-then-len-eq2-2.result long c.index-then-len-eq2.ensures c.index-then-len-eq2-2.ensures
-    (c.step-then-len-eq2.ensures.made pod greatest h policy) (c.step-then-len-eq2-2.ensures.made pod greatest h policy)
+    (c.step-then-len-eq2.ensures.made pod max_restart_delay h policy)
+    (c.step-then-len-eq2-2.ensures.made pod max_restart_delay h policy)
     before
 
 pub settle-requires-then-len-eq2-clause-views : goal.settle-requires-then-len-eq2-clause-views
-settle-requires-then-len-eq2-clause-views c = λ pod greatest h are.
+settle-requires-then-len-eq2-clause-views c = λ pod max_restart_delay h are.
     let one = c.step-then-len-eq2.new.container in
     let other = c.step-then-len-eq2-2.new.container in
     let view = c.view-then-len-eq2.result in
     let also = c.view-then-len-eq2-2.result in
-    two_views pod greatest h one other view also
-    (view_is pod greatest 0 h one view (λ spec k st. c.view-then-len-eq2.ensures spec greatest k st))
-    (view_is pod greatest 1 h other also (λ spec k st. c.view-then-len-eq2-2.ensures spec greatest k st)) are
+    two_views pod max_restart_delay h one other view also
+    (view_is pod max_restart_delay 0 h one view (λ spec k st. c.view-then-len-eq2.ensures spec max_restart_delay k st))
+    (view_is pod max_restart_delay 1 h other also
+    (λ spec k st. c.view-then-len-eq2-2.ensures spec max_restart_delay k st)) are
 
 -- of more
 pub next_containers-requires-clause-accepted : goal.next_containers-requires-clause-accepted
@@ -101,23 +105,23 @@ next_containers-requires-clause-accepted c =
     (c.requires.follows.accepted lives)
 
 pub settle-requires-2-clause-containers : goal.settle-requires-2-clause-containers
-settle-requires-2-clause-containers c = λ pod greatest h before.
-    subst (λ (cs : List Container). AreContainersOf pod greatest (h ++ pod_tick c.args.observed.now ∷ []) cs)
+settle-requires-2-clause-containers c = λ pod max_restart_delay h before.
+    subst (λ (cs : List Container). AreContainersOf pod max_restart_delay (h ++ pod_tick c.args.observed.now ∷ []) cs)
     (sym c.deref-3.ensures.value)
-    (c.in_ok-all.ensures.containers pod greatest h
-    (subst (λ (cs : List Container). AreContainersOf pod greatest h cs) (sym c.deref.ensures.value) before))
+    (c.in_ok-all.ensures.containers pod max_restart_delay h
+    (subst (λ (cs : List Container). AreContainersOf pod max_restart_delay h cs) (sym c.deref.ensures.value) before))
 
 pub settle-requires-2-clause-made : goal.settle-requires-2-clause-made
-settle-requires-2-clause-made c = λ pod greatest h policy before.
-    subst (λ (ms : List ContainerEvents). AreMade pod greatest h (pod_tick c.args.observed.now) ms)
+settle-requires-2-clause-made c = λ pod max_restart_delay h policy before.
+    subst (λ (ms : List ContainerEvents). AreMade pod max_restart_delay h (pod_tick c.args.observed.now) ms)
     (sym c.deref-4.ensures.value)
-    (c.in_ok-all.ensures.made pod greatest h policy
-    (subst (λ (cs : List Container). AreContainersOf pod greatest h cs) (sym c.deref.ensures.value) before))
+    (c.in_ok-all.ensures.made pod max_restart_delay h policy
+    (subst (λ (cs : List Container). AreContainersOf pod max_restart_delay h cs) (sym c.deref.ensures.value) before))
 
 pub settle-requires-2-clause-views : goal.settle-requires-2-clause-views
-settle-requires-2-clause-views c = λ pod greatest h are.
+settle-requires-2-clause-views c = λ pod max_restart_delay h are.
     subst (λ (vs : List ContainerView). AreViewsOf pod h vs) (sym c.deref-5.ensures.value)
-    (c.in_ok-views.ensures pod greatest h
-    (subst (λ (cs : List Container). AreContainersOf pod greatest h cs) (c.deref-3.ensures.value
+    (c.in_ok-views.ensures pod max_restart_delay h
+    (subst (λ (cs : List Container). AreContainersOf pod max_restart_delay h cs) (c.deref-3.ensures.value
     ∙ sym c.deref-2.ensures.value)
     are))

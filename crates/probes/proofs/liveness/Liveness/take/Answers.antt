@@ -15,5 +15,5 @@ returns-clause-state c = λ start ticks next at is st.
     (taken.liveness_takes c.in-Some.probe start ticks next c.in-Some-belonging.outcome _ _ _ _
     (taken.belonging_is c.in-Some.probe start _ next _ _ _ _ at is c.belonging.ensures c.in-Some-belonging.is)
     c.failure_threshold-limit.ensures.value
-    (λ results run. c.longer-self.ensures Failure c.in-Some-belonging.outcome results c.is_failure.ensures run)
+    (λ results run. c.extend_run-self.ensures Failure c.in-Some-belonging.outcome results c.is_failure.ensures run)
     (rw (sym c.get.ensures ∙ c.in-Some.is) at st))

@@ -16,6 +16,6 @@ returns-clause-state c = λ start ticks next at is st.
     (taken.belonging_is c.in-Some.probe start _ next _ _ _ _ at is c.belonging.ensures c.in-Some-belonging.is)
     c.success_threshold.ensures.value c.success_threshold-2.ensures.value c.failure_threshold.ensures.value
     c.failure_threshold-2.ensures.value
-    (λ results run. c.longer-self.ensures Success c.in-Some-belonging.outcome results c.is_success.ensures run)
-    (λ results run. c.longer-self-2.ensures Failure c.in-Some-belonging.outcome results c.is_failure.ensures run)
+    (λ results run. c.extend_run-self.ensures Success c.in-Some-belonging.outcome results c.is_success.ensures run)
+    (λ results run. c.extend_run-self-2.ensures Failure c.in-Some-belonging.outcome results c.is_failure.ensures run)
     c.stays_ready-self.ensures (rw (sym c.get.ensures ∙ c.in-Some.is) at st))

@@ -5,7 +5,7 @@ use Rattle.restarts.proofs.DelayLemmas.{IsDelay-of_count}
 use Rattle.restarts.proofs.backoff.Backoff.exited.Goals as goal
 
 pub returns-clause-state : goal.returns-clause-state
-returns-clause-state c = λ greatest exits st.
+returns-clause-state c = λ max_restart_delay exits st.
     let count = c.count_after-self.ensures.counts exits c.args.at st.count in
     record {
       kept = st.kept;
@@ -21,6 +21,6 @@ returns-clause-state c = λ greatest exits st.
     }
 
 pub returns-clause-delay : goal.returns-clause-delay
-returns-clause-delay c = λ greatest exits st.
+returns-clause-delay c = λ max_restart_delay exits st.
     IsDelay-of_count _ _ _ _ _ c.args.self.now.within st.kept
     (c.count_after-self.ensures.counts exits c.args.at st.count) c.delay_after-delay.ensures

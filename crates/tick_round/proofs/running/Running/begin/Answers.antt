@@ -26,5 +26,5 @@ returns-in-Ok-hand-clause-begun g c =
       serves = λ before is. c.served-served.ensures period before is;
     })
     (c.in-Ok-hand.ensures.awaited
-    ∙ ap (λ (shown : List (Option PodObs)). awaited (kept_of i.pods.pieces shown) i.pods.greatest
+    ∙ ap (λ (shown : List (Option PodObs)). awaited (kept_of i.pods.pieces shown) i.pods.max_restart_delay
     i.pods.has_dedicated_imagefs) c.into_vec.ensures) refl refl refl

@@ -1,5 +1,0 @@
-use Rattle.following.specs.Steps.{PodsAreAccepted}
-use Rattle.following.proofs.following.pods_accept.Given as goal
-
-abbrev pub invariant-loop-pod : goal.invariant-loop-pod
-invariant-loop-pod l = PodsAreAccepted l.tick l.differs l.pod

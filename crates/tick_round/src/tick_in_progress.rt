@@ -1,0 +1,124 @@
+//! A node in the midst of a tick.
+
+ghost use Rattle.std.specs.Prelude.{◌≡◌, ◌++◌, ◌∷◌, [], List, IfOk, OnOk};
+ghost use Rattle.manifest.specs.declared.pod.PodSpec.{PodSpec};
+ghost use Rattle.observations.specs.declared.tick.TickObs.{TickObs};
+ghost use Rattle.event_list.specs.Tick.{AddsEvents};
+ghost use Rattle.node_pods.specs.Pods.{ArePlaced, joined};
+ghost use Rattle.tick_round.specs.Node.{State, HasTaken};
+ghost use Rattle.tick_round.specs.Round.{IsKept, MayEnd};
+
+use crate::running::Running;
+use event_book::WholeBook;
+use event_list::{Event, add_events};
+use eviction::{Eviction, unless_paused};
+use node_config::NodeConfig;
+use node_pods::AwaitedPods;
+use node_signals::{NodeEvent, NodeSignals, ThresholdKey};
+use pod_piece::PodPiece;
+use std::alloc::{AllocError, Global};
+use std::sync::ledger::Ledger;
+use tick_parts::{carry_out, eviction_for};
+
+/// A node that has begun a tick, without its book and the pieces of its pods, which are out for their
+/// updates.
+#[derive(Drop)]
+pub(crate) struct TickInProgress {
+    pub(crate) alloc: Global,
+    pub(crate) config: NodeConfig,
+    pub(crate) signals: NodeSignals,
+    pub(crate) news: Vec<NodeEvent>,
+    pub(crate) served: Option<ThresholdKey>,
+    pub(crate) pods: AwaitedPods,
+    pub(crate) evictions: Vec<Option<Eviction>>,
+    pub(crate) events: Vec<Event>,
+    pub(crate) at: u64,
+}
+
+/// Adds what happened in the tick, and its eviction.
+fn add_tick(
+    events: &mut Vec<Event>,
+    evictions: &mut Vec<Option<Eviction>>,
+    at: u64,
+    pieces: &[PodPiece],
+    news: &[NodeEvent],
+    eviction: Option<Eviction>,
+) -> Result<(), AllocError>
+    ensures events { OnOk result (AddsEvents at pieces.now news.now eviction events.old.items events.new.items) }
+    ensures evictions { OnOk result (evictions.new.items ≡ evictions.old.items ++ eviction ∷ []) }
+{
+    add_events(events, at, pieces, news, eviction)?;
+    evictions.push(eviction)?;
+    Ok(())
+}
+
+impl TickInProgress {
+    /// The node after the tick, with the pieces that come back, which have taken it into their statuses, and
+    /// this book, in which they were entered: one pod at most is evicted. A refused growth of memory gives
+    /// the node up.
+    pub(crate) fn end<U: Ledger, E: Ledger, O: Ledger>(
+        self,
+        back: Vec<PodPiece>,
+        book: WholeBook<U, E, O>,
+    ) -> Result<Running<U, E, O>, AllocError>
+        requires placed { ArePlaced (joined self.pods back.items) }
+        requires taken { (s : State) × (tick : TickObs) × IsKept s × MayEnd s tick self back.items book }
+        ensures config { IfOk result (λ next. next.config ≡ self.config) }
+        ensures taken { (s : State) (tick : TickObs) (pods : List PodSpec) (ticks : List TickObs)
+            → MayEnd s tick self back.items book → HasTaken pods ticks s
+            → IfOk result (HasTaken pods (ticks ++ tick ∷ [])) }
+    {
+        let TickInProgress {
+            alloc,
+            config,
+            signals,
+            news,
+            served,
+            pods,
+            mut evictions,
+            mut events,
+            at,
+        } = self;
+        let mut pods = match pods.with(back) {
+            Ok(pods) => pods,
+            Err(fault) => {
+                drop((config, signals, news, evictions, events, book));
+                return Err(fault);
+            }
+        };
+        let heeded = unless_paused(&config, at, &evictions, served);
+        let eviction = match eviction_for(&config, &pods, at, heeded) {
+            Ok(eviction) => eviction,
+            Err(fault) => {
+                drop((config, signals, pods, news, evictions, events, book));
+                return Err(fault);
+            }
+        };
+        let added = add_tick(
+            &mut events,
+            &mut evictions,
+            at,
+            pods.pieces(),
+            &news,
+            eviction,
+        );
+        drop(news);
+        carry_out(&mut pods, eviction);
+        match added {
+            Ok(()) => Ok(Running {
+                alloc,
+                config,
+                signals,
+                pods,
+                evictions,
+                events,
+                book,
+                last: Some(at),
+            }),
+            Err(fault) => {
+                drop((config, signals, pods, evictions, events, book));
+                Err(fault)
+            }
+        }
+    }
+}

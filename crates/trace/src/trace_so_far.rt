@@ -1,0 +1,71 @@
+//! What the lines so far say.
+
+use following::ListingOrder;
+use manifest::PodSpec;
+use node_config::{Format, NodeConfig, Version};
+use observations::TickObs;
+use roster::Roster;
+use sequence::Sequence;
+use std::marker::Model;
+
+/// The kinds of line.
+#[derive(Clone, Copy, PartialEq, Eq)]
+pub(crate) enum LineKind {
+    Node,
+    Pod,
+    Tick,
+    /// By which a pod leaves: of version 3 alone.
+    Gone,
+}
+
+/// As what a line is taken that may stand where it does.
+#[derive(Clone, Copy)]
+pub(crate) enum Turn {
+    Node,
+    /// A pod line, in a text of this version.
+    Pod(Version),
+    Tick,
+    Gone,
+}
+
+/// What the lines so far say, and what follows the pods' containers.
+#[derive(Drop)]
+pub(crate) struct TraceSoFar {
+    pub(crate) format: Format,
+    pub(crate) node: Option<NodeConfig>,
+    pub(crate) roster: Roster,
+    pub(crate) ticks: Sequence<TickObs>,
+    pub(crate) following: ListingOrder,
+}
+
+impl Model for TraceSoFar {
+    ghost use Rattle.following.specs.Followed.{HasFollowed};
+    ghost use Rattle.trace.specs.Past.{Past};
+    ghost use Rattle.trace.specs.Pod.{container_counts};
+
+    ghost Value = { Past };
+
+    ghost view = { λ r. record {
+      format = r.format;
+      node = r.node;
+      roll = r.roster;
+      ticks = r.ticks;
+    } };
+
+    ghost invariant = { λ r. HasFollowed r.ticks (container_counts r.roster.pods) r.following };
+}
+
+/// A whole trace: the node, its pods, and what was recorded of them tick by tick.
+#[derive(Drop)]
+pub struct Trace {
+    pub node: NodeConfig,
+    /// The pods, by number.
+    pub pods: Sequence<PodSpec>,
+    /// For each pod how many ticks stand before its line; the pod is present from the next tick on.
+    pub arrivals: Sequence<usize>,
+    /// For each pod how many ticks stand before the line by which it is gone, if it has one; it is not present from
+    /// the next tick on.
+    pub departures: Sequence<Option<usize>>,
+    /// The ticks, in the order of their moments.
+    pub ticks: Sequence<TickObs>,
+}
