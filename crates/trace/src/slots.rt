@@ -1,15 +1,16 @@
 //! What a tick line shows of the pods, put at the pods' numbers as their entries come.
 
-ghost use Rattle.std.specs.Prelude.{◌≡◌, ◌++◌, ◌∷◌, [], ℕ, ◌<◌, false, true, All, IfOk, List, Some, length};
-ghost use Rattle.std.specs.Prelude.{slice_get};
+ghost use Rattle.std.specs.Prelude.{◌≡◌, ◌++◌, ◌∷◌, [], ℕ, ◌<◌, false, true, All, IfOk, List, None, Some, length};
+ghost use Rattle.std.specs.Prelude.{slice_get, if◌then◌else◌};
 ghost use Rattle.manifest.specs.declared.pod.PodSpec.{PodSpec};
 ghost use Rattle.roster.specs.Roll.{is_present};
 ghost use Rattle.trace.specs.declared.placing.PlacedEntry.{PlacedEntry};
 ghost use Rattle.trace.specs.Observed.{pod_observed, pods_from};
 ghost use Rattle.trace.specs.Slots.{has_entry, slots_from};
 
-use crate::tick::shown;
-use observations::PodObs;
+use crate::noted::clear;
+use manifest::PodSpec;
+use observations::{ContainerObs, PodObs};
 use roster::Roster;
 use std::alloc::{AllocError, Global};
 
@@ -42,6 +43,24 @@ pub(crate) fn note_pod(slots: &mut [Option<PodObs>], number: usize, shown: PodOb
     false
 }
 
+/// What is shown of a pod that has no entry, if it is present. The containers are no more than a place to work in.
+fn without_entry(
+    alloc: Global,
+    at: u64,
+    pod: &PodSpec,
+    is_present: bool,
+    containers: &mut Vec<ContainerObs>,
+) -> Result<Option<PodObs>, AllocError>
+    ensures { IfOk result (λ o. o ≡ (if is_present then Some (pod_observed at None pod.now) else None)) }
+{
+    if !is_present {
+        return Ok(None);
+    }
+    clear(containers, pod.containers.as_slice())?;
+    let observed = PodObs::new(alloc, at, containers, None)?;
+    Ok(Some(observed))
+}
+
 /// What is shown of all pods, where each entry is of one that is present: of one that is present and has no entry an
 /// observation with nothing of its containers.
 pub(crate) fn with_others(
@@ -55,9 +74,11 @@ pub(crate) fn with_others(
         → All (λ e. is_present roster.now.departures e.pod ≡ true) es
         → v.items ≡ pods_from at es roster.now.departures 0 roster.now.pods) }
 {
+    let mut containers = Vec::new(alloc);
     for (number, pod) in roster.pods().iter().enumerate() {
         if slots[number].is_none() {
-            slots[number] = shown(alloc, at, None, pod, roster.is_present(number))?;
+            let is_present = roster.is_present(number);
+            slots[number] = without_entry(alloc, at, pod, is_present, &mut containers)?;
         }
     }
     Ok(slots)

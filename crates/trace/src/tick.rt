@@ -151,7 +151,7 @@ fn pod_observed(
 }
 
 /// The same, if the pod is present.
-pub(crate) fn shown(
+fn shown(
     alloc: Global,
     at: u64,
     entry: Option<&PlacedEntry>,
