@@ -117,8 +117,12 @@ fn next_read(reads: &mut IntoIter<LineAhead>) -> Option<LineAhead>
     reads.next()
 }
 
-/// Takes lines that were read ahead, the first of which has this number, and says whether each was read beside the pods
-/// that there were when its turn came.
+/// Whether what was read is of no use, since the pods are no longer those beside which it was read.
+fn is_in_vain(is_fresh: bool, read: &LineAhead) -> bool {
+    !is_fresh && matches!(read, LineAhead::Shown(_))
+}
+
+/// Takes lines that were read ahead, the first of which has this number, and says whether one was read in vain.
 fn take_lines(
     alloc: Global,
     reader: TraceSoFar,
@@ -133,19 +137,19 @@ fn take_lines(
     let mut reader = reader;
     let mut number = first;
     let mut is_fresh = true;
-    let mut were_fresh = true;
+    let mut some_in_vain = false;
     let mut reads = reads.into_iter();
     for line in lines {
-        were_fresh = is_fresh;
         let Some(read) = next_read(&mut reads) else {
             unreachable!()
         };
+        some_in_vain |= is_in_vain(is_fresh, &read);
         let (next, stays_fresh) = take_next(alloc, reader, number, line, read, is_fresh)?;
         reader = next;
         is_fresh = stays_fresh;
         number += 1;
     }
-    Ok((reader, were_fresh))
+    Ok((reader, some_in_vain))
 }
 
 /// A refused growth of memory, at this line.
@@ -247,11 +251,11 @@ fn read_by_workers<R: Threads + Sync>(
             reads,
             rest: after,
         } = window;
-        let (next, were_fresh) = take_lines(alloc, reader, number, &lines, reads)?;
+        let (next, some_in_vain) = take_lines(alloc, reader, number, &lines, reads)?;
         reader = next;
         rest = after;
         number += lines.len() as u64;
-        bytes = bytes_behind(bytes, were_fresh);
+        bytes = bytes_behind(bytes, some_in_vain);
     }
     finished(number, reader)
 }

@@ -34,15 +34,15 @@ fn most_lines(roster: &Roster) -> usize
 /// A window has so many times the bytes of the one before it, until it has 4 MiB: behind 64 KiB it has 1 MiB.
 const GROWTH: usize = 16;
 
-/// How many bytes the window behind one of so many has: as many as the first one where lines were read beside pods that
-/// changed meanwhile, so that little is read twice.
-pub(crate) fn bytes_behind(bytes: usize, were_fresh: bool) -> usize
+/// How many bytes the window behind one of so many has: as many as the first one where a line was read in vain, beside
+/// pods that changed meanwhile.
+pub(crate) fn bytes_behind(bytes: usize, some_in_vain: bool) -> usize
     ensures { 0 < result }
 {
-    if were_fresh {
-        bytes.saturating_mul(GROWTH).clamp(ALONE, SHARED)
-    } else {
+    if some_in_vain {
         ALONE
+    } else {
+        bytes.saturating_mul(GROWTH).clamp(ALONE, SHARED)
     }
 }
 
