@@ -3,3 +3,5 @@ pub mod Fields
 pub mod Reading
 pub mod Strangers
 pub mod Tape
+pub mod Quantities
+pub mod SignalMaps

@@ -1,7 +1,7 @@
 -- The numbers of the faults of a manifest, and the faults of a quantity in it.
 use Rattle.std.specs.Prelude.{ℕ}
-use Rattle.quantity_fields.specs.declared.fault.FieldFault.{FieldFault}
-use Rattle.quantity_fields.specs.declared.fault.FieldFault.TheVariants.{WrongKind as OtherKind, Faulty}
+use Rattle.json_fields.specs.declared.fault.FieldFault.{FieldFault}
+use Rattle.json_fields.specs.declared.fault.FieldFault.TheVariants.{WrongKind as OtherKind, Faulty}
 use Rattle.manifest_fields.specs.declared.fault.Field.TheVariants as fields
 use Rattle.manifest_fields.specs.declared.fault.ManifestFault.{ManifestFault}
 use Rattle.manifest_fields.specs.declared.fault.ManifestFault.TheVariants.{Missing, WrongKind, Quantity, ProbeRange}

@@ -3,8 +3,8 @@ use Rattle.std.specs.Prelude.{ℕ, ⊤, Option, Some, None, Result, Ok, Err, cod
 use Rattle.serde_json.specs.Data.{Data}
 use Rattle.json_fields.specs.Fields.{field_at}
 use Rattle.json_fields.specs.Reading.{◌>>=◌, refused_if}
-use Rattle.quantity_fields.specs.Fields.{quantity_in}
-use Rattle.quantity_fields.specs.declared.fault.FieldFault.{FieldFault}
+use Rattle.json_fields.specs.Quantities.{quantity_in}
+use Rattle.json_fields.specs.declared.fault.FieldFault.{FieldFault}
 use Rattle.manifest_fields.specs.declared.fault.Field.TheVariants as fields
 use Rattle.manifest_fields.specs.declared.fault.ManifestFault.{ManifestFault}
 use Rattle.manifest_fields.specs.declared.fault.ManifestFault.TheVariants.{RequestAboveLimit}

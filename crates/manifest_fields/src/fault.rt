@@ -3,8 +3,8 @@
 ghost use Rattle.std.specs.Prelude.{◌≡◌};
 ghost use Rattle.manifest_fields.specs.declared.fault.ManifestFault.TheVariants.{OutOfMemory};
 
+use json_fields::FieldFault;
 use quantity::QuantityFault;
-use quantity_fields::FieldFault;
 use std::alloc::{AllocError, AllocFailed};
 use thiserror::Error;
 

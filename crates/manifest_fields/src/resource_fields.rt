@@ -9,10 +9,9 @@ ghost use Rattle.manifest_fields.specs.ResourceFields.{resources_of};
 
 use crate::fault::{Field, ManifestFault};
 use crate::fields::object;
-use json_fields::field;
+use json_fields::{field, quantity_in};
 use manifest::{Amounts, Resources};
 use quantity::Quantity;
-use quantity_fields::quantity_in;
 use serde_json::Value;
 
 fn quantity_at(found: Option<&Value>) -> Result<Option<Quantity>, ManifestFault>

@@ -5,9 +5,9 @@ use Rattle.std.specs.Prelude.{pos, option_and_then, nat_lt, codes}
 use Rattle.serde_json.specs.Data.{Data, Items}
 use Rattle.serde_json.specs.Find.{as_str, as_number, as_u64, as_i64, as_array, as_object}
 use Rattle.json_fields.specs.Fields.{field_at, items_list}
-use Rattle.quantity_fields.specs.Fields.{quantity_in}
-use Rattle.quantity_fields.specs.declared.fault.FieldFault.{FieldFault}
-use Rattle.quantity_fields.specs.declared.fault.FieldFault.TheVariants.{WrongKind as OtherKind, Faulty}
+use Rattle.json_fields.specs.Quantities.{quantity_in}
+use Rattle.json_fields.specs.declared.fault.FieldFault.{FieldFault}
+use Rattle.json_fields.specs.declared.fault.FieldFault.TheVariants.{WrongKind as OtherKind, Faulty}
 use Rattle.manifest.specs.Names.{is_name, is_label}
 use Rattle.manifest_fields.specs.declared.fault.ManifestFault.{ManifestFault}
 use Rattle.manifest_fields.specs.declared.fault.ManifestFault.TheVariants.{Missing, WrongKind, Quantity, ProbeRange}

@@ -6,9 +6,9 @@ use Rattle.json_fields.specs.Reading.{◌>>=◌}
 use Rattle.quantity.specs.Limit.{HasItsCapacity}
 use Rattle.quantity.specs.declared.limit.Limit.{Limit}
 use Rattle.quantity.specs.declared.limit.Limit.TheVariants.{Percent, Quantity}
-use Rattle.quantity_fields.specs.Fields.{limit_in}
-use Rattle.quantity_fields.specs.declared.fault.FieldFault.{FieldFault}
-use Rattle.signal_maps.specs.Maps.{in_map}
+use Rattle.json_fields.specs.Quantities.{limit_in}
+use Rattle.json_fields.specs.declared.fault.FieldFault.{FieldFault}
+use Rattle.json_fields.specs.SignalMaps.{in_map}
 use Rattle.signals.specs.declared.by_signal.BySignal.{BySignal}
 use Rattle.signals.specs.BySignal.{of}
 use Rattle.node_lines.specs.declared.fault.NodeFault.{NodeFault}

@@ -13,7 +13,7 @@ use Rattle.quantity.specs.Duration.{duration_of}
 use Rattle.quantity.specs.declared.fault.QuantityFault.{QuantityFault}
 use Rattle.quantity.specs.declared.limit.Limit.{Limit}
 use Rattle.quantity.specs.declared.limit.Limit.TheVariants.{Quantity}
-use Rattle.quantity_fields.specs.Fields.{quantity_in, limit_in}
+use Rattle.json_fields.specs.Quantities.{quantity_in, limit_in}
 use Rattle.signals.specs.declared.by_signal.BySignal.{BySignal}
 use Rattle.signals.specs.declared.signal.Signal.{Signal}
 use Rattle.signals.specs.BySignal.{of}
@@ -26,8 +26,8 @@ use Rattle.node_lines.specs.Laws.{held, LacksGrace, MissingGraceComesLast}
 use Rattle.node_lines.specs.Limits.{has_capacity, is_off, with_capacity, limit_at, reclaim_at, default_limits}
 use Rattle.node_lines.specs.Limits.{hard_limits}
 use Rattle.node_lines.specs.Maps.{map_of, or_config, duration_from, duration_at, quantity_at}
-use Rattle.signal_maps.specs.declared.scope.Scope.TheVariants.{Node}
-use Rattle.signal_maps.proofs.Refused.{each_only, map_only, each_err}
+use Rattle.json_fields.specs.declared.scope.Scope.TheVariants.{Node}
+use Rattle.json_fields.proofs.SignalMapRefused.{each_only, map_only, each_err}
 use Rattle.node_lines.specs.Node.{whole_number, version_named, version_of, name_from, restart_delay_of, flag_of}
 use Rattle.node_lines.specs.Node.{few_seconds, seconds_of, or_default, pause_of, settings_in, node_of}
 use Rattle.node_lines.specs.Thresholds.{soft_threshold, written_over, written_in, soft_thresholds, eviction_from}

@@ -12,8 +12,8 @@ use Rattle.quantity.specs.Duration.{duration_of}
 use Rattle.quantity.specs.declared.fault.QuantityFault.{QuantityFault}
 use Rattle.quantity.specs.declared.limit.Limit.{Limit}
 use Rattle.quantity.specs.declared.limit.Limit.TheVariants.{Quantity}
-use Rattle.quantity_fields.specs.Fields.{limit_in}
-use Rattle.quantity_fields.specs.declared.fault.FieldFault.{FieldFault}
+use Rattle.json_fields.specs.Quantities.{limit_in}
+use Rattle.json_fields.specs.declared.fault.FieldFault.{FieldFault}
 use Rattle.signals.specs.declared.by_signal.BySignal.{BySignal}
 use Rattle.signals.specs.declared.signal.Signal.{Signal}
 use Rattle.signals.specs.declared.signal.Signal.TheVariants.{MemoryAvailable, NodefsAvailable, ImagefsAvailable}
@@ -30,9 +30,9 @@ use Rattle.node_lines.specs.Laws.{SoftIsAsWritten, OffSetsNoHard, OffSetsNoSoft}
 use Rattle.node_lines.specs.Limits.{has_capacity, is_off, with_capacity, limit_at, reclaim_at, default_limit}
 use Rattle.node_lines.specs.Limits.{where_possible, default_limits, hard_limits}
 use Rattle.node_lines.specs.Maps.{map_of, or_config, duration_from, duration_at, quantity_at}
-use Rattle.signal_maps.specs.declared.scope.Scope.TheVariants.{Node}
-use Rattle.signal_maps.specs.Maps.{in_map}
-use Rattle.signal_maps.proofs.EachSignal.{each_read, map_read as read_from_map}
+use Rattle.json_fields.specs.declared.scope.Scope.TheVariants.{Node}
+use Rattle.json_fields.specs.SignalMaps.{in_map}
+use Rattle.json_fields.proofs.EachSignal.{each_read, map_read as read_from_map}
 use Rattle.node_lines.specs.Node.{name_from, settings_in, node_of}
 use Rattle.node_lines.specs.Thresholds.{hard_threshold, soft_threshold, written_over, written_in, hard_thresholds}
 use Rattle.node_lines.specs.Thresholds.{soft_thresholds, eviction_from}

@@ -9,7 +9,7 @@ use Rattle.json_fields.specs.Fields.{field_at, text_at}
 use Rattle.quantity.specs.Duration.{duration_of}
 use Rattle.quantity.specs.declared.limit.Limit.{Limit}
 use Rattle.quantity.specs.declared.limit.Limit.TheVariants.{Percent, Quantity}
-use Rattle.quantity_fields.specs.Fields.{limit_in}
+use Rattle.json_fields.specs.Quantities.{limit_in}
 use Rattle.signals.specs.declared.signal.Signal.{Signal}
 use Rattle.signals.specs.declared.threshold.Threshold.{Threshold}
 use Rattle.signals.specs.declared.threshold.ThresholdKind.TheVariants.{Hard, Soft}
@@ -18,7 +18,7 @@ use Rattle.node_config.specs.declared.node.NodeConfig.{NodeConfig}
 use Rattle.node_config.specs.EvictionConfig.{threshold_of}
 use Rattle.node_lines.specs.declared.fault.NodeFault.TheVariants.{SoftWithoutGrace}
 use Rattle.node_lines.specs.Limits.{default_limit, where_possible}
-use Rattle.signal_maps.specs.Maps.{in_map}
+use Rattle.json_fields.specs.SignalMaps.{in_map}
 use Rattle.node_lines.specs.Node.{name_from, settings_in, node_of}
 use Rattle.node_lines.specs.Thresholds.{hard_threshold, written_in}
 

@@ -7,7 +7,7 @@ use Rattle.json_fields.specs.Reading.{◌>>=◌}
 use Rattle.quantity.specs.Limit.{HasItsCapacity}
 use Rattle.quantity.specs.declared.limit.Limit.{Limit}
 use Rattle.quantity.specs.declared.limit.Limit.TheVariants.{Percent, Quantity}
-use Rattle.quantity_fields.specs.Fields.{limit_in}
+use Rattle.json_fields.specs.Quantities.{limit_in}
 use Rattle.signals.specs.declared.by_signal.BySignal.{BySignal}
 use Rattle.signals.specs.declared.signal.Signal.{Signal}
 use Rattle.signals.specs.BySignal.{of, for_each}

@@ -5,9 +5,9 @@ use Rattle.serde_json.specs.Data.{Data}
 use Rattle.serde_json.specs.Find.{as_str}
 use Rattle.json_fields.specs.Reading.{◌>>=◌}
 use Rattle.quantity.specs.Duration.{duration_of}
-use Rattle.quantity_fields.specs.Fields.{quantity_in}
-use Rattle.signal_maps.specs.declared.scope.Scope.TheVariants.{Node}
-use Rattle.signal_maps.specs.Maps.{read_map}
+use Rattle.json_fields.specs.Quantities.{quantity_in}
+use Rattle.json_fields.specs.declared.scope.Scope.TheVariants.{Node}
+use Rattle.json_fields.specs.SignalMaps.{read_map}
 use Rattle.signals.specs.declared.by_signal.BySignal.{BySignal}
 use Rattle.signals.specs.declared.signal.Signal.{Signal}
 use Rattle.node_lines.specs.declared.fault.NodeFault.{NodeFault}

@@ -15,7 +15,7 @@ use Rattle.node_lines.specs.declared.fault.NodeFault.{NodeFault}
 use Rattle.node_lines.specs.declared.fault.NodeFault.TheVariants.{SoftWithoutGrace}
 use Rattle.node_lines.specs.Limits.{limits_in, reclaims_in, hard_limits, HaveTheirCapacity, ReclaimsHaveTheirCapacity}
 use Rattle.node_lines.specs.Maps.{map_of, quantity_at, duration_at}
-use Rattle.signal_maps.specs.Maps.{read_each}
+use Rattle.json_fields.specs.SignalMaps.{read_each}
 
 -- a hard threshold has no grace
 abbrev pub hard_threshold : Option Limit → Limit → Option Threshold

@@ -4,9 +4,8 @@ ghost use Rattle.std.specs.Prelude.{◌≡◌, option_map};
 ghost use Rattle.node_lines.specs.Limits.{is_off, with_capacity, limit_at, reclaim_at};
 
 use crate::fault::NodeFault;
-use json_fields::Json;
+use json_fields::{Json, limit_in};
 use quantity::{Limit, Quantity};
-use quantity_fields::limit_in;
 
 /// Whether a limit switches its threshold off, as the percentages 0 and 100 do.
 fn is_off(limit: Limit) -> bool

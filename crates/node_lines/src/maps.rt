@@ -7,11 +7,9 @@ ghost use Rattle.node_lines.specs.Maps.{map_of, quantity_at, duration_at};
 
 use crate::fault::NodeFault;
 use crate::limits::{limit_at, reclaim_at};
-use json_fields::Json;
+use json_fields::{Json, ReadSignal, Scope, quantity_in, read_map};
 use quantity::{Limit, Quantity, seconds_of};
-use quantity_fields::quantity_in;
 use serde_json::Value;
-use signal_maps::{ReadSignal, Scope, read_map};
 use signals::{BySignal, Signal};
 
 fn quantity_at<V: Json>(found: Option<&V>) -> Result<Option<Quantity>, NodeFault>

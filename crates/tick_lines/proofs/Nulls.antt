@@ -11,14 +11,14 @@ use Rattle.json_fields.specs.Fields.{present, field_at}
 use Rattle.signals.specs.declared.signal.Signal.TheVariants.{MemoryAvailable, NodefsAvailable, ImagefsAvailable}
 use Rattle.signals.specs.declared.signal.Signal.TheVariants.{NodefsInodesFree, ImagefsInodesFree, PidAvailable}
 use Rattle.signals.specs.Signals.{name_of}
-use Rattle.signal_maps.specs.declared.scope.Scope.{Scope}
+use Rattle.json_fields.specs.declared.scope.Scope.{Scope}
 use Rattle.tick_lines.specs.declared.fault.TickLineFault.{TickLineFault}
 use Rattle.tick_lines.specs.Listings.{listing_of}
 use Rattle.tick_lines.specs.Results.{result_of}
 use Rattle.tick_lines.specs.Usages.{usage_in}
 use Rattle.tick_lines.specs.Entries.{entry_of}
-use Rattle.signal_maps.specs.Maps.{read_each, read_map}
-use Rattle.signal_maps.proofs.Nulls.{strangers_ignore}
+use Rattle.json_fields.specs.SignalMaps.{read_each, read_map}
+use Rattle.json_fields.proofs.SignalMapNulls.{strangers_ignore}
 use Rattle.tick_lines.specs.Samples.{samples_in}
 use Rattle.tick_lines.specs.Line.{tick_line_of}
 use Rattle.tick_lines.specs.Laws.{AreAlike, ReadsOnly, line_fields, entry_fields, listing_fields, result_fields}

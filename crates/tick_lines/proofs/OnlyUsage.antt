@@ -7,20 +7,20 @@ use Rattle.json_fields.specs.Fields.{field_at, text_at, items_list}
 use Rattle.json_fields.proofs.Only.{Only, only_ok, only_err, only_bind, only_if, only_some, only_each}
 use Rattle.manifest.specs.declared.outcome.Outcome.TheVariants as outcomes
 use Rattle.manifest.specs.declared.outcome.ProbeKind.TheVariants as probes
-use Rattle.quantity_fields.specs.Fields.{quantity_in}
-use Rattle.quantity_fields.specs.declared.fault.FieldFault.{FieldFault}
+use Rattle.json_fields.specs.Quantities.{quantity_in}
+use Rattle.json_fields.specs.declared.fault.FieldFault.{FieldFault}
 use Rattle.state_diff.specs.declared.seen.CriState.TheVariants as states
 use Rattle.tick_lines.specs.declared.fault.TickLineFault.{TickLineFault}
 use Rattle.tick_lines.specs.declared.fault.TickLineFault.TheVariants.{Usage}
-use Rattle.signal_maps.specs.declared.scope.Scope.{Scope}
-use Rattle.signal_maps.specs.declared.scope.Scope.TheVariants.{Node, FileSystems}
+use Rattle.json_fields.specs.declared.scope.Scope.{Scope}
+use Rattle.json_fields.specs.declared.scope.Scope.TheVariants.{Node, FileSystems}
 use Rattle.tick_lines.specs.Fields.{items_from, items_of, only_object, held, quantity_at}
 use Rattle.tick_lines.specs.Listings.{attempt_from, attempt_of, state_named, state_numbered, state_from, state_of}
 use Rattle.tick_lines.specs.Listings.{instance_of, listing_of}
 use Rattle.tick_lines.specs.Results.{probe_named, outcome_named, result_of}
 use Rattle.tick_lines.specs.Usages.{usage_in, usage_of}
 use Rattle.tick_lines.specs.Entries.{entry_of, entries_of}
-use Rattle.signal_maps.proofs.Refused.{map_only}
+use Rattle.json_fields.proofs.SignalMapRefused.{map_only}
 use Rattle.tick_lines.specs.Samples.{samples_of}
 use Rattle.tick_lines.specs.Line.{tick_line_of}
 use Rattle.tick_lines.specs.Laws.{OneKind}

@@ -10,7 +10,7 @@ use Rattle.observations.specs.declared.usage.Usage.{Usage}
 use Rattle.tick_lines.specs.declared.entry.Entry.{Entry}
 use Rattle.tick_lines.specs.declared.fault.TickLineFault.TheVariants as faults
 use Rattle.tick_lines.specs.declared.line.TickLine.{TickLine}
-use Rattle.signal_maps.specs.declared.scope.Scope.TheVariants.{Node, FileSystems}
+use Rattle.json_fields.specs.declared.scope.Scope.TheVariants.{Node, FileSystems}
 use Rattle.tick_lines.specs.Fields.{only_object, quantity_at}
 use Rattle.tick_lines.specs.Listings.{listings_of}
 use Rattle.tick_lines.specs.Results.{results_of}

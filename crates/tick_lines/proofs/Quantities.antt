@@ -8,16 +8,16 @@ use Rattle.json_fields.specs.Reading.{◌>>=◌}
 use Rattle.json_fields.proofs.Steps.{bind_ok}
 use Rattle.json_fields.proofs.Only.{same_value}
 use Rattle.observations.specs.declared.usage.Usage.{Usage}
-use Rattle.quantity_fields.specs.Fields.{quantity_in}
-use Rattle.quantity_fields.specs.declared.fault.FieldFault.{FieldFault}
+use Rattle.json_fields.specs.Quantities.{quantity_in}
+use Rattle.json_fields.specs.declared.fault.FieldFault.{FieldFault}
 use Rattle.signals.specs.BySignal.{of}
 use Rattle.signals.specs.Signals.{name_of}
 use Rattle.signals.specs.declared.by_signal.BySignal.{BySignal}
 use Rattle.signals.specs.declared.signal.Signal.{Signal}
-use Rattle.signal_maps.specs.declared.scope.Scope.{Scope}
-use Rattle.signal_maps.specs.declared.scope.Scope.TheVariants.{Node, FileSystems}
-use Rattle.signal_maps.specs.Maps.{in_map}
-use Rattle.signal_maps.proofs.EachSignal.{map_read}
+use Rattle.json_fields.specs.declared.scope.Scope.{Scope}
+use Rattle.json_fields.specs.declared.scope.Scope.TheVariants.{Node, FileSystems}
+use Rattle.json_fields.specs.SignalMaps.{in_map}
+use Rattle.json_fields.proofs.EachSignal.{map_read}
 use Rattle.tick_lines.specs.declared.fault.TickLineFault.TheVariants as faults
 use Rattle.tick_lines.specs.Fields.{held, quantity_at}
 use Rattle.tick_lines.specs.Usages.{usage_in, usage_of}

@@ -9,11 +9,11 @@ use Rattle.signals.specs.Signals.{named, is_of_file_system}
 use Rattle.signals.specs.declared.signal.Signal.{Signal}
 use Rattle.tick_lines.specs.declared.fault.TickLineFault.{TickLineFault}
 use Rattle.tick_lines.specs.declared.fault.TickLineFault.TheVariants.{Usage}
-use Rattle.signal_maps.specs.declared.scope.Scope.{Scope}
-use Rattle.signal_maps.specs.declared.scope.Scope.TheVariants.{Node, FileSystems}
+use Rattle.json_fields.specs.declared.scope.Scope.{Scope}
+use Rattle.json_fields.specs.declared.scope.Scope.TheVariants.{Node, FileSystems}
 use Rattle.tick_lines.specs.Entries.{entries_of}
-use Rattle.signal_maps.specs.Maps.{includes_named, may_name}
-use Rattle.signal_maps.proofs.Strangers.{map_refused}
+use Rattle.json_fields.specs.SignalMaps.{includes_named, may_name}
+use Rattle.json_fields.proofs.SignalMapStrangers.{map_refused}
 use Rattle.tick_lines.specs.Fields.{quantity_at}
 use Rattle.tick_lines.specs.Samples.{samples_of}
 use Rattle.tick_lines.specs.Line.{tick_line_of}

@@ -6,7 +6,7 @@ use Rattle.serde_json.specs.Data.{Data, null, object, Items, Members, put}
 use Rattle.serde_json.specs.Find.{as_array, get_member}
 use Rattle.json_fields.specs.Fields.{field_at, text_at, items_list}
 use Rattle.observations.specs.declared.usage.Usage.{Usage}
-use Rattle.quantity_fields.specs.Fields.{quantity_in}
+use Rattle.json_fields.specs.Quantities.{quantity_in}
 use Rattle.signals.specs.BySignal.{of}
 use Rattle.signals.specs.Signals.{name_of, named, is_of_file_system}
 use Rattle.signals.specs.declared.signal.Signal.{Signal}
@@ -16,7 +16,7 @@ use Rattle.tick_lines.specs.declared.fault.TickLineFault.TheVariants as faults
 use Rattle.tick_lines.specs.declared.line.TickLine.{TickLine}
 use Rattle.tick_lines.specs.declared.listing.Listing.{Listing}
 use Rattle.tick_lines.specs.declared.probing.ProbeResult.{ProbeResult}
-use Rattle.signal_maps.specs.declared.scope.Scope.{Scope}
+use Rattle.json_fields.specs.declared.scope.Scope.{Scope}
 use Rattle.tick_lines.specs.Listings.{listing_of}
 use Rattle.tick_lines.specs.Results.{result_of}
 use Rattle.tick_lines.specs.Usages.{usage_in}

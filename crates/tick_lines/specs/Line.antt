@@ -5,7 +5,7 @@ use Rattle.json_fields.specs.Reading.{◌>>=◌}
 use Rattle.json_fields.specs.Fields.{field_at}
 use Rattle.tick_lines.specs.declared.fault.TickLineFault.{TickLineFault}
 use Rattle.tick_lines.specs.declared.line.TickLine.{TickLine}
-use Rattle.signal_maps.specs.declared.scope.Scope.TheVariants.{Node, FileSystems}
+use Rattle.json_fields.specs.declared.scope.Scope.TheVariants.{Node, FileSystems}
 use Rattle.tick_lines.specs.Entries.{entries_of}
 use Rattle.tick_lines.specs.Samples.{samples_of}
 

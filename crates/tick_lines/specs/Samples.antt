@@ -2,8 +2,8 @@
 -- signals").
 use Rattle.std.specs.Prelude.{ℕ, Option, Some, Result}
 use Rattle.serde_json.specs.Data.{Data}
-use Rattle.signal_maps.specs.declared.scope.Scope.{Scope}
-use Rattle.signal_maps.specs.Maps.{read_map}
+use Rattle.json_fields.specs.declared.scope.Scope.{Scope}
+use Rattle.json_fields.specs.SignalMaps.{read_map}
 use Rattle.signals.specs.declared.by_signal.BySignal.{BySignal}
 use Rattle.tick_lines.specs.declared.fault.TickLineFault.{TickLineFault}
 use Rattle.tick_lines.specs.declared.fault.TickLineFault.TheVariants.{Usage}

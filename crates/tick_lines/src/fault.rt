@@ -3,7 +3,7 @@
 ghost use Rattle.std.specs.Prelude.{◌≡◌};
 ghost use Rattle.tick_lines.specs.declared.fault.TickLineFault.TheVariants.{Usage, OutOfMemory};
 
-use quantity_fields::FieldFault;
+use json_fields::FieldFault;
 use std::alloc::{AllocError, AllocFailed};
 use thiserror::Error;
 

@@ -7,10 +7,9 @@ ghost use Rattle.tick_lines.specs.Gives.{Gives};
 ghost use Rattle.tick_lines.specs.Fields.{items_of, only_object, quantity_at};
 
 use crate::fault::TickLineFault;
-use json_fields::Json;
+use json_fields::{Json, quantity_in};
 use manifest::Text;
 use quantity::Quantity;
-use quantity_fields::quantity_in;
 use std::alloc::Global;
 
 fn written_text(found: Option<&str>) -> Result<&str, TickLineFault>

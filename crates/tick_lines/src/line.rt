@@ -7,10 +7,9 @@ ghost use Rattle.tick_lines.specs.Line.{tick_line_of};
 use crate::entry::{Entry, entries_of};
 use crate::fault::TickLineFault;
 use crate::samples::samples_of;
-use json_fields::{Json, field};
+use json_fields::{Json, Scope, field};
 use quantity::Quantity;
 use sequence::Sequence;
-use signal_maps::Scope;
 use signals::BySignal;
 use std::alloc::Global;
 

@@ -6,9 +6,8 @@ ghost use Rattle.tick_lines.specs.Samples.{samples_of};
 
 use crate::fault::TickLineFault;
 use crate::fields::quantity_at;
-use json_fields::Json;
+use json_fields::{Json, ReadSignal, Scope, read_map};
 use quantity::Quantity;
-use signal_maps::{ReadSignal, Scope, read_map};
 use signals::{BySignal, Signal};
 
 struct SampleMap;

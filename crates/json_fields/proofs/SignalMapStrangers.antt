@@ -11,8 +11,8 @@ use Rattle.serde_json.specs.Data.{Data, null, boolean, number, string, array, ob
 use Rattle.serde_json.specs.Find.{as_null, get_member}
 use Rattle.json_fields.specs.Fields.{present, field_at}
 use Rattle.signals.specs.declared.signal.Signal.{Signal}
-use Rattle.signal_maps.specs.declared.scope.Scope.{Scope}
-use Rattle.signal_maps.specs.Maps.{may_name, has_stranger, read_map}
+use Rattle.json_fields.specs.declared.scope.Scope.{Scope}
+use Rattle.json_fields.specs.SignalMaps.{may_name, has_stranger, read_map}
 
 -- a value that is there isn't null
 not_null : (d value : Data) → present (Some d) ≡ Some value → is_some (as_null d) ≡ false

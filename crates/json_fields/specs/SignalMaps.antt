@@ -12,8 +12,8 @@ use Rattle.signals.specs.declared.signal.Signal.{Signal}
 use Rattle.signals.specs.declared.signal.Signal.TheVariants.{MemoryAvailable, NodefsAvailable, ImagefsAvailable}
 use Rattle.signals.specs.declared.signal.Signal.TheVariants.{NodefsInodesFree, ImagefsInodesFree, PidAvailable}
 use Rattle.signals.specs.Signals.{name_of, named, is_of_file_system}
-use Rattle.signal_maps.specs.declared.scope.Scope.{Scope}
-use Rattle.signal_maps.specs.declared.scope.Scope.TheVariants.{Node, FileSystems}
+use Rattle.json_fields.specs.declared.scope.Scope.{Scope}
+use Rattle.json_fields.specs.declared.scope.Scope.TheVariants.{Node, FileSystems}
 
 -- the signals that a map may name
 abbrev pub includes : Scope → Signal → Bool

@@ -17,7 +17,7 @@ pub enum FieldFault {
 }
 
 impl From<QuantityFault> for FieldFault {
-    ghost use Rattle.quantity_fields.specs.declared.fault.FieldFault.TheVariants.{Faulty};
+    ghost use Rattle.json_fields.specs.declared.fault.FieldFault.TheVariants.{Faulty};
 
     ghost from_gives = { λ fault e. e ≡ Faulty fault };
 

@@ -1,10 +1,11 @@
 //! Reading a map from signals.
 
 ghost use Rattle.std.specs.Prelude.{◌≡◌, option_map};
-ghost use Rattle.signal_maps.specs.Maps.{is_signal_map, in_map, read_in, read_map};
+ghost use Rattle.json_fields.specs.SignalMaps.{is_signal_map, in_map, read_in, read_map};
 
+use crate::fields::field;
 use crate::scope::Scope;
-use json_fields::{Json, field};
+use crate::value::Json;
 use signals::{BySignal, Signal};
 
 /// Whether this is a map from signals of the scope, which may be left out.
@@ -42,7 +43,7 @@ pub trait ReadSignal {
         ensures { result ≡ read_of self.now signal (option_map (λ v. V.data v.now) found.entry) };
 }
 
-#[tactic(auto, unfolding(crate::specs::Maps::read_each))]
+#[tactic(auto, unfolding(crate::specs::SignalMaps::read_each))]
 fn read_in<R: ReadSignal, V: Json>(
     reader: &R,
     found: Option<&V>,
@@ -84,7 +85,7 @@ fn read_in<R: ReadSignal, V: Json>(
 /// where this is no object, or where a name that no signal of the scope has stands beside a value
 /// other than null; otherwise the first one that the reader answers, in the order of the signals.
 /// (Kubernetes, "Kubelet Configuration": `evictionHard` and the like.)
-#[tactic(auto, unfolding(crate::specs::Maps::read_map))]
+#[tactic(auto, unfolding(crate::specs::SignalMaps::read_map))]
 pub fn read_map<R: ReadSignal, V: Json>(
     scope: Scope,
     fault: R::Fault,

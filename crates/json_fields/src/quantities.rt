@@ -1,10 +1,10 @@
 //! Reading a quantity or a limit.
 
 ghost use Rattle.std.specs.Prelude.{◌≡◌};
-ghost use Rattle.quantity_fields.specs.Fields.{quantity_in, limit_in, units_in};
+ghost use Rattle.json_fields.specs.Quantities.{quantity_in, limit_in, units_in};
 
 use crate::fault::FieldFault;
-use json_fields::Json;
+use crate::value::Json;
 use quantity::{Limit, Quantity, QuantityFault};
 
 /// The quantity that a value holds: a text of one, or a whole number of units, from 0 to 2^64 - 1,

@@ -10,8 +10,8 @@ use Rattle.signals.specs.declared.signal.Signal.{Signal}
 use Rattle.signals.specs.declared.signal.Signal.TheVariants.{MemoryAvailable, NodefsAvailable, ImagefsAvailable}
 use Rattle.signals.specs.declared.signal.Signal.TheVariants.{NodefsInodesFree, ImagefsInodesFree, PidAvailable}
 use Rattle.signals.specs.BySignal.{of}
-use Rattle.signal_maps.specs.declared.scope.Scope.{Scope}
-use Rattle.signal_maps.specs.Maps.{is_signal_map, in_map, read_each, read_map}
+use Rattle.json_fields.specs.declared.scope.Scope.{Scope}
+use Rattle.json_fields.specs.SignalMaps.{is_signal_map, in_map, read_each, read_map}
 
 -- what was read for each signal was read for this one
 pub each_read : {A E : Type 0} (read : Signal → Result A E) (all : BySignal A) → read_each read ≡ Ok all

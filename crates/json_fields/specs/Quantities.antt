@@ -11,8 +11,8 @@ use Rattle.quantity.specs.declared.fault.QuantityFault.{QuantityFault}
 use Rattle.quantity.specs.declared.fault.QuantityFault.TheVariants.{Negative}
 use Rattle.quantity.specs.declared.limit.Limit.{Limit}
 use Rattle.quantity.specs.declared.limit.Limit.TheVariants.{Quantity}
-use Rattle.quantity_fields.specs.declared.fault.FieldFault.{FieldFault}
-use Rattle.quantity_fields.specs.declared.fault.FieldFault.TheVariants.{WrongKind, Faulty}
+use Rattle.json_fields.specs.declared.fault.FieldFault.{FieldFault}
+use Rattle.json_fields.specs.declared.fault.FieldFault.TheVariants.{WrongKind, Faulty}
 
 -- what a text says
 abbrev pub written : {A : Type 0} → Result A QuantityFault → Result A FieldFault

@@ -1,9 +1,9 @@
 //! The signals that a map may name.
 
 ghost use Rattle.std.specs.Prelude.{◌≡◌};
-ghost use Rattle.signal_maps.specs.Maps.{includes};
+ghost use Rattle.json_fields.specs.SignalMaps.{includes};
 
-use json_fields::Names;
+use crate::value::Names;
 use signals::Signal;
 
 /// The signals that a map may name.
@@ -25,7 +25,7 @@ fn includes(scope: Scope, signal: Signal) -> bool
 }
 
 impl Names for Scope {
-    ghost use Rattle.signal_maps.specs.Maps.{may_name};
+    ghost use Rattle.json_fields.specs.SignalMaps.{may_name};
 
     ghost includes = { may_name };
 

@@ -1,4 +1,0 @@
-pub mod EachSignal
-pub mod Refused
-pub mod Strangers
-pub mod Nulls
