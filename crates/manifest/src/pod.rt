@@ -1,7 +1,7 @@
 //! What a manifest says of a pod.
 
 ghost use Rattle.std.specs.Prelude.{◌≡◌, ◌<◌, ◌≤◌, List, [], ◌∷◌, false, length, map};
-ghost use Rattle.name_list.specs.Names.{place_of};
+ghost use Rattle.lists.specs.Names.{place_of};
 
 use crate::grace::GracePeriod;
 use crate::policy::Policy;

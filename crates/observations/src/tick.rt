@@ -3,7 +3,7 @@ ghost use Rattle.observations.specs.Observations.{seen_of};
 
 use crate::pod::PodObs;
 use quantity::Quantity;
-use sequence::Sequence;
+use lists::Sequence;
 use signals::BySignal;
 use state_diff::Seen;
 

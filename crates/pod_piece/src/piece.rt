@@ -14,7 +14,7 @@ use crate::listings::{are_acceptable, first_differs, follow};
 use crate::order::EvictOrder;
 use crate::status::{EffectiveRequests, PodStatus};
 use crate::usage::{newer_while, nothing};
-use chunked_list::ChunkedList;
+use lists::ChunkedList;
 use containers::ContainerStatus;
 use manifest::{MaxRestartDelay, PodSpec};
 use observations::PodObs;

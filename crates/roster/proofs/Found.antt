@@ -3,7 +3,7 @@ use Rattle.std.proofs.Common.{◌≡◌, ◌∙◌, ℕ, zero, suc, ◌+◌, Boo
 use Rattle.std.proofs.Common.{Option, Some, None, refl, ap, sym, arith, option_map}
 use Rattle.std.specs.Prelude.{bytes_eq, slice_get, slice_set, if◌then◌else◌}
 use Rattle.std.proofs.lemmas.Slice.Eq.{bytes_eq-Decides}
-use Rattle.name_list.specs.Names.{place_of}
+use Rattle.lists.specs.Names.{place_of}
 use Rattle.roster.specs.Roll.{number_in}
 
 pub same_key : (k key : List ℕ) → bytes_eq k key ≡ true → k ≡ key

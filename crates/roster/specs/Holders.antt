@@ -2,7 +2,7 @@
 use Rattle.std.specs.Prelude.{◌≡◌, ℕ, List, length, slice_get, Option, Some, option_and_then, if◌then◌else◌, bytes_eq}
 use Rattle.std.specs.Option.{option_flatten}
 use Rattle.manifest.specs.declared.pod.PodSpec.{PodSpec}
-use Rattle.name_list.specs.Names.{place_of}
+use Rattle.lists.specs.Names.{place_of}
 use Rattle.roster.specs.Roll.{present_keys, number_in}
 
 -- the pod that stands at the place of the key, if there is one

@@ -1,10 +1,10 @@
 //! Which pod has a key.
 
 ghost use Rattle.std.specs.Prelude.{◌≡◌, ℕ, length, Some, None, OnOk, string_bytes};
-ghost use Rattle.name_list.specs.Names.{place_of};
+ghost use Rattle.lists.specs.Names.{place_of};
 ghost use Rattle.roster.specs.Holders.{holder_of, HasHeld};
 
-use name_list::NameList;
+use lists::NameList;
 use std::alloc::AllocError;
 
 /// The number of the pod that has the key, if one is present.

@@ -4,9 +4,8 @@ ghost use Rattle.std.specs.Prelude.{◌≡◌, ◌++◌, ◌∷◌, [], ℕ, ◌
 ghost use Rattle.roster.specs.Roll.{nothing, key_of_pod, number_of, is_present, with_pod, without};
 
 use crate::hold::{give_up, hold, holder_of};
+use lists::{NameList, Sequence};
 use manifest::PodSpec;
-use name_list::NameList;
-use sequence::Sequence;
 use std::alloc::{AllocError, Global};
 use std::marker::Model;
 

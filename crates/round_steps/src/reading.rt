@@ -8,7 +8,7 @@ use crate::fault::StepsFault;
 use crate::lines::first_line;
 use crate::spelling::step_of;
 use crate::step::Step;
-use sequence::Sequence;
+use lists::Sequence;
 use std::alloc::Global;
 
 /// The most bytes of a text, 1 MiB.

@@ -13,7 +13,7 @@ use crate::usage::usage_of;
 use json_fields::{Json, field, text_at};
 use manifest::Text;
 use observations::Usage;
-use sequence::Sequence;
+use lists::Sequence;
 use std::alloc::Global;
 
 /// A pod's entry.

@@ -9,7 +9,7 @@ use crate::fault::TickLineFault;
 use crate::samples::samples_of;
 use json_fields::{Json, Scope, field};
 use quantity::Quantity;
-use sequence::Sequence;
+use lists::Sequence;
 use signals::BySignal;
 use std::alloc::Global;
 

@@ -10,7 +10,7 @@ use crate::fault::TickLineFault;
 use crate::fields::{items_of, text_of};
 use json_fields::{Json, field, text_at};
 use manifest::Text;
-use sequence::Sequence;
+use lists::Sequence;
 use state_diff::CriState;
 use std::alloc::Global;
 

@@ -9,7 +9,7 @@ use crate::fault::TickLineFault;
 use crate::fields::{items_of, text_of};
 use json_fields::{Json, text_at};
 use manifest::{Outcome, ProbeKind, Text};
-use sequence::Sequence;
+use lists::Sequence;
 use std::alloc::Global;
 
 /// A result of a container's probe.

@@ -8,7 +8,7 @@ use Rattle.json_fields.proofs.Steps.{bind_ok, there_is}
 use Rattle.manifest.specs.Containers.{names_of}
 use Rattle.manifest.specs.declared.pod.ContainerSpec.{ContainerSpec}
 use Rattle.manifest.specs.declared.pod.PodSpec.{PodSpec}
-use Rattle.name_list.specs.Names.{place_of}
+use Rattle.lists.specs.Names.{place_of}
 use Rattle.observations.specs.declared.container.ContainerObs.{ContainerObs}
 use Rattle.serde_json.specs.Data.{Data}
 use Rattle.tick_lines.specs.Listings.{listing_of}

@@ -16,7 +16,7 @@ use Rattle.trace.specs.declared.trace_so_far.LineKind.TheVariants as kinds
 use Rattle.tick_lines.specs.declared.listing.Listing.{Listing}
 use Rattle.tick_lines.specs.declared.entry.Entry.{Entry}
 use Rattle.tick_lines.specs.declared.probing.ProbeResult.{ProbeResult}
-use Rattle.name_list.specs.Names.{place_of}
+use Rattle.lists.specs.Names.{place_of}
 use Rattle.roster.specs.Roll.{Roll, key_of_pod, number_of, is_present}
 use Rattle.manifest.specs.Containers.{names_of}
 use Rattle.manifest.specs.declared.outcome.Outcome.{Outcome}

@@ -1,7 +1,7 @@
 -- The entries of a tick line, with numbers in the place of names.
 use Rattle.std.specs.Prelude.{ℕ, ◌==◌, ◌&&◌, ◌||◌, Bool, false, List, [], ◌∷◌, slice_get, Result, Ok}
 use Rattle.std.specs.List.{list_any}
-use Rattle.name_list.specs.Names.{place_of}
+use Rattle.lists.specs.Names.{place_of}
 use Rattle.json_fields.specs.Reading.{◌>>=◌, some_or, each}
 use Rattle.manifest.specs.declared.pod.PodSpec.{PodSpec}
 use Rattle.manifest.specs.Containers.{names_of}

@@ -3,7 +3,7 @@
 ghost use Rattle.std.specs.Prelude.{◌≡◌, ◌↔◌, ◌<◌, List, [], length, IsTrue, OnOk, Ok, Some, IfSome};
 ghost use Rattle.json_fields.specs.Tape.{data_at, datas_in};
 ghost use Rattle.manifest.specs.Containers.{names_of};
-ghost use Rattle.name_list.specs.Names.{place_of};
+ghost use Rattle.lists.specs.Names.{place_of};
 ghost use Rattle.tick_lines.specs.Tape.{left_in};
 ghost use Rattle.trace.specs.declared.placing.PlacedListing.{PlacedListing};
 ghost use Rattle.trace.specs.Noted.{NotesListing, NotesResult, ListingsNoted, ResultsNoted};

@@ -12,7 +12,7 @@ use crate::fault::FaultKind;
 use manifest::{Outcome, PodSpec, ProbeKind};
 use observations::Usage;
 use roster::Roster;
-use sequence::Sequence;
+use lists::Sequence;
 use std::alloc::Global;
 use tick_lines::{Entry, ListedInstance, Listing, ProbeResult};
 

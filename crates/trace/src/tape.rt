@@ -18,7 +18,7 @@ use json_fields::{TapeItems, TapeValue};
 use json_lines::{LineBuffers, tape_moment, tick_tape};
 use observations::{ContainerObs, PodObs, TickObs};
 use roster::Roster;
-use sequence::Sequence;
+use lists::Sequence;
 use std::alloc::{AllocError, Global};
 use tick_lines::{entry_text, line_text};
 

@@ -20,7 +20,7 @@ use following::ListingOrder;
 use json_lines::{LineBuffers, TextLine};
 use node_config::Format;
 use roster::Roster;
-use sequence::Sequence;
+use lists::Sequence;
 use std::alloc::Global;
 use std::thread::Threads;
 use std::vec::IntoIter;

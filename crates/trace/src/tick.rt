@@ -28,7 +28,7 @@ use json_lines::TickRecord;
 use manifest::{ContainerSpec, Outcome, PodSpec, ProbeKind};
 use observations::{ContainerObs, MOST_TICKS, PodObs, TickObs, Usage};
 use roster::Roster;
-use sequence::Sequence;
+use lists::Sequence;
 use state_diff::{CriState, Seen};
 use std::alloc::{AllocError, Global};
 use tick_lines::{ListedInstance, TickLine, TickLineFault};

@@ -5,7 +5,7 @@ use manifest::PodSpec;
 use node_config::{Format, NodeConfig, Version};
 use observations::TickObs;
 use roster::Roster;
-use sequence::Sequence;
+use lists::Sequence;
 use std::marker::Model;
 
 /// The kinds of line.

@@ -20,7 +20,7 @@ use Rattle.manifest_fields.specs.declared.fault.ManifestFault.TheVariants.{Missi
 use Rattle.manifest_fields.specs.declared.fault.ManifestFault.TheVariants as faults
 use Rattle.manifest_fields.specs.declared.fault.Field.TheVariants as fields
 use Rattle.manifest.specs.Containers.{names_of}
-use Rattle.name_list.specs.Names.{place_of}
+use Rattle.lists.specs.Names.{place_of}
 use Rattle.tick_lines.specs.declared.listing.Listing.{Listing}
 use Rattle.roster.specs.Roll.{Roll, number_of}
 use Rattle.trace.specs.Pod.{of_manifest, pod_from}

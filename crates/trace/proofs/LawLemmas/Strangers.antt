@@ -4,7 +4,7 @@ use Rattle.std.proofs.Common.{Err, refl, ap, sym, inl, inr}
 use Rattle.json_fields.specs.Reading.{◌>>=◌, some_or, each}
 use Rattle.json_fields.proofs.Only.{no_fault, same_fault}
 use Rattle.json_fields.proofs.Steps.{bind_err, then_ok, there_is}
-use Rattle.name_list.specs.Names.{place_of}
+use Rattle.lists.specs.Names.{place_of}
 use Rattle.manifest.specs.declared.pod.PodSpec.{PodSpec}
 use Rattle.manifest.specs.Containers.{names_of}
 use Rattle.trace.specs.declared.fault.FaultKind.{FaultKind}

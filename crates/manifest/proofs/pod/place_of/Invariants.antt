@@ -1,5 +1,5 @@
 use Rattle.std.proofs.Common.{◌≡◌, ◌+◌, length, option_map}
-use Rattle.name_list.specs.Names.{place_of}
+use Rattle.lists.specs.Names.{place_of}
 use Rattle.manifest.specs.Containers.{names_of}
 use Rattle.manifest.proofs.pod.place_of.Given as goal
 

@@ -1,6 +1,6 @@
 use Rattle.std.proofs.Common.{◌≡◌, ◌∙◌, ◌∷◌, ◌++◌, [], ℕ, List, Option, Some, string_bytes, ap, sym, subst}
 use Rattle.std.proofs.Common.{arith}
-use Rattle.name_list.specs.Names.{place_of}
+use Rattle.lists.specs.Names.{place_of}
 use Rattle.roster.specs.Holders.{HasHeld}
 use Rattle.roster.proofs.Held.{held_new, held_set, held_within}
 use Rattle.roster.proofs.hold.hold.Goals as goal
