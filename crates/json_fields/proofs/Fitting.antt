@@ -1,8 +1,8 @@
 -- The tokens of a value that fit are those of a plain value that nests no deeper than there is room.
-use Rattle.std.proofs.Common.{◌≡◌, ◌==◌, ◌∙◌, ◌&&◌, ℕ, zero, suc, ◌+◌, ◌-◌, ◌≤◌, List, ◌++◌, Bool, true}
+use Rattle.std.proofs.Common.{◌≡◌, ◌==◌, ◌∙◌, ◌&&◌, ℕ, zero, suc, ◌+◌, ◌-◌, ◌≤◌, List, [], ◌++◌, Bool, true}
 use Rattle.std.proofs.Common.{false, Some, None, is_some, refl, sym, ap, arith, true≢false}
 use Rattle.std.specs.Prelude.{nat_lt, if◌then◌else◌}
-use Rattle.std.proofs.lemmas.List.{append_assoc}
+use Rattle.std.proofs.lemmas.List.{append-nil, append_assoc}
 use Rattle.json.specs.Token.{Token}
 use Rattle.json.specs.Json as json
 use Rattle.json.specs.Json.{Json}
@@ -79,3 +79,10 @@ mutual
       (ap (fits r) (sym (append_assoc (json_tokens j) (members_tokens ms) rest)) ∙ e) in
       let m = fits-members ms r rest f.2 in
       (both _ _ f.0 m.0, omega (arith, f.1, m.1), m.2)
+
+-- a value all of whose tokens fit is plain, and nests no deeper than a line may
+pub fits_plain : (j : Json) (ts : List Token) → fits deepest ts ≡ true → ts ≡ json_tokens j
+    → (is_plain j ≡ true) × (depth j ≤ deepest)
+fits_plain j ts fit spelled =
+    let f = fits-json j deepest [] (ap (fits deepest) (append-nil (json_tokens j) ∙ sym spelled) ∙ fit) in
+    (f.0, f.1)

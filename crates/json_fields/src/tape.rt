@@ -1,16 +1,17 @@
 //! The values of a line on a tape, whose texts are those of the text that was read.
 
 ghost use Rattle.std.specs.Prelude.{◌≡◌, ◌<◌, ◌∷◌, [], length, map, Some, None, option_map, is_some, MatchOption};
-ghost use Rattle.std.specs.Prelude.{ℕ, List, IfSome, IfOk, OnSome};
+ghost use Rattle.std.specs.Prelude.{◌≤◌, ℕ, List, IfSome, IfOk, IsTrue, OnSome};
 ghost use Rattle.json.specs.Json as json;
 ghost use Rattle.json.specs.Json.{Json};
 ghost use Rattle.json.specs.Find.{BeginsWith, InMembers};
 ghost use Rattle.json.specs.Tape.{node_token};
+ghost use Rattle.json.specs.Tree.{json_tokens, depth};
 ghost use Rattle.json.specs.Value.{value_view};
 ghost use Rattle.serde_json.specs.Find.{get, as_null, as_str, as_array, as_object};
-ghost use Rattle.json_fields.specs.Borrowed.{data_of};
+ghost use Rattle.json_fields.specs.Borrowed.{data_of, is_plain};
 ghost use Rattle.json_fields.specs.Fields.{field_at, text_at, items_list};
-ghost use Rattle.json_fields.specs.Tape.{data_at, datas_in, field_behind, room_after, fits};
+ghost use Rattle.json_fields.specs.Tape.{data_at, datas_in, deepest, field_behind, room_after, fits};
 ghost use Rattle.json_fields.specs.Tape.{AreAllPassed, IsNextMember};
 
 use crate::borrowed::whole;
@@ -19,7 +20,7 @@ use std::alloc::{AllocError, Allocator};
 use std::marker::Model;
 
 /// Arrays and objects nest no deeper in a line that is read, as in `serde_json`.
-const DEEPEST: usize = 127;
+pub const DEEPEST: usize = 127;
 
 /// How many more arrays and objects may open behind the node; none where that is too deep, or a number is not plain.
 #[tactic(auto, unfolding(crate::specs::Tape::room_after))]
@@ -43,7 +44,8 @@ fn room_after(room: usize, node: &Node<'_>) -> Option<usize>
 /// Whether each number on the tape is one that digits alone write, below 2^64, and arrays and objects nest no deeper
 /// than 127. Then `serde_json` reads the same data.
 pub fn is_plain_tape(tape: &Tape<'_>) -> bool
-    ensures { result ≡ fits 127 tape.now }
+    ensures fits { result ≡ fits deepest tape.now }
+    ensures plain { IsTrue result → (j : Json) → tape.now ≡ json_tokens j → IsTrue (is_plain j) × (depth j ≤ deepest) }
 {
     let mut room = DEEPEST;
     let nodes = tape.nodes();

@@ -18,6 +18,7 @@ pub trait HasData {
 
     ghost data: { Self → Data };
 
+    /// Does nothing: a trait whose promise is a definition has a method all the same.
     fn stands_for_data(&self) {}
 }
 
@@ -32,9 +33,11 @@ pub trait Json: HasData + Sized {
     fn member<'v>(&'v self, name: &str) -> Option<&'v Self>
         ensures { option_map (λ v. Self.data v.now) result ≡ get name.now (Self.data self.now) };
 
+    /// Whether this is null.
     fn is_null(&self) -> bool
         ensures { result ≡ is_some (as_null (Self.data self.now)) };
 
+    /// The bytes of a text, as UTF-8.
     fn text<'v>(&'v self) -> Option<&'v str>
         ensures { option_map (λ s. s.now) result ≡ as_str (Self.data self.now) };
 
@@ -51,6 +54,7 @@ pub trait Json: HasData + Sized {
         ensures { option_map (λ v. map Self.data v.now) result
             ≡ option_map items_list (as_array (Self.data self.now)) };
 
+    /// Whether this is an object, which may have no members.
     fn is_object(&self) -> bool
         ensures { result ≡ is_some (as_object (Self.data self.now)) };
 

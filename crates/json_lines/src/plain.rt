@@ -8,12 +8,9 @@ ghost use Rattle.json_lines.specs.Lines.{line_value, said_in, Tick};
 use crate::tick::{TickRecord, is_tick, tick_record};
 use bumpalo::Bump;
 use json::{Error, Reader, Scratch, Value};
-use json_fields::is_plain_in;
+use json_fields::{DEEPEST, is_plain_in};
 use simdutf8::compat::from_utf8;
 use std::alloc::{AllocError, Global};
-
-/// Arrays and objects nest no deeper in a line that is read, as in `serde_json`.
-const DEEPEST: usize = 127;
 
 /// A writer of which so many lines in a row are not plain is taken for one whose lines are not.
 const MISSES: u32 = 4;
