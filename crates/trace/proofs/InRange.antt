@@ -29,7 +29,7 @@ use Rattle.manifest_fields.specs.ResourceFields.{resources_of}
 use Rattle.node_config.specs.declared.node.Format.{Format}
 use Rattle.trace.specs.declared.trace_so_far.Trace.{Trace}
 use Rattle.trace.specs.Laws.{Says, says_node, says_pod, says_gone, says_tick}
-use Rattle.trace.specs.Past.{Past}
+use Rattle.trace.specs.TraceSoFar.{TraceSoFar}
 use Rattle.trace.specs.Pod.{of_manifest, manifest_of}
 use Rattle.trace.specs.Trace.{trace_of}
 use Rattle.trace.proofs.Said.{IsKept, of_trace}
@@ -206,7 +206,7 @@ read : (r : Result PodSpec ManifestFault) (pod : PodSpec) → of_manifest r ≡ 
 read (Ok p) pod e = ap Ok (same_value _ _ e)
 read (Err fault) pod e = absurd (cc)
 
-line_keeps : (past : Past) (line : List ℕ) (next : Past) → HaveProbesInRange past.roll.pods → Says past line next
+line_keeps : (past : TraceSoFar) (line : List ℕ) (next : TraceSoFar) → HaveProbesInRange past.roll.pods → Says past line next
     → HaveProbesInRange next.roll.pods
 line_keeps past line _ all (says_node d node is e) = all
 line_keeps past line _ all (says_pod d pod is new) =

@@ -41,7 +41,7 @@ use Rattle.trace.specs.Pod.{has_key, pod_from, named_in}
 use Rattle.trace.specs.Placing.{placed_of}
 use Rattle.node_config.specs.declared.node.Format.{Format}
 use Rattle.node_config.specs.declared.node.Version.{Version}
-use Rattle.trace.specs.Past.{Past, version_in, of_node, with_pod, without, with_tick}
+use Rattle.trace.specs.TraceSoFar.{TraceSoFar, version_in, of_node, with_pod, without, with_tick}
 use Rattle.trace.specs.Tick.{moment_of, observed_in, tick_at}
 use Rattle.trace.specs.Trace.{json_of, kind_from, with_node, is_late, pod_line_at, gone_line_at, in_order, line_at}
 use Rattle.trace.specs.Trace.{at_line, trace_in, finished, read_on, nothing, trace_of}
@@ -55,30 +55,30 @@ drop_here lines n line e =
     let here = get_or_from_slice_get lines n line line e in
     cut ∙ ap (λ (l : List ℕ). l ∷ drop (suc n) lines) here
 
-line_of : (n : ℕ) (before : Past) (line : List ℕ) (rest : List (List ℕ)) → is_blank line ≡ false
+line_of : (n : ℕ) (before : TraceSoFar) (line : List ℕ) (rest : List (List ℕ)) → is_blank line ≡ false
     → read_on n before (line ∷ rest) ≡ (at_line n (line_at before line) >>= λ next. read_on (n + 1) next rest)
 line_of n before line rest counts = rw counts refl
 
-goes_on : (n : ℕ) (before : Past) (line : List ℕ) (past : Past) (rest : List (List ℕ)) → Leaves before line past
+goes_on : (n : ℕ) (before : TraceSoFar) (line : List ℕ) (past : TraceSoFar) (rest : List (List ℕ)) → Leaves before line past
     → read_on n before (line ∷ rest) ≡ read_on (n + 1) past rest
 goes_on n before line past rest (inl blank) =
     let skipped : read_on n before (line ∷ rest) ≡ read_on (n + 1) before rest = rw blank.0 refl in
-    skipped ∙ ap (λ (p : Past). read_on (n + 1) p rest) (sym blank.1)
+    skipped ∙ ap (λ (p : TraceSoFar). read_on (n + 1) p rest) (sym blank.1)
 goes_on n before line past rest (inr counts) =
     line_of n before line rest counts.0
-    ∙ ap (λ (r : Result Past FaultKind). at_line n r >>= λ next. read_on (n + 1) next rest) counts.1
+    ∙ ap (λ (r : Result TraceSoFar FaultKind). at_line n r >>= λ next. read_on (n + 1) next rest) counts.1
 
-ends_at : (n : ℕ) (before : Past) (line : List ℕ) (kind : FaultKind) (rest : List (List ℕ)) → is_blank line ≡ false
+ends_at : (n : ℕ) (before : TraceSoFar) (line : List ℕ) (kind : FaultKind) (rest : List (List ℕ)) → is_blank line ≡ false
     → line_at before line ≡ Err kind
     → read_on n before (line ∷ rest) ≡ Err (record { line = n; kind = kind })
 ends_at n before line kind rest counts fails =
     line_of n before line rest counts
-    ∙ ap (λ (r : Result Past FaultKind). at_line n r >>= λ next. read_on (n + 1) next rest) fails
+    ∙ ap (λ (r : Result TraceSoFar FaultKind). at_line n r >>= λ next. read_on (n + 1) next rest) fails
 
 -- once the first n lines are read, the others are read after what those say
-reaches : (format : Format) (lines : List (List ℕ)) (n : ℕ) (past : Past) → AreSaid format lines n past
+reaches : (format : Format) (lines : List (List ℕ)) (n : ℕ) (past : TraceSoFar) → AreSaid format lines n past
     → read_on 1 (nothing format) lines ≡ read_on (n + 1) past (drop n lines)
-reaches format lines zero past said = ap (λ (p : Past). read_on 1 p lines) (sym said)
+reaches format lines zero past said = ap (λ (p : TraceSoFar). read_on 1 p lines) (sym said)
 reaches format lines (suc n) past (before, line, said, here, leaves) =
     let ones : n + 1 ≡ suc n = omega arith in
     let so_far = reaches format lines n before said in
@@ -94,20 +94,20 @@ refused format lines n kind is =
     (drop_here lines n is.line is.here)
     ∙ ends_at (n + 1) is.past is.line kind (drop (suc n) lines) is.counts is.fails
 
-ended : (format : Format) (lines : List (List ℕ)) (past : Past) → AreSaid format lines (length lines) past
+ended : (format : Format) (lines : List (List ℕ)) (past : TraceSoFar) → AreSaid format lines (length lines) past
     → read_on 1 (nothing format) lines ≡ finished (length lines + 1) past past.node
 ended format lines past said =
     reaches format lines (length lines) past said ∙ ap (λ (ls : List (List ℕ)). read_on (length lines + 1) past ls)
     (drop-length lines)
 
 abbrev Reached : Format → List (List ℕ) → ℕ → Type 0
-Reached format lines n = ((past : Past) × AreSaid format lines n past) ⊎ ((m : ℕ) × (kind : FaultKind)
+Reached format lines n = ((past : TraceSoFar) × AreSaid format lines n past) ⊎ ((m : ℕ) × (kind : FaultKind)
     × IsFaultAt format lines m kind)
 
-line_says : (format : Format) (lines : List (List ℕ)) (n : ℕ) (past : Past) (line : List ℕ)
+line_says : (format : Format) (lines : List (List ℕ)) (n : ℕ) (past : TraceSoFar) (line : List ℕ)
     (said : AreSaid format lines n past)
     (here : slice_get lines n ≡ Some line)
-    (counts : is_blank line ≡ false) (r : Result Past FaultKind) → line_at past line ≡ r → Reached format lines (suc n)
+    (counts : is_blank line ≡ false) (r : Result TraceSoFar FaultKind) → line_at past line ≡ r → Reached format lines (suc n)
 line_says format lines n past line said here counts (Ok next) e = inl (next, (past, line, said, here, inr (counts, e)))
 line_says format lines n past line said here counts (Err kind) e =
     inr (n, kind, record { past = past; line = line; said = said; here = here; counts = counts; fails = e })
@@ -127,24 +127,24 @@ said_or_fault format lines (suc n) le = elim (said_or_fault format lines n (omeg
 ]
 
 -- what a line leaves said has a node if the line counts
-with_node_some : (past : Past) (d : Data) (next : Past) → with_node past d ≡ Ok next → is_some next.node ≡ true
+with_node_some : (past : TraceSoFar) (d : Data) (next : TraceSoFar) → with_node past d ≡ Ok next → is_some next.node ≡ true
 unfolding with_node
 with_node_some past d next e =
-    let with : NodeConfig → Past = of_node past in
-    let last : NodeConfig → Result Past FaultKind = λ node. Ok (with node) in
+    let with : NodeConfig → TraceSoFar = of_node past in
+    let last : NodeConfig → Result TraceSoFar FaultKind = λ node. Ok (with node) in
     let node = bind_ok (node_in past.format d) last next e in
     let given : Ok (with node.0) ≡ Ok next = node.2 in
     let is_next : with node.0 ≡ next = cc in
-    subst (λ (p : Past). is_some p.node ≡ true) is_next refl
+    subst (λ (p : TraceSoFar). is_some p.node ≡ true) is_next refl
 
-pod_line_keeps : (version : Version) (past : Past) (d : Data) (next : Past) → pod_line_at version past d ≡ Ok next
+pod_line_keeps : (version : Version) (past : TraceSoFar) (d : Data) (next : TraceSoFar) → pod_line_at version past d ≡ Ok next
     → past.node ≡ next.node
 pod_line_keeps version past d next e =
-    let last : PodSpec → ⊤ → Result Past FaultKind = λ pod u. Ok (with_pod past pod) in
-    let keyed : PodSpec → Result Past FaultKind = λ pod. refused_if (has_key past.roll (key_of_pod pod)) DuplicatePod
+    let last : PodSpec → ⊤ → Result TraceSoFar FaultKind = λ pod u. Ok (with_pod past pod) in
+    let keyed : PodSpec → Result TraceSoFar FaultKind = λ pod. refused_if (has_key past.roll (key_of_pod pod)) DuplicatePod
     >>= last pod in
-    let read : ⊤ → Result Past FaultKind = λ u. pod_from (field_at (codes "pod") d) >>= keyed in
-    let first : ⊤ → Result Past FaultKind =
+    let read : ⊤ → Result TraceSoFar FaultKind = λ u. pod_from (field_at (codes "pod") d) >>= keyed in
+    let first : ⊤ → Result TraceSoFar FaultKind =
     λ u. refused_if (nat_le most_pods (length past.roll.pods)) TooMany >>= read in
     let before = bind_ok (refused_if (is_late version past.ticks) Order) first next (sym (pod_whole version past d)
     ∙ e) in
@@ -153,15 +153,15 @@ pod_line_keeps version past d next e =
     let new = bind_ok (refused_if (has_key past.roll (key_of_pod pod.0)) DuplicatePod) (last pod.0) next pod.2 in
     let given : Ok (with_pod past pod.0) ≡ Ok next = new.2 in
     let is_next : with_pod past pod.0 ≡ next = cc in
-    ap (λ (p : Past). p.node) {x = with_pod past pod.0} is_next
+    ap (λ (p : TraceSoFar). p.node) {x = with_pod past pod.0} is_next
 
-tick_line_keeps : (past : Past) (d : Data) (next : Past) → tick_at past d ≡ Ok next → past.node ≡ next.node
+tick_line_keeps : (past : TraceSoFar) (d : Data) (next : TraceSoFar) → tick_at past d ≡ Ok next → past.node ≡ next.node
 tick_line_keeps past d next e =
-    let last : TickObs → Result Past FaultKind = λ t. Ok (with_tick past t) in
-    let seen : ℕ → TickLine → List PlacedEntry → Result Past FaultKind = λ at w ps. observed_in past at w ps >>= last in
-    let place : ℕ → TickLine → Result Past FaultKind = λ at w. placed_of past.roll w.entries >>= seen at w in
-    let list : ℕ → Result Past FaultKind = λ at. tick_line_in d >>= place at in
-    let moment : ⊤ → Result Past FaultKind = λ u. moment_of past.ticks (field_at (codes "at") d) >>= list in
+    let last : TickObs → Result TraceSoFar FaultKind = λ t. Ok (with_tick past t) in
+    let seen : ℕ → TickLine → List PlacedEntry → Result TraceSoFar FaultKind = λ at w ps. observed_in past at w ps >>= last in
+    let place : ℕ → TickLine → Result TraceSoFar FaultKind = λ at w. placed_of past.roll w.entries >>= seen at w in
+    let list : ℕ → Result TraceSoFar FaultKind = λ at. tick_line_in d >>= place at in
+    let moment : ⊤ → Result TraceSoFar FaultKind = λ u. moment_of past.ticks (field_at (codes "at") d) >>= list in
     let room = bind_ok (refused_if (nat_le most_ticks (length past.ticks)) TooMany) moment next
     (sym (tick_whole past d) ∙ e) in
     let at = bind_ok (moment_of past.ticks (field_at (codes "at") d)) list next room.2 in
@@ -170,17 +170,17 @@ tick_line_keeps past d next e =
     let tick = bind_ok (observed_in past at.0 written.0 placed.0) last next placed.2 in
     let given : Ok (with_tick past tick.0) ≡ Ok next = tick.2 in
     let is_next : with_tick past tick.0 ≡ next = cc in
-    ap (λ (p : Past). p.node) {x = with_tick past tick.0} is_next
+    ap (λ (p : TraceSoFar). p.node) {x = with_tick past tick.0} is_next
 
-gone_line_keeps : (past : Past) (d : Data) (next : Past) → gone_line_at past d ≡ Ok next → past.node ≡ next.node
+gone_line_keeps : (past : TraceSoFar) (d : Data) (next : TraceSoFar) → gone_line_at past d ≡ Ok next → past.node ≡ next.node
 gone_line_keeps past d next e =
     let named = named_in past.roll (text_at (codes "pod") d) in
     let number = bind_ok (some_or StrangerPod named) (gone_said past) next (sym (gone_whole past d) ∙ e) in
     let given : Ok (without past number.0) ≡ Ok next = number.2 in
     let is_next : without past number.0 ≡ next = cc in
-    ap (λ (p : Past). p.node) {x = without past number.0} is_next
+    ap (λ (p : TraceSoFar). p.node) {x = without past number.0} is_next
 
-in_order_some : (found : Option Version) (past : Past) (line_kind : LineKind) (d : Data) (next : Past)
+in_order_some : (found : Option Version) (past : TraceSoFar) (line_kind : LineKind) (d : Data) (next : TraceSoFar)
     → version_in past ≡ found → in_order found past line_kind d ≡ Ok next → is_some next.node ≡ true
 in_order_some None past kinds.Node d next is e = with_node_some past d next e
 in_order_some None past kinds.Pod d next is e = absurd (cc)
@@ -195,12 +195,12 @@ in_order_some (Some version) past kinds.Tick d next is e =
 in_order_some (Some version) past kinds.Gone d next is e =
     subst (λ (o : Option NodeConfig). is_some o ≡ true) (gone_line_keeps past d next e) (some_node past.node version is)
 
-line_some : (past : Past) (line : List ℕ) (next : Past) → line_at past line ≡ Ok next → is_some next.node ≡ true
+line_some : (past : TraceSoFar) (line : List ℕ) (next : TraceSoFar) → line_at past line ≡ Ok next → is_some next.node ≡ true
 line_some past line next e =
-    let take : Data → LineKind → Result Past FaultKind = λ d line_kind. in_order (version_in past) past line_kind d in
-    let kind : Data → Result Past FaultKind =
+    let take : Data → LineKind → Result TraceSoFar FaultKind = λ d line_kind. in_order (version_in past) past line_kind d in
+    let kind : Data → Result TraceSoFar FaultKind =
     λ d. some_or UnknownKind (kind_from (version_in past) (text_at (codes "kind") d)) >>= take d in
-    let parse : ⊤ → Result Past FaultKind = λ u. json_of line >>= kind in
+    let parse : ⊤ → Result TraceSoFar FaultKind = λ u. json_of line >>= kind in
     let short = bind_ok (refused_if (nat_lt longest_line (length line)) TooLong) parse next
     (sym (line_whole past line) ∙ e) in
     let json = bind_ok (json_of line) kind next short.2 in
@@ -218,12 +218,12 @@ earlier (suc n) (suc m) lt = elim (earlier n m (omega arith)) [
 ]
 
 -- where the first n lines say no node, all of them are blank
-blank_before : (format : Format) (lines : List (List ℕ)) (n : ℕ) (past : Past) → AreSaid format lines n past
+blank_before : (format : Format) (lines : List (List ℕ)) (n : ℕ) (past : TraceSoFar) → AreSaid format lines n past
     → past.node ≡ None
     → (m : ℕ) (line : List ℕ) → m < n → slice_get lines m ≡ Some line → is_blank line ≡ true
 blank_before format lines zero past said none m line lt e = absurd (omega arith)
 blank_before format lines (suc n) past (before, last, said, here, inl blank) none m line lt e =
-    let same : past.node ≡ before.node = ap (λ (p : Past). p.node) blank.1 in
+    let same : past.node ≡ before.node = ap (λ (p : TraceSoFar). p.node) blank.1 in
     elim (earlier n m lt) [
       | inl less ↦ blank_before format lines n before said (sym same ∙ none) m line less e
       | inr is ↦
@@ -246,7 +246,7 @@ blanks_said format lines blank (suc n) le =
     ((nothing format), line, blanks_said format lines blank n (omega arith), here, inl (blank n line here, refl))
 
 -- the end of a text whose lines have no fault
-end_fault : (format : Format) (lines : List (List ℕ)) (fault : LineFault) (past : Past) (node : Option NodeConfig)
+end_fault : (format : Format) (lines : List (List ℕ)) (fault : LineFault) (past : TraceSoFar) (node : Option NodeConfig)
     → AreSaid format lines (length lines) past → past.node ≡ node
     → finished (length lines + 1) past node ≡ Err fault → IsFirstFault format lines fault
 end_fault format lines fault past None said none e =
@@ -259,7 +259,7 @@ end_fault format lines fault past None said none e =
     )
 end_fault format lines fault past (Some node) said some e = absurd (cc)
 
-end_whole : (format : Format) (lines : List (List ℕ)) (trace : Trace) (past : Past) (node : Option NodeConfig)
+end_whole : (format : Format) (lines : List (List ℕ)) (trace : Trace) (past : TraceSoFar) (node : Option NodeConfig)
     → AreSaid format lines (length lines) past → past.node ≡ node
     → finished (length lines + 1) past node ≡ Ok trace → IsWhole format lines trace
 end_whole format lines trace past None said none e = absurd (cc)
@@ -328,14 +328,14 @@ whole_is format lines trace is =
     ∙ ap (λ (ts : List TickObs). of trace.pods trace.arrivals trace.departures ts) is.ticks
 
 -- lines say one thing at most
-one_left : (before past past' : Past) (line : List ℕ) → Leaves before line past → Leaves before line past'
+one_left : (before past past' : TraceSoFar) (line : List ℕ) → Leaves before line past → Leaves before line past'
     → past ≡ past'
 one_left before past past' line (inl (blank, is)) (inl (blank', is')) = is ∙ sym is'
 one_left before past past' line (inl (blank, is)) (inr (counts, is')) = absurd (cc)
 one_left before past past' line (inr (counts, is)) (inl (blank, is')) = absurd (cc)
 one_left before past past' line (inr (counts, is)) (inr (counts', is')) = cc
 
-one_said : (format : Format) (lines : List (List ℕ)) (n : ℕ) (past past' : Past) → AreSaid format lines n past
+one_said : (format : Format) (lines : List (List ℕ)) (n : ℕ) (past past' : TraceSoFar) → AreSaid format lines n past
     → AreSaid format lines n past'
     → past ≡ past'
 one_said format lines zero past past' is is' = is ∙ sym is'
@@ -344,7 +344,7 @@ one_said format lines (suc n) past past' (before, line, said, here, leaves) (bef
     let same_line : line' ≡ line = cc in
     one_left before past past' line leaves
     (subst (λ (l : List ℕ). Leaves before l past') same_line
-    (subst (λ (p : Past). Leaves p line' past') same leaves'))
+    (subst (λ (p : TraceSoFar). Leaves p line' past') same leaves'))
 
 one_first : (format : Format) (lines : List (List ℕ)) (n m : ℕ) (kind kind' : FaultKind) → IsFaultAt format lines n kind
     → IsFaultAt format lines m kind' → (n ≡ m) × (kind ≡ kind')

@@ -1,11 +1,13 @@
 -- What was read of a tick line's items and placed at once is what the line shows.
 use Rattle.std.proofs.Common.{◌≡◌, ◌∙◌, ◌||◌, ◌<◌, ◌≤◌, ℕ, List, [], ◌∷◌, ◌++◌, length, take, drop, Bool, true, false}
 use Rattle.std.proofs.Common.{Option, Some, Result, Ok}
-use Rattle.std.proofs.Common.{Err, arith, not, refl, sym, ap, true≢false}
+use Rattle.std.proofs.Common.{Err, arith, not, refl, sym, ap}
 use Rattle.std.proofs.lemmas.List.{append-nil, drop_all, take_all}
 use Rattle.std.specs.List.{list_any}
 use Rattle.std.specs.Prelude.{All, slice_get, codes}
-use Rattle.std.proofs.lemmas.List.Elements.{All-nil, All-cons, All-head, All-tail}
+use Rattle.std.proofs.lemmas.Bool.{or_from}
+use Rattle.std.proofs.lemmas.List.Elements.{All-nil, All-push}
+use Rattle.std.proofs.lemmas.List.Folds.{list_any-append}
 use Rattle.json_fields.specs.Fields.{field_at, text_at}
 use Rattle.json_fields.specs.Reading.{◌>>=◌, each}
 use Rattle.json_fields.proofs.Only.{same_value}
@@ -131,21 +133,10 @@ line_spoken d es line entries is = rw (entries, is.signals, is.after_reclaim) re
 
 -- ---- entries that are noted as they come
 
-neither : (a b : Bool) → a || b ≡ false → (a ≡ false) × (b ≡ false)
-neither true b e = absurd (true≢false e)
-neither false b e = (refl, e)
-
 none_more : {A : Type 0} (test : A → Bool) (xs : List A) (x : A) → list_any test xs ≡ false → test x ≡ false
     → list_any test (xs ++ x ∷ []) ≡ false
-none_more test [] x none last = rw last refl
-none_more test (w ∷ ws) x none last =
-    let both = neither (test w) (list_any test ws) none in
-    rw (both.0, none_more test ws x both.1 last) refl
-
-all_more : {A : Type 0} (P : A → Type 0) (xs : List A) (x : A) → All P xs → P x → All P (xs ++ x ∷ [])
-all_more P [] x all last = All-cons P x [] last (All-nil P)
-all_more P (w ∷ ws) x all last =
-    All-cons P w (ws ++ x ∷ []) (All-head P w ws all) (all_more P ws x (All-tail P w ws all) last)
+none_more test xs x none last =
+    list_any-append test xs (x ∷ []) ∙ or_from (list_any test xs) (test x || false) none (rw last refl)
 
 pub none_noted : (roll : Roll) (at : ℕ) (slots : List (Option PodObs)) → slots ≡ slots_from at [] 0 roll.pods
     → EntriesNoted roll at [] slots
@@ -180,7 +171,7 @@ one_more_noted roll at ds d old new text n pod listed all ls rs before is number
       apart = none_more repeats before.entries entry before.apart (rw (ls.once, rs.once) refl);
       coded = none_more (λ (e : PlacedEntry). list_any (λ l. lacks_code l.instance) e.listings) before.entries entry
           before.coded ls.coded;
-      present = all_more (λ (e : PlacedEntry). is_present roll.departures e.pod ≡ true) before.entries entry
+      present = All-push (λ (e : PlacedEntry). is_present roll.departures e.pod ≡ true) before.entries entry
           before.present (found_present roll text.key.now n number).0;
       noted = noted;
     }

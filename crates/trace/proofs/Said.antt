@@ -7,19 +7,19 @@ use Rattle.node_config.specs.declared.node.NodeConfig.{NodeConfig}
 use Rattle.trace.specs.declared.trace_so_far.Trace.{Trace}
 use Rattle.json_lines.specs.Lines.{lines_of}
 use Rattle.roster.specs.Roll.{roll}
-use Rattle.trace.specs.Past.{Past}
+use Rattle.trace.specs.TraceSoFar.{TraceSoFar}
 use Rattle.trace.specs.Trace.{nothing, trace_of}
 use Rattle.trace.specs.Laws.{AreSaid, Says}
 use Rattle.trace.proofs.LawLemmas.{whole_trace}
 use Rattle.trace.proofs.LawLemmas.Saying.{all_checks}
 
 -- it holds where nothing is said, and after each line
-pub record IsKept (P : Past → Type 0) : Type 0 where
+pub record IsKept (P : TraceSoFar → Type 0) : Type 0 where
   pub first : (format : Format) → P (nothing format)
-  pub line : (past : Past) (line : List ℕ) (next : Past) → P past → Says past line next → P next
+  pub line : (past : TraceSoFar) (line : List ℕ) (next : TraceSoFar) → P past → Says past line next → P next
 
 -- what the lines of a trace say, read by a format
-abbrev pub past_of : Format → Trace → Past
+abbrev pub past_of : Format → Trace → TraceSoFar
 past_of format trace = record {
   format = format;
   node = Some trace.node;
@@ -27,7 +27,7 @@ past_of format trace = record {
   ticks = trace.ticks;
 }
 
-all_said : (P : Past → Type 0) → IsKept P → (format : Format) (lines : List (List ℕ)) (n : ℕ) (past : Past)
+all_said : (P : TraceSoFar → Type 0) → IsKept P → (format : Format) (lines : List (List ℕ)) (n : ℕ) (past : TraceSoFar)
     → AreSaid format lines n past → P past
 all_said P kept format lines zero past said = subst P (sym said) (kept.first format)
 all_said P kept format lines (suc n) past (before, line, said, here, inl blank) =
@@ -35,14 +35,14 @@ all_said P kept format lines (suc n) past (before, line, said, here, inl blank) 
 all_said P kept format lines (suc n) past (before, line, said, here, inr counts) =
     kept.line before line past (all_said P kept format lines n before said) ((all_checks before line past).0 counts.1)
 
-pub of_trace : (P : Past → Type 0) → IsKept P → (format : Format) (text : List ℕ) (trace : Trace)
+pub of_trace : (P : TraceSoFar → Type 0) → IsKept P → (format : Format) (text : List ℕ) (trace : Trace)
     → trace_of format text ≡ Ok trace → (by : Format) × P (past_of by trace)
 of_trace P kept format text trace e =
     let whole = (whole_trace format text trace).0 e in
     let past = whole.past in
     let by = past.format in
     let holds : P past = all_said P kept format (lines_of text) (length (lines_of text)) past whole.said in
-    let of : Option NodeConfig → List PodSpec → List ℕ → List (Option ℕ) → List TickObs → Past =
+    let of : Option NodeConfig → List PodSpec → List ℕ → List (Option ℕ) → List TickObs → TraceSoFar =
     λ node pods arrivals departures ticks.
     record { format = by; node = node; roll = roll pods arrivals departures; ticks = ticks } in
     let r = past.roll in

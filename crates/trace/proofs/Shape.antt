@@ -18,7 +18,7 @@ use Rattle.trace.specs.declared.placing.PlacedEntry.{PlacedEntry}
 use Rattle.trace.specs.Gives.{GivesAt}
 use Rattle.trace.specs.Laws.{HasKey, Says, says_node, says_pod, says_gone, says_tick}
 use Rattle.trace.specs.Observed.{observed}
-use Rattle.trace.specs.Past.{Past, with_pod, without}
+use Rattle.trace.specs.TraceSoFar.{TraceSoFar, with_pod, without}
 use Rattle.trace.specs.Pod.{named_in}
 use Rattle.roster.specs.Roll.{Roll, key_of_pod, stays, is_present}
 use Rattle.trace.specs.Sound.{HasArrived, Stays, ShowsEach, AreArrivals, AreDepartures, HaveOwnKeys, HasShape}
@@ -303,7 +303,7 @@ apart_after roll number ticks is own n m p q arrival lt here there at same =
     let w = own n m p q arrival lt here there at same in
     (w.0, still_gone roll.departures number ticks n w.0 is w.1, w.2)
 
-abbrev IsShaped : Past → Type 0
+abbrev IsShaped : TraceSoFar → Type 0
 IsShaped past = HasShape past.roll.pods past.roll.arrivals past.roll.departures past.ticks
 
 -- the pod that a line names is present
@@ -313,7 +313,7 @@ named_present roll None number e = absurd (cc)
 named_present roll (Some key) number e = (named roll key number e).present
 
 -- a pod leaves
-left_keeps : (past : Past) (number : ℕ) → is_present past.roll.departures number ≡ true → IsShaped past
+left_keeps : (past : TraceSoFar) (number : ℕ) → is_present past.roll.departures number ≡ true → IsShaped past
     → IsShaped (without past number)
 left_keeps past number is all = record {
   shown = λ t tick here.
@@ -330,7 +330,7 @@ left_keeps past number is all = record {
 }
 
 -- a pod arrives
-pod_keeps : (past : Past) (pod : PodSpec) → length past.roll.pods < most_pods
+pod_keeps : (past : TraceSoFar) (pod : PodSpec) → length past.roll.pods < most_pods
     → (HasKey past.roll (key_of_pod pod) → ⊥) → IsShaped past → IsShaped (with_pod past pod)
 pod_keeps past pod room new all =
     let roll = past.roll in
@@ -351,7 +351,7 @@ pod_keeps past pod room new all =
       own_keys = apart_more roll pod now all.arrived all.left all.own_keys new;
     }
 
-line_keeps : (past : Past) (line : List ℕ) (next : Past) → IsShaped past → Says past line next → IsShaped next
+line_keeps : (past : TraceSoFar) (line : List ℕ) (next : TraceSoFar) → IsShaped past → Says past line next → IsShaped next
 line_keeps past line _ all (says_node d node is e) = all
 line_keeps past line _ all (says_pod d pod is new) = pod_keeps past pod is.room new all
 line_keeps past line _ all (says_gone d number is named) =

@@ -20,14 +20,14 @@ use Rattle.following.specs.Backwards.{is_backwards}
 use Rattle.trace.specs.Gives.{GivesAt}
 use Rattle.trace.specs.Laws.{Says, says_node, says_pod, says_gone, says_tick}
 use Rattle.trace.specs.Observed.{observed}
-use Rattle.trace.specs.Past.{Past}
+use Rattle.trace.specs.TraceSoFar.{TraceSoFar}
 use Rattle.trace.specs.Sound.{AreAcceptable, AreRising}
 use Rattle.trace.specs.Trace.{trace_of}
 use Rattle.following.proofs.Forwards.{pods_forwards}
 use Rattle.trace.proofs.Moments.{rising-more, moment_later}
 use Rattle.trace.proofs.Said.{IsKept, of_trace}
 
-record IsSound (past : Past) : Type 0 where
+record IsSound (past : TraceSoFar) : Type 0 where
   pub acceptable : AreAcceptable past.ticks
   pub rising : AreRising past.ticks
 
@@ -56,7 +56,7 @@ tick_acceptable ticks tick all e pod container = after (shown_of tick pod) refl
         ((is_acceptable_is h listed).0 accepted) in
         subst IsAcceptableHistory (sym (history_shown ticks tick pod container shown is)) next
 
-line_sound : (past : Past) (line : List ℕ) (next : Past) → IsSound past → Says past line next → IsSound next
+line_sound : (past : TraceSoFar) (line : List ℕ) (next : TraceSoFar) → IsSound past → Says past line next → IsSound next
 line_sound past line _ all (says_node d node is e) = record { acceptable = all.acceptable; rising = all.rising }
 line_sound past line _ all (says_pod d pod is new) = record { acceptable = all.acceptable; rising = all.rising }
 line_sound past line _ all (says_gone d number is named) =

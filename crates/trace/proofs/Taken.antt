@@ -23,7 +23,7 @@ use Rattle.trace.specs.declared.fault.LineFault.{LineFault}
 use Rattle.trace.specs.declared.trace_so_far.LineKind.{LineKind}
 use Rattle.trace.specs.declared.trace_so_far.Trace.{Trace}
 use Rattle.trace.specs.Gives.{is_memory}
-use Rattle.trace.specs.Past.{Past, version_in}
+use Rattle.trace.specs.TraceSoFar.{TraceSoFar, version_in}
 use Rattle.trace.specs.declared.trace_so_far.LineKind.TheVariants as line_kinds
 use Rattle.trace.specs.Taken.{tick_of, tick_after, value_at, any_line_at, lines_at}
 use Rattle.trace.specs.Tick.{tick_in, tick_at}
@@ -31,7 +31,7 @@ use Rattle.trace.specs.Trace.{json_of, kind_from, kind_of_line, turn_of, in_orde
 use Rattle.trace.specs.Trace.{finished, read_on, nothing, trace_of}
 
 -- the rest of a text, by what each line says by itself
-abbrev pub read_data : ℕ → Past → List LineData → Result Trace LineFault
+abbrev pub read_data : ℕ → TraceSoFar → List LineData → Result Trace LineFault
 read_data n past [] = finished n past past.node
 read_data n past (line ∷ lines) = at_line n (any_line_at past line) >>= λ next. read_data (n + 1) next lines
 
@@ -48,40 +48,40 @@ then_then (Err e) f g = refl
 abbrev paired : Data → LineKind → Result (LineKind × Data) FaultKind
 paired d line_kind = Ok (line_kind, d)
 
-abbrev in_place : Past → (LineKind × Data) → Result Past FaultKind
+abbrev in_place : TraceSoFar → (LineKind × Data) → Result TraceSoFar FaultKind
 in_place past said = in_order (version_in past) past said.0 said.1
 
-kind_taken : (past : Past) (d : Data) (line_kind : Result LineKind FaultKind)
+kind_taken : (past : TraceSoFar) (d : Data) (line_kind : Result LineKind FaultKind)
     → (line_kind >>= paired d >>= in_place past) ≡ (line_kind >>= λ k. in_order (version_in past) past k d)
 kind_taken past d (Ok k) = refl
 kind_taken past d (Err e) = refl
 
 -- a tick line says the same by its record and by its JSON value
-by_value : (past : Past) (d : Data) → tick_after past (moment_at d) (tick_line_of d) ≡ tick_at past d
+by_value : (past : TraceSoFar) (d : Data) → tick_after past (moment_at d) (tick_line_of d) ≡ tick_at past d
 unfolding tick_at tick_in tick_after tick_of
 by_value past d = refl
 
-pub of_value : (past : Past) (d : Data) (moment : Option ℕ) (said : Result TickLine TickLineFault)
+pub of_value : (past : TraceSoFar) (d : Data) (moment : Option ℕ) (said : Result TickLine TickLineFault)
     → moment ≡ moment_at d → said ≡ tick_line_of d → tick_after past moment said ≡ tick_at past d
 of_value past d moment said at written =
     ap (λ (m : Option ℕ). tick_after past m said) at
     ∙ ap (λ (s : Result TickLine TickLineFault). tick_after past (moment_at d) s) written ∙ by_value past d
 
 -- in the place of a line whose kind is this text
-abbrev named : Past → Data → Option Version → Option (List ℕ) → Result Past FaultKind
+abbrev named : TraceSoFar → Data → Option Version → Option (List ℕ) → Result TraceSoFar FaultKind
 named past d version kind =
     some_or UnknownKind (kind_from version kind) >>= λ line_kind. in_order version past line_kind d
 
-abbrev by_record : Past → Data → Option Version → Result Past FaultKind
+abbrev by_record : TraceSoFar → Data → Option Version → Result TraceSoFar FaultKind
 by_record past d version =
     turn_of version line_kinds.Tick >>= λ turn. tick_after past (moment_at d) (tick_line_of d)
 
-tick_named : (past : Past) (d : Data) (version : Option Version)
+tick_named : (past : TraceSoFar) (d : Data) (version : Option Version)
     → by_record past d version ≡ named past d version (Some (codes "tick"))
 tick_named past d None = refl
 tick_named past d (Some version) = by_value past d
 
-tick_taken : (past : Past) (d : Data) (version : Option Version) (kind : Option (List ℕ))
+tick_taken : (past : TraceSoFar) (d : Data) (version : Option Version) (kind : Option (List ℕ))
     → is_tick_kind kind ≡ true → by_record past d version ≡ named past d version kind
 tick_taken past d version None tick = absurd (cc)
 tick_taken past d version (Some kind) tick =
@@ -89,14 +89,14 @@ tick_taken past d version (Some kind) tick =
     subst (λ (k : List ℕ). by_record past d version ≡ named past d version (Some k)) (sym is)
     (tick_named past d version)
 
-value_said : (past : Past) (d : Data) → any_line_at past (said_by d) ≡ value_at past d
+value_said : (past : TraceSoFar) (d : Data) → any_line_at past (said_by d) ≡ value_at past d
 unfolding said_by value_at
 value_said past d = elim (cases_Bool (is_tick d)) [
   | inl tick ↦ rw tick (tick_taken past d (version_in past) (text_at (codes "kind") d) tick)
   | inr other ↦ rw other refl
 ]
 
-value_taken : (past : Past) (line : List ℕ) (found : Option Data) → json_in line ≡ found
+value_taken : (past : TraceSoFar) (line : List ℕ) (found : Option Data) → json_in line ≡ found
     → nat_lt longest_line (length line) ≡ false → any_line_at past (said_or_not found) ≡ line_at past line
 unfolding json_of kind_and_value line_at value_at
 value_taken past line None here short = rw (short, here) refl
@@ -105,7 +105,7 @@ value_taken past line (Some d) here short =
     rw (short, here) (sym (kind_taken past d (kind_of_line (version_in past) d))) in
     value_said past d ∙ kind
 
-line_taken : (past : Past) (line : List ℕ) → is_blank line ≡ false
+line_taken : (past : TraceSoFar) (line : List ℕ) → is_blank line ≡ false
     → any_line_at past (line_data line) ≡ line_at past line
 unfolding kind_and_value line_at
 line_taken past line counts = elim (cases_Bool (nat_lt longest_line (length line))) [
@@ -115,7 +115,7 @@ line_taken past line counts = elim (cases_Bool (nat_lt longest_line (length line
       ap (any_line_at past) json ∙ value_taken past line (json_in line) refl short
 ]
 
-pub read_taken : (n : ℕ) (past : Past) (lines : List (List ℕ))
+pub read_taken : (n : ℕ) (past : TraceSoFar) (lines : List (List ℕ))
     → read_on n past lines ≡ read_data n past (map line_data lines)
 read_taken n past [] = refl
 read_taken n past (line ∷ lines) = elim (cases_Bool (is_blank line)) [
@@ -127,7 +127,7 @@ read_taken n past (line ∷ lines) = elim (cases_Bool (is_blank line)) [
 ]
 
 -- lines, and those behind them
-behind : (n : ℕ) (past : Past) (lines later : List LineData)
+behind : (n : ℕ) (past : TraceSoFar) (lines later : List LineData)
     → read_data n past (lines ++ later) ≡ (lines_at n past lines >>= λ next. read_data (n + length lines) next later)
 behind n past [] later =
     let here : n + 0 ≡ n = omega arith in
@@ -143,16 +143,16 @@ behind n past (line ∷ lines) later =
     (λ after. read_data (n + 1 + length lines) after later)))
 
 -- a line number, what is past and a rest of the text, from which the whole text is read
-abbrev pub LeadsOn : Format → List ℕ → ℕ → Past → List ℕ → Type 0
+abbrev pub LeadsOn : Format → List ℕ → ℕ → TraceSoFar → List ℕ → Type 0
 LeadsOn format text n past rest = read_data n past (map line_data (lines_of rest)) ≡ trace_of format text
 
 pub leads_from_start : (format : Format) (text : List ℕ) → LeadsOn format text 1 (nothing format) text
 unfolding trace_of
 leads_from_start format text = sym (read_taken 1 (nothing format) (lines_of text))
 
-pub leads_on : {A : Type 0} (view : A → LineData) (format : Format) (text : List ℕ) (n : ℕ) (past : Past)
+pub leads_on : {A : Type 0} (view : A → LineData) (format : Format) (text : List ℕ) (n : ℕ) (past : TraceSoFar)
     (rest later : List ℕ)
-    (lines : List A) (count : ℕ) (next : Past)
+    (lines : List A) (count : ℕ) (next : TraceSoFar)
     → LeadsOn format text n past rest → map line_data (lines_of rest) ≡ map view lines ++ map line_data (lines_of later)
     → lines_at n past (map view lines) ≡ Ok next → count ≡ length lines → LeadsOn format text (n + count) next later
 leads_on view format text n past rest later lines count next leads cut taken counted =
@@ -163,7 +163,7 @@ leads_on view format text n past rest later lines count next leads cut taken cou
     ≡ read_data (n + length (map view lines)) next (map line_data (lines_of later)) = rw taken refl in
     rw all (sym after ∙ sym whole ∙ ap (read_data n past) (sym cut) ∙ leads)
 
-pub stops : (format : Format) (text : List ℕ) (n : ℕ) (past : Past) (rest later : List ℕ) (lines : List LineData)
+pub stops : (format : Format) (text : List ℕ) (n : ℕ) (past : TraceSoFar) (rest later : List ℕ) (lines : List LineData)
     (fault : LineFault)
     → LeadsOn format text n past rest → map line_data (lines_of rest) ≡ lines ++ map line_data (lines_of later)
     → MatchBool (is_memory fault.kind) (Unit {0}) (lines_at n past lines ≡ Err fault)

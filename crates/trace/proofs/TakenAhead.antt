@@ -28,7 +28,7 @@ use Rattle.trace.specs.declared.ahead.LineAhead.{LineAhead}
 use Rattle.trace.specs.Ahead.{IsShown, IsAhead, AreAhead, IsReadAhead, KeepsPods, may_stand}
 use Rattle.trace.specs.Gives.{is_memory}
 use Rattle.trace.specs.Observed.{observed, some_code_missing}
-use Rattle.trace.specs.Past.{Past, version_in, with_tick}
+use Rattle.trace.specs.TraceSoFar.{TraceSoFar, version_in, with_tick}
 use Rattle.trace.specs.Placing.{placed_of, is_doubled, has_twice, are_of_one_pod, repeats}
 use Rattle.trace.specs.Pod.{container_counts}
 use Rattle.trace.specs.Taken.{tick_of, tick_after, tick_line_at, any_line_at, lines_at}
@@ -37,11 +37,11 @@ use Rattle.trace.specs.Trace.{turn_of, at_line}
 use Rattle.trace.proofs.Shown.{comes_next, went_on}
 use Rattle.json_lines.proofs.ZippedParts.{zip_append}
 
-abbrev seen : Past → TickObs → Result Past FaultKind
+abbrev seen : TraceSoFar → TickObs → Result TraceSoFar FaultKind
 seen past tick = Ok (with_tick past tick)
 
 -- the entries of the line are known, apart and coded, so only a listing that goes back is left to refuse
-entries_apart : (past : Past) (at : ℕ) (written : TickLine) (placed : List PlacedEntry)
+entries_apart : (past : TraceSoFar) (at : ℕ) (written : TickLine) (placed : List PlacedEntry)
     → is_doubled placed ≡ false → some_code_missing placed ≡ false
     → observed_in past at written placed
     ≡ (refused_if (is_backwards past.ticks (observed at written placed past.roll)) Backwards
@@ -49,7 +49,7 @@ entries_apart : (past : Past) (at : ℕ) (written : TickLine) (placed : List Pla
 unfolding observed_in
 entries_apart past at written placed apart coded = rw (apart, coded) refl
 
-entries_shown : (past : Past) (tick : TickObs) (written : TickLine) (placed : List PlacedEntry)
+entries_shown : (past : TraceSoFar) (tick : TickObs) (written : TickLine) (placed : List PlacedEntry)
     → placed_of past.roll written.entries ≡ Ok placed → is_doubled placed ≡ false → some_code_missing placed ≡ false
     → tick ≡ observed tick.at written placed past.roll
     → (placed_of past.roll written.entries >>= observed_in past tick.at written)
@@ -60,7 +60,7 @@ entries_shown past tick written placed places apart coded shows =
     ≡ (refused_if (is_backwards past.ticks o) Backwards >>= λ (u : ⊤). Ok o)) (sym shows)
     (entries_apart past tick.at written placed apart coded)
 
-steps : (turn : Result Turn FaultKind) (room : Result ⊤ FaultKind) (test back : Bool) (past : Past) (tick : TickObs)
+steps : (turn : Result Turn FaultKind) (room : Result ⊤ FaultKind) (test back : Bool) (past : TraceSoFar) (tick : TickObs)
     (entries : ℕ → Result TickObs FaultKind)
     → entries tick.at ≡ (refused_if back Backwards >>= λ (u : ⊤). Ok tick)
     → (turn >>= λ (t : Turn).
@@ -73,7 +73,7 @@ steps (Ok t) (Ok u) false back past tick entries e = refl
 steps (Ok t) (Ok u) true true past tick entries e = rw e refl
 steps (Ok t) (Ok u) true false past tick entries e = rw e refl
 
-tick_taken : (past : Past) (tick : TickObs) (written : TickLine) (placed : List PlacedEntry)
+tick_taken : (past : TraceSoFar) (tick : TickObs) (written : TickLine) (placed : List PlacedEntry)
     → placed_of past.roll written.entries ≡ Ok placed → is_doubled placed ≡ false → some_code_missing placed ≡ false
     → tick ≡ observed tick.at written placed past.roll
     → tick_line_at past (Some tick.at) (Ok written) ≡ (may_stand past tick >>= λ (u : ⊤). seen past tick)
@@ -85,7 +85,7 @@ tick_taken past tick written placed places apart coded shows =
     (entries_shown past tick written placed places apart coded shows)
 
 -- a line that was read ahead is taken by what is left to look at
-pub shown_taken : (past : Past) (said : LineData) (tick : TickObs) → IsShown past.roll said tick
+pub shown_taken : (past : TraceSoFar) (said : LineData) (tick : TickObs) → IsShown past.roll said tick
     → any_line_at past said ≡ (may_stand past tick >>= λ (u : ⊤). seen past tick)
 shown_taken past said tick is =
     ap (any_line_at past) is.says
@@ -106,23 +106,23 @@ ahead_comes_next ticks roll tick is later =
     subst (ComesNext ticks (container_counts roll.pods)) (sym is.1.shows)
     (comes_next ticks tick.at is.1.written is.1.placed roll later)
 
-roll_kept : (past next : Past) (turn : Result Turn FaultKind) (tick : Result TickObs FaultKind)
+roll_kept : (past next : TraceSoFar) (turn : Result Turn FaultKind) (tick : Result TickObs FaultKind)
     → (turn >>= λ (t : Turn). tick >>= seen past) ≡ Ok next → next.roll ≡ past.roll
 roll_kept past next (Err kind) tick e = absurd (no_fault next kind (sym e))
 roll_kept past next (Ok t) (Err kind) e = absurd (no_fault next kind (sym e))
 roll_kept past next (Ok t) (Ok tick) e =
-    sym (ap (λ (p : Past). p.roll) (same_value {E = FaultKind} (with_tick past tick) next e))
+    sym (ap (λ (p : TraceSoFar). p.roll) (same_value {E = FaultKind} (with_tick past tick) next e))
 
-tick_keeps : (past next : Past) (moment : Option ℕ) (said : Result TickLine TickLineFault)
+tick_keeps : (past next : TraceSoFar) (moment : Option ℕ) (said : Result TickLine TickLineFault)
     → tick_line_at past moment said ≡ Ok next → next.roll ≡ past.roll
 unfolding tick_after
 tick_keeps past next moment said e =
     roll_kept past next (turn_of (version_in past) line_kinds.Tick) (tick_of past moment said) e
 
 -- behind a line that is no pod's there are the same pods
-pub pods_kept : (past next : Past) (said : LineData) → KeepsPods said → any_line_at past said ≡ Ok next
+pub pods_kept : (past next : TraceSoFar) (said : LineData) → KeepsPods said → any_line_at past said ≡ Ok next
     → next.roll ≡ past.roll
-pods_kept past next Blank keeps e = sym (ap (λ (p : Past). p.roll) (same_value {E = FaultKind} past next e))
+pods_kept past next Blank keeps e = sym (ap (λ (p : TraceSoFar). p.roll) (same_value {E = FaultKind} past next e))
 pods_kept past next TooLong keeps e = absurd (no_fault next _ (sym e))
 pods_kept past next NotJson keeps e = absurd (no_fault next _ (sym e))
 pods_kept past next (Tick moment said) keeps e = tick_keeps past next moment said e
@@ -151,7 +151,7 @@ pub unless_refused : (P : Type 0) (test : Bool) (kind : FaultKind) (r : Result �
 unless_refused P test kind (Ok u) given holds = holds (went_on test kind u given)
 unless_refused P test kind (Err fault) given holds = tt
 
-pub shown_stands : (past : Past) (said : LineData) (tick : TickObs) (u : ⊤) → IsShown past.roll said tick
+pub shown_stands : (past : TraceSoFar) (said : LineData) (tick : TickObs) (u : ⊤) → IsShown past.roll said tick
     → may_stand past tick ≡ Ok u → any_line_at past said ≡ seen past tick
 shown_stands past said tick u is stands =
     shown_taken past said tick is ∙ then_ok (may_stand past tick) (λ (v : ⊤). seen past tick) u stands
@@ -159,7 +159,7 @@ shown_stands past said tick u is stands =
 then_err : {A B E : Type 0} (r : Result A E) (f : A → Result B E) (fault : E) → r ≡ Err fault → (r >>= f) ≡ Err fault
 then_err r f fault e = rw e refl
 
-pub shown_refused : (past : Past) (said : LineData) (tick : TickObs) (kind : FaultKind) → IsShown past.roll said tick
+pub shown_refused : (past : TraceSoFar) (said : LineData) (tick : TickObs) (kind : FaultKind) → IsShown past.roll said tick
     → may_stand past tick ≡ Err kind
     → MatchBool (is_memory kind) (Unit {0}) (any_line_at past said ≡ Err kind)
 shown_refused past said tick kind is refused =
@@ -193,8 +193,8 @@ abbrev said_in_turn : List (Bor (List ℕ)) → List LineData
 said_in_turn lines = map (λ line. line_data line.now) lines
 
 -- a line is taken, and the others are behind it
-pub turn_taken : (roll : Roll) (start : Result Past LineFault) (lines : List (Bor (List ℕ))) (i n : ℕ)
-    (d : Bor (List ℕ)) (past next : Past) (before after : List LineAhead) (read : LineAhead) (fresh stays : Bool)
+pub turn_taken : (roll : Roll) (start : Result TraceSoFar LineFault) (lines : List (Bor (List ℕ))) (i n : ℕ)
+    (d : Bor (List ℕ)) (past next : TraceSoFar) (before after : List LineAhead) (read : LineAhead) (fresh stays : Bool)
     → i < length lines → lines_at n past (said_in_turn (drop i lines)) ≡ start
     → AreAhead roll (drop i lines) before → before ≡ read ∷ after
     → (IsTrue fresh → past.roll ≡ roll)
@@ -208,7 +208,7 @@ turn_taken roll start lines i n d past next before after read fresh stays lt fro
     (subst (AreAhead roll (drop i lines)) same ahead) in
     let whole = subst (λ (ls : List (Bor (List ℕ))). lines_at n past (said_in_turn ls) ≡ start) cut from in (
       sym (then_ok (at_line n (any_line_at past (line_data (get_or lines i d).now)))
-          (λ (p : Past). lines_at (n + 1) p (said_in_turn (drop (i + 1) lines))) next taken) ∙ whole,
+          (λ (p : TraceSoFar). lines_at (n + 1) p (said_in_turn (drop (i + 1) lines))) next taken) ∙ whole,
       both.1,
       (λ e. (stay e).1 ∙ kept (stay e).0),
     )
@@ -227,8 +227,8 @@ none_missing roll lines i d before lt ahead none =
     subst (λ (ls : List (Bor (List ℕ))). AreAhead roll ls []) (drop_more lines i d lt)
     (subst (AreAhead roll (drop i lines)) none ahead)
 
-pub turn_refused : (start : Result Past LineFault) (lines : List (Bor (List ℕ))) (i n : ℕ)
-    (d : Bor (List ℕ)) (past : Past) (fault : LineFault) → i < length lines
+pub turn_refused : (start : Result TraceSoFar LineFault) (lines : List (Bor (List ℕ))) (i n : ℕ)
+    (d : Bor (List ℕ)) (past : TraceSoFar) (fault : LineFault) → i < length lines
     → lines_at n past (said_in_turn (drop i lines)) ≡ start
     → MatchBool (is_memory fault.kind) (Unit {0})
     (at_line n (any_line_at past (line_data (get_or lines i d).now)) ≡ Err fault)
@@ -242,5 +242,5 @@ turn_refused start lines i n d past fault lt from refused =
       | inr other ↦
           let faulty : at_line n (any_line_at past (line_data line.now)) ≡ Err fault = rw other at refused in
           rw other (sym whole ∙ then_err (at_line n (any_line_at past (line_data line.now)))
-          (λ (p : Past). lines_at (n + 1) p (said_in_turn (drop (i + 1) lines))) fault faulty)
+          (λ (p : TraceSoFar). lines_at (n + 1) p (said_in_turn (drop (i + 1) lines))) fault faulty)
     ]

@@ -17,7 +17,7 @@ use Rattle.trace.specs.declared.trace_so_far.LineKind.{LineKind}
 use Rattle.trace.specs.declared.placing.PlacedEntry.{PlacedEntry}
 use Rattle.json_lines.specs.Lines.{longest_line}
 use Rattle.trace.specs.Observed.{observed, some_code_missing}
-use Rattle.trace.specs.Past.{Past, version_in, with_pod, without, with_tick}
+use Rattle.trace.specs.TraceSoFar.{TraceSoFar, version_in, with_pod, without, with_tick}
 use Rattle.trace.specs.Placing.{placed_of}
 use Rattle.roster.specs.Roll.{key_of_pod}
 use Rattle.trace.specs.Pod.{has_key, pod_from, named_in}
@@ -27,63 +27,63 @@ use Rattle.trace.specs.Trace.{kind_and_value, line_at}
 use Rattle.trace.specs.Written.{tick_line_in}
 
 -- the steps of a line, each with those after it
-abbrev pub in_place : Past → Data → LineKind → Result Past FaultKind
+abbrev pub in_place : TraceSoFar → Data → LineKind → Result TraceSoFar FaultKind
 in_place past d line_kind = in_order (version_in past) past line_kind d
 
-abbrev pub with_kind : Past → Data → Option LineKind → Result Past FaultKind
+abbrev pub with_kind : TraceSoFar → Data → Option LineKind → Result TraceSoFar FaultKind
 with_kind past d kind = some_or UnknownKind kind >>= in_place past d
 
-abbrev pub with_json : Past → Data → Result Past FaultKind
+abbrev pub with_json : TraceSoFar → Data → Result TraceSoFar FaultKind
 with_json past d = with_kind past d (kind_from (version_in past) (text_at (codes "kind") d))
 
-abbrev pub with_tick_seen : Past → TickObs → Result Past FaultKind
+abbrev pub with_tick_seen : TraceSoFar → TickObs → Result TraceSoFar FaultKind
 with_tick_seen past tick = Ok (with_tick past tick)
 
-abbrev pub with_places : Past → ℕ → TickLine → List PlacedEntry → Result Past FaultKind
+abbrev pub with_places : TraceSoFar → ℕ → TickLine → List PlacedEntry → Result TraceSoFar FaultKind
 with_places past at written placed = observed_in past at written placed >>= with_tick_seen past
 
-abbrev pub with_written : Past → ℕ → TickLine → Result Past FaultKind
+abbrev pub with_written : TraceSoFar → ℕ → TickLine → Result TraceSoFar FaultKind
 with_written past at written = placed_of past.roll written.entries >>= with_places past at written
 
-abbrev pub with_moment : Past → Data → ℕ → Result Past FaultKind
+abbrev pub with_moment : TraceSoFar → Data → ℕ → Result TraceSoFar FaultKind
 with_moment past d at = tick_line_in d >>= with_written past at
 
-abbrev pub with_room : Past → Data → ⊤ → Result Past FaultKind
+abbrev pub with_room : TraceSoFar → Data → ⊤ → Result TraceSoFar FaultKind
 with_room past d u = moment_of past.ticks (field_at (codes "at") d) >>= with_moment past d
 
-abbrev pub with_code : Past → ℕ → TickLine → List PlacedEntry → ⊤ → Result TickObs FaultKind
+abbrev pub with_code : TraceSoFar → ℕ → TickLine → List PlacedEntry → ⊤ → Result TickObs FaultKind
 with_code past at written placed u = Ok (observed at written placed past.roll)
 
-abbrev pub with_forwards : Past → ℕ → TickLine → List PlacedEntry → ⊤ → Result TickObs FaultKind
+abbrev pub with_forwards : TraceSoFar → ℕ → TickLine → List PlacedEntry → ⊤ → Result TickObs FaultKind
 with_forwards past at written placed u =
     refused_if (some_code_missing placed) ExitCode >>= with_code past at written placed
 
-abbrev pub with_apart : Past → ℕ → TickLine → List PlacedEntry → ⊤ → Result TickObs FaultKind
+abbrev pub with_apart : TraceSoFar → ℕ → TickLine → List PlacedEntry → ⊤ → Result TickObs FaultKind
 with_apart past at written placed u =
     refused_if (is_backwards past.ticks (observed at written placed past.roll)) Backwards >>= with_forwards past at
     written placed
 
-abbrev pub gone_said : Past → ℕ → Result Past FaultKind
+abbrev pub gone_said : TraceSoFar → ℕ → Result TraceSoFar FaultKind
 gone_said past number = Ok (without past number)
 
-abbrev pub gone_named : Past → Option ℕ → Result Past FaultKind
+abbrev pub gone_named : TraceSoFar → Option ℕ → Result TraceSoFar FaultKind
 gone_named past named = some_or StrangerPod named >>= gone_said past
 
-pub gone_whole : (past : Past) (d : Data)
+pub gone_whole : (past : TraceSoFar) (d : Data)
     → gone_line_at past d ≡ gone_named past (named_in past.roll (text_at (codes "pod") d))
 unfolding gone_line_at
 gone_whole past d = refl
 
-abbrev pub pod_new : Past → PodSpec → ⊤ → Result Past FaultKind
+abbrev pub pod_new : TraceSoFar → PodSpec → ⊤ → Result TraceSoFar FaultKind
 pod_new past pod u = Ok (with_pod past pod)
 
-abbrev pub pod_said : Past → PodSpec → Result Past FaultKind
+abbrev pub pod_said : TraceSoFar → PodSpec → Result TraceSoFar FaultKind
 pod_said past pod = refused_if (has_key past.roll (key_of_pod pod)) DuplicatePod >>= pod_new past pod
 
-abbrev pub pod_read : Past → Data → ⊤ → Result Past FaultKind
+abbrev pub pod_read : TraceSoFar → Data → ⊤ → Result TraceSoFar FaultKind
 pod_read past d u = pod_from (field_at (codes "pod") d) >>= pod_said past
 
-abbrev pub pod_early : Past → Data → ⊤ → Result Past FaultKind
+abbrev pub pod_early : TraceSoFar → Data → ⊤ → Result TraceSoFar FaultKind
 pod_early past d u = refused_if (nat_le most_pods (length past.roll.pods)) TooMany >>= pod_read past d
 
 -- steps in two rows, and in one
@@ -93,16 +93,16 @@ in_a_row (Ok x) f g h same = same x
 in_a_row (Err fault) f g h same = refl
 
 -- of a tick line, up to the tick
-abbrev said_placed : Past → ℕ → TickLine → Result TickObs FaultKind
+abbrev said_placed : TraceSoFar → ℕ → TickLine → Result TickObs FaultKind
 said_placed past at written = placed_of past.roll written.entries >>= observed_in past at written
 
-abbrev said_written : Past → Data → ℕ → Result TickObs FaultKind
+abbrev said_written : TraceSoFar → Data → ℕ → Result TickObs FaultKind
 said_written past d at = tick_line_in d >>= said_placed past at
 
-abbrev said_moment : Past → Data → ⊤ → Result TickObs FaultKind
+abbrev said_moment : TraceSoFar → Data → ⊤ → Result TickObs FaultKind
 said_moment past d room = moment_of past.ticks (field_at (codes "at") d) >>= said_written past d
 
-pub tick_whole : (past : Past) (d : Data)
+pub tick_whole : (past : TraceSoFar) (d : Data)
     → tick_at past d ≡ (refused_if (nat_le most_ticks (length past.ticks)) TooMany >>= with_room past d)
 unfolding tick_at tick_in
 tick_whole past d =
@@ -118,10 +118,10 @@ tick_whole past d =
 abbrev said_pod : Data → ⊤ → Result PodSpec FaultKind
 said_pod d room = pod_from (field_at (codes "pod") d)
 
-abbrev said_early : Past → Data → ⊤ → Result PodSpec FaultKind
+abbrev said_early : TraceSoFar → Data → ⊤ → Result PodSpec FaultKind
 said_early past d in_time = refused_if (nat_le most_pods (length past.roll.pods)) TooMany >>= said_pod d
 
-pub pod_whole : (version : Version) (past : Past) (d : Data)
+pub pod_whole : (version : Version) (past : TraceSoFar) (d : Data)
     → pod_line_at version past d ≡ (refused_if (is_late version past.ticks) Order >>= pod_early past d)
 unfolding pod_line_at pod_in
 pod_whole version past d =
@@ -131,19 +131,19 @@ pod_whole version past d =
     (λ room. refl))
 
 -- of any line, up to its kind and its value
-abbrev said_kind : Past → Data → Result (LineKind × Data) FaultKind
+abbrev said_kind : TraceSoFar → Data → Result (LineKind × Data) FaultKind
 said_kind past d = kind_of_line (version_in past) d >>= λ line_kind. Ok (line_kind, d)
 
-abbrev said_json : Past → List ℕ → ⊤ → Result (LineKind × Data) FaultKind
+abbrev said_json : TraceSoFar → List ℕ → ⊤ → Result (LineKind × Data) FaultKind
 said_json past line short = json_of line >>= said_kind past
 
-abbrev of_said : Past → LineKind × Data → Result Past FaultKind
+abbrev of_said : TraceSoFar → LineKind × Data → Result TraceSoFar FaultKind
 of_said past said = in_order (version_in past) past said.0 said.1
 
-abbrev pub json_read : Past → List ℕ → ⊤ → Result Past FaultKind
+abbrev pub json_read : TraceSoFar → List ℕ → ⊤ → Result TraceSoFar FaultKind
 json_read past line short = json_of line >>= with_json past
 
-pub line_whole : (past : Past) (line : List ℕ)
+pub line_whole : (past : TraceSoFar) (line : List ℕ)
     → line_at past line ≡ (refused_if (nat_lt longest_line (length line)) TooLong >>= json_read past line)
 unfolding line_at kind_and_value
 line_whole past line =

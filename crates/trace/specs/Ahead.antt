@@ -15,7 +15,7 @@ use Rattle.trace.specs.declared.fault.FaultKind.TheVariants.{Backwards}
 use Rattle.trace.specs.declared.trace_so_far.LineKind.TheVariants as line_kinds
 use Rattle.trace.specs.declared.placing.PlacedEntry.{PlacedEntry}
 use Rattle.trace.specs.Observed.{observed, some_code_missing}
-use Rattle.trace.specs.Past.{Past, version_in}
+use Rattle.trace.specs.TraceSoFar.{TraceSoFar, version_in}
 use Rattle.trace.specs.Placing.{placed_of, is_doubled}
 use Rattle.trace.specs.Tick.{moment_from, room_for_tick}
 use Rattle.trace.specs.Trace.{turn_of}
@@ -52,7 +52,7 @@ abbrev pub IsReadAhead : Roll → TickObs → Type 0
 IsReadAhead roll tick = (said : LineData) × IsShown roll said tick
 
 -- what is left to look at of a tick whose line was read ahead
-unfoldable pub may_stand : Past → TickObs → Result ⊤ FaultKind
+unfoldable pub may_stand : TraceSoFar → TickObs → Result ⊤ FaultKind
 may_stand past tick = do
   turn ← turn_of (version_in past) line_kinds.Tick
   room ← room_for_tick past.ticks

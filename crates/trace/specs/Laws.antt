@@ -51,25 +51,25 @@ use Rattle.node_config.specs.declared.node.Format.{Format}
 use Rattle.node_config.specs.declared.node.Format.TheVariants.{Standard, Extended}
 use Rattle.node_config.specs.declared.node.Version.{Version}
 use Rattle.node_config.specs.declared.node.Version.TheVariants.{One, Two, Three}
-use Rattle.trace.specs.Past.{Past, version_in, of_node, with_pod, without, with_tick}
+use Rattle.trace.specs.TraceSoFar.{TraceSoFar, version_in, of_node, with_pod, without, with_tick}
 use Rattle.trace.specs.Tick.{moment_of}
 use Rattle.trace.specs.Trace.{json_of, kind_from, line_at, nothing, trace_of}
 
 -- after what is said before it, the line leaves this said: a blank line adds nothing, any other
 -- line counts and has no fault
-abbrev pub Leaves : Past → List ℕ → Past → Type 0
+abbrev pub Leaves : TraceSoFar → List ℕ → TraceSoFar → Type 0
 Leaves before line past = ((is_blank line ≡ true) × (past ≡ before))
     ⊎ ((is_blank line ≡ false) × (line_at before line ≡ Ok past))
 
 -- the first n lines say this, and none of them that counts has a fault
-abbrev pub AreSaid : Format → List (List ℕ) → ℕ → Past → Type 0
+abbrev pub AreSaid : Format → List (List ℕ) → ℕ → TraceSoFar → Type 0
 AreSaid format lines zero past = past ≡ nothing format
-AreSaid format lines (suc n) past = (before : Past) × (line : List ℕ) × AreSaid format lines n before
+AreSaid format lines (suc n) past = (before : TraceSoFar) × (line : List ℕ) × AreSaid format lines n before
     × (slice_get lines n ≡ Some line) × Leaves before line past
 
 -- the line at place n counts and has a fault, its first of this kind, and no line before it has one
 pub record IsFaultAt (format : Format) (lines : List (List ℕ)) (n : ℕ) (kind : FaultKind) : Type 0 where
-  pub past : Past
+  pub past : TraceSoFar
   pub line : List ℕ
   pub said : AreSaid format lines n past
   pub here : slice_get lines n ≡ Some line
@@ -89,7 +89,7 @@ IsFirstFault format lines fault =
 
 -- no line has a fault, and all of them say the trace
 pub record IsWhole (format : Format) (lines : List (List ℕ)) (trace : Trace) : Type 0 where
-  pub past : Past
+  pub past : TraceSoFar
   pub said : AreSaid format lines (length lines) past
   pub node : past.node ≡ Some trace.node
   pub pods : past.roll.pods ≡ trace.pods
@@ -110,7 +110,7 @@ WholeTrace = (format : Format) (text : List ℕ) (trace : Trace)
 
 -- the first lines say one thing at most, and at most one line has the first fault
 pub record OneFault : Type 0 where
-  pub said : (format : Format) (lines : List (List ℕ)) (n : ℕ) (past past' : Past) → AreSaid format lines n past
+  pub said : (format : Format) (lines : List (List ℕ)) (n : ℕ) (past past' : TraceSoFar) → AreSaid format lines n past
       → AreSaid format lines n past' → past ≡ past'
   pub fault : (format : Format) (lines : List (List ℕ)) (n m : ℕ) (kind kind' : FaultKind)
       → IsFaultAt format lines n kind → IsFaultAt format lines m kind' → (n ≡ m) × (kind ≡ kind')
@@ -121,7 +121,7 @@ pub record IsJson (line : List ℕ) (d : Data) : Type 0 where
   pub json : json_of line ≡ Ok d
 
 -- and of this kind
-pub record IsOfKind (past : Past) (line : List ℕ) (line_kind : LineKind) (d : Data) : Type 0 where
+pub record IsOfKind (past : TraceSoFar) (line : List ℕ) (line_kind : LineKind) (d : Data) : Type 0 where
   pub json : IsJson line d
   pub kind : kind_from (version_in past) (text_at (codes "kind") d) ≡ Some line_kind
 
@@ -132,19 +132,19 @@ TakesPods ticks Two = Unit {0}
 TakesPods ticks Three = Unit {0}
 
 -- a node line stands before all other lines that count, and a pod line where the version takes it
-abbrev pub MayStand : Past → LineKind → Type 0
+abbrev pub MayStand : TraceSoFar → LineKind → Type 0
 MayStand past kinds.Node = past.node ≡ None
 MayStand past kinds.Pod = IsSomeAnd (version_in past) (TakesPods past.ticks)
 MayStand past kinds.Tick = is_some past.node ≡ true
 MayStand past kinds.Gone = is_some past.node ≡ true
 
 -- the line is of this kind, and may stand where it does
-pub record Stands (past : Past) (line : List ℕ) (line_kind : LineKind) (d : Data) : Type 0 where
+pub record Stands (past : TraceSoFar) (line : List ℕ) (line_kind : LineKind) (d : Data) : Type 0 where
   pub of_kind : IsOfKind past line line_kind d
   pub here : MayStand past line_kind
 
 -- a pod line for which there is room, with this pod
-pub record HasPod (past : Past) (line : List ℕ) (d : Data) (pod : PodSpec) : Type 0 where
+pub record HasPod (past : TraceSoFar) (line : List ℕ) (d : Data) (pod : PodSpec) : Type 0 where
   pub stands : Stands past line kinds.Pod d
   pub room : length past.roll.pods < most_pods
   pub pod_is : pod_from (field_at (codes "pod") d) ≡ Ok pod
@@ -161,30 +161,30 @@ abbrev pub HasKey : Roll → List ℕ → Type 0
 HasKey roll key = (n : ℕ) × IsNamed roll n key
 
 -- a tick line for which there is room, at this moment
-pub record HasMoment (past : Past) (line : List ℕ) (d : Data) (at : ℕ) : Type 0 where
+pub record HasMoment (past : TraceSoFar) (line : List ℕ) (d : Data) (at : ℕ) : Type 0 where
   pub stands : Stands past line kinds.Tick d
   pub room : length past.ticks < most_ticks
   pub moment : moment_of past.ticks (field_at (codes "at") d) ≡ Ok at
 
 -- and with this written beside it
-pub record HasWritten (past : Past) (line : List ℕ) (d : Data) (at : ℕ) (written : TickLine) : Type 0 where
+pub record HasWritten (past : TraceSoFar) (line : List ℕ) (d : Data) (at : ℕ) (written : TickLine) : Type 0 where
   pub has_moment : HasMoment past line d at
   pub written_is : tick_line_in d ≡ Ok written
 
 -- whose entries are of pods that are present and of containers that are known
-pub record HasPlaces (past : Past) (line : List ℕ) (d : Data) (at : ℕ) (written : TickLine)
+pub record HasPlaces (past : TraceSoFar) (line : List ℕ) (d : Data) (at : ℕ) (written : TickLine)
     (placed : List PlacedEntry) : Type 0 where
   pub has_written : HasWritten past line d at written
   pub placed_are : placed_of past.roll written.entries ≡ Ok placed
 
 -- no two of them are of one pod, and none has a container or a probe twice
-pub record IsApart (past : Past) (line : List ℕ) (d : Data) (at : ℕ) (written : TickLine)
+pub record IsApart (past : TraceSoFar) (line : List ℕ) (d : Data) (at : ℕ) (written : TickLine)
     (placed : List PlacedEntry) : Type 0 where
   pub has_places : HasPlaces past line d at written placed
   pub apart : is_doubled placed ≡ false
 
 -- and none of them goes back behind an earlier one
-pub record IsForwards (past : Past) (line : List ℕ) (d : Data) (at : ℕ) (written : TickLine)
+pub record IsForwards (past : TraceSoFar) (line : List ℕ) (d : Data) (at : ℕ) (written : TickLine)
     (placed : List PlacedEntry) : Type 0 where
   pub is_apart : IsApart past line d at written placed
   pub forwards : is_backwards past.ticks (observed at written placed past.roll) ≡ false
@@ -192,7 +192,7 @@ pub record IsForwards (past : Past) (line : List ℕ) (d : Data) (at : ℕ) (wri
 -- the first check that a line fails after what is said before it, with the fault that it answers:
 -- the checks of every line, and then those of a node line, of a pod line, of a line by which a pod leaves, or of a
 -- tick line
-pub data Fails (past : Past) (line : List ℕ) : FaultKind → Type 0 where
+pub data Fails (past : TraceSoFar) (line : List ℕ) : FaultKind → Type 0 where
   too_long : longest_line < length line → Fails past line TooLong
   not_json : (kind : FaultKind) → length line ≤ longest_line → json_of line ≡ Err kind → Fails past line kind
   unknown_kind : (d : Data) → IsJson line d → kind_from (version_in past) (text_at (codes "kind") d) ≡ None
@@ -226,10 +226,10 @@ pub data Fails (past : Past) (line : List ℕ) : FaultKind → Type 0 where
 
 -- a line's fault is that of the first check that it fails
 abbrev pub FirstCheck : Type 0
-FirstCheck = (past : Past) (line : List ℕ) (kind : FaultKind) → (line_at past line ≡ Err kind ↔ Fails past line kind)
+FirstCheck = (past : TraceSoFar) (line : List ℕ) (kind : FaultKind) → (line_at past line ≡ Err kind ↔ Fails past line kind)
 
 -- what is said after a line that passes all its checks
-pub data Says (past : Past) (line : List ℕ) : Past → Type 0 where
+pub data Says (past : TraceSoFar) (line : List ℕ) : TraceSoFar → Type 0 where
   says_node : (d : Data) (node : NodeConfig) → Stands past line kinds.Node d → node_in past.format d ≡ Ok node
       → Says past line (of_node past node)
   says_pod : (d : Data) (pod : PodSpec) → HasPod past line d pod → (HasKey past.roll (key_of_pod pod) → ⊥)
@@ -242,7 +242,7 @@ pub data Says (past : Past) (line : List ℕ) : Past → Type 0 where
 
 -- a line without a fault says its node, its pod, that a pod is gone, or its tick, behind what is said before it
 abbrev pub AllChecks : Type 0
-AllChecks = (past : Past) (line : List ℕ) (next : Past) → (line_at past line ≡ Ok next ↔ Says past line next)
+AllChecks = (past : TraceSoFar) (line : List ℕ) (next : TraceSoFar) → (line_at past line ≡ Ok next ↔ Says past line next)
 
 -- the kinds of fault that a check answers
 pub record KindsOfChecks : Type 0 where
@@ -375,6 +375,6 @@ IsNotMemory kind = (kind ≢ OutOfMemory) × (kind ≢ Manifest manifest_faults.
 
 -- no line and no text has a fault because memory was refused
 pub record NeverMemory : Type 0 where
-  pub line : (past : Past) (line : List ℕ) (kind : FaultKind) → line_at past line ≡ Err kind → IsNotMemory kind
+  pub line : (past : TraceSoFar) (line : List ℕ) (kind : FaultKind) → line_at past line ≡ Err kind → IsNotMemory kind
   pub text : (format : Format) (text : List ℕ) (fault : LineFault) → trace_of format text ≡ Err fault
       → IsNotMemory fault.kind

@@ -6,11 +6,12 @@ pub mod Placing
 pub mod ByPod
 pub mod Observed
 pub mod Slots
-pub mod Past
+pub mod TraceSoFar
 pub mod Tick
 pub mod Trace
 pub mod Taken
 pub mod Ahead
+pub mod Windows
 pub mod Sound
 pub mod Laws
 pub mod Tape

@@ -12,7 +12,7 @@ use Rattle.observations.specs.declared.tick.TickObs.{TickObs}
 use Rattle.observations.specs.Limits.{most_ticks}
 use Rattle.tick_lines.specs.declared.line.TickLine.{TickLine}
 use Rattle.trace.specs.declared.placing.PlacedEntry.{PlacedEntry}
-use Rattle.trace.specs.Past.{Past, with_tick}
+use Rattle.trace.specs.TraceSoFar.{TraceSoFar, with_tick}
 use Rattle.trace.specs.Written.{tick_line_in}
 use Rattle.trace.specs.Placing.{placed_of, is_doubled}
 use Rattle.trace.specs.Observed.{observed, some_code_missing}
@@ -42,12 +42,12 @@ abbrev pub room_for_tick : List TickObs → Result ⊤ FaultKind
 room_for_tick ticks = refused_if (nat_le most_ticks (length ticks)) TooMany
 
 -- the tick shows the pods that there are, behind the ticks so far, and none of its listings goes back
-pub record MayStandBehind (past : Past) (tick : TickObs) : Type 0 where
+pub record MayStandBehind (past : TraceSoFar) (tick : TickObs) : Type 0 where
   pub comes_next : ComesNext past.ticks (container_counts past.roll.pods) tick
   pub forwards : is_backwards past.ticks tick ≡ false
 
 -- the tick that the line shows with its entries placed, after the ticks before it
-unfoldable pub observed_in : Past → ℕ → TickLine → List PlacedEntry → Result TickObs FaultKind
+unfoldable pub observed_in : TraceSoFar → ℕ → TickLine → List PlacedEntry → Result TickObs FaultKind
 observed_in past at written placed = do
   apart ← refused_if (is_doubled placed) Doubled
   forwards ← refused_if (is_backwards past.ticks (observed at written placed past.roll)) Backwards
@@ -55,7 +55,7 @@ observed_in past at written placed = do
   Ok (observed at written placed past.roll)
 
 -- the tick that a tick line says after those that say what is past
-unfoldable pub tick_in : Past → Data → Result TickObs FaultKind
+unfoldable pub tick_in : TraceSoFar → Data → Result TickObs FaultKind
 tick_in past d = do
   room ← room_for_tick past.ticks
   at ← moment_in past.ticks d
@@ -63,7 +63,7 @@ tick_in past d = do
   placed ← placed_of past.roll written.entries
   observed_in past at written placed
 
-unfoldable pub tick_at : Past → Data → Result Past FaultKind
+unfoldable pub tick_at : TraceSoFar → Data → Result TraceSoFar FaultKind
 tick_at past d = do
   tick ← tick_in past d
   Ok (with_tick past tick)

@@ -22,7 +22,7 @@ use Rattle.json_lines.specs.Lines.{lines_of, is_blank, json_in, longest_line}
 use Rattle.trace.specs.Written.{node_in}
 use Rattle.roster.specs.Roll.{Roll, nothing as no_pods}
 use Rattle.trace.specs.Pod.{new_key, room_for_pod, pod_from, named_in}
-use Rattle.trace.specs.Past.{Past, version_in, of_node, with_pod, without}
+use Rattle.trace.specs.TraceSoFar.{TraceSoFar, version_in, of_node, with_pod, without}
 use Rattle.trace.specs.Tick.{tick_at}
 
 -- a line's JSON value
@@ -48,13 +48,13 @@ kind_from version (Some s) =
 abbrev pub kind_of_line : Option Version → Data → Result LineKind FaultKind
 kind_of_line version d = some_or UnknownKind (kind_from version (text_at (codes "kind") d))
 
-unfoldable pub with_node : Past → Data → Result Past FaultKind
+unfoldable pub with_node : TraceSoFar → Data → Result TraceSoFar FaultKind
 with_node past d = do
   node ← node_in past.format d
   Ok (of_node past node)
 
 -- a pod goes behind the earlier ones, if none that is present has its key
-abbrev pub with_new_pod : Past → PodSpec → Result Past FaultKind
+abbrev pub with_new_pod : TraceSoFar → PodSpec → Result TraceSoFar FaultKind
 with_new_pod past pod = new_key past.roll pod >>= λ new. Ok (with_pod past pod)
 
 -- in version 1 a pod line stands before all tick lines; in later ones it may follow one
@@ -64,19 +64,19 @@ is_late Two ticks = false
 is_late Three ticks = false
 
 -- the pod that a pod line says after those that say what is past, whatever its key
-unfoldable pub pod_in : Version → Past → Data → Result PodSpec FaultKind
+unfoldable pub pod_in : Version → TraceSoFar → Data → Result PodSpec FaultKind
 pod_in version past d = do
   in_time ← refused_if (is_late version past.ticks) Order
   room ← room_for_pod past.roll.pods
   pod_from (field_at (codes "pod") d)
 
-unfoldable pub pod_line_at : Version → Past → Data → Result Past FaultKind
+unfoldable pub pod_line_at : Version → TraceSoFar → Data → Result TraceSoFar FaultKind
 pod_line_at version past d = do
   pod ← pod_in version past d
   with_new_pod past pod
 
 -- a pod leaves, if it is present
-unfoldable pub gone_line_at : Past → Data → Result Past FaultKind
+unfoldable pub gone_line_at : TraceSoFar → Data → Result TraceSoFar FaultKind
 gone_line_at past d = do
   number ← some_or StrangerPod (named_in past.roll (text_at (codes "pod") d))
   Ok (without past number)
@@ -92,13 +92,13 @@ turn_of (Some version) kinds.Pod = Ok (turns.Pod version)
 turn_of (Some version) kinds.Tick = Ok turns.Tick
 turn_of (Some version) kinds.Gone = Ok turns.Gone
 
-abbrev pub in_turn : Past → Turn → Data → Result Past FaultKind
+abbrev pub in_turn : TraceSoFar → Turn → Data → Result TraceSoFar FaultKind
 in_turn past turns.Node d = with_node past d
 in_turn past (turns.Pod version) d = pod_line_at version past d
 in_turn past turns.Tick d = tick_at past d
 in_turn past turns.Gone d = gone_line_at past d
 
-abbrev pub in_order : Option Version → Past → LineKind → Data → Result Past FaultKind
+abbrev pub in_order : Option Version → TraceSoFar → LineKind → Data → Result TraceSoFar FaultKind
 in_order version past line_kind d = turn_of version line_kind >>= λ turn. in_turn past turn d
 
 abbrev pub line_length : List ℕ → Result ⊤ FaultKind
@@ -113,7 +113,7 @@ kind_and_value version line = do
   Ok (line_kind, d)
 
 -- a line after those that say what is past
-unfoldable pub line_at : Past → List ℕ → Result Past FaultKind
+unfoldable pub line_at : TraceSoFar → List ℕ → Result TraceSoFar FaultKind
 line_at past line = do
   said ← kind_and_value (version_in past) line
   in_order (version_in past) past said.0 said.1
@@ -132,20 +132,20 @@ trace_in node roll ticks = record {
 }
 
 -- a text without a line that counts lacks a node line at its end
-abbrev pub finished : ℕ → Past → Option NodeConfig → Result Trace LineFault
+abbrev pub finished : ℕ → TraceSoFar → Option NodeConfig → Result Trace LineFault
 finished n past None = Err (record { line = n; kind = Order })
 finished n past (Some node) = Ok
     (trace_in node past.roll past.ticks)
 
 -- the lines from the nth on, after those that say what is past
-abbrev pub read_on : ℕ → Past → List (List ℕ) → Result Trace LineFault
+abbrev pub read_on : ℕ → TraceSoFar → List (List ℕ) → Result Trace LineFault
 read_on n past [] = finished n past past.node
 read_on n past (line ∷ lines) =
     if is_blank line then read_on (n + 1) past lines
     else (at_line n (line_at past line) >>= λ next. read_on (n + 1) next lines)
 
 -- no line was read yet
-abbrev pub nothing : Format → Past
+abbrev pub nothing : Format → TraceSoFar
 nothing format = record { format = format; node = None; roll = no_pods; ticks = [] }
 
 -- the trace of a text in a format

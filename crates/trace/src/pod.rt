@@ -44,10 +44,10 @@ fn key_text(alloc: Global, pod: &PodSpec) -> Result<String, AllocError>
 }
 
 /// There is room for one pod more.
-pub(crate) fn room_for_pod(reader: &TraceSoFar) -> Result<(), FaultKind>
-    ensures { GivesExactly (λ t. t) result (room_for_pod reader.now.roll.pods) }
+pub(crate) fn room_for_pod(so_far: &TraceSoFar) -> Result<(), FaultKind>
+    ensures { GivesExactly (λ t. t) result (room_for_pod so_far.now.roll.pods) }
 {
-    refused_if(reader.roster.pods().len() >= MOST_PODS, FaultKind::TooMany)
+    refused_if(so_far.roster.pods().len() >= MOST_PODS, FaultKind::TooMany)
 }
 
 fn has_key(roster: &Roster, key: &str) -> bool
@@ -59,16 +59,16 @@ fn has_key(roster: &Roster, key: &str) -> bool
 /// The key of a pod, if no pod that is present has it.
 pub(crate) fn new_key(
     alloc: Global,
-    reader: &TraceSoFar,
+    so_far: &TraceSoFar,
     pod: &PodSpec,
 ) -> Result<String, FaultKind>
-    ensures gives { Gives (λ _. tt) result (new_key reader.now.roll pod.now) }
+    ensures gives { Gives (λ _. tt) result (new_key so_far.now.roll pod.now) }
     ensures key { IfOk result (λ s. string_bytes s ≡ key_of_pod pod.now) }
-    ensures new { IfOk result (λ s. number_of reader.now.roll (string_bytes s) ≡ None) }
+    ensures new { IfOk result (λ s. number_of so_far.now.roll (string_bytes s) ≡ None) }
 {
     let key = key_text(alloc, pod)?;
     refused_if(
-        has_key(&reader.roster, key.as_str()),
+        has_key(&so_far.roster, key.as_str()),
         FaultKind::DuplicatePod,
     )?;
     Ok(key)

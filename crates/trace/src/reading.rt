@@ -10,7 +10,7 @@ ghost use Rattle.trace.specs.Ahead.{IsReadAhead, IsShown, may_stand};
 ghost use Rattle.trace.specs.Gives.{Gives};
 ghost use Rattle.roster.specs.Roll.{key_of_pod, number_of};
 ghost use Rattle.trace.specs.Written.{is_foreign, node_in};
-ghost use Rattle.trace.specs.Past.{version_in, with_pod, without};
+ghost use Rattle.trace.specs.TraceSoFar.{version_in, with_pod, without};
 ghost use Rattle.trace.specs.Pod.{named_in};
 ghost use Rattle.trace.specs.Taken.{tick_line_at, value_at, any_line_at};
 ghost use Rattle.trace.specs.Trace.{gone_in, kind_from, kind_of_line, with_node, with_new_pod, is_late, pod_in};
@@ -90,13 +90,13 @@ fn node_in(alloc: Global, format: Format, line: &Value) -> Result<NodeConfig, Fa
 
 /// Takes a node line.
 #[tactic(auto, unfolding(crate::specs::Trace::with_node))]
-fn take_node(alloc: Global, reader: TraceSoFar, line: &Value) -> Result<TraceSoFar, FaultKind>
-    ensures { Gives (λ r. r) result (with_node reader (view line.now)) }
+fn take_node(alloc: Global, so_far: TraceSoFar, line: &Value) -> Result<TraceSoFar, FaultKind>
+    ensures { Gives (λ r. r) result (with_node so_far (view line.now)) }
 {
-    let node = match node_in(alloc, reader.format, line) {
+    let node = match node_in(alloc, so_far.format, line) {
         Ok(node) => node,
         Err(kind) => {
-            drop(reader);
+            drop(so_far);
             return Err(kind);
         }
     };
@@ -106,7 +106,7 @@ fn take_node(alloc: Global, reader: TraceSoFar, line: &Value) -> Result<TraceSoF
         ticks,
         following,
         ..
-    } = reader;
+    } = so_far;
     Ok(TraceSoFar {
         format,
         node: Some(node),
@@ -119,13 +119,13 @@ fn take_node(alloc: Global, reader: TraceSoFar, line: &Value) -> Result<TraceSoF
 /// Adds a pod of a new key.
 fn with_pod(
     alloc: Global,
-    reader: TraceSoFar,
+    so_far: TraceSoFar,
     pod: PodSpec,
     key: String,
 ) -> Result<TraceSoFar, FaultKind>
     requires key { string_bytes key ≡ key_of_pod pod }
-    requires new { number_of reader.roll (string_bytes key) ≡ None }
-    ensures { Gives (λ r. r) result (Ok (with_pod reader pod)) }
+    requires new { number_of so_far.roll (string_bytes key) ≡ None }
+    ensures { Gives (λ r. r) result (Ok (with_pod so_far pod)) }
 {
     let TraceSoFar {
         format,
@@ -133,7 +133,7 @@ fn with_pod(
         roster,
         ticks,
         following,
-    } = reader;
+    } = so_far;
     let following = match following.with_pod(alloc, pod.containers.as_slice().len()) {
         Ok(following) => following,
         Err(error) => {
@@ -157,24 +157,24 @@ fn with_pod(
 }
 
 /// Adds a pod, if no pod that is present has its key.
-fn with_new_pod(alloc: Global, reader: TraceSoFar, pod: PodSpec) -> Result<TraceSoFar, FaultKind>
-    ensures { Gives (λ r. r) result (with_new_pod reader pod) }
+fn with_new_pod(alloc: Global, so_far: TraceSoFar, pod: PodSpec) -> Result<TraceSoFar, FaultKind>
+    ensures { Gives (λ r. r) result (with_new_pod so_far pod) }
 {
-    match new_key(alloc, &reader, &pod) {
-        Ok(key) => with_pod(alloc, reader, pod, key),
+    match new_key(alloc, &so_far, &pod) {
+        Ok(key) => with_pod(alloc, so_far, pod, key),
         Err(kind) => {
-            drop((reader, pod));
+            drop((so_far, pod));
             Err(kind)
         }
     }
 }
 
 /// Whether a pod line comes too late behind the ticks so far.
-fn is_late(version: Version, reader: &TraceSoFar) -> bool
-    ensures { result ≡ is_late version reader.now.ticks }
+fn is_late(version: Version, so_far: &TraceSoFar) -> bool
+    ensures { result ≡ is_late version so_far.now.ticks }
 {
     match version {
-        Version::One => !reader.ticks.as_slice().is_empty(),
+        Version::One => !so_far.ticks.as_slice().is_empty(),
         Version::Two | Version::Three => false,
     }
 }
@@ -184,13 +184,13 @@ fn is_late(version: Version, reader: &TraceSoFar) -> bool
 fn pod_in(
     alloc: Global,
     version: Version,
-    reader: &TraceSoFar,
+    so_far: &TraceSoFar,
     line: &Value,
 ) -> Result<PodSpec, FaultKind>
-    ensures { Gives (λ p. p) result (pod_in version reader.now (view line.now)) }
+    ensures { Gives (λ p. p) result (pod_in version so_far.now (view line.now)) }
 {
-    refused_if(is_late(version, reader), FaultKind::Order)?;
-    room_for_pod(reader)?;
+    refused_if(is_late(version, so_far), FaultKind::Order)?;
+    room_for_pod(so_far)?;
     pod_from(alloc, field(line, "pod"))
 }
 
@@ -199,15 +199,15 @@ fn pod_in(
 fn take_pod(
     alloc: Global,
     version: Version,
-    reader: TraceSoFar,
+    so_far: TraceSoFar,
     line: &Value,
 ) -> Result<TraceSoFar, FaultKind>
-    ensures { Gives (λ r. r) result (pod_line_at version reader (view line.now)) }
+    ensures { Gives (λ r. r) result (pod_line_at version so_far (view line.now)) }
 {
-    match pod_in(alloc, version, &reader, line) {
-        Ok(pod) => with_new_pod(alloc, reader, pod),
+    match pod_in(alloc, version, &so_far, line) {
+        Ok(pod) => with_new_pod(alloc, so_far, pod),
         Err(kind) => {
-            drop(reader);
+            drop(so_far);
             Err(kind)
         }
     }
@@ -221,9 +221,9 @@ fn named_in(roster: &Roster, key: Option<&str>) -> Option<usize>
 }
 
 /// The pod with the number, which has this key, is gone.
-fn without(reader: TraceSoFar, number: usize, key: &str) -> TraceSoFar
-    requires { number_of reader.roll key.now ≡ Some number }
-    ensures { result ≡ without reader number }
+fn without(so_far: TraceSoFar, number: usize, key: &str) -> TraceSoFar
+    requires { number_of so_far.roll key.now ≡ Some number }
+    ensures { result ≡ without so_far number }
 {
     let TraceSoFar {
         format,
@@ -231,7 +231,7 @@ fn without(reader: TraceSoFar, number: usize, key: &str) -> TraceSoFar
         mut roster,
         ticks,
         following,
-    } = reader;
+    } = so_far;
     roster.leave(number, key, ticks.as_slice().len());
     TraceSoFar {
         format,
@@ -244,24 +244,24 @@ fn without(reader: TraceSoFar, number: usize, key: &str) -> TraceSoFar
 
 /// Takes a line by which a pod leaves.
 #[tactic(auto, unfolding(crate::specs::Trace::gone_line_at))]
-fn take_gone(reader: TraceSoFar, line: &Value) -> Result<TraceSoFar, FaultKind>
-    ensures { GivesExactly (λ r. r) result (gone_line_at reader (view line.now)) }
+fn take_gone(so_far: TraceSoFar, line: &Value) -> Result<TraceSoFar, FaultKind>
+    ensures { GivesExactly (λ r. r) result (gone_line_at so_far (view line.now)) }
 {
     let key = text_at(line, "pod");
-    match (named_in(&reader.roster, key), key) {
-        (Some(number), Some(key)) => Ok(without(reader, number, key)),
+    match (named_in(&so_far.roster, key), key) {
+        (Some(number), Some(key)) => Ok(without(so_far, number, key)),
         _ => {
-            drop(reader);
+            drop(so_far);
             Err(FaultKind::StrangerPod)
         }
     }
 }
 
 /// The version of the format, once there is a node.
-fn version_in(reader: &TraceSoFar) -> Option<Version>
-    ensures { result ≡ version_in reader.now }
+fn version_in(so_far: &TraceSoFar) -> Option<Version>
+    ensures { result ≡ version_in so_far.now }
 {
-    match &reader.node {
+    match &so_far.node {
         None => None,
         Some(node) => Some(node.version),
     }
@@ -281,13 +281,13 @@ fn turn_of(version: Option<Version>, line_kind: LineKind) -> Result<Turn, FaultK
 }
 
 /// Takes the JSON value of a tick line.
-fn take_tick_value(alloc: Global, reader: TraceSoFar, line: &Value) -> Result<TraceSoFar, FaultKind>
-    ensures { Gives (λ r. r) result (tick_at reader (view line.now)) }
+fn take_tick_value(alloc: Global, so_far: TraceSoFar, line: &Value) -> Result<TraceSoFar, FaultKind>
+    ensures { Gives (λ r. r) result (tick_at so_far (view line.now)) }
 {
     match tick_record(alloc, line) {
-        Ok(tick) => take_tick(alloc, reader, &tick),
+        Ok(tick) => take_tick(alloc, so_far, &tick),
         Err(error) => {
-            drop(reader);
+            drop(so_far);
             Err(FaultKind::from(error))
         }
     }
@@ -295,19 +295,19 @@ fn take_tick_value(alloc: Global, reader: TraceSoFar, line: &Value) -> Result<Tr
 
 fn take_in_order(
     alloc: Global,
-    reader: TraceSoFar,
+    so_far: TraceSoFar,
     line_kind: LineKind,
     line: &Value,
 ) -> Result<TraceSoFar, FaultKind>
-    ensures { Gives (λ r. r) result (in_order (version_in reader) reader line_kind (view line.now)) }
+    ensures { Gives (λ r. r) result (in_order (version_in so_far) so_far line_kind (view line.now)) }
 {
-    match turn_of(version_in(&reader), line_kind) {
-        Ok(Turn::Node) => take_node(alloc, reader, line),
-        Ok(Turn::Pod(version)) => take_pod(alloc, version, reader, line),
-        Ok(Turn::Tick) => take_tick_value(alloc, reader, line),
-        Ok(Turn::Gone) => take_gone(reader, line),
+    match turn_of(version_in(&so_far), line_kind) {
+        Ok(Turn::Node) => take_node(alloc, so_far, line),
+        Ok(Turn::Pod(version)) => take_pod(alloc, version, so_far, line),
+        Ok(Turn::Tick) => take_tick_value(alloc, so_far, line),
+        Ok(Turn::Gone) => take_gone(so_far, line),
         Err(kind) => {
-            drop(reader);
+            drop(so_far);
             Err(kind)
         }
     }
@@ -315,13 +315,13 @@ fn take_in_order(
 
 /// Takes a line of JSON.
 #[tactic(auto, unfolding(crate::specs::Taken::value_at))]
-fn take_value(alloc: Global, reader: TraceSoFar, line: &Value) -> Result<TraceSoFar, FaultKind>
-    ensures { Gives (λ r. r) result (value_at reader (view line.now)) }
+fn take_value(alloc: Global, so_far: TraceSoFar, line: &Value) -> Result<TraceSoFar, FaultKind>
+    ensures { Gives (λ r. r) result (value_at so_far (view line.now)) }
 {
-    match kind_of_line(version_in(&reader), line) {
-        Ok(line_kind) => take_in_order(alloc, reader, line_kind, line),
+    match kind_of_line(version_in(&so_far), line) {
+        Ok(line_kind) => take_in_order(alloc, so_far, line_kind, line),
         Err(kind) => {
-            drop(reader);
+            drop(so_far);
             Err(kind)
         }
     }
@@ -330,15 +330,15 @@ fn take_value(alloc: Global, reader: TraceSoFar, line: &Value) -> Result<TraceSo
 /// Takes a tick line, if it may stand where it does.
 fn take_tick_line(
     alloc: Global,
-    reader: TraceSoFar,
+    so_far: TraceSoFar,
     line: &TickRecord,
 ) -> Result<TraceSoFar, FaultKind>
-    ensures { Gives (λ r. r) result (tick_line_at reader line.now.at line.now.written) }
+    ensures { Gives (λ r. r) result (tick_line_at so_far line.now.at line.now.written) }
 {
-    match turn_of(version_in(&reader), LineKind::Tick) {
-        Ok(_) => take_tick(alloc, reader, line),
+    match turn_of(version_in(&so_far), LineKind::Tick) {
+        Ok(_) => take_tick(alloc, so_far, line),
         Err(kind) => {
-            drop(reader);
+            drop(so_far);
             Err(kind)
         }
     }
@@ -346,27 +346,27 @@ fn take_tick_line(
 
 /// Whether a tick whose line was read ahead may stand behind the ticks so far.
 #[tactic(auto, unfolding(crate::specs::Ahead::may_stand))]
-fn may_stand(reader: &TraceSoFar, tick: &TickObs) -> Result<(), FaultKind>
-    requires { IsReadAhead reader.now.roll tick.now }
-    ensures gives { GivesExactly (λ u. u) result (may_stand reader.now tick.now) }
-    ensures follows { OnOk result (MayStandBehind reader.now tick.now) }
+fn may_stand(so_far: &TraceSoFar, tick: &TickObs) -> Result<(), FaultKind>
+    requires { IsReadAhead so_far.now.roll tick.now }
+    ensures gives { GivesExactly (λ u. u) result (may_stand so_far.now tick.now) }
+    ensures follows { OnOk result (MayStandBehind so_far.now tick.now) }
 {
-    turn_of(version_in(reader), LineKind::Tick)?;
-    room(reader)?;
-    moment_in(reader, Some(tick.at))?;
-    refused_if(is_backwards(reader, tick), FaultKind::Backwards)
+    turn_of(version_in(so_far), LineKind::Tick)?;
+    room(so_far)?;
+    moment_in(so_far, Some(tick.at))?;
+    refused_if(is_backwards(so_far, tick), FaultKind::Backwards)
 }
 
 /// Takes a tick whose line was read ahead, beside the pods that there are.
-pub(crate) fn take_shown(reader: TraceSoFar, tick: TickObs) -> Result<TraceSoFar, FaultKind>
-    requires { IsReadAhead reader.roll tick }
-    ensures { (said : LineData) → IsShown reader.roll said tick
-        → Gives (λ r. r) result (any_line_at reader said) }
+pub(crate) fn take_shown(so_far: TraceSoFar, tick: TickObs) -> Result<TraceSoFar, FaultKind>
+    requires { IsReadAhead so_far.roll tick }
+    ensures { (said : LineData) → IsShown so_far.roll said tick
+        → Gives (λ r. r) result (any_line_at so_far said) }
 {
-    match may_stand(&reader, &tick) {
-        Ok(()) => with_tick(reader, tick),
+    match may_stand(&so_far, &tick) {
+        Ok(()) => with_tick(so_far, tick),
         Err(kind) => {
-            drop((reader, tick));
+            drop((so_far, tick));
             Err(kind)
         }
     }
@@ -375,18 +375,18 @@ pub(crate) fn take_shown(reader: TraceSoFar, tick: TickObs) -> Result<TraceSoFar
 /// Takes a line.
 pub(crate) fn take_line(
     alloc: Global,
-    reader: TraceSoFar,
+    so_far: TraceSoFar,
     line: &TextLine,
 ) -> Result<TraceSoFar, FaultKind>
-    ensures { Gives (λ r. r) result (any_line_at reader (data_of line.now)) }
+    ensures { Gives (λ r. r) result (any_line_at so_far (data_of line.now)) }
 {
     let kind = match line {
-        TextLine::Blank => return Ok(reader),
-        TextLine::Tick(tick) => return take_tick_line(alloc, reader, tick),
-        TextLine::Json(value) => return take_value(alloc, reader, value),
+        TextLine::Blank => return Ok(so_far),
+        TextLine::Tick(tick) => return take_tick_line(alloc, so_far, tick),
+        TextLine::Json(value) => return take_value(alloc, so_far, value),
         TextLine::TooLong => FaultKind::TooLong,
         TextLine::NotJson => FaultKind::NotJson,
     };
-    drop(reader);
+    drop(so_far);
     Err(kind)
 }

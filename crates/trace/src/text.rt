@@ -39,15 +39,15 @@ fn nothing(alloc: Global, format: Format) -> TraceSoFar
 }
 
 /// Takes a line whose turn has come, where the pods are no longer those beside which it was read.
-fn take_anew(alloc: Global, reader: TraceSoFar, line: &[u8]) -> Result<TraceSoFar, FaultKind>
-    ensures { Gives (λ r. r) result (any_line_at reader (line_data line.now)) }
+fn take_anew(alloc: Global, so_far: TraceSoFar, line: &[u8]) -> Result<TraceSoFar, FaultKind>
+    ensures { Gives (λ r. r) result (any_line_at so_far (line_data line.now)) }
 {
     let mut buffers = LineBuffers::new(alloc);
-    match line_ahead(alloc, &reader.roster, line, &mut buffers) {
-        Ok(LineAhead::Shown(tick)) => take_shown(reader, tick),
-        Ok(LineAhead::Said(said)) => take_line(alloc, reader, &said),
+    match line_ahead(alloc, &so_far.roster, line, &mut buffers) {
+        Ok(LineAhead::Shown(tick)) => take_shown(so_far, tick),
+        Ok(LineAhead::Said(said)) => take_line(alloc, so_far, &said),
         Err(error) => {
-            drop(reader);
+            drop(so_far);
             Err(FaultKind::from(error))
         }
     }
@@ -56,21 +56,21 @@ fn take_anew(alloc: Global, reader: TraceSoFar, line: &[u8]) -> Result<TraceSoFa
 /// Takes a line that was read ahead; `is_fresh` says whether the pods are still those beside which it was read.
 fn take_ahead(
     alloc: Global,
-    reader: TraceSoFar,
+    so_far: TraceSoFar,
     line: &[u8],
     read: LineAhead,
     is_fresh: bool,
 ) -> Result<TraceSoFar, FaultKind>
-    requires { (roll : Roll) × IsAhead roll (line_data line.now) read × (IsTrue is_fresh → reader.roll ≡ roll) }
-    ensures { Gives (λ r. r) result (any_line_at reader (line_data line.now)) }
+    requires { (roll : Roll) × IsAhead roll (line_data line.now) read × (IsTrue is_fresh → so_far.roll ≡ roll) }
+    ensures { Gives (λ r. r) result (any_line_at so_far (line_data line.now)) }
 {
     match read {
-        LineAhead::Shown(tick) if is_fresh => take_shown(reader, tick),
+        LineAhead::Shown(tick) if is_fresh => take_shown(so_far, tick),
         LineAhead::Shown(tick) => {
             drop(tick);
-            take_anew(alloc, reader, line)
+            take_anew(alloc, so_far, line)
         }
-        LineAhead::Said(said) => take_line(alloc, reader, &said),
+        LineAhead::Said(said) => take_line(alloc, so_far, &said),
     }
 }
 
@@ -92,18 +92,18 @@ fn stays_fresh(is_fresh: bool, read: &LineAhead) -> bool
 /// Takes the line of this number, and says whether the next one was read beside the pods that there are.
 fn take_next(
     alloc: Global,
-    reader: TraceSoFar,
+    so_far: TraceSoFar,
     number: u64,
     line: &[u8],
     read: LineAhead,
     is_fresh: bool,
 ) -> Result<(TraceSoFar, bool), LineFault>
-    requires { (roll : Roll) × IsAhead roll (line_data line.now) read × (IsTrue is_fresh → reader.roll ≡ roll) }
-    ensures gives { GivesAt (λ r. r.0) result (at_line number (any_line_at reader (line_data line.now))) }
-    ensures fresh { IfOk result (λ r. IsTrue r.1 → IsTrue is_fresh × (r.0.roll ≡ reader.roll)) }
+    requires { (roll : Roll) × IsAhead roll (line_data line.now) read × (IsTrue is_fresh → so_far.roll ≡ roll) }
+    ensures gives { GivesAt (λ r. r.0) result (at_line number (any_line_at so_far (line_data line.now))) }
+    ensures fresh { IfOk result (λ r. IsTrue r.1 → IsTrue is_fresh × (r.0.roll ≡ so_far.roll)) }
 {
     let stays_fresh = stays_fresh(is_fresh, &read);
-    match take_ahead(alloc, reader, line, read, is_fresh) {
+    match take_ahead(alloc, so_far, line, read, is_fresh) {
         Ok(next) => Ok((next, stays_fresh)),
         Err(kind) => Err(LineFault { line: number, kind }),
     }
@@ -125,16 +125,16 @@ fn is_in_vain(is_fresh: bool, read: &LineAhead) -> bool {
 /// Takes lines that were read ahead, the first of which has this number, and says whether one was read in vain.
 fn take_lines(
     alloc: Global,
-    reader: TraceSoFar,
+    so_far: TraceSoFar,
     first: u64,
     lines: &[&[u8]],
     reads: Vec<LineAhead>,
 ) -> Result<(TraceSoFar, bool), LineFault>
     requires few { first + length lines.now < 2 ^ 64 }
-    requires ahead { AreAhead reader.roll lines.now reads.items }
-    ensures { GivesAt (λ r. r.0) result (lines_at first reader (map (λ line. line_data line.now) lines.now)) }
+    requires ahead { AreAhead so_far.roll lines.now reads.items }
+    ensures { GivesAt (λ r. r.0) result (lines_at first so_far (map (λ line. line_data line.now) lines.now)) }
 {
-    let mut reader = reader;
+    let mut so_far = so_far;
     let mut number = first;
     let mut is_fresh = true;
     let mut some_in_vain = false;
@@ -144,12 +144,12 @@ fn take_lines(
             unreachable!()
         };
         some_in_vain |= is_in_vain(is_fresh, &read);
-        let (next, stays_fresh) = take_next(alloc, reader, number, line, read, is_fresh)?;
-        reader = next;
+        let (next, stays_fresh) = take_next(alloc, so_far, number, line, read, is_fresh)?;
+        so_far = next;
         is_fresh = stays_fresh;
         number += 1;
     }
-    Ok((reader, some_in_vain))
+    Ok((so_far, some_in_vain))
 }
 
 /// A refused growth of memory, at this line.
@@ -162,15 +162,15 @@ fn no_memory(line: u64) -> LineFault
     }
 }
 
-fn finished(line: u64, reader: TraceSoFar) -> Result<Trace, LineFault>
-    ensures { GivesExactly (λ t. t) result (finished line reader reader.node) }
+fn finished(line: u64, so_far: TraceSoFar) -> Result<Trace, LineFault>
+    ensures { GivesExactly (λ t. t) result (finished line so_far so_far.node) }
 {
     let TraceSoFar {
         node,
         roster,
         ticks,
         ..
-    } = reader;
+    } = so_far;
     match node {
         None => {
             drop((roster, ticks));
@@ -195,12 +195,12 @@ fn finished(line: u64, reader: TraceSoFar) -> Result<Trace, LineFault>
 fn read_alone(alloc: Global, format: Format, text: &[u8]) -> Result<Trace, LineFault>
     ensures { GivesAt (λ t. t) result (trace_of format text.now) }
 {
-    let mut reader = nothing(alloc, format);
+    let mut so_far = nothing(alloc, format);
     let mut rest = text;
     let mut number = 1u64;
     while !rest.is_empty() {
-        let Ok(window) = window_alone(alloc, &reader.roster, rest) else {
-            drop(reader);
+        let Ok(window) = window_alone(alloc, &so_far.roster, rest) else {
+            drop(so_far);
             return Err(no_memory(number));
         };
         let Window {
@@ -208,12 +208,12 @@ fn read_alone(alloc: Global, format: Format, text: &[u8]) -> Result<Trace, LineF
             reads,
             rest: after,
         } = window;
-        let (next, _) = take_lines(alloc, reader, number, &lines, reads)?;
-        reader = next;
+        let (next, _) = take_lines(alloc, so_far, number, &lines, reads)?;
+        so_far = next;
         rest = after;
         number += lines.len() as u64;
     }
-    finished(number, reader)
+    finished(number, so_far)
 }
 
 /// The trace that a text says in a format, or its first faulty line with that line's first fault. Where a
@@ -237,13 +237,13 @@ fn read_by_workers<R: Threads + Sync>(
     requires { 0 < workers }
     ensures { GivesAt (λ t. t) result (trace_of format text.now) }
 {
-    let mut reader = nothing(alloc, format);
+    let mut so_far = nothing(alloc, format);
     let mut rest = text;
     let mut number = 1u64;
     let mut bytes = ALONE;
     while !rest.is_empty() {
-        let Ok(window) = window_by_workers(rt, alloc, &reader.roster, rest, bytes, workers) else {
-            drop(reader);
+        let Ok(window) = window_by_workers(rt, alloc, &so_far.roster, rest, bytes, workers) else {
+            drop(so_far);
             return Err(no_memory(number));
         };
         let Window {
@@ -251,13 +251,13 @@ fn read_by_workers<R: Threads + Sync>(
             reads,
             rest: after,
         } = window;
-        let (next, some_in_vain) = take_lines(alloc, reader, number, &lines, reads)?;
-        reader = next;
+        let (next, some_in_vain) = take_lines(alloc, so_far, number, &lines, reads)?;
+        so_far = next;
         rest = after;
         number += lines.len() as u64;
         bytes = bytes_behind(bytes, some_in_vain);
     }
-    finished(number, reader)
+    finished(number, so_far)
 }
 
 /// The same as [`read_trace`]; this many workers share the lines of a text from 64 KiB on.

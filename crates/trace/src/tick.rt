@@ -4,7 +4,7 @@ ghost use Rattle.std.specs.Prelude.{◌≡◌, ◌<◌, All, length, option_map,
 ghost use Rattle.std.specs.List.{list_any};
 ghost use Rattle.json_fields.specs.Reading.{refused_if, GivesExactly};
 ghost use Rattle.trace.specs.Gives.{Gives};
-ghost use Rattle.trace.specs.Past.{with_tick};
+ghost use Rattle.trace.specs.TraceSoFar.{with_tick};
 ghost use Rattle.trace.specs.ByPod.{AreFirst};
 ghost use Rattle.trace.specs.Placing.{placed_of, is_doubled};
 ghost use Rattle.trace.specs.Observed.{seen_in, outcome_in, results_in, listings_of, results_of, usage_of};
@@ -237,20 +237,20 @@ fn written_in(said: &Result<TickLine, TickLineFault>) -> Result<&TickLine, Fault
     }
 }
 
-pub(crate) fn room(reader: &TraceSoFar) -> Result<(), FaultKind>
-    ensures { GivesExactly (λ t. t) result (room_for_tick reader.now.ticks) }
+pub(crate) fn room(so_far: &TraceSoFar) -> Result<(), FaultKind>
+    ensures { GivesExactly (λ t. t) result (room_for_tick so_far.now.ticks) }
 {
     refused_if(
-        reader.ticks.as_slice().len() >= MOST_TICKS,
+        so_far.ticks.as_slice().len() >= MOST_TICKS,
         FaultKind::TooMany,
     )
 }
 
-pub(crate) fn moment_in(reader: &TraceSoFar, written: Option<u64>) -> Result<u64, FaultKind>
-    ensures gives { GivesExactly (λ n. n) result (moment_from reader.now.ticks written) }
-    ensures later { IfOk result (λ at. EndBefore reader.now.ticks at) }
+pub(crate) fn moment_in(so_far: &TraceSoFar, written: Option<u64>) -> Result<u64, FaultKind>
+    ensures gives { GivesExactly (λ n. n) result (moment_from so_far.now.ticks written) }
+    ensures later { IfOk result (λ at. EndBefore so_far.now.ticks at) }
 {
-    moment_from(reader.ticks.as_slice(), written)
+    moment_from(so_far.ticks.as_slice(), written)
 }
 
 /// The entries with numbers in the place of names: first all pods, then all containers.
@@ -268,29 +268,29 @@ pub(crate) fn placed_by(
     entries_of_pods(alloc, roster.pods(), &numbers, entries)
 }
 
-/// The same by the pods of the reader.
+/// The same by the pods so far.
 fn placed_of(
     alloc: Global,
-    reader: &TraceSoFar,
+    so_far: &TraceSoFar,
     written: &TickLine,
 ) -> Result<Vec<PlacedEntry>, FaultKind>
-    ensures gives { Gives (λ v. v.items) result (placed_of reader.now.roll written.now.entries) }
-    ensures known { IfOk result (λ v. All (λ e. e.pod < length reader.now.roll.pods) v.items) }
+    ensures gives { Gives (λ v. v.items) result (placed_of so_far.now.roll written.now.entries) }
+    ensures known { IfOk result (λ v. All (λ e. e.pod < length so_far.now.roll.pods) v.items) }
 {
-    placed_by(alloc, &reader.roster, written)
+    placed_by(alloc, &so_far.roster, written)
 }
 
-/// Where the entries of each pod of the reader stand.
+/// Where the entries of each pod so far stand.
 fn by_pod(
     alloc: Global,
-    reader: &TraceSoFar,
+    so_far: &TraceSoFar,
     placed: &[PlacedEntry],
 ) -> Result<EntriesByPod, FaultKind>
-    requires { All (λ e. e.pod < length reader.now.roll.pods) placed.now }
+    requires { All (λ e. e.pod < length so_far.now.roll.pods) placed.now }
     ensures apart { Gives (λ _. tt) result (refused_if (is_doubled placed.now) FaultKind.Doubled) }
-    ensures first { IfOk result (λ found. AreFirst placed.now (length reader.now.roll.pods) found.first.items) }
+    ensures first { IfOk result (λ found. AreFirst placed.now (length so_far.now.roll.pods) found.first.items) }
 {
-    let found = entries_by_pod(alloc, placed, reader.roster.pods().len())?;
+    let found = entries_by_pod(alloc, placed, so_far.roster.pods().len())?;
     refused_if(
         found.has_pod_twice || some_entry_repeats(placed),
         FaultKind::Doubled,
@@ -299,37 +299,37 @@ fn by_pod(
 }
 
 /// Whether some listing of the tick may not come after those of the earlier ticks.
-pub(crate) fn is_backwards(reader: &TraceSoFar, tick: &TickObs) -> bool
-    requires { ComesNext reader.now.ticks (container_counts reader.now.roll.pods) tick.now }
-    ensures { result ≡ is_backwards reader.now.ticks tick.now }
+pub(crate) fn is_backwards(so_far: &TraceSoFar, tick: &TickObs) -> bool
+    requires { ComesNext so_far.now.ticks (container_counts so_far.now.roll.pods) tick.now }
+    ensures { result ≡ is_backwards so_far.now.ticks tick.now }
 {
-    !reader.following.accepts(tick)
+    !so_far.following.accepts(tick)
 }
 
 /// The tick, checked against the earlier ticks.
 #[tactic(auto, unfolding(crate::specs::Tick::observed_in))]
 fn observed_in(
     alloc: Global,
-    reader: &TraceSoFar,
+    so_far: &TraceSoFar,
     at: u64,
     written: &TickLine,
     placed: &[PlacedEntry],
 ) -> Result<TickObs, FaultKind>
-    requires later { EndBefore reader.now.ticks at }
-    requires known { All (λ e. e.pod < length reader.now.roll.pods) placed.now }
-    ensures gives { Gives (λ t. t) result (observed_in reader.now at written.now placed.now) }
-    ensures follows { IfOk result (MayStandBehind reader.now) }
+    requires later { EndBefore so_far.now.ticks at }
+    requires known { All (λ e. e.pod < length so_far.now.roll.pods) placed.now }
+    ensures gives { Gives (λ t. t) result (observed_in so_far.now at written.now placed.now) }
+    ensures follows { IfOk result (MayStandBehind so_far.now) }
 {
-    let by_pod = by_pod(alloc, reader, placed)?;
-    let tick = observed(alloc, at, written, placed, &by_pod.first, &reader.roster)?;
-    refused_if(is_backwards(reader, &tick), FaultKind::Backwards)?;
+    let by_pod = by_pod(alloc, so_far, placed)?;
+    let tick = observed(alloc, at, written, placed, &by_pod.first, &so_far.roster)?;
+    refused_if(is_backwards(so_far, &tick), FaultKind::Backwards)?;
     refused_if(some_code_missing(placed), FaultKind::ExitCode)?;
     Ok(tick)
 }
 
-pub(crate) fn with_tick(reader: TraceSoFar, tick: TickObs) -> Result<TraceSoFar, FaultKind>
-    requires { MayStandBehind reader tick }
-    ensures { Gives (λ r. r) result (Ok (with_tick reader tick)) }
+pub(crate) fn with_tick(so_far: TraceSoFar, tick: TickObs) -> Result<TraceSoFar, FaultKind>
+    requires { MayStandBehind so_far tick }
+    ensures { Gives (λ r. r) result (Ok (with_tick so_far tick)) }
 {
     let TraceSoFar {
         format,
@@ -337,7 +337,7 @@ pub(crate) fn with_tick(reader: TraceSoFar, tick: TickObs) -> Result<TraceSoFar,
         roster,
         mut ticks,
         mut following,
-    } = reader;
+    } = so_far;
     following.step(&tick);
     match ticks.push(tick) {
         Ok(()) => Ok(TraceSoFar {
@@ -356,30 +356,30 @@ pub(crate) fn with_tick(reader: TraceSoFar, tick: TickObs) -> Result<TraceSoFar,
 
 /// The tick that a tick line says.
 #[tactic(auto, unfolding(crate::specs::Taken::tick_of))]
-fn tick_of(alloc: Global, reader: &TraceSoFar, line: &TickRecord) -> Result<TickObs, FaultKind>
-    ensures gives { Gives (λ t. t) result (tick_of reader.now line.now.at line.now.written) }
-    ensures follows { IfOk result (MayStandBehind reader.now) }
+fn tick_of(alloc: Global, so_far: &TraceSoFar, line: &TickRecord) -> Result<TickObs, FaultKind>
+    ensures gives { Gives (λ t. t) result (tick_of so_far.now line.now.at line.now.written) }
+    ensures follows { IfOk result (MayStandBehind so_far.now) }
 {
-    room(reader)?;
-    let at = moment_in(reader, line.at)?;
+    room(so_far)?;
+    let at = moment_in(so_far, line.at)?;
     let written = written_in(&line.written)?;
-    let placed = placed_of(alloc, reader, written)?;
-    observed_in(alloc, reader, at, written, &placed)
+    let placed = placed_of(alloc, so_far, written)?;
+    observed_in(alloc, so_far, at, written, &placed)
 }
 
 /// Takes a tick line.
 #[tactic(auto, unfolding(crate::specs::Taken::tick_after))]
 pub(crate) fn take_tick(
     alloc: Global,
-    reader: TraceSoFar,
+    so_far: TraceSoFar,
     line: &TickRecord,
 ) -> Result<TraceSoFar, FaultKind>
-    ensures { Gives (λ r. r) result (tick_after reader line.now.at line.now.written) }
+    ensures { Gives (λ r. r) result (tick_after so_far line.now.at line.now.written) }
 {
-    match tick_of(alloc, &reader, line) {
-        Ok(tick) => with_tick(reader, tick),
+    match tick_of(alloc, &so_far, line) {
+        Ok(tick) => with_tick(so_far, tick),
         Err(kind) => {
-            drop(reader);
+            drop(so_far);
             Err(kind)
         }
     }

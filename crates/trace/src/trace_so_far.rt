@@ -40,10 +40,10 @@ pub(crate) struct TraceSoFar {
 
 impl Model for TraceSoFar {
     ghost use Rattle.following.specs.Followed.{HasFollowed};
-    ghost use Rattle.trace.specs.Past.{Past};
+    ghost use Rattle.trace.specs.TraceSoFar.{TraceSoFar};
     ghost use Rattle.trace.specs.Pod.{container_counts};
 
-    ghost Value = { Past };
+    ghost Value = { TraceSoFar };
 
     ghost view = { λ r. record {
       format = r.format;

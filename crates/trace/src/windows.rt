@@ -1,8 +1,9 @@
 //! Windows of a text, whose lines are read ahead.
 
-ghost use Rattle.std.specs.Prelude.{◌≡◌, ◌<◌, ◌≤◌, ◌+◌, ◌++◌, IfOk, length, map};
+ghost use Rattle.std.specs.Prelude.{◌≡◌, ◌<◌, ◌≤◌, ◌+◌, ◌++◌, false, IfOk, IsTrue, length, map};
 ghost use Rattle.json_lines.specs.Lines.{line_data, lines_of};
 ghost use Rattle.trace.specs.Ahead.{AreAhead};
+ghost use Rattle.trace.specs.Windows.{AreFew, smallest_window, greatest_window};
 
 use crate::ahead::{LineAhead, read_each};
 use json_lines::{joined, next_tick_lines};
@@ -26,7 +27,8 @@ const LINE: usize = 8;
 
 /// So many lines a window has at most.
 fn most_lines(roster: &Roster) -> usize
-    ensures { 0 < result }
+    ensures some { 0 < result }
+    ensures few { AreFew roster.now result }
 {
     (SHOWN / roster.pods().len().saturating_add(LINE)).max(1)
 }
@@ -37,7 +39,10 @@ const GROWTH: usize = 16;
 /// How many bytes the window behind one of so many has: as many as the first one where a line was read in vain, beside
 /// pods that changed meanwhile.
 pub(crate) fn bytes_behind(bytes: usize, some_in_vain: bool) -> usize
-    ensures { 0 < result }
+    ensures least { smallest_window ≤ result }
+    ensures most { result ≤ greatest_window }
+    ensures anew { IsTrue some_in_vain → result ≡ smallest_window }
+    ensures grows { some_in_vain ≡ false → bytes ≤ greatest_window → bytes ≤ result }
 {
     if some_in_vain {
         ALONE
@@ -81,7 +86,8 @@ pub(crate) fn window_alone<'t>(
     ensures lines { IfOk result (λ window. lines_of text.now
         ≡ map (λ line. line.now) window.lines.items ++ lines_of window.rest.now) }
     ensures shorter { 0 < length text.now → IfOk result (λ window. length window.rest.now < length text.now) }
-    ensures few { IfOk result (λ window. length window.lines.items + length window.rest.now ≤ length text.now) }
+    ensures short { IfOk result (λ window. length window.lines.items + length window.rest.now ≤ length text.now) }
+    ensures few { IfOk result (λ window. AreFew roster.now (length window.lines.items)) }
     ensures ahead { IfOk result (λ window. AreAhead roster.now window.lines.items window.reads.items) }
 {
     let (lines, rest) = next_tick_lines(alloc, text, ALONE, most_lines(roster))?;
@@ -104,7 +110,8 @@ pub(crate) fn window_by_workers<'t, R: Threads + Sync>(
     ensures lines { IfOk result (λ window. lines_of text.now
         ≡ map (λ line. line.now) window.lines.items ++ lines_of window.rest.now) }
     ensures shorter { 0 < length text.now → IfOk result (λ window. length window.rest.now < length text.now) }
-    ensures few { IfOk result (λ window. length window.lines.items + length window.rest.now ≤ length text.now) }
+    ensures short { IfOk result (λ window. length window.lines.items + length window.rest.now ≤ length text.now) }
+    ensures few { IfOk result (λ window. AreFew roster.now (length window.lines.items)) }
     ensures ahead { IfOk result (λ window. AreAhead roster.now window.lines.items window.reads.items) }
 {
     let (lines, rest) = next_tick_lines(alloc, text, bytes, most_lines(roster))?;

@@ -33,7 +33,7 @@ use Rattle.trace.proofs.Keys.{key_there, there_key}
 use Rattle.trace.specs.Placing.{placed_of, is_doubled}
 use Rattle.trace.specs.Observed.{observed, some_code_missing}
 use Rattle.following.specs.Backwards.{is_backwards}
-use Rattle.trace.specs.Past.{Past, version_in, of_node, with_pod, without, with_tick}
+use Rattle.trace.specs.TraceSoFar.{TraceSoFar, version_in, of_node, with_pod, without, with_tick}
 use Rattle.trace.specs.Tick.{moment_of, observed_in, tick_at}
 use Rattle.trace.specs.Trace.{json_of, kind_from, with_node, is_late, pod_line_at, gone_line_at, in_order, line_at}
 use Rattle.trace.specs.Laws.{IsJson, IsOfKind, TakesPods, MayStand, Stands, HasPod, HasMoment, HasWritten, HasPlaces}
@@ -57,7 +57,7 @@ tested : {B E : Type 0} (b : Bool) (fault : E) (f : ⊤ → Result B E) (given :
 tested true fault f given e = let is : fault ≡ given = cc in inl (refl, is)
 tested false fault f given e = inr (refl, e)
 
-abbrev pub PodStands : Past → Option Version → Type 0
+abbrev pub PodStands : TraceSoFar → Option Version → Type 0
 PodStands past found = IsSomeAnd found (TakesPods past.ticks)
 
 none_in : {A : Type 0} (xs : List A) → nat_lt 0 (length xs) ≡ false → xs ≡ []
@@ -97,7 +97,7 @@ comes_late Two ticks never = absurd (never tt)
 comes_late Three ticks never = absurd (never tt)
 
 -- from a fault to the check that fails
-code_fails : (past : Past) (line : List ℕ) (d : Data) (at : ℕ) (written : TickLine) (placed : List PlacedEntry)
+code_fails : (past : TraceSoFar) (line : List ℕ) (d : Data) (at : ℕ) (written : TickLine) (placed : List PlacedEntry)
     (kind : FaultKind) → IsForwards past line d at written placed → with_forwards past at written placed tt ≡ Err kind
     → Fails past line kind
 code_fails past line d at written placed kind is e =
@@ -106,7 +106,7 @@ code_fails past line d at written placed kind is e =
       | inr later ↦ absurd (no_fault (observed at written placed past.roll) kind later.1)
     ]
 
-order_fails : (past : Past) (line : List ℕ) (d : Data) (at : ℕ) (written : TickLine) (placed : List PlacedEntry)
+order_fails : (past : TraceSoFar) (line : List ℕ) (d : Data) (at : ℕ) (written : TickLine) (placed : List PlacedEntry)
     (kind : FaultKind) → IsApart past line d at written placed → with_apart past at written placed tt ≡ Err kind
     → Fails past line kind
 order_fails past line d at written placed kind is e =
@@ -116,7 +116,7 @@ order_fails past line d at written placed kind is e =
       | inr later ↦ code_fails past line d at written placed kind (record { is_apart = is; forwards = later.0 }) later.1
     ]
 
-observed_fails : (past : Past) (line : List ℕ) (d : Data) (at : ℕ) (written : TickLine) (placed : List PlacedEntry)
+observed_fails : (past : TraceSoFar) (line : List ℕ) (d : Data) (at : ℕ) (written : TickLine) (placed : List PlacedEntry)
     (kind : FaultKind) → HasPlaces past line d at written placed → observed_in past at written placed ≡ Err kind
     → Fails past line kind
 unfolding observed_in
@@ -126,7 +126,7 @@ observed_fails past line d at written placed kind is e =
       | inr later ↦ order_fails past line d at written placed kind (record { has_places = is; apart = later.0 }) later.1
     ]
 
-places_fails : (past : Past) (line : List ℕ) (d : Data) (at : ℕ) (written : TickLine) (placed : List PlacedEntry)
+places_fails : (past : TraceSoFar) (line : List ℕ) (d : Data) (at : ℕ) (written : TickLine) (placed : List PlacedEntry)
     (kind : FaultKind) → HasPlaces past line d at written placed → with_places past at written placed ≡ Err kind
     → Fails past line kind
 places_fails past line d at written placed kind is e =
@@ -135,7 +135,7 @@ places_fails past line d at written placed kind is e =
       | inr later ↦ absurd (no_fault (with_tick past later.0) kind later.2)
     ]
 
-written_fails : (past : Past) (line : List ℕ) (d : Data) (at : ℕ) (written : TickLine) (kind : FaultKind)
+written_fails : (past : TraceSoFar) (line : List ℕ) (d : Data) (at : ℕ) (written : TickLine) (kind : FaultKind)
     → HasWritten past line d at written → with_written past at written ≡ Err kind → Fails past line kind
 written_fails past line d at written kind is e =
     elim (bind_err (placed_of past.roll written.entries) (with_places past at written) kind e) [
@@ -144,14 +144,14 @@ written_fails past line d at written kind is e =
           later.2
     ]
 
-moment_fails : (past : Past) (line : List ℕ) (d : Data) (at : ℕ) (kind : FaultKind) → HasMoment past line d at
+moment_fails : (past : TraceSoFar) (line : List ℕ) (d : Data) (at : ℕ) (kind : FaultKind) → HasMoment past line d at
     → with_moment past d at ≡ Err kind → Fails past line kind
 moment_fails past line d at kind is e = elim (bind_err (tick_line_in d) (with_written past at) kind e) [
   | inl here ↦ wrong_field d at kind is here
   | inr later ↦ written_fails past line d at later.0 kind (record { has_moment = is; written_is = later.1 }) later.2
 ]
 
-room_fails : (past : Past) (line : List ℕ) (d : Data) (kind : FaultKind) → Stands past line kinds.Tick d
+room_fails : (past : TraceSoFar) (line : List ℕ) (d : Data) (kind : FaultKind) → Stands past line kinds.Tick d
     → length past.ticks < most_ticks → with_room past d tt ≡ Err kind → Fails past line kind
 room_fails past line d kind is room e =
     elim (bind_err (moment_of past.ticks (field_at (codes "at") d)) (with_moment past d) kind e) [
@@ -160,7 +160,7 @@ room_fails past line d kind is room e =
           later.2
     ]
 
-tick_fails : (past : Past) (line : List ℕ) (d : Data) (kind : FaultKind) → Stands past line kinds.Tick d
+tick_fails : (past : TraceSoFar) (line : List ℕ) (d : Data) (kind : FaultKind) → Stands past line kinds.Tick d
     → tick_at past d ≡ Err kind → Fails past line kind
 tick_fails past line d kind is e =
     elim (tested (nat_le most_ticks (length past.ticks)) TooMany (with_room past d) kind
@@ -170,7 +170,7 @@ tick_fails past line d kind is e =
       | inr later ↦ room_fails past line d kind is (leb-false most_ticks (length past.ticks) later.0) later.1
     ]
 
-said_fails : (past : Past) (line : List ℕ) (d : Data) (pod : PodSpec) (kind : FaultKind) → HasPod past line d pod
+said_fails : (past : TraceSoFar) (line : List ℕ) (d : Data) (pod : PodSpec) (kind : FaultKind) → HasPod past line d pod
     → pod_said past pod ≡ Err kind → Fails past line kind
 said_fails past line d pod kind is e =
     elim (tested (has_key past.roll (key_of_pod pod)) DuplicatePod (pod_new past pod) kind e) [
@@ -179,14 +179,14 @@ said_fails past line d pod kind is e =
       | inr later ↦ absurd (no_fault (with_pod past pod) kind later.1)
     ]
 
-read_fails : (past : Past) (line : List ℕ) (d : Data) (kind : FaultKind) → Stands past line kinds.Pod d
+read_fails : (past : TraceSoFar) (line : List ℕ) (d : Data) (kind : FaultKind) → Stands past line kinds.Pod d
     → length past.roll.pods < most_pods → pod_read past d tt ≡ Err kind → Fails past line kind
 read_fails past line d kind is room e = elim (bind_err (pod_from (field_at (codes "pod") d)) (pod_said past) kind e) [
   | inl here ↦ wrong_pod d kind is room here
   | inr later ↦ said_fails past line d later.0 kind (record { stands = is; room = room; pod_is = later.1 }) later.2
 ]
 
-early_fails : (past : Past) (line : List ℕ) (d : Data) (kind : FaultKind) → Stands past line kinds.Pod d
+early_fails : (past : TraceSoFar) (line : List ℕ) (d : Data) (kind : FaultKind) → Stands past line kinds.Pod d
     → pod_early past d tt ≡ Err kind → Fails past line kind
 early_fails past line d kind is e =
     elim (tested (nat_le most_pods (length past.roll.pods)) TooMany (pod_read past d) kind e) [
@@ -195,7 +195,7 @@ early_fails past line d kind is e =
       | inr later ↦ read_fails past line d kind is (leb-false most_pods (length past.roll.pods) later.0) later.1
     ]
 
-pod_fails : (version : Version) (past : Past) (line : List ℕ) (d : Data) (kind : FaultKind)
+pod_fails : (version : Version) (past : TraceSoFar) (line : List ℕ) (d : Data) (kind : FaultKind)
     → version_in past ≡ Some version → IsOfKind past line kinds.Pod d → pod_line_at version past d ≡ Err kind
     → Fails past line kind
 pod_fails version past line d kind some is e =
@@ -207,24 +207,24 @@ pod_fails version past line d kind some is e =
           later.1
     ]
 
-node_fails : (past : Past) (line : List ℕ) (d : Data) (kind : FaultKind) → Stands past line kinds.Node d
+node_fails : (past : TraceSoFar) (line : List ℕ) (d : Data) (kind : FaultKind) → Stands past line kinds.Node d
     → with_node past d ≡ Err kind → Fails past line kind
 unfolding with_node
 node_fails past line d kind is e =
-    let said : NodeConfig → Result Past FaultKind = λ node. Ok (of_node past node) in
+    let said : NodeConfig → Result TraceSoFar FaultKind = λ node. Ok (of_node past node) in
     elim (bind_err (node_in past.format d) said kind e) [
       | inl here ↦ wrong_node d kind is here
       | inr later ↦ absurd (no_fault (of_node past later.0) kind later.2)
     ]
 
-named_fails : (past : Past) (line : List ℕ) (d : Data) (named : Option ℕ) (kind : FaultKind)
+named_fails : (past : TraceSoFar) (line : List ℕ) (d : Data) (named : Option ℕ) (kind : FaultKind)
     → Stands past line kinds.Gone d → named_in past.roll (text_at (codes "pod") d) ≡ named
     → gone_named past named ≡ Err kind → Fails past line kind
 named_fails past line d None kind is none e =
-    subst (λ (k : FaultKind). Fails past line k) (same_fault {A = Past} StrangerPod kind e) (nobody_gone d is none)
+    subst (λ (k : FaultKind). Fails past line k) (same_fault {A = TraceSoFar} StrangerPod kind e) (nobody_gone d is none)
 named_fails past line d (Some number) kind is named e = absurd (no_fault (without past number) kind e)
 
-gone_fails : (past : Past) (line : List ℕ) (d : Data) (kind : FaultKind) → Stands past line kinds.Gone d
+gone_fails : (past : TraceSoFar) (line : List ℕ) (d : Data) (kind : FaultKind) → Stands past line kinds.Gone d
     → gone_line_at past d ≡ Err kind → Fails past line kind
 gone_fails past line d kind is e =
     named_fails past line d (named_in past.roll (text_at (codes "pod") d)) kind is refl (sym (gone_whole past d) ∙ e)
@@ -233,22 +233,22 @@ not_some : (node : Option NodeConfig) → node ≡ None → is_some node ≡ tru
 not_some None none some = absurd (cc)
 not_some (Some node) none some = absurd (cc)
 
-place_fails : (found : Option Version) (past : Past) (line : List ℕ) (line_kind : LineKind) (d : Data)
+place_fails : (found : Option Version) (past : TraceSoFar) (line : List ℕ) (line_kind : LineKind) (d : Data)
     (kind : FaultKind) → version_in past ≡ found → IsOfKind past line line_kind d
     → in_order found past line_kind d ≡ Err kind → Fails past line kind
 place_fails None past line kinds.Node d kind none is e =
     node_fails past line d kind (record { of_kind = is; here = no_node past.node none }) e
 place_fails None past line kinds.Pod d kind none is e =
-    subst (λ (k : FaultKind). Fails past line k) (same_fault {A = Past} Order kind e)
+    subst (λ (k : FaultKind). Fails past line k) (same_fault {A = TraceSoFar} Order kind e)
     (misplaced kinds.Pod d is (λ may. subst (PodStands past) none may))
 place_fails None past line kinds.Tick d kind none is e =
-    subst (λ (k : FaultKind). Fails past line k) (same_fault {A = Past} Order kind e)
+    subst (λ (k : FaultKind). Fails past line k) (same_fault {A = TraceSoFar} Order kind e)
     (misplaced kinds.Tick d is (λ may. not_some past.node (no_node past.node none) may))
 place_fails None past line kinds.Gone d kind none is e =
-    subst (λ (k : FaultKind). Fails past line k) (same_fault {A = Past} Order kind e)
+    subst (λ (k : FaultKind). Fails past line k) (same_fault {A = TraceSoFar} Order kind e)
     (misplaced kinds.Gone d is (λ may. not_some past.node (no_node past.node none) may))
 place_fails (Some version) past line kinds.Node d kind some is e =
-    subst (λ (k : FaultKind). Fails past line k) (same_fault {A = Past} Order kind e)
+    subst (λ (k : FaultKind). Fails past line k) (same_fault {A = TraceSoFar} Order kind e)
     (misplaced kinds.Node d is (λ may. not_some past.node may (some_node past.node version some)))
 place_fails (Some version) past line kinds.Pod d kind some is e = pod_fails version past line d kind some is e
 place_fails (Some version) past line kinds.Tick d kind some is e =
@@ -256,15 +256,15 @@ place_fails (Some version) past line kinds.Tick d kind some is e =
 place_fails (Some version) past line kinds.Gone d kind some is e =
     gone_fails past line d kind (record { of_kind = is; here = some_node past.node version some }) e
 
-kind_fails : (past : Past) (line : List ℕ) (d : Data) (found : Option LineKind) (kind : FaultKind) → IsJson line d
+kind_fails : (past : TraceSoFar) (line : List ℕ) (d : Data) (found : Option LineKind) (kind : FaultKind) → IsJson line d
     → kind_from (version_in past) (text_at (codes "kind") d) ≡ found → with_kind past d found ≡ Err kind
     → Fails past line kind
 kind_fails past line d None kind is found e =
-    subst (λ (k : FaultKind). Fails past line k) (same_fault {A = Past} UnknownKind kind e) (unknown_kind d is found)
+    subst (λ (k : FaultKind). Fails past line k) (same_fault {A = TraceSoFar} UnknownKind kind e) (unknown_kind d is found)
 kind_fails past line d (Some line_kind) kind is found e =
     place_fails (version_in past) past line line_kind d kind refl (record { json = is; kind = found }) e
 
-json_fails : (past : Past) (line : List ℕ) (kind : FaultKind) → length line ≤ longest_line
+json_fails : (past : TraceSoFar) (line : List ℕ) (kind : FaultKind) → length line ≤ longest_line
     → (json_of line >>= with_json past) ≡ Err kind → Fails past line kind
 json_fails past line kind short e = elim (bind_err (json_of line) (with_json past) kind e) [
   | inl here ↦ not_json kind short here
@@ -272,7 +272,7 @@ json_fails past line kind short e = elim (bind_err (json_of line) (with_json pas
       (record { short = short; json = later.1 }) refl later.2
 ]
 
-pub line_fails : (past : Past) (line : List ℕ) (kind : FaultKind) → line_at past line ≡ Err kind → Fails past line kind
+pub line_fails : (past : TraceSoFar) (line : List ℕ) (kind : FaultKind) → line_at past line ≡ Err kind → Fails past line kind
 line_fails past line kind e =
     elim (tested (nat_lt longest_line (length line)) TooLong (λ u. json_of line >>= with_json past) kind
     (sym (line_whole past line) ∙ e)) [
@@ -282,26 +282,26 @@ line_fails past line kind e =
     ]
 
 -- from a check that fails to the fault
-of_short : (past : Past) (line : List ℕ) → length line ≤ longest_line
+of_short : (past : TraceSoFar) (line : List ℕ) → length line ≤ longest_line
     → line_at past line ≡ (json_of line >>= with_json past)
 of_short past line short = line_whole past line
     ∙ passed (nat_lt longest_line (length line)) TooLong (λ u. json_of line >>= with_json past)
     (le-ltb longest_line (length line) short)
 
-of_long : (past : Past) (line : List ℕ) → longest_line < length line → line_at past line ≡ Err TooLong
+of_long : (past : TraceSoFar) (line : List ℕ) → longest_line < length line → line_at past line ≡ Err TooLong
 of_long past line long = line_whole past line
     ∙ failed (nat_lt longest_line (length line)) TooLong (λ u. json_of line >>= with_json past)
     (lt-ltb longest_line (length line) long)
 
-of_json : (past : Past) (line : List ℕ) (d : Data) → IsJson line d → line_at past line ≡ with_json past d
+of_json : (past : TraceSoFar) (line : List ℕ) (d : Data) → IsJson line d → line_at past line ≡ with_json past d
 of_json past line d is = of_short past line is.short ∙ then_ok (json_of line) (with_json past) d is.json
 
-pub of_kind : (past : Past) (line : List ℕ) (line_kind : LineKind) (d : Data) → IsOfKind past line line_kind d
+pub of_kind : (past : TraceSoFar) (line : List ℕ) (line_kind : LineKind) (d : Data) → IsOfKind past line line_kind d
     → line_at past line ≡ in_order (version_in past) past line_kind d
 of_kind past line line_kind d is =
     of_json past line d is.json ∙ ap (λ (found : Option LineKind). with_kind past d found) is.kind
 
-misplaced_kind : (found : Option Version) (past : Past) (line_kind : LineKind) (d : Data) → version_in past ≡ found
+misplaced_kind : (found : Option Version) (past : TraceSoFar) (line_kind : LineKind) (d : Data) → version_in past ≡ found
     → (MayStand past line_kind → ⊥) → in_order found past line_kind d ≡ Err Order
 misplaced_kind None past kinds.Node d none never = absurd (never (no_node past.node none))
 misplaced_kind None past kinds.Pod d none never = refl
@@ -314,83 +314,83 @@ misplaced_kind (Some version) past kinds.Pod d some never =
 misplaced_kind (Some version) past kinds.Tick d some never = absurd (never (some_node past.node version some))
 misplaced_kind (Some version) past kinds.Gone d some never = absurd (never (some_node past.node version some))
 
-pub node_in_order : (node : Option NodeConfig) (past : Past) (d : Data) → node ≡ None
+pub node_in_order : (node : Option NodeConfig) (past : TraceSoFar) (d : Data) → node ≡ None
     → in_order (option_map (λ (n : NodeConfig). n.version) node) past kinds.Node d ≡ with_node past d
 node_in_order None past d is = refl
 node_in_order (Some node) past d is = absurd (cc)
 
-pod_in_order : (found : Option Version) (past : Past) (d : Data) → PodStands past found
+pod_in_order : (found : Option Version) (past : TraceSoFar) (d : Data) → PodStands past found
     → in_order found past kinds.Pod d ≡ pod_early past d tt
 pod_in_order None past d may = absurd may
 pod_in_order (Some version) past d may =
     pod_whole version past d
     ∙ passed (is_late version past.ticks) Order (pod_early past d) (in_time version past.ticks may)
 
-tick_in_order : (node : Option NodeConfig) (past : Past) (d : Data) → is_some node ≡ true
+tick_in_order : (node : Option NodeConfig) (past : TraceSoFar) (d : Data) → is_some node ≡ true
     → in_order (option_map (λ (n : NodeConfig). n.version) node) past kinds.Tick d ≡ tick_at past d
 tick_in_order None past d is = absurd (cc)
 tick_in_order (Some node) past d is = refl
 
-gone_in_order : (node : Option NodeConfig) (past : Past) (d : Data) → is_some node ≡ true
+gone_in_order : (node : Option NodeConfig) (past : TraceSoFar) (d : Data) → is_some node ≡ true
     → in_order (option_map (λ (n : NodeConfig). n.version) node) past kinds.Gone d ≡ gone_line_at past d
 gone_in_order None past d is = absurd (cc)
 gone_in_order (Some node) past d is = refl
 
-of_wrong_node : (past : Past) (line : List ℕ) (d : Data) (kind : FaultKind) → Stands past line kinds.Node d
+of_wrong_node : (past : TraceSoFar) (line : List ℕ) (d : Data) (kind : FaultKind) → Stands past line kinds.Node d
     → node_in past.format d ≡ Err kind → line_at past line ≡ Err kind
 unfolding with_node
 of_wrong_node past line d kind is e =
-    let said : NodeConfig → Result Past FaultKind = λ node. Ok (of_node past node) in
+    let said : NodeConfig → Result TraceSoFar FaultKind = λ node. Ok (of_node past node) in
     of_kind past line kinds.Node d is.of_kind ∙ node_in_order past.node past d is.here
     ∙ then_err (node_in past.format d) said kind e
 
-of_pod : (past : Past) (line : List ℕ) (d : Data) → Stands past line kinds.Pod d
+of_pod : (past : TraceSoFar) (line : List ℕ) (d : Data) → Stands past line kinds.Pod d
     → line_at past line ≡ pod_early past d tt
 of_pod past line d is = of_kind past line kinds.Pod d is.of_kind ∙ pod_in_order (version_in past) past d is.here
 
-of_pod_room : (past : Past) (line : List ℕ) (d : Data) → Stands past line kinds.Pod d
+of_pod_room : (past : TraceSoFar) (line : List ℕ) (d : Data) → Stands past line kinds.Pod d
     → length past.roll.pods < most_pods → line_at past line ≡ pod_read past d tt
 of_pod_room past line d is room =
     of_pod past line d is ∙ passed (nat_le most_pods (length past.roll.pods)) TooMany (pod_read past d)
     (lt-leb most_pods (length past.roll.pods) room)
 
-pub of_pod_said : (past : Past) (line : List ℕ) (d : Data) (pod : PodSpec) → HasPod past line d pod
+pub of_pod_said : (past : TraceSoFar) (line : List ℕ) (d : Data) (pod : PodSpec) → HasPod past line d pod
     → line_at past line ≡ pod_said past pod
 of_pod_said past line d pod is = of_pod_room past line d is.stands is.room
     ∙ then_ok (pod_from (field_at (codes "pod") d)) (pod_said past) pod is.pod_is
 
-pub of_gone : (past : Past) (line : List ℕ) (d : Data) → Stands past line kinds.Gone d
+pub of_gone : (past : TraceSoFar) (line : List ℕ) (d : Data) → Stands past line kinds.Gone d
     → line_at past line ≡ gone_named past (named_in past.roll (text_at (codes "pod") d))
 of_gone past line d is = of_kind past line kinds.Gone d is.of_kind ∙ gone_in_order past.node past d is.here
     ∙ gone_whole past d
 
-of_tick : (past : Past) (line : List ℕ) (d : Data) → Stands past line kinds.Tick d
+of_tick : (past : TraceSoFar) (line : List ℕ) (d : Data) → Stands past line kinds.Tick d
     → line_at past line ≡ (refused_if (nat_le most_ticks (length past.ticks)) TooMany >>= with_room past d)
 of_tick past line d is = of_kind past line kinds.Tick d is.of_kind ∙ tick_in_order past.node past d is.here
     ∙ tick_whole past d
 
-of_room : (past : Past) (line : List ℕ) (d : Data) → Stands past line kinds.Tick d → length past.ticks < most_ticks
+of_room : (past : TraceSoFar) (line : List ℕ) (d : Data) → Stands past line kinds.Tick d → length past.ticks < most_ticks
     → line_at past line ≡ with_room past d tt
 of_room past line d is room = of_tick past line d is
     ∙ passed (nat_le most_ticks (length past.ticks)) TooMany (with_room past d)
     (lt-leb most_ticks (length past.ticks) room)
 
-of_moment : (past : Past) (line : List ℕ) (d : Data) (at : ℕ) → HasMoment past line d at
+of_moment : (past : TraceSoFar) (line : List ℕ) (d : Data) (at : ℕ) → HasMoment past line d at
     → line_at past line ≡ with_moment past d at
 of_moment past line d at is = of_room past line d is.stands is.room
     ∙ then_ok (moment_of past.ticks (field_at (codes "at") d)) (with_moment past d) at is.moment
 
-of_written : (past : Past) (line : List ℕ) (d : Data) (at : ℕ) (written : TickLine)
+of_written : (past : TraceSoFar) (line : List ℕ) (d : Data) (at : ℕ) (written : TickLine)
     → HasWritten past line d at written → line_at past line ≡ with_written past at written
 of_written past line d at written is = of_moment past line d at is.has_moment
     ∙ then_ok (tick_line_in d) (with_written past at) written is.written_is
 
-pub of_places : (past : Past) (line : List ℕ) (d : Data) (at : ℕ) (written : TickLine) (placed : List PlacedEntry)
+pub of_places : (past : TraceSoFar) (line : List ℕ) (d : Data) (at : ℕ) (written : TickLine) (placed : List PlacedEntry)
     → HasPlaces past line d at written placed → line_at past line ≡ with_places past at written placed
 of_places past line d at written placed is = of_written past line d at written is.has_written
     ∙ then_ok (placed_of past.roll written.entries) (with_places past at written) placed is.placed_are
 
-of_observed : (past : Past) (line : List ℕ) (d : Data) (at : ℕ) (written : TickLine) (placed : List PlacedEntry)
+of_observed : (past : TraceSoFar) (line : List ℕ) (d : Data) (at : ℕ) (written : TickLine) (placed : List PlacedEntry)
     (kind : FaultKind) → HasPlaces past line d at written placed
     → (refused_if (is_doubled placed) Doubled >>= with_apart past at written placed) ≡ Err kind
     → line_at past line ≡ Err kind
@@ -398,14 +398,14 @@ unfolding observed_in
 of_observed past line d at written placed kind is e = of_places past line d at written placed is
     ∙ then_err (observed_in past at written placed) (with_tick_seen past) kind e
 
-of_apart : (past : Past) (line : List ℕ) (d : Data) (at : ℕ) (written : TickLine) (placed : List PlacedEntry)
+of_apart : (past : TraceSoFar) (line : List ℕ) (d : Data) (at : ℕ) (written : TickLine) (placed : List PlacedEntry)
     (kind : FaultKind) → IsApart past line d at written placed
     → with_apart past at written placed tt ≡ Err kind → line_at past line ≡ Err kind
 of_apart past line d at written placed kind is e =
     of_observed past line d at written placed kind is.has_places
     (passed (is_doubled placed) Doubled (with_apart past at written placed) is.apart ∙ e)
 
-of_forwards : (past : Past) (line : List ℕ) (d : Data) (at : ℕ) (written : TickLine) (placed : List PlacedEntry)
+of_forwards : (past : TraceSoFar) (line : List ℕ) (d : Data) (at : ℕ) (written : TickLine) (placed : List PlacedEntry)
     (kind : FaultKind) → IsForwards past line d at written placed
     → with_forwards past at written placed tt ≡ Err kind → line_at past line ≡ Err kind
 of_forwards past line d at written placed kind is e =
@@ -413,7 +413,7 @@ of_forwards past line d at written placed kind is e =
     (passed (is_backwards past.ticks (observed at written placed past.roll)) Backwards
     (with_forwards past at written placed) is.forwards ∙ e)
 
-fails_line : (past : Past) (line : List ℕ) (kind : FaultKind) → Fails past line kind → line_at past line ≡ Err kind
+fails_line : (past : TraceSoFar) (line : List ℕ) (kind : FaultKind) → Fails past line kind → line_at past line ≡ Err kind
 fails_line past line _ (too_long long) = of_long past line long
 fails_line past line _ (not_json kind short e) =
     of_short past line short ∙ then_err (json_of line) (with_json past) kind e

@@ -15,13 +15,13 @@ use Rattle.trace.specs.declared.trace_so_far.LineKind.TheVariants as kinds
 use Rattle.trace.specs.declared.placing.PlacedEntry.{PlacedEntry}
 use Rattle.trace.specs.Laws.{Leaves, AreSaid, MayStand, Stands, HasPod, HasMoment, HasWritten, HasPlaces, IsApart}
 use Rattle.trace.specs.Laws.{IsForwards, Says, says_node, says_pod, says_gone, says_tick, StandardIsExtended}
-use Rattle.trace.specs.Past.{Past}
+use Rattle.trace.specs.TraceSoFar.{TraceSoFar}
 use Rattle.trace.specs.Written.{is_foreign, of_node_line, node_in}
 use Rattle.trace.proofs.LawLemmas.{whole_trace}
 use Rattle.trace.proofs.LawLemmas.Saying.{all_checks}
 
 -- the same, read by the extended format
-abbrev extended : Past → Past
+abbrev extended : TraceSoFar → TraceSoFar
 extended past = record {
   format = Extended;
   node = past.node;
@@ -38,50 +38,50 @@ node_extended : (format : Format) (d : Data) (node : NodeConfig) → node_in for
     → node_in Extended d ≡ Ok node
 node_extended format d node is = node_known d node (is_foreign format d) is
 
-may_stand : (past : Past) (line_kind : LineKind) → MayStand past line_kind → MayStand (extended past) line_kind
+may_stand : (past : TraceSoFar) (line_kind : LineKind) → MayStand past line_kind → MayStand (extended past) line_kind
 may_stand past kinds.Node is = is
 may_stand past kinds.Pod is = is
 may_stand past kinds.Tick is = is
 may_stand past kinds.Gone is = is
 
-stands : (past : Past) (line : List ℕ) (line_kind : LineKind) (d : Data) → Stands past line line_kind d
+stands : (past : TraceSoFar) (line : List ℕ) (line_kind : LineKind) (d : Data) → Stands past line line_kind d
     → Stands (extended past) line line_kind d
 stands past line line_kind d is = record {
   of_kind = record { json = is.of_kind.json; kind = is.of_kind.kind };
   here = may_stand past line_kind is.here;
 }
 
-has_pod : (past : Past) (line : List ℕ) (d : Data) (pod : PodSpec) → HasPod past line d pod
+has_pod : (past : TraceSoFar) (line : List ℕ) (d : Data) (pod : PodSpec) → HasPod past line d pod
     → HasPod (extended past) line d pod
 has_pod past line d pod is =
     record { stands = stands past line kinds.Pod d is.stands; room = is.room; pod_is = is.pod_is }
 
-has_moment : (past : Past) (line : List ℕ) (d : Data) (at : ℕ) → HasMoment past line d at
+has_moment : (past : TraceSoFar) (line : List ℕ) (d : Data) (at : ℕ) → HasMoment past line d at
     → HasMoment (extended past) line d at
 has_moment past line d at is =
     record { stands = stands past line kinds.Tick d is.stands; room = is.room; moment = is.moment }
 
-has_written : (past : Past) (line : List ℕ) (d : Data) (at : ℕ) (written : TickLine)
+has_written : (past : TraceSoFar) (line : List ℕ) (d : Data) (at : ℕ) (written : TickLine)
     → HasWritten past line d at written → HasWritten (extended past) line d at written
 has_written past line d at written is =
     record { has_moment = has_moment past line d at is.has_moment; written_is = is.written_is }
 
-has_places : (past : Past) (line : List ℕ) (d : Data) (at : ℕ) (written : TickLine) (placed : List PlacedEntry)
+has_places : (past : TraceSoFar) (line : List ℕ) (d : Data) (at : ℕ) (written : TickLine) (placed : List PlacedEntry)
     → HasPlaces past line d at written placed → HasPlaces (extended past) line d at written placed
 has_places past line d at written placed is =
     record { has_written = has_written past line d at written is.has_written; placed_are = is.placed_are }
 
-is_apart : (past : Past) (line : List ℕ) (d : Data) (at : ℕ) (written : TickLine) (placed : List PlacedEntry)
+is_apart : (past : TraceSoFar) (line : List ℕ) (d : Data) (at : ℕ) (written : TickLine) (placed : List PlacedEntry)
     → IsApart past line d at written placed → IsApart (extended past) line d at written placed
 is_apart past line d at written placed is =
     record { has_places = has_places past line d at written placed is.has_places; apart = is.apart }
 
-is_forwards : (past : Past) (line : List ℕ) (d : Data) (at : ℕ) (written : TickLine) (placed : List PlacedEntry)
+is_forwards : (past : TraceSoFar) (line : List ℕ) (d : Data) (at : ℕ) (written : TickLine) (placed : List PlacedEntry)
     → IsForwards past line d at written placed → IsForwards (extended past) line d at written placed
 is_forwards past line d at written placed is =
     record { is_apart = is_apart past line d at written placed is.is_apart; forwards = is.forwards }
 
-says : (past : Past) (line : List ℕ) (next : Past) → Says past line next → Says (extended past) line (extended next)
+says : (past : TraceSoFar) (line : List ℕ) (next : TraceSoFar) → Says past line next → Says (extended past) line (extended next)
 says past line _ (says_node d node is e) =
     says_node d node (stands past line kinds.Node d is) (node_extended past.format d node e)
 says past line _ (says_pod d pod is new) = says_pod d pod (has_pod past line d pod is) new
@@ -89,14 +89,14 @@ says past line _ (says_gone d number is named) = says_gone d number (stands past
 says past line _ (says_tick d at written placed is coded) =
     says_tick d at written placed (is_forwards past line d at written placed is) coded
 
-leaves : (before : Past) (line : List ℕ) (past : Past) → Leaves before line past
+leaves : (before : TraceSoFar) (line : List ℕ) (past : TraceSoFar) → Leaves before line past
     → Leaves (extended before) line (extended past)
 leaves before line past (inl (blank, is)) = inl (blank, ap extended is)
 leaves before line past (inr (counts, is)) =
     let now = says before line past ((all_checks before line past).0 is) in
     inr (counts, (all_checks (extended before) line (extended past)).1 now)
 
-said : (format : Format) (lines : List (List ℕ)) (n : ℕ) (past : Past) → AreSaid format lines n past
+said : (format : Format) (lines : List (List ℕ)) (n : ℕ) (past : TraceSoFar) → AreSaid format lines n past
     → AreSaid Extended lines n (extended past)
 said format lines zero past is = ap extended is
 said format lines (suc n) past (before, line, so_far, here, left) =

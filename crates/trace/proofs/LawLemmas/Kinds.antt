@@ -27,7 +27,7 @@ use Rattle.trace.specs.Pod.{of_manifest, pod_from}
 use Rattle.manifest_reader.specs.Manifest.{pod_at}
 use Rattle.trace.specs.Placing.{number_in, container_number, placed_listing, placed_result, entry_of_pod}
 use Rattle.trace.specs.Placing.{placed_entry, placed_of}
-use Rattle.trace.specs.Past.{Past}
+use Rattle.trace.specs.TraceSoFar.{TraceSoFar}
 use Rattle.trace.specs.Tick.{is_later, moment_from}
 use Rattle.trace.specs.Trace.{json_of}
 use Rattle.trace.specs.Laws.{IsFirstFault, Fails, too_long, not_json, unknown_kind, misplaced, wrong_node, many_pods}
@@ -147,7 +147,7 @@ kinds_of_checks = record {
 is_not : (kind given : FaultKind) → kind ≡ given → IsNotMemory given → IsNotMemory kind
 is_not kind given is never = subst IsNotMemory (sym is) never
 
-fails_not_memory : (past : Past) (line : List ℕ) (kind : FaultKind) → Fails past line kind → IsNotMemory kind
+fails_not_memory : (past : TraceSoFar) (line : List ℕ) (kind : FaultKind) → Fails past line kind → IsNotMemory kind
 fails_not_memory past line _ (too_long long) = (λ memory. absurd (cc), λ memory. absurd (cc))
 fails_not_memory past line _ (not_json kind short e) =
     is_not kind NotJson ((json_only line).has kind e) (λ memory. absurd (cc), λ memory. absurd (cc))

@@ -31,7 +31,7 @@ use Rattle.trace.proofs.Keys.{key_nowhere, nowhere_key}
 use Rattle.trace.specs.Placing.{placed_of, is_doubled}
 use Rattle.trace.specs.Observed.{observed, some_code_missing}
 use Rattle.following.specs.Backwards.{is_backwards}
-use Rattle.trace.specs.Past.{Past, version_in, of_node, with_pod, without, with_tick}
+use Rattle.trace.specs.TraceSoFar.{TraceSoFar, version_in, of_node, with_pod, without, with_tick}
 use Rattle.trace.specs.Tick.{moment_of, observed_in, tick_at}
 use Rattle.trace.specs.Trace.{json_of, kind_from, with_node, is_late, pod_line_at, gone_line_at, in_order, line_at}
 use Rattle.trace.specs.Laws.{IsJson, IsOfKind, Stands, HasPod, HasMoment, HasWritten, HasPlaces}
@@ -47,7 +47,7 @@ cleared true fault f y e = absurd (cc)
 cleared false fault f y e = (refl, e)
 
 -- from what a line leaves to what it says
-tick_says : (past : Past) (line : List ℕ) (d : Data) (next : Past) → Stands past line kinds.Tick d
+tick_says : (past : TraceSoFar) (line : List ℕ) (d : Data) (next : TraceSoFar) → Stands past line kinds.Tick d
     → tick_at past d ≡ Ok next → Says past line next
 unfolding observed_in
 tick_says past line d next is e =
@@ -76,11 +76,11 @@ tick_says past line d next is e =
     record { is_apart = is_apart; forwards = forwards.0 } in
     let says : Says past line (with_tick past (observed at.0 written.0 placed.0 past.roll)) =
     says_tick d at.0 written.0 placed.0 is_forwards coded.0 in
-    subst (λ (p : Past). Says past line p) {x = with_tick past tick.0} {y = next} is_next
+    subst (λ (p : TraceSoFar). Says past line p) {x = with_tick past tick.0} {y = next} is_next
     (subst (λ (t : TickObs). Says past line (with_tick past t)) {x = observed at.0 written.0 placed.0 past.roll} {y =
     tick.0} is_tick says)
 
-pod_says : (version : Version) (past : Past) (line : List ℕ) (d : Data) (next : Past) → version_in past ≡ Some version
+pod_says : (version : Version) (past : TraceSoFar) (line : List ℕ) (d : Data) (next : TraceSoFar) → version_in past ≡ Some version
     → IsOfKind past line kinds.Pod d → pod_line_at version past d ≡ Ok next → Says past line next
 pod_says version past line d next some is e =
     let before = cleared (is_late version past.ticks) Order (pod_early past d) next
@@ -93,32 +93,32 @@ pod_says version past line d next some is e =
     record { of_kind = is; here = subst (PodStands past) (sym some) (takes_pods version past.ticks before.0) } in
     let has_pod : HasPod past line d pod.0 =
     record { stands = stands; room = leb-false most_pods (length past.roll.pods) room.0; pod_is = pod.1 } in
-    subst (λ (p : Past). Says past line p) {x = with_pod past pod.0} is_next
+    subst (λ (p : TraceSoFar). Says past line p) {x = with_pod past pod.0} is_next
     (says_pod d pod.0 has_pod (key_nowhere past.roll (key_of_pod pod.0) new.0))
 
-node_says : (past : Past) (line : List ℕ) (d : Data) (next : Past) → Stands past line kinds.Node d
+node_says : (past : TraceSoFar) (line : List ℕ) (d : Data) (next : TraceSoFar) → Stands past line kinds.Node d
     → with_node past d ≡ Ok next → Says past line next
 unfolding with_node
 node_says past line d next is e =
-    let said : NodeConfig → Past = of_node past in
-    let last : NodeConfig → Result Past FaultKind = λ node. Ok (said node) in
+    let said : NodeConfig → TraceSoFar = of_node past in
+    let last : NodeConfig → Result TraceSoFar FaultKind = λ node. Ok (said node) in
     let node = bind_ok (node_in past.format d) last next e in
     let is_next : said node.0 ≡ next = same_value {E = FaultKind} (said node.0) next node.2 in
-    subst (λ (p : Past). Says past line p) {x = said node.0} is_next (says_node d node.0 is node.1)
+    subst (λ (p : TraceSoFar). Says past line p) {x = said node.0} is_next (says_node d node.0 is node.1)
 
-named_says : (past : Past) (line : List ℕ) (d : Data) (named : Option ℕ) (next : Past) → Stands past line kinds.Gone d
+named_says : (past : TraceSoFar) (line : List ℕ) (d : Data) (named : Option ℕ) (next : TraceSoFar) → Stands past line kinds.Gone d
     → named_in past.roll (text_at (codes "pod") d) ≡ named → gone_named past named ≡ Ok next → Says past line next
 named_says past line d None next is named e = absurd (no_fault next StrangerPod (sym e))
 named_says past line d (Some number) next is named e =
     let is_next : without past number ≡ next = same_value {E = FaultKind} (without past number) next e in
-    subst (λ (p : Past). Says past line p) {x = without past number} is_next (says_gone d number is named)
+    subst (λ (p : TraceSoFar). Says past line p) {x = without past number} is_next (says_gone d number is named)
 
-gone_says : (past : Past) (line : List ℕ) (d : Data) (next : Past) → Stands past line kinds.Gone d
+gone_says : (past : TraceSoFar) (line : List ℕ) (d : Data) (next : TraceSoFar) → Stands past line kinds.Gone d
     → gone_line_at past d ≡ Ok next → Says past line next
 gone_says past line d next is e =
     named_says past line d (named_in past.roll (text_at (codes "pod") d)) next is refl (sym (gone_whole past d) ∙ e)
 
-place_says : (found : Option Version) (past : Past) (line : List ℕ) (line_kind : LineKind) (d : Data) (next : Past)
+place_says : (found : Option Version) (past : TraceSoFar) (line : List ℕ) (line_kind : LineKind) (d : Data) (next : TraceSoFar)
     → version_in past ≡ found → IsOfKind past line line_kind d → in_order found past line_kind d ≡ Ok next
     → Says past line next
 place_says None past line kinds.Node d next none is e =
@@ -133,14 +133,14 @@ place_says (Some version) past line kinds.Tick d next some is e =
 place_says (Some version) past line kinds.Gone d next some is e =
     gone_says past line d next (record { of_kind = is; here = some_node past.node version some }) e
 
-kind_says : (past : Past) (line : List ℕ) (d : Data) (found : Option LineKind) (next : Past) → IsJson line d
+kind_says : (past : TraceSoFar) (line : List ℕ) (d : Data) (found : Option LineKind) (next : TraceSoFar) → IsJson line d
     → kind_from (version_in past) (text_at (codes "kind") d) ≡ found → with_kind past d found ≡ Ok next
     → Says past line next
 kind_says past line d None next is found e = absurd (no_fault next UnknownKind (sym e))
 kind_says past line d (Some line_kind) next is found e =
     place_says (version_in past) past line line_kind d next refl (record { json = is; kind = found }) e
 
-line_says_it : (past : Past) (line : List ℕ) (next : Past) → line_at past line ≡ Ok next → Says past line next
+line_says_it : (past : TraceSoFar) (line : List ℕ) (next : TraceSoFar) → line_at past line ≡ Ok next → Says past line next
 line_says_it past line next e =
     let short = cleared (nat_lt longest_line (length line)) TooLong (λ u. json_of line >>= with_json past) next
     (sym (line_whole past line) ∙ e) in
@@ -149,16 +149,16 @@ line_says_it past line next e =
     kind_says past line json.0 (kind_from (version_in past) (text_at (codes "kind") json.0)) next is refl json.2
 
 -- from what a line says to what it leaves
-node_line : (past : Past) (line : List ℕ) (d : Data) (node : NodeConfig) → Stands past line kinds.Node d
+node_line : (past : TraceSoFar) (line : List ℕ) (d : Data) (node : NodeConfig) → Stands past line kinds.Node d
     → node_in past.format d ≡ Ok node
     → line_at past line ≡ Ok (of_node past node)
 unfolding with_node
 node_line past line d node is e =
-    let said : NodeConfig → Result Past FaultKind = λ node. Ok (of_node past node) in
+    let said : NodeConfig → Result TraceSoFar FaultKind = λ node. Ok (of_node past node) in
     of_kind past line kinds.Node d is.of_kind ∙ node_in_order past.node past d is.here
     ∙ then_ok (node_in past.format d) said node e
 
-tick_line : (past : Past) (line : List ℕ) (d : Data) (at : ℕ) (written : TickLine) (placed : List PlacedEntry)
+tick_line : (past : TraceSoFar) (line : List ℕ) (d : Data) (at : ℕ) (written : TickLine) (placed : List PlacedEntry)
     → IsForwards past line d at written placed → some_code_missing placed ≡ false
     → line_at past line ≡ Ok (with_tick past (observed at written placed past.roll))
 unfolding observed_in
@@ -171,7 +171,7 @@ tick_line past line d at written placed is coded =
     of_places past line d at written placed is.is_apart.has_places
     ∙ then_ok (observed_in past at written placed) (with_tick_seen past) seen given
 
-says_line : (past : Past) (line : List ℕ) (next : Past) → Says past line next → line_at past line ≡ Ok next
+says_line : (past : TraceSoFar) (line : List ℕ) (next : TraceSoFar) → Says past line next → line_at past line ≡ Ok next
 says_line past line _ (says_node d node is e) = node_line past line d node is e
 says_line past line _ (says_pod d pod is new) =
     of_pod_said past line d pod is ∙ passed (has_key past.roll (key_of_pod pod)) DuplicatePod (pod_new past pod)

@@ -9,14 +9,14 @@ use Rattle.trace.proofs.reading.with_pod.Goals as goal
 
 pub invariant_of-result : goal.invariant_of-result
 invariant_of-result c =
-    let old = c.reader.inside in
+    let old = c.so_far.inside in
     let following = c.in-Ok.following in
     let count = length c.args.pod.containers in
     let pods : c.in-Ok-with_pod.roster.pods ≡ old.roster.pods ++ c.args.pod ∷ [] =
     ap (λ (r : Roll). r.pods) c.in-Ok-with_pod.ensures in
     let counts : container_counts c.in-Ok-with_pod.roster.pods ≡ container_counts old.roster.pods ++ count ∷ [] =
     ap container_counts pods ∙ map_push (λ (p : PodSpec). length p.containers) old.roster.pods c.args.pod in
-    let more = c.in-Ok.ensures old.ticks (container_counts old.roster.pods) c.reader.invariant in
+    let more = c.in-Ok.ensures old.ticks (container_counts old.roster.pods) c.so_far.invariant in
     let taken = subst (λ (cs : List ContainerSpec). HasFollowed old.ticks
     (container_counts old.roster.pods ++ length cs ∷ []) following) c.as_slice.ensures.same more in
     subst (λ (cs : List ℕ). HasFollowed old.ticks cs following) (sym counts) taken

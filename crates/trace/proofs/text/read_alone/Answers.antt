@@ -6,13 +6,13 @@ use Rattle.trace.proofs.Taken.{leads_from_start, leads_on, stops}
 use Rattle.trace.proofs.text.read_alone.Goals as goal
 
 pub loop-rest-init : goal.loop-rest-init
-loop-rest-init c = (rw c.nothing-reader.ensures (leads_from_start c.args.format c.args.text.now), omega arith)
+loop-rest-init c = (rw c.nothing-so_far.ensures (leads_from_start c.args.format c.args.text.now), omega arith)
 
 pub returns-in_err-next : goal.returns-in_err-next
 returns-in_err-next c =
     let p = err_from_is_err_and c.from_residual.result c.from_residual.ensures.1 in
     rw (p.1, p.2)
-    (stops c.args.format c.args.text.now c.loop-rest.number c.loop-rest.reader c.loop-rest.rest.now
+    (stops c.args.format c.args.text.now c.loop-rest.number c.loop-rest.so_far c.loop-rest.rest.now
     c.in-Ok.window.rest.now _
     c.in_err-next.field-0.0 c.loop-rest.invariant.0
     (window_cut c.loop-rest.rest.now c.in-Ok.window.rest.now c.in-Ok.window.lines.items c.in-Ok.ensures.lines)
@@ -20,7 +20,7 @@ returns-in_err-next c =
 
 pub loop-rest-preserved : goal.loop-rest-preserved
 loop-rest-preserved c = (
-  leads_on (λ line. line_data line.now) c.args.format c.args.text.now c.loop-rest.number c.loop-rest.reader
+  leads_on (λ line. line_data line.now) c.args.format c.args.text.now c.loop-rest.number c.loop-rest.so_far
       c.loop-rest.rest.now c.in-Ok.window.rest.now c.in-Ok.window.lines.items c.len.result c.in_ok-next.next
       c.loop-rest.invariant.0
       (window_cut c.loop-rest.rest.now c.in-Ok.window.rest.now c.in-Ok.window.lines.items c.in-Ok.ensures.lines)

@@ -6,7 +6,7 @@ use Rattle.trace.proofs.text.take_lines.Given as goal
 
 abbrev pub invariant-loop-line : goal.invariant-loop-line
 invariant-loop-line l = (l.number ≡ l.fn.first + l.line-index)
-    × (lines_at l.number l.reader (map (λ line. line_data line.now) (drop l.line-index l.lines))
-    ≡ lines_at l.fn.first l.fn.reader (map (λ line. line_data line.now) l.fn.lines))
-    × AreAhead l.fn.reader.roll (drop l.line-index l.lines) l.reads.rest.items
-    × (IsTrue l.is_fresh → l.reader.roll ≡ l.fn.reader.roll)
+    × (lines_at l.number l.so_far (map (λ line. line_data line.now) (drop l.line-index l.lines))
+    ≡ lines_at l.fn.first l.fn.so_far (map (λ line. line_data line.now) l.fn.lines))
+    × AreAhead l.fn.so_far.roll (drop l.line-index l.lines) l.reads.rest.items
+    × (IsTrue l.is_fresh → l.so_far.roll ≡ l.fn.so_far.roll)

@@ -2,15 +2,15 @@ use Rattle.std.proofs.Common.{◌≡◌, ◌∙◌, ap, sym, subst}
 use Rattle.following.specs.Followed.{ComesNext}
 use Rattle.roster.specs.Roll.{Roll}
 use Rattle.trace.specs.Observed.{observed}
-use Rattle.trace.specs.Past.{Past}
+use Rattle.trace.specs.TraceSoFar.{TraceSoFar}
 use Rattle.trace.specs.Pod.{container_counts}
 use Rattle.trace.proofs.Shown.{comes_next, went_on}
 use Rattle.trace.proofs.tick.observed_in.Goals as goal
 
 pub is_backwards-requires : goal.is_backwards-requires
 is_backwards-requires c =
-    let past = c.args.reader.now in
-    let same : c.reader.inside.roster ≡ past.roll = ap (λ (p : Past). p.roll) c.reader.view_is in
+    let past = c.args.so_far.now in
+    let same : c.so_far.inside.roster ≡ past.roll = ap (λ (p : TraceSoFar). p.roll) c.so_far.view_is in
     let comes = subst (λ (r : Roll). ComesNext past.ticks (container_counts past.roll.pods)
     (observed c.args.at c.args.written.now c.args.placed.now r)) (sym same)
     (comes_next past.ticks c.args.at c.args.written.now c.args.placed.now past.roll c.requires.later) in
@@ -18,8 +18,8 @@ is_backwards-requires c =
 
 pub returns-clause-follows : goal.returns-clause-follows
 returns-clause-follows c =
-    let past = c.args.reader.now in
-    let same : c.reader.inside.roster ≡ past.roll = ap (λ (p : Past). p.roll) c.reader.view_is in
+    let past = c.args.so_far.now in
+    let same : c.so_far.inside.roster ≡ past.roll = ap (λ (p : TraceSoFar). p.roll) c.so_far.view_is in
     let comes = subst (λ (r : Roll). ComesNext past.ticks (container_counts past.roll.pods)
     (observed c.args.at c.args.written.now c.args.placed.now r)) (sym same)
     (comes_next past.ticks c.args.at c.args.written.now c.args.placed.now past.roll c.requires.later) in

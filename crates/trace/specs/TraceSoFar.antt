@@ -8,7 +8,7 @@ use Rattle.observations.specs.declared.tick.TickObs.{TickObs}
 use Rattle.roster.specs.Roll.{Roll}
 use Rattle.roster.specs.Roll as rolls
 
-pub record Past : Type 0 where
+pub record TraceSoFar : Type 0 where
   -- the format that the text is read by
   pub format : Format
   pub node : Option NodeConfig
@@ -17,24 +17,24 @@ pub record Past : Type 0 where
   pub ticks : List TickObs
 
 -- the version of the format, once the node is said
-abbrev pub version_in : Past → Option Version
+abbrev pub version_in : TraceSoFar → Option Version
 version_in past = option_map (λ (node : NodeConfig). node.version) past.node
 
-abbrev pub of_node : Past → NodeConfig → Past
+abbrev pub of_node : TraceSoFar → NodeConfig → TraceSoFar
 of_node past node = record past { node = Some node }
 
-abbrev pub with_roll : Past → Roll → Past
+abbrev pub with_roll : TraceSoFar → Roll → TraceSoFar
 with_roll past roll = record { format = past.format; node = past.node; roll = roll; ticks = past.ticks }
 
 -- a pod goes behind the earlier ones; it arrives after the ticks so far
-abbrev pub with_pod : Past → PodSpec → Past
+abbrev pub with_pod : TraceSoFar → PodSpec → TraceSoFar
 with_pod past pod = with_roll past (rolls.with_pod past.roll pod (length past.ticks))
 
 -- the pod with the number is gone; it leaves after the ticks so far
-abbrev pub without : Past → ℕ → Past
+abbrev pub without : TraceSoFar → ℕ → TraceSoFar
 without past number = with_roll past (rolls.without past.roll number (length past.ticks))
 
-abbrev pub with_tick : Past → TickObs → Past
+abbrev pub with_tick : TraceSoFar → TickObs → TraceSoFar
 with_tick past tick = record {
   format = past.format;
   node = past.node;
