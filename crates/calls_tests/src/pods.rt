@@ -14,6 +14,7 @@ use manifest::{MaxRestartDelay, PodSpec};
 use observations::{MOST_PODS, PodObs, TickObs};
 use pod_piece::PodPiece;
 use pod_pool::{Gate, PoolFault, update_all};
+use quantity::END_OF_TIME;
 use std::alloc::{AllocGlobal, Global};
 use std::marker::Brand;
 use std::sync::ledger::Ledger;
@@ -40,7 +41,9 @@ fn may_take(piece: &PodPiece, observed: &PodObs) -> bool
     if piece.pending() {
         return false;
     }
-    observed.at() < 1 << 40 && is_later(piece.last_at(), observed.at()) && piece.accepts(observed)
+    observed.at() < END_OF_TIME
+        && is_later(piece.last_at(), observed.at())
+        && piece.accepts(observed)
 }
 
 /// The piece takes an observation, if it may come next.

@@ -36,7 +36,7 @@ use Rattle.containers.specs.declared.pod_event_kind.PodEventKind.TheVariants.{Di
 use Rattle.containers.specs.declared.pod_event_kind.PodEventKind.TheVariants.{Unready}
 use Rattle.containers.specs.declared.pod_event_kind.PodEventKind.TheVariants.{Backoff, Restart}
 use Rattle.containers.specs.Ticks.{ContainerTick, listings, BelongsTo, results_of, AreTicksOf, SaysOf}
-use Rattle.containers.specs.Probed.{HasPassed, IsKillOrdered, IsReady}
+use Rattle.containers.specs.Probed.{HasPassed, IsKillOrdered, IsContainerReady}
 use Rattle.containers.specs.Exits.{AreExits, IsToRestart, IsDelayed, FallsDue}
 use Rattle.containers.specs.Events.{IsGone, HasStarted, HasDied, Passes, IsKilled, WasReady, ChangesReadiness}
 use Rattle.containers.specs.Events.{IsBackedOff, IsRestarted, Gives}
@@ -232,7 +232,7 @@ kill_event spec h x range =
 -- the change of readiness
 was_ready_or_not : (spec : ContainerSpec) (h : List ContainerTick) (t : ℕ) → OrNot (WasReady spec h t)
 was_ready_or_not spec h t =
-    elim (some_below _ (λ u. both (cases_eq (suc u) t) (so_or_not (IsReady spec) (ready_or_not spec) h u)) t) [
+    elim (some_below _ (λ u. both (cases_eq (suc u) t) (so_or_not (IsContainerReady spec) (ready_or_not spec) h u)) t) [
       | inl w ↦ inl (w.0, w.2.0, w.2.1)
       | inr none ↦ inr (λ (u, e, s). none (u, omega (arith, e), (e, s)))
     ]
@@ -251,7 +251,7 @@ readiness_event spec h t =
     let some = by (ready_or_not spec h) (was_ready_or_not spec h t) in
     given_event (ChangesReadiness spec h t) some (readiness_one spec h t)
   where
-    by : OrNot (IsReady spec h) → OrNot (WasReady spec h t)
+    by : OrNot (IsContainerReady spec h) → OrNot (WasReady spec h t)
         → OrNot ((what : PodEventKind) × ChangesReadiness spec h t what)
     by (inl now) (inl was) = inr (λ (what, c). elim c [ inl p ↦ p.2 was | inr p ↦ p.1 now ])
     by (inl now) (inr was_not) = inl (Ready, inl (refl, now, was_not))

@@ -24,7 +24,7 @@ use Rattle.restarts.proofs.LawLemmas.{one_delay}
 use Rattle.containers.specs.declared.pod_event_kind.PodEventKind.{PodEventKind}
 use Rattle.containers.specs.declared.pod_event_kind.PodEventKind.TheVariants.{Died, Ready, Unready, Backoff, Restart}
 use Rattle.containers.specs.Ticks.{ContainerTick, listings}
-use Rattle.containers.specs.Probed.{IsReady}
+use Rattle.containers.specs.Probed.{IsContainerReady}
 use Rattle.containers.specs.Exits.{IsToRestart}
 use Rattle.containers.specs.Events.{IsGone, HasDied, WasReady, ChangesReadiness, IsBackedOff, IsRestarted, Gives}
 use Rattle.containers.specs.Step.{AreCounted}
@@ -87,30 +87,31 @@ died_gives h x changes event are gives what = (
 
 -- whether it was ready
 pub was_ready : (spec : ContainerSpec) (h : List ContainerTick) (x : ContainerTick)
-    → (WasReady spec (h ++ x ∷ []) (length h) ↔ IsReady spec h)
+    → (WasReady spec (h ++ x ∷ []) (length h) ↔ IsContainerReady spec h)
 was_ready spec h x = (forth, back h)
   where
-    forth : WasReady spec (h ++ x ∷ []) (length h) → IsReady spec h
-    forth (u, e, s) = elim ((grows_so (IsReady spec) h x).split u s) [
-      | inl old ↦ subst (λ (k : List ContainerTick). IsReady spec k) (take_all (suc u) h (omega (arith, e))) old.so
+    forth : WasReady spec (h ++ x ∷ []) (length h) → IsContainerReady spec h
+    forth (u, e, s) = elim ((grows_so (IsContainerReady spec) h x).split u s) [
+      | inl old ↦ subst (λ (k : List ContainerTick). IsContainerReady spec k) (take_all (suc u) h (omega
+          (arith, e))) old.so
       | inr w ↦ let f : u ≡ length h = w.0 in absurd (omega (arith, e, f))
     ]
 
-    back : (h : List ContainerTick) → IsReady spec h → WasReady spec (h ++ x ∷ []) (length h)
+    back : (h : List ContainerTick) → IsContainerReady spec h → WasReady spec (h ++ x ∷ []) (length h)
     back [] r = absurd (r.1.newest.listed.1)
     back (y ∷ h) r = (
       length h,
       refl,
-      (grows_so (IsReady spec) (y ∷ h) x).old (length h) (record {
+      (grows_so (IsContainerReady spec) (y ∷ h) x).old (length h) (record {
         within = omega arith;
-        so = subst (λ (k : List ContainerTick). IsReady spec k)
+        so = subst (λ (k : List ContainerTick). IsContainerReady spec k)
             (sym (take_all (suc (length h)) (y ∷ h) (omega arith))) r;
       }),
     )
 
 pub readiness_gives : (spec : ContainerSpec) (h : List ContainerTick) (x : ContainerTick) (before now : Bool)
-    (event : Option PodEventKind) → (IsTrue before ↔ IsReady spec h)
-    → (IsTrue now ↔ IsReady spec (h ++ x ∷ []))
+    (event : Option PodEventKind) → (IsTrue before ↔ IsContainerReady spec h)
+    → (IsTrue now ↔ IsContainerReady spec (h ++ x ∷ []))
     → ((what : PodEventKind) → ((event ≡ Some what)
     ↔ (((what ≡ Ready) × IsTrue now × (IsTrue before → ⊥)) ⊎ ((what ≡ Unready) × (IsTrue now → ⊥)
     × IsTrue before))))

@@ -24,7 +24,7 @@ use Rattle.restarts.specs.Exits.{Exit}
 use Rattle.restarts.proofs.LawLemmas.{one_delay}
 use Rattle.containers.specs.declared.status.ContainerStatus.{ContainerStatus}
 use Rattle.containers.specs.Ticks.{ContainerTick, listings, BelongsTo, results_of, SaysOf}
-use Rattle.containers.specs.Probed.{Serves, IsStarted, IsReady, WasStarted}
+use Rattle.containers.specs.Probed.{Serves, IsStarted, IsContainerReady, WasStarted}
 use Rattle.containers.specs.Exits.{IsExitOf, AreExitsOf, IsRisingList}
 use Rattle.containers.specs.Shown.{IsShown, IsViewOf}
 use Rattle.containers.specs.Laws.{SomeListOfExits, SomeDelay, SomeListOfResults, SomeStatus}
@@ -169,7 +169,7 @@ served_or_not spec h R each = elim (newest_or_none (listings h)) [
 pub started_or_not : (spec : ContainerSpec) (h : List ContainerTick) → OrNot (IsStarted spec h)
 started_or_not spec h = served_or_not spec h _ (says_or_not _ (started_by_or_not spec.probes.startup) h)
 
-pub ready_or_not : (spec : ContainerSpec) (h : List ContainerTick) → OrNot (IsReady spec h)
+pub ready_or_not : (spec : ContainerSpec) (h : List ContainerTick) → OrNot (IsContainerReady spec h)
 ready_or_not spec h = served_or_not spec h _ (says_or_not _ (ready_by_or_not spec.probes) h)
 
 was_started_or_not : (spec : ContainerSpec) (h : List ContainerTick) → OrNot (WasStarted spec h)

@@ -18,7 +18,7 @@ use Rattle.phase.specs.Facts.{exit_code}
 use Rattle.phase.specs.Views.{shown_as, state_shown, restarts_of}
 use Rattle.containers.specs.declared.status.ContainerStatus.{ContainerStatus}
 use Rattle.containers.specs.Ticks.{ContainerTick, listings}
-use Rattle.containers.specs.Probed.{Serves, IsStarted, IsReady}
+use Rattle.containers.specs.Probed.{Serves, IsStarted, IsContainerReady}
 use Rattle.containers.specs.Shown.{IsContainerState, IsRestarts, HasExitedWith, IsShown, IsViewOf}
 
 -- the state that a view shows
@@ -105,7 +105,7 @@ serves_by spec h role o b same is up =
 pub status_is : (spec : ContainerSpec) (h : List ContainerTick) (view : ContainerView)
     (evicted is_ready is_started : Bool) (status : ContainerStatus) → IsViewOf spec h view
     → status.state ≡ state_shown view.seen → status.code ≡ exit_code view → status.restarts ≡ restarts_of view.seen
-    → (IsTrue is_ready ↔ IsReady spec h) → (IsTrue is_started ↔ IsStarted spec h)
+    → (IsTrue is_ready ↔ IsContainerReady spec h) → (IsTrue is_started ↔ IsStarted spec h)
     → (IsTrue status.ready ↔ ((IsTrue evicted → ⊥) × IsTrue is_ready))
     → (IsTrue status.started ↔ ((IsTrue evicted → ⊥) × IsTrue is_started))
     → IsShown spec (IsTrue evicted) h status

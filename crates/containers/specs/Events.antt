@@ -11,7 +11,7 @@ use Rattle.containers.specs.declared.pod_event_kind.PodEventKind.TheVariants.{Un
 use Rattle.containers.specs.declared.pod_event_kind.PodEventKind.TheVariants.{Restart}
 use Rattle.containers.specs.declared.events.ContainerEvents.{ContainerEvents}
 use Rattle.containers.specs.Ticks.{ContainerTick, listings}
-use Rattle.containers.specs.Probed.{HasPassed, IsKillOrdered, IsReady}
+use Rattle.containers.specs.Probed.{HasPassed, IsKillOrdered, IsContainerReady}
 use Rattle.containers.specs.Exits.{IsToRestart, IsDelayed, FallsDue}
 
 -- an instance died because the tick no longer lists it
@@ -40,13 +40,13 @@ IsKilled spec h t what =
 
 -- the container was ready after the tick before this one; before the first none was
 abbrev pub WasReady : ContainerSpec → List ContainerTick → ℕ → Type 0
-WasReady spec h t = (u : ℕ) × (suc u ≡ t) × IsSo (IsReady spec) h u
+WasReady spec h t = (u : ℕ) × (suc u ≡ t) × IsSo (IsContainerReady spec) h u
 
 -- the container became ready, or is no longer
 abbrev pub ChangesReadiness : ContainerSpec → List ContainerTick → ℕ → PodEventKind → Type 0
 ChangesReadiness spec h t what =
-    ((what ≡ Ready) × IsReady spec h × (WasReady spec h t → ⊥))
-    ⊎ ((what ≡ Unready) × (IsReady spec h → ⊥) × WasReady spec h t)
+    ((what ≡ Ready) × IsContainerReady spec h × (WasReady spec h t → ⊥))
+    ⊎ ((what ≡ Unready) × (IsContainerReady spec h → ⊥) × WasReady spec h t)
 
 -- the newest instance died, and its restart is backed off
 abbrev pub IsBackedOff : Policy → ℕ → ContainerSpec → List ContainerTick → ℕ → PodEventKind → Type 0

@@ -10,7 +10,7 @@ use Rattle.state_diff.specs.declared.seen.CriState.TheVariants.{Running}
 use Rattle.state_diff.specs.Instances.{IsNewest, IsState}
 use Rattle.probes.specs.declared.probe_set.Cause.{Cause}
 use Rattle.probes.specs.Ticks.{HasPassed as PassesBy, IsStarted as IsStartedBy}
-use Rattle.probes.specs.Container.{IsKillOrdered as IsOrderedBy, IsReady as IsReadyBy}
+use Rattle.probes.specs.Container.{IsKillOrdered as IsOrderedBy, IsInstanceReady}
 use Rattle.containers.specs.Ticks.{ContainerTick, listings, SaysOf}
 
 -- the instance's startup probe has passed
@@ -32,8 +32,8 @@ abbrev pub IsStarted : ContainerSpec → List ContainerTick → Type 0
 IsStarted spec h = (a : ℕ) × Serves spec h a × SaysOf (IsStartedBy spec.probes.startup) h a
 
 -- it is ready: it is started, and its instance is ready by its probes
-abbrev pub IsReady : ContainerSpec → List ContainerTick → Type 0
-IsReady spec h = (a : ℕ) × Serves spec h a × SaysOf (IsReadyBy spec.probes) h a
+abbrev pub IsContainerReady : ContainerSpec → List ContainerTick → Type 0
+IsContainerReady spec h = (a : ℕ) × Serves spec h a × SaysOf (IsInstanceReady spec.probes) h a
 
 -- at some tick it was started
 abbrev pub WasStarted : ContainerSpec → List ContainerTick → Type 0

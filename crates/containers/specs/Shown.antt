@@ -11,7 +11,7 @@ use Rattle.phase.specs.declared.container.ContainerState.TheVariants.{Waiting, R
 use Rattle.phase.specs.declared.view.ContainerView.{ContainerView}
 use Rattle.containers.specs.declared.status.ContainerStatus.{ContainerStatus}
 use Rattle.containers.specs.Ticks.{ContainerTick, listings}
-use Rattle.containers.specs.Probed.{IsStarted, IsReady, WasStarted}
+use Rattle.containers.specs.Probed.{IsStarted, IsContainerReady, WasStarted}
 
 -- the state of an instance that is shown so
 abbrev pub state_behind : ContainerState → CriState
@@ -42,7 +42,7 @@ pub record IsShown (spec : ContainerSpec) (is_evicted : Type 0) (h : List Contai
   pub state : IsContainerState (listings h) status.state
   pub code : (code : ℤ) → ((status.code ≡ Some code) ↔ HasExitedWith (listings h) code)
   pub restarts : IsRestarts (listings h) status.restarts
-  pub ready : IsTrue status.ready ↔ ((is_evicted → ⊥) × IsReady spec h)
+  pub ready : IsTrue status.ready ↔ ((is_evicted → ⊥) × IsContainerReady spec h)
   pub started : IsTrue status.started ↔ ((is_evicted → ⊥) × IsStarted spec h)
 
 -- the view shows the container, by its newest instance

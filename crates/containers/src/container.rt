@@ -11,7 +11,7 @@ ghost use Rattle.restarts.specs.Exits.{Exit};
 ghost use Rattle.restarts.specs.Delays.{IsRestartDue};
 ghost use Rattle.restarts.specs.Backoff.{IsStateOf as IsBackoffOf};
 ghost use Rattle.containers.specs.Ticks.{ContainerTick, listings};
-ghost use Rattle.containers.specs.Probed.{Serves, IsStarted, IsReady};
+ghost use Rattle.containers.specs.Probed.{Serves, IsStarted, IsContainerReady};
 ghost use Rattle.containers.specs.Exits.{AreExits, IsToRestart};
 ghost use Rattle.containers.specs.Events.{AreEvents};
 ghost use Rattle.containers.specs.Shown.{IsShown, IsViewOf};
@@ -89,7 +89,7 @@ impl Container {
     /// Whether it is started, and ready by its readiness probe, if it has one.
     pub fn is_ready(&self) -> bool
         ensures { (spec : ContainerSpec) (max_restart_delay : ℕ) (h : List ContainerTick)
-            → IsStateOf spec max_restart_delay h self.now → (IsTrue result ↔ IsReady spec h) }
+            → IsStateOf spec max_restart_delay h self.now → (IsTrue result ↔ IsContainerReady spec h) }
     {
         self.serves() && self.probes.ready()
     }

@@ -15,7 +15,7 @@ use Rattle.pod_piece.specs.Piece.{Piece, before_last, last_of, ticks, evicted_at
 use Rattle.pod_piece.specs.Status.{AreLastEvents}
 use Rattle.event_book.specs.declared.totals.Entry.{Entry}
 use Rattle.event_book.specs.Totals.{is_order, entry_of, IsEntryOf}
-use Rattle.event_book.specs.Limits.{IsLow}
+use Rattle.event_book.specs.Limits.{IsLow, most_events}
 
 few_at : (container : Option ℕ) (places : List (Option PodEventKind))
     → length (events_at container places) ≤ length places
@@ -33,7 +33,7 @@ few_from phase n (made ∷ rest) =
 
 few_news : (pod : PodSpec) (max_restart_delay : ℕ) (evicted : Option ℕ) (before : List PodTick) (tick : PodTick)
     (events : List PodEvent) → length pod.containers ≤ 16 → AreNews pod max_restart_delay evicted before tick events
-    → length events ≤ 129
+    → length events ≤ most_events
 few_news pod max_restart_delay evicted before tick events few news =
     let all = ap length news.in_order in
     let both = length-append (events_from news.phase 0 news.made) (events_at None (news.change ∷ [])) in
@@ -44,7 +44,7 @@ few_news pod max_restart_delay evicted before tick events few news =
 
 few_events : (pod : PodSpec) (max_restart_delay : ℕ) (evicted : Option ℕ) (before : List PodTick) (tick : PodTick)
     (events : List PodEvent) → length pod.containers ≤ 16 → AreEventsOf pod max_restart_delay evicted before tick events
-    → length events ≤ 129
+    → length events ≤ most_events
 few_events pod max_restart_delay evicted before tick events few (inl ended) = let none =
     ap length ended.1 in omega arith
 few_events pod max_restart_delay evicted before tick events few (inr lives) =
@@ -54,7 +54,7 @@ few_last : (p : Piece) (events : List PodEvent) (last : Option PodTick) → leng
     → MatchOption last (events ≡ [])
     (λ tick. AreEventsOf p.pod p.max_restart_delay (evicted_before (evicted_at p) (length (before_last (ticks p))))
     (before_last (ticks p)) tick events)
-    → length events ≤ 129
+    → length events ≤ most_events
 few_last p events None few none = let nothing = ap length none in omega arith
 few_last p events (Some tick) few are =
     few_events p.pod p.max_restart_delay (evicted_before (evicted_at p) (length (before_last (ticks p))))

@@ -18,6 +18,7 @@ use manifest_fields::{
     Field, Grammar, ManifestFault, array, array_or_none, object, probes_of, required_text,
     resources_of, some_items, text_or,
 };
+use quantity::END_OF_TIME;
 use serde_json::Value;
 use std::alloc::{AllocError, Global};
 
@@ -57,7 +58,7 @@ fn grace_period_from(seconds: Option<u64>) -> Result<GracePeriod, ManifestFault>
     ensures { GivesExactly (λ n. n) result (grace_period_from seconds) }
 {
     match seconds {
-        Some(seconds) if seconds < 1 << 40 => Ok(GracePeriod::new(seconds)),
+        Some(seconds) if seconds < END_OF_TIME => Ok(GracePeriod::new(seconds)),
         _ => Err(ManifestFault::WrongKind(Field::GracePeriod)),
     }
 }

@@ -14,11 +14,9 @@ ghost use Rattle.ranking.specs.Index.{IsIndexOf};
 
 use observations::PodObs;
 use pod_piece::{EvictOrder, PodPiece};
+use quantity::END_OF_TIME;
 use ranking::RankIndex;
 use std::alloc::{AllocError, Global};
-
-/// Moments are below this.
-const END_OF_TIME: u64 = 1 << 40;
 
 /// What is shown of the pod with the number, or nothing.
 fn shown_at(shown: &[Option<PodObs>], number: usize) -> Option<&PodObs>

@@ -20,7 +20,7 @@ use Rattle.containers.specs.Probed as probed
 use Rattle.containers.specs.Shown as shown
 use Rattle.containers.specs.declared.status.ContainerStatus.{ContainerStatus}
 use Rattle.pod_state.specs.Events.{IsMadeOf}
-use Rattle.pod_state.specs.Pods.{PodEntry, PodTick, pod_tick, ticks_of, unseen, Serves, IsReady, IsViewOf}
+use Rattle.pod_state.specs.Pods.{PodEntry, PodTick, pod_tick, ticks_of, unseen, Serves, IsReadyInPod, IsViewOf}
 use Rattle.pod_state.specs.Pods.{IsEnd, counted, EndsEvicted}
 use Rattle.pod_state.specs.Containers.{IsShownOf, AreShown, AreStatusesOf, IsContainerOf, AreContainersOf, AreKept}
 use Rattle.pod_state.proofs.EndLemmas.{IsEnd-unique}
@@ -84,17 +84,17 @@ view_is pod max_restart_delay n h container view shows is =
 -- whether it is ready if it serves
 pub serving_ready : (pod : PodSpec) (max_restart_delay n : ℕ) (h : List PodTick) (container : Container) (ready : Bool)
     → ((spec : ContainerSpec) (k : List ContainerTick) → IsStateOf spec max_restart_delay k container
-    → (IsTrue ready ↔ (spec.role ≢ Init → probed.IsReady spec k)))
-    → IsContainerOf pod max_restart_delay h n container → (IsTrue ready ↔ (Serves pod n → IsReady pod h n))
+    → (IsTrue ready ↔ (spec.role ≢ Init → probed.IsContainerReady spec k)))
+    → IsContainerOf pod max_restart_delay h n container → (IsTrue ready ↔ (Serves pod n → IsReadyInPod pod h n))
 serving_ready pod max_restart_delay n h container ready says is = there (slice_get pod.containers n) refl is
   where
     there : (o : Option ContainerSpec) → slice_get pod.containers n ≡ o
         → IsSomeAnd o (λ spec. IsStateOf spec max_restart_delay (ticks_of h n) container)
-        → (IsTrue ready ↔ (Serves pod n → IsReady pod h n))
+        → (IsTrue ready ↔ (Serves pod n → IsReadyInPod pod h n))
     there None e st = absurd st
     there (Some spec) e st =
         let w = says spec (ticks_of h n) st in
-        let R : ContainerSpec → Type 0 = λ s. probed.IsReady s (ticks_of h n) in
+        let R : ContainerSpec → Type 0 = λ s. probed.IsContainerReady s (ticks_of h n) in
         let N : ContainerSpec → Type 0 = λ s. s.role ≢ Init in (
           (λ t serves. of_spec pod n R spec e
               (w.0 t (subst (λ (o : Option ContainerSpec). IsSomeAnd o N) e ((serves_is pod n).0 serves)))),

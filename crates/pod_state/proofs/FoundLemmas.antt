@@ -21,7 +21,7 @@ use Rattle.containers.specs.Shown as shown
 use Rattle.containers.specs.declared.status.ContainerStatus.{ContainerStatus}
 use Rattle.containers.proofs.FoundLemmas.{view_of, status_of, ready_or_not}
 use Rattle.pod_state.specs.declared.lifecycle.Lifecycle.{Lifecycle}
-use Rattle.pod_state.specs.Pods.{PodTick, ticks_of, Serves, IsReady, facts, numbers, IsViewOf, AreViewsOf}
+use Rattle.pod_state.specs.Pods.{PodTick, ticks_of, Serves, IsReadyInPod, facts, numbers, IsViewOf, AreViewsOf}
 use Rattle.pod_state.specs.Pods.{IsRawPhaseAfter, EndsPod, IsEnd, counted, EndsEvicted, IsPhaseBy, IsPhase}
 use Rattle.pod_state.specs.Pods.{IsInitialized, AllReady, AreContainersReady}
 use Rattle.pod_state.specs.Lifecycles.{IsConditionAfter, IsLifecycleOf}
@@ -120,14 +120,14 @@ serves_or_not pod container =
     either (given_or_not _ (λ spec. sidecar_or_not spec.role) (slice_get pod.containers container))
     (given_or_not _ (λ spec. app_or_not spec.role) (slice_get pod.containers container))
 
-ready_at_or_not : (pod : PodSpec) (h : List PodTick) (container : ℕ) → OrNot (IsReady pod h container)
+ready_at_or_not : (pod : PodSpec) (h : List PodTick) (container : ℕ) → OrNot (IsReadyInPod pod h container)
 ready_at_or_not pod h container =
     given_or_not _ (λ spec. ready_or_not spec (ticks_of h container)) (slice_get pod.containers container)
 
 all_ready_or_not : (pod : PodSpec) (h : List PodTick) → OrNot (AllReady pod h)
 all_ready_or_not pod h =
     let each = λ (c : ℕ). implied (serves_or_not pod c) (ready_at_or_not pod h c) in
-    elim (all_below (λ c. Serves pod c → IsReady pod h c) each (length pod.containers)) [
+    elim (all_below (λ c. Serves pod c → IsReadyInPod pod h c) each (length pod.containers)) [
       | inl all ↦ inl (λ c serves. all c (serving_within pod c serves) serves)
       | inr not ↦ inr (λ all. not (λ c lt serves. all c serves))
     ]

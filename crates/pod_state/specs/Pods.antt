@@ -57,8 +57,8 @@ abbrev pub Serves : PodSpec → ℕ → Type 0
 Serves pod container = HasRole pod container Sidecar ⊎ HasRole pod container App
 
 -- it is ready
-abbrev pub IsReady : PodSpec → List PodTick → ℕ → Type 0
-IsReady pod h container = OfSpec pod container (λ spec. probed.IsReady spec (ticks_of h container))
+abbrev pub IsReadyInPod : PodSpec → List PodTick → ℕ → Type 0
+IsReadyInPod pod h container = OfSpec pod container (λ spec. probed.IsContainerReady spec (ticks_of h container))
 
 -- what the rules ask of the pod's containers, after these ticks
 abbrev pub facts : PodSpec → List PodTick → Facts ℕ
@@ -127,7 +127,7 @@ IsInitialized pod evicted h = (end : Option ℕ) × IsEnd pod evicted h end
 
 -- every app container and sidecar is ready
 abbrev pub AllReady : PodSpec → List PodTick → Type 0
-AllReady pod h = (container : ℕ) → Serves pod container → IsReady pod h container
+AllReady pod h = (container : ℕ) → Serves pod container → IsReadyInPod pod h container
 
 -- the pod has not ended, and every app container and sidecar is ready
 abbrev pub AreContainersReady : PodSpec → Option ℕ → List PodTick → Type 0

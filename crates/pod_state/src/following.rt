@@ -6,7 +6,7 @@ ghost use Rattle.manifest.specs.declared.pod.ContainerSpec.{ContainerSpec};
 ghost use Rattle.manifest.specs.declared.pod.PodSpec.{PodSpec};
 ghost use Rattle.manifest.specs.declared.pod.Role.TheVariants.{Init};
 ghost use Rattle.containers.specs.Ticks.{ContainerTick};
-ghost use Rattle.containers.specs.Probed.{IsReady};
+ghost use Rattle.containers.specs.Probed.{IsContainerReady};
 ghost use Rattle.containers.specs.Container.{Accepts, IsBefore, IsStateOf};
 ghost use Rattle.pod_state.specs.Pods.{PodTick, pod_tick, unseen, AreViewsOf, AllReady};
 ghost use Rattle.pod_state.specs.Containers.{IsContainerOf, AreContainersOf, AreShown};
@@ -140,7 +140,7 @@ pub(crate) fn show(containers: &[Container], is_evicted: bool, statuses: &mut Ve
 fn is_ready_or_init(container: &Container) -> bool
     ensures { (spec : ContainerSpec) (max_restart_delay : ℕ) (h : List ContainerTick)
         → IsStateOf spec max_restart_delay h container.now
-        → (IsTrue result ↔ (spec.role ≢ Init → IsReady spec h)) }
+        → (IsTrue result ↔ (spec.role ≢ Init → IsContainerReady spec h)) }
 {
     container.view().is_init() || container.is_ready()
 }

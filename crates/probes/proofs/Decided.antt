@@ -13,7 +13,7 @@ use Rattle.probes.specs.declared.probe_set.Cause.TheVariants.{Startup, Liveness}
 use Rattle.probes.specs.Outcomes.{EndsRun, FailsInARow, HoldsAfter, FailsWithin}
 use Rattle.probes.specs.Ticks.{Tick, startup_results, liveness_results, readiness_results, HasPassed, IsStarted}
 use Rattle.probes.specs.Ticks.{HasStartupFailed, HasLivenessFailed, HoldsReady}
-use Rattle.probes.specs.Container.{IsKillOrdered, IsReady}
+use Rattle.probes.specs.Container.{IsKillOrdered, IsInstanceReady}
 use Rattle.probes.proofs.Counted.{AreCounted-unique}
 use Rattle.probes.proofs.Determined.{passes_or_not, counted_of}
 
@@ -117,7 +117,7 @@ held_or_not (Some probe) start ticks =
     holds_or_not probe.success_threshold probe.failure_threshold (readiness_results probe start ticks)
 
 -- the instance is ready, or not
-pub ready_or_not : (probes : Probes) (start : ℕ) (ticks : List Tick) → OrNot (IsReady probes start ticks)
+pub ready_or_not : (probes : Probes) (start : ℕ) (ticks : List Tick) → OrNot (IsInstanceReady probes start ticks)
 ready_or_not probes start ticks =
     let c = counted_of probes.startup start ticks in
     let P : List Tick → Type 0 = λ counted. HoldsReady probes.readiness start counted in

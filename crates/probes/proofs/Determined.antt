@@ -9,7 +9,7 @@ use Rattle.manifest.specs.Probe.{Probe, Probes}
 use Rattle.probes.specs.Outcomes.{PassesWithin}
 use Rattle.probes.specs.Ticks.{Tick, startup_results, HasPassed, IsStarted, HoldsReady}
 use Rattle.histories.specs.Histories.{Lasts, ComesTrue}
-use Rattle.probes.specs.Container.{IsPassTick, AreCounted, IsReady}
+use Rattle.probes.specs.Container.{IsPassTick, AreCounted, IsInstanceReady}
 use Rattle.histories.proofs.First.{IsFirst-unique}
 use Rattle.histories.proofs.Lasting.{Lasts-all, ComesTrue-later}
 use Rattle.probes.proofs.Counted.{passed_lasts}
@@ -75,7 +75,7 @@ passes_once p start ticks later t u f g = IsFirst-unique _ t u (ComesTrue-later 
 
 -- ready with no readiness probe
 pub ready_by_startup : (probes : Probes) (start : ℕ) (ticks : List Tick) → probes.readiness ≡ None
-    → (IsReady probes start ticks ↔ IsStarted probes.startup start ticks)
+    → (IsInstanceReady probes start ticks ↔ IsStarted probes.startup start ticks)
 ready_by_startup probes start ticks none = (
   (λ ready. ready.0),
   (λ started.

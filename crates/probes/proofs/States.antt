@@ -14,7 +14,7 @@ use Rattle.probes.specs.Ticks.{Tick, IsStarted, HasPassed, HasStartupFailed, Has
 use Rattle.probes.specs.Startup.{IsStartupOf, IsProgressWith}
 use Rattle.probes.specs.Liveness.{IsLivenessOf}
 use Rattle.probes.specs.Readiness.{IsReadinessOf}
-use Rattle.probes.specs.Container.{AreInRange, IsKillOrdered, IsOrdered, IsPassTick, IsKillTick, IsReady}
+use Rattle.probes.specs.Container.{AreInRange, IsKillOrdered, IsOrdered, IsPassTick, IsKillTick, IsInstanceReady}
 use Rattle.probes.specs.ProbeSet.{Follows, IsStateOf}
 use Rattle.histories.proofs.Lasting.{ComesTrue-now}
 use Rattle.probes.proofs.Counted.{AreCounted-unique, AreCounted-more, AreCounted-none, AreCounted-start, passed_lasts}
@@ -51,7 +51,7 @@ pub ready_is : (probes : Probes) (start : ℕ) (ticks : List Tick) (set : ProbeS
     → IsStateOf probes start ticks set
     → IsStarted probes.startup start ticks
     → ((c : List Tick) → IsReadinessOf start c set.readiness → (IsTrue ready ↔ HoldsReady set.readiness.probe start c))
-    → (IsTrue ready ↔ IsReady probes start ticks)
+    → (IsTrue ready ↔ IsInstanceReady probes start ticks)
 ready_is probes start ticks set ready st started reads = (
   (λ t. (started, (st.counts.0, st.counts.1, here.0 t))),
   (λ (_, (c, are, holds)). here.1 (let P : List Tick → Type 0 = λ x. HoldsReady probes.readiness start x in

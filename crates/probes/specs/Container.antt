@@ -44,8 +44,8 @@ IsKillTick probes start cause ticks t = ComesTrue (IsKillOrdered probes start ca
 
 -- the instance is ready: startup has passed, and the readiness probe holds over the ticks that
 -- count
-abbrev pub IsReady : Probes → ℕ → List Tick → Type 0
-IsReady probes start ticks =
+abbrev pub IsInstanceReady : Probes → ℕ → List Tick → Type 0
+IsInstanceReady probes start ticks =
     IsStarted probes.startup start ticks
     × ((counted : List Tick) × AreCounted probes.startup start ticks counted
     × HoldsReady probes.readiness start counted)

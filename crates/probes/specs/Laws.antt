@@ -5,7 +5,7 @@ use Rattle.manifest.specs.Probe.{Probe, Probes}
 use Rattle.probes.specs.declared.probe_set.Cause.{Cause}
 use Rattle.probes.specs.declared.probe_set.Cause.TheVariants.{Startup, Liveness}
 use Rattle.probes.specs.Ticks.{Tick, IsStarted}
-use Rattle.probes.specs.Container.{AreInRange, AreCounted, IsPassTick, IsKillOrdered, IsReady}
+use Rattle.probes.specs.Container.{AreInRange, AreCounted, IsPassTick, IsKillOrdered, IsInstanceReady}
 
 -- no instance is to be killed for two causes
 abbrev pub OneCause : Type 0
@@ -39,4 +39,4 @@ OneCounted =
 abbrev pub ReadyWithoutProbe : Type 0
 ReadyWithoutProbe =
     (probes : Probes) (start : ℕ) (ticks : List Tick) → probes.readiness ≡ None
-    → (IsReady probes start ticks ↔ IsStarted probes.startup start ticks)
+    → (IsInstanceReady probes start ticks ↔ IsStarted probes.startup start ticks)

@@ -8,7 +8,7 @@ use Rattle.probes.specs.Ticks.{Tick}
 use Rattle.probes.specs.Startup.{IsStartupOf}
 use Rattle.probes.specs.Liveness.{IsLivenessOf}
 use Rattle.probes.specs.Readiness.{IsReadinessOf}
-use Rattle.probes.specs.Container.{AreInRange, AreCounted, IsPassTick, IsKillTick, IsReady}
+use Rattle.probes.specs.Container.{AreInRange, AreCounted, IsPassTick, IsKillTick, IsInstanceReady}
 
 -- the set follows the probes of this container
 pub record Follows (set : ProbeSet) (probes : Probes) : Type 0 where
@@ -45,4 +45,4 @@ pub record AreVerdicts (probes : Probes) (start : ℕ) (ticks : List Tick) (t : 
   -- the kill order comes at it, for this cause
   pub kill : (cause : Cause) → ((verdicts.kill ≡ Some cause) ↔ IsKillTick probes start cause ticks t)
   -- the instance is ready after these ticks
-  pub ready : IsTrue verdicts.ready ↔ IsReady probes start ticks
+  pub ready : IsTrue verdicts.ready ↔ IsInstanceReady probes start ticks

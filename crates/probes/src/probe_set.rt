@@ -1,7 +1,7 @@
 ghost use Rattle.std.specs.Prelude.{◌≡◌, ◌↔◌, ◌-◌, ℕ, List, [], ◌∷◌, ◌++◌, length, Option, Some, None, IsTrue, false};
 ghost use Rattle.manifest.specs.Probe.{Probes};
 ghost use Rattle.probes.specs.Ticks.{Tick, tick, IsStarted};
-ghost use Rattle.probes.specs.Container.{IsReady, IsKillOrdered, IsOrdered};
+ghost use Rattle.probes.specs.Container.{IsInstanceReady, IsKillOrdered, IsOrdered};
 ghost use Rattle.probes.specs.ProbeSet.{Follows, HasBegun, HasNotBegun, IsStateOf, AreVerdicts};
 
 use crate::configured::Configured;
@@ -111,7 +111,7 @@ impl ProbeSet {
     pub fn ready(&self) -> bool
         ensures before { HasNotBegun self.now → result ≡ false }
         ensures state { (probes : Probes) (start : ℕ) (ticks : List Tick) → IsStateOf probes start ticks self.now
-            → (IsTrue result ↔ IsReady probes start ticks) }
+            → (IsTrue result ↔ IsInstanceReady probes start ticks) }
     {
         self.started() && self.readiness.is_ready()
     }

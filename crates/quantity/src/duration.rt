@@ -10,8 +10,8 @@ ghost use Rattle.quantity.specs.Duration.{sum_onto, unit_seconds};
 use crate::digits::{count_digits, decimal};
 use crate::fault::QuantityFault;
 
-/// Durations end below this many seconds.
-const LIMIT: u64 = 1 << 40;
+/// Moments and durations are below this many seconds.
+pub const END_OF_TIME: u64 = 1 << 40;
 
 /// The seconds of a duration: the text `0`, or parts of digits and a unit `h`, `m` or `s`, which
 /// are added up. (Kubernetes, "Kubelet Configuration", whose durations are written so; the limits
@@ -52,7 +52,7 @@ fn sum_of_parts(text: &[u8]) -> Result<u64, QuantityFault>
     while !rest.is_empty() {
         let digits = count_digits(rest);
         sum += part_seconds(rest, digits)?;
-        if sum >= LIMIT {
+        if sum >= END_OF_TIME {
             return Err(QuantityFault::TooManyDigits);
         }
         rest = rest.split_at(digits + 1).1;

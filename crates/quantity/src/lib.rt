@@ -12,7 +12,7 @@ mod percent;
 mod quantity;
 mod suffix;
 
-pub use duration::seconds_of;
+pub use duration::{END_OF_TIME, seconds_of};
 pub use fault::QuantityFault;
 pub use limit::Limit;
 pub use percent::Percent;

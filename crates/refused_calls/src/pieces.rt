@@ -10,6 +10,7 @@ use crate::seen::{Saw, Unprepared};
 use manifest::MaxRestartDelay;
 use observations::PodObs;
 use pod_piece::PodPiece;
+use quantity::END_OF_TIME;
 use std::alloc::Global;
 
 /// A call of a piece.
@@ -64,7 +65,9 @@ fn may_take(piece: &PodPiece, observed: &PodObs) -> bool
     if piece.pending() {
         return false;
     }
-    observed.at() < 1 << 40 && is_later(piece.last_at(), observed.at()) && piece.accepts(observed)
+    observed.at() < END_OF_TIME
+        && is_later(piece.last_at(), observed.at())
+        && piece.accepts(observed)
 }
 
 /// The piece takes an observation, if it may come next.

@@ -31,6 +31,7 @@ use node_pods::NodePods;
 use node_signals::NodeSignals;
 use observations::{MOST_TICKS, TickObs};
 use pod_piece::PodPiece;
+use quantity::END_OF_TIME;
 use round_steps::Step;
 use std::alloc::{AllocError, Global};
 use std::marker::Model;
@@ -128,7 +129,7 @@ impl<U: Ledger, E: Ledger, O: Ledger> Running<U, E, O> {
     {
         self.evictions.len() < MOST_TICKS
             && is_later(self.last, tick.at)
-            && tick.at < 1 << 40
+            && tick.at < END_OF_TIME
             && self.pods.fits(tick)
     }
 

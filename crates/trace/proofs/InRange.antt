@@ -206,7 +206,8 @@ read : (r : Result PodSpec ManifestFault) (pod : PodSpec) → of_manifest r ≡ 
 read (Ok p) pod e = ap Ok (same_value _ _ e)
 read (Err fault) pod e = absurd (cc)
 
-line_keeps : (past : TraceSoFar) (line : List ℕ) (next : TraceSoFar) → HaveProbesInRange past.roll.pods → Says past line next
+line_keeps : (past : TraceSoFar) (line : List ℕ) (next : TraceSoFar) → HaveProbesInRange past.roll.pods
+    → Says past line next
     → HaveProbesInRange next.roll.pods
 line_keeps past line _ all (says_node d node is e) = all
 line_keeps past line _ all (says_pod d pod is new) =

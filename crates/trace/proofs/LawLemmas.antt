@@ -59,7 +59,8 @@ line_of : (n : ℕ) (before : TraceSoFar) (line : List ℕ) (rest : List (List �
     → read_on n before (line ∷ rest) ≡ (at_line n (line_at before line) >>= λ next. read_on (n + 1) next rest)
 line_of n before line rest counts = rw counts refl
 
-goes_on : (n : ℕ) (before : TraceSoFar) (line : List ℕ) (past : TraceSoFar) (rest : List (List ℕ)) → Leaves before line past
+goes_on : (n : ℕ) (before : TraceSoFar) (line : List ℕ) (past : TraceSoFar) (rest : List (List ℕ))
+    → Leaves before line past
     → read_on n before (line ∷ rest) ≡ read_on (n + 1) past rest
 goes_on n before line past rest (inl blank) =
     let skipped : read_on n before (line ∷ rest) ≡ read_on (n + 1) before rest = rw blank.0 refl in
@@ -68,7 +69,8 @@ goes_on n before line past rest (inr counts) =
     line_of n before line rest counts.0
     ∙ ap (λ (r : Result TraceSoFar FaultKind). at_line n r >>= λ next. read_on (n + 1) next rest) counts.1
 
-ends_at : (n : ℕ) (before : TraceSoFar) (line : List ℕ) (kind : FaultKind) (rest : List (List ℕ)) → is_blank line ≡ false
+ends_at : (n : ℕ) (before : TraceSoFar) (line : List ℕ) (kind : FaultKind) (rest : List (List ℕ))
+    → is_blank line ≡ false
     → line_at before line ≡ Err kind
     → read_on n before (line ∷ rest) ≡ Err (record { line = n; kind = kind })
 ends_at n before line kind rest counts fails =
@@ -107,7 +109,8 @@ Reached format lines n = ((past : TraceSoFar) × AreSaid format lines n past) �
 line_says : (format : Format) (lines : List (List ℕ)) (n : ℕ) (past : TraceSoFar) (line : List ℕ)
     (said : AreSaid format lines n past)
     (here : slice_get lines n ≡ Some line)
-    (counts : is_blank line ≡ false) (r : Result TraceSoFar FaultKind) → line_at past line ≡ r → Reached format lines (suc n)
+    (counts : is_blank line ≡ false) (r : Result TraceSoFar FaultKind) → line_at past line ≡ r
+    → Reached format lines (suc n)
 line_says format lines n past line said here counts (Ok next) e = inl (next, (past, line, said, here, inr (counts, e)))
 line_says format lines n past line said here counts (Err kind) e =
     inr (n, kind, record { past = past; line = line; said = said; here = here; counts = counts; fails = e })
@@ -127,7 +130,8 @@ said_or_fault format lines (suc n) le = elim (said_or_fault format lines n (omeg
 ]
 
 -- what a line leaves said has a node if the line counts
-with_node_some : (past : TraceSoFar) (d : Data) (next : TraceSoFar) → with_node past d ≡ Ok next → is_some next.node ≡ true
+with_node_some : (past : TraceSoFar) (d : Data) (next : TraceSoFar) → with_node past d ≡ Ok next
+    → is_some next.node ≡ true
 unfolding with_node
 with_node_some past d next e =
     let with : NodeConfig → TraceSoFar = of_node past in
@@ -137,11 +141,13 @@ with_node_some past d next e =
     let is_next : with node.0 ≡ next = cc in
     subst (λ (p : TraceSoFar). is_some p.node ≡ true) is_next refl
 
-pod_line_keeps : (version : Version) (past : TraceSoFar) (d : Data) (next : TraceSoFar) → pod_line_at version past d ≡ Ok next
+pod_line_keeps : (version : Version) (past : TraceSoFar) (d : Data) (next : TraceSoFar)
+    → pod_line_at version past d ≡ Ok next
     → past.node ≡ next.node
 pod_line_keeps version past d next e =
     let last : PodSpec → ⊤ → Result TraceSoFar FaultKind = λ pod u. Ok (with_pod past pod) in
-    let keyed : PodSpec → Result TraceSoFar FaultKind = λ pod. refused_if (has_key past.roll (key_of_pod pod)) DuplicatePod
+    let keyed : PodSpec → Result TraceSoFar FaultKind = λ pod. refused_if (has_key past.roll
+    (key_of_pod pod)) DuplicatePod
     >>= last pod in
     let read : ⊤ → Result TraceSoFar FaultKind = λ u. pod_from (field_at (codes "pod") d) >>= keyed in
     let first : ⊤ → Result TraceSoFar FaultKind =
@@ -158,7 +164,8 @@ pod_line_keeps version past d next e =
 tick_line_keeps : (past : TraceSoFar) (d : Data) (next : TraceSoFar) → tick_at past d ≡ Ok next → past.node ≡ next.node
 tick_line_keeps past d next e =
     let last : TickObs → Result TraceSoFar FaultKind = λ t. Ok (with_tick past t) in
-    let seen : ℕ → TickLine → List PlacedEntry → Result TraceSoFar FaultKind = λ at w ps. observed_in past at w ps >>= last in
+    let seen : ℕ → TickLine → List PlacedEntry → Result TraceSoFar FaultKind = λ at w ps. observed_in past at w ps
+    >>= last in
     let place : ℕ → TickLine → Result TraceSoFar FaultKind = λ at w. placed_of past.roll w.entries >>= seen at w in
     let list : ℕ → Result TraceSoFar FaultKind = λ at. tick_line_in d >>= place at in
     let moment : ⊤ → Result TraceSoFar FaultKind = λ u. moment_of past.ticks (field_at (codes "at") d) >>= list in
@@ -172,7 +179,8 @@ tick_line_keeps past d next e =
     let is_next : with_tick past tick.0 ≡ next = cc in
     ap (λ (p : TraceSoFar). p.node) {x = with_tick past tick.0} is_next
 
-gone_line_keeps : (past : TraceSoFar) (d : Data) (next : TraceSoFar) → gone_line_at past d ≡ Ok next → past.node ≡ next.node
+gone_line_keeps : (past : TraceSoFar) (d : Data) (next : TraceSoFar) → gone_line_at past d ≡ Ok next
+    → past.node ≡ next.node
 gone_line_keeps past d next e =
     let named = named_in past.roll (text_at (codes "pod") d) in
     let number = bind_ok (some_or StrangerPod named) (gone_said past) next (sym (gone_whole past d) ∙ e) in
@@ -195,9 +203,11 @@ in_order_some (Some version) past kinds.Tick d next is e =
 in_order_some (Some version) past kinds.Gone d next is e =
     subst (λ (o : Option NodeConfig). is_some o ≡ true) (gone_line_keeps past d next e) (some_node past.node version is)
 
-line_some : (past : TraceSoFar) (line : List ℕ) (next : TraceSoFar) → line_at past line ≡ Ok next → is_some next.node ≡ true
+line_some : (past : TraceSoFar) (line : List ℕ) (next : TraceSoFar) → line_at past line ≡ Ok next
+    → is_some next.node ≡ true
 line_some past line next e =
-    let take : Data → LineKind → Result TraceSoFar FaultKind = λ d line_kind. in_order (version_in past) past line_kind d in
+    let take : Data → LineKind → Result TraceSoFar FaultKind = λ d line_kind. in_order
+    (version_in past) past line_kind d in
     let kind : Data → Result TraceSoFar FaultKind =
     λ d. some_or UnknownKind (kind_from (version_in past) (text_at (codes "kind") d)) >>= take d in
     let parse : ⊤ → Result TraceSoFar FaultKind = λ u. json_of line >>= kind in

@@ -351,7 +351,8 @@ pod_keeps past pod room new all =
       own_keys = apart_more roll pod now all.arrived all.left all.own_keys new;
     }
 
-line_keeps : (past : TraceSoFar) (line : List ℕ) (next : TraceSoFar) → IsShaped past → Says past line next → IsShaped next
+line_keeps : (past : TraceSoFar) (line : List ℕ) (next : TraceSoFar) → IsShaped past → Says past line next
+    → IsShaped next
 line_keeps past line _ all (says_node d node is e) = all
 line_keeps past line _ all (says_pod d pod is new) = pod_keeps past pod is.room new all
 line_keeps past line _ all (says_gone d number is named) =

@@ -60,7 +60,8 @@ entries_shown past tick written placed places apart coded shows =
     ≡ (refused_if (is_backwards past.ticks o) Backwards >>= λ (u : ⊤). Ok o)) (sym shows)
     (entries_apart past tick.at written placed apart coded)
 
-steps : (turn : Result Turn FaultKind) (room : Result ⊤ FaultKind) (test back : Bool) (past : TraceSoFar) (tick : TickObs)
+steps : (turn : Result Turn FaultKind) (room : Result ⊤ FaultKind) (test back : Bool) (past : TraceSoFar)
+    (tick : TickObs)
     (entries : ℕ → Result TickObs FaultKind)
     → entries tick.at ≡ (refused_if back Backwards >>= λ (u : ⊤). Ok tick)
     → (turn >>= λ (t : Turn).
@@ -159,7 +160,8 @@ shown_stands past said tick u is stands =
 then_err : {A B E : Type 0} (r : Result A E) (f : A → Result B E) (fault : E) → r ≡ Err fault → (r >>= f) ≡ Err fault
 then_err r f fault e = rw e refl
 
-pub shown_refused : (past : TraceSoFar) (said : LineData) (tick : TickObs) (kind : FaultKind) → IsShown past.roll said tick
+pub shown_refused : (past : TraceSoFar) (said : LineData) (tick : TickObs) (kind : FaultKind)
+    → IsShown past.roll said tick
     → may_stand past tick ≡ Err kind
     → MatchBool (is_memory kind) (Unit {0}) (any_line_at past said ≡ Err kind)
 shown_refused past said tick kind is refused =

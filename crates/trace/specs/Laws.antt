@@ -226,7 +226,8 @@ pub data Fails (past : TraceSoFar) (line : List ℕ) : FaultKind → Type 0 wher
 
 -- a line's fault is that of the first check that it fails
 abbrev pub FirstCheck : Type 0
-FirstCheck = (past : TraceSoFar) (line : List ℕ) (kind : FaultKind) → (line_at past line ≡ Err kind ↔ Fails past line kind)
+FirstCheck = (past : TraceSoFar) (line : List ℕ) (kind : FaultKind)
+    → (line_at past line ≡ Err kind ↔ Fails past line kind)
 
 -- what is said after a line that passes all its checks
 pub data Says (past : TraceSoFar) (line : List ℕ) : TraceSoFar → Type 0 where
@@ -242,7 +243,8 @@ pub data Says (past : TraceSoFar) (line : List ℕ) : TraceSoFar → Type 0 wher
 
 -- a line without a fault says its node, its pod, that a pod is gone, or its tick, behind what is said before it
 abbrev pub AllChecks : Type 0
-AllChecks = (past : TraceSoFar) (line : List ℕ) (next : TraceSoFar) → (line_at past line ≡ Ok next ↔ Says past line next)
+AllChecks = (past : TraceSoFar) (line : List ℕ) (next : TraceSoFar)
+    → (line_at past line ≡ Ok next ↔ Says past line next)
 
 -- the kinds of fault that a check answers
 pub record KindsOfChecks : Type 0 where

@@ -9,10 +9,10 @@ ghost use Rattle.trace.specs.Placing.{are_of_one_probe, repeats};
 ghost use Rattle.std.specs.List.{list_any};
 
 use crate::fault::FaultKind;
+use lists::Sequence;
 use manifest::{Outcome, PodSpec, ProbeKind};
 use observations::Usage;
 use roster::Roster;
-use lists::Sequence;
 use std::alloc::Global;
 use tick_lines::{Entry, ListedInstance, Listing, ProbeResult};
 

@@ -16,9 +16,9 @@ use crate::placing::pod_numbered;
 use crate::slots::{no_pods, note_pod, with_others};
 use json_fields::{TapeItems, TapeValue};
 use json_lines::{LineBuffers, tape_moment, tick_tape};
+use lists::Sequence;
 use observations::{ContainerObs, PodObs, TickObs};
 use roster::Roster;
-use lists::Sequence;
 use std::alloc::{AllocError, Global};
 use tick_lines::{entry_text, line_text};
 

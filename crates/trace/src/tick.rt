@@ -25,10 +25,11 @@ use crate::placing::{
 };
 use crate::trace_so_far::TraceSoFar;
 use json_lines::TickRecord;
+use lists::Sequence;
 use manifest::{ContainerSpec, Outcome, PodSpec, ProbeKind};
 use observations::{ContainerObs, MOST_TICKS, PodObs, TickObs, Usage};
+use quantity::END_OF_TIME;
 use roster::Roster;
-use lists::Sequence;
 use state_diff::{CriState, Seen};
 use std::alloc::{AllocError, Global};
 use tick_lines::{ListedInstance, TickLine, TickLineFault};
@@ -39,7 +40,7 @@ fn moment_from(ticks: &[TickObs], written: Option<u64>) -> Result<u64, FaultKind
     let Some(at) = written else {
         return Err(FaultKind::Moment);
     };
-    if at >= 1 << 40 {
+    if at >= END_OF_TIME {
         return Err(FaultKind::Moment);
     }
     match ticks.last() {

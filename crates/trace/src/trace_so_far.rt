@@ -1,11 +1,11 @@
 //! What the lines so far say.
 
 use following::ListingOrder;
+use lists::Sequence;
 use manifest::PodSpec;
 use node_config::{Format, NodeConfig, Version};
 use observations::TickObs;
 use roster::Roster;
-use lists::Sequence;
 use std::marker::Model;
 
 /// The kinds of line.

@@ -116,7 +116,8 @@ order_fails past line d at written placed kind is e =
       | inr later ↦ code_fails past line d at written placed kind (record { is_apart = is; forwards = later.0 }) later.1
     ]
 
-observed_fails : (past : TraceSoFar) (line : List ℕ) (d : Data) (at : ℕ) (written : TickLine) (placed : List PlacedEntry)
+observed_fails : (past : TraceSoFar) (line : List ℕ) (d : Data) (at : ℕ) (written : TickLine)
+    (placed : List PlacedEntry)
     (kind : FaultKind) → HasPlaces past line d at written placed → observed_in past at written placed ≡ Err kind
     → Fails past line kind
 unfolding observed_in
@@ -221,7 +222,8 @@ named_fails : (past : TraceSoFar) (line : List ℕ) (d : Data) (named : Option �
     → Stands past line kinds.Gone d → named_in past.roll (text_at (codes "pod") d) ≡ named
     → gone_named past named ≡ Err kind → Fails past line kind
 named_fails past line d None kind is none e =
-    subst (λ (k : FaultKind). Fails past line k) (same_fault {A = TraceSoFar} StrangerPod kind e) (nobody_gone d is none)
+    subst (λ (k : FaultKind). Fails past line k) (same_fault {A = TraceSoFar} StrangerPod kind e)
+    (nobody_gone d is none)
 named_fails past line d (Some number) kind is named e = absurd (no_fault (without past number) kind e)
 
 gone_fails : (past : TraceSoFar) (line : List ℕ) (d : Data) (kind : FaultKind) → Stands past line kinds.Gone d
@@ -260,7 +262,8 @@ kind_fails : (past : TraceSoFar) (line : List ℕ) (d : Data) (found : Option Li
     → kind_from (version_in past) (text_at (codes "kind") d) ≡ found → with_kind past d found ≡ Err kind
     → Fails past line kind
 kind_fails past line d None kind is found e =
-    subst (λ (k : FaultKind). Fails past line k) (same_fault {A = TraceSoFar} UnknownKind kind e) (unknown_kind d is found)
+    subst (λ (k : FaultKind). Fails past line k) (same_fault {A = TraceSoFar} UnknownKind kind e)
+    (unknown_kind d is found)
 kind_fails past line d (Some line_kind) kind is found e =
     place_fails (version_in past) past line line_kind d kind refl (record { json = is; kind = found }) e
 
@@ -272,7 +275,8 @@ json_fails past line kind short e = elim (bind_err (json_of line) (with_json pas
       (record { short = short; json = later.1 }) refl later.2
 ]
 
-pub line_fails : (past : TraceSoFar) (line : List ℕ) (kind : FaultKind) → line_at past line ≡ Err kind → Fails past line kind
+pub line_fails : (past : TraceSoFar) (line : List ℕ) (kind : FaultKind) → line_at past line ≡ Err kind
+    → Fails past line kind
 line_fails past line kind e =
     elim (tested (nat_lt longest_line (length line)) TooLong (λ u. json_of line >>= with_json past) kind
     (sym (line_whole past line) ∙ e)) [
@@ -301,7 +305,8 @@ pub of_kind : (past : TraceSoFar) (line : List ℕ) (line_kind : LineKind) (d : 
 of_kind past line line_kind d is =
     of_json past line d is.json ∙ ap (λ (found : Option LineKind). with_kind past d found) is.kind
 
-misplaced_kind : (found : Option Version) (past : TraceSoFar) (line_kind : LineKind) (d : Data) → version_in past ≡ found
+misplaced_kind : (found : Option Version) (past : TraceSoFar) (line_kind : LineKind) (d : Data)
+    → version_in past ≡ found
     → (MayStand past line_kind → ⊥) → in_order found past line_kind d ≡ Err Order
 misplaced_kind None past kinds.Node d none never = absurd (never (no_node past.node none))
 misplaced_kind None past kinds.Pod d none never = refl
@@ -369,7 +374,8 @@ of_tick : (past : TraceSoFar) (line : List ℕ) (d : Data) → Stands past line 
 of_tick past line d is = of_kind past line kinds.Tick d is.of_kind ∙ tick_in_order past.node past d is.here
     ∙ tick_whole past d
 
-of_room : (past : TraceSoFar) (line : List ℕ) (d : Data) → Stands past line kinds.Tick d → length past.ticks < most_ticks
+of_room : (past : TraceSoFar) (line : List ℕ) (d : Data) → Stands past line kinds.Tick d
+    → length past.ticks < most_ticks
     → line_at past line ≡ with_room past d tt
 of_room past line d is room = of_tick past line d is
     ∙ passed (nat_le most_ticks (length past.ticks)) TooMany (with_room past d)
@@ -413,7 +419,8 @@ of_forwards past line d at written placed kind is e =
     (passed (is_backwards past.ticks (observed at written placed past.roll)) Backwards
     (with_forwards past at written placed) is.forwards ∙ e)
 
-fails_line : (past : TraceSoFar) (line : List ℕ) (kind : FaultKind) → Fails past line kind → line_at past line ≡ Err kind
+fails_line : (past : TraceSoFar) (line : List ℕ) (kind : FaultKind) → Fails past line kind
+    → line_at past line ≡ Err kind
 fails_line past line _ (too_long long) = of_long past line long
 fails_line past line _ (not_json kind short e) =
     of_short past line short ∙ then_err (json_of line) (with_json past) kind e

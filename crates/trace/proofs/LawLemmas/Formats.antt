@@ -81,7 +81,8 @@ is_forwards : (past : TraceSoFar) (line : List ℕ) (d : Data) (at : ℕ) (writt
 is_forwards past line d at written placed is =
     record { is_apart = is_apart past line d at written placed is.is_apart; forwards = is.forwards }
 
-says : (past : TraceSoFar) (line : List ℕ) (next : TraceSoFar) → Says past line next → Says (extended past) line (extended next)
+says : (past : TraceSoFar) (line : List ℕ) (next : TraceSoFar) → Says past line next
+    → Says (extended past) line (extended next)
 says past line _ (says_node d node is e) =
     says_node d node (stands past line kinds.Node d is) (node_extended past.format d node e)
 says past line _ (says_pod d pod is new) = says_pod d pod (has_pod past line d pod is) new

@@ -80,7 +80,8 @@ tick_says past line d next is e =
     (subst (λ (t : TickObs). Says past line (with_tick past t)) {x = observed at.0 written.0 placed.0 past.roll} {y =
     tick.0} is_tick says)
 
-pod_says : (version : Version) (past : TraceSoFar) (line : List ℕ) (d : Data) (next : TraceSoFar) → version_in past ≡ Some version
+pod_says : (version : Version) (past : TraceSoFar) (line : List ℕ) (d : Data) (next : TraceSoFar)
+    → version_in past ≡ Some version
     → IsOfKind past line kinds.Pod d → pod_line_at version past d ≡ Ok next → Says past line next
 pod_says version past line d next some is e =
     let before = cleared (is_late version past.ticks) Order (pod_early past d) next
@@ -106,7 +107,8 @@ node_says past line d next is e =
     let is_next : said node.0 ≡ next = same_value {E = FaultKind} (said node.0) next node.2 in
     subst (λ (p : TraceSoFar). Says past line p) {x = said node.0} is_next (says_node d node.0 is node.1)
 
-named_says : (past : TraceSoFar) (line : List ℕ) (d : Data) (named : Option ℕ) (next : TraceSoFar) → Stands past line kinds.Gone d
+named_says : (past : TraceSoFar) (line : List ℕ) (d : Data) (named : Option ℕ) (next : TraceSoFar)
+    → Stands past line kinds.Gone d
     → named_in past.roll (text_at (codes "pod") d) ≡ named → gone_named past named ≡ Ok next → Says past line next
 named_says past line d None next is named e = absurd (no_fault next StrangerPod (sym e))
 named_says past line d (Some number) next is named e =
@@ -118,7 +120,8 @@ gone_says : (past : TraceSoFar) (line : List ℕ) (d : Data) (next : TraceSoFar)
 gone_says past line d next is e =
     named_says past line d (named_in past.roll (text_at (codes "pod") d)) next is refl (sym (gone_whole past d) ∙ e)
 
-place_says : (found : Option Version) (past : TraceSoFar) (line : List ℕ) (line_kind : LineKind) (d : Data) (next : TraceSoFar)
+place_says : (found : Option Version) (past : TraceSoFar) (line : List ℕ) (line_kind : LineKind) (d : Data)
+    (next : TraceSoFar)
     → version_in past ≡ found → IsOfKind past line line_kind d → in_order found past line_kind d ≡ Ok next
     → Says past line next
 place_says None past line kinds.Node d next none is e =
@@ -140,7 +143,8 @@ kind_says past line d None next is found e = absurd (no_fault next UnknownKind (
 kind_says past line d (Some line_kind) next is found e =
     place_says (version_in past) past line line_kind d next refl (record { json = is; kind = found }) e
 
-line_says_it : (past : TraceSoFar) (line : List ℕ) (next : TraceSoFar) → line_at past line ≡ Ok next → Says past line next
+line_says_it : (past : TraceSoFar) (line : List ℕ) (next : TraceSoFar) → line_at past line ≡ Ok next
+    → Says past line next
 line_says_it past line next e =
     let short = cleared (nat_lt longest_line (length line)) TooLong (λ u. json_of line >>= with_json past) next
     (sym (line_whole past line) ∙ e) in

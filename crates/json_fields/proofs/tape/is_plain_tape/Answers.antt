@@ -8,5 +8,6 @@ pub returns-clause-plain : goal.returns-clause-plain
 returns-clause-plain c _ j spelled =
     let end : length c.nodes-nodes.result.now ≤ c.loop-node.node-index = search rules in
     let none : drop c.loop-node.node-index c.nodes-nodes.result.now ≡ [] = drop_all _ _ end in
-    let fit : fits deepest c.args.tape.now ≡ true = rw (← c.nodes-nodes.ensures.tokens) (sym (rw none at c.loop-node.invariant)) in
+    let fit : fits deepest c.args.tape.now ≡ true = rw (← c.nodes-nodes.ensures.tokens) (sym
+    (rw none at c.loop-node.invariant)) in
     fits_plain j c.args.tape.now fit spelled

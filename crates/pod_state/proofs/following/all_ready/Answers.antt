@@ -1,7 +1,7 @@
 use Rattle.std.proofs.Common.{◌≡◌, ℕ, ◌<◌, length, slice_index_or, inl, inr, sym, subst, arith}
 use Rattle.std.proofs.lemmas.Bool.{cases_lt, iff_false}
 use Rattle.histories.proofs.Lists.{some_item}
-use Rattle.pod_state.specs.Pods.{Serves, IsReady}
+use Rattle.pod_state.specs.Pods.{Serves, IsReadyInPod}
 use Rattle.pod_state.specs.Containers.{IsContainerOf}
 use Rattle.pod_state.proofs.ContainerLemmas.{item_at, serving_ready, serving_within}
 use Rattle.pod_state.proofs.following.all_ready.Goals as goal
@@ -27,7 +27,7 @@ loop-container-preserved c = λ k e lt pod max_restart_delay h of serves.
           let x = c.container-item.result in
           let P : ℕ
           → Type 0 = λ i. IsContainerOf pod max_restart_delay h i (slice_index_or c.args.containers.now i e) in
-          let Q : ℕ → Type 0 = λ i. IsReady pod h i in
+          let Q : ℕ → Type 0 = λ i. IsReadyInPod pod h i in
           let S : ℕ → Type 0 = λ i. Serves pod i in
           let at : IsContainerOf pod max_restart_delay h n x =
           item_at pod max_restart_delay h n c.args.containers.now x e

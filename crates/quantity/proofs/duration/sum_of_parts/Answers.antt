@@ -13,8 +13,8 @@ returns-in_err-sum c =
     rw (p.1, p.2) (sym (sym c.loop-rest.invariant.0 ∙ sum_refused c.loop-rest.sum c.in_err-sum.field-0.0
     c.loop-rest.rest.now some is))
 
-pub returns-then-sum-ge-LIMIT : goal.returns-then-sum-ge-LIMIT
-returns-then-sum-ge-LIMIT c =
+pub returns-then-sum-ge-END_OF_TIME : goal.returns-then-sum-ge-END_OF_TIME
+returns-then-sum-ge-END_OF_TIME c =
     let some : 0 < length c.loop-rest.rest.now = omega (arith, c.in_ok-sum.ensures.unit) in
     let is : piece_seconds c.loop-rest.rest.now ≡ Ok c.in_ok-sum.field-0 = search rules in
     let large : 2 ^ 40 ≤ c.loop-rest.sum + c.in_ok-sum.field-0 = omega arith in
