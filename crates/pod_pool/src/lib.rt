@@ -8,4 +8,4 @@ mod run;
 
 pub use fault::PoolFault;
 pub use pool::update_all;
-pub use pool_harvest::{Gate, NoGate, update};
+pub use pool_worker::{Gate, NoGate, update};

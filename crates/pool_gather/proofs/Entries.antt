@@ -15,8 +15,8 @@ use Rattle.event_book.specs.Shares.{Part, part}
 use Rattle.event_book.proofs.Numbers.{totals_same}
 use Rattle.piece_deques.proofs.Lists.{sum_map}
 use Rattle.piece_deques.specs.Rule.{AreNumbered}
-use Rattle.pool_harvest.specs.Done.{HaveEntries, AreSumsOf}
-use Rattle.pool_harvest.proofs.Sums.{sums_permuted}
+use Rattle.pool_worker.specs.Done.{HaveEntries, AreSumsOf}
+use Rattle.pool_worker.proofs.Sums.{sums_permuted}
 use Rattle.pool_gather.specs.Order.{AreAdded}
 
 pub no_entries : (pieces : List Piece) → pieces ≡ [] → AreEntriesOf pieces []

@@ -10,8 +10,8 @@ use Rattle.crossbeam_deque.specs.Handles.{worker_view}
 use Rattle.crossbeam_deque.proofs.Lists.{at_last, at_longer, at_map}
 use Rattle.pod_piece.specs.Piece.{Piece}
 use Rattle.piece_deques.proofs.Lists.{ones, sum_map}
-use Rattle.pool_harvest.specs.declared.handle.StealHandle.{StealHandle}
-use Rattle.pool_harvest.specs.Done.{weigh}
+use Rattle.pool_worker.specs.declared.handle.StealHandle.{StealHandle}
+use Rattle.pool_worker.specs.Done.{weigh}
 use Rattle.pool_worker.specs.Seats.{Place, seat_place, places_len, places_weigh, pushed_to}
 use Rattle.pool_gather.specs.declared.finished_worker.FinishedWorker.{FinishedWorker}
 use Rattle.pool_gather.specs.FinishedWorkers.{StandAt, finished_pushed, finished_taken}

@@ -5,8 +5,8 @@ use mathlib.Core.Option.{some}
 use lib.ListN.{get_elem?}
 use Rattle.crossbeam_deque.specs.Handles.{worker_view}
 use Rattle.piece_deques.specs.Rule.{all_parts}
-use Rattle.pool_harvest.specs.declared.handle.StealHandle.{StealHandle}
-use Rattle.pool_harvest.specs.WorkerResults.{kept}
+use Rattle.pool_worker.specs.declared.handle.StealHandle.{StealHandle}
+use Rattle.pool_worker.specs.WorkerResults.{kept}
 use Rattle.pool_worker.specs.Seats.{Place, seat_place, owner_place}
 use Rattle.pool_gather.specs.declared.finished_worker.FinishedWorker.{FinishedWorker}
 

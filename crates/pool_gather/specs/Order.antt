@@ -3,7 +3,7 @@ use Rattle.std.specs.Prelude.{◌≡◌, List}
 use Rattle.pod_piece.specs.Piece.{Piece}
 use Rattle.event_book.specs.declared.totals.Totals.{Totals}
 use Rattle.event_book.specs.Totals.{plus}
-use Rattle.pool_harvest.specs.Done.{AreSumsOf}
+use Rattle.pool_worker.specs.Done.{AreSumsOf}
 
 -- the entries of these pieces were added
 pub record AreAdded (pieces : List Piece) (old new : Totals) : Type 0 where

@@ -7,7 +7,7 @@ ghost use Rattle.pool_gather.specs.FinishedWorkers.{finished_place, finished_par
 
 use crate::finished_worker::FinishedWorker;
 use piece_deques::Deal;
-use pool_harvest::StealHandle;
+use pool_worker::StealHandle;
 use std::sync::ledger::Ledger;
 
 /// Takes the seats of one row back.

@@ -11,8 +11,7 @@ ghost use Rattle.pool_gather.specs.FinishedWorkers.{finished_place, finished_kep
 use crate::finished_worker::FinishedWorker;
 use piece_deques::Deal;
 use pod_piece::PodPiece;
-use pool_harvest::StealHandle;
-use pool_worker::WorkerContext;
+use pool_worker::{StealHandle, WorkerContext};
 use std::sync::ledger::Ledger;
 
 /// Parts the seats from the rest. An `Err` is the piece whose update was refused.

@@ -8,13 +8,13 @@ ghost use Rattle.event_book.specs.Totals.{AreEntriesOf, plus, sums_of};
 ghost use Rattle.event_book.specs.Shares.{most_parts, part};
 ghost use Rattle.event_book.specs.Limits.{AreLow};
 ghost use Rattle.piece_deques.specs.Rule.{AreNumbered};
-ghost use Rattle.pool_harvest.specs.Done.{weigh};
-ghost use Rattle.pool_harvest.specs.WorkerResults.{kept};
+ghost use Rattle.pool_worker.specs.Done.{weigh};
+ghost use Rattle.pool_worker.specs.WorkerResults.{kept};
 
 use event_book::{Entry, EventBook, Shares};
 use piece_deques::Deal;
 use pod_piece::PodPiece;
-use pool_harvest::{WorkerResult, in_order};
+use pool_worker::{WorkerResult, in_order};
 use std::sync::ledger::Ledger;
 use std::sync::{Mutex, Wait};
 

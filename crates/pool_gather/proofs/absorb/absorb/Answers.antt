@@ -5,7 +5,7 @@ use Rattle.std.proofs.lemmas.List.Sums.{sum_by_push, sum_by-append}
 use mathlib.Core.Option.{some-injective}
 use Rattle.crossbeam_deque.specs.Handles.{view, worker_deque, worker_view}
 use Rattle.piece_deques.proofs.Lists.{map_here, map_set, place_within, sum_set}
-use Rattle.pool_harvest.specs.declared.handle.StealHandle.{StealHandle}
+use Rattle.pool_worker.specs.declared.handle.StealHandle.{StealHandle}
 use Rattle.pool_worker.specs.Seats.{Place, seat_place, taken_by}
 use Rattle.pool_worker.proofs.Room.{place_same}
 use Rattle.pool_gather.specs.FinishedWorkers.{finished_place, finished_parts, finished_taken}

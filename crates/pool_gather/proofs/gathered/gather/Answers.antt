@@ -3,7 +3,7 @@ use Rattle.std.specs.List.{sum_by}
 use Rattle.std.proofs.lemmas.List.{length-map}
 use Rattle.std.proofs.lemmas.List.Elements.{All-weaker}
 use Rattle.piece_deques.proofs.Lists.{all_by, all_full, all_less, ones, sum_map, sum_same}
-use Rattle.pool_harvest.specs.WorkerResults.{kept}
+use Rattle.pool_worker.specs.WorkerResults.{kept}
 use Rattle.pool_worker.specs.Seats.{Place, places_len, places_weigh}
 use Rattle.pool_worker.specs.Contexts.{context_place}
 use Rattle.pool_worker.proofs.Laid.{are_laid, laid_pushed}

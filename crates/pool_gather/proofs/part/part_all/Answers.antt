@@ -6,7 +6,7 @@ use Rattle.piece_deques.specs.declared.rule.Tally.{Tally}
 use Rattle.piece_deques.proofs.Lists.{front, last, grown, moved, none_all, sum_grown, to_move}
 use Rattle.pool_worker.specs.Seats.{seat_place, owner_place, places_len, taken_by}
 use Rattle.pool_worker.specs.Contexts.{context_place, context_tag, IsLaid}
-use Rattle.pool_harvest.specs.WorkerResults.{kept}
+use Rattle.pool_worker.specs.WorkerResults.{kept}
 use Rattle.pool_gather.specs.FinishedWorkers.{finished_place, finished_parts, finished_kept, finished_taken, IsAway}
 use Rattle.pool_gather.specs.FinishedWorkers.{IsRow}
 use Rattle.pool_gather.proofs.FinishedWorkers.{row_pushed}

@@ -4,9 +4,9 @@ use Rattle.pod_piece.specs.Piece.{Piece}
 use Rattle.event_book.specs.Totals.{AreEntriesOf, plus}
 use Rattle.event_book.specs.Shares.{one_update}
 use Rattle.piece_deques.proofs.Lists.{front, last, grown, ones}
-use Rattle.pool_harvest.specs.Done.{IsDone, weigh}
-use Rattle.pool_harvest.proofs.Numbers.{weigh_more}
-use Rattle.pool_harvest.proofs.Sums.{plus_assoc, sums_more}
+use Rattle.pool_worker.specs.Done.{IsDone, weigh}
+use Rattle.pool_worker.proofs.Numbers.{weigh_more}
+use Rattle.pool_worker.proofs.Sums.{plus_assoc, sums_more}
 use Rattle.pool_gather.proofs.Entries.{settled}
 use Rattle.pool_gather.proofs.settle.settle.Goals as goal
 

@@ -1,6 +1,6 @@
 use Rattle.std.proofs.Common.{◌≡◌, ◌+◌, ◌≤◌, ℕ, All, length, vec_len, vec_capacity}
 use Rattle.event_book.specs.Shares.{most_parts}
-use Rattle.pool_harvest.specs.Done.{IsDone, weigh}
+use Rattle.pool_worker.specs.Done.{IsDone, weigh}
 use Rattle.pool_gather.specs.Order.{AreAdded}
 use Rattle.pool_gather.proofs.settle.settle.Given as goal
 

@@ -13,7 +13,7 @@ use Rattle.histories.proofs.Lists.{same_places}
 use Rattle.pod_piece.specs.Piece.{Piece, updated}
 use Rattle.piece_deques.specs.Rule.{number_of, AreNumbered}
 use Rattle.piece_deques.proofs.Lists.{ones, sum_map}
-use Rattle.pool_harvest.specs.Done.{IsDone, weigh}
+use Rattle.pool_worker.specs.Done.{IsDone, weigh}
 
 -- Numbers
 

@@ -2,7 +2,7 @@ use Rattle.std.proofs.Common.{All, Option, arith, subst}
 use Rattle.std.specs.Option.{option_to_list}
 use Rattle.pod_piece.specs.Piece.{Piece}
 use Rattle.piece_deques.specs.Rule.{IsPieceDue}
-use Rattle.pool_harvest.proofs.worker_result.WorkerResult.complete.Goals as goal
+use Rattle.pool_worker.proofs.worker_result.WorkerResult.complete.Goals as goal
 
 pub returns-clause-err : goal.returns-clause-err
 returns-clause-err g c =

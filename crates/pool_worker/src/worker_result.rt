@@ -3,7 +3,7 @@
 ghost use Rattle.std.specs.Prelude.{◌<◌, All};
 ghost use Rattle.std.specs.Option.{option_to_list};
 ghost use Rattle.piece_deques.specs.Rule.{IsPieceDue};
-ghost use Rattle.pool_harvest.specs.Done.{IsDone, AreSumsOf};
+ghost use Rattle.pool_worker.specs.Done.{IsDone, AreSumsOf};
 
 use event_book::Shares;
 use piece_deques::Deal;

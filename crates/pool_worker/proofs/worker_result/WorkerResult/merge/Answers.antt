@@ -1,9 +1,9 @@
 use Rattle.std.proofs.Common.{All, ◌++◌, sym, subst, ap, arith}
 use Rattle.std.proofs.lemmas.List.Elements.{All-append}
-use Rattle.pool_harvest.specs.Done.{IsDone}
-use Rattle.pool_harvest.proofs.Numbers.{all_either}
-use Rattle.pool_harvest.proofs.Sums.{sums_both}
-use Rattle.pool_harvest.proofs.worker_result.WorkerResult.merge.Goals as goal
+use Rattle.pool_worker.specs.Done.{IsDone}
+use Rattle.pool_worker.proofs.Numbers.{all_either}
+use Rattle.pool_worker.proofs.Sums.{sums_both}
+use Rattle.pool_worker.proofs.worker_result.WorkerResult.merge.Goals as goal
 
 pub invariant_of-self-clause-right : goal.invariant_of-self-clause-right
 invariant_of-self-clause-right g c =

@@ -1,8 +1,8 @@
 use Rattle.std.proofs.Common.{rules}
 use Rattle.std.proofs.lemmas.List.Sorted.{IsNonDecreasingBy-from_sort_by_key}
 use Rattle.piece_deques.specs.Rule.{number_of}
-use Rattle.pool_harvest.proofs.InOrder.{placed_sorted}
-use Rattle.pool_harvest.proofs.order.in_order.Goals as goal
+use Rattle.pool_worker.proofs.InOrder.{placed_sorted}
+use Rattle.pool_worker.proofs.order.in_order.Goals as goal
 
 pub returns-clause-placed : goal.returns-clause-placed
 returns-clause-placed g c =

@@ -1,9 +1,9 @@
 use Rattle.std.proofs.Common.{ap}
 use Rattle.piece_deques.proofs.Lists.{grown}
-use Rattle.pool_harvest.specs.Done.{IsDone}
-use Rattle.pool_harvest.proofs.Numbers.{when_ok}
-use Rattle.pool_harvest.proofs.Sums.{sums_more}
-use Rattle.pool_harvest.proofs.worker_result.WorkerResult.keep.Goals as goal
+use Rattle.pool_worker.specs.Done.{IsDone}
+use Rattle.pool_worker.proofs.Numbers.{when_ok}
+use Rattle.pool_worker.proofs.Sums.{sums_more}
+use Rattle.pool_worker.proofs.worker_result.WorkerResult.keep.Goals as goal
 
 pub invariant_of-self-clause-right : goal.invariant_of-self-clause-right
 invariant_of-self-clause-right g c =

@@ -6,7 +6,7 @@ use Rattle.std.proofs.lemmas.Option.{slice_get-map}
 use Rattle.pod_piece.specs.Piece.{Piece, updated}
 use Rattle.piece_deques.specs.Rule.{IsPieceDue}
 use Rattle.piece_deques.proofs.Lists.{sum_grown}
-use Rattle.pool_harvest.specs.Done.{IsDone, weigh}
+use Rattle.pool_worker.specs.Done.{IsDone, weigh}
 
 -- a piece that was due is done once it is updated
 pub done_once : (all : List Piece) (piece new : Piece) → IsPieceDue all piece → new ≡ updated piece → IsDone all new

@@ -14,7 +14,7 @@ use Rattle.event_book.specs.Limits.{IsLow}
 use Rattle.event_book.proofs.Low.{one_entry}
 use Rattle.event_book.proofs.Numbers.{totals_same}
 use Rattle.piece_deques.proofs.Lists.{all_left, all_right, ones}
-use Rattle.pool_harvest.specs.Done.{HaveEntries, AreSumsOf}
+use Rattle.pool_worker.specs.Done.{HaveEntries, AreSumsOf}
 
 -- Sums
 

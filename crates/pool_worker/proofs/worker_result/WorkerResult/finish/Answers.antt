@@ -1,5 +1,5 @@
-use Rattle.pool_harvest.proofs.Numbers.{done_once, on_ok}
-use Rattle.pool_harvest.proofs.worker_result.WorkerResult.finish.Goals as goal
+use Rattle.pool_worker.proofs.Numbers.{done_once, on_ok}
+use Rattle.pool_worker.proofs.worker_result.WorkerResult.finish.Goals as goal
 
 pub keep-requires-clause-ok : goal.keep-requires-clause-ok
 keep-requires-clause-ok g c =

@@ -5,8 +5,8 @@ ghost use Rattle.std.specs.Prelude.{IfOk, IfErr, OnOk, OnErr, is_ok, if◌then�
 ghost use Rattle.event_book.specs.Totals.{nothing, plus};
 ghost use Rattle.event_book.specs.Shares.{part, one_update};
 ghost use Rattle.piece_deques.specs.Rule.{IsPieceDue};
-ghost use Rattle.pool_harvest.specs.Done.{IsDone};
-ghost use Rattle.pool_harvest.specs.WorkerResults.{kept};
+ghost use Rattle.pool_worker.specs.Done.{IsDone};
+ghost use Rattle.pool_worker.specs.WorkerResults.{kept};
 
 use crate::gate::{Gate, update};
 use crate::worker_result::WorkerResult;
@@ -120,7 +120,7 @@ impl<D: Deal, U: Ledger, E: Ledger, O: Ledger> WorkerResult<D, U, E, O> {
         self.keep(rt, book, piece, updated)
     }
 
-    /// The same harvest, or the piece whose update was refused.
+    /// The same result, or the piece whose update was refused.
     pub fn complete(self) -> Result<WorkerResult<D, U, E, O>, PodPiece>
         ensures ok { IfOk result (λ worker_result. worker_result ≡ self) }
         ensures none { IfOk result (λ worker_result. worker_result.refused ≡ None) }

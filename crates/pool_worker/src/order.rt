@@ -3,7 +3,7 @@
 ghost use Rattle.std.specs.Prelude.{◌≡◌, ℕ, All, IsPermutation, map};
 ghost use Rattle.pod_piece.specs.Piece.{updated};
 ghost use Rattle.piece_deques.specs.Rule.{AreNumbered};
-ghost use Rattle.pool_harvest.specs.Done.{IsDone, weigh};
+ghost use Rattle.pool_worker.specs.Done.{IsDone, weigh};
 
 use piece_deques::{Deal, number_of};
 use pod_piece::PodPiece;
