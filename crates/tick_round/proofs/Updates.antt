@@ -16,7 +16,7 @@ use Rattle.event_book.specs.Totals.{IsEntryOf, sums_of, plus}
 use Rattle.event_book.specs.Shares.{one_update, AreWithin}
 use Rattle.event_book.specs.Limits.{IsLow}
 use Rattle.node_pods.proofs.Candidates.{same_piece}
-use Rattle.tick_parts.specs.Update.{AreUpTo, MayUpdate, AreEntered, UpdatesAt}
+use Rattle.tick_round.specs.Update.{AreUpTo, MayUpdate, AreEntered, UpdatesAt}
 
 abbrev totals : ℕ → ℕ → ℕ → Totals
 totals updates events orders = record { updates = updates; events = events; orders = orders }

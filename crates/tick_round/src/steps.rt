@@ -3,8 +3,8 @@
 ghost use Rattle.std.specs.Prelude.{◌≡◌, ◌<◌, ◌≤◌, length, map, IfOk};
 ghost use Rattle.pod_piece.specs.Piece.{updated};
 ghost use Rattle.event_book.specs.Limits.{most_workers};
-ghost use Rattle.tick_parts.specs.Played.{AreFinished};
-ghost use Rattle.tick_parts.specs.Update.{MayUpdate, AreEntered};
+ghost use Rattle.tick_round.specs.Played.{AreFinished};
+ghost use Rattle.tick_round.specs.Update.{MayUpdate, AreEntered};
 
 use event_book::WholeBook;
 use played_round::{Played, update_played};

@@ -11,7 +11,7 @@ use Rattle.event_book.specs.Totals.{AreEntriesOf, sums_of, plus}
 use Rattle.piece_deques.specs.Rule.{AreNumbered}
 use Rattle.node_pods.specs.Pods.{handed_from}
 use Rattle.node_pods.proofs.Handed.{handed_at}
-use Rattle.tick_parts.specs.Update.{MayUpdate, AreEntered}
+use Rattle.tick_round.specs.Update.{MayUpdate, AreEntered}
 
 item_at : (pieces : List Piece) (n : ℕ) (d : Piece) → n < length pieces → slice_get pieces n ≡ Some (get_or pieces n d)
 item_at [] n d lt = absurd (omega arith)

@@ -4,7 +4,7 @@ ghost use Rattle.std.specs.Prelude.{◌≡◌, ◌<◌, ◌≤◌, map, IfOk};
 ghost use Rattle.pod_piece.specs.Piece.{updated};
 ghost use Rattle.event_book.specs.Limits.{most_workers};
 ghost use Rattle.piece_deques.specs.Rule.{AreNumbered};
-ghost use Rattle.tick_parts.specs.Update.{MayUpdate, AreEntered};
+ghost use Rattle.tick_round.specs.Update.{MayUpdate, AreEntered};
 
 use crate::alone::update_alone;
 use event_book::WholeBook;

@@ -3,7 +3,7 @@
 ghost use Rattle.std.specs.Prelude.{◌≡◌, ◌-◌, ◌<◌, ◌^◌, length, map, slice_get, Some};
 ghost use Rattle.std.specs.Prelude.{IsTrue, IfOk, OnOk};
 ghost use Rattle.pod_piece.specs.Piece.{Piece, updated};
-ghost use Rattle.tick_parts.specs.Update.{AreUpTo, MayUpdate, IsEntered, UpdatesAt, AreEntered};
+ghost use Rattle.tick_round.specs.Update.{AreUpTo, MayUpdate, IsEntered, UpdatesAt, AreEntered};
 
 use event_book::{Entry, WholeBook};
 use pod_piece::PodPiece;

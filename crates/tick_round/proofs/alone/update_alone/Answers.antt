@@ -1,6 +1,6 @@
 use Rattle.std.proofs.Common.{arith}
-use Rattle.tick_parts.proofs.Updates.{one_updated, all_updated, room_at}
-use Rattle.tick_parts.proofs.alone.update_alone.Goals as goal
+use Rattle.tick_round.proofs.Updates.{one_updated, all_updated, room_at}
+use Rattle.tick_round.proofs.alone.update_alone.Goals as goal
 
 pub update_at-requires-clause-room : goal.update_at-requires-clause-room
 update_at-requires-clause-room g c = λ lifetimes outlived.

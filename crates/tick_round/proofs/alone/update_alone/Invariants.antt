@@ -1,6 +1,6 @@
 use Rattle.std.proofs.Common.{◌≡◌, length}
-use Rattle.tick_parts.proofs.Updates.{AreUpdatedBelow}
-use Rattle.tick_parts.proofs.alone.update_alone.Given as goal
+use Rattle.tick_round.proofs.Updates.{AreUpdatedBelow}
+use Rattle.tick_round.proofs.alone.update_alone.Given as goal
 
 abbrev pub invariant-loop-number : goal.invariant-loop-number
 invariant-loop-number g l = record {

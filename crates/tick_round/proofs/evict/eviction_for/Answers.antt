@@ -1,7 +1,7 @@
 use Rattle.std.proofs.Common.{List, Some, subst}
 use Rattle.pod_piece.specs.Piece.{Piece}
-use Rattle.tick_parts.specs.Evict.{IsEvictionAt}
-use Rattle.tick_parts.proofs.evict.eviction_for.Goals as goal
+use Rattle.tick_round.specs.Evict.{IsEvictionAt}
+use Rattle.tick_round.proofs.evict.eviction_for.Goals as goal
 
 pub returns : goal.returns
 returns c =

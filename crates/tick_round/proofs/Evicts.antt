@@ -10,7 +10,7 @@ use Rattle.pod_piece.specs.Piece.{Piece, pods_in}
 use Rattle.ranking.specs.Order.{IsVictim}
 use Rattle.eviction.specs.Replay.{order_of}
 use Rattle.node_pods.specs.Pods.{IsCandidate}
-use Rattle.tick_parts.specs.Evict.{IsEvictionAt}
+use Rattle.tick_round.specs.Evict.{IsEvictionAt}
 
 -- the specification of a pod stands where its piece does
 pub get_pod : (pieces : List Piece) (n : ℕ) (piece : Piece) → slice_get pieces n ≡ Some piece
