@@ -1,8 +1,8 @@
 use Rattle.std.proofs.Common.{◌≡◌, [], length}
 use Rattle.node_config.specs.declared.node.NodeConfig.{NodeConfig}
 use Rattle.tick_round.specs.Node.{IsAfter}
-use Rattle.trace_replay.proofs.NodeLemmas.{IsSoFar}
-use Rattle.trace_replay.proofs.replayed.take_by_steps.Given as goal
+use Rattle.kubelet_replay.proofs.NodeLemmas.{IsSoFar}
+use Rattle.kubelet_replay.proofs.replayed.take_by_steps.Given as goal
 
 abbrev pub invariant-loop-tick : goal.invariant-loop-tick
 invariant-loop-tick g l = record {

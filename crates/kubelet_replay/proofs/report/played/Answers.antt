@@ -1,9 +1,9 @@
 use Rattle.std.proofs.Common.{List, sym, subst}
 use Rattle.manifest.specs.declared.pod.PodSpec.{PodSpec}
 use Rattle.observations.specs.declared.tick.TickObs.{TickObs}
-use Rattle.trace_replay.specs.Ticks.{AreReplayable}
-use Rattle.trace_replay.proofs.Replayable.{are_replayable}
-use Rattle.trace_replay.proofs.report.played.Goals as goal
+use Rattle.kubelet_replay.specs.Ticks.{AreReplayable}
+use Rattle.kubelet_replay.proofs.Replayable.{are_replayable}
+use Rattle.kubelet_replay.proofs.report.played.Goals as goal
 
 pub take_by_steps-taken-requires-clause-replayable : goal.take_by_steps-taken-requires-clause-replayable
 take_by_steps-taken-requires-clause-replayable g c =

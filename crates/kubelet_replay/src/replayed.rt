@@ -6,7 +6,7 @@ ghost use Rattle.node_config.specs.declared.node.NodeConfig.{NodeConfig};
 ghost use Rattle.observations.specs.declared.tick.TickObs.{TickObs};
 ghost use Rattle.event_book.specs.Limits.{most_workers};
 ghost use Rattle.tick_round.specs.Node.{IsAfter};
-ghost use Rattle.trace_replay.specs.Ticks.{AreReplayable, IsNew, MayArrive};
+ghost use Rattle.kubelet_replay.specs.Ticks.{AreReplayable, IsNew, MayArrive};
 
 use manifest::PodSpec;
 use node_config::NodeConfig;

@@ -1,4 +1,4 @@
-use Rattle.trace_replay.proofs.report.report_by_workers.Given as goal
+use Rattle.kubelet_replay.proofs.report.report_by_workers.Given as goal
 
 abbrev pub ghosts-shared-U-Ledger : goal.ghosts-shared-U-Ledger
 ghosts-shared-U-Ledger g a = record { name = a.blanks.updates.name; parts = a.blanks.updates.parts }

@@ -9,7 +9,7 @@ ghost use Rattle.event_book.specs.Shares.{most_parts};
 ghost use Rattle.event_book.specs.Limits.{most_workers};
 ghost use Rattle.tick_round.specs.Node.{IsAfter};
 ghost use Rattle.node_report.specs.Report.{IsReport};
-ghost use Rattle.trace_replay.specs.Report.{IsReportOf};
+ghost use Rattle.kubelet_replay.specs.Report.{IsReportOf};
 
 use crate::replayed::{take_by_steps, take_by_workers};
 use event_book::WholeBook;

@@ -1,7 +1,7 @@
 use Rattle.std.proofs.Common.{◌∙◌, arith}
-use Rattle.trace_replay.proofs.NodeLemmas.{none_arrived, arriving_more, all_arrived, as_many_arrived, none_left}
-use Rattle.trace_replay.proofs.NodeLemmas.{has_room}
-use Rattle.trace_replay.proofs.replayed.arrive.Goals as goal
+use Rattle.kubelet_replay.proofs.NodeLemmas.{none_arrived, arriving_more, all_arrived, as_many_arrived, none_left}
+use Rattle.kubelet_replay.proofs.NodeLemmas.{has_room}
+use Rattle.kubelet_replay.proofs.replayed.arrive.Goals as goal
 
 pub loop-init : goal.loop-init
 loop-init g c = none_arrived c.args.arriving.now.rest.items c.args.node.now

@@ -1,4 +1,4 @@
-use Rattle.trace_replay.proofs.report.report_of.Goals as goal
+use Rattle.kubelet_replay.proofs.report.report_of.Goals as goal
 
 pub returns : goal.returns
 returns g c = λ config pods ticks after.

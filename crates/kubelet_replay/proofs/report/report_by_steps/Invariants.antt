@@ -1,4 +1,4 @@
-use Rattle.trace_replay.proofs.report.report_by_steps.Given as goal
+use Rattle.kubelet_replay.proofs.report.report_by_steps.Given as goal
 
 abbrev pub ghosts-played-U-Ledger : goal.ghosts-played-U-Ledger
 ghosts-played-U-Ledger a = record { name = a.blanks.updates.name; parts = a.blanks.updates.parts }

@@ -19,7 +19,7 @@ use Rattle.containers.specs.Ticks.{listings}
 use Rattle.pod_state.specs.Pods.{PodEntry, PodTick, pod_tick, ticks_of, unseen}
 use Rattle.pod_piece.specs.Listings.{IsNextTick}
 use Rattle.eviction.specs.Replay.{pod_ticks}
-use Rattle.trace_replay.specs.Ticks.{AreReplayable}
+use Rattle.kubelet_replay.specs.Ticks.{AreReplayable}
 
 -- what a trace keeps lets every tick be handed on
 listed : (o : Option ContainerObs)

@@ -8,8 +8,8 @@ use Rattle.trace.proofs.InRange.{HaveProbesInRange as HaveNumbersInRange}
 use Rattle.event_list.specs.Laws.{ShowsKnownPods, HaveProbesInRange}
 use Rattle.node_report.proofs.Exists.{some_report}
 use Rattle.node_report.proofs.Unique.{one_report}
-use Rattle.trace_replay.specs.Report.{IsReportOf}
-use Rattle.trace_replay.proofs.Replayable.{are_replayable}
+use Rattle.kubelet_replay.specs.Report.{IsReportOf}
+use Rattle.kubelet_replay.proofs.Replayable.{are_replayable}
 
 -- a trace shows none but its pods
 known : (trace : Trace) → AreAcceptable trace.ticks → HasShape trace.pods trace.arrivals trace.departures trace.ticks

@@ -19,7 +19,7 @@ use Rattle.pod_piece.specs.Piece.{Piece}
 use Rattle.eviction.specs.Replay.{pod_ticks}
 use Rattle.tick_round.specs.Node.{State, HasTaken, Fits, IsAfter, MayTake, HasRoom, last_of}
 use Rattle.tick_round.proofs.Pieces.{pod_at}
-use Rattle.trace_replay.specs.Ticks.{AreReplayable, MayArrive}
+use Rattle.kubelet_replay.specs.Ticks.{AreReplayable, MayArrive}
 
 middle : {A : Type 0} (xs : List A) (x : A) (ys : List A) → slice_get (xs ++ x ∷ ys) (length xs) ≡ Some x
 middle [] x ys = refl
