@@ -3,7 +3,7 @@ use Rattle.std.proofs.Common.{Ok}
 use Rattle.trace.proofs.InRange.{probes_in_range}
 use Rattle.trace.proofs.Shape.{given_shape}
 use Rattle.trace.proofs.Sound.{given_acceptable}
-use Rattle.trace_replay.proofs.Reports.{some_report_of}
+use Rattle.kubelet_replay.proofs.Reports.{some_report_of}
 use Rattle.kubelet_replay.specs.Laws.{SomeReportOfText}
 
 pub some_report_of_text : SomeReportOfText

@@ -2,8 +2,8 @@
 use Rattle.std.proofs.Common.{◌≡◌, ◌∙◌, ℕ, List, Ok, sym, subst}
 use Rattle.node_config.specs.declared.node.Format.{Format}
 use Rattle.trace.specs.declared.trace_so_far.Trace.{Trace}
-use Rattle.trace_replay.specs.Report.{IsReportOf}
-use Rattle.trace_replay.proofs.Reports.{one_report_of}
+use Rattle.kubelet_replay.specs.Report.{IsReportOf}
+use Rattle.kubelet_replay.proofs.Reports.{one_report_of}
 use Rattle.kubelet_replay.specs.Run.{IsReportIn}
 use Rattle.kubelet_replay.specs.Laws.{OneReport}
 

@@ -12,7 +12,7 @@ use Rattle.trace.specs.declared.fault.FaultKind.TheVariants as kinds
 use Rattle.trace.specs.declared.fault.LineFault.{LineFault}
 use Rattle.trace.specs.Trace.{trace_of}
 use Rattle.event_list.specs.Text.{joined}
-use Rattle.trace_replay.specs.Report.{IsReportOf}
+use Rattle.kubelet_replay.specs.Report.{IsReportOf}
 use Rattle.kubelet_replay.specs.declared.fault.RunFault.{RunFault}
 use Rattle.kubelet_replay.specs.declared.fault.RunFault.TheVariants.{Read, TooLong, Line, OutOfMemory, Write}
 

@@ -9,12 +9,13 @@ ghost use Rattle.kubelet_replay.specs.Run.{TakesWithin};
 ghost use Rattle.kubelet_replay.specs.declared.fault.RunFault.TheVariants.{OutOfMemory};
 
 use crate::fault::RunFault;
+use crate::report::{report_by_steps, report_by_workers};
 use replay_stream::{ReadAllFault, Sink, Source, read_all, write_all};
 use std::alloc::{AllocError, Global};
 use std::sync::Wait;
 use std::thread::Threads;
+use tick_round::{Gate, Step};
 use trace::{FaultKind, Format, LineFault, Trace, read_trace, read_trace_by_workers};
-use trace_replay::{Gate, Step};
 
 /// The greatest length of an input: 64 MiB.
 const LONGEST_INPUT: usize = 67_108_864;
@@ -70,7 +71,7 @@ fn read_as(read: Result<Trace, LineFault>) -> Result<Trace, RunFault>
     }
 }
 
-fn report_by_steps(
+fn report_of_text_by_steps(
     alloc: Global,
     format: Format,
     text: &[u8],
@@ -83,13 +84,13 @@ fn report_by_steps(
     ensures err { IfErr result (RefusesText format text.now) }
 {
     let trace = read_as(read_trace(alloc, format, text))?;
-    match trace_replay::report_by_steps(alloc, trace, workers, steps) {
+    match report_by_steps(alloc, trace, workers, steps) {
         Ok(report) => Ok(report),
         Err(_) => Err(RunFault::OutOfMemory),
     }
 }
 
-fn report_by_workers<R: Threads + Wait + Sync, G: Gate>(
+fn report_of_text_by_workers<R: Threads + Wait + Sync, G: Gate>(
     rt: &R,
     alloc: Global,
     format: Format,
@@ -103,7 +104,7 @@ fn report_by_workers<R: Threads + Wait + Sync, G: Gate>(
     ensures err { IfErr result (RefusesText format text.now) }
 {
     let trace = read_as(read_trace_by_workers(rt, alloc, format, text, workers))?;
-    match trace_replay::report_by_workers(rt, alloc, trace, workers, gate) {
+    match report_by_workers(rt, alloc, trace, workers, gate) {
         Ok(report) => Ok(report),
         Err(_) => Err(RunFault::OutOfMemory),
     }
@@ -141,9 +142,9 @@ fn write_text<W: Sink>(output: &mut W, text: &str) -> Result<(), RunFault>
 
 /// Replays a trace and writes its report. So many workers, 1 to 64, update the pods of each tick in threads of their
 /// own and steal from each other: no more than there are pods and, where no update waits in the gate, no more than are
-/// worth their start. The gate is told of each update. From 64 KiB on they share the lines of the text as well, 1 MiB
-/// at a time. The report is that of the rules applied by one thread, pod after pod, whatever the workers and the
-/// threads do. It may wait for threads and for the lock of the book.
+/// worth their start. The gate is told of each update. They share the lines of the text as well, but for its first
+/// 64 KiB, in windows of at most 4 MiB. The report is that of the rules applied by one thread, pod after pod, whatever
+/// the workers and the threads do. It may wait for threads and for the lock of the book.
 ///
 /// The input is read to its end and the report is made whole before the first write. So nothing is
 /// written where the reader failed (`Read`), the input has more than 64 MiB (`TooLong`), the text
@@ -193,7 +194,7 @@ pub fn replay_in<H: AllocGlobal + Threads + Wait + Sync, R: Source, W: Sink, G: 
     ensures writes { W.failures output.new ≡ W.failures output.old + failed_writes result }
 {
     let text = read_text(rt.alloc(), input)?;
-    let report = report_by_workers(rt, rt.alloc(), format, &text, workers, gate)?;
+    let report = report_of_text_by_workers(rt, rt.alloc(), format, &text, workers, gate)?;
     write_text(output, report.as_str())
 }
 
@@ -242,7 +243,7 @@ pub fn replay_play_in<R: Source, W: Sink>(
     ensures writes { W.failures output.new ≡ W.failures output.old + failed_writes result }
 {
     let text = read_text(alloc, input)?;
-    let report = report_by_steps(alloc, format, &text, workers, steps)?;
+    let report = report_of_text_by_steps(alloc, format, &text, workers, steps)?;
     write_text(output, report.as_str())
 }
 

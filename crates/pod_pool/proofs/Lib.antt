@@ -1,2 +1,4 @@
+pub mod FinishedWorkers
+pub mod Entries
 pub mod Due
 pub mod Returned

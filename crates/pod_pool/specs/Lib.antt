@@ -1,1 +1,4 @@
+pub mod Order
+pub mod FinishedWorkers
+pub mod Rooms
 pub mod Faults

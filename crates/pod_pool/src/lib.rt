@@ -1,11 +1,20 @@
-//! A pool of workers that update the pieces of a round: each has a deque of its own, and steals from the others.
-//! What all of them keep is gathered in order.
+//! A pool of workers that update the pieces of a round: each has a deque of its own, and steals from the others. When
+//! they have ended the seats go back to their deques, what is left in these is finished, and what all of them keep is
+//! put together, in order.
 #![tactic(auto)]
 
+mod absorb;
+mod collect;
+mod drain;
 mod fault;
+mod finished_worker;
+mod gathered;
+mod part;
 mod pool;
 mod run;
+mod settle;
 
 pub use fault::PoolFault;
+pub use gathered::{ResultBuffers, gather};
 pub use pool::update_all;
-pub use pool_harvest::{Gate, NoGate, update};
+pub use pool_worker::{Gate, NoGate, update};

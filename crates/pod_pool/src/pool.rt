@@ -11,13 +11,12 @@ ghost use Rattle.piece_deques.specs.Rule.{AreNumbered};
 ghost use Rattle.pod_pool.specs.Faults.{GivesBack};
 
 use crate::fault::PoolFault;
+use crate::gathered::{ResultBuffers, gather};
 use crate::run::run;
 use event_book::{EventBook, Shares};
 use piece_deques::Deal;
 use pod_piece::PodPiece;
-use pool_gather::{ResultBuffers, gather};
-use pool_harvest::Gate;
-use pool_worker::{lay_out, make_buffers};
+use pool_worker::{Gate, lay_out, make_buffers};
 use std::alloc::Global;
 use std::marker::Brand;
 use std::sync::ledger::Ledger;

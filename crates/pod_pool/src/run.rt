@@ -5,8 +5,7 @@ ghost use Rattle.pool_worker.specs.Contexts.{context_tag, HasEmptied};
 
 use event_book::EventBook;
 use piece_deques::Deal;
-use pool_harvest::Gate;
-use pool_worker::WorkerContext;
+use pool_worker::{Gate, WorkerContext};
 use std::sync::ledger::Ledger;
 use std::sync::{Mutex, Wait};
 use std::thread;

@@ -5,7 +5,7 @@ use Rattle.std.proofs.lemmas.List.Elements.{All-map}
 use Rattle.pod_piece.specs.Piece.{Piece}
 use Rattle.piece_deques.proofs.Lists.{all_unmap, map_map}
 use Rattle.pool_worker.specs.declared.context.WorkerContext.{WorkerContext}
-use Rattle.pool_harvest.specs.Done.{weigh}
+use Rattle.pool_worker.specs.Done.{weigh}
 use Rattle.pool_worker.specs.Dealing.{dealt_to}
 use Rattle.pool_worker.specs.Seats.{Place, places_weigh}
 use Rattle.pool_worker.specs.Contexts.{Tag, context_place, context_tag, places_in, IsLaid, AreLaid}

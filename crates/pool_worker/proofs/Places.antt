@@ -15,7 +15,7 @@ use Rattle.piece_deques.specs.declared.rule.Tally.{Tally}
 use Rattle.piece_deques.specs.Ends.{pushed_weight}
 use Rattle.piece_deques.proofs.Lists.{drop_map_more, map_same, ones, sum_map, sum_same}
 use Rattle.piece_deques.proofs.Lists.{take_map_more}
-use Rattle.pool_harvest.specs.declared.handle.StealHandle.{StealHandle}
+use Rattle.pool_worker.specs.declared.handle.StealHandle.{StealHandle}
 use Rattle.pool_worker.specs.Seats.{Place, owner_place, seat_place, places_len, pushed_to}
 
 module _ {T P : Type 0} where

@@ -18,8 +18,8 @@ use Rattle.pod_piece.specs.Piece.{Piece}
 use Rattle.piece_deques.specs.declared.rule.Tally.{Tally}
 use Rattle.piece_deques.specs.Rule.{FoundEmpty}
 use Rattle.piece_deques.proofs.Lists.{map_set, ones, sum_set}
-use Rattle.pool_harvest.specs.declared.handle.StealHandle.{StealHandle}
-use Rattle.pool_harvest.specs.Done.{weigh}
+use Rattle.pool_worker.specs.declared.handle.StealHandle.{StealHandle}
+use Rattle.pool_worker.specs.Done.{weigh}
 use Rattle.pool_worker.specs.Seats.{Place, place, seat_place, owner_place, taken_by, pushed_to}
 use Rattle.pool_worker.specs.Seats.{IsUnused, FoundAllEmpty}
 use Rattle.pool_worker.specs.Contexts.{tag, tag_of}

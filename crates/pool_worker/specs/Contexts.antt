@@ -6,11 +6,11 @@ use Rattle.crossbeam_deque.specs.declared.handles.Worker.{Worker}
 use Rattle.pod_piece.specs.Piece.{Piece}
 use Rattle.piece_deques.specs.declared.rule.Tally.{Tally}
 use Rattle.piece_deques.specs.Rule.{all_parts, FoundEmpty}
-use Rattle.pool_harvest.specs.declared.handle.StealHandle.{StealHandle}
+use Rattle.pool_worker.specs.declared.handle.StealHandle.{StealHandle}
 use Rattle.pool_worker.specs.declared.context.WorkerContext.{WorkerContext}
 use Rattle.pool_worker.specs.Seats.{Place, seat_place, owner_place, places_weigh, FoundAllEmpty}
 use Rattle.pool_worker.specs.Dealing.{dealt_to}
-use Rattle.pool_harvest.specs.Done.{weigh}
+use Rattle.pool_worker.specs.Done.{weigh}
 
 -- the deque of the owner and what was pushed to it, the owner's parts, the deques of the seats, and the parts of the
 -- share

@@ -1,3 +1,5 @@
+pub mod Done
+pub mod WorkerResults
 pub mod Dealing
 pub mod Seats
 pub mod Contexts

@@ -11,7 +11,7 @@ use Rattle.crossbeam_deque.specs.declared.handles.Worker.{Worker}
 use Rattle.pod_piece.specs.Piece.{Piece}
 use Rattle.piece_deques.specs.declared.rule.Tally.{Tally}
 use Rattle.piece_deques.specs.Rule.{FoundEmpty}
-use Rattle.pool_harvest.specs.declared.handle.StealHandle.{StealHandle}
+use Rattle.pool_worker.specs.declared.handle.StealHandle.{StealHandle}
 
 -- which deque, and the numbers of the pieces that were pushed to it
 pub record Place : Type 0 where

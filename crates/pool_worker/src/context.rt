@@ -4,11 +4,12 @@ ghost use Rattle.std.specs.Prelude.{◌≡◌, ◌≤◌, ◌+◌, ℕ, length, 
 ghost use Rattle.std.specs.List.{sum_by};
 ghost use Rattle.crossbeam_deque.specs.Handles.{worker_view};
 ghost use Rattle.piece_deques.specs.Ends.{IsOwner};
-ghost use Rattle.pool_harvest.specs.WorkerResults.{kept};
+ghost use Rattle.pool_worker.specs.WorkerResults.{kept};
 ghost use Rattle.pool_worker.specs.Seats.{owner_place, pushed_to, taken_by, IsUnused};
 
+use crate::handle::StealHandle;
+use crate::worker_result::WorkerResult;
 use piece_deques::{Deal, Owner};
-use pool_harvest::{StealHandle, WorkerResult};
 use std::sync::ledger::Ledger;
 
 /// The owner's end of a deque, the place of that deque among all, a seat of each deque in their order, and what the

@@ -6,7 +6,7 @@ ghost use Rattle.crossbeam_deque.specs.Handles.{worker_deque};
 ghost use Rattle.observations.specs.Limits.{most_pods};
 ghost use Rattle.piece_deques.specs.Rule.{number_of, IsPieceDue};
 ghost use Rattle.piece_deques.specs.Ends.{IsOpen, pushed_weight};
-ghost use Rattle.pool_harvest.specs.Done.{weigh};
+ghost use Rattle.pool_worker.specs.Done.{weigh};
 ghost use Rattle.pool_worker.specs.Dealing.{deal, pushed_of};
 
 use piece_deques::{Deal, Owner, number_of, push};

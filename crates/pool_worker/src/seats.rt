@@ -5,9 +5,9 @@ ghost use Rattle.crossbeam_deque.specs.Handles.{stealer_deque, worker_deque};
 ghost use Rattle.pool_worker.specs.Seats.{owner_place, seat_place};
 ghost use Rattle.pool_worker.specs.Slots.{IsHost, IsRich, IsDealtSlot};
 
+use crate::handle::StealHandle;
 use crate::slot::{DealtSlot, WorkerSlot};
 use piece_deques::{Deal, Owner, new_seat};
-use pool_harvest::StealHandle;
 
 /// A seat of each deque, in their order.
 fn seat_slot<D: Deal>(owners: &mut Vec<Owner<D>>, slot: WorkerSlot<D>) -> DealtSlot<D>

@@ -4,9 +4,9 @@ ghost use Rattle.std.specs.Prelude.{◌≡◌, ◌≤◌, ℕ, [], All, vec_len,
 ghost use Rattle.pool_worker.specs.Seats.{taken_by, IsInOrder};
 
 use crate::context::WorkerContext;
+use crate::handle::StealHandle;
 use piece_deques::{Deal, Owner, Thief};
 use pod_piece::PodPiece;
-use pool_harvest::StealHandle;
 use std::sync::ledger::Ledger;
 
 /// What a worker will need beside its deque: the thieves' end of each deque, and room.

@@ -12,10 +12,12 @@ ghost use Rattle.pool_worker.specs.Seats.{owner_place, seat_place, pushed_to, ta
 ghost use Rattle.pool_worker.specs.Contexts.{tag_of, context_tag, HasEmptied};
 
 use crate::context::WorkerContext;
+use crate::gate::Gate;
+use crate::handle::StealHandle;
+use crate::worker_result::WorkerResult;
 use event_book::{EventBook, Shares};
 use piece_deques::{Deal, Owner, pop};
 use pod_piece::PodPiece;
-use pool_harvest::{Gate, StealHandle, WorkerResult};
 use std::sync::ledger::Ledger;
 use std::sync::{Mutex, Wait};
 

@@ -25,7 +25,7 @@ use Rattle.eviction.specs.Replay.{IsRound}
 use Rattle.node_pods.specs.Pods.{IsCandidate, AreAfter}
 use Rattle.node_pods.proofs.Steps.{shown_at}
 use Rattle.node_pods.proofs.Kept.{present_shown, shown_present}
-use Rattle.tick_parts.specs.Evict.{IsEvictionAt, MayBeEvicted}
+use Rattle.tick_round.specs.Evict.{IsEvictionAt, MayBeEvicted}
 use Rattle.tick_round.specs.Node.{State, piece_after, ArePieces, Fits}
 use Rattle.tick_round.proofs.Pieces.{pod_at}
 

@@ -36,10 +36,10 @@ use Rattle.event_list.specs.Events.{of_pods, of_node, of_eviction, AreEvents}
 use Rattle.event_list.specs.Totals.{totals_of}
 use Rattle.event_list.proofs.More.{no_events, events_more, totals_more}
 use Rattle.event_list.specs.Tick.{AddsEvents}
-use Rattle.tick_parts.specs.Evict.{IsEvictionAt, AreWithout}
-use Rattle.tick_parts.specs.Update.{AreUpTo, MayUpdate, AreEntered}
-use Rattle.tick_parts.proofs.Evicts.{get_pod}
-use Rattle.tick_parts.proofs.Updates.{sums_low}
+use Rattle.tick_round.specs.Evict.{IsEvictionAt, AreWithout}
+use Rattle.tick_round.specs.Update.{AreUpTo, MayUpdate, AreEntered}
+use Rattle.tick_round.proofs.Evicts.{get_pod}
+use Rattle.tick_round.proofs.Updates.{sums_low}
 use Rattle.tick_round.specs.declared.tick_in_progress.TickInProgress.{TickInProgress}
 use Rattle.tick_round.specs.Node.{State, state, ArePieces, HasTaken, Fits}
 use Rattle.tick_round.specs.Node.{last_of, IsAfter}

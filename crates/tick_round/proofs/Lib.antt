@@ -1,3 +1,6 @@
+pub mod Updates
+pub mod Rounds
+pub mod Evicts
 pub mod Conditions
 pub mod Pieces
 pub mod Candidates

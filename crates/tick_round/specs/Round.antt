@@ -12,7 +12,7 @@ use Rattle.node_signals.specs.Thresholds.{IsServed}
 use Rattle.pod_piece.specs.Piece.{Piece, updated, pods_in}
 use Rattle.event_book.specs.declared.totals.Totals.{Totals}
 use Rattle.node_pods.specs.Pods.{handed_from, kept_of, awaited}
-use Rattle.tick_parts.specs.Update.{AreUpTo, AreEntered}
+use Rattle.tick_round.specs.Update.{AreUpTo, AreEntered}
 use Rattle.tick_round.specs.declared.tick_in_progress.TickInProgress.{TickInProgress}
 use Rattle.tick_round.specs.Node.{State, HasTaken, Fits}
 

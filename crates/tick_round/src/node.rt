@@ -11,7 +11,7 @@ ghost use Rattle.event_book.specs.Totals.{nothing};
 ghost use Rattle.event_book.specs.Limits.{most_workers};
 ghost use Rattle.tick_round.specs.declared.fault.TickFault.TheVariants.{Halted};
 ghost use Rattle.tick_round.specs.Node.{IsAfter, MayTake, HasRoom};
-ghost use Rattle.tick_parts.specs.Played.{AreFinished};
+ghost use Rattle.tick_round.specs.Played.{AreFinished};
 ghost use Rattle.tick_round.specs.Summary.{IsSummary};
 
 use crate::fault::TickFault;
@@ -21,13 +21,13 @@ use event_book::WholeBook;
 use manifest::PodSpec;
 use node_config::NodeConfig;
 use observations::TickObs;
+use pod_pool::Gate;
 use round_steps::Step;
 use std::alloc::{AllocError, Global};
 use std::marker::Model;
 use std::sync::Wait;
 use std::sync::ledger::Ledger;
 use std::thread::Threads;
-use tick_parts::Gate;
 
 /// A node with its pods. After a tick that failed because memory ran out it is halted: it takes no
 /// further tick and tells nothing. (Kubernetes, "Node-pressure Eviction".)

@@ -14,14 +14,17 @@ ghost use Rattle.pod_piece.specs.Piece.{updated};
 ghost use Rattle.event_book.specs.Totals.{nothing};
 ghost use Rattle.event_book.specs.Limits.{most_workers};
 ghost use Rattle.node_pods.specs.Pods.{handed_from, ArePlaced, joined};
-ghost use Rattle.tick_parts.specs.Update.{MayUpdate};
+ghost use Rattle.tick_round.specs.Update.{MayUpdate};
 ghost use Rattle.tick_round.specs.Node.{HasTaken, Fits};
-ghost use Rattle.tick_parts.specs.Played.{AreFinished};
+ghost use Rattle.tick_round.specs.Played.{AreFinished};
 ghost use Rattle.tick_round.specs.Round.{IsKept, HasBegun};
 ghost use Rattle.tick_round.specs.Summary.{IsSummary};
 
+use crate::alone::update_alone;
+use crate::steps::update_by_steps;
 use crate::summary::{Summary, conditions_of};
 use crate::tick_in_progress::TickInProgress;
+use crate::workers::update_by_workers;
 use event_book::WholeBook;
 use event_list::Event;
 use eviction::Eviction;
@@ -31,6 +34,7 @@ use node_pods::NodePods;
 use node_signals::NodeSignals;
 use observations::{MOST_TICKS, TickObs};
 use pod_piece::PodPiece;
+use pod_pool::{Gate, NoGate};
 use quantity::END_OF_TIME;
 use round_steps::Step;
 use std::alloc::{AllocError, Global};
@@ -38,7 +42,6 @@ use std::marker::Model;
 use std::sync::Wait;
 use std::sync::ledger::Ledger;
 use std::thread::Threads;
-use tick_parts::{Gate, NoGate, update_alone, update_by_steps, update_by_workers};
 
 /// A node that is not halted. Its type keeps that all in it is the state of the ticks that it took.
 #[derive(Drop)]

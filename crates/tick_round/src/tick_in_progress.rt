@@ -8,6 +8,7 @@ ghost use Rattle.node_pods.specs.Pods.{ArePlaced, joined};
 ghost use Rattle.tick_round.specs.Node.{State, HasTaken};
 ghost use Rattle.tick_round.specs.Round.{IsKept, MayEnd};
 
+use crate::evict::{carry_out, eviction_for};
 use crate::running::Running;
 use event_book::WholeBook;
 use event_list::{Event, add_events};
@@ -18,7 +19,6 @@ use node_signals::{NodeEvent, NodeSignals, ThresholdKey};
 use pod_piece::PodPiece;
 use std::alloc::{AllocError, Global};
 use std::sync::ledger::Ledger;
-use tick_parts::{carry_out, eviction_for};
 
 /// A node that has begun a tick, without its book and the pieces of its pods, which are out for their
 /// updates.

@@ -260,7 +260,7 @@ fn read_by_workers<R: Threads + Sync>(
     finished(number, so_far)
 }
 
-/// The same as [`read_trace`]; this many workers share the lines of a text from 64 KiB on.
+/// The same as [`read_trace`]; this many workers share the lines of a text behind its first 64 KiB.
 pub fn read_trace_by_workers<R: Threads + Sync>(
     rt: &R,
     alloc: Global,

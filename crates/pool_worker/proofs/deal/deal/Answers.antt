@@ -10,8 +10,8 @@ use Rattle.pod_piece.specs.Piece.{Piece}
 use Rattle.piece_deques.specs.Rule.{IsPieceDue}
 use Rattle.piece_deques.specs.Ends.{IsOpen, pushed_weight}
 use Rattle.piece_deques.proofs.Lists.{front, map_set, sum_set}
-use Rattle.pool_harvest.specs.Done.{weigh}
-use Rattle.pool_harvest.proofs.Numbers.{weigh_more}
+use Rattle.pool_worker.specs.Done.{weigh}
+use Rattle.pool_worker.proofs.Numbers.{weigh_more}
 use Rattle.pool_worker.specs.Dealing.{pushed_of}
 use Rattle.pool_worker.proofs.Dealing.{given_one, dealt_next, all_dealt}
 use Rattle.pool_worker.proofs.deal.deal.Goals as goal

@@ -3,7 +3,7 @@ use Rattle.std.specs.List.{sum_by}
 use Rattle.crossbeam_deque.specs.Handles.{worker_deque}
 use Rattle.piece_deques.specs.Rule.{number_of, IsPieceDue}
 use Rattle.piece_deques.specs.Ends.{IsOpen, pushed_weight}
-use Rattle.pool_harvest.specs.Done.{weigh}
+use Rattle.pool_worker.specs.Done.{weigh}
 use Rattle.pool_worker.specs.Dealing.{deal, pushed_of}
 use Rattle.pool_worker.proofs.deal.deal.Given as goal
 

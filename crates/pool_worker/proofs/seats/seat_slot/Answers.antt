@@ -3,7 +3,7 @@ use Rattle.std.specs.List.{sum_by, AllWithin}
 use Rattle.std.proofs.lemmas.List.Sorted.{sum_by-IsPermutation}
 use Rattle.crossbeam_deque.specs.Handles.{view, IsPassOf, worker_deque, stealer_deque, worker_view}
 use Rattle.piece_deques.proofs.Lists.{front, last, map_reverse, map_set, below_set, above_set, sum_grown}
-use Rattle.pool_harvest.specs.declared.handle.StealHandle.{StealHandle}
+use Rattle.pool_worker.specs.declared.handle.StealHandle.{StealHandle}
 use Rattle.pool_worker.specs.Seats.{owner_place, seat_place, IsInOrder}
 use Rattle.pool_worker.proofs.Room.{place_same}
 use Rattle.pool_worker.specs.Slots.{IsHost, IsRich}

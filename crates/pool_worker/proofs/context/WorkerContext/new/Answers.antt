@@ -2,7 +2,7 @@ use Rattle.std.proofs.Common.{Option, ap, ◌∙◌, arith}
 use Rattle.std.specs.List.{sum_by}
 use Rattle.std.specs.Option.{option_to_list}
 use Rattle.pod_piece.specs.Piece.{Piece}
-use Rattle.pool_harvest.specs.Done.{weigh}
+use Rattle.pool_worker.specs.Done.{weigh}
 use Rattle.pool_worker.proofs.Room.{none_taken}
 use Rattle.pool_worker.proofs.context.WorkerContext.new.Goals as goal
 

@@ -1,4 +1,4 @@
-use Rattle.tick_parts.proofs.Rounds.{are_numbered}
+use Rattle.tick_round.proofs.Rounds.{are_numbered}
 use Rattle.tick_round.proofs.GoesOn.{placed_back, updated_by}
 use Rattle.tick_round.proofs.running.Running.after.Goals as goal
 

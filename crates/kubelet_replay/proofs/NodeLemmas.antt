@@ -1,0 +1,402 @@
+-- The node of a trace, one tick and some pods more.
+use Rattle.std.proofs.Common.{◌≡◌, ◌∙◌, ℕ, suc, zero, ◌+◌, ◌-◌, ◌<◌, ◌≤◌, List, [], ◌∷◌, ◌++◌}
+use Rattle.std.proofs.Common.{length, take, drop, append_assoc, append-nil, Option, Some, None, refl, ap}
+use Rattle.std.proofs.Common.{sym, subst, arith}
+use Rattle.std.specs.Prelude.{slice_get, MatchOption, IfSome}
+use Rattle.std.specs.Option.{option_flatten}
+use Rattle.histories.specs.Histories.{EndsBefore}
+use Rattle.std.proofs.lemmas.List.{length-take-le, take_all, length-append}
+use Rattle.std.proofs.Math.Seq.{take-append_seam}
+use Rattle.histories.proofs.Lists.{rest_more, slice_get-kept}
+use Rattle.manifest.specs.declared.pod.PodSpec.{PodSpec}
+use Rattle.node_config.specs.declared.node.NodeConfig.{NodeConfig}
+use Rattle.observations.specs.Pods.{PodObs}
+use Rattle.observations.specs.declared.tick.TickObs.{TickObs}
+use Rattle.observations.specs.Limits.{most_ticks, most_pods}
+use Rattle.pod_state.specs.Pods.{pod_tick}
+use Rattle.pod_piece.specs.Listings.{IsNextTick}
+use Rattle.pod_piece.specs.Piece.{Piece}
+use Rattle.eviction.specs.Replay.{pod_ticks}
+use Rattle.tick_round.specs.Node.{State, HasTaken, Fits, IsAfter, MayTake, HasRoom, last_of}
+use Rattle.tick_round.proofs.Pieces.{pod_at}
+use Rattle.kubelet_replay.specs.Ticks.{AreReplayable, MayArrive}
+
+middle : {A : Type 0} (xs : List A) (x : A) (ys : List A) → slice_get (xs ++ x ∷ ys) (length xs) ≡ Some x
+middle [] x ys = refl
+middle (y ∷ xs) x ys = middle xs x ys
+
+get_behind : {A : Type 0} (xs : List A) (x : A) (ys : List A) (t : ℕ) (y : A) → slice_get ys t ≡ Some y
+    → slice_get (xs ++ x ∷ ys) (length xs + suc t) ≡ Some y
+get_behind [] x ys t y e = ap (λ (k : ℕ). slice_get (x ∷ ys) k) (let z : 0 + suc t ≡ suc t = omega arith in z) ∙ e
+get_behind (z ∷ xs) x ys t y e =
+    ap (λ (k : ℕ). slice_get (z ∷ (xs ++ x ∷ ys)) k) (let n : suc (length xs) + suc t ≡ suc (length xs + suc t) =
+    omega arith in n) ∙ get_behind xs x ys t y e
+
+taken_at : (n k : ℕ) (pods : List PodSpec) (pod : PodSpec) → slice_get (take k pods) n ≡ Some pod
+    → slice_get pods n ≡ Some pod
+taken_at n zero pods pod e = absurd (cc)
+taken_at n (suc k) [] pod e = absurd (cc)
+taken_at zero (suc k) (p ∷ pods) pod e = e
+taken_at (suc n) (suc k) (p ∷ pods) pod e = taken_at n k pods pod e
+
+last_place : (ticks : List TickObs) (m : ℕ) → last_of ticks ≡ Some m → (t : ℕ) × (tick : TickObs)
+    × (slice_get ticks t ≡ Some tick) × (tick.at ≡ m) × (t < length ticks)
+last_place [] m e = absurd (cc)
+last_place (x ∷ []) m e = (0, x, refl, cc, omega arith)
+last_place (x ∷ y ∷ ticks) m e = let w = last_place (y ∷ ticks) m e in let lt : w.0 < length (y ∷ ticks) = w.4 in
+    (suc w.0, w.1, w.2, w.3, omega arith)
+
+if_some : (o : Option ℕ) (P : ℕ → Type 0) → ((m : ℕ) → o ≡ Some m → P m) → IfSome o P
+if_some None P each = tt
+if_some (Some m) P each = each m refl
+
+-- a node that has taken the ticks so far, and as many pods as the tick shows, may take it
+pub fits_next : (pods : List PodSpec) (ticks before : List TickObs) (tick : TickObs) (rest : List TickObs) (s : State)
+    → AreReplayable pods ticks → ticks ≡ before ++ tick ∷ rest
+    → HasTaken (take (length tick.pods) pods) before s → Fits s tick
+fits_next pods ticks before tick rest s may whole taken =
+    let t = length before in
+    let at : slice_get ticks t ≡ Some tick = ap (λ (xs : List TickObs). slice_get xs t) whole ∙ middle before tick
+    rest in
+    let cut : take t ticks ≡ before = ap (take t) whole ∙ take-append_seam before (tick ∷ rest) in
+    let count : length (take (length tick.pods) pods) ≡ length tick.pods = length-take-le (length tick.pods) pods
+    (may.within t tick at) in
+    record {
+      few =
+          let all : length ticks ≡ length before + suc (length rest) =
+          ap length whole ∙ length-append before (tick ∷ rest) in
+          let some : length ticks ≤ most_ticks = may.few_ticks in
+          let many : length s.evictions ≡ length before = taken.replay.as_many in
+          omega (arith, all, some, many);
+      later = subst (λ (o : Option ℕ). IfSome o (λ last. last < tick.at)) (sym taken.last_is)
+          (if_some (last_of before) (λ m. m < tick.at) (λ m is.
+          let w = last_place before m is in
+          let there : slice_get ticks w.0 ≡ Some w.1 = ap (λ (xs : List TickObs). slice_get xs w.0) whole
+          ∙ slice_get-kept before (tick ∷ rest) w.0 w.1 w.2 in
+          let rises : w.1.at < tick.at = may.rising w.0 t w.1 tick w.4 there at in
+          let same : w.1.at ≡ m = w.3 in omega arith));
+      bounded = may.below t tick at;
+      pods = record {
+        next = record {
+          as_many = let many : length s.pods.pieces ≡ length (take (length tick.pods) pods) = taken.pieces.as_many in
+              omega arith;
+          each = λ n piece shown is there.
+              let here = pod_at s.config (take (length tick.pods) pods) before s.evictions s.pods.pieces n piece
+              taken.pieces is in
+              let pod : slice_get pods n ≡ Some here.0 = taken_at n (length tick.pods) pods here.0 here.1 in
+              let next : IsNextTick here.0 (pod_ticks before n) (pod_tick shown) =
+              subst (λ (h : List TickObs). IsNextTick here.0 (pod_ticks h n) (pod_tick shown)) cut
+              (may.next t n tick here.0 shown at pod (ap option_flatten there)) in
+              subst (λ (p : Piece). IsNextTick p.pod p.handed (pod_tick shown)) (sym here.2) next;
+        };
+        at_its_moment = λ n shown is. may.moments t n tick shown at is;
+        later = λ n piece is.
+            let here = pod_at s.config (take (length tick.pods) pods) before s.evictions s.pods.pieces n piece
+            taken.pieces is in
+            subst (λ (p : Piece). EndsBefore p.handed tick.at) (sym here.2)
+            (subst (λ (h : List TickObs). EndsBefore (pod_ticks h n) tick.at) cut (may.ends t n tick at));
+      };
+    }
+
+-- a node that has taken the ticks so far, and the pods that the last of them shows
+pub record IsSoFar (config : NodeConfig) (pods : List PodSpec) (ticks before rest : List TickObs) (arrived : ℕ)
+    (left : List PodSpec) (node : Option State) : Type 0 where
+  pub whole : ticks ≡ before ++ rest
+  pub left_is : left ≡ drop arrived pods
+  pub few : arrived ≤ length pods
+  pub shown : (t : ℕ) (tick : TickObs) → slice_get rest t ≡ Some tick → arrived ≤ length tick.pods
+  pub after : IsAfter config (take arrived pods) before node
+
+take_drop : (n k : ℕ) (pods : List PodSpec) → n ≤ k → take n pods ++ take (k - n) (drop n pods) ≡ take k pods
+take_drop zero k pods le = ap (λ (i : ℕ). take i pods) (let z : k - 0 ≡ k = omega arith in z)
+take_drop (suc n) zero pods le = absurd (omega arith)
+take_drop (suc n) (suc k) [] le = none (suc k - suc n)
+  where
+    none : (i : ℕ) → take {A = PodSpec} i [] ≡ []
+    none zero = refl
+    none (suc i) = refl
+take_drop (suc n) (suc k) (p ∷ pods) le =
+    ap (λ (i : ℕ). (p ∷ take n pods) ++ take i (drop n pods)) (let z : suc k - suc n ≡ k - n = omega arith in z)
+    ∙ ap (λ (ps : List PodSpec). p ∷ ps) (take_drop n k pods (omega arith))
+
+drop_drop : (n k : ℕ) (pods : List PodSpec) → n ≤ k → drop (k - n) (drop n pods) ≡ drop k pods
+drop_drop zero k pods le = ap (λ (i : ℕ). drop i pods) (let z : k - 0 ≡ k = omega arith in z)
+drop_drop (suc n) zero pods le = absurd (omega arith)
+drop_drop (suc n) (suc k) [] le = none (suc k - suc n)
+  where
+    none : (i : ℕ) → drop {A = PodSpec} i [] ≡ []
+    none zero = refl
+    none (suc i) = refl
+drop_drop (suc n) (suc k) (p ∷ pods) le =
+    ap (λ (i : ℕ). drop i (drop n pods)) (let z : suc k - suc n ≡ k - n = omega arith in z) ∙ drop_drop n k pods
+    (omega arith)
+
+-- no tick and no pod yet
+none_yet : (config : NodeConfig) (pods : List PodSpec) (ticks : List TickObs) (new : Option State)
+    → IsAfter config [] [] new → IsSoFar config pods ticks [] ticks 0 pods new
+none_yet config pods ticks new after = record {
+  whole = refl;
+  left_is = refl;
+  few = omega arith;
+  shown = λ t tick at. omega arith;
+  after = after;
+}
+
+-- the same with what the code has of the ticks and of the pods
+pub none_taken : (config : NodeConfig) (pods left : List PodSpec) (ticks rest : List TickObs) (new : Option State)
+    → rest ≡ ticks → left ≡ pods → IsAfter config [] [] new → IsSoFar config pods ticks [] rest 0 left new
+none_taken config pods left ticks rest new all these after =
+    subst (λ (ts : List TickObs). IsSoFar config pods ticks [] ts 0 left new) (sym all)
+    (subst (λ (ps : List PodSpec). IsSoFar config pods ticks [] ticks 0 ps new) (sym these)
+    (none_yet config pods ticks new after))
+
+-- the pods that the next tick shows have arrived
+pub arrived_next : (config : NodeConfig) (pods : List PodSpec) (ticks before : List TickObs) (tick : TickObs)
+    (rest : List TickObs) (arrived : ℕ) (left : List PodSpec) (old new : Option State)
+    → IsSoFar config pods ticks before (tick ∷ rest) arrived left old
+    → ((ps : List PodSpec) (ts : List TickObs) → IsAfter config ps ts old
+    → IsAfter config (ps ++ take (length tick.pods - arrived) left) ts new)
+    → IsAfter config (take (length tick.pods) pods) before new
+arrived_next config pods ticks before tick rest arrived left old new s arrives =
+    let le : arrived ≤ length tick.pods = s.shown 0 tick refl in
+    let now = arrives (take arrived pods) before s.after in
+    subst (λ (ps : List PodSpec). IsAfter config ps before new)
+    (ap (λ (ps : List PodSpec). take arrived pods ++ take (length tick.pods - arrived) ps) s.left_is
+    ∙ take_drop arrived (length tick.pods) pods le) now
+
+may_take : (config : NodeConfig) (pods : List PodSpec) (ticks before : List TickObs) (tick : TickObs)
+    (rest : List TickObs) (node : Option State)
+    → AreReplayable pods ticks → ticks ≡ before ++ tick ∷ rest
+    → IsAfter config (take (length tick.pods) pods) before node → MayTake node tick
+may_take config pods ticks before tick rest None may whole after = absurd after
+may_take config pods ticks before tick rest (Some s) may whole after = fits_next pods ticks before tick rest s may
+    whole after.1
+
+-- so it may be taken
+pub may_take_next : (config : NodeConfig) (pods : List PodSpec) (ticks before : List TickObs) (tick : TickObs)
+    (rest : List TickObs) (arrived : ℕ) (left : List PodSpec) (old new : Option State)
+    → AreReplayable pods ticks → IsSoFar config pods ticks before (tick ∷ rest) arrived left old
+    → ((ps : List PodSpec) (ts : List TickObs) → IsAfter config ps ts old
+    → IsAfter config (ps ++ take (length tick.pods - arrived) left) ts new) → MayTake new tick
+may_take_next config pods ticks before tick rest arrived left old new may s arrives =
+    may_take config pods ticks before tick rest new may s.whole
+    (arrived_next config pods ticks before tick rest arrived left old new s arrives)
+
+-- and once it was
+pub one_more : (config : NodeConfig) (pods : List PodSpec) (ticks before : List TickObs) (tick : TickObs)
+    (rest : List TickObs) (arrived : ℕ) (left left' : List PodSpec) (old mid new : Option State)
+    → AreReplayable pods ticks → IsSoFar config pods ticks before (tick ∷ rest) arrived left old
+    → ((ps : List PodSpec) (ts : List TickObs) → IsAfter config ps ts old
+    → IsAfter config (ps ++ take (length tick.pods - arrived) left) ts mid)
+    → left' ≡ drop (length tick.pods - arrived) left
+    → ((ps : List PodSpec) (ts : List TickObs) → IsAfter config ps ts mid → IsAfter config ps (ts ++ tick ∷ []) new)
+    → IsSoFar config pods ticks (before ++ tick ∷ []) rest (length tick.pods) left' new
+one_more config pods ticks before tick rest arrived left left' old mid new may s arrives left_is takes =
+    let le : arrived ≤ length tick.pods = s.shown 0 tick refl in
+    let at : slice_get ticks (length before) ≡ Some tick = ap (λ (xs : List TickObs). slice_get xs (length before))
+    s.whole ∙ middle before tick rest in
+    record {
+      whole = rest_more ticks before tick rest s.whole;
+      left_is = left_is ∙ ap (drop (length tick.pods - arrived)) s.left_is ∙ drop_drop arrived (length tick.pods) pods
+          le;
+      few = may.within (length before) tick at;
+      shown = λ t later there.
+          let place : slice_get ticks (length before + suc t) ≡ Some later =
+          ap (λ (xs : List TickObs). slice_get xs (length before + suc t)) s.whole ∙ get_behind before tick rest t
+          later there in
+          may.growing (length before) (length before + suc t) tick later (omega arith) at place;
+      after = takes (take (length tick.pods) pods) before
+          (arrived_next config pods ticks before tick rest arrived left old mid s arrives);
+    }
+
+-- all ticks taken, and the other pods arrived
+pub all_taken : (config : NodeConfig) (pods : List PodSpec) (ticks before : List TickObs) (arrived count : ℕ)
+    (left : List PodSpec) (old new : Option State)
+    → IsSoFar config pods ticks before [] arrived left old → count ≡ length pods
+    → ((ps : List PodSpec) (ts : List TickObs) → IsAfter config ps ts old
+    → IsAfter config (ps ++ take (count - arrived) left) ts new)
+    → IsAfter config pods ticks new
+all_taken config pods ticks before arrived count left old new s many arrives =
+    let few : arrived ≤ length pods = s.few in
+    let now = arrives (take arrived pods) before s.after in
+    let all : take arrived pods ++ take (count - arrived) left ≡ pods =
+    ap (λ (ps : List PodSpec). take arrived pods ++ take (count - arrived) ps) s.left_is ∙ take_drop arrived count
+    pods (omega arith) ∙ take_all count pods (omega arith) in
+    subst (λ (ts : List TickObs). IsAfter config pods ts new) (sym (s.whole ∙ append-nil before))
+    (subst (λ (ps : List PodSpec). IsAfter config ps before new) all now)
+
+-- some pods arrive one after the other
+pub took_more : (config : NodeConfig) (arrived : List PodSpec) (ticks : List TickObs) (taken : List PodSpec)
+    (pod : PodSpec) (old new : Option State)
+    → IsAfter config (arrived ++ taken) ticks old
+    → ((ps : List PodSpec) (ts : List TickObs) → IsAfter config ps ts old → IsAfter config (ps ++ pod ∷ []) ts new)
+    → IsAfter config (arrived ++ (taken ++ pod ∷ [])) ticks new
+took_more config arrived ticks taken pod old new after arrives =
+    subst (λ (ps : List PodSpec). IsAfter config ps ticks new) (append_assoc arrived taken (pod ∷ []))
+    (arrives (arrived ++ taken) ticks after)
+
+-- where an iterator has ended it has nothing left
+pub none_left : {A : Type 0} (o : Option A) (old new : ℕ) (Q : A → Type 0) (rest : List A)
+    → MatchOption o ((old ≡ 0) × (new ≡ 0)) Q → length rest ≡ new → o ≡ None → rest ≡ []
+none_left None old new Q [] ends long is = refl
+none_left None old new Q (x ∷ xs) ends long is = absurd (omega (arith, long, ends.1))
+none_left (Some x) old new Q rest ends long is = absurd (let w : Some x ≡ None = is in cc)
+
+-- the first so many of these pods have arrived
+pub record AreArriving (all : List PodSpec) (i : ℕ) (old new : Option State) (left : List PodSpec) : Type 0 where
+  pub arrived : (config : NodeConfig) (pods : List PodSpec) (ticks : List TickObs) → IsAfter config pods ticks old
+      → IsAfter config (pods ++ take i all) ticks new
+  pub left_is : left ≡ drop i all
+
+pub none_arrived : (all : List PodSpec) (old : Option State) → AreArriving all 0 old old all
+none_arrived all old = record {
+  arrived = λ config pods ticks after. subst (λ (ps : List PodSpec). IsAfter config ps ticks old)
+      (sym (append-nil pods)) after;
+  left_is = refl;
+}
+
+cut : (i : ℕ) (all : List PodSpec) (pod : PodSpec) (rest : List PodSpec) → pod ∷ rest ≡ drop i all
+    → (take (suc i) all ≡ take i all ++ pod ∷ []) × (rest ≡ drop (suc i) all)
+cut zero [] pod rest e = absurd (cc)
+cut zero (p ∷ all) pod rest e = let head : p ≡ pod = cc in let tail : rest ≡ all = cc in
+    (ap (λ (q : PodSpec). q ∷ []) head, tail)
+cut (suc i) [] pod rest e = absurd (cc)
+cut (suc i) (p ∷ all) pod rest e = let w = cut i all pod rest e in (ap (λ (ps : List PodSpec). p ∷ ps) w.0, w.1)
+
+pub arriving_more : (all : List PodSpec) (i : ℕ) (old mid new : Option State) (left : List PodSpec) (pod : PodSpec)
+    (rest : List PodSpec) → AreArriving all i old mid left → left ≡ pod ∷ rest
+    → ((config : NodeConfig) (pods : List PodSpec) (ticks : List TickObs) → IsAfter config pods ticks mid
+    → IsAfter config (pods ++ pod ∷ []) ticks new)
+    → AreArriving all (i + 1) old new rest
+arriving_more all i old mid new left pod rest are is arrives =
+    let w = cut i all pod rest (sym is ∙ are.left_is) in
+    let next : suc i ≡ i + 1 = omega arith in
+    subst (λ (k : ℕ). AreArriving all k old new rest) next (record {
+      arrived = λ config pods ticks after.
+          subst (λ (ps : List PodSpec). IsAfter config (pods ++ ps) ticks new) (sym w.0)
+          (took_more config pods ticks (take i all) pod mid new (are.arrived config pods ticks after)
+          (λ ps ts before. arrives config ps ts before));
+      left_is = w.1;
+    })
+
+short : (i n : ℕ) (all : List PodSpec) → [] ≡ drop i all → i ≤ n → (take i all ≡ take n all) × ([] ≡ drop n all)
+short i n [] e le = (none i ∙ sym (none n), sym (nothing n))
+  where
+    none : (k : ℕ) → take {A = PodSpec} k [] ≡ []
+    none zero = refl
+    none (suc k) = refl
+
+    nothing : (k : ℕ) → drop {A = PodSpec} k [] ≡ []
+    nothing zero = refl
+    nothing (suc k) = refl
+short zero n (p ∷ all) e le = absurd (let f : [] ≡ p ∷ all = e in cc)
+short (suc i) zero (p ∷ all) e le = absurd (omega arith)
+short (suc i) (suc n) (p ∷ all) e le = let w = short i n all e (omega arith) in
+    (ap (λ (ps : List PodSpec). p ∷ ps) w.0, w.1)
+
+-- where none are left all have
+pub all_arrived : (all : List PodSpec) (i count : ℕ) (old new : Option State) (left rest : List PodSpec)
+    → AreArriving all i old new left → left ≡ [] → rest ≡ [] → i ≤ count → AreArriving all count old new rest
+all_arrived all i count old new left rest are none none' le =
+    let w = short i count all (sym none ∙ are.left_is) le in
+    record {
+      arrived = λ config pods ticks after. subst (λ (ps : List PodSpec). IsAfter config (pods ++ ps) ticks new) w.0
+          (are.arrived config pods ticks after);
+      left_is = none' ∙ w.1;
+    }
+
+pub as_many_arrived : (all : List PodSpec) (i count : ℕ) (old new : Option State) (left : List PodSpec)
+    → AreArriving all i old new left → i ≤ count → count ≤ i → AreArriving all count old new left
+as_many_arrived all i count old new left are le ge = let same : i ≡ count = omega arith in
+    subst (λ (k : ℕ). AreArriving all k old new left) same are
+
+-- a halted node is after no ticks
+pub halted : (config : NodeConfig) (pods : List PodSpec) (ticks : List TickObs) (one : Option State) → one ≡ None
+    → IsAfter config pods ticks one → ⊥
+halted config pods ticks None is after = after
+halted config pods ticks (Some s) is after = absurd (cc)
+
+-- the same with what the code has of the tick
+pub so_far_next : (config : NodeConfig) (pods : List PodSpec) (ticks before rest next : List TickObs) (arrived : ℕ)
+    (left : List PodSpec) (old : Option State)
+    → rest ≡ next → IsSoFar config pods ticks before rest arrived left old
+    → IsSoFar config pods ticks before next arrived left old
+so_far_next config pods ticks before rest next arrived left old is s =
+    subst (λ (ts : List TickObs). IsSoFar config pods ticks before ts arrived left old) is s
+
+abbrev pub Arrive : NodeConfig → Option State → Option State → List PodSpec → Type 0
+Arrive config old new arriving = (ps : List PodSpec) (ts : List TickObs) → IsAfter config ps ts old
+    → IsAfter config (ps ++ arriving) ts new
+
+pub may_take_shown : (config : NodeConfig) (pods : List PodSpec) (ticks before : List TickObs) (tick : TickObs)
+    (rest : List TickObs) (shown : List (Option PodObs)) (arrived : ℕ) (left : List PodSpec) (old new : Option State)
+    → AreReplayable pods ticks → IsSoFar config pods ticks before (tick ∷ rest) arrived left old → shown ≡ tick.pods
+    → Arrive config old new (take (length shown - arrived) left) → MayTake new tick
+may_take_shown config pods ticks before tick rest shown arrived left old new may s is arrives =
+    may_take_next config pods ticks before tick rest arrived left old new may s
+    (subst (λ (os : List (Option PodObs)). Arrive config old new (take (length os - arrived) left)) is arrives)
+
+pub one_more_shown : (config : NodeConfig) (pods : List PodSpec) (ticks before : List TickObs) (tick : TickObs)
+    (rest : List TickObs) (shown : List (Option PodObs)) (arrived : ℕ) (left left' : List PodSpec)
+    (old mid new : Option State)
+    → AreReplayable pods ticks → IsSoFar config pods ticks before (tick ∷ rest) arrived left old → shown ≡ tick.pods
+    → Arrive config old mid (take (length shown - arrived) left) → left' ≡ drop (length shown - arrived) left
+    → ((ps : List PodSpec) (ts : List TickObs) → IsAfter config ps ts mid → IsAfter config ps (ts ++ tick ∷ []) new)
+    → IsSoFar config pods ticks (before ++ tick ∷ []) rest (length shown) left' new
+one_more_shown config pods ticks before tick rest shown arrived left left' old mid new may s is arrives left_is takes =
+    subst (λ (os : List (Option PodObs)). IsSoFar config pods ticks (before ++ tick ∷ []) rest (length os) left' new)
+    (sym is)
+    (one_more config pods ticks before tick rest arrived left left' old mid new may s
+    (subst (λ (os : List (Option PodObs)). Arrive config old mid (take (length os - arrived) left)) is arrives)
+    (subst (λ (os : List (Option PodObs)). left' ≡ drop (length os - arrived) left) is left_is) takes)
+
+-- the pods that the next tick shows may arrive
+pub may_arrive : (config : NodeConfig) (pods : List PodSpec) (ticks before rest : List TickObs) (arrived more : ℕ)
+    (left : List PodSpec) (node : Option State)
+    → AreReplayable pods ticks → IsSoFar config pods ticks before rest arrived left node
+    → arrived + more ≤ length pods → MayArrive more node
+may_arrive config pods ticks before rest arrived more left node may s le = record {
+  config = config;
+  arrived = take arrived pods;
+  taken = before;
+  after = s.after;
+  room =
+      let few : length pods ≤ most_pods = may.few_pods in
+      omega (arith, few, le, length-take-le arrived pods s.few);
+}
+
+-- those that the next tick shows
+pub may_arrive_shown : (config : NodeConfig) (pods : List PodSpec) (ticks before : List TickObs) (tick : TickObs)
+    (rest : List TickObs) (shown : List (Option PodObs)) (arrived : ℕ) (left : List PodSpec) (old : Option State)
+    → AreReplayable pods ticks → IsSoFar config pods ticks before (tick ∷ rest) arrived left old → shown ≡ tick.pods
+    → MayArrive (length shown - arrived) old
+may_arrive_shown config pods ticks before tick rest shown arrived left old may s is =
+    let le : arrived ≤ length tick.pods = s.shown 0 tick refl in
+    let at : slice_get ticks (length before) ≡ Some tick =
+    ap (λ (xs : List TickObs). slice_get xs (length before)) s.whole ∙ middle before tick rest in
+    let within : length tick.pods ≤ length pods = may.within (length before) tick at in
+    let same : length shown ≡ length tick.pods = ap length is in
+    may_arrive config pods ticks before (tick ∷ rest) arrived (length shown - arrived) left old may s
+    (omega (arith, le, within, same))
+
+at_most : (k : ℕ) (xs : List PodSpec) → length (take k xs) ≤ k
+at_most zero xs = omega arith
+at_most (suc k) [] = omega arith
+at_most (suc k) (x ∷ xs) = let le : length (take k xs) ≤ k = at_most k xs in omega (arith, le)
+
+room_in : (config : NodeConfig) (pods : List PodSpec) (ticks : List TickObs) (node : Option State)
+    → IsAfter config pods ticks node → length pods < most_pods → HasRoom node
+room_in config pods ticks None after lt = absurd after
+room_in config pods ticks (Some s) after lt =
+    let many : length s.pods.pieces ≡ length pods = after.1.pieces.as_many in omega (arith, many, lt)
+
+-- of these pods one more may arrive
+pub has_room : (all : List PodSpec) (i count : ℕ) (old new : Option State) (left : List PodSpec)
+    → MayArrive count old → AreArriving all i old new left → i < count → HasRoom new
+has_room all i count old new left may are lt =
+    let room : length may.arrived + count ≤ most_pods = may.room in
+    let few : length (take i all) ≤ i = at_most i all in
+    let whole : length (may.arrived ++ take i all) ≡ length may.arrived + length (take i all) =
+    length-append may.arrived (take i all) in
+    room_in may.config (may.arrived ++ take i all) may.taken new
+    (are.arrived may.config may.arrived may.taken may.after) (omega (arith, room, few, whole, lt))

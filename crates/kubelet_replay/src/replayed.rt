@@ -1,0 +1,103 @@
+//! The node of a trace, as its ticks leave it.
+
+ghost use Rattle.std.specs.Prelude.{◌≡◌, ◌<◌, ◌≤◌, ◌++◌, List, [], OnOk, take, drop};
+ghost use Rattle.manifest.specs.declared.pod.PodSpec.{PodSpec};
+ghost use Rattle.node_config.specs.declared.node.NodeConfig.{NodeConfig};
+ghost use Rattle.observations.specs.declared.tick.TickObs.{TickObs};
+ghost use Rattle.event_book.specs.Limits.{most_workers};
+ghost use Rattle.tick_round.specs.Node.{IsAfter};
+ghost use Rattle.kubelet_replay.specs.Ticks.{AreReplayable, IsNew, MayArrive};
+
+use manifest::PodSpec;
+use node_config::NodeConfig;
+use observations::TickObs;
+use std::sync::Wait;
+use std::sync::ledger::Ledger;
+use std::thread::Threads;
+use std::vec::IntoIter;
+use tick_round::{Gate, Node, Step, TickFault};
+
+/// The next pods arrive, so many of them.
+fn arrive<U: Ledger, E: Ledger, O: Ledger>(
+    node: &mut Node<U, E, O>,
+    arriving: &mut IntoIter<PodSpec>,
+    count: usize,
+) -> Result<(), TickFault>
+    requires { MayArrive count node.old }
+    ensures node { (config : NodeConfig) (pods : List PodSpec) (ticks : List TickObs)
+        → IsAfter config pods ticks node.old
+        → OnOk result (IsAfter config (pods ++ take count arriving.old.rest.items) ticks node.new) }
+    ensures left { OnOk result (arriving.new.rest.items ≡ drop count arriving.old.rest.items) }
+{
+    for _ in 0..count {
+        let Some(pod) = arriving.next() else {
+            return Ok(());
+        };
+        node.arrive(pod)?;
+    }
+    Ok(())
+}
+
+/// A new node takes these ticks one after the other, each as a round on one thread that so many workers play by these
+/// steps. Each of these pods arrives before the first tick that shows it, those that no tick shows at the end.
+pub(crate) fn take_by_steps<U: Ledger, E: Ledger, O: Ledger>(
+    node: &mut Node<U, E, O>,
+    pods: Vec<PodSpec>,
+    ticks: Vec<TickObs>,
+    workers: usize,
+    steps: &[Step],
+) -> Result<(), TickFault>
+    requires new { IsNew node.old }
+    requires replayable { AreReplayable pods.items ticks.items }
+    requires some { 0 < workers }
+    requires most { workers ≤ most_workers }
+    ensures { (config : NodeConfig) → IsAfter config [] [] node.old
+        → OnOk result (IsAfter config pods.items ticks.items node.new) }
+{
+    let count = pods.len();
+    let mut arriving = pods.into_iter();
+    let mut arrived = 0;
+    for tick in ticks {
+        let present = tick.pods.as_slice().len();
+        arrive(node, &mut arriving, present - arrived)?;
+        arrived = present;
+        node.tick_play(tick, workers, steps)?;
+    }
+    arrive(node, &mut arriving, count - arrived)?;
+    Ok(())
+}
+
+/// The same, where so many workers update the pods of each tick in threads of their own.
+pub(crate) fn take_by_workers<
+    U: Ledger + Send,
+    E: Ledger + Send,
+    O: Ledger + Send,
+    R: Threads + Wait + Sync,
+    G: Gate,
+>(
+    rt: &R,
+    node: &mut Node<U, E, O>,
+    pods: Vec<PodSpec>,
+    ticks: Vec<TickObs>,
+    workers: usize,
+    gate: &G,
+) -> Result<(), TickFault>
+    requires new { IsNew node.old }
+    requires replayable { AreReplayable pods.items ticks.items }
+    requires some { 0 < workers }
+    requires most { workers ≤ most_workers }
+    ensures { (config : NodeConfig) → IsAfter config [] [] node.old
+        → OnOk result (IsAfter config pods.items ticks.items node.new) }
+{
+    let count = pods.len();
+    let mut arriving = pods.into_iter();
+    let mut arrived = 0;
+    for tick in ticks {
+        let present = tick.pods.as_slice().len();
+        arrive(node, &mut arriving, present - arrived)?;
+        arrived = present;
+        node.tick(rt, tick, workers, gate)?;
+    }
+    arrive(node, &mut arriving, count - arrived)?;
+    Ok(())
+}

@@ -1,0 +1,194 @@
+//! The report of a trace.
+
+ghost use Rattle.std.specs.Prelude.{◌≡◌, ◌≢◌, ◌<◌, ◌≤◌, List, None, IfOk, OnOk, string_bytes};
+ghost use Rattle.manifest.specs.declared.pod.PodSpec.{PodSpec};
+ghost use Rattle.node_config.specs.declared.node.NodeConfig.{NodeConfig};
+ghost use Rattle.observations.specs.declared.tick.TickObs.{TickObs};
+ghost use Rattle.trace.specs.Sound.{AreAcceptable, HasShape};
+ghost use Rattle.event_book.specs.Shares.{most_parts};
+ghost use Rattle.event_book.specs.Limits.{most_workers};
+ghost use Rattle.tick_round.specs.Node.{IsAfter};
+ghost use Rattle.node_report.specs.Report.{IsReport};
+ghost use Rattle.kubelet_replay.specs.Report.{IsReportOf};
+
+use crate::replayed::{take_by_steps, take_by_workers};
+use event_book::WholeBook;
+use node_report::report_text;
+use std::alloc::{AllocError, Global};
+use std::marker::Brand;
+use std::sync::Wait;
+use std::sync::ledger::{Blank, Ledger};
+use std::thread::Threads;
+use tick_round::{Gate, Node, Step, TickFault};
+use trace::Trace;
+
+/// Into so many parts the shares of a book can be cut: one for each of 64 workers, and one that stays.
+const PARTS: u64 = 65;
+
+/// The ledgers of a book that is still to be opened.
+#[derive(Drop)]
+struct Blanks {
+    updates: Blank,
+    events: Blank,
+    orders: Blank,
+}
+
+impl Blanks {
+    /// Ledgers for a book whose shares can be cut into 65 parts.
+    fn new() -> Blanks
+        ensures parts { (result.updates.parts ≡ most_parts) × (result.events.parts ≡ most_parts)
+            × (result.orders.parts ≡ most_parts) }
+    {
+        Blanks {
+            updates: Blank::new(PARTS),
+            events: Blank::new(PARTS),
+            orders: Blank::new(PARTS),
+        }
+    }
+}
+
+/// The report of a node that is not halted. An `Err` says that memory was refused.
+fn report_of<U: Ledger, E: Ledger, O: Ledger>(
+    alloc: Global,
+    node: &Node<U, E, O>,
+) -> Result<String, AllocError>
+    requires { node.now ≢ None }
+    ensures { (config : NodeConfig) (pods : List PodSpec) (ticks : List TickObs) → IsAfter config pods ticks node.now
+        → IfOk result (λ s. IsReport config ticks pods (string_bytes s)) }
+{
+    let Ok(summary) = node.summary() else {
+        unreachable!();
+    };
+    let report = report_text(alloc, &summary)?;
+    Ok(report)
+}
+
+/// The report of a node, where it has taken all its ticks. An `Err` says that memory was refused.
+fn report_after<U: Ledger, E: Ledger, O: Ledger>(
+    alloc: Global,
+    taken: Result<(), TickFault>,
+    node: &Node<U, E, O>,
+) -> Result<String, AllocError>
+    requires running { OnOk taken (node.now ≢ None) }
+    ensures { (config : NodeConfig) (pods : List PodSpec) (ticks : List TickObs)
+        → OnOk taken (IsAfter config pods ticks node.now)
+        → IfOk result (λ s. IsReport config ticks pods (string_bytes s)) }
+{
+    match taken {
+        Ok(()) => report_of(alloc, node),
+        Err(_) => Err(AllocError),
+    }
+}
+
+/// The report of a trace, on a node with a book over these ledgers, each of whose ticks is a round that so
+/// many workers play by these steps.
+fn played<U: Ledger, E: Ledger, O: Ledger>(
+    alloc: Global,
+    trace: Trace,
+    blanks: Blanks,
+    workers: usize,
+    steps: &[Step],
+) -> Result<String, AllocError>
+    requires acceptable { AreAcceptable trace.ticks }
+    requires shape { HasShape trace.pods trace.arrivals trace.departures trace.ticks }
+    requires names { (blanks.updates.name ≡ U.name) × (blanks.events.name ≡ E.name) × (blanks.orders.name ≡ O.name) }
+    requires parts { (blanks.updates.parts ≡ U.parts) × (blanks.events.parts ≡ E.parts)
+        × (blanks.orders.parts ≡ O.parts) }
+    requires level { (U.parts ≡ most_parts) × (E.parts ≡ most_parts) × (O.parts ≡ most_parts) }
+    requires some { 0 < workers }
+    requires most { workers ≤ most_workers }
+    ensures { IfOk result (λ s. IsReportOf trace (string_bytes s)) }
+{
+    let Trace {
+        node,
+        pods,
+        ticks,
+        ..
+    } = trace;
+    let book = WholeBook::<U, E, O>::new(blanks.updates, blanks.events, blanks.orders);
+    let (pods, ticks) = (pods.into_vec(), ticks.into_vec());
+    let mut node = match Node::new(alloc, node, Vec::new(alloc), book) {
+        Ok(node) => node,
+        Err(fault) => {
+            drop((pods, ticks));
+            return Err(fault);
+        }
+    };
+    let taken = take_by_steps(&mut node, pods, ticks, workers, steps);
+    let report = report_after(alloc, taken, &node);
+    drop(node);
+    report
+}
+
+/// The same, where so many workers update the pods of each tick in threads of their own.
+fn shared<U: Ledger + Send, E: Ledger + Send, O: Ledger + Send, R: Threads + Wait + Sync, G: Gate>(
+    rt: &R,
+    alloc: Global,
+    trace: Trace,
+    blanks: Blanks,
+    workers: usize,
+    gate: &G,
+) -> Result<String, AllocError>
+    requires acceptable { AreAcceptable trace.ticks }
+    requires shape { HasShape trace.pods trace.arrivals trace.departures trace.ticks }
+    requires names { (blanks.updates.name ≡ U.name) × (blanks.events.name ≡ E.name) × (blanks.orders.name ≡ O.name) }
+    requires parts { (blanks.updates.parts ≡ U.parts) × (blanks.events.parts ≡ E.parts)
+        × (blanks.orders.parts ≡ O.parts) }
+    requires level { (U.parts ≡ most_parts) × (E.parts ≡ most_parts) × (O.parts ≡ most_parts) }
+    requires some { 0 < workers }
+    requires most { workers ≤ most_workers }
+    ensures { IfOk result (λ s. IsReportOf trace (string_bytes s)) }
+{
+    let Trace {
+        node,
+        pods,
+        ticks,
+        ..
+    } = trace;
+    let book = WholeBook::<U, E, O>::new(blanks.updates, blanks.events, blanks.orders);
+    let (pods, ticks) = (pods.into_vec(), ticks.into_vec());
+    let mut node = match Node::new(alloc, node, Vec::new(alloc), book) {
+        Ok(node) => node,
+        Err(fault) => {
+            drop((pods, ticks));
+            return Err(fault);
+        }
+    };
+    let taken = take_by_workers(rt, &mut node, pods, ticks, workers, gate);
+    let report = report_after(alloc, taken, &node);
+    drop(node);
+    report
+}
+
+/// The report of a trace, each of whose ticks is a round that so many workers play by these steps.
+pub fn report_by_steps(
+    alloc: Global,
+    trace: Trace,
+    workers: usize,
+    steps: &[Step],
+) -> Result<String, AllocError>
+    requires acceptable { AreAcceptable trace.ticks }
+    requires shape { HasShape trace.pods trace.arrivals trace.departures trace.ticks }
+    requires some { 0 < workers }
+    requires most { workers ≤ most_workers }
+    ensures { IfOk result (λ s. IsReportOf trace (string_bytes s)) }
+{
+    played::<Brand, Brand, Brand>(alloc, trace, Blanks::new(), workers, steps)
+}
+
+/// The report of a trace, the pods of each of whose ticks so many workers update in threads of their own.
+pub fn report_by_workers<R: Threads + Wait + Sync, G: Gate>(
+    rt: &R,
+    alloc: Global,
+    trace: Trace,
+    workers: usize,
+    gate: &G,
+) -> Result<String, AllocError>
+    requires acceptable { AreAcceptable trace.ticks }
+    requires shape { HasShape trace.pods trace.arrivals trace.departures trace.ticks }
+    requires some { 0 < workers }
+    requires most { workers ≤ most_workers }
+    ensures { IfOk result (λ s. IsReportOf trace (string_bytes s)) }
+{
+    shared::<Brand, Brand, Brand, R, G>(rt, alloc, trace, Blanks::new(), workers, gate)
+}

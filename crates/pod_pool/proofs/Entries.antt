@@ -1,0 +1,107 @@
+-- The entries of pieces in the order of their numbers.
+use Rattle.std.proofs.Common.{◌≡◌, ℕ, zero, suc, ◌<◌, List, [], ◌∷◌, ◌++◌, map, length, get_or, Some}
+use Rattle.std.proofs.Common.{sym, refl, ap, ◌∙◌, subst, arith, inl, inr}
+use Rattle.std.specs.Prelude.{slice_get}
+use Rattle.std.specs.List.{sum_by}
+use Rattle.std.specs.List.Sorted.{IsPermutation}
+use Rattle.std.proofs.lemmas.List.{length-append}
+use Rattle.std.proofs.lemmas.Option.{slice_get-get_or, slice_get_within}
+use Rattle.histories.proofs.Lists.{place_split}
+use Rattle.pod_piece.specs.Piece.{Piece, updated}
+use Rattle.event_book.specs.declared.totals.Entry.{Entry}
+use Rattle.event_book.specs.declared.totals.Totals.{Totals}
+use Rattle.event_book.specs.Totals.{IsEntryOf, AreEntriesOf, plus, sums_of}
+use Rattle.event_book.specs.Shares.{Part, part}
+use Rattle.event_book.proofs.Numbers.{totals_same}
+use Rattle.piece_deques.proofs.Lists.{sum_map}
+use Rattle.piece_deques.specs.Rule.{AreNumbered}
+use Rattle.pool_worker.specs.Done.{HaveEntries, AreSumsOf}
+use Rattle.pool_worker.proofs.Sums.{sums_permuted}
+use Rattle.pod_pool.specs.Order.{AreAdded}
+
+pub no_entries : (pieces : List Piece) → pieces ≡ [] → AreEntriesOf pieces []
+no_entries pieces none =
+    subst (λ ps. AreEntriesOf ps []) (sym none)
+    (record { as_many = refl; each = λ n piece entry at is. absurd (cc) })
+
+-- one piece more
+pub entries_more : (xs ys : List Piece) (es : List Entry) (piece : Piece) (entry : Entry) → ys ≡ xs ++ piece ∷ []
+    → AreEntriesOf xs es → IsEntryOf piece entry → AreEntriesOf ys (es ++ entry ∷ [])
+entries_more xs ys es piece entry put are is =
+    let many = are.as_many in
+    subst (λ ps. AreEntriesOf ps (es ++ entry ∷ [])) (sym put)
+    (record {
+      as_many = omega (arith, length-append xs (piece ∷ []), length-append es (entry ∷ []));
+      each = λ n p e at there. elim (place_split xs piece p n at) [
+        | inl old ↦ elim (place_split es entry e n there) [
+          | inl older ↦ are.each n p e old older
+          | inr w ↦ let lt : n < length xs = slice_get_within xs n p old in let last = w.0 in absurd (omega arith)
+        ]
+        | inr v ↦ elim (place_split es entry e n there) [
+          | inl older ↦ let lt : n < length es = slice_get_within es n e older in let last = v.0 in absurd (omega arith)
+          | inr w ↦ subst (λ q. IsEntryOf q e) v.1 (subst (λ f. IsEntryOf piece f) w.1 is)
+        ]
+      ];
+    })
+
+abbrev no_entry : Entry
+no_entry = record { events = 0; orders = 0 }
+
+-- what each piece has by its place
+listed : (entry : Piece → Entry) (pieces : List Piece) (es : List Entry) → length es ≡ length pieces
+    → ((n : ℕ) (p : Piece) → slice_get pieces n ≡ Some p → entry p ≡ get_or es n no_entry) → map entry pieces ≡ es
+listed entry [] [] len same = refl
+listed entry [] (e ∷ es) len same = absurd (omega arith)
+listed entry (p ∷ ps) [] len same = absurd (omega arith)
+listed entry (p ∷ ps) (e ∷ es) len same =
+    let first : entry p ≡ e = same 0 p refl in
+    let ended = listed entry ps es (omega arith) (λ n q at. same (suc n) q at) in
+    λ k. first k ∷ ended k
+
+module _ (pieces : List Piece) (es : List Entry) (numbered : AreNumbered pieces) (are : AreEntriesOf pieces es) where
+  abbrev by_number : Piece → Entry
+  by_number p = get_or es p.number no_entry
+
+  have_entries : HaveEntries by_number pieces
+  have_entries k d in' =
+      let piece = get_or pieces k d in
+      let there = slice_get-get_or pieces k d in' in
+      let is = slice_get-get_or es k no_entry (let many = are.as_many in omega arith) in
+      subst (λ n. IsEntryOf piece (get_or es n no_entry)) (sym (numbered k piece there))
+      (are.each k piece (get_or es k no_entry) there is)
+
+  all_listed : map by_number pieces ≡ es
+  all_listed = listed by_number pieces es are.as_many (λ n p at. ap (λ k. get_or es k no_entry) (numbered n p at))
+
+  sums_are : (totals : Totals) → AreSumsOf pieces totals → totals ≡ sums_of es
+  sums_are totals sums =
+      let added = sums.sums by_number have_entries in
+      totals_same totals (sums_of es) (sums.updates ∙ sym are.as_many)
+      (added.events
+      ∙ (sym (sum_map by_number (λ (e : Entry). e.events) pieces) ∙ ap (sum_by (λ (e : Entry). e.events)) all_listed))
+      (added.orders
+      ∙ (sym (sum_map by_number (λ (e : Entry). e.orders) pieces) ∙ ap (sum_by (λ (e : Entry). e.orders)) all_listed))
+
+-- the number of a piece stays its place
+numbered_map : (all : List Piece) (at : ℕ → ℕ)
+    → ((n : ℕ) (p : Piece) → slice_get all n ≡ Some p → p.number ≡ at n)
+    → (n : ℕ) (p : Piece) → slice_get (map updated all) n ≡ Some p → p.number ≡ at n
+numbered_map [] at numbered n p e = absurd (cc)
+numbered_map (x ∷ xs) at numbered zero p e =
+    let same : updated x ≡ p = cc in ap (λ (q : Piece). q.number) (sym same) ∙ numbered 0 x refl
+numbered_map (x ∷ xs) at numbered (suc n) p e =
+    numbered_map xs (λ k. at (suc k)) (λ k q there. numbered (suc k) q there) n p e
+
+share_same : (share : Part) (parts : ℕ) (numbers : Totals) → share.parts ≡ parts → share.numbers ≡ numbers
+    → share ≡ part parts numbers
+share_same share parts numbers same_parts same_numbers = λ k. part (same_parts k) (same_numbers k)
+
+-- the share with which the pieces were entered that are in order now
+pub settled : (all done pieces : List Piece) (es : List Entry) (base : Totals) (share : Part) (parts : ℕ)
+    → AreNumbered all → pieces ≡ map updated all → IsPermutation done pieces → AreEntriesOf pieces es
+    → AreAdded done base share.numbers → share.parts ≡ parts → share ≡ part parts (plus base (sums_of es))
+settled all done pieces es base share parts numbered are_updated perm are added whole =
+    let in_place : AreNumbered pieces = subst AreNumbered (sym are_updated) (numbered_map all (λ n. n) numbered) in
+    let sums =
+    sums_are pieces es in_place are added.added (sums_permuted done pieces added.added perm added.are_sums) in
+    share_same share parts (plus base (sums_of es)) whole (added.is ∙ ap (plus base) sums)

@@ -1,0 +1,25 @@
+use Rattle.std.proofs.Common.{◌≡◌, ◌+◌, ◌≤◌, ◌++◌, ℕ, All, map, reverse, vec_len, vec_capacity}
+use Rattle.std.specs.List.{sum_by}
+use Rattle.pool_worker.specs.Seats.{places_len, taken_by}
+use Rattle.pool_worker.specs.Contexts.{context_place, context_tag, IsLaid}
+use Rattle.pod_pool.specs.FinishedWorkers.{finished_place, finished_kept, finished_taken, IsAway, IsRow}
+use Rattle.pod_pool.proofs.part.part_all.Given as goal
+
+abbrev pub invariant-loop-context : goal.invariant-loop-context
+invariant-loop-context g l = record {
+  laid : All (λ context. IsLaid (vec_len l.fn.contexts) (map context_place l.fn.contexts.items) (context_tag context))
+      l.left.items;
+  len : vec_len l.finished + vec_len l.left ≡ vec_len l.fn.contexts;
+  len_rows : vec_len l.rows ≡ vec_len l.finished;
+  room : vec_len l.fn.contexts ≤ vec_capacity l.finished;
+  room_rows : vec_len l.fn.contexts ≤ vec_capacity l.rows;
+  order : map finished_place l.finished.items ++ reverse (map context_place l.left.items)
+      ≡ map context_place l.fn.contexts.items;
+  finished : All (IsAway (vec_len l.fn.contexts) (places_len (map context_place l.fn.contexts.items))) l.finished.items;
+  rows : All (IsRow (map context_place l.fn.contexts.items)) l.rows.items;
+  kept : (weight : ℕ → ℕ) → sum_by (finished_kept weight) l.finished.items
+      ≡ sum_by (finished_taken weight) l.finished.items + sum_by (λ row. taken_by weight row.items) l.rows.items;
+}
+
+abbrev pub decreases-loop-context : goal.decreases-loop-context
+decreases-loop-context g l = vec_len l.left

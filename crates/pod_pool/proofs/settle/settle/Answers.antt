@@ -1,0 +1,116 @@
+use Rattle.std.proofs.Common.{◌≤◌, Option, List, length, refl, ap, ◌∙◌, subst, arith}
+use Rattle.std.specs.Option.{option_to_list}
+use Rattle.pod_piece.specs.Piece.{Piece}
+use Rattle.event_book.specs.Totals.{AreEntriesOf, plus}
+use Rattle.event_book.specs.Shares.{one_update}
+use Rattle.piece_deques.proofs.Lists.{front, last, grown, ones}
+use Rattle.pool_worker.specs.Done.{IsDone, weigh}
+use Rattle.pool_worker.proofs.Numbers.{weigh_more}
+use Rattle.pool_worker.proofs.Sums.{plus_assoc, sums_more}
+use Rattle.pod_pool.proofs.Entries.{settled}
+use Rattle.pod_pool.proofs.settle.settle.Goals as goal
+
+pub entered-init : goal.entered-init
+entered-init g c =
+    let total = c.args.total in
+    let join = ap (λ s. s.numbers) c.join.ensures in
+    record {
+      right = total.right;
+      right_uncounted = total.right_uncounted;
+      each = λ weight. (
+          let none = ap (λ (r : Option Piece). weigh weight (option_to_list r)) c.requires.none in
+          omega (arith, c.requires.each weight));
+      room = c.requires.room;
+      whole = ap (λ s. s.parts) c.join.ensures ∙ c.requires.whole;
+      added = record { added = total.share.numbers; are_sums = total.counts; is = join };
+    }
+
+pub enter_whole-requires-clause-room : goal.enter_whole-requires-clause-room
+enter_whole-requires-clause-room g c =
+    let l = c.entered in
+    let i = l.invariant in
+    let each = i.each (λ _. 1) in
+    let a = ones l.done.items in
+    let b = ones l.uncounted.items in
+    let d = ones g.D.Deal.all in
+    let few = c.requires.few in
+    let few_done : length l.done.items ≤ 256 = omega arith in
+    let low = c.requires.low in
+    let mine = c.last_of-entry.ensures.low in
+    let sums = i.added.are_sums in
+    let is = i.added.is in
+    let n = sums.updates in
+    record {
+      updates = (let base = low.updates in let now = ap (λ t. t.updates) is in omega arith);
+      events = (
+          let base = low.events in
+          let now = ap (λ t. t.events) is in
+          let had = sums.few_events in
+          let more = mine.events in
+          omega arith);
+      orders = (
+          let base = low.orders in
+          let now = ap (λ t. t.orders) is in
+          let had = sums.few_orders in
+          let more = mine.orders in
+          omega arith);
+    }
+
+pub push_reserved-requires : goal.push_reserved-requires
+push_reserved-requires g c =
+    let l = c.entered in
+    let each = l.invariant.each (λ _. 1) in
+    let a = ones l.done.items in
+    let b = ones l.uncounted.items in
+    let d = ones g.D.Deal.all in
+    omega (arith, l.done.ok.0, l.uncounted.ok.0, l.invariant.room, c.in-Some.ensures.cases)
+
+pub entered-preserved : goal.entered-preserved
+entered-preserved g c =
+    let done' = IsDone g.D.Deal.all in
+    let l = c.entered in
+    let i = l.invariant in
+    let left = c.pop.new.self in
+    let piece = c.in-Some.piece in
+    let pop = c.in-Some.ensures.items in
+    let new = c.push_reserved.new.self in
+    let put = c.push_reserved.ensures in
+    let entry = c.last_of-entry.result in
+    let e = c.enter_whole.ensures in
+    let base = c.args.share.numbers in
+    let old = i.added.added in
+    record {
+      right = grown done' l.done.items new.items piece put.items i.right
+          (last done' l.uncounted.items left.items piece pop i.right_uncounted);
+      right_uncounted = front done' l.uncounted.items left.items piece pop i.right_uncounted;
+      each = λ weight. (
+          let a = weigh_more weight l.done.items new.items piece put.items in
+          let b = weigh_more weight left.items l.uncounted.items piece pop in
+          omega (arith, i.each weight));
+      room = omega (arith, put.capacity, i.room);
+      whole = ap (λ s. s.parts) e;
+      added = record {
+        added = plus old (one_update entry);
+        are_sums = sums_more l.done.items new.items piece entry old (plus old (one_update entry)) put.items
+            refl c.last_of-entry.ensures.entry c.last_of-entry.ensures.low
+            i.added.are_sums;
+        is =
+            ap (λ s. s.numbers) e
+            ∙ (ap (λ t. plus t (one_update entry)) i.added.is ∙ plus_assoc base old (one_update entry));
+      };
+    }
+
+pub returns-clause-share : goal.returns-clause-share
+returns-clause-share g c =
+    let l = c.entered in
+    let i = l.invariant in
+    let found = c.look_over.ensures in
+    let order = c.in_order-pieces.ensures in
+    let pieces = c.in_order-pieces.result.items in
+    let are : AreEntriesOf pieces found.0 =
+    subst (λ (ps : List Piece). AreEntriesOf ps found.0) c.deref.ensures.value found.1 in (
+      found.0,
+      are,
+      settled g.D.Deal.all l.done.items pieces found.0 c.args.share.numbers l.share _ c.requires.numbered order.placed
+          order.same are i.added i.whole,
+    )

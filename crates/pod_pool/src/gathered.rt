@@ -1,0 +1,86 @@
+//! From the contexts that come back to the pieces in order.
+
+ghost use Rattle.std.specs.Prelude.{◌≡◌, ◌<◌, ◌≤◌, ◌+◌, [], List, IfOk, IfErr, length, map, vec_len};
+ghost use Rattle.observations.specs.Limits.{most_pods};
+ghost use Rattle.pod_piece.specs.Piece.{updated};
+ghost use Rattle.event_book.specs.declared.totals.Entry.{Entry};
+ghost use Rattle.event_book.specs.Totals.{AreEntriesOf, plus, sums_of};
+ghost use Rattle.event_book.specs.Shares.{most_parts, part};
+ghost use Rattle.event_book.specs.Limits.{AreLow};
+ghost use Rattle.piece_deques.specs.Rule.{IsPieceDue, AreNumbered};
+ghost use Rattle.pool_worker.specs.Contexts.{context_tag, AreLaid};
+ghost use Rattle.pod_pool.specs.Rooms.{HasRoom};
+
+use crate::absorb::absorb_all;
+use crate::collect::collect;
+use crate::finished_worker::FinishedWorker;
+use crate::part::part_all;
+use crate::settle::settle;
+use event_book::{EventBook, Shares};
+use piece_deques::Deal;
+use pod_piece::PodPiece;
+use pool_worker::{Gate, StealHandle, WorkerContext};
+use std::alloc::{AllocError, Global};
+use std::sync::ledger::Ledger;
+use std::sync::{Mutex, Wait};
+
+/// The memory that gathering takes.
+#[derive(Drop)]
+pub struct ResultBuffers<D: Deal, U: Ledger, E: Ledger, O: Ledger> {
+    finished: Vec<FinishedWorker<D, U, E, O>>,
+    rows: Vec<Vec<StealHandle<D>>>,
+}
+
+impl<D: Deal, U: Ledger, E: Ledger, O: Ledger> ResultBuffers<D, U, E, O> {
+    /// Buffers for the contexts of so many workers.
+    pub fn new(alloc: Global, workers: usize) -> Result<ResultBuffers<D, U, E, O>, AllocError>
+        ensures { IfOk result (HasRoom workers) }
+    {
+        let finished = Vec::with_capacity(alloc, workers)?;
+        let rows = Vec::with_capacity(alloc, workers)?;
+        Ok(ResultBuffers { finished, rows })
+    }
+}
+
+/// Takes the contexts of workers that have ended apart, finishes what is left in their deques, and gives the pieces of
+/// the round in order, each updated once, with the whole share, with which each was entered. An `Err` is a piece whose
+/// update was refused, as it was dealt.
+pub fn gather<D: Deal, U: Ledger, E: Ledger, O: Ledger, R: Wait, G: Gate>(
+    rt: &R,
+    book: &Mutex<EventBook<U, E, O>>,
+    gate: &G,
+    room: ResultBuffers<D, U, E, O>,
+    contexts: Vec<WorkerContext<D, U, E, O>>,
+    share: Shares<U, E, O>,
+) -> Result<(Vec<PodPiece>, Shares<U, E, O>), PodPiece>
+    requires numbered { AreNumbered D.all }
+    requires few { length D.all ≤ most_pods }
+    requires some { 0 < vec_len contexts }
+    requires laid { AreLaid D.all (map context_tag contexts.items) }
+    requires room { HasRoom (vec_len contexts) room }
+    requires parts { share.parts + vec_len contexts ≡ most_parts }
+    requires level { (U.parts ≡ most_parts) × (E.parts ≡ most_parts) × (O.parts ≡ most_parts) }
+    requires low { AreLow share.numbers }
+    ensures pieces { IfOk result (λ r. r.0.items ≡ map updated D.all) }
+    ensures share { IfOk result (λ r. (entries : List Entry) × AreEntriesOf r.0.items entries
+        × (r.1 ≡ part most_parts (plus share.numbers (sums_of entries)))) }
+    ensures due { IfErr result (IsPieceDue D.all) }
+{
+    let ResultBuffers { finished, rows } = room;
+    let mut finished = finished;
+    let mut rows = rows;
+    match part_all(contexts, &mut finished, &mut rows) {
+        Ok(()) => absorb_all(&mut finished, rows),
+        Err(piece) => {
+            drop((finished, rows, share));
+            return Err(piece);
+        }
+    }
+    match collect(rt, book, gate, finished) {
+        Ok(total) => Ok(settle(rt, book, total, share)),
+        Err(piece) => {
+            drop(share);
+            Err(piece)
+        }
+    }
+}

@@ -1,0 +1,68 @@
+//! The end of a round: pieces that the book had no room for are entered, and all pieces are put in order.
+
+ghost use Rattle.std.specs.Prelude.{◌≡◌, ◌≤◌, ◌+◌, ℕ, List, None, length, map, vec_capacity};
+ghost use Rattle.observations.specs.Limits.{most_pods};
+ghost use Rattle.pod_piece.specs.Piece.{updated};
+ghost use Rattle.event_book.specs.declared.totals.Entry.{Entry};
+ghost use Rattle.event_book.specs.Totals.{AreEntriesOf, plus, sums_of};
+ghost use Rattle.event_book.specs.Shares.{most_parts, part};
+ghost use Rattle.event_book.specs.Limits.{AreLow};
+ghost use Rattle.piece_deques.specs.Rule.{AreNumbered};
+ghost use Rattle.pool_worker.specs.Done.{weigh};
+ghost use Rattle.pool_worker.specs.WorkerResults.{kept};
+
+use event_book::{Entry, EventBook, Shares};
+use piece_deques::Deal;
+use pod_piece::PodPiece;
+use pool_worker::{WorkerResult, in_order};
+use std::sync::ledger::Ledger;
+use std::sync::{Mutex, Wait};
+
+/// Looks at the events of each piece: by them it has an entry.
+fn look_over(pieces: &[PodPiece])
+    ensures { (entries : List Entry) × AreEntriesOf pieces.now entries }
+{
+    for piece in pieces {
+        let _entry = Entry::last_of(piece);
+    }
+}
+
+/// Enters the uncounted pieces with the whole share, and puts all pieces in order.
+pub(crate) fn settle<D: Deal, U: Ledger, E: Ledger, O: Ledger, R: Wait>(
+    rt: &R,
+    book: &Mutex<EventBook<U, E, O>>,
+    total: WorkerResult<D, U, E, O>,
+    share: Shares<U, E, O>,
+) -> (Vec<PodPiece>, Shares<U, E, O>)
+    requires numbered { AreNumbered D.all }
+    requires few { length D.all ≤ most_pods }
+    requires none { total.refused ≡ None }
+    requires each { (weight : ℕ → ℕ) → kept weight total ≡ weigh weight D.all }
+    requires room { length D.all ≤ vec_capacity total.done }
+    requires level { (U.parts ≡ most_parts) × (E.parts ≡ most_parts) × (O.parts ≡ most_parts) }
+    requires whole { share.parts + total.share.parts ≡ most_parts }
+    requires low { AreLow share.numbers }
+    ensures pieces { result.0.items ≡ map updated D.all }
+    ensures share { (entries : List Entry) × AreEntriesOf result.0.items entries
+        × (result.1 ≡ part most_parts (plus share.numbers (sums_of entries))) }
+{
+    let WorkerResult {
+        done,
+        uncounted,
+        refused: _,
+        share: theirs,
+        of: _,
+    } = total;
+    let mut share = share;
+    share.join(theirs);
+    let mut done = done;
+    let mut uncounted = uncounted;
+    'entered: while let Some(piece) = uncounted.pop() {
+        let entry = Entry::last_of(&piece);
+        book.lock(rt).enter_whole(entry, &mut share);
+        done.push_reserved(piece);
+    }
+    let pieces = in_order::<D>(done);
+    look_over(&pieces);
+    (pieces, share)
+}

@@ -1,2 +1,0 @@
-pub mod FinishedWorkers
-pub mod Entries

@@ -1,3 +1,0 @@
-pub mod Order
-pub mod FinishedWorkers
-pub mod Rooms

@@ -1,3 +1,0 @@
-pub mod Updates
-pub mod Rounds
-pub mod Evicts

@@ -1,9 +1,0 @@
-use Rattle.std.proofs.Common.{◌≡◌, length}
-use Rattle.tick_parts.proofs.Updates.{AreUpdatedBelow}
-use Rattle.tick_parts.proofs.alone.update_alone.Given as goal
-
-abbrev pub invariant-loop-number : goal.invariant-loop-number
-invariant-loop-number g l = record {
-  end : l.number-end ≡ length l.fn.pieces.items;
-  updated : AreUpdatedBelow l.fn.pieces.items l.fn.book l.number l.pieces.items l.book;
-}

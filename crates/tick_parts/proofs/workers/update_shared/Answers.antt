@@ -1,5 +1,0 @@
-use Rattle.tick_parts.proofs.Rounds.{all_pending}
-use Rattle.tick_parts.proofs.workers.update_shared.Goals as goal
-
-pub update_all-requires-clause-pending : goal.update_all-requires-clause-pending
-update_all-requires-clause-pending g c κs within = all_pending c.args.pieces.items c.args.book c.requires.may

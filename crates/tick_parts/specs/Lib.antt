@@ -1,3 +1,0 @@
-pub mod Update
-pub mod Evict
-pub mod Played

@@ -1,0 +1,9 @@
+use Rattle.std.proofs.Common.{◌≡◌, length}
+use Rattle.tick_round.proofs.Updates.{AreUpdatedBelow}
+use Rattle.tick_round.proofs.alone.update_alone.Given as goal
+
+abbrev pub invariant-loop-number : goal.invariant-loop-number
+invariant-loop-number g l = record {
+  end : l.number-end ≡ length l.fn.pieces.items;
+  updated : AreUpdatedBelow l.fn.pieces.items l.fn.book l.number l.pieces.items l.book;
+}

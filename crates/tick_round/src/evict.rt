@@ -1,0 +1,62 @@
+//! The eviction of one tick.
+
+ghost use Rattle.std.specs.Prelude.{◌≡◌, Some, IfOk};
+ghost use Rattle.node_pods.specs.Pods.{IsCandidate};
+ghost use Rattle.ranking.specs.Order.{IsVictim};
+ghost use Rattle.tick_round.specs.Evict.{IsEvictionAt, MayBeEvicted, AreWithout};
+
+use eviction::{Eviction, order_for};
+use node_config::NodeConfig;
+use node_pods::NodePods;
+use node_signals::ThresholdKey;
+use pod_piece::PodPiece;
+use std::alloc::AllocError;
+
+/// The eviction of the victim, if there is one, at this moment, in seconds, for the threshold.
+fn eviction_of(
+    config: &NodeConfig,
+    pieces: &[PodPiece],
+    at: u64,
+    key: ThresholdKey,
+    victim: Option<usize>,
+) -> Option<Eviction>
+    requires { IsVictim key.signal config.now.has_dedicated_imagefs (IsCandidate pieces.now at) victim }
+    ensures { IsEvictionAt config.now pieces.now at (Some key) result }
+{
+    let number = victim?;
+    let piece = pieces.get(number)?;
+    Some(Eviction {
+        pod: number,
+        order: order_for(config, piece.pod(), at, key),
+    })
+}
+
+/// The eviction at this moment, in seconds, for the threshold that is served. An `Err` says that memory was
+/// refused.
+pub fn eviction_for(
+    config: &NodeConfig,
+    pods: &NodePods,
+    at: u64,
+    served: Option<ThresholdKey>,
+) -> Result<Option<Eviction>, AllocError>
+    requires { pods.now.has_dedicated_imagefs ≡ config.now.has_dedicated_imagefs }
+    ensures { IfOk result (IsEvictionAt config.now pods.now.pieces at served) }
+{
+    let Some(key) = served else {
+        return Ok(None);
+    };
+    let victim = pods.first(key.signal, at)?;
+    Ok(eviction_of(config, pods.pieces(), at, key, victim))
+}
+
+/// Carries the eviction out, if there is one.
+pub fn carry_out(pods: &mut NodePods, eviction: Option<Eviction>)
+    requires { MayBeEvicted pods.old.pieces eviction }
+    ensures pieces { AreWithout pods.old.pieces eviction pods.new.pieces }
+    ensures max_restart_delay { pods.new.max_restart_delay ≡ pods.old.max_restart_delay }
+    ensures dedicated { pods.new.has_dedicated_imagefs ≡ pods.old.has_dedicated_imagefs }
+{
+    if let Some(eviction) = eviction {
+        pods.evict(eviction.pod, eviction.order);
+    }
+}

@@ -1,0 +1,103 @@
+//! The updates of all pods in a tick, by workers.
+
+ghost use Rattle.std.specs.Prelude.{◌≡◌, ◌<◌, ◌≤◌, map, IfOk};
+ghost use Rattle.pod_piece.specs.Piece.{updated};
+ghost use Rattle.event_book.specs.Limits.{most_workers};
+ghost use Rattle.piece_deques.specs.Rule.{AreNumbered};
+ghost use Rattle.tick_round.specs.Update.{MayUpdate, AreEntered};
+
+use crate::alone::update_alone;
+use event_book::WholeBook;
+use pod_piece::PodPiece;
+use pod_pool::{Gate, update_all};
+use std::alloc::{AllocError, Global};
+use std::sync::ledger::Ledger;
+use std::sync::{Mutex, Wait};
+use std::thread::Threads;
+
+/// A worker is worth the start of its thread where it has so many pods. An update takes less than a microsecond, and
+/// a thread more than thirty: with half as many pods for each, 256 pods took a fifth longer than on one thread.
+const PODS_A_WORKER: usize = 256;
+
+/// So many workers are worth their start, where no update waits for others.
+fn worth_their_start(workers: usize, pods: usize) -> usize
+    requires { 0 < workers }
+    ensures some { 0 < result }
+    ensures most { result ≤ workers }
+{
+    (pods / PODS_A_WORKER).clamp(1, workers)
+}
+
+/// So many workers run.
+fn running<G: Gate>(workers: usize, pods: usize, gate: &G) -> usize
+    requires { 0 < workers }
+    ensures some { 0 < result }
+    ensures most { result ≤ workers }
+{
+    if gate.waits() {
+        workers
+    } else {
+        worth_their_start(workers, pods)
+    }
+}
+
+/// The updates of all pods by so many workers. The book is theirs under a lock until they have ended.
+fn update_shared<
+    U: Ledger + Send,
+    E: Ledger + Send,
+    O: Ledger + Send,
+    R: Threads + Wait + Sync,
+    G: Gate,
+>(
+    rt: &R,
+    alloc: Global,
+    pieces: Vec<PodPiece>,
+    book: WholeBook<U, E, O>,
+    workers: usize,
+    gate: &G,
+) -> Result<(Vec<PodPiece>, WholeBook<U, E, O>), AllocError>
+    requires may { MayUpdate pieces.items book }
+    requires numbered { AreNumbered pieces.items }
+    requires some { 0 < workers }
+    requires most { workers ≤ most_workers }
+    ensures pieces { IfOk result (λ r. r.0.items ≡ map updated pieces.items) }
+    ensures book { IfOk result (λ r. AreEntered r.0.items book r.1) }
+{
+    let (events, share) = book.into_parts();
+    let events = Mutex::new(events);
+    match update_all(rt, alloc, pieces, &events, share, workers, gate) {
+        Ok((pieces, share)) => Ok((pieces, WholeBook::of_parts(events.into_inner(), share))),
+        Err(_) => Err(AllocError),
+    }
+}
+
+/// All pods take the tick that was handed to them into their statuses, and are entered in the book, by so
+/// many workers, 1 to 64; where no update waits in the gate, by no more than are worth their start. One worker
+/// needs no thread, no deque and no lock. An `Err` says that memory was refused.
+pub fn update_by_workers<
+    U: Ledger + Send,
+    E: Ledger + Send,
+    O: Ledger + Send,
+    R: Threads + Wait + Sync,
+    G: Gate,
+>(
+    rt: &R,
+    alloc: Global,
+    pieces: Vec<PodPiece>,
+    book: WholeBook<U, E, O>,
+    workers: usize,
+    gate: &G,
+) -> Result<(Vec<PodPiece>, WholeBook<U, E, O>), AllocError>
+    requires may { MayUpdate pieces.items book }
+    requires numbered { AreNumbered pieces.items }
+    requires some { 0 < workers }
+    requires most { workers ≤ most_workers }
+    ensures pieces { IfOk result (λ r. r.0.items ≡ map updated pieces.items) }
+    ensures book { IfOk result (λ r. AreEntered r.0.items book r.1) }
+{
+    let workers = running(workers, pieces.len(), gate);
+    if workers == 1 {
+        return update_alone(pieces, book, gate);
+    }
+    update_shared(rt, alloc, pieces, book, workers, gate)
+}
