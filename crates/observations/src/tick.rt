@@ -2,8 +2,8 @@ ghost use Rattle.std.specs.Prelude.{◌≡◌};
 ghost use Rattle.observations.specs.Observations.{seen_of};
 
 use crate::pod::PodObs;
-use quantity::Quantity;
 use lists::Sequence;
+use quantity::Quantity;
 use signals::BySignal;
 use state_diff::Seen;
 

@@ -11,9 +11,9 @@ use crate::listing::{Listing, listings_of};
 use crate::probing::{ProbeResult, results_of};
 use crate::usage::usage_of;
 use json_fields::{Json, field, text_at};
+use lists::Sequence;
 use manifest::Text;
 use observations::Usage;
-use lists::Sequence;
 use std::alloc::Global;
 
 /// A pod's entry.

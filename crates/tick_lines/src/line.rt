@@ -8,8 +8,8 @@ use crate::entry::{Entry, entries_of};
 use crate::fault::TickLineFault;
 use crate::samples::samples_of;
 use json_fields::{Json, Scope, field};
-use quantity::Quantity;
 use lists::Sequence;
+use quantity::Quantity;
 use signals::BySignal;
 use std::alloc::Global;
 

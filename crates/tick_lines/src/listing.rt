@@ -9,8 +9,8 @@ ghost use Rattle.tick_lines.specs.Listings.{listing_of, listings_of};
 use crate::fault::TickLineFault;
 use crate::fields::{items_of, text_of};
 use json_fields::{Json, field, text_at};
-use manifest::Text;
 use lists::Sequence;
+use manifest::Text;
 use state_diff::CriState;
 use std::alloc::Global;
 

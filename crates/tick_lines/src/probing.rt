@@ -8,8 +8,8 @@ ghost use Rattle.tick_lines.specs.Results.{probe_named, outcome_named, result_of
 use crate::fault::TickLineFault;
 use crate::fields::{items_of, text_of};
 use json_fields::{Json, text_at};
-use manifest::{Outcome, ProbeKind, Text};
 use lists::Sequence;
+use manifest::{Outcome, ProbeKind, Text};
 use std::alloc::Global;
 
 /// A result of a container's probe.
