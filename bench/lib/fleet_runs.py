@@ -18,17 +18,23 @@ class Run:
         self.name, self.folder, self.others, self.peak = name, folder, list(others), 0
         os.makedirs(folder, exist_ok=True)
         self.used, self.began, self.seconds = processes.children_seconds(), time.monotonic(), 0.0
-        self.process = subprocess.Popen([*words, "--out", f"{folder}/fleet.db"], stdout=subprocess.DEVNULL)
+        self.process = subprocess.Popen([*words, "--out", f"{folder}/fleet.db"], stdout=subprocess.DEVNULL,
+                                        process_group=0)
 
     def done(self):
         """How many traces it has done."""
         return len(glob.glob(f"{self.folder}/fleet.db.done/*.rows.gz"))
 
     def look_until(self, done=None):
-        """Waits until so many traces are done, or until the end."""
-        while self.process.poll() is None and (done is None or self.done() < done):
-            self.peak = max(self.peak, processes.resident_of([self.process.pid, *self.others]))
-            time.sleep(0.1)
+        """Waits until so many traces are done, or until the end. Whoever ends this ends the run and its processes."""
+        try:
+            while self.process.poll() is None and (done is None or self.done() < done):
+                self.peak = max(self.peak, processes.resident_of([self.process.pid, *self.others]))
+                time.sleep(0.1)
+        except BaseException:
+            processes.end_group(self.process.pid)
+            self.process.wait()
+            raise
         self.seconds = time.monotonic() - self.began
 
     def told(self):
@@ -117,14 +123,17 @@ def stopped_run(fleet, traces, python, work):
 
 
 def measure(fleet, traces, python=sys.executable):
-    """Runs it in each way, and says what each costs. The status is 1 where a database is another."""
+    """Runs it in each way, and says what each costs. The status is 1 where a database is another. A signal that ends it
+    ends what it has started too."""
     work = tempfile.mkdtemp()
+    before = signal.signal(signal.SIGTERM, lambda number, frame: sys.exit(128 + number))
     try:
         alone, *others = local_runs(fleet, traces, python, work)
         others.append(stopped_run(fleet, traces, python, work))
         others += [dask_run(fleet, traces, python, work, count) for count in (1, 2, 4)]
         others.append(dask_run(fleet, traces, python, work, 4, ends=True))
     finally:
+        signal.signal(signal.SIGTERM, before)
         shutil.rmtree(work)
     same = [other == alone for other in others]
     print(f"{sum(same)} of {len(same)} databases are that of 1 process, of {len(alone)} bytes")

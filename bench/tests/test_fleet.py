@@ -4,6 +4,8 @@ import hashlib
 import io
 import json
 import os
+import signal
+import subprocess
 import tempfile
 from unittest import mock
 
@@ -71,6 +73,16 @@ class Runs(Case):
         with mock.patch.object(fleet_runs, "dask_run", lambda *_, **__: b"other"):
             status, lines = self.measured()
         self.assertEqual((status, lines[-1]), (1, "3 of 7 databases are that of 1 process, of 63 bytes"))
+
+    def test_a_signal_ends_what_was_started(self):
+        def popen(*words, **more):
+            started.append(real(*words, **more))
+            return started[-1]
+        started, real = [], subprocess.Popen
+        with (mock.patch.object(fleet_runs.subprocess, "Popen", popen), self.assertRaises(SystemExit) as end,
+              mock.patch.object(fleet_runs.time, "sleep", lambda seconds: os.kill(os.getpid(), signal.SIGTERM))):
+            self.measured()
+        self.assertEqual((end.exception.code, [run.returncode for run in started]), (143, [-signal.SIGKILL]))
 
 
 class Words(Case):
