@@ -1,4 +1,5 @@
 pub mod ListingLemmas
 pub mod UsageLemmas
+pub mod NextTicks
 pub mod PieceLemmas
 pub mod LastTicks

@@ -1,33 +1,26 @@
 -- What a piece keeps, from call to call.
-use Rattle.std.proofs.Common.{◌≡◌, ◌∙◌, inl, inr, ℕ, suc, ◌-◌, ◌<◌, ◌≤◌, Bool, true, false, List, [], ◌∷◌, ◌++◌}
+use Rattle.std.proofs.Common.{◌≡◌, ◌∙◌, ℕ, suc, ◌-◌, ◌<◌, ◌≤◌, Bool, true, false, List, [], ◌∷◌, ◌++◌}
 use Rattle.std.proofs.Common.{length, map, get_or, Option, Some, None, refl, ap, sym, subst, arith}
 use Rattle.std.specs.Prelude.{◌↔◌, IsTrue, IsSome, is_some, IfSome, IsSomeAnd, MatchOption, nat_lt}
-use Rattle.std.specs.Prelude.{if◌then◌else◌, slice_get, unwrap_or}
-use Rattle.std.proofs.lemmas.Bool.{cases_lt, lt-ltb, ltb-true}
+use Rattle.std.specs.Prelude.{if◌then◌else◌}
+use Rattle.std.proofs.lemmas.Bool.{lt-ltb, ltb-true}
 use Rattle.std.proofs.lemmas.List.{map-append}
-use Rattle.std.proofs.lemmas.Option.{slice_get_past}
-use Rattle.histories.specs.Histories.{last_moment, moment_at, EndsBefore}
-use Rattle.histories.proofs.Places.{length-more, length-project, moment_at-project}
+use Rattle.histories.proofs.Places.{length-more}
 use Rattle.manifest.specs.declared.pod.PodSpec.{PodSpec}
 use Rattle.observations.specs.Pods.{PodObs}
-use Rattle.observations.specs.declared.container.ContainerObs.{ContainerObs}
 use Rattle.state_diff.specs.declared.differ.Differ.{Differ}
-use Rattle.state_diff.specs.Instances.{IsAcceptable}
-use Rattle.containers.specs.Ticks.{listings}
 use Rattle.phase.specs.RawPhase.{IsTerminal}
 use Rattle.pod_state.specs.declared.events.PodEvent.{PodEvent}
 use Rattle.pod_state.specs.declared.state.PodState.{PodState}
-use Rattle.pod_state.specs.Pods.{PodEntry, PodTick, pod_tick, ticks_of, unseen, IsEnd, HasEnded, EndsEvicted}
+use Rattle.pod_state.specs.Pods.{PodTick, pod_tick, IsEnd, HasEnded, EndsEvicted}
 use Rattle.pod_state.specs.Events.{AreEventsOf}
 use Rattle.pod_state.specs.Lifecycles.{IsLifecycleOf, IsProgressOf}
-use Rattle.pod_state.specs.States.{before_of, HasContainers, IsStateOf, MayFollow}
-use Rattle.state_diff.proofs.Steps.{is_before}
-use Rattle.pod_state.proofs.StateLemmas.{may_follow}
+use Rattle.pod_state.specs.States.{before_of, HasContainers, IsStateOf}
 use Rattle.pod_state.proofs.EndLemmas.{end_old, ended_is, IsEnd-unique}
 use Rattle.pod_piece.specs.declared.order.EvictOrder.{EvictOrder}
 use Rattle.pod_piece.specs.declared.piece.EvictionRecord.{EvictionRecord}
 use Rattle.pod_piece.specs.declared.status.PodStatus.{PodStatus}
-use Rattle.pod_piece.specs.Listings.{listed_in, IsNextTick, AreListed, AllFollow}
+use Rattle.pod_piece.specs.Listings.{IsNextTick, AreListed}
 use Rattle.pod_piece.specs.Piece.{Piece, piece, before_last, last_of, taken, ticks, place_of, evicted_at, Lives}
 use Rattle.pod_piece.specs.Piece.{with_number}
 use Rattle.pod_piece.specs.Piece.{evicted_before, new_piece, with_tick, updated, with_eviction}
@@ -414,47 +407,6 @@ kept_evicted p x order differs old new before after events free lives last kept 
 pub flag_says : (o : Option EvictionRecord) (b : Bool) → b ≡ is_some o → (IsTrue b ↔ IsSome (place_of o))
 flag_says None b e = ((λ t. sym e ∙ t), (λ w. e ∙ w))
 flag_says (Some eviction) b e = ((λ t. refl), (λ w. e))
-
--- a container's last tick is the pod's
-ends_too : (h : List PodTick) (n at : ℕ) → EndsBefore h at → EndsBefore (listings (ticks_of h n)) at
-ends_too h n at later =
-    let f = λ (entry : PodEntry). unwrap_or (slice_get entry.containers n) unseen in
-    let g = λ (shown : ContainerObs). shown.seen in
-    let same : last_moment (listings (ticks_of h n)) ≡ last_moment h =
-    moment_at-project g (ticks_of h n) (length (listings (ticks_of h n)) - 1) ∙ moment_at-project f h
-    (length (listings (ticks_of h n)) - 1)
-    ∙ ap (λ m. moment_at h (m - 1)) (length-project g (ticks_of h n) ∙ length-project f h) in
-    subst (λ (o : Option ℕ). IfSome o (λ last. last < at)) (sym same) later
-
--- what may come next may be taken
-pub may_take : (pod : PodSpec) (max_restart_delay : ℕ) (e : Option ℕ) (h : List PodTick) (state : PodState)
-    (observed : PodObs)
-    → IsStateOf pod max_restart_delay e h state → IsNextTick pod h (pod_tick observed)
-    → MayFollow state observed.at observed.containers
-may_take pod max_restart_delay e h state observed is next =
-    may_follow pod max_restart_delay e h state observed.at observed.containers is
-    (λ n. elim (cases_lt n (length pod.containers)) [
-      | inl lt ↦ next.shown.acceptable n lt
-      | inr ge ↦
-          let past : slice_get observed.containers n ≡ None = slice_get_past observed.containers n
-          (omega (arith, next.shown.as_many, ge)) in
-          subst (λ (o : Option ContainerObs). IsAcceptable (listings (ticks_of h n)) (unwrap_or o unseen).seen)
-          (sym past) tt
-    ])
-    (λ n. ends_too h n observed.at next.later)
-
--- each differ may follow it
-pub all_follow : (pod : PodSpec) (h : List PodTick) (differs : List Differ) (observed : PodObs)
-    → AreListed pod h differs → IsNextTick pod h (pod_tick observed)
-    → AllFollow differs observed.at observed.containers
-all_follow pod h differs observed are next = λ n d lt.
-    let is = are.each n d lt in
-    record {
-      accepted = (is.accepts (listed_in observed.containers n)).1
-          (next.shown.acceptable n (omega (arith, are.as_many, lt)));
-      later = is_before (listings (ticks_of h n)) (get_or differs n d) observed.at is
-          (ends_too h n observed.at next.later);
-    }
 
 -- a piece that one more observation is handed to
 pub piece_handed : (number : ℕ) (pod : PodSpec) (max_restart_delay : ℕ) (items : List PodObs) (was_pending : Bool)

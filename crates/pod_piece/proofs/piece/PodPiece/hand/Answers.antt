@@ -5,7 +5,8 @@ use Rattle.pod_state.specs.Pods.{pod_tick}
 use Rattle.pod_piece.specs.Kept.{IsKept, AreKept, piece_of}
 use Rattle.pod_piece.specs.Listings.{AreListed, IsNextTick, AllFollow}
 use Rattle.pod_piece.specs.Piece.{Piece, piece}
-use Rattle.pod_piece.proofs.PieceLemmas.{all_follow, kept_handed, piece_handed}
+use Rattle.pod_piece.proofs.NextTicks.{all_follow}
+use Rattle.pod_piece.proofs.PieceLemmas.{kept_handed, piece_handed}
 use Rattle.pod_piece.proofs.LastTicks.{pushed_last}
 use Rattle.pod_piece.proofs.piece.PodPiece.hand.Goals as goal
 

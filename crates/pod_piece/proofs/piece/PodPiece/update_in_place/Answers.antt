@@ -6,7 +6,8 @@ use Rattle.pod_state.specs.Pods.{pod_tick}
 use Rattle.pod_state.specs.Lifecycles.{IsLifecycleOf, IsProgressOf}
 use Rattle.pod_piece.specs.Usage.{IsUsageOf, newer}
 use Rattle.pod_piece.specs.Piece.{piece, before_last, place_of}
-use Rattle.pod_piece.proofs.PieceLemmas.{may_self, may_take, has_containers, kept_updated, by_eviction, end_is}
+use Rattle.pod_piece.proofs.NextTicks.{may_take}
+use Rattle.pod_piece.proofs.PieceLemmas.{may_self, has_containers, kept_updated, by_eviction, end_is}
 use Rattle.pod_piece.proofs.PieceLemmas.{flag_says, at_last}
 use Rattle.pod_piece.proofs.UsageLemmas.{usage_more}
 use Rattle.pod_piece.specs.Kept.{AreKept, piece_of}
