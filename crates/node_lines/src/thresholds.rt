@@ -53,7 +53,7 @@ pub(crate) fn hard_thresholds(written: &Written) -> BySignal<Option<Threshold>>
     }
 }
 
-#[tactic(auto, unfolding(json_fields::specs::Maps::read_each))]
+#[tactic(auto, unfolding(json_fields::specs::SignalMaps::read_each))]
 pub(crate) fn soft_thresholds(written: &Written) -> Result<BySignal<Option<Threshold>>, NodeFault>
     ensures gives { result ≡ soft_thresholds written.now }
     ensures built { IfOk result (AreBuiltOf written.now.soft written.now.reclaims) }
