@@ -135,7 +135,9 @@ def test_fleet_is_stopped():
     words = [FLEET, "run", f"{folder}/traces", "--out", database, "--processes", "2"]
     for number, status in ((signal.SIGKILL, -9), (signal.SIGINT, 130)):
         before = rows_kept(database)
-        process = subprocess.Popen(words, env={**os.environ, **settings}, stderr=subprocess.PIPE)
+        # what a shell begins in the background ignores an interrupt
+        process = subprocess.Popen(words, env={**os.environ, **settings}, stderr=subprocess.PIPE,
+                                   preexec_fn=lambda: signal.signal(signal.SIGINT, signal.SIG_DFL))
         wait_until(lambda: rows_kept(database) > before + 2)
         busy = run(words, **settings)
         process.send_signal(number)
