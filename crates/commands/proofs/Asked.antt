@@ -1,7 +1,7 @@
 -- What clap says of the words at the program's command line.
 use Rattle.std.proofs.Common.{◌≡◌, ◌∙◌, true, List, [], refl, ap, sym, subst, inl, inr, Option, Result, Ok, Err}
 use Rattle.std.specs.Prelude.{IfOk, IfErr}
-use Rattle.clap.specs.Words.{App, HasMatchesOf, Row, Text, app_of, fault_of, is_simple, is_simple_and_free}
+use Rattle.clap.specs.Words.{App, HasMatchesOf, Row, Text, fault_of, is_simple, is_simple_and_free}
 use Rattle.clap.specs.Words.{subcommand_of}
 use Rattle.clap.specs.Words.{HasKind, IsAmong, kind_of, subcommand_rows_of}
 use Rattle.clap.specs.declared.error.Error.{Error}
@@ -41,7 +41,7 @@ asks_none words app m is matches none job found =
     none job (subst (λ (o : Option (Text × List Row)). IsJobOf o job)
     (sym ((matches (ap is_simple is ∙ simple)).1 ∙ ap (λ (a : App). subcommand_of a words) is)) found)
 
--- clap refuses the words, but for want of memory, for a fault that it finds in them
+-- clap refuses the words, unless memory ran out, for a fault that it finds in them
 pub refuted : (words : List Text) (app : App) (error : Error) → app ≡ program
     → (is_simple_and_free app ≡ true → HasKind (fault_of app words) error) → Refutes words error
 refuted words app error is kinds other =

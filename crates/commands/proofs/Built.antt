@@ -1,6 +1,8 @@
 -- Commands that grow by an argument or a subcommand.
-use Rattle.std.proofs.Common.{◌≡◌, ◌∙◌, ap, ap₂, sym, Bool, true, false, Option, Some, is_some, List, ℕ, ◌||◌}
+use Rattle.std.proofs.Common.{◌≡◌, ◌∙◌, ap, ap₂, Bool, true, false, Option, is_some, List, ℕ, ◌||◌, Result}
+use Rattle.std.specs.Prelude.{IfOk}
 use Rattle.std.specs.Borrow.{Bor}
+use Rattle.std.proofs.lemmas.Result.{IfOk-weaker}
 use Rattle.clap.specs.Words.{App, Rule, AddsArg, AddsSubcommand, app_of, rule_of, with_rule, with_subcommand}
 use Rattle.clap.specs.declared.builder.arg.Arg.{Arg}
 use Rattle.clap.specs.declared.builder.command.Command.{Command}
@@ -16,6 +18,13 @@ with_arg old new a app rule is one local adds =
       described = adds.shape local ∙ ap₂ with_rule is.described one;
       local = adds.globals ∙ ap₂ (λ (b c : Bool). b || c) is.local local;
     }
+
+-- the last one, where there is memory for it
+pub with_last_arg : {E : Type 0} (old : Command) (made : Result Command E) (a : Arg) (app : App) (rule : Rule)
+    → IsCommand app old → rule_of a ≡ rule → a.global ≡ false → IfOk made (AddsArg old a)
+    → IfOk made (IsCommand (with_rule app rule))
+with_last_arg old made a app rule is one local adds =
+    IfOk-weaker made _ _ (λ command added. with_arg old command a app rule is one local added) adds
 
 pub with_one_below : (old sub new : Command) (app below : App) → IsCommand app old → IsCommand below sub
     → AddsSubcommand old sub new → IsCommand (with_subcommand app below.top) new

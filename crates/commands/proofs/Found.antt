@@ -1,14 +1,14 @@
 -- What was found for the arguments of a subcommand, and the job for which it asks.
-use Rattle.std.proofs.Common.{◌≡◌, ◌∙◌, ◌≤◌, ◌<◌, ℕ, List, [], ◌∷◌, codes, get_or, Option, None, Some, Result, Ok}
+use Rattle.std.proofs.Common.{◌≡◌, ◌∙◌, ◌≤◌, ℕ, List, ◌∷◌, codes, get_or, Option, None, Some, Result, Ok}
 use Rattle.std.proofs.Common.{Err}
-use Rattle.std.proofs.Common.{refl, ap, sym, subst, arith}
+use Rattle.std.proofs.Common.{refl, ap, sym, arith}
 use Rattle.std.specs.Str.Parse.{ParsesUnsigned}
-use Rattle.clap.specs.Words.{Row, ReadsOne, first_of, first_value, one_of, one_text, rows_of}
+use Rattle.clap.specs.Words.{Row, ReadsOne, first_value, one_text, rows_of}
 use Rattle.clap.specs.declared.parser.matches.Found.{Found}
 use Rattle.clap.proofs.WalkLemmas.{first_value-rows, one_text-rows}
 use Rattle.commands.specs.declared.job.Job.{Job}
 use Rattle.commands.specs.declared.job.Job.TheVariants.{Run, Check, Play}
-use Rattle.commands.specs.Jobs.{Has, HasWorkers, IsJobFor, IsNumber}
+use Rattle.commands.specs.Jobs.{Has, HasWorkers, IsJobFor}
 
 pub has_text : (f : Found) (id text : List ℕ) → Some text ≡ first_value f id → Has (rows_of f) id text
 has_text f id text is = sym (is ∙ first_value-rows f id)

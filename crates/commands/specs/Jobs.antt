@@ -59,7 +59,7 @@ pub record IsAskedBy (words : List Text) (job : Job) : Type 0 where
   pub taken : fault_of program words ≡ []
   pub found : IsJobOf (subcommand_of program words) job
 
--- clap's error is handed on, but for want of memory
+-- clap's error is handed on, but where memory ran out
 abbrev pub IsRefusal : Error → UsageFault → Type 0
 IsRefusal error (Refused same) = (same ≡ error) × (kind_of error ≢ kinds.OutOfMemory)
 IsRefusal error OutOfMemory = kind_of error ≡ kinds.OutOfMemory
@@ -76,7 +76,7 @@ abbrev pub IsFaultIn : List Text → Error → Type 0
 IsFaultIn words error =
     IsAmong (kind_of error) (fault_of program words) ⊎ ((job : Job) → IsJobOf (subcommand_of program words) job → ⊥)
 
--- the words ask for no job by this error, but for want of memory
+-- the words ask for no job by this error, but where memory ran out
 abbrev pub Refutes : List Text → Error → Type 0
 Refutes words error = kind_of error ≢ kinds.OutOfMemory → IsFaultIn words error
 

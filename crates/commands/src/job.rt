@@ -20,7 +20,7 @@ const MOST_WORKERS: usize = 64;
 /// What the program is asked to do.
 #[derive(Clone, Copy, Debug, PartialEq, Eq)]
 pub enum Job<'a> {
-    /// Write the report of a trace, with so many workers.
+    /// Write the report of a trace, with this many workers.
     Run {
         trace: &'a str,
         workers: usize,
@@ -31,7 +31,7 @@ pub enum Job<'a> {
         trace: &'a str,
         format: Format,
     },
-    /// Write the report of a trace, with so many workers that take the steps of a steps file.
+    /// Write the report of a trace, with this many workers that take the steps of a steps file.
     Play {
         trace: &'a str,
         steps: &'a str,
@@ -40,7 +40,7 @@ pub enum Job<'a> {
     },
 }
 
-/// Whether there may be so many workers.
+/// Whether there may be this many workers.
 fn may_share(workers: usize) -> bool
     ensures { IsTrue result ↔ ((1 ≤ workers) × (workers ≤ 64)) }
 {

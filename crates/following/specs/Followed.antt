@@ -15,7 +15,7 @@ use Rattle.following.specs.declared.listing_order.ListingOrder.{ListingOrder}
 abbrev pub EndBefore : List TickObs → ℕ → Type 0
 EndBefore ticks moment = IfSome (slice_get ticks (length ticks - 1)) (λ last. last.at < moment)
 
--- the ticks are of so many pods, and no observation of one is later than the last tick
+-- the ticks are of this many pods, and no observation of one is later than the last tick
 pub record AreOfPods (ticks : List TickObs) (pods : ℕ) : Type 0 where
   pub others : (pod : ℕ) → pods ≤ pod → own_ticks ticks pod ≡ []
   pub in_time : (pod container moment : ℕ) → EndBefore ticks moment → EndsBefore (history ticks pod container) moment
@@ -32,11 +32,11 @@ pub record AreFollowed (ticks : List TickObs) (counts : List ℕ) (differs : Lis
       → IsStateOf (history ticks p c) (slice_index_or (slice_index_or differs p ds).items c d)
   pub of_pods : AreOfPods ticks (length counts)
 
--- these ticks, of pods with so many containers, have left it so
+-- these ticks, of pods with this many containers, have left it so
 abbrev pub HasFollowed : List TickObs → List ℕ → ListingOrder → Type 0
 HasFollowed ticks counts following = AreFollowed ticks counts following.differs.items
 
--- the tick may stand behind these: it says of each of the pods that it is not present, or shows it with so many
+-- the tick may stand behind these: it says of each of the pods that it is not present, or shows it with this many
 -- containers, at its own moment, which is later than theirs
 pub record ComesNext (ticks : List TickObs) (counts : List ℕ) (tick : TickObs) : Type 0 where
   pub as_many : length tick.pods ≡ length counts
@@ -45,7 +45,7 @@ pub record ComesNext (ticks : List TickObs) (counts : List ℕ) (tick : TickObs)
   pub moment : (pod : ℕ) (shown : PodObs) → shown_of tick pod ≡ Some shown → shown.at ≡ tick.at
   pub later : EndBefore ticks tick.at
 
--- it follows a pod more, of so many containers, through the same ticks
+-- it follows a pod more, of this many containers, through the same ticks
 abbrev pub HasNewPod : ListingOrder → ℕ → ListingOrder → Type 0
 HasNewPod old containers next = (ticks : List TickObs) (counts : List ℕ) → HasFollowed ticks counts old
     → HasFollowed ticks (counts ++ containers ∷ []) next

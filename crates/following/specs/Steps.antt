@@ -9,7 +9,7 @@ use Rattle.state_diff.specs.Instances.{Tick}
 use Rattle.observations.specs.declared.tick.TickObs.{TickObs}
 use Rattle.observations.specs.Observations.{shown_of, seen_of}
 
--- so many differs, with no listing behind them
+-- this many differs, with no listing behind them
 pub record AreNew (count : ℕ) (differs : List Differ) : Type 0 where
   pub as_many : length differs ≡ count
   pub new : (c : ℕ) (d : Differ) → c < count → IsStateOf [] (slice_index_or differs c d)

@@ -29,7 +29,7 @@ impl ListingOrder {
         }
     }
 
-    /// Takes in a pod with so many containers, behind the others. No tick so far shows it.
+    /// Takes in a pod with this many containers, behind the others. No tick so far shows it.
     pub fn with_pod(self, alloc: Global, containers: usize) -> Result<ListingOrder, AllocError>
         ensures { IfOk result (HasNewPod self containers) }
     {

@@ -68,30 +68,23 @@ pub found_member : (name : List ℕ) (ts : List Token) (r : Option (List Token))
 found_member name ts r has finds =
     found_data r _ (finds has.0 has.1) ∙ sym (get_data name has.0) ∙ ap (get name) (sym (data_here ts has.0 has.1))
 
-as_str-data : (j : Json) → found.as_str j ≡ as_str (data_of j)
-as_str-data json.null = refl
-as_str-data (json.boolean b) = refl
-as_str-data (json.number s) = refl
-as_str-data (json.string s) = refl
-as_str-data (json.array js) = refl
-as_str-data (json.object ms) = refl
+-- its text, and whether it is null
+text_and_null : (j : Json) → (found.as_str j ≡ as_str (data_of j)) × (found.is_null j ≡ is_some (as_null (data_of j)))
+text_and_null json.null = (refl, refl)
+text_and_null (json.boolean b) = (refl, refl)
+text_and_null (json.number s) = (refl, refl)
+text_and_null (json.string s) = (refl, refl)
+text_and_null (json.array js) = (refl, refl)
+text_and_null (json.object ms) = (refl, refl)
 
 pub found_text : (ts : List Token) (r : Option (List ℕ)) → HasValue ts
     → ((j : Json) → BeginsWith ts j → r ≡ found.as_str j) → r ≡ as_str (data_at ts)
-found_text ts r has is = is has.0 has.1 ∙ as_str-data has.0 ∙ ap as_str (sym (data_here ts has.0 has.1))
-
-is_null-data : (j : Json) → found.is_null j ≡ is_some (as_null (data_of j))
-is_null-data json.null = refl
-is_null-data (json.boolean b) = refl
-is_null-data (json.number s) = refl
-is_null-data (json.string s) = refl
-is_null-data (json.array js) = refl
-is_null-data (json.object ms) = refl
+found_text ts r has is = is has.0 has.1 ∙ (text_and_null has.0).0 ∙ ap as_str (sym (data_here ts has.0 has.1))
 
 pub found_null : (ts : List Token) (r : Bool) → HasValue ts
     → ((j : Json) → BeginsWith ts j → r ≡ found.is_null j) → r ≡ is_some (as_null (data_at ts))
 found_null ts r has is =
-    is has.0 has.1 ∙ is_null-data has.0 ∙ ap (λ d. is_some (as_null d)) (sym (data_here ts has.0 has.1))
+    is has.0 has.1 ∙ (text_and_null has.0).1 ∙ ap (λ d. is_some (as_null d)) (sym (data_here ts has.0 has.1))
 
 -- ---- the items of an array
 

@@ -21,7 +21,7 @@ abbrev pub each : {A B E : Type 0} → (A → Result B E) → List A → Result 
 each f [] = Ok []
 each f (x ∷ xs) = f x >>= λ y. each f xs >>= λ ys. Ok (y ∷ ys)
 
--- What a call answered, seen by view, is what the definition gives; a fault for want of memory
+-- What a call answered, seen by view, is what the definition gives; a fault because memory ran out
 -- aside, which no definition gives.
 abbrev pub GivesUnless : {X Y E : Type 0} → (E → Bool) → (X → Y) → Result X E → Result Y E → Type 0
 GivesUnless is_memory view (Ok x) given = given ≡ Ok (view x)

@@ -1,5 +1,5 @@
 -- The items of chunks: how many there are, and where each is.
-use Rattle.std.proofs.Common.{◌≡◌, ◌∙◌, ◌<◌, ℕ, zero, suc, ◌+◌, ◌*◌, ◌/◌, ◌%◌, List, [], ◌∷◌, ◌++◌, length, get_or}
+use Rattle.std.proofs.Common.{◌≡◌, ◌∙◌, ◌≤◌, ◌<◌, ℕ, zero, suc, ◌+◌, ◌*◌, ◌/◌, ◌%◌, List, [], ◌∷◌, ◌++◌, length, get_or}
 use Rattle.std.proofs.Common.{append-nil, refl, ap, sym, subst, arith}
 use Rattle.std.specs.Prelude.{Vec}
 use Rattle.std.specs.Global.{Global}
@@ -86,6 +86,14 @@ pub item_in_last : {X : Type 0} (full : List (Vec X Global)) (last : List X) (pl
 item_in_last full last place x all same =
     ap (λ n. get_or (joined full last) n x) {x = place} {y = 64 * length full + place % 64} (omega (arith, same))
     ∙ in_last full last (place % 64) x all
+
+-- a place behind the full chunks is one of the last chunk
+pub behind_full : {X : Type 0} (full : List (Vec X Global)) (last : List X) (place : ℕ) → AreFull full
+    → place < length (joined full last) → length last ≤ 64 → length full ≤ place / 64
+    → (place / 64 ≡ length full) × (place % 64 < length last)
+behind_full full last place all within fits behind =
+    let size = joined_length full last all in
+    (omega (arith, size, within, fits, behind), omega (arith, size, within, fits, behind))
 
 -- with room for it in the last chunk
 pub more_chunks : {X : Type 0} (full : List (Vec X Global)) (last : List X) (x : X) (count : ℕ) → AreFull full

@@ -2,7 +2,7 @@
 use Rattle.std.specs.Prelude.{◌≡◌, ◌≤◌, ℕ, List, [], ◌∷◌, ◌++◌, length, All, Vec}
 use Rattle.std.specs.Global.{Global}
 
--- so many items has a chunk
+-- this many items has a chunk
 abbrev pub chunk_length : ℕ
 chunk_length = 64
 

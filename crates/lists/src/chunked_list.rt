@@ -7,7 +7,7 @@ use std::alloc::{AllocError, Global};
 use std::marker::Model;
 use std::mem;
 
-/// So many items has a chunk.
+/// This many items has a chunk.
 const CHUNK: usize = 64;
 
 /// The item at the place of full chunks and a last one.

@@ -10,6 +10,6 @@ least_max_delay = 1
 abbrev pub most_max_delay : ℕ
 most_max_delay = 300
 
--- so many seconds, if they are in the range
+-- this many seconds, if they are in the range
 abbrev pub max_delay_of : ℕ → Option ℕ
 max_delay_of seconds = if nat_le least_max_delay seconds && nat_le seconds most_max_delay then Some seconds else None

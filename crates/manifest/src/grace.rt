@@ -1,6 +1,7 @@
 //! How long a pod has to end.
 
-ghost use Rattle.std.specs.Prelude.{◌≡◌, ◌<◌, ◌^◌};
+ghost use Rattle.std.specs.Prelude.{◌≡◌, ◌<◌};
+ghost use Rattle.quantity.specs.Duration.{end_of_time};
 
 use std::marker::Model;
 
@@ -10,21 +11,22 @@ use std::marker::Model;
 pub struct GracePeriod(u64);
 
 impl Model for GracePeriod {
-    ghost use Rattle.std.specs.Prelude.{ℕ, ◌<◌, ◌^◌};
+    ghost use Rattle.std.specs.Prelude.{ℕ, ◌<◌};
+    ghost use Rattle.quantity.specs.Duration.{end_of_time};
 
     ghost Value = { ℕ };
 
     ghost view = { λ g. g.0 };
 
-    ghost invariant = { λ g. g.0 < 2 ^ 40 };
+    ghost invariant = { λ g. g.0 < end_of_time };
 
     ghost inverse = { λ n. record { 0 = n } };
 }
 
 impl GracePeriod {
-    /// So many seconds.
+    /// This many seconds.
     pub fn new(seconds: u64) -> GracePeriod
-        requires { seconds < 2 ^ 40 }
+        requires { seconds < end_of_time }
         ensures { result ≡ seconds }
     {
         GracePeriod(seconds)
@@ -33,7 +35,7 @@ impl GracePeriod {
     /// The seconds.
     pub fn get(self) -> u64
         ensures value { result ≡ self }
-        ensures most { result < 2 ^ 40 }
+        ensures most { result < end_of_time }
     {
         self.0
     }

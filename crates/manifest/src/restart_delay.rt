@@ -1,4 +1,4 @@
-//! How long a node may put off a restart.
+//! How long a node may delay a restart.
 
 ghost use Rattle.std.specs.Prelude.{◌≡◌, ◌≤◌};
 ghost use Rattle.manifest.specs.RestartDelay.{least_max_delay, most_max_delay, max_delay_of};
@@ -32,7 +32,7 @@ impl MaxRestartDelay {
         MaxRestartDelay(MOST_SECONDS)
     }
 
-    /// So many seconds, if they are in the range.
+    /// This many seconds, if they are in the range.
     pub fn new(seconds: u64) -> Option<MaxRestartDelay>
         ensures { result ≡ max_delay_of seconds }
     {

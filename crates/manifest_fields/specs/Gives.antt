@@ -8,6 +8,6 @@ abbrev pub is_memory : ManifestFault → Bool
 is_memory OutOfMemory = true
 is_memory fault = false
 
--- of a call that takes memory: a fault for want of it aside
+-- of a call that takes memory: out of memory aside
 abbrev pub Gives : {X Y : Type 0} → (X → Y) → Result X ManifestFault → Result Y ManifestFault → Type 0
 Gives view result given = GivesUnless is_memory view result given

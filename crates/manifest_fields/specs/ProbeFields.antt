@@ -35,7 +35,7 @@ abbrev pub number_of : ℕ → ℕ → ℕ → Option Data → Result ℕ Manife
 number_of least most default None = Ok default
 number_of least most default (Some d) = number_from least most d (option_and_then as_u64 (as_number d))
 
--- one probe, of so many successes at most
+-- one probe, of this many successes at most
 unfoldable pub probe_in : ℕ → Data → Result Probe ManifestFault
 probe_in most_successes d = do
   probe ← object_of fields.Probe (Some d)

@@ -13,25 +13,7 @@ checks_read : (d : Data) → Reads (pod_at d) (map (fault_at d) (checks_of d))
 checks_read d = rw (answers_are d) (pod_read d)
 
 pub first_check : FirstCheck
-first_check d fault =
-    let parts = rows.first_check (pod_at d) (fault_at d) (checks_of d) (checks_read d) fault in (
-      (λ e. let is = parts.0 e in record {
-        earlier = is.earlier;
-        check = is.check;
-        later = is.later;
-        in_order = is.in_order;
-        passed = is.passed;
-        failed = is.failed;
-      }),
-      (λ is. parts.1 (record {
-        earlier = is.earlier;
-        check = is.check;
-        later = is.later;
-        in_order = is.in_order;
-        passed = is.passed;
-        failed = is.failed;
-      })),
-    )
+first_check d fault = rows.first_check (pod_at d) (fault_at d) (checks_of d) (checks_read d) fault
 
 pub every_check : EveryCheck
 every_check d = rows.every_check (pod_at d) (fault_at d) (checks_of d) (checks_read d)

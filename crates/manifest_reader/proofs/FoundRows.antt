@@ -40,7 +40,7 @@ resource_rows found =
     RequestAboveLimit
     ∷ []
 
--- a probe, of so many successes at most
+-- a probe, of this many successes at most
 abbrev pub probe_rows : ℕ → Option Data → List Row
 probe_rows most_successes found =
     may_be is_object fields.Probe found

@@ -1,4 +1,4 @@
--- The faults of a manifest, none of which is for want of memory.
+-- The faults of a manifest, none of which is that memory ran out.
 use Rattle.std.proofs.Common.{◌≢◌, ℕ, ℤ, Bool, List, [], ◌∷◌, ◌+◌, ◌++◌, length, Option, Some, None, Result, Ok, Err}
 use Rattle.std.proofs.Common.{is_some}
 use Rattle.std.specs.Prelude.{pos, option_and_then, nat_lt, codes}

@@ -9,6 +9,7 @@ use Rattle.std.proofs.lemmas.List.Elements.{All-nil, All-cons, All-head, All-tai
 use Rattle.json_fields.specs.Reading.{◌>>=◌, refused_if, each}
 use Rattle.manifest_fields.specs.declared.fault.ManifestFault.{ManifestFault}
 use Rattle.manifest_reader.specs.Found.{fault_of, fails_if}
+use Rattle.manifest_reader.specs.Laws.{Passes, FailsFirst}
 
 -- what a check answers
 abbrev pub Row : Type 0
@@ -71,71 +72,59 @@ each_rows f rows one [] = read []
 each_rows f rows one (x ∷ xs) = step (f x) _ (rows x) (flat_map rows xs) (one x)
     (λ y e. last_step (each f xs) (λ ys. y ∷ ys) (flat_map rows xs) (each_rows f rows one xs))
 
-abbrev pub IsPassed : {C : Type 0} → (C → Row) → C → Type 0
-IsPassed answer check = answer check ≡ None
-
--- the first of these checks that is failed answers the fault
-pub record Splits {C : Type 0} (answer : C → Row) (checks : List C) (fault : ManifestFault) : Type 0 where
-  pub earlier : List C
-  pub check : C
-  pub later : List C
-  pub in_order : checks ≡ earlier ++ check ∷ later
-  pub passed : All (IsPassed answer) earlier
-  pub failed : answer check ≡ Some fault
-
 one_more : {C : Type 0} (answer : C → Row) (c : C) (cs : List C) (fault : ManifestFault) → answer c ≡ None
-    → Splits answer cs fault → Splits answer (c ∷ cs) fault
+    → FailsFirst answer cs fault → FailsFirst answer (c ∷ cs) fault
 one_more answer c cs fault passes rest = record {
   earlier = c ∷ rest.earlier;
   check = rest.check;
   later = rest.later;
   in_order = ap (λ (xs : List _). c ∷ xs) rest.in_order;
-  passed = All-cons (IsPassed answer) c rest.earlier passes rest.passed;
+  passed = All-cons (Passes answer) c rest.earlier passes rest.passed;
   failed = rest.failed;
 }
 
 first_failed : {C : Type 0} (answer : C → Row) (checks : List C) (fault : ManifestFault)
-    → first (map answer checks) ≡ Some fault → Splits answer checks fault
+    → first (map answer checks) ≡ Some fault → FailsFirst answer checks fault
 first_failed answer [] fault e = absurd (cc)
 first_failed answer (c ∷ cs) fault e = there (answer c) refl e (first_failed answer cs fault)
   where
     there : (row : Row) → answer c ≡ row → option_or row (first (map answer cs)) ≡ Some fault
-        → (first (map answer cs) ≡ Some fault → Splits answer cs fault) → Splits answer (c ∷ cs) fault
+        → (first (map answer cs) ≡ Some fault → FailsFirst answer cs fault) → FailsFirst answer (c ∷ cs) fault
     there None passes e later = one_more answer c cs fault passes (later e)
     there (Some other) fails e later = record {
       earlier = [];
       check = c;
       later = cs;
       in_order = refl;
-      passed = All-nil (IsPassed answer);
+      passed = All-nil (Passes answer);
       failed = fails ∙ e;
     }
 
 first_of : {C : Type 0} (answer : C → Row) (earlier : List C) (check : C) (later : List C) (fault : ManifestFault)
-    → All (IsPassed answer) earlier → answer check ≡ Some fault
+    → All (Passes answer) earlier → answer check ≡ Some fault
     → first (map answer (earlier ++ check ∷ later)) ≡ Some fault
 first_of answer [] check later fault passed failed = rw failed refl
 first_of answer (c ∷ cs) check later fault passed failed =
-    let here : answer c ≡ None = All-head (IsPassed answer) c cs passed in
-    rw here (first_of answer cs check later fault (All-tail (IsPassed answer) c cs passed) failed)
+    let here : answer c ≡ None = All-head (Passes answer) c cs passed in
+    rw here (first_of answer cs check later fault (All-tail (Passes answer) c cs passed) failed)
 
 -- no check is failed
 all_passed : {C : Type 0} (answer : C → Row) (checks : List C) → first (map answer checks) ≡ None
-    → All (IsPassed answer) checks
-all_passed answer [] e = All-nil (IsPassed answer)
+    → All (Passes answer) checks
+all_passed answer [] e = All-nil (Passes answer)
 all_passed answer (c ∷ cs) e = there (answer c) refl e (all_passed answer cs)
   where
     there : (row : Row) → answer c ≡ row → option_or row (first (map answer cs)) ≡ None
-        → (first (map answer cs) ≡ None → All (IsPassed answer) cs) → All (IsPassed answer) (c ∷ cs)
-    there None passes e later = All-cons (IsPassed answer) c cs passes (later e)
+        → (first (map answer cs) ≡ None → All (Passes answer) cs) → All (Passes answer) (c ∷ cs)
+    there None passes e later = All-cons (Passes answer) c cs passes (later e)
     there (Some fault) fails e later = absurd (cc)
 
-passed_all : {C : Type 0} (answer : C → Row) (checks : List C) → All (IsPassed answer) checks
+passed_all : {C : Type 0} (answer : C → Row) (checks : List C) → All (Passes answer) checks
     → first (map answer checks) ≡ None
 passed_all answer [] all = refl
 passed_all answer (c ∷ cs) all =
-    let here : answer c ≡ None = All-head (IsPassed answer) c cs all in
-    rw here (passed_all answer cs (All-tail (IsPassed answer) c cs all))
+    let here : answer c ≡ None = All-head (Passes answer) c cs all in
+    rw here (passed_all answer cs (All-tail (Passes answer) c cs all))
 
 is_refused : {A : Type 0} (r : Result A ManifestFault) (fault : ManifestFault) → fault_of r ≡ Some fault → r ≡ Err fault
 is_refused (Ok x) fault e = absurd (cc)
@@ -147,7 +136,7 @@ is_read (Err fault) e = absurd (cc)
 
 -- what is read with these checks is refused exactly with the first of them that is failed
 pub first_check : {A C : Type 0} (r : Result A ManifestFault) (answer : C → Row) (checks : List C)
-    → Reads r (map answer checks) → (fault : ManifestFault) → (r ≡ Err fault ↔ Splits answer checks fault)
+    → Reads r (map answer checks) → (fault : ManifestFault) → (r ≡ Err fault ↔ FailsFirst answer checks fault)
 first_check r answer checks reads fault = (
   (λ e. first_failed answer checks fault (sym reads.same ∙ ap fault_of e)),
   (λ is. is_refused r fault (reads.same ∙ ap (λ (cs : List _). first (map answer cs)) is.in_order
@@ -157,7 +146,7 @@ first_check r answer checks reads fault = (
 -- and read exactly where each is passed
 pub every_check : {A C : Type 0} (r : Result A ManifestFault) (answer : C → Row) (checks : List C)
     → Reads r (map answer checks)
-    → (((x : A) × (r ≡ Ok x)) ↔ All (IsPassed answer) checks)
+    → (((x : A) × (r ≡ Ok x)) ↔ All (Passes answer) checks)
 every_check r answer checks reads = (
   (λ w. all_passed answer checks (sym reads.same ∙ ap fault_of w.1)),
   (λ all. is_read r (reads.same ∙ passed_all answer checks all)),

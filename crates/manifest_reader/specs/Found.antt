@@ -1,9 +1,10 @@
 -- What the checks of a manifest look at, and the faults that they answer. What stands in no object
 -- has no fields. (Kubernetes API, `Pod`.)
-use Rattle.std.specs.Prelude.{ℕ, pos, negsuc, int_le, nat_lt, ◌^◌, ◌&&◌, ◌||◌, Bool, true, false, not, List, [], ◌∷◌}
+use Rattle.std.specs.Prelude.{ℕ, pos, negsuc, int_le, nat_lt, ◌&&◌, ◌||◌, Bool, true, false, not, List, [], ◌∷◌}
 use Rattle.std.specs.Prelude.{Option, Some, None, is_some, unwrap_or, option_and_then, if◌then◌else◌, Result, Ok, Err}
 use Rattle.std.specs.Prelude.{bytes_eq, codes}
 use Rattle.std.specs.List.{list_any}
+use Rattle.quantity.specs.Duration.{end_of_time}
 use Rattle.serde_json.specs.Data.{Data, Items}
 use Rattle.serde_json.specs.Find.{as_str, as_number, as_i64, as_u64, as_array, as_object}
 use Rattle.json_fields.specs.Fields.{field_at, text_at, items_list}
@@ -71,7 +72,7 @@ is_priority d = is_some_and (λ z. int_le (negsuc 2147483647) z && int_le z (pos
 
 -- from 0 to 2^40 - 1
 abbrev pub is_grace_period : Data → Bool
-is_grace_period d = is_some_and (λ n. nat_lt n (2 ^ 40)) (option_and_then as_u64 (as_number d))
+is_grace_period d = is_some_and (λ n. nat_lt n end_of_time) (option_and_then as_u64 (as_number d))
 
 abbrev pub items_from : Option Items → List Data
 items_from None = []

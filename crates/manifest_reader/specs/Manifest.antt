@@ -1,8 +1,9 @@
 -- What a manifest says of a pod, or its first fault: one line for each field, in the order in which
 -- they are read (Kubernetes API, `Pod`; "Pod Lifecycle", "Container restart policy"; "Pod Priority
 -- and Preemption").
-use Rattle.std.specs.Prelude.{ℕ, ℤ, pos, negsuc, int_le, ⊤, ◌^◌, ◌+◌, ◌&&◌, List, ◌++◌, length, nat_lt, Option, Some}
+use Rattle.std.specs.Prelude.{ℕ, ℤ, pos, negsuc, int_le, ⊤, ◌+◌, ◌&&◌, List, ◌++◌, length, nat_lt, Option, Some}
 use Rattle.std.specs.Prelude.{None, option_and_then, if◌then◌else◌, Result, Ok, Err, bytes_eq, codes}
+use Rattle.quantity.specs.Duration.{end_of_time}
 use Rattle.serde_json.specs.Data.{Data}
 use Rattle.serde_json.specs.Find.{as_str, as_number, as_i64, as_u64}
 use Rattle.json_fields.specs.Fields.{field_at}
@@ -52,7 +53,7 @@ priority_of (Some d) = priority_from (option_and_then as_i64 (as_number d))
 
 abbrev pub grace_period_from : Option ℕ → Result ℕ ManifestFault
 grace_period_from None = Err (WrongKind fields.GracePeriod)
-grace_period_from (Some n) = if nat_lt n (2 ^ 40) then Ok n else Err (WrongKind fields.GracePeriod)
+grace_period_from (Some n) = if nat_lt n end_of_time then Ok n else Err (WrongKind fields.GracePeriod)
 
 -- seconds below 2^40; 30 where none is written
 abbrev pub grace_period_of : Option Data → Result ℕ ManifestFault

@@ -12,7 +12,7 @@ pub fn every_check()
     ensures { EveryCheck }
 {}
 
-/// No manifest is refused for want of memory: that is a call's answer alone.
+/// No manifest is refused because memory ran out: that is a call's answer alone.
 pub fn never_memory()
     ensures { NeverMemory }
 {}

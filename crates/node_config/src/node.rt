@@ -45,7 +45,7 @@ pub struct NodeConfig {
     pub eviction_max_pod_grace_period: u32,
     /// `evictionPressureTransitionPeriod`, in seconds.
     pub eviction_pressure_transition_period: u64,
-    /// `evictionPauseSeconds`: for so many seconds after an eviction no pod is evicted. 0 in versions 1 and 2.
+    /// `evictionPauseSeconds`: for this many seconds after an eviction no pod is evicted. 0 in versions 1 and 2.
     pub eviction_pause: u32,
 }
 

@@ -1,5 +1,5 @@
 -- An instance is what it is kept as.
-use Rattle.std.proofs.Common.{◌≡◌, ◌∙◌, ℕ, ℤ, pos, true, false, Option, Some, None, refl, ap, subst}
+use Rattle.std.proofs.Common.{◌≡◌, ◌∙◌, ℕ, ℤ, pos, true, false, Option, Some, None, refl, ap, sym, subst}
 use Rattle.std.proofs.Math.Bool.{Bool-set}
 use Rattle.std.specs.Prelude.{is_some, unwrap_or}
 use Rattle.state_diff.specs.declared.seen.CriState.{CriState}
@@ -32,10 +32,17 @@ same_seen seen state code given is has =
     (subst (Like seen.state) has (λ g. one_seen seen.attempt seen.state seen.code g seen.code_given)) given
 
 -- one that has not exited has no exit code
-pub without_code : (state : CriState) (code : Option ℤ) → is_some code ≡ is_exited state → is_exited state ≡ false
+without_code : (state : CriState) (code : Option ℤ) → is_some code ≡ is_exited state → is_exited state ≡ false
     → code ≡ None
 without_code state None given alive = refl
 without_code state (Some k) given alive = let t : true ≡ false = given ∙ alive in absurd (cc)
+
+-- an instance of a state that has not exited
+pub same_unexited : (seen : Seen) (state : CriState) (given : false ≡ is_exited state) (found : Option Seen)
+    → seen.state ≡ state → found ≡ Some seen → seen_with seen.attempt state None given ≡ found
+same_unexited seen state given found is there =
+    same_seen seen state None given is
+    (without_code seen.state seen.code seen.code_given (ap is_exited is ∙ sym given)) ∙ sym there
 
 -- one that has exited has
 pub with_code : (state : CriState) (code : Option ℤ) → is_some code ≡ is_exited state → is_exited state ≡ true

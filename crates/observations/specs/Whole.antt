@@ -5,7 +5,7 @@ use Rattle.observations.specs.declared.usage.Usage.{Usage}
 use Rattle.observations.specs.declared.whole.Units.{Units}
 use Rattle.observations.specs.declared.whole.WholeUsage.{WholeUsage}
 
--- so many whole units, in thousandths
+-- this many whole units, in thousandths
 abbrev pub units_as : ℕ → ℕ
 units_as units = min (1000 * units) greatest
 
@@ -13,7 +13,7 @@ units_as units = min (1000 * units) greatest
 abbrev pub amount_as : Units → Option ℕ
 amount_as units = if units.0 == 2 ^ 64 - 1 then None else Some (units_as units.0)
 
--- the sample of so many bytes of memory alone
+-- the sample of this many bytes of memory alone
 abbrev pub memory_as : ℕ → Usage
 memory_as bytes = record {
   memory = Some (units_as bytes);

@@ -6,7 +6,7 @@ ghost use Rattle.observations.specs.Whole.{amount_as, memory_as, usage_as};
 use crate::usage::Usage;
 use quantity::Quantity;
 
-/// What stands for an amount that is absent: no quantity has so many units.
+/// What stands for an amount that is absent: no quantity has this many units.
 const ABSENT: u64 = u64::MAX;
 
 /// An amount in whole units, or none, in 8 bytes.
@@ -47,7 +47,7 @@ impl Units {
     }
 }
 
-/// The sample of so many bytes of memory alone.
+/// The sample of this many bytes of memory alone.
 pub(crate) fn usage_of_memory(bytes: u64) -> Usage
     ensures { result ≡ memory_as bytes }
 {

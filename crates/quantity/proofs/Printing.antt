@@ -13,8 +13,9 @@ use Rattle.std.proofs.lemmas.Str.Parse.{digit_at}
 use Rattle.quantity.specs.Digits.{AllDigits}
 use Rattle.quantity.specs.Percent.{HasHundredths, percent_text}
 use Rattle.quantity.specs.Printed.{plain_text}
-use Rattle.quantity.specs.Quantity.{HasThousandths, greatest}
-use Rattle.quantity.specs.Suffix.{times, divided_by}
+use Rattle.quantity.specs.Quantity.{HasThousandths, IsLeastNotBelow, greatest}
+use Rattle.quantity.specs.Suffix.{HasFactor, times, divided_by}
+use Rattle.quantity.specs.declared.suffix.Factor.{Factor}
 use Rattle.quantity.proofs.Numbers.{digits_value-append}
 
 digits_are : (digits : List ℕ) → AllInRadix 10 digits → AllDigits digits
@@ -42,8 +43,10 @@ printed n small =
       value = numeral.1;
     }
 
-units_mean : (m n : ℕ) → m ≤ greatest → m ≡ 1000 * n → n < 10 ^ 17 → HasThousandths (decimal n) m
-units_mean m n small is few =
+-- a number with no point, and a suffix
+whole_means : (m n : ℕ) (suffix : List ℕ) (factor : Factor) → m ≤ greatest → n < 10 ^ 17 → HasFactor suffix factor
+    → IsLeastNotBelow m (1000 * n * factor.numerator) (1 * factor.denominator) → HasThousandths (decimal n ++ suffix) m
+whole_means m n suffix factor small few scaled least =
     let p = printed n few in
     let value : digits_value 10 (decimal n ++ []) ≡ n = rw append-nil p.value in
     record {
@@ -51,32 +54,8 @@ units_mean m n small is few =
       whole = decimal n;
       point = [];
       fraction = [];
-      suffix = [];
-      factor = times 1;
-      text_is = sym (append-nil (decimal n));
-      plus_is = inl refl;
-      whole_digits = p.digits;
-      fraction_digits = λ k d lt. absurd (omega (arith, lt));
-      some_digit = omega (arith, p.some);
-      few_digits = omega (arith, p.few);
-      point_is = inl (refl, refl);
-      scaled = inl (0, omega arith, refl);
-      exact = m;
-      exact_is = rw value (record { not_below = omega (arith, is); least = λ k h. omega (arith, is, h) });
-      thousandths_is = omega (arith, small);
-    }
-
-thousandths_mean : (m : ℕ) → m ≤ greatest → m < 10 ^ 17 → HasThousandths (decimal m ++ codes "m") m
-thousandths_mean m small few =
-    let p = printed m few in
-    let value : digits_value 10 (decimal m ++ []) ≡ m = rw append-nil p.value in
-    record {
-      plus = [];
-      whole = decimal m;
-      point = [];
-      fraction = [];
-      suffix = codes "m";
-      factor = divided_by (10 ^ 3);
+      suffix = suffix;
+      factor = factor;
       text_is = refl;
       plus_is = inl refl;
       whole_digits = p.digits;
@@ -84,11 +63,21 @@ thousandths_mean m small few =
       some_digit = omega (arith, p.some);
       few_digits = omega (arith, p.few);
       point_is = inl (refl, refl);
-      scaled = inl (3, omega arith, refl);
+      scaled = scaled;
       exact = m;
-      exact_is = rw value (record { not_below = omega arith; least = λ k h. omega (arith, h) });
+      exact_is = rw value least;
       thousandths_is = omega (arith, small);
     }
+
+units_mean : (m n : ℕ) → m ≤ greatest → m ≡ 1000 * n → n < 10 ^ 17 → HasThousandths (decimal n) m
+units_mean m n small is few =
+    let h = whole_means m n [] (times 1) small few (inl (0, omega arith, refl))
+    (record { not_below = omega (arith, is); least = λ k h. omega (arith, is, h) }) in rw append-nil at h
+
+thousandths_mean : (m : ℕ) → m ≤ greatest → m < 10 ^ 17 → HasThousandths (decimal m ++ codes "m") m
+thousandths_mean m small few =
+    whole_means m m (codes "m") (divided_by (10 ^ 3)) small few (inl (3, omega arith, refl))
+    (record { not_below = omega arith; least = λ k h. omega (arith, h) })
 
 pub plain_reads_back : (m : ℕ) → m ≤ greatest → (m < 10 ^ 17) ⊎ ((m % 1000 ≡ 0) × (m / 1000 < 10 ^ 17))
     → HasThousandths (plain_text m) m

@@ -286,40 +286,36 @@ when : {A : Type 0} (test : Bool) (o : Option A) (y : A) → (if test then o els
 when true o y h = (refl, h)
 when false o y h = absurd (cc)
 
-plus_means : (letter : List ℕ) (c : ℕ) (text : List ℕ) (factor : Factor) → (letter ≡ codes "e") ⊎ (letter ≡ codes "E")
-    → (if c == 43 then option_map times (power_of text) else option_map times (power_of (c ∷ text))) ≡ Some factor
-    → IsExponent (letter ++ c ∷ text) factor
-plus_means letter c text factor is h =
-    ⊎_elim (λ (t : ((c == 43) ≡ true) × (c ≡ 43)).
-    let m = mapped times (power_of text) factor (rw t.0 at h) in
-    let p = power_means text m.0 m.1 in
-    let r : IsExponent (letter ++ c ∷ text) factor =
+-- the letter, a sign and the digits of a power
+signed_means : (letter sign digits : List ℕ) (scaled : ℕ → Factor) (factor : Factor)
+    → (letter ≡ codes "e") ⊎ (letter ≡ codes "E") → option_map scaled (power_of digits) ≡ Some factor
+    → (factor ≡ scaled (10 ^ digits_value 10 digits)
+    → (((sign ≡ []) ⊎ (sign ≡ codes "+")) × (factor ≡ times (10 ^ digits_value 10 digits)))
+    ⊎ ((sign ≡ codes "-") × (factor ≡ divided_by (10 ^ digits_value 10 digits))))
+    → IsExponent (letter ++ (sign ++ digits)) factor
+signed_means letter sign digits scaled factor is h gives =
+    let m = mapped scaled (power_of digits) factor h in
+    let p = power_means digits m.0 m.1 in
     record {
       letter = letter;
-      sign = codes "+";
-      digits = text;
-      suffix_is = rw t.1 refl;
-      letter_is = is;
-      all_digits = p.all_digits;
-      one_or_two = (p.some, p.few);
-      at_most = p.small;
-      factor_is = inl (inr refl, sym m.2 ∙ ap times p.power);
-    } in r)
-    (λ (f : ((c == 43) ≡ false) × (c ≢ 43)).
-    let m = mapped times (power_of (c ∷ text)) factor (rw f.0 at h) in
-    let p = power_means (c ∷ text) m.0 m.1 in
-    let r : IsExponent (letter ++ c ∷ text) factor =
-    record {
-      letter = letter;
-      sign = [];
-      digits = c ∷ text;
+      sign = sign;
+      digits = digits;
       suffix_is = refl;
       letter_is = is;
       all_digits = p.all_digits;
       one_or_two = (p.some, p.few);
       at_most = p.small;
-      factor_is = inl (inl refl, sym m.2 ∙ ap times p.power);
-    } in r)
+      factor_is = gives (sym m.2 ∙ ap scaled p.power);
+    }
+
+plus_means : (letter : List ℕ) (c : ℕ) (text : List ℕ) (factor : Factor) → (letter ≡ codes "e") ⊎ (letter ≡ codes "E")
+    → (if c == 43 then option_map times (power_of text) else option_map times (power_of (c ∷ text))) ≡ Some factor
+    → IsExponent (letter ++ c ∷ text) factor
+plus_means letter c text factor is h =
+    ⊎_elim (λ (t : ((c == 43) ≡ true) × (c ≡ 43)).
+    rw t.1 (signed_means letter (codes "+") text times factor is (rw t.0 at h) (λ e. inl (inr refl, e))))
+    (λ (f : ((c == 43) ≡ false) × (c ≢ 43)).
+    signed_means letter [] (c ∷ text) times factor is (rw f.0 at h) (λ e. inl (inl refl, e)))
     (eqb_tells c 43)
 
 exponent_means : (letter text : List ℕ) (factor : Factor) → (letter ≡ codes "e") ⊎ (letter ≡ codes "E")
@@ -327,20 +323,7 @@ exponent_means : (letter text : List ℕ) (factor : Factor) → (letter ≡ code
 exponent_means letter [] factor is h = absurd (cc)
 exponent_means letter (c ∷ text) factor is h =
     ⊎_elim (λ (t : ((c == 45) ≡ true) × (c ≡ 45)).
-    let m = mapped divided_by (power_of text) factor (rw t.0 at h) in
-    let p = power_means text m.0 m.1 in
-    let r : IsExponent (letter ++ c ∷ text) factor =
-    record {
-      letter = letter;
-      sign = codes "-";
-      digits = text;
-      suffix_is = rw t.1 refl;
-      letter_is = is;
-      all_digits = p.all_digits;
-      one_or_two = (p.some, p.few);
-      at_most = p.small;
-      factor_is = inr (refl, sym m.2 ∙ ap divided_by p.power);
-    } in r)
+    rw t.1 (signed_means letter (codes "-") text divided_by factor is (rw t.0 at h) (λ e. inr (refl, e))))
     (λ (f : ((c == 45) ≡ false) × (c ≢ 45)). plus_means letter c text factor is (rw f.0 at h))
     (eqb_tells c 45)
 

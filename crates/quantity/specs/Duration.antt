@@ -12,6 +12,10 @@ use Rattle.quantity.specs.Steps.{◌>>=◌, refused_if, or_refused}
 use Rattle.quantity.specs.declared.fault.QuantityFault.{QuantityFault}
 use Rattle.quantity.specs.declared.fault.QuantityFault.TheVariants.{Empty, BadDigit, BadSuffix, TooManyDigits}
 
+-- every moment and every duration is below this many seconds
+abbrev pub end_of_time : ℕ
+end_of_time = 2 ^ 40
+
 -- the seconds of a unit: `h` is 104, `m` 109 and `s` 115
 abbrev pub unit_seconds : ℕ → Option ℕ
 unit_seconds unit =
@@ -43,9 +47,9 @@ pub record IsSumOf (text : List ℕ) (parts : List Part) (seconds : ℕ) : Type 
   pub some_part : 0 < length parts
   pub each_part : All IsPart parts
   pub sum_is : seconds ≡ sum_by part_seconds parts
-  pub below : seconds < 2 ^ 40
+  pub below : seconds < end_of_time
 
--- the text is a duration of so many seconds
+-- the text is a duration of this many seconds
 abbrev pub HasSeconds : List ℕ → ℕ → Type 0
 HasSeconds text seconds = ((text ≡ codes "0") × (seconds ≡ 0)) ⊎ ((parts : List Part) × IsSumOf text parts seconds)
 
@@ -56,7 +60,7 @@ abbrev pub HasUnitFault : ℕ → ℕ → List ℕ → QuantityFault → Type 0
 HasUnitFault sum number text fault =
     ((option_and_then unit_seconds (slice_get text 0) ≡ None) × (fault ≡ BadSuffix)) ⊎
     ((seconds : ℕ) × (option_and_then unit_seconds (slice_get text 0) ≡ Some seconds)
-    × (2 ^ 40 ≤ sum + number * seconds) × (fault ≡ TooManyDigits))
+    × (end_of_time ≤ sum + number * seconds) × (fault ≡ TooManyDigits))
 
 -- the digits that a text begins with are none; more than 12; or their unit has a fault
 pub record HasPartFault (sum : ℕ) (text : List ℕ) (fault : QuantityFault) : Type 0 where
@@ -77,7 +81,7 @@ pub record HasFaultAfter (sum : ℕ) (text : List ℕ) (fault : QuantityFault) :
   pub rest : List ℕ
   pub text_is : text ≡ flat_map part_text parts ++ rest
   pub each_part : All IsPart parts
-  pub below : sum + sum_by part_seconds parts < 2 ^ 40
+  pub below : sum + sum_by part_seconds parts < end_of_time
   pub part_fault : HasPartFault (sum + sum_by part_seconds parts) rest fault
 
 -- the text is empty, or is not `0` and has a fault in a part
@@ -110,7 +114,7 @@ abbrev pub sum_onto : ℕ → List (List ℕ) → Result ℕ QuantityFault
 sum_onto sum [] = Ok sum
 sum_onto sum (piece ∷ pieces) = do
   seconds ← piece_seconds piece
-  _ ← refused_if (nat_le (2 ^ 40) (sum + seconds)) TooManyDigits
+  _ ← refused_if (nat_le end_of_time (sum + seconds)) TooManyDigits
   sum_onto (sum + seconds) pieces
 
 -- the seconds of a duration, or the first fault

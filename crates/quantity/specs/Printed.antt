@@ -9,36 +9,27 @@ use Rattle.quantity.specs.declared.form.Scale.{Scale}
 use Rattle.quantity.specs.declared.form.Scale.TheVariants.{Units, Exa, Peta, Tera, Giga, Mega, Kilo, Exbi, Pebi, Tebi}
 use Rattle.quantity.specs.declared.form.Scale.TheVariants.{Gibi, Mebi, Kibi}
 
--- the suffix of a scale, and its factor
+-- the suffix of a scale, and how much it scales
+abbrev pub scale_parts : Scale → List ℕ × ℕ
+scale_parts Units = (codes "", 1)
+scale_parts Exa = (codes "E", 10 ^ 18)
+scale_parts Peta = (codes "P", 10 ^ 15)
+scale_parts Tera = (codes "T", 10 ^ 12)
+scale_parts Giga = (codes "G", 10 ^ 9)
+scale_parts Mega = (codes "M", 10 ^ 6)
+scale_parts Kilo = (codes "k", 10 ^ 3)
+scale_parts Exbi = (codes "Ei", 2 ^ 60)
+scale_parts Pebi = (codes "Pi", 2 ^ 50)
+scale_parts Tebi = (codes "Ti", 2 ^ 40)
+scale_parts Gibi = (codes "Gi", 2 ^ 30)
+scale_parts Mebi = (codes "Mi", 2 ^ 20)
+scale_parts Kibi = (codes "Ki", 2 ^ 10)
+
 abbrev pub scale_suffix : Scale → List ℕ
-scale_suffix Units = codes ""
-scale_suffix Exa = codes "E"
-scale_suffix Peta = codes "P"
-scale_suffix Tera = codes "T"
-scale_suffix Giga = codes "G"
-scale_suffix Mega = codes "M"
-scale_suffix Kilo = codes "k"
-scale_suffix Exbi = codes "Ei"
-scale_suffix Pebi = codes "Pi"
-scale_suffix Tebi = codes "Ti"
-scale_suffix Gibi = codes "Gi"
-scale_suffix Mebi = codes "Mi"
-scale_suffix Kibi = codes "Ki"
+scale_suffix scale = (scale_parts scale).0
 
 abbrev pub scale_numerator : Scale → ℕ
-scale_numerator Units = 1
-scale_numerator Exa = 10 ^ 18
-scale_numerator Peta = 10 ^ 15
-scale_numerator Tera = 10 ^ 12
-scale_numerator Giga = 10 ^ 9
-scale_numerator Mega = 10 ^ 6
-scale_numerator Kilo = 10 ^ 3
-scale_numerator Exbi = 2 ^ 60
-scale_numerator Pebi = 2 ^ 50
-scale_numerator Tebi = 2 ^ 40
-scale_numerator Gibi = 2 ^ 30
-scale_numerator Mebi = 2 ^ 20
-scale_numerator Kibi = 2 ^ 10
+scale_numerator scale = (scale_parts scale).1
 
 -- the scales in the order in which they are tried: units first, then decimal and binary ones, the
 -- largest first
@@ -58,7 +49,7 @@ scale_at place =
     else if place == 11 then Mebi
     else Kibi
 
--- The least number with so many digits after its point whose value is not below a quantity, as its
+-- The least number with this many digits after its point whose value is not below a quantity, as its
 -- digits without the point.
 abbrev pub least_number : ℕ → ℕ → ℕ → ℕ
 least_number thousandths places numerator = (thousandths - 1) * 10 ^ places / (1000 * numerator) + 1
@@ -67,7 +58,7 @@ least_number thousandths places numerator = (thousandths - 1) * 10 ^ places / (1
 abbrev pub few_digits : ℕ → Option ℕ
 few_digits number = if nat_lt number (10 ^ 17) then Some number else None
 
--- a number of at most 17 digits, so many of them after the point, that has exactly the quantity as
+-- a number of at most 17 digits, this many of them after the point, that has exactly the quantity as
 -- its value in a scale
 abbrev pub exact_number : ℕ → ℕ → ℕ → Option ℕ
 exact_number thousandths places numerator =
@@ -91,12 +82,12 @@ form_at thousandths place =
     let scale = scale_at (place % 13) in
     option_map (form_of places scale) (exact_number thousandths places (scale_numerator scale))
 
--- the first of so many forms that writes the quantity; there are 18 * 13
+-- the first of this many forms that writes the quantity; there are 18 * 13
 unfoldable pub first_form : ℕ → ℕ → Option Form
 first_form thousandths zero = None
 first_form thousandths (suc n) = option_or (first_form thousandths n) (form_at thousandths n)
 
--- so many digits, zeros first
+-- this many digits, zeros first
 abbrev pub zero_padded : ℕ → ℕ → List ℕ
 zero_padded places n = replicate (places - length (decimal n)) 48 ++ decimal n
 

@@ -60,7 +60,7 @@ fn sum_of_parts(text: &[u8]) -> Result<u64, QuantityFault>
     Ok(sum)
 }
 
-/// The seconds of the part that a text begins with, of so many digits.
+/// The seconds of the part that a text begins with, of this many digits.
 fn part_seconds(text: &[u8], digits: usize) -> Result<u64, QuantityFault>
     requires { digits ≡ prefix_len is_ascii_digit text.now }
     ensures seconds { result ≡ piece_seconds text.now }

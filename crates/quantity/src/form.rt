@@ -92,7 +92,7 @@ impl Scale {
     }
 }
 
-/// A number, with so many digits after its point, and a suffix.
+/// A number, with this many digits after its point, and a suffix.
 #[derive(Clone, Copy)]
 pub(crate) struct Form {
     pub whole: u128,
@@ -175,7 +175,7 @@ fn form_at(thousandths: u128, place: u32) -> Option<Form>
     })
 }
 
-/// The number of at most 17 digits, so many of them after the point, whose value is exactly the
+/// The number of at most 17 digits, this many of them after the point, whose value is exactly the
 /// quantity.
 fn exact_number(thousandths: u128, places: u32, numerator: u128) -> Option<u128>
     requires some { 0 < thousandths }
@@ -192,7 +192,7 @@ fn exact_number(thousandths: u128, places: u32, numerator: u128) -> Option<u128>
     (scaled(number, places, factor) == thousandths).then_some(number)
 }
 
-/// The least number with so many digits after its point whose value is not below the quantity, if
+/// The least number with this many digits after its point whose value is not below the quantity, if
 /// it has at most 17 digits.
 fn least_number(thousandths: u128, places: u32, numerator: u128) -> Option<u128>
     requires some { 0 < thousandths }

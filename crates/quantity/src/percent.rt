@@ -40,7 +40,7 @@ impl Percent {
         Percent::read(text)
     }
 
-    /// The percentage of so many hundredths of a percent.
+    /// The percentage of this many hundredths of a percent.
     pub fn from_hundredths(hundredths: u32) -> Percent
         requires { hundredths ≤ 10000 }
         ensures { result ≡ hundredths }

@@ -50,7 +50,7 @@ impl Quantity {
         Quantity::read(text)
     }
 
-    /// So many whole units, and the greatest quantity where that is more.
+    /// This many whole units, and the greatest quantity where that is more.
     pub fn from_units(units: u64) -> Quantity
         ensures { result ≡ min (1000 * units) greatest }
     {
@@ -123,7 +123,7 @@ fn digits_of(whole: &[u8], fraction: &[u8]) -> u128
     u128::from(decimal(whole)) * 10u128.pow(fraction.len() as u32) + u128::from(decimal(fraction))
 }
 
-/// 1000 times a number with so many digits after its point, times a factor, rounded up and at most
+/// 1000 times a number with this many digits after its point, times a factor, rounded up and at most
 /// the greatest quantity.
 pub(crate) fn scaled(number: u128, places: u32, factor: Factor) -> u128
     requires number { number < 10 ^ 17 }

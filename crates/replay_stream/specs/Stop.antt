@@ -14,7 +14,7 @@ abbrev pub bytes_before : Stop → ℕ → List ℕ → List ℕ
 bytes_before Fail n bytes = bytes
 bytes_before Nothing n bytes = take n bytes
 
--- after how many calls a reader fails which stops after so many
+-- after how many calls a reader fails which stops after this many
 abbrev pub failing_after : Stop → ℕ → Option ℕ
 failing_after Fail calls = Some calls
 failing_after Nothing calls = None

@@ -52,14 +52,10 @@ impl<'a> MemSink<'a> {
         ensures stop { sink_stop result ≡ stop }
         ensures failures { sink_failures result ≡ 0 }
     {
-        MemSink {
-            room,
-            len: 0,
-            step,
-            calls_left: Some(calls),
-            stop,
-            failed: 0,
-        }
+        let mut sink = MemSink::new(room, step);
+        sink.calls_left = Some(calls);
+        sink.stop = stop;
+        sink
     }
 
     /// What was written so far.

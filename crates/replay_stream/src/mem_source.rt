@@ -49,24 +49,18 @@ impl<'a> MemSource<'a> {
         ensures calls { calls_to_failure result ≡ failing_after stop calls }
         ensures failures { source_failures result ≡ 0 }
     {
-        let bytes = match stop {
-            Stop::Fail => bytes,
-            Stop::Nothing => front_of(bytes, step, calls),
-        };
-        let calls_left = match stop {
-            Stop::Fail => Some(calls),
-            Stop::Nothing => None,
-        };
-        MemSource {
-            bytes,
-            step,
-            calls_left,
-            failed: 0,
+        match stop {
+            Stop::Fail => {
+                let mut source = MemSource::new(bytes, step);
+                source.calls_left = Some(calls);
+                source
+            }
+            Stop::Nothing => MemSource::new(front_of(bytes, step, calls), step),
         }
     }
 }
 
-/// The bytes of so many calls.
+/// The bytes of this many calls.
 fn front_of(bytes: &[u8], step: usize, calls: usize) -> &[u8]
     ensures { result.now ≡ take (calls * step) bytes.now }
 {

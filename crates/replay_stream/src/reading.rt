@@ -8,7 +8,7 @@ use crate::fault::{ReadAllFault, ReadFailed};
 use crate::stream::Source;
 use std::alloc::Global;
 
-/// So many bytes are asked for in one call, 64 KiB.
+/// This many bytes are asked for in one call, 64 KiB.
 const PIECE: usize = 65_536;
 
 /// All bytes that were left, of which there may be `limit`.

@@ -1,7 +1,9 @@
 -- Where a key is found.
 use Rattle.std.proofs.Common.{◌≡◌, ◌∙◌, ℕ, zero, suc, ◌+◌, Bool, true, false, List, [], ◌∷◌, ◌++◌, length}
-use Rattle.std.proofs.Common.{Option, Some, None, refl, ap, sym, arith, option_map}
+use Rattle.std.proofs.Common.{Option, Some, None, refl, ap, sym, arith, option_map, map}
 use Rattle.std.specs.Prelude.{bytes_eq, slice_get, slice_set, if◌then◌else◌}
+use Rattle.std.proofs.lemmas.List.{map-append, length-map}
+use Rattle.std.proofs.lemmas.Option.{slice_get-map}
 use Rattle.std.proofs.lemmas.Slice.Eq.{bytes_eq-Decides}
 use Rattle.lists.specs.Names.{place_of}
 use Rattle.roster.specs.Roll.{number_in}
@@ -20,57 +22,7 @@ none_more : (o : Option ℕ) → option_map (λ i. i + 1) o ≡ None → o ≡ N
 none_more None e = refl
 none_more (Some m) e = absurd (cc)
 
--- a place among names
-pub place_there : (names : List (List ℕ)) (name : List ℕ) (n : ℕ) → place_of names name ≡ Some n
-    → slice_get names n ≡ Some name
-place_there [] name n e = absurd (cc)
-place_there (x ∷ xs) name n e = by (place_there xs name) (bytes_eq name x) refl e
-  where
-    by : ((m : ℕ) → place_of xs name ≡ Some m → slice_get xs m ≡ Some name) → (b : Bool) → bytes_eq name x ≡ b
-        → (if b then Some 0 else option_map (λ i. i + 1) (place_of xs name)) ≡ Some n
-        → slice_get (x ∷ xs) n ≡ Some name
-    by rest true is first =
-        let here : 0 ≡ n = cc in
-        ap (λ (k : ℕ). slice_get (x ∷ xs) k) (sym here) ∙ ap Some (sym (same_key name x is))
-    by rest false is later =
-        let w = one_more (place_of xs name) n later in
-        ap (λ (k : ℕ). slice_get (x ∷ xs) k) w.2 ∙ rest w.0 w.1
-
-pub place_old : (names ys : List (List ℕ)) (name : List ℕ) (n : ℕ) → place_of names name ≡ Some n
-    → place_of (names ++ ys) name ≡ Some n
-place_old [] ys name n e = absurd (cc)
-place_old (x ∷ xs) ys name n e = by (place_old xs ys name) (bytes_eq name x) e
-  where
-    by : ((m : ℕ) → place_of xs name ≡ Some m → place_of (xs ++ ys) name ≡ Some m) → (b : Bool)
-        → (if b then Some 0 else option_map (λ i. i + 1) (place_of xs name)) ≡ Some n
-        → (if b then Some 0 else option_map (λ i. i + 1) (place_of (xs ++ ys) name)) ≡ Some n
-    by rest true first = first
-    by rest false later =
-        let w = one_more (place_of xs name) n later in
-        ap (option_map (λ i. i + 1)) (rest w.0 w.1)
-        ∙ ap (option_map (λ i. i + 1)) (sym w.1) ∙ later
-
-pub place_last : (names : List (List ℕ)) (last name : List ℕ) → place_of names name ≡ None
-    → place_of (names ++ last ∷ []) name ≡ (if bytes_eq name last then Some (length names) else None)
-place_last [] last name none = refl
-place_last (x ∷ xs) last name none = by (place_last xs last name) (bytes_eq name x) none
-  where
-    later : (b : Bool) → option_map (λ i. i + 1) (if b then Some (length xs) else None)
-        ≡ (if b then Some (suc (length xs)) else None)
-    later true = let is : length xs + 1 ≡ suc (length xs) = omega arith in ap Some is
-    later false = refl
-
-    by : (place_of xs name ≡ None → place_of (xs ++ last ∷ []) name
-        ≡ (if bytes_eq name last then Some (length xs) else None)) → (b : Bool)
-        → (if b then Some 0 else option_map (λ i. i + 1) (place_of xs name)) ≡ None
-        → (if b then Some 0 else option_map (λ i. i + 1) (place_of (xs ++ last ∷ []) name))
-        ≡ (if bytes_eq name last then Some (suc (length xs)) else None)
-    by rest true e = absurd (cc)
-    by rest false e =
-        ap (option_map (λ i. i + 1)) (rest (none_more (place_of xs name) e))
-        ∙ later (bytes_eq name last)
-
--- and among the keys of pods, of which some have left
+-- a place among the keys of pods, of which some have left
 pub number_there : (keys : List (Option (List ℕ))) (key : List ℕ) (n : ℕ) → number_in keys key ≡ Some n
     → slice_get keys n ≡ Some (Some key)
 number_there [] key n e = absurd (cc)
@@ -178,3 +130,31 @@ number_blank (Some x ∷ xs) zero gone key here apart =
 number_blank (Some x ∷ xs) (suc n) gone key here apart =
     ap (λ (o : Option ℕ). if bytes_eq key x then Some 0 else option_map (λ i. i + 1) o)
     (number_blank xs n gone key here apart)
+
+-- and among names, as among keys of which none has left
+as_number : (names : List (List ℕ)) (name : List ℕ) → place_of names name ≡ number_in (map Some names) name
+as_number [] name = refl
+as_number (x ∷ xs) name =
+    ap (λ (o : Option ℕ). if bytes_eq name x then Some 0 else option_map (λ i. i + 1) o) (as_number xs name)
+
+pub place_there : (names : List (List ℕ)) (name : List ℕ) (n : ℕ) → place_of names name ≡ Some n
+    → slice_get names n ≡ Some name
+place_there names name n e = held (slice_get names n) (sym (slice_get-map Some names n)
+    ∙ number_there (map Some names) name n (sym (as_number names name) ∙ e))
+  where
+    held : (o : Option (List ℕ)) → option_map Some o ≡ Some (Some name) → o ≡ Some name
+    held None e = absurd (cc)
+    held (Some x) e = cc
+
+pub place_old : (names ys : List (List ℕ)) (name : List ℕ) (n : ℕ) → place_of names name ≡ Some n
+    → place_of (names ++ ys) name ≡ Some n
+place_old names ys name n e =
+    as_number (names ++ ys) name ∙ ap (λ (ks : List _). number_in ks name) (map-append Some names ys)
+    ∙ number_old (map Some names) (map Some ys) name n (sym (as_number names name) ∙ e)
+
+pub place_last : (names : List (List ℕ)) (last name : List ℕ) → place_of names name ≡ None
+    → place_of (names ++ last ∷ []) name ≡ (if bytes_eq name last then Some (length names) else None)
+place_last names last name none =
+    as_number (names ++ last ∷ []) name ∙ ap (λ (ks : List _). number_in ks name) (map-append Some names (last ∷ []))
+    ∙ number_last (map Some names) last name (sym (as_number names name) ∙ none)
+    ∙ ap (λ (n : ℕ). if bytes_eq name last then Some n else None) (length-map names Some)

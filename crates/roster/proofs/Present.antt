@@ -72,7 +72,7 @@ apart_set keys i apart n m key here there =
       | inr other ↦ other.1
     ]
 
--- the keys once one of them is given up
+-- the keys once one of them is dropped
 pub number_without : (keys : List (Option (List ℕ))) (n : ℕ) (gone key : List ℕ) → AreApart keys
     → slice_get keys n ≡ Some (Some gone)
     → number_in (slice_set keys n None) key ≡ (if bytes_eq key gone then None else number_in keys key)

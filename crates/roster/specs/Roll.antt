@@ -47,10 +47,10 @@ stays (Some departure) = is_none departure
 abbrev pub is_present : List (Option ℕ) → ℕ → Bool
 is_present departures n = stays (slice_get departures n)
 
--- a pod arrives behind the others, after so many ticks
+-- a pod arrives behind the others, after this many ticks
 abbrev pub with_pod : Roll → PodSpec → ℕ → Roll
 with_pod r pod ticks = roll (r.pods ++ pod ∷ []) (r.arrivals ++ ticks ∷ []) (r.departures ++ None ∷ [])
 
--- the pod with the number leaves after so many ticks
+-- the pod with the number leaves after this many ticks
 abbrev pub without : Roll → ℕ → ℕ → Roll
 without r number ticks = roll r.pods r.arrivals (slice_set r.departures number (Some ticks))

@@ -87,7 +87,7 @@ impl Roster {
         holder_of(&self.keys, &self.holders, key)
     }
 
-    /// A pod arrives after so many ticks, with a key that no pod has that is present.
+    /// A pod arrives after this many ticks, with a key that no pod has that is present.
     pub fn with_pod(self, pod: PodSpec, key: String, ticks: usize) -> Result<Roster, AllocError>
         requires key { string_bytes key ≡ key_of_pod pod }
         requires new { number_of self (string_bytes key) ≡ None }
@@ -120,7 +120,7 @@ impl Roster {
         }
     }
 
-    /// The pod with the number, which is present and has this key, leaves after so many ticks. It takes no memory.
+    /// The pod with the number, which is present and has this key, leaves after this many ticks. It takes no memory.
     pub fn leave(&mut self, number: usize, key: &str, ticks: usize)
         requires { number_of self.old key.now ≡ Some number }
         ensures { self.new ≡ without self.old number ticks }

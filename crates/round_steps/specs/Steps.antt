@@ -36,7 +36,7 @@ pub record AreSteps (lines : List (List ℕ)) (steps : List Step) : Type 0 where
   pub spelled : SpellInOrder (filter counts lines) steps
   pub few : length steps ≤ most_steps
 
--- behind so many steps the line is faulty: it counts, and it spells no step or one too many
+-- behind this many steps the line is faulty: it counts, and it spells no step or one too many
 pub record IsFaultyBehind (count : ℕ) (line : List ℕ) : Type 0 where
   pub counted : line ≢ []
   pub faulty : (step : Step) → Spells line step → most_steps ≤ count
@@ -52,7 +52,7 @@ pub record IsFirstFault (lines : List (List ℕ)) (number : ℕ) : Type 0 where
   pub said : AreSteps before steps
   pub faulty : IsFaultyBehind (length steps) line
 
--- what the line of the number says behind so many steps
+-- what the line of the number says behind this many steps
 abbrev pub SaysBehind : ℕ → ℕ → List ℕ → Result (Option Step) StepsFault → Type 0
 SaysBehind count number line (Ok None) = line ≡ []
 SaysBehind count number line (Ok (Some step)) = (line ≢ []) × Spells line step × (count < most_steps)
@@ -69,7 +69,7 @@ IsFaultOf number line steps TooLong = ⊥
 IsFaultOf number line steps (Line n) = (n ≡ number) × IsFaultyBehind (length steps) line
 IsFaultOf number line steps OutOfMemory = Unit {0}
 
--- the fault is that of the first faulty line, or want of memory
+-- the fault is that of the first faulty line, or that memory ran out
 abbrev pub IsFirstFaultBy : List (List ℕ) → StepsFault → Type 0
 IsFirstFaultBy lines TooLong = ⊥
 IsFirstFaultBy lines (Line number) = IsFirstFault lines number

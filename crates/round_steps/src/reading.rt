@@ -17,14 +17,14 @@ const LONGEST_TEXT: usize = 1_048_576;
 /// The most steps of a text.
 const MOST_STEPS: usize = 100_000;
 
-/// Whether a step may follow so many.
+/// Whether a step may follow this many.
 fn has_room(steps: usize) -> bool
     ensures { IsTrue result ↔ (steps < most_steps) }
 {
     steps < MOST_STEPS
 }
 
-/// What the line of this number says behind so many steps: nothing, or a step for which there is room; or that it is
+/// What the line of this number says behind this many steps: nothing, or a step for which there is room; or that it is
 /// faulty. It takes no memory.
 fn said_by(steps: usize, number: u64, line: &[u8]) -> Result<Option<Step>, StepsFault>
     ensures { SaysBehind steps number line.now result }

@@ -1,5 +1,4 @@
-use Rattle.std.proofs.lemmas.Result.{IfOk-weaker}
-use Rattle.commands.proofs.Built.{about_told, with_arg}
+use Rattle.commands.proofs.Built.{about_told, with_arg, with_last_arg}
 use Rattle.commands.proofs.program.play_command.Goals as goal
 
 pub returns : goal.returns
@@ -11,7 +10,5 @@ returns c =
     c.steps_arg.ensures.rule c.steps_arg.ensures.local c.in_ok-arg-2.ensures in
     let shared = with_arg c.in_ok-arg-2.field-0 c.in_ok-arg-3.field-0 c.workers_arg.result _ _ stepped
     c.workers_arg.ensures.rule c.workers_arg.ensures.local c.in_ok-arg-3.ensures in
-    IfOk-weaker c.arg-4.result _ _
-    (λ command adds. with_arg _ command c.extended_arg.result _ _ shared c.extended_arg.ensures.rule
-    c.extended_arg.ensures.local adds)
-    c.arg-4.ensures
+    with_last_arg c.in_ok-arg-3.field-0 c.arg-4.result c.extended_arg.result _ _ shared c.extended_arg.ensures.rule
+    c.extended_arg.ensures.local c.arg-4.ensures

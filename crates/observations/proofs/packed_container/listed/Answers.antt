@@ -1,20 +1,14 @@
-use Rattle.std.proofs.Common.{◌∙◌, ap, sym, Some, w32}
+use Rattle.std.proofs.Common.{◌∙◌, ap, refl, sym, Some, w32}
 use Rattle.std.proofs.lemmas.Int.{to_z-of_z}
 use Rattle.state_diff.specs.States.{is_exited}
-use Rattle.observations.proofs.KeptAs.{same_seen, without_code, with_code}
+use Rattle.observations.proofs.KeptAs.{same_seen, same_unexited, with_code}
 use Rattle.observations.proofs.packed_container.listed.Goals as goal
 
 pub returns-in-Created : goal.returns-in-Created
-returns-in-Created c =
-    let s = c.in-Some.seen in
-    same_seen s _ _ _ c.in-Created.is (without_code s.state s.code s.code_given (ap is_exited c.in-Created.is))
-    ∙ sym c.in-Some.is
+returns-in-Created c = same_unexited c.in-Some.seen _ refl _ c.in-Created.is c.in-Some.is
 
 pub returns-in-Running : goal.returns-in-Running
-returns-in-Running c =
-    let s = c.in-Some.seen in
-    same_seen s _ _ _ c.in-Running.is (without_code s.state s.code s.code_given (ap is_exited c.in-Running.is))
-    ∙ sym c.in-Some.is
+returns-in-Running c = same_unexited c.in-Some.seen _ refl _ c.in-Running.is c.in-Some.is
 
 pub returns-in-Exited : goal.returns-in-Exited
 returns-in-Exited c =
@@ -26,7 +20,4 @@ returns-in-Exited c =
     ∙ sym c.in-Some.is
 
 pub returns-in-Unknown : goal.returns-in-Unknown
-returns-in-Unknown c =
-    let s = c.in-Some.seen in
-    same_seen s _ _ _ c.in-Unknown.is (without_code s.state s.code s.code_given (ap is_exited c.in-Unknown.is))
-    ∙ sym c.in-Some.is
+returns-in-Unknown c = same_unexited c.in-Some.seen _ refl _ c.in-Unknown.is c.in-Some.is
