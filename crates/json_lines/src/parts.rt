@@ -25,7 +25,7 @@ pub fn joined<T: Drop>(
     Ok(all)
 }
 
-/// What each line says, in their order; so many workers share the lines.
+/// What each line says, in their order; this many workers share the lines.
 pub(crate) fn read_shared<R: Threads + Sync>(
     rt: &R,
     alloc: Global,

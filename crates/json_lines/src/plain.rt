@@ -12,10 +12,10 @@ use json_fields::{DEEPEST, is_plain_in};
 use simdutf8::compat::from_utf8;
 use std::alloc::{AllocError, Global};
 
-/// A writer of which so many lines in a row are not plain is taken for one whose lines are not.
+/// A writer of which this many lines in a row are not plain is taken for one whose lines are not.
 const MISSES: u32 = 4;
 
-/// Of such a writer each line of so many is still tried.
+/// Of such a writer each line of this many is still tried.
 const MISSES_A_TRY: u32 = 32;
 
 /// Goes on where the text is no JSON; `Err` where memory was refused, and nowhere else.
@@ -35,7 +35,7 @@ pub(crate) fn refused_memory(error: Error) -> Result<(), AllocError>
 pub struct LineBuffers {
     pub(crate) scratch: Scratch,
     values: Bump,
-    /// So many lines in a row were not read as plain ones.
+    /// This many lines in a row were not read as plain ones.
     pub(crate) missed: u32,
 }
 
@@ -56,7 +56,7 @@ impl LineBuffers {
     }
 }
 
-/// So many lines in a row were not read as plain ones, behind one more that was or was not.
+/// This many lines in a row were not read as plain ones, behind one more that was or was not.
 pub(crate) fn missed_after(missed: u32, is_plain: bool) -> u32 {
     if is_plain { 0 } else { missed.wrapping_add(1) }
 }

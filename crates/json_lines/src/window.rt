@@ -10,11 +10,11 @@ use memchr::memmem::find;
 use std::alloc::{AllocError, Global};
 use std::thread::Threads;
 
-/// A window that one thread reads has so many bytes, 64 KiB, and the end of its last line. Workers share no shorter
+/// A window that one thread reads has this many bytes, 64 KiB, and the end of its last line. Workers share no shorter
 /// text.
 const ALONE: usize = 65_536;
 
-/// A window that workers share has so many bytes, 1 MiB, and the end of its last line.
+/// A window that workers share has this many bytes, 1 MiB, and the end of its last line.
 const SHARED: usize = 1_048_576;
 
 /// The lines at the beginning of a text, and the text after them.
@@ -32,7 +32,7 @@ const WORDS_OF_PODS: [&[u8]; 2] = [b"\"metadata\"", b"\"gone\""];
 /// Tick lines have this word near their beginning.
 const WORD_OF_TICKS: &[u8] = b"\"tick\"";
 
-/// So many bytes are near the beginning of a line.
+/// This many bytes are near the beginning of a line.
 const BEGINNING: usize = 128;
 
 /// Whether a line seems to tell of a pod itself. Nothing rests on it but how many lines are read together.
@@ -46,8 +46,8 @@ fn seems_of_pod(line: &[u8]) -> bool {
     false
 }
 
-/// The next lines, as [`next_lines`] and [`next_tick_lines`] take them, and the text after them; `stops_behind_pods`
-/// says whether the last of several lines that seem to tell of pods is the last one.
+/// The next lines, of at least this many bytes with their newlines where there are this many, and the text after them;
+/// or fewer: this many lines at most, and none behind lines that seem to tell of pods where `stops_behind_pods`.
 fn lines_of_window(
     alloc: Global,
     text: &[u8],
@@ -80,18 +80,8 @@ fn lines_of_window(
     Ok((found, rest))
 }
 
-/// The next lines, of at least so many bytes with their newlines where there are so many, and the text after them.
-fn next_lines(alloc: Global, text: &[u8], bytes: usize) -> Result<(Vec<&[u8]>, &[u8]), AllocError>
-    requires { 0 < bytes }
-    ensures lines { IfOk result (λ p. lines_of text.now ≡ map (λ line. line.now) p.0.items ++ lines_of p.1.now) }
-    ensures shorter { 0 < length text.now → IfOk result (λ p. length p.1.now < length text.now) }
-    ensures few { IfOk result (λ p. length p.0.items + length p.1.now ≤ length text.now) }
-{
-    lines_of_window(alloc, text, bytes, usize::MAX, false)
-}
-
-/// The next lines, of at least so many bytes with their newlines where there are so many, and the text after them; or
-/// fewer: so many lines at most, and none behind lines that seem to tell of pods themselves.
+/// The next lines, of at least this many bytes with their newlines where there are this many, and the text after them;
+/// or fewer: this many lines at most, and none behind lines that seem to tell of pods themselves.
 pub fn next_tick_lines(
     alloc: Global,
     text: &[u8],
@@ -115,7 +105,7 @@ pub fn window_alone(alloc: Global, text: &[u8]) -> Result<Window<'_>, AllocError
     ensures shorter { 0 < length text.now → IfOk result (λ window. length window.rest.now < length text.now) }
     ensures few { IfOk result (λ window. length window.lines.items + length window.rest.now ≤ length text.now) }
 {
-    let (lines, rest) = next_lines(alloc, text, ALONE)?;
+    let (lines, rest) = lines_of_window(alloc, text, ALONE, usize::MAX, false)?;
     let lines = read_each(alloc, &lines)?;
     Ok(Window { lines, rest })
 }
@@ -137,7 +127,7 @@ pub fn window_by_workers<'t, R: Threads + Sync>(
     if text.len() < ALONE {
         return window_alone(alloc, text);
     }
-    let (lines, rest) = next_lines(alloc, text, SHARED)?;
+    let (lines, rest) = lines_of_window(alloc, text, SHARED, usize::MAX, false)?;
     let lines = read_shared(rt, alloc, &lines, workers)?;
     Ok(Window { lines, rest })
 }

@@ -1,12 +1,10 @@
 -- The one fault of a tick line by itself.
-use Rattle.std.proofs.Common.{◌≡◌, ℕ, Bool, List, [], Option, Some, None, Result, Ok, Err, refl}
-use Rattle.std.specs.Prelude.{◌^◌, is_some, if◌then◌else◌, option_and_then, nat_lt, codes}
+use Rattle.std.proofs.Common.{◌≡◌, ℕ, Bool, List, [], ◌∷◌, Option, Some, None, Result, Ok, Err, refl}
+use Rattle.std.specs.Prelude.{◌^◌, is_some, if◌then◌else◌, option_and_then, nat_lt, bytes_eq, codes}
 use Rattle.serde_json.specs.Data.{Data, Items}
 use Rattle.serde_json.specs.Find.{as_str, as_number, as_u64, as_array, as_object}
 use Rattle.json_fields.specs.Fields.{field_at, text_at, items_list}
 use Rattle.json_fields.proofs.Only.{Only, only_ok, only_err, only_bind, only_if, only_some, only_each}
-use Rattle.manifest.specs.declared.outcome.Outcome.TheVariants as outcomes
-use Rattle.manifest.specs.declared.outcome.ProbeKind.TheVariants as probes
 use Rattle.json_fields.specs.Quantities.{quantity_in}
 use Rattle.json_fields.specs.declared.fault.FieldFault.{FieldFault}
 use Rattle.state_diff.specs.declared.seen.CriState.TheVariants as states
@@ -14,10 +12,10 @@ use Rattle.tick_lines.specs.declared.fault.TickLineFault.{TickLineFault}
 use Rattle.tick_lines.specs.declared.fault.TickLineFault.TheVariants.{Usage}
 use Rattle.json_fields.specs.declared.scope.Scope.{Scope}
 use Rattle.json_fields.specs.declared.scope.Scope.TheVariants.{Node, FileSystems}
-use Rattle.tick_lines.specs.Fields.{items_from, items_of, only_object, held, quantity_at}
-use Rattle.tick_lines.specs.Listings.{attempt_from, attempt_of, state_named, state_numbered, state_from, state_of}
+use Rattle.tick_lines.specs.Fields.{items_from, items_of, only_object, held, quantity_at, value_named}
+use Rattle.tick_lines.specs.Listings.{attempt_from, attempt_of, state_names, state_numbered, state_from, state_of}
 use Rattle.tick_lines.specs.Listings.{instance_of, listing_of}
-use Rattle.tick_lines.specs.Results.{probe_named, outcome_named, result_of}
+use Rattle.tick_lines.specs.Results.{probe_names, probe_named, outcome_names, outcome_named, result_of}
 use Rattle.tick_lines.specs.Usages.{usage_in, usage_of}
 use Rattle.tick_lines.specs.Entries.{entry_of, entries_of}
 use Rattle.json_fields.proofs.SignalMapRefused.{map_only}
@@ -45,9 +43,9 @@ value_if : {A : Type 0} (b : Bool) (value : A) (rest : Result A TickLineFault) �
     → Only IsUsageFault (if b then Ok value else rest)
 value_if b value rest only = only_if IsUsageFault b (Ok value) rest (only_ok IsUsageFault value) only
 
-named_only : (s : List ℕ) → Only IsUsageFault (state_named s)
-named_only s = value_if _ states.Created _
-    (value_if _ states.Running _ (value_if _ states.Exited _ (value_if _ states.Unknown _ refused)))
+named_only : {A : Type 0} (rows : List (List ℕ × A)) (name : List ℕ) → Only IsUsageFault (value_named rows name)
+named_only [] name = refused
+named_only (row ∷ rows) name = value_if (bytes_eq name row.0) row.1 (value_named rows name) (named_only rows name)
 
 numbered_only : (found : Option ℕ) → Only IsUsageFault (state_numbered found)
 numbered_only None = refused
@@ -56,7 +54,7 @@ numbered_only (Some n) = value_if _ states.Created _
 
 state_from_only : (d : Data) (found : Option (List ℕ)) → Only IsUsageFault (state_from d found)
 state_from_only d None = numbered_only (option_and_then as_u64 (as_number d))
-state_from_only d (Some s) = named_only s
+state_from_only d (Some s) = named_only state_names s
 
 state_only : (found : Option Data) → Only IsUsageFault (state_of found)
 state_only None = refused
@@ -75,13 +73,10 @@ listing_only d =
     only_bind IsUsageFault _ _ (instance_only d) (λ instance. only_ok IsUsageFault _))
 
 probe_only : (found : Option (List ℕ)) → Only IsUsageFault (probe_named found)
-probe_only None = refused
-probe_only (Some s) = value_if _ probes.Startup _ (value_if _ probes.Liveness _ (value_if _ probes.Readiness _ refused))
+probe_only found = only_bind IsUsageFault _ _ (only_some IsUsageFault Usage found refl) (named_only probe_names)
 
 outcome_only : (found : Option (List ℕ)) → Only IsUsageFault (outcome_named found)
-outcome_only None = refused
-outcome_only (Some s) = value_if _ outcomes.Success _
-    (value_if _ outcomes.Failure _ (value_if _ outcomes.Unknown _ refused))
+outcome_only found = only_bind IsUsageFault _ _ (only_some IsUsageFault Usage found refl) (named_only outcome_names)
 
 result_only : (d : Data) → Only IsUsageFault (result_of d)
 unfolding result_of

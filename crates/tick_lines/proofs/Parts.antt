@@ -38,6 +38,7 @@ line_parts d line e =
     }
 
 pub record IsEntry (d : Data) (entry : Entry) : Type 0 where
+  pub key : some_or faults.Usage (text_at (codes "pod") d) ≡ Ok entry.key
   pub listings : listings_of (field_at (codes "containers") d) ≡ Ok entry.listings
   pub results : results_of (field_at (codes "probes") d) ≡ Ok entry.results
   pub usage : usage_of (field_at (codes "usage") d) ≡ Ok entry.usage
@@ -51,6 +52,7 @@ entry_parts d entry e =
     let usage = bind_ok (usage_of (field_at (codes "usage") d)) _ entry results.2 in
     let same = same_value _ entry usage.2 in
     record {
+      key = key.1 ∙ ap (λ (x : Entry). Ok x.key) same;
       listings = listings.1 ∙ ap (λ (x : Entry). Ok x.listings) same;
       results = results.1 ∙ ap (λ (x : Entry). Ok x.results) same;
       usage = usage.1 ∙ ap (λ (x : Entry). Ok x.usage) same;

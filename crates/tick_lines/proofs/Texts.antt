@@ -2,7 +2,7 @@
 use Rattle.std.proofs.Common.{◌≡◌, ◌∙◌, Option, Some, None, Ok, ap}
 use Rattle.std.specs.Prelude.{codes}
 use Rattle.serde_json.specs.Data.{Data}
-use Rattle.json_fields.specs.Fields.{field_at, text_at}
+use Rattle.json_fields.specs.Fields.{text_at}
 use Rattle.json_fields.specs.Reading.{some_or}
 use Rattle.json_fields.proofs.Steps.{bind_ok}
 use Rattle.json_fields.proofs.Only.{same_value}
@@ -11,24 +11,18 @@ use Rattle.tick_lines.specs.declared.fault.TickLineFault.{TickLineFault}
 use Rattle.tick_lines.specs.declared.fault.TickLineFault.TheVariants.{Usage}
 use Rattle.tick_lines.specs.declared.listing.Listing.{Listing}
 use Rattle.tick_lines.specs.declared.probing.ProbeResult.{ProbeResult}
-use Rattle.tick_lines.specs.Listings.{instance_of, listing_of, listings_of}
-use Rattle.tick_lines.specs.Results.{probe_named, outcome_named, result_of, results_of}
-use Rattle.tick_lines.specs.Usages.{usage_of}
+use Rattle.tick_lines.specs.Listings.{instance_of, listing_of}
+use Rattle.tick_lines.specs.Results.{probe_named, outcome_named, result_of}
 use Rattle.tick_lines.specs.Entries.{entry_of}
 use Rattle.tick_lines.specs.Laws.{TextsSaid}
+use Rattle.tick_lines.proofs.Parts.{entry_parts}
 
 some_found : {A : Type 0} (found : Option A) (x : A) → some_or Usage found ≡ Ok x → found ≡ Some x
 some_found None x e = absurd (cc)
 some_found (Some y) x e = ap Some (same_value {E = TickLineFault} y x e)
 
 entry_said : (d : Data) (entry : Entry) → entry_of d ≡ Ok entry → text_at (codes "pod") d ≡ Some entry.key
-unfolding entry_of
-entry_said d entry e =
-    let key = bind_ok (some_or Usage (text_at (codes "pod") d)) _ entry e in
-    let listings = bind_ok (listings_of (field_at (codes "containers") d)) _ entry key.2 in
-    let results = bind_ok (results_of (field_at (codes "probes") d)) _ entry listings.2 in
-    let usage = bind_ok (usage_of (field_at (codes "usage") d)) _ entry results.2 in
-    some_found _ _ key.1 ∙ ap (λ (x : Entry). Some x.key) (same_value _ entry usage.2)
+entry_said d entry e = some_found _ _ (entry_parts d entry e).key
 
 listing_said : (d : Data) (listing : Listing) → listing_of d ≡ Ok listing → text_at (codes "name") d ≡ Some listing.name
 unfolding listing_of

@@ -1,5 +1,6 @@
 -- Fields of a tick line, all of which have one fault.
-use Rattle.std.specs.Prelude.{ℕ, ⊤, List, [], Option, Some, None, is_some, if◌then◌else◌, Result, Ok, Err}
+use Rattle.std.specs.Prelude.{ℕ, ⊤, List, [], ◌∷◌, bytes_eq, Option, Some, None, is_some, if◌then◌else◌}
+use Rattle.std.specs.Prelude.{Result, Ok, Err}
 use Rattle.serde_json.specs.Data.{Data, Items}
 use Rattle.serde_json.specs.Find.{as_array, as_object}
 use Rattle.json_fields.specs.Fields.{items_list}
@@ -30,3 +31,8 @@ held (Err fault) = Err Usage
 abbrev pub quantity_at : Option Data → Result (Option ℕ) TickLineFault
 quantity_at None = Ok None
 quantity_at (Some d) = held (quantity_in d) >>= λ thousandths. Ok (Some thousandths)
+
+-- what a name stands for in a table
+abbrev pub value_named : {A : Type 0} → List (List ℕ × A) → List ℕ → Result A TickLineFault
+value_named [] name = Err Usage
+value_named (row ∷ rows) name = if bytes_eq name row.0 then Ok row.1 else value_named rows name

@@ -1,6 +1,6 @@
 -- The listings of containers in an entry, as they are written.
-use Rattle.std.specs.Prelude.{ℕ, ℤ, pos, negsuc, int_le, ◌^◌, ◌&&◌, ◌==◌, List, nat_lt, Option, Some, None}
-use Rattle.std.specs.Prelude.{option_and_then, if◌then◌else◌, Result, Ok, Err, bytes_eq, codes}
+use Rattle.std.specs.Prelude.{ℕ, ℤ, pos, negsuc, int_le, ◌^◌, ◌&&◌, ◌==◌, List, [], ◌∷◌, nat_lt, Option, Some, None}
+use Rattle.std.specs.Prelude.{option_and_then, if◌then◌else◌, Result, Ok, Err, codes}
 use Rattle.serde_json.specs.Data.{Data}
 use Rattle.serde_json.specs.Find.{as_str, as_number, as_i64, as_u64}
 use Rattle.json_fields.specs.Fields.{field_at, text_at}
@@ -11,7 +11,7 @@ use Rattle.tick_lines.specs.declared.fault.TickLineFault.{TickLineFault}
 use Rattle.tick_lines.specs.declared.fault.TickLineFault.TheVariants.{Usage}
 use Rattle.tick_lines.specs.declared.listing.ListedInstance.{ListedInstance}
 use Rattle.tick_lines.specs.declared.listing.Listing.{Listing}
-use Rattle.tick_lines.specs.Fields.{items_of}
+use Rattle.tick_lines.specs.Fields.{items_of, value_named}
 
 abbrev pub attempt_from : Option ℕ → Result ℕ TickLineFault
 attempt_from None = Err Usage
@@ -22,13 +22,16 @@ abbrev pub attempt_of : Option Data → Result ℕ TickLineFault
 attempt_of None = Ok 0
 attempt_of (Some d) = attempt_from (option_and_then as_u64 (as_number d))
 
+abbrev pub state_names : List (List ℕ × CriState)
+state_names =
+    (codes "CONTAINER_CREATED", Created) ∷
+    (codes "CONTAINER_RUNNING", Running) ∷
+    (codes "CONTAINER_EXITED", Exited) ∷
+    (codes "CONTAINER_UNKNOWN", Unknown) ∷ []
+
 -- the state of this name (CRI, ContainerState)
 abbrev pub state_named : List ℕ → Result CriState TickLineFault
-state_named s =
-    if bytes_eq s (codes "CONTAINER_CREATED") then Ok Created
-    else (if bytes_eq s (codes "CONTAINER_RUNNING") then Ok Running
-    else (if bytes_eq s (codes "CONTAINER_EXITED") then Ok Exited
-    else (if bytes_eq s (codes "CONTAINER_UNKNOWN") then Ok Unknown else Err Usage)))
+state_named name = value_named state_names name
 
 -- the state of this number
 abbrev pub state_numbered : Option ℕ → Result CriState TickLineFault

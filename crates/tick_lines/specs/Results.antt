@@ -1,5 +1,5 @@
 -- The results of probes in an entry, as they are written.
-use Rattle.std.specs.Prelude.{ℕ, List, Option, Some, None, if◌then◌else◌, Result, Ok, Err, bytes_eq, codes}
+use Rattle.std.specs.Prelude.{ℕ, List, [], ◌∷◌, Option, Result, Ok, codes}
 use Rattle.serde_json.specs.Data.{Data}
 use Rattle.json_fields.specs.Fields.{text_at}
 use Rattle.json_fields.specs.Reading.{◌>>=◌, some_or, each}
@@ -10,23 +10,21 @@ use Rattle.manifest.specs.declared.outcome.ProbeKind.TheVariants.{Startup, Liven
 use Rattle.tick_lines.specs.declared.fault.TickLineFault.{TickLineFault}
 use Rattle.tick_lines.specs.declared.fault.TickLineFault.TheVariants.{Usage}
 use Rattle.tick_lines.specs.declared.probing.ProbeResult.{ProbeResult}
-use Rattle.tick_lines.specs.Fields.{items_of}
+use Rattle.tick_lines.specs.Fields.{items_of, value_named}
+
+abbrev pub probe_names : List (List ℕ × ProbeKind)
+probe_names = (codes "startup", Startup) ∷ (codes "liveness", Liveness) ∷ (codes "readiness", Readiness) ∷ []
 
 -- the probe of this name
 abbrev pub probe_named : Option (List ℕ) → Result ProbeKind TickLineFault
-probe_named None = Err Usage
-probe_named (Some s) =
-    if bytes_eq s (codes "startup") then Ok Startup
-    else (if bytes_eq s (codes "liveness") then Ok Liveness
-    else (if bytes_eq s (codes "readiness") then Ok Readiness else Err Usage))
+probe_named found = some_or Usage found >>= value_named probe_names
+
+abbrev pub outcome_names : List (List ℕ × Outcome)
+outcome_names = (codes "success", Success) ∷ (codes "failure", Failure) ∷ (codes "unknown", Unknown) ∷ []
 
 -- the outcome of this name (Kubernetes, "Pod Lifecycle", "Probe outcome")
 abbrev pub outcome_named : Option (List ℕ) → Result Outcome TickLineFault
-outcome_named None = Err Usage
-outcome_named (Some s) =
-    if bytes_eq s (codes "success") then Ok Success
-    else (if bytes_eq s (codes "failure") then Ok Failure
-    else (if bytes_eq s (codes "unknown") then Ok Unknown else Err Usage))
+outcome_named found = some_or Usage found >>= value_named outcome_names
 
 unfoldable pub result_of : Data → Result ProbeResult TickLineFault
 result_of d = do

@@ -6,14 +6,14 @@ use Rattle.std.specs.Prelude.{slice_get}
 use Rattle.std.specs.List.{list_any}
 use Rattle.std.proofs.Math.ListN.{set}
 use Rattle.std.proofs.Math.Seq.{take-append_seam}
-use Rattle.std.proofs.lemmas.Bool.{eqb-true, eqb-false, eq-eqb}
+use Rattle.std.proofs.lemmas.Bool.{eqb-true, eqb-false}
 use Rattle.std.proofs.lemmas.List.{get_or-set_same, get_or-set_other, length-set, length-take-le, take_more}
-use Rattle.std.proofs.lemmas.List.Folds.{list_any-append}
 use Rattle.std.proofs.lemmas.Option.{slice_get-get_or}
 use Rattle.trace.specs.declared.placing.PlacedEntry.{PlacedEntry}
 use Rattle.trace.specs.ByPod.{first_entry, AreFirst}
 use Rattle.trace.specs.Observed.{entry_for}
 use Rattle.trace.specs.Placing.{has_twice, are_of_one_pod}
+use Rattle.trace.proofs.Twice.{turned, twice_more}
 
 later : (b : Bool) (o p : Option ℕ) (n : ℕ) → p ≡ cond (is_some o) o (cond b (Some n) None)
     → option_map (λ k. k + 1) p ≡ cond (is_some (option_map (λ k. k + 1) o)) (option_map (λ k. k + 1) o)
@@ -38,41 +38,23 @@ first_more (x ∷ xs) e n =
       | false ↦ later (e.pod == n) (first_entry xs n) (first_entry (xs ++ e ∷ []) n) (length xs) (first_more xs e n)
     ]
 
-differ : (t : Bool) → (t ≡ true → ⊥) → false ≡ t
-differ true h = absurd (h refl)
-differ false h = refl
-
-turned_as : (a b : ℕ) (t : Bool) → (a == b) ≡ t → t ≡ (b == a)
-turned_as a b true e = sym (eq-eqb b a (sym (eqb-true a b e)))
-turned_as a b false e = differ (b == a) (λ is. eqb-false a b e (sym (eqb-true b a is)))
-
-turned : (a b : ℕ) → (a == b) ≡ (b == a)
-turned a b = turned_as a b (a == b) refl
-
-mixed : (a b c d : Bool) → ((a || (b || false)) || (c || d)) ≡ ((a || c) || (b || d))
-mixed true b c d = refl
-mixed false true true d = refl
-mixed false true false d = refl
-mixed false false c d = refl
-
 some_later : (b : Bool) (o : Option ℕ) → is_some (cond b (Some 0) (option_map (λ k. k + 1) o)) ≡ (b || is_some o)
 some_later true o = refl
 some_later false None = refl
 some_later false (Some k) = refl
 
+-- a pod has an entry where one of them is the first
+one_first : (es : List PlacedEntry) (n : ℕ) → list_any (λ y. y.pod == n) es ≡ is_some (first_entry es n)
+one_first [] n = refl
+one_first (x ∷ xs) n =
+    ap (λ (b : Bool). (x.pod == n) || b) (one_first xs n) ∙ sym (some_later (x.pod == n) (first_entry xs n))
+
 -- it makes a pod stand twice where that has an entry before it
-pub twice_more : (es : List PlacedEntry) (e : PlacedEntry)
+pub twice_with : (es : List PlacedEntry) (e : PlacedEntry)
     → has_twice are_of_one_pod (es ++ e ∷ []) ≡ (has_twice are_of_one_pod es || is_some (first_entry es e.pod))
-twice_more [] e = refl
-twice_more (x ∷ xs) e =
-    ap (λ (b : Bool). b || has_twice are_of_one_pod (xs ++ e ∷ [])) (list_any-append (λ y. y.pod == x.pod) xs (e ∷ []))
-    ∙ ap (λ (b : Bool). (list_any (λ y. y.pod == x.pod) xs || ((e.pod == x.pod) || false)) || b) (twice_more xs e)
-    ∙ ap (λ (b : Bool). (list_any (λ y. y.pod == x.pod) xs || (b || false))
-    || (has_twice are_of_one_pod xs || is_some (first_entry xs e.pod))) (turned e.pod x.pod)
-    ∙ mixed (list_any (λ y. y.pod == x.pod) xs) (x.pod == e.pod) (has_twice are_of_one_pod xs)
-    (is_some (first_entry xs e.pod))
-    ∙ ap (λ (b : Bool). (list_any (λ y. y.pod == x.pod) xs || has_twice are_of_one_pod xs) || b)
-    (sym (some_later (x.pod == e.pod) (first_entry xs e.pod)))
+twice_with es e =
+    twice_more are_of_one_pod (λ x y. turned x.pod y.pod) es e
+    ∙ ap (λ (b : Bool). has_twice are_of_one_pod es || b) (one_first es e.pod)
 
 none_step : (b : Bool) (x : PlacedEntry) (o : Option ℕ) (rest : Option PlacedEntry)
     → cond b (Some 0) (option_map (λ k. k + 1) o) ≡ None → (o ≡ None → rest ≡ None) → cond b (Some x) rest ≡ None
@@ -201,7 +183,7 @@ turn_repeats entries i e pods old twice b lt is within first earlier before =
     ap (λ (t : Bool). t || b) before
     ∙ ap (λ (t : Bool). has_twice are_of_one_pod (take i entries) || t)
     (earlier ∙ ap (λ (o : Option ℕ). is_some o) (first.first e.pod within))
-    ∙ sym (twice_more (take i entries) e)
+    ∙ sym (twice_with (take i entries) e)
     ∙ ap (λ (es : List PlacedEntry). has_twice are_of_one_pod es) (one_entry_more entries i e lt is)
 
 -- a list that was written over whole

@@ -17,3 +17,4 @@ pub mod OnTape
 pub mod NamedContainers
 pub mod NotedContainers
 pub mod NotedItems
+pub mod Twice

@@ -4,7 +4,7 @@ use Rattle.std.proofs.Common.{List, [], ◌∷◌, ◌++◌, length, get_or, Opt
 use Rattle.std.proofs.Common.{subst, arith}
 use Rattle.std.specs.List.{list_any}
 use Rattle.std.proofs.Math.ListN.{set}
-use Rattle.std.proofs.lemmas.Bool.{eqb-true, eqb-false, eq-eqb}
+use Rattle.std.proofs.lemmas.Bool.{eqb-true, eq-eqb}
 use Rattle.std.proofs.lemmas.List.Folds.{list_any-append}
 use Rattle.manifest.specs.declared.outcome.Outcome.{Outcome}
 use Rattle.manifest.specs.declared.outcome.ProbeKind.{ProbeKind}
@@ -18,36 +18,9 @@ use Rattle.trace.specs.declared.placing.PlacedResult.{PlacedResult}
 use Rattle.trace.specs.Noted.{is_listed, has_result, NotesListing, NotesResult}
 use Rattle.trace.specs.Observed.{seen_listed, seen_in, outcome_in, results_in, containers_from, lacks_code}
 use Rattle.trace.specs.Placing.{has_twice, are_of_one_container, are_of_one_probe, is_of_probe}
+use Rattle.trace.proofs.Twice.{turned, twice_more}
 
 -- ---- one item more
-
-mixed : (a b c d : Bool) → ((a || (b || false)) || (c || d)) ≡ ((a || c) || (b || d))
-mixed true b c d = refl
-mixed false true true d = refl
-mixed false true false d = refl
-mixed false false c d = refl
-
--- it makes an item stand twice where one like it stands before
-pub twice_more : {A : Type 0} (are : A → A → Bool) → ((a b : A) → are a b ≡ are b a) → (xs : List A) (x : A)
-    → has_twice are (xs ++ x ∷ []) ≡ (has_twice are xs || list_any (λ y. are y x) xs)
-twice_more are turned [] x = refl
-twice_more are turned (y ∷ ys) x =
-    ap (λ (b : Bool). b || has_twice are (ys ++ x ∷ [])) (list_any-append (λ z. are z y) ys (x ∷ []))
-    ∙ ap (λ (b : Bool). (list_any (λ z. are z y) ys || (are x y || false)) || b) (twice_more are turned ys x)
-    ∙ ap (λ (b : Bool). (list_any (λ z. are z y) ys || (b || false))
-    || (has_twice are ys || list_any (λ z. are z x) ys)) (turned x y)
-    ∙ mixed (list_any (λ z. are z y) ys) (are y x) (has_twice are ys) (list_any (λ z. are z x) ys)
-
-differ : (t : Bool) → (t ≡ true → ⊥) → false ≡ t
-differ true h = absurd (h refl)
-differ false h = refl
-
-turned_as : (a b : ℕ) (t : Bool) → (a == b) ≡ t → t ≡ (b == a)
-turned_as a b true e = sym (eq-eqb b a (sym (eqb-true a b e)))
-turned_as a b false e = differ (b == a) (λ is. eqb-false a b e (sym (eqb-true b a is)))
-
-turned : (a b : ℕ) → (a == b) ≡ (b == a)
-turned a b = turned_as a b (a == b) refl
 
 one_container_turned : (l m : PlacedListing) → are_of_one_container l m ≡ are_of_one_container m l
 one_container_turned l m = turned l.container m.container

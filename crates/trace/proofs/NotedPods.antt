@@ -3,12 +3,10 @@ use Rattle.std.proofs.Common.{◌≡◌, ◌∙◌, ℕ, zero, suc, ◌+◌, ◌
 use Rattle.std.proofs.Common.{◌∷◌, ◌++◌, length, get_or, Option, Some, None, is_some, refl, ap, sym, arith, All}
 use Rattle.std.proofs.Common.{◌≤◌, take, drop, replicate}
 use Rattle.std.specs.Prelude.{slice_get}
-use Rattle.std.specs.List.{list_any}
 use Rattle.std.proofs.Math.ListN.{set}
-use Rattle.std.proofs.lemmas.Bool.{eqb-true, eqb-false, eq-eqb}
+use Rattle.std.proofs.lemmas.Bool.{eqb-true, eq-eqb}
 use Rattle.std.proofs.lemmas.List.{append-nil, drop_all, take_all}
 use Rattle.std.proofs.lemmas.List.Elements.{All-head, All-tail}
-use Rattle.std.proofs.lemmas.List.Folds.{list_any-append}
 use Rattle.std.proofs.lemmas.Option.{slice_get_within}
 use Rattle.manifest.specs.declared.pod.PodSpec.{PodSpec}
 use Rattle.observations.specs.Pods.{PodObs}
@@ -18,6 +16,7 @@ use Rattle.roster.proofs.Present.{present_length}
 use Rattle.trace.specs.declared.placing.PlacedEntry.{PlacedEntry}
 use Rattle.trace.specs.Observed.{entry_for, pod_observed, pods_from}
 use Rattle.trace.specs.Placing.{has_twice, are_of_one_pod}
+use Rattle.trace.proofs.Twice.{turned, twice_more}
 use Rattle.trace.specs.Slots.{slot_of, slots_from, has_entry, or_present, with_others}
 
 -- the entry of a pod, with one entry more that is of another pod
@@ -56,32 +55,15 @@ none_if (Some x) e = absurd (cc)
 pub has_none : (es : List PlacedEntry) (n : ℕ) → has_entry es n ≡ false → entry_for es n ≡ None
 has_none es n none = none_if (entry_for es n) (has_one es n ∙ none)
 
-or_false : (b c : Bool) → (b || c) ≡ false → (b ≡ false) × (c ≡ false)
-or_false true c e = absurd (cc)
-or_false false c e = (refl, e)
-
-both_false : (b c : Bool) → b ≡ false → c ≡ false → (b || c) ≡ false
-both_false b c e f = rw (e, f) refl
-
 differ : (b : Bool) → (b ≡ true → ⊥) → b ≡ false
 differ true h = absurd (h refl)
 differ false h = refl
 
-turned : (a b : ℕ) → (a == b) ≡ false → (b == a) ≡ false
-turned a b other = differ (b == a) (λ is. eqb-false a b other (sym (eqb-true b a is)))
-
 -- one entry more of a pod that has none before it makes no pod stand twice
 pub apart_more : (es : List PlacedEntry) (e : PlacedEntry) → has_twice are_of_one_pod es ≡ false
     → has_entry es e.pod ≡ false → has_twice are_of_one_pod (es ++ e ∷ []) ≡ false
-apart_more [] e apart none = refl
-apart_more (x ∷ xs) e apart none =
-    let before = or_false (list_any (λ y. y.pod == x.pod) xs) (has_twice are_of_one_pod xs) apart in
-    let new = or_false (x.pod == e.pod) (has_entry xs e.pod) none in
-    both_false (list_any (λ y. y.pod == x.pod) (xs ++ e ∷ [])) (has_twice are_of_one_pod (xs ++ e ∷ []))
-    (list_any-append (λ y. y.pod == x.pod) xs (e ∷ [])
-    ∙ both_false (list_any (λ y. y.pod == x.pod) xs) ((e.pod == x.pod) || false) before.0
-    (both_false (e.pod == x.pod) false (turned x.pod e.pod new.0) refl))
-    (apart_more xs e before.1 new.1)
+apart_more es e apart none =
+    twice_more are_of_one_pod (λ x y. turned x.pod y.pod) es e ∙ rw (apart, none) refl
 
 -- a pod whose key is found is present
 key_present : (pods : List PodSpec) (departures : List (Option ℕ)) (n : ℕ) (key : List ℕ)
@@ -103,7 +85,7 @@ found_present roll key n e =
     let lt = slice_get_within keys n (Some key) there in
     (key_present roll.pods roll.departures n key there, omega (arith, lt, present_length roll.pods roll.departures))
 
--- so many pods, so many slots
+-- this many pods, this many slots
 pub slots_length : (at : ℕ) (es : List PlacedEntry) (n : ℕ) (ps : List PodSpec)
     → length (slots_from at es n ps) ≡ length ps
 slots_length at es n [] = refl

@@ -4,7 +4,7 @@ use Rattle.std.proofs.Common.{Option, Some, Result, Ok}
 use Rattle.std.proofs.Common.{Err, arith, not, refl, sym, ap}
 use Rattle.std.proofs.lemmas.List.{append-nil, drop_all, take_all}
 use Rattle.std.specs.List.{list_any}
-use Rattle.std.specs.Prelude.{All, slice_get, codes}
+use Rattle.std.specs.Prelude.{slice_get, codes}
 use Rattle.std.proofs.lemmas.Bool.{or_from}
 use Rattle.std.proofs.lemmas.List.Elements.{All-nil, All-push}
 use Rattle.std.proofs.lemmas.List.Folds.{list_any-append}
@@ -211,7 +211,7 @@ entry_noted roll at ds d old new text n pod listed all shown listings results be
     (free before.entries before.noted (found_present roll text.key.now n number).1)
     (noted before.entries entry before.noted refl there shows)
 
--- so many pods, so many places
+-- this many pods, this many places
 pub noted_length : (roll : Roll) (at : ℕ) (ds : List Data) (slots : List (Option PodObs))
     → EntriesNoted roll at ds slots → length slots ≡ length roll.pods
 noted_length roll at ds slots is = ap (λ (os : List (Option PodObs)). length os) is.noted

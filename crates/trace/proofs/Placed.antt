@@ -60,7 +60,7 @@ by_numbers roll (x ∷ xs) ns e =
     (entry_by_number roll x one.0 (each (placed_entry roll) xs) one.1
     ∙ ap add (by_numbers roll xs rest.0 rest.1))
 
--- so many entries, so many numbers
+-- this many entries, this many numbers
 pub as_many : {A B E : Type 0} (f : A → Result B E) (xs : List A) (ys : List B) → each f xs ≡ Ok ys
     → length ys ≡ length xs
 as_many {B = B} {E = E} f [] ys e = ap (λ (zs : List B). length zs) (sym (same_value {E = E} [] ys e))

@@ -9,7 +9,7 @@ abbrev pub is_memory : FaultKind → Bool
 is_memory OutOfMemory = true
 is_memory kind = false
 
--- of a call that takes memory: a fault for want of it aside
+-- of a call that takes memory: out of memory aside
 abbrev pub Gives : {X Y : Type 0} → (X → Y) → Result X FaultKind → Result Y FaultKind → Type 0
 Gives view result given = GivesUnless is_memory view result given
 

@@ -371,7 +371,7 @@ abbrev pub StandardIsExtended : Type 0
 StandardIsExtended =
     (text : List ℕ) (trace : Trace) → trace_of Standard text ≡ Ok trace → trace_of Extended text ≡ Ok trace
 
--- not for want of memory
+-- not because memory ran out
 abbrev pub IsNotMemory : FaultKind → Type 0
 IsNotMemory kind = (kind ≢ OutOfMemory) × (kind ≢ Manifest manifest_faults.OutOfMemory)
 

@@ -1,5 +1,6 @@
 -- What holds of every trace.
-use Rattle.std.specs.Prelude.{◌≡◌, ◌↔◌, IsSome, IsSomeAnd, ℕ, ◌<◌, ◌≤◌, ◌^◌, List, length, slice_get, Option, Some}
+use Rattle.std.specs.Prelude.{◌≡◌, ◌↔◌, IsSome, IsSomeAnd, ℕ, ◌<◌, ◌≤◌, List, length, slice_get, Option, Some}
+use Rattle.quantity.specs.Duration.{end_of_time}
 use Rattle.state_diff.specs.Instances.{IsAcceptableHistory}
 use Rattle.manifest.specs.declared.pod.PodSpec.{PodSpec}
 use Rattle.observations.specs.Pods.{PodObs}
@@ -67,7 +68,7 @@ pub record HasShape (pods : List PodSpec) (arrivals : List ℕ) (departures : Li
   pub shown : (t : ℕ) (tick : TickObs) → slice_get ticks t ≡ Some tick → ShowsEach pods arrivals departures t tick
   pub arrived : AreArrivals (length pods) (length ticks) arrivals
   pub left : AreDepartures (length pods) (length ticks) arrivals departures
-  pub below : (t : ℕ) (tick : TickObs) → slice_get ticks t ≡ Some tick → tick.at < 2 ^ 40
+  pub below : (t : ℕ) (tick : TickObs) → slice_get ticks t ≡ Some tick → tick.at < end_of_time
   pub rising : AreRising ticks
   pub few_ticks : length ticks ≤ most_ticks
   pub few_pods : length pods ≤ most_pods

@@ -1,7 +1,8 @@
 -- What a tick line says after the lines before it: each check is made over the whole line before
 -- the next.
-use Rattle.std.specs.Prelude.{◌≡◌, ℕ, ⊤, ◌-◌, ◌^◌, ◌&&◌, Bool, true, false, List, length, nat_lt, nat_le}
+use Rattle.std.specs.Prelude.{◌≡◌, ℕ, ⊤, ◌-◌, ◌&&◌, Bool, true, false, List, length, nat_lt, nat_le}
 use Rattle.std.specs.Prelude.{slice_get, Option, Some, None, option_and_then, if◌then◌else◌, Result, Ok, Err, codes}
+use Rattle.quantity.specs.Duration.{end_of_time}
 use Rattle.serde_json.specs.Data.{Data}
 use Rattle.serde_json.specs.Find.{as_number, as_u64}
 use Rattle.json_fields.specs.Fields.{field_at}
@@ -26,7 +27,7 @@ is_later (Some tick) at = nat_lt tick.at at
 
 abbrev pub moment_from : List TickObs → Option ℕ → Result ℕ FaultKind
 moment_from ticks None = Err Moment
-moment_from ticks (Some at) = if nat_lt at (2 ^ 40) && is_later (slice_get ticks (length ticks - 1)) at then Ok at
+moment_from ticks (Some at) = if nat_lt at end_of_time && is_later (slice_get ticks (length ticks - 1)) at then Ok at
     else Err Moment
 
 -- a moment below 2^40, later than the last tick's

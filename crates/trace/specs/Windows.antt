@@ -10,14 +10,14 @@ smallest_window = 65536
 abbrev pub greatest_window : ℕ
 greatest_window = 4194304
 
--- so many pods the lines of a window show together at most
+-- this many pods the lines of a window show together at most
 abbrev pub most_shown : ℕ
 most_shown = 262144
 
--- a line takes as much memory as so many pods, beside those that it shows
+-- a line takes as much memory as this many pods, beside those that it shows
 abbrev pub weight_of_line : ℕ
 weight_of_line = 8
 
--- so many lines, each of which shows all pods, are one alone or show no more than a window may
+-- this many lines, each of which shows all pods, are one alone or show no more than a window may
 abbrev pub AreFew : Roll → ℕ → Type 0
 AreFew roll lines = 1 < lines → lines * (length roll.pods + weight_of_line) ≤ most_shown

@@ -31,7 +31,7 @@ fn note(first: &mut [Option<usize>], pod: usize, place: usize) -> bool
     false
 }
 
-/// Where the entries of so many pods stand.
+/// Where the entries of this many pods stand.
 pub(crate) fn entries_by_pod(
     alloc: Global,
     entries: &[PlacedEntry],

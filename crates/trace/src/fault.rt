@@ -3,7 +3,6 @@
 ghost use Rattle.std.specs.Prelude.{◌≡◌};
 ghost use Rattle.trace.specs.declared.fault.FaultKind.TheVariants.{OutOfMemory};
 ghost use Rattle.json_fields.specs.Reading.{refused_if, GivesExactly};
-ghost use Rattle.trace.specs.Trace.{at_line};
 ghost use Rattle.trace.specs.Faults.{kind_of_manifest_fault, kind_of_node_fault, kind_of_tick_fault};
 
 use manifest_reader::ManifestFault;
@@ -168,14 +167,4 @@ pub(crate) fn refused_if(test: bool, kind: FaultKind) -> Result<(), FaultKind>
 pub struct LineFault {
     pub line: u64,
     pub kind: FaultKind,
-}
-
-/// What was answered for a line, with the line beside its fault.
-pub(crate) fn at_line<T>(line: u64, answer: Result<T, FaultKind>) -> Result<T, LineFault>
-    ensures { result ≡ at_line line answer }
-{
-    match answer {
-        Ok(value) => Ok(value),
-        Err(kind) => Err(LineFault { line, kind }),
-    }
 }

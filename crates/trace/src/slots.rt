@@ -14,7 +14,7 @@ use observations::{ContainerObs, PodObs};
 use roster::Roster;
 use std::alloc::{AllocError, Global};
 
-/// So many pods, of which nothing is shown yet.
+/// This many pods, of which nothing is shown yet.
 pub(crate) fn no_pods(alloc: Global, pods: usize) -> Result<Vec<Option<PodObs>>, AllocError>
     ensures { IfOk result (λ v. (at : ℕ) (ps : List PodSpec) → pods ≡ length ps → v.items ≡ slots_from at [] 0 ps) }
 {

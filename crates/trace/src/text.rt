@@ -15,7 +15,7 @@ use crate::ahead::{LineAhead, line_ahead};
 use crate::fault::{FaultKind, LineFault};
 use crate::reading::{take_line, take_shown};
 use crate::trace_so_far::{Trace, TraceSoFar};
-use crate::windows::{ALONE, Window, bytes_behind, window_alone, window_by_workers};
+use crate::windows::{ALONE, OneThread, Window, WindowReader, Workers, bytes_behind};
 use following::ListingOrder;
 use json_lines::{LineBuffers, TextLine};
 use lists::Sequence;
@@ -192,49 +192,14 @@ fn finished(line: u64, so_far: TraceSoFar) -> Result<Trace, LineFault>
     }
 }
 
-fn read_alone(alloc: Global, format: Format, text: &[u8]) -> Result<Trace, LineFault>
-    ensures { GivesAt (λ t. t) result (trace_of format text.now) }
-{
-    let mut so_far = nothing(alloc, format);
-    let mut rest = text;
-    let mut number = 1u64;
-    while !rest.is_empty() {
-        let Ok(window) = window_alone(alloc, &so_far.roster, rest) else {
-            drop(so_far);
-            return Err(no_memory(number));
-        };
-        let Window {
-            lines,
-            reads,
-            rest: after,
-        } = window;
-        let (next, _) = take_lines(alloc, so_far, number, &lines, reads)?;
-        so_far = next;
-        rest = after;
-        number += lines.len() as u64;
-    }
-    finished(number, so_far)
-}
-
-/// The trace that a text says in a format, or its first faulty line with that line's first fault. Where a
-/// growth of memory is refused the answer is `OutOfMemory`; of its line nothing is promised.
-pub fn read_trace(alloc: Global, format: Format, text: &[u8]) -> Result<Trace, LineFault>
-    ensures gives { GivesAt (λ t. t) result (trace_of format text.now) }
-    ensures acceptable { IfOk result (λ t. AreAcceptable t.ticks) }
-    ensures rising { IfOk result (λ t. AreRising t.ticks) }
-    ensures shape { IfOk result (λ t. HasShape t.pods t.arrivals t.departures t.ticks) }
-{
-    read_alone(alloc, format, text)
-}
-
-fn read_by_workers<R: Threads + Sync>(
-    rt: &R,
+/// The trace of a text, whose windows this reader reads.
+fn read_windows<W: WindowReader>(
+    reader: &W,
     alloc: Global,
     format: Format,
     text: &[u8],
-    workers: usize,
 ) -> Result<Trace, LineFault>
-    requires { 0 < workers }
+    requires { W.can_read reader.now }
     ensures { GivesAt (λ t. t) result (trace_of format text.now) }
 {
     let mut so_far = nothing(alloc, format);
@@ -242,7 +207,7 @@ fn read_by_workers<R: Threads + Sync>(
     let mut number = 1u64;
     let mut bytes = ALONE;
     while !rest.is_empty() {
-        let Ok(window) = window_by_workers(rt, alloc, &so_far.roster, rest, bytes, workers) else {
+        let Ok(window) = reader.window(alloc, &so_far.roster, rest, bytes) else {
             drop(so_far);
             return Err(no_memory(number));
         };
@@ -260,6 +225,17 @@ fn read_by_workers<R: Threads + Sync>(
     finished(number, so_far)
 }
 
+/// The trace that a text says in a format, or its first faulty line with that line's first fault. Where a
+/// growth of memory is refused the answer is `OutOfMemory`; of its line nothing is promised.
+pub fn read_trace(alloc: Global, format: Format, text: &[u8]) -> Result<Trace, LineFault>
+    ensures gives { GivesAt (λ t. t) result (trace_of format text.now) }
+    ensures acceptable { IfOk result (λ t. AreAcceptable t.ticks) }
+    ensures rising { IfOk result (λ t. AreRising t.ticks) }
+    ensures shape { IfOk result (λ t. HasShape t.pods t.arrivals t.departures t.ticks) }
+{
+    read_windows(&OneThread, alloc, format, text)
+}
+
 /// The same as [`read_trace`]; this many workers share the lines of a text behind its first 64 KiB.
 pub fn read_trace_by_workers<R: Threads + Sync>(
     rt: &R,
@@ -274,5 +250,5 @@ pub fn read_trace_by_workers<R: Threads + Sync>(
     ensures rising { IfOk result (λ t. AreRising t.ticks) }
     ensures shape { IfOk result (λ t. HasShape t.pods t.arrivals t.departures t.ticks) }
 {
-    read_by_workers(rt, alloc, format, text, workers)
+    read_windows(&Workers { rt, workers }, alloc, format, text)
 }

@@ -1,6 +1,7 @@
 //! Windows of a text, whose lines are read ahead.
 
-ghost use Rattle.std.specs.Prelude.{◌≡◌, ◌<◌, ◌≤◌, ◌+◌, ◌++◌, false, IfOk, IsTrue, length, map};
+ghost use Rattle.std.specs.Prelude.{◌≡◌, ◌<◌, ◌≤◌, ◌+◌, ◌++◌, ⊤, false, IfOk, IsTrue, length, map};
+ghost use Rattle.std.specs.Thread.{IsSync};
 ghost use Rattle.json_lines.specs.Lines.{line_data, lines_of};
 ghost use Rattle.trace.specs.Ahead.{AreAhead};
 ghost use Rattle.trace.specs.Windows.{AreFew, smallest_window, greatest_window};
@@ -11,7 +12,7 @@ use roster::Roster;
 use std::alloc::{AllocError, Global};
 use std::thread::{Threads, map_chunks};
 
-/// A window that one thread reads has so many bytes, 64 KiB, and the end of its last line, and so has the first one
+/// A window that one thread reads has this many bytes, 64 KiB, and the end of its last line, and so has the first one
 /// where there are workers: an early fault is found before threads start. Workers share no shorter window.
 pub(crate) const ALONE: usize = 65_536;
 
@@ -19,13 +20,13 @@ pub(crate) const ALONE: usize = 65_536;
 /// anew for each.
 const SHARED: usize = 4_194_304;
 
-/// The lines of a window show so many pods together, each of them in each line, and no more.
+/// The lines of a window show this many pods together, each of them in each line, and no more.
 const SHOWN: usize = 262_144;
 
-/// What is read of a line takes as much memory as so many pods, beside those that it shows.
+/// What is read of a line takes as much memory as this many pods, beside those that it shows.
 const LINE: usize = 8;
 
-/// So many lines a window has at most.
+/// This many lines a window has at most.
 fn most_lines(roster: &Roster) -> usize
     ensures some { 0 < result }
     ensures few { AreFew roster.now result }
@@ -33,11 +34,11 @@ fn most_lines(roster: &Roster) -> usize
     (SHOWN / roster.pods().len().saturating_add(LINE)).max(1)
 }
 
-/// A window has so many times the bytes of the one before it, until it has 4 MiB: behind 64 KiB it has 1 MiB.
+/// A window has this many times the bytes of the one before it, until it has 4 MiB: behind 64 KiB it has 1 MiB.
 const GROWTH: usize = 16;
 
-/// How many bytes the window behind one of so many has: as many as the first one where a line was read in vain, beside
-/// pods that changed meanwhile.
+/// How many bytes the window behind one of this many has: as many as the first one where a line was read in vain,
+/// beside pods that changed meanwhile.
 pub(crate) fn bytes_behind(bytes: usize, some_in_vain: bool) -> usize
     ensures least { smallest_window ≤ result }
     ensures most { result ≤ greatest_window }
@@ -59,7 +60,7 @@ pub(crate) struct Window<'t> {
     pub(crate) rest: &'t [u8],
 }
 
-/// What is read of each line ahead, in their order; so many workers share the lines.
+/// What is read of each line ahead, in their order; this many workers share the lines.
 fn read_shared<R: Threads + Sync>(
     rt: &R,
     alloc: Global,
@@ -77,48 +78,73 @@ fn read_shared<R: Threads + Sync>(
     joined(alloc, map_chunks(rt, alloc, lines, size, &part)?)
 }
 
-/// The next window, read by this thread beside these pods. It is never without a line where the text isn't empty.
-pub(crate) fn window_alone<'t>(
-    alloc: Global,
-    roster: &Roster,
-    text: &'t [u8],
-) -> Result<Window<'t>, AllocError>
-    ensures lines { IfOk result (λ window. lines_of text.now
-        ≡ map (λ line. line.now) window.lines.items ++ lines_of window.rest.now) }
-    ensures shorter { 0 < length text.now → IfOk result (λ window. length window.rest.now < length text.now) }
-    ensures short { IfOk result (λ window. length window.lines.items + length window.rest.now ≤ length text.now) }
-    ensures few { IfOk result (λ window. AreFew roster.now (length window.lines.items)) }
-    ensures ahead { IfOk result (λ window. AreAhead roster.now window.lines.items window.reads.items) }
-{
-    let (lines, rest) = next_tick_lines(alloc, text, ALONE, most_lines(roster))?;
-    let reads = read_each(alloc, roster, &lines)?;
-    Ok(Window { lines, reads, rest })
+/// Who reads the lines of a window.
+pub(crate) trait WindowReader {
+    // What holds of a reader that can read.
+    ghost can_read: { Self → Type 0 };
+
+    /// The next window, of this many bytes or fewer and the end of its last line, read beside these pods. It is never
+    /// without a line where the text isn't empty.
+    fn window<'t>(
+        &self,
+        alloc: Global,
+        roster: &Roster,
+        text: &'t [u8],
+        bytes: usize,
+    ) -> Result<Window<'t>, AllocError>
+        requires reader { can_read self.now }
+        requires bytes { 0 < bytes }
+        ensures lines { IfOk result (λ window. lines_of text.now
+            ≡ map (λ line. line.now) window.lines.items ++ lines_of window.rest.now) }
+        ensures shorter { 0 < length text.now → IfOk result (λ window. length window.rest.now < length text.now) }
+        ensures short { IfOk result (λ window.
+            length window.lines.items + length window.rest.now ≤ length text.now) }
+        ensures few { IfOk result (λ window. AreFew roster.now (length window.lines.items)) }
+        ensures ahead { IfOk result (λ window. AreAhead roster.now window.lines.items window.reads.items) };
 }
 
-/// The next window, of so many bytes or fewer, read by this many workers beside these pods, or by this thread where
-/// that is no more than 64 KiB. It is never without a line where the text isn't empty.
-pub(crate) fn window_by_workers<'t, R: Threads + Sync>(
-    rt: &R,
-    alloc: Global,
-    roster: &Roster,
-    text: &'t [u8],
-    bytes: usize,
-    workers: usize,
-) -> Result<Window<'t>, AllocError>
-    requires bytes { 0 < bytes }
-    requires workers { 0 < workers }
-    ensures lines { IfOk result (λ window. lines_of text.now
-        ≡ map (λ line. line.now) window.lines.items ++ lines_of window.rest.now) }
-    ensures shorter { 0 < length text.now → IfOk result (λ window. length window.rest.now < length text.now) }
-    ensures short { IfOk result (λ window. length window.lines.items + length window.rest.now ≤ length text.now) }
-    ensures few { IfOk result (λ window. AreFew roster.now (length window.lines.items)) }
-    ensures ahead { IfOk result (λ window. AreAhead roster.now window.lines.items window.reads.items) }
-{
-    let (lines, rest) = next_tick_lines(alloc, text, bytes, most_lines(roster))?;
-    let reads = if bytes <= ALONE || text.len() - rest.len() < ALONE {
-        read_each(alloc, roster, &lines)?
-    } else {
-        read_shared(rt, alloc, roster, &lines, workers)?
-    };
-    Ok(Window { lines, reads, rest })
+/// This thread, which reads no more than 64 KiB at once.
+pub(crate) struct OneThread;
+
+impl WindowReader for OneThread {
+    ghost can_read = { λ _. ⊤ };
+
+    fn window<'t>(
+        &self,
+        alloc: Global,
+        roster: &Roster,
+        text: &'t [u8],
+        _bytes: usize,
+    ) -> Result<Window<'t>, AllocError> {
+        let (lines, rest) = next_tick_lines(alloc, text, ALONE, most_lines(roster))?;
+        let reads = read_each(alloc, roster, &lines)?;
+        Ok(Window { lines, reads, rest })
+    }
+}
+
+/// This many workers, or this thread where a window has no more than 64 KiB.
+#[derive(Drop)]
+pub(crate) struct Workers<'r, R> {
+    pub(crate) rt: &'r R,
+    pub(crate) workers: usize,
+}
+
+impl<R: Threads + Sync> WindowReader for Workers<'_, R> {
+    ghost can_read = { λ w. (0 < w.workers) × IsSync R.row };
+
+    fn window<'t>(
+        &self,
+        alloc: Global,
+        roster: &Roster,
+        text: &'t [u8],
+        bytes: usize,
+    ) -> Result<Window<'t>, AllocError> {
+        let (lines, rest) = next_tick_lines(alloc, text, bytes, most_lines(roster))?;
+        let reads = if bytes <= ALONE || text.len() - rest.len() < ALONE {
+            read_each(alloc, roster, &lines)?
+        } else {
+            read_shared(self.rt, alloc, roster, &lines, self.workers)?
+        };
+        Ok(Window { lines, reads, rest })
+    }
 }

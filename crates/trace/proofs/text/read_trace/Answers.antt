@@ -3,10 +3,11 @@ use Rattle.trace.proofs.Sound.{given_acceptable, given_rising}
 use Rattle.trace.proofs.text.read_trace.Goals as goal
 
 pub returns-clause-acceptable : goal.returns-clause-acceptable
-returns-clause-acceptable c = given_acceptable c.args.format c.args.text.now c.read_alone.result c.read_alone.ensures
+returns-clause-acceptable c =
+    given_acceptable c.args.format c.args.text.now c.read_windows.result c.read_windows.ensures
 
 pub returns-clause-rising : goal.returns-clause-rising
-returns-clause-rising c = given_rising c.args.format c.args.text.now c.read_alone.result c.read_alone.ensures
+returns-clause-rising c = given_rising c.args.format c.args.text.now c.read_windows.result c.read_windows.ensures
 
 pub returns-clause-shape : goal.returns-clause-shape
-returns-clause-shape c = given_shape c.args.format c.args.text.now c.read_alone.result c.read_alone.ensures
+returns-clause-shape c = given_shape c.args.format c.args.text.now c.read_windows.result c.read_windows.ensures

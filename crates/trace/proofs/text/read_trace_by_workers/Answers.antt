@@ -3,12 +3,12 @@ use Rattle.trace.proofs.Sound.{given_acceptable, given_rising}
 use Rattle.trace.proofs.text.read_trace_by_workers.Goals as goal
 
 pub returns-clause-acceptable : goal.returns-clause-acceptable
-returns-clause-acceptable g c = given_acceptable c.args.format c.args.text.now c.read_by_workers.result
-    c.read_by_workers.ensures
+returns-clause-acceptable g c = given_acceptable c.args.format c.args.text.now c.read_windows.result
+    c.read_windows.ensures
 
 pub returns-clause-rising : goal.returns-clause-rising
-returns-clause-rising g c = given_rising c.args.format c.args.text.now c.read_by_workers.result
-    c.read_by_workers.ensures
+returns-clause-rising g c = given_rising c.args.format c.args.text.now c.read_windows.result
+    c.read_windows.ensures
 
 pub returns-clause-shape : goal.returns-clause-shape
-returns-clause-shape g c = given_shape c.args.format c.args.text.now c.read_by_workers.result c.read_by_workers.ensures
+returns-clause-shape g c = given_shape c.args.format c.args.text.now c.read_windows.result c.read_windows.ensures

@@ -1,6 +1,6 @@
 use Rattle.std.proofs.Common.{◌+◌, ◌<◌, ◌≤◌, length}
 use Rattle.trace.proofs.Taken.{LeadsOn}
-use Rattle.trace.proofs.text.read_by_workers.Given as goal
+use Rattle.trace.proofs.text.read_windows.Given as goal
 
 abbrev pub invariant-loop-rest : goal.invariant-loop-rest
 invariant-loop-rest g l = LeadsOn l.fn.format l.fn.text l.number l.so_far l.rest
