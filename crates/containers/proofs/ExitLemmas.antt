@@ -118,6 +118,15 @@ exits_stay k d x (a ∷ attempts) [] is accepts are = are
 exits_stay k d x (a ∷ attempts) (e ∷ exits) is accepts are =
     (exit_stays k d x a e is accepts are.0, exits_stay k d x attempts exits is accepts are.1)
 
+exits_kept : (k : List Tick) (d : Differ) (x : Tick) (exits : List Exit) → IsDifferOf k d → DifferAccepts d x.entry
+    → AreExits k exits → AreExitsFor (k ++ x ∷ []) (HasExit k) exits
+exits_kept k d x exits is accepts are = record {
+  attempts = are.attempts;
+  in_order = are.in_order;
+  all = are.all;
+  each = exits_stay k d x are.attempts exits is accepts are.each;
+}
+
 -- it exits by the new tick, which does not list it
 abbrev pub IsGoneNow : List Tick → Tick → ℕ → Type 0
 IsGoneNow k x a = IsExit (k ++ x ∷ []) a (length k) × (Listed (k ++ x ∷ []) a (length k) → ⊥)
@@ -166,13 +175,7 @@ gone_more k d at seen exits start true is accepts first iff are =
     let x = tick at seen in
     let l = leaving k d x a is w.1 in
     exit_added (k ++ x ∷ []) (HasExit k) (OrGone k x) exits a (recorded at (at - unwrap_or start at))
-    (record {
-      attempts = are.attempts;
-      in_order = are.in_order;
-      all = are.all;
-      each = exits_stay k d x are.attempts
-          exits is accepts are.each;
-    })
+    (exits_kept k d x exits is accepts are)
     (record {
       moment = ends a l;
       run = record {
@@ -198,14 +201,7 @@ gone_more k d at seen exits start true is accepts first iff are =
         l.lives
 gone_more k d at seen exits start false is accepts first iff are =
     let x = tick at seen in
-    exit_none (k ++ x ∷ []) (HasExit k) (OrGone k x) exits
-    (record {
-      attempts = are.attempts;
-      in_order = are.in_order;
-      all = are.all;
-      each = exits_stay k d x are.attempts
-          exits is accepts are.each;
-    })
+    exit_none (k ++ x ∷ []) (HasExit k) (OrGone k x) exits (exits_kept k d x exits is accepts are)
     (λ b. ((λ q. elim q [ inl p ↦ p | inr g ↦ absurd (let e : IsTrue false = iff.1 (b, g) in cc) ]), (λ p. inl p)))
 
 -- the new tick lists an attempt with a code

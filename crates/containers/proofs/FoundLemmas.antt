@@ -8,13 +8,14 @@ use Rattle.histories.specs.Histories.{recorded, IsSo, IsFirstMoment}
 use Rattle.histories.proofs.Decide.{OrNot, negated, both, test_of, true_or_not}
 use Rattle.histories.proofs.Found.{so_or_not, once_or_never, picked_of}
 use Rattle.manifest.specs.declared.pod.ContainerSpec.{ContainerSpec}
+use Rattle.manifest.specs.declared.pod.Role.TheVariants.{Init}
 use Rattle.state_diff.specs.declared.seen.CriState.TheVariants.{Running}
 use Rattle.state_diff.specs.Instances.{Tick, ListedAs, IsNewest}
 use Rattle.state_diff.proofs.Found.{listed_or_not, start_moment, exit_moment, run_of, exit_or_none, ended_listed}
 use Rattle.state_diff.proofs.Found.{newest_or_none}
 use Rattle.state_diff.proofs.Found.{above_attempts, running_state_or_not, newest_seen, set_up_or_not}
 use Rattle.state_diff.proofs.Unique.{IsNewest-unique}
-use Rattle.phase.proofs.DecideLemmas.{init_or_not}
+use Rattle.phase.proofs.DecideLemmas.{role_or_not}
 use Rattle.phase.specs.declared.view.ContainerView.{ContainerView}
 use Rattle.phase.specs.Facts.{exit_code}
 use Rattle.phase.specs.Views.{state_shown, restarts_of}
@@ -149,10 +150,11 @@ says_or_not Q each h a = let start = start_moment (listings h) a in says_from Q 
 -- the container serves by its newest instance, of which R holds, or not
 serves_or_not : (spec : ContainerSpec) (h : List ContainerTick) (a : ℕ) → IsNewest (listings h) a
     → OrNot (Serves spec h a)
-serves_or_not spec h a newest = elim (both (negated (init_or_not spec.role)) (running_state_or_not (listings h) a)) [
-  | inl w ↦ inl (record { role = w.0; newest = newest; runs = w.1 })
-  | inr not ↦ inr (λ s. not (s.role, s.runs))
-]
+serves_or_not spec h a newest =
+    elim (both (negated (role_or_not Init spec.role)) (running_state_or_not (listings h) a)) [
+      | inl w ↦ inl (record { role = w.0; newest = newest; runs = w.1 })
+      | inr not ↦ inr (λ s. not (s.role, s.runs))
+    ]
 
 served_or_not : (spec : ContainerSpec) (h : List ContainerTick) (R : ℕ → Type 0) → ((a : ℕ) → OrNot (R a))
     → OrNot ((a : ℕ) × Serves spec h a × R a)

@@ -16,7 +16,7 @@ use Rattle.restarts.specs.Backoff.{IsStateOf as IsBackoffOf}
 use Rattle.containers.specs.Ticks.{ContainerTick, listings, BelongsTo, results_of, AreTicksOf, StartsAt}
 use Rattle.containers.specs.Exits.{AreExits}
 
--- the exit at this moment after a run of so many seconds, if there is one
+-- the exit at this moment after a run of this many seconds, if there is one
 abbrev pub exits_at : ℕ → Option ℕ → List Exit
 exits_at at None = []
 exits_at at (Some run) = recorded at run ∷ []

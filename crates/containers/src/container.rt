@@ -1,5 +1,6 @@
-ghost use Rattle.std.specs.Prelude.{◌≡◌, ◌↔◌, ◌^◌, ◌<◌, ◌≤◌, ℕ, List, [], ◌∷◌, ◌++◌, length, Some, IsTrue, IsSomeAnd};
+ghost use Rattle.std.specs.Prelude.{◌≡◌, ◌↔◌, ◌<◌, ◌≤◌, ℕ, List, [], ◌∷◌, ◌++◌, length, Some, IsTrue, IsSomeAnd};
 ghost use Rattle.std.specs.Prelude.{IfSome};
+ghost use Rattle.quantity.specs.Duration.{end_of_time};
 ghost use Rattle.histories.specs.Histories.{recorded, IsFirstMoment, last_moment};
 ghost use Rattle.manifest.specs.declared.pod.ContainerSpec.{ContainerSpec};
 ghost use Rattle.manifest.specs.declared.pod.Role.TheVariants.{Init};
@@ -184,7 +185,7 @@ impl Container {
     /// the container before it began to run: by how many seconds the restart after the last exit is
     /// backed off.
     fn count_exits(&mut self, start: Option<u64>, changes: &Changes, at: u64) -> Option<u64>
-        requires { at < 2 ^ 40 }
+        requires { at < end_of_time }
         ensures role { self.new.role ≡ self.old.role }
         ensures differ { self.new.differ ≡ self.old.differ }
         ensures probes { self.new.probes ≡ self.old.probes }
@@ -210,7 +211,7 @@ impl Container {
     pub fn step(&mut self, policy: Policy, at: u64, observed: ContainerObs) -> ContainerEvents
         requires accepted { Accepts self.old observed.seen }
         requires later { IsBefore self.old at }
-        requires bounded { at < 2 ^ 40 }
+        requires bounded { at < end_of_time }
         ensures state { (spec : ContainerSpec) (max_restart_delay : ℕ) (h : List ContainerTick)
             → IsStateOf spec max_restart_delay h self.old
             → IsStateOf spec max_restart_delay (h ++ recorded at observed ∷ []) self.new }

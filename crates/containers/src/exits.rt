@@ -1,7 +1,8 @@
 //! The exits of a tick, and what they make of the back-off.
 
-ghost use Rattle.std.specs.Prelude.{◌≡◌, ◌⊎◌, ◌↔◌, ◌^◌, ◌<◌, ◌-◌, ◌++◌, ℕ, List, Option, Some, None, IsTrue, IsSome};
+ghost use Rattle.std.specs.Prelude.{◌≡◌, ◌⊎◌, ◌↔◌, ◌<◌, ◌-◌, ◌++◌, ℕ, List, Option, Some, None, IsTrue, IsSome};
 ghost use Rattle.std.specs.Prelude.{IsSomeAnd, unwrap_or, if◌then◌else◌};
+ghost use Rattle.quantity.specs.Duration.{end_of_time};
 ghost use Rattle.manifest.specs.Policy.{WantsRestart};
 ghost use Rattle.restarts.specs.Exits.{Exit};
 ghost use Rattle.restarts.specs.Delays.{IsDelay};
@@ -24,10 +25,10 @@ pub fn run_until(died: bool, start: Option<u64>, at: u64) -> Option<u64>
     }
 }
 
-/// An exit at this moment, if there is one, after a run of so many seconds; by how many seconds its
+/// An exit at this moment, if there is one, after a run of this many seconds; by how many seconds its
 /// restart is backed off.
 fn count(backoff: &mut Backoff, at: u64, run: Option<u64>) -> Option<u64>
-    requires { at < 2 ^ 40 }
+    requires { at < end_of_time }
     ensures state { (max_restart_delay : ℕ) (exits : List Exit)
         → IsStateOf max_restart_delay exits backoff.old
         → IsStateOf max_restart_delay (exits ++ exits_at at run) backoff.new }
@@ -52,7 +53,7 @@ pub fn count_both(
     gone: Option<u64>,
     died: Option<u64>,
 ) -> Option<u64>
-    requires { at < 2 ^ 40 }
+    requires { at < end_of_time }
     ensures state { (max_restart_delay : ℕ) (exits : List Exit)
         → IsStateOf max_restart_delay exits backoff.old
         → IsStateOf max_restart_delay ((exits ++ exits_at at gone) ++ exits_at at died) backoff.new }

@@ -16,7 +16,7 @@ pub enum PodEventKind {
     Ready,
     /// The container is no longer ready.
     Unready,
-    /// The container is backed off: its restart comes so many seconds later.
+    /// The container is backed off: its restart comes this many seconds later.
     Backoff { delay: u64 },
     /// The exited attempt is started again.
     Restart { attempt: u32 },

@@ -71,18 +71,19 @@ evicted_at-now n (Some d ∷ es) e is none =
     ap (λ t. cond t (Some (found_now 0 d)) (option_map later (evicted_at n (es ++ Some e ∷ [])))) first.0
     ∙ ap (option_map later) (evicted_at-now n es e is (never (evicted_at n es) first.1))
 
+later_below : (bound : ℕ) (f : EvictedAt) (o : Option EvictedAt) → ((g : EvictedAt) → o ≡ Some g → g.tick < bound)
+    → option_map later o ≡ Some f → f.tick < suc bound
+later_below bound f None below e = absurd (cc)
+later_below bound f (Some g) below e =
+    let z : later g ≡ f = cc in
+    let t : suc g.tick ≡ f.tick = ap (λ (v : EvictedAt). v.tick) z in
+    let lt : g.tick < bound = below g refl in omega arith
+
 evicted_at-below : (n : ℕ) (es : List (Option Eviction)) (f : EvictedAt) → evicted_at n es ≡ Some f
     → f.tick < length es
 evicted_at-below n [] f e = absurd (cc)
-evicted_at-below n (None ∷ es) f e = by (evicted_at n es) (λ g is. evicted_at-below n es g is) e
-  where
-    by : (o : Option EvictedAt) → ((g : EvictedAt) → o ≡ Some g → g.tick < length es) → option_map later o ≡ Some f
-        → f.tick < suc (length es)
-    by None rest e = absurd (cc)
-    by (Some g) rest e =
-        let z : later g ≡ f = cc in
-        let t : suc g.tick ≡ f.tick = ap (λ (v : EvictedAt). v.tick) z in
-        let lt : g.tick < length es = rest g refl in omega arith
+evicted_at-below n (None ∷ es) f e =
+    later_below (length es) f (evicted_at n es) (λ g is. evicted_at-below n es g is) e
 evicted_at-below n (Some d ∷ es) f e = elim (alike d.pod n) [
   | inl w ↦
       let first = λ (t : Bool). cond t (Some (found_now 0 d)) (option_map later (evicted_at n es)) in
@@ -91,16 +92,8 @@ evicted_at-below n (Some d ∷ es) f e = elim (alike d.pod n) [
       let t : 0 ≡ f.tick = ap (λ (v : EvictedAt). v.tick) z in omega arith
   | inr w ↦
       let first = λ (t : Bool). cond t (Some (found_now 0 d)) (option_map later (evicted_at n es)) in
-      by (evicted_at n es) (λ g is. evicted_at-below n es g is) (sym (ap first w.1) ∙ e)
+      later_below (length es) f (evicted_at n es) (λ g is. evicted_at-below n es g is) (sym (ap first w.1) ∙ e)
 ]
-  where
-    by : (o : Option EvictedAt) → ((g : EvictedAt) → o ≡ Some g → g.tick < length es) → option_map later o ≡ Some f
-        → f.tick < suc (length es)
-    by None rest e = absurd (cc)
-    by (Some g) rest e =
-        let z : later g ≡ f = cc in
-        let t : suc g.tick ≡ f.tick = ap (λ (v : EvictedAt). v.tick) z in
-        let lt : g.tick < length es = rest g refl in omega arith
 
 abbrev of_place : ℕ → EvictOrder → EvictionRecord
 of_place place order = record { place = place; order = order }

@@ -10,9 +10,8 @@ use Rattle.manifest.specs.declared.pod.PodSpec.{PodSpec}
 use Rattle.observations.specs.declared.tick.TickObs.{TickObs}
 use Rattle.node_config.specs.declared.node.NodeConfig.{NodeConfig}
 use Rattle.node_signals.specs.declared.key.ThresholdKey.{ThresholdKey}
-use Rattle.pod_piece.specs.declared.order.EvictOrder.{EvictOrder}
 use Rattle.eviction.specs.declared.eviction.Eviction.{Eviction}
-use Rattle.eviction.specs.Replay.{IsEvictionFor, is_recent, is_paused, unless_paused, IsRound, IsReplay}
+use Rattle.eviction.specs.Replay.{IsEvictionFor, is_recent, is_paused, unless_paused}
 use Rattle.eviction.specs.Laws.{PausedBetween}
 use Rattle.eviction.proofs.Evicted.{taken, moment_of}
 

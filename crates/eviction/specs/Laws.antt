@@ -44,6 +44,16 @@ EvictedOnce =
     → slice_get evictions t ≡ Some (Some one) → slice_get evictions u ≡ Some (Some other)
     → one.pod ≡ other.pod → t ≡ u
 
+-- P holds of each eviction with its tick, and of the ticks and the evictions before them
+abbrev pub OfEachEviction : (NodeConfig → List PodSpec → List TickObs → TickObs → List (Option Eviction) → Eviction
+    → Type 0) → Type 0
+OfEachEviction P =
+    (config : NodeConfig) (pods : List PodSpec) (ticks : List TickObs) (evictions : List (Option Eviction))
+    (t : ℕ) (tick : TickObs) (eviction : Eviction)
+    → IsReplay config pods ticks evictions
+    → slice_get ticks t ≡ Some tick → slice_get evictions t ≡ Some (Some eviction)
+    → P config pods (take t ticks) tick (take t evictions) eviction
+
 -- a tick that comes after these, with these evictions, shows the pod of this number, and the pod had
 -- not ended after the tick's update
 pub record Lived (pods : List PodSpec) (before : List TickObs) (tick : TickObs)
@@ -58,11 +68,7 @@ pub record Lived (pods : List PodSpec) (before : List TickObs) (tick : TickObs)
 -- the pod that a tick evicts had not ended before
 abbrev pub EvictedPodLived : Type 0
 EvictedPodLived =
-    (config : NodeConfig) (pods : List PodSpec) (ticks : List TickObs) (evictions : List (Option Eviction))
-    (t : ℕ) (tick : TickObs) (eviction : Eviction)
-    → IsReplay config pods ticks evictions
-    → slice_get ticks t ≡ Some tick → slice_get evictions t ≡ Some (Some eviction)
-    → Lived pods (take t ticks) tick (take t evictions) eviction.pod
+    OfEachEviction (λ config pods before tick evictions eviction. Lived pods before tick evictions eviction.pod)
 
 -- a tick that comes after these serves one threshold, which is due and not reclaimed, and it is for
 -- this one, at the tick's moment, that the pod is evicted
@@ -78,11 +84,7 @@ pub record ServesOne (config : NodeConfig) (before : List TickObs) (tick : TickO
 -- a tick that evicts does so
 abbrev pub ServedAlone : Type 0
 ServedAlone =
-    (config : NodeConfig) (pods : List PodSpec) (ticks : List TickObs) (evictions : List (Option Eviction))
-    (t : ℕ) (tick : TickObs) (eviction : Eviction)
-    → IsReplay config pods ticks evictions
-    → slice_get ticks t ≡ Some tick → slice_get evictions t ≡ Some (Some eviction)
-    → ServesOne config (take t ticks) tick eviction
+    OfEachEviction (λ config pods before tick evictions eviction. ServesOne config before tick eviction)
 
 -- between two evictions as many seconds pass as the node's pause has, at least
 abbrev pub PausedBetween : Type 0

@@ -1,8 +1,9 @@
 -- The events of a tick.
 use Rattle.std.proofs.Common.{◌≡◌, ℕ, suc, ◌+◌, ◌<◌, ◌≤◌, List, [], ◌∷◌, ◌++◌, take, Bool, true, false, Option, Some}
 use Rattle.std.proofs.Common.{None, refl, sym, ap, subst, ◌∙◌, append_assoc, append-nil, arith}
-use mathlib.Core.Bool.{beq}
+use mathlib.Core.Bool.{beq, not}
 use Rattle.std.specs.Prelude.{◌↔◌, IsTrue, slice_get}
+use Rattle.std.specs.Bool.{then_some}
 use Rattle.std.proofs.lemmas.List.{take_all}
 use Rattle.histories.proofs.Decide.{same_bool}
 use Rattle.histories.proofs.Lists.{take_more}
@@ -44,7 +45,7 @@ same_from false true e = e
 same_from false false e = refl
 
 -- a value that changed, or did not
-pub changed : (event_of : Bool → NodeEvent) (N O : Type 0) (value old : Bool) → (IsTrue value ↔ N) → (IsTrue old ↔ O)
+changed : (event_of : Bool → NodeEvent) (N O : Type 0) (value old : Bool) → (IsTrue value ↔ N) → (IsTrue old ↔ O)
     → beq value old ≡ false
     → Gives (Changes event_of N O) (Some (event_of value))
 changed event_of N O value old now was apart =
@@ -57,7 +58,7 @@ changed event_of N O value old now was apart =
     )
     (λ e c. ap event_of (same_bool value c.0 ((λ t. c.2.1 (now.0 t)), (λ t. now.1 (c.2.0 t)))) ∙ sym c.1)
 
-pub unchanged : (event_of : Bool → NodeEvent) (N O : Type 0) (value old : Bool) → (IsTrue value ↔ N) → (IsTrue old ↔ O)
+unchanged : (event_of : Bool → NodeEvent) (N O : Type 0) (value old : Bool) → (IsTrue value ↔ N) → (IsTrue old ↔ O)
     → beq value old ≡ true
     → Gives (Changes event_of N O) None
 unchanged event_of N O value old now was same =
@@ -65,6 +66,17 @@ unchanged event_of N O value old now was same =
     let both : value ≡ c.0 = same_bool value c.0 ((λ t. c.2.1 (now.0 t)), (λ t. now.1 (c.2.0 t))) in
     let P : Bool → Type 0 = λ b. IsTrue b ↔ O in
     c.3 (subst P (sym (same_from value old same) ∙ both) was))
+
+pub change_given : (event_of : Bool → NodeEvent) (N O : Type 0) (value old : Bool) (event : Option NodeEvent)
+    → (IsTrue value ↔ N) → (IsTrue old ↔ O) → event ≡ then_some (not (beq value old)) (event_of value)
+    → Gives (Changes event_of N O) event
+change_given event_of N O value old event now was is =
+    subst (λ (e : Option NodeEvent). Gives (Changes event_of N O) e) (sym is) (by (beq value old) refl)
+  where
+    by : (same : Bool) → beq value old ≡ same
+        → Gives (Changes event_of N O) (then_some (not same) (event_of value))
+    by true e = unchanged event_of N O value old now was e
+    by false e = changed event_of N O value old now was e
 
 -- one more item
 given_more : {A : Type 0} (P : A → NodeEvent → Type 0) (xs : List A) (x : A) (events : List NodeEvent)

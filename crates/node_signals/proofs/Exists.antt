@@ -1,8 +1,9 @@
 -- Every list of ticks has its conditions, and every tick its events.
-use Rattle.std.proofs.Common.{◌≡◌, inl, inr, ℕ, List, [], ◌∷◌, ◌++◌, Bool, true, false, Option, Some, None, refl, sym}
+use Rattle.std.proofs.Common.{inl, inr, ℕ, List, [], ◌∷◌, ◌++◌, Bool, Option, Some, None, refl, sym}
 use Rattle.std.proofs.Common.{subst, append_assoc, append-nil}
-use mathlib.Core.Bool.{beq}
+use mathlib.Core.Bool.{beq, not}
 use Rattle.std.specs.Prelude.{◌↔◌, IsTrue}
+use Rattle.std.specs.Bool.{then_some}
 use Rattle.histories.specs.Histories.{recorded}
 use Rattle.histories.proofs.Decide.{both, test_of}
 use Rattle.pressure.specs.Pressures.{Observation}
@@ -20,7 +21,7 @@ use Rattle.node_signals.specs.Events.{Changes, ChangesThreshold, ChangesConditio
 use Rattle.node_signals.specs.Laws.{SomeCondition, SomeListOfNodeEvents}
 use Rattle.node_signals.proofs.ConditionLemmas.{none_observed, observed_more, true_after}
 use Rattle.node_signals.proofs.Decide.{active_or_not, due_or_not, reclaimed_or_not, met_or_not, pressure_or_not}
-use Rattle.node_signals.proofs.EventLemmas.{gives_none, gives_one, changed, unchanged}
+use Rattle.node_signals.proofs.EventLemmas.{gives_none, gives_one, change_given}
 
 -- what the ticks say of a condition
 observed_after : (eviction : EvictionConfig) (condition : NodeCondition) (later before : List TickObs)
@@ -63,11 +64,8 @@ some_condition = record { value = some_value; since = some_moment }
 change_of : (event_of : Bool → NodeEvent) (N O : Type 0) → (now : Bool) × (IsTrue now ↔ N)
     → (old : Bool) × (IsTrue old ↔ O)
     → (event : Option NodeEvent) × Gives (Changes event_of N O) event
-change_of event_of N O (now, is) (old, was) = by (beq now old) refl
-  where
-    by : (same : Bool) → beq now old ≡ same → (event : Option NodeEvent) × Gives (Changes event_of N O) event
-    by true e = (None, unchanged event_of N O now old is was e)
-    by false e = (Some (event_of now), changed event_of N O now old is was e)
+change_of event_of N O (now, is) (old, was) =
+    (then_some (not (beq now old)) (event_of now), change_given event_of N O now old _ is was refl)
 
 threshold_event : (eviction : EvictionConfig) (before : List TickObs) (tick : TickObs) (key : ThresholdKey)
     → (event : Option NodeEvent) × Gives (ChangesThreshold eviction before tick key) event

@@ -43,14 +43,9 @@ fn threshold_event(
         → AreWatches eviction (before ++ tick ∷ []) new.now
         → Gives (ChangesThreshold eviction before tick key) result }
 {
+    let key = key_at(place);
     let active = is_active(new, place);
-    if active == is_active(old, place) {
-        return None;
-    }
-    Some(NodeEvent::Threshold {
-        key: key_at(place),
-        active,
-    })
+    (active != is_active(old, place)).then_some(NodeEvent::Threshold { key, active })
 }
 
 /// Adds an event for each threshold that became active or was cleared.
@@ -78,10 +73,7 @@ fn condition_event(old: &Pressures, new: &Pressures, condition: NodeCondition) -
         → Gives (ChangesCondition eviction period before tick condition) result }
 {
     let value = new.of(condition).is_true();
-    if value == old.of(condition).is_true() {
-        return None;
-    }
-    Some(NodeEvent::Pressure { condition, value })
+    (value != old.of(condition).is_true()).then_some(NodeEvent::Pressure { condition, value })
 }
 
 /// Adds an event for each condition that became true or is no longer.

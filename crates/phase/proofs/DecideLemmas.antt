@@ -71,20 +71,16 @@ never_or_not Never = inl refl
 never_or_not Always = inr (λ e. cc)
 never_or_not OnFailure = inr (λ e. cc)
 
-pub init_or_not : (role : Role) → OrNot (role ≡ Init)
-init_or_not Init = inl refl
-init_or_not Sidecar = inr (λ e. cc)
-init_or_not App = inr (λ e. cc)
-
-pub sidecar_or_not : (role : Role) → OrNot (role ≡ Sidecar)
-sidecar_or_not Sidecar = inl refl
-sidecar_or_not Init = inr (λ e. cc)
-sidecar_or_not App = inr (λ e. cc)
-
-pub app_or_not : (role : Role) → OrNot (role ≡ App)
-app_or_not App = inl refl
-app_or_not Init = inr (λ e. cc)
-app_or_not Sidecar = inr (λ e. cc)
+pub role_or_not : (wanted role : Role) → OrNot (role ≡ wanted)
+role_or_not Init Init = inl refl
+role_or_not Sidecar Sidecar = inl refl
+role_or_not App App = inl refl
+role_or_not Init Sidecar = inr (λ e. cc)
+role_or_not Init App = inr (λ e. cc)
+role_or_not Sidecar Init = inr (λ e. cc)
+role_or_not Sidecar App = inr (λ e. cc)
+role_or_not App Init = inr (λ e. cc)
+role_or_not App Sidecar = inr (λ e. cc)
 
 -- a container's part in each case holds or does not
 pub record IsDecided {C : Type 0} (facts : Facts C) (policy : Policy) (container : C) : Type 0 where
@@ -97,13 +93,13 @@ pub record IsDecided {C : Type 0} (facts : Facts C) (policy : Policy) (container
 -- that of a view
 view_decided : (policy : Policy) (view : ContainerView) → IsDecided of_view policy view
 view_decided policy view = record {
-  failed_init = both (init_or_not view.role) (failed_or_not view);
-  awaited = either (both (init_or_not view.role) (negated (completed_or_not view)))
-      (either (both (sidecar_or_not view.role) (negated (true_or_not view.was_started)))
-      (both (app_or_not view.role) (negated (true_or_not view.set_up))));
-  finishes = implied (app_or_not view.role) (finished_or_not policy view);
-  completes = implied (app_or_not view.role) (completed_or_not view);
-  failed_app = both (app_or_not view.role) (failed_or_not view);
+  failed_init = both (role_or_not Init view.role) (failed_or_not view);
+  awaited = either (both (role_or_not Init view.role) (negated (completed_or_not view)))
+      (either (both (role_or_not Sidecar view.role) (negated (true_or_not view.was_started)))
+      (both (role_or_not App view.role) (negated (true_or_not view.set_up))));
+  finishes = implied (role_or_not App view.role) (finished_or_not policy view);
+  completes = implied (role_or_not App view.role) (completed_or_not view);
+  failed_app = both (role_or_not App view.role) (failed_or_not view);
 }
 
 -- the first case that holds
@@ -133,9 +129,9 @@ some_of_views policy views = some_raw_phase of_view policy (view_decided policy)
 
 -- the pod is initialized, or not
 prepared_or_not : (view : ContainerView) → OrNot (HasInitialized of_view view)
-prepared_or_not view = elim (implied (init_or_not view.role) (completed_or_not view)) [
+prepared_or_not view = elim (implied (role_or_not Init view.role) (completed_or_not view)) [
   | inr not ↦ inr (λ w. not w.init)
-  | inl init ↦ elim (implied (sidecar_or_not view.role) (true_or_not view.was_started)) [
+  | inl init ↦ elim (implied (role_or_not Sidecar view.role) (true_or_not view.was_started)) [
     | inl sidecar ↦ inl (record { init = init; sidecar = sidecar })
     | inr not ↦ inr (λ w. not w.sidecar)
   ]

@@ -19,7 +19,6 @@ use Rattle.pod_state.specs.States.{IsStateOf, MayFollow}
 use Rattle.state_diff.proofs.Steps.{is_before}
 use Rattle.pod_state.proofs.StateLemmas.{may_follow}
 use Rattle.pod_piece.specs.Listings.{listed_in, IsNextTick, AreListed, AllFollow}
-use Rattle.pod_piece.specs.Piece.{taken}
 
 -- a container's last tick is the pod's
 ends_too : (h : List PodTick) (n at : ℕ) → EndsBefore h at → EndsBefore (listings (ticks_of h n)) at

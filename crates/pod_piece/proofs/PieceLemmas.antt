@@ -5,6 +5,7 @@ use Rattle.std.specs.Prelude.{◌↔◌, IsTrue, IsSome, is_some, IfSome, IsSome
 use Rattle.std.specs.Prelude.{if◌then◌else◌}
 use Rattle.std.proofs.lemmas.Bool.{lt-ltb, ltb-true}
 use Rattle.std.proofs.lemmas.List.{map-append}
+use Rattle.histories.specs.Histories.{recorded, last_moment}
 use Rattle.histories.proofs.Places.{length-more}
 use Rattle.manifest.specs.declared.pod.PodSpec.{PodSpec}
 use Rattle.observations.specs.Pods.{PodObs}
@@ -12,21 +13,22 @@ use Rattle.state_diff.specs.declared.differ.Differ.{Differ}
 use Rattle.phase.specs.RawPhase.{IsTerminal}
 use Rattle.pod_state.specs.declared.events.PodEvent.{PodEvent}
 use Rattle.pod_state.specs.declared.state.PodState.{PodState}
-use Rattle.pod_state.specs.Pods.{PodTick, pod_tick, IsEnd, HasEnded, EndsEvicted}
+use Rattle.pod_state.specs.Pods.{PodEntry, PodTick, pod_tick, IsEnd, HasEnded, EndsEvicted}
 use Rattle.pod_state.specs.Events.{AreEventsOf}
 use Rattle.pod_state.specs.Lifecycles.{IsLifecycleOf, IsProgressOf}
 use Rattle.pod_state.specs.States.{before_of, HasContainers, IsStateOf}
 use Rattle.pod_state.proofs.EndLemmas.{end_old, ended_is, IsEnd-unique}
 use Rattle.pod_piece.specs.declared.order.EvictOrder.{EvictOrder}
 use Rattle.pod_piece.specs.declared.piece.EvictionRecord.{EvictionRecord}
+use Rattle.pod_piece.specs.declared.piece.Parts.{Parts}
 use Rattle.pod_piece.specs.declared.status.PodStatus.{PodStatus}
 use Rattle.pod_piece.specs.Listings.{IsNextTick, AreListed}
 use Rattle.pod_piece.specs.Piece.{Piece, piece, before_last, last_of, taken, ticks, place_of, evicted_at, Lives}
 use Rattle.pod_piece.specs.Piece.{with_number}
 use Rattle.pod_piece.specs.Piece.{evicted_before, new_piece, with_tick, updated, with_eviction}
 use Rattle.pod_piece.specs.Status.{IsStatusAfter, IsStatusOf, AreEventsAfter}
-use Rattle.pod_piece.specs.Kept.{MayBe, EndsAt, IsStateAfter, IsKept}
-use Rattle.pod_piece.proofs.LastTicks.{front_more, last_more, split_last, observed_last, some_last, of_last}
+use Rattle.pod_piece.specs.Kept.{MayBe, EndsAt, IsStateAfter, IsKept, AreKept, piece_of}
+use Rattle.pod_piece.proofs.LastTicks.{front_more, last_more, split_last, observed_last, some_last, of_last, tick_at}
 
 -- the eviction that is still to come, or was
 pub may_self : (o : Option ℕ) (n : ℕ) → MayBe o n o
@@ -423,38 +425,52 @@ piece_handed number pod max_restart_delay items was_pending eviction observed =
       eviction = eviction;
     }) (map-append pod_tick items (observed ∷ []))
 
--- what is known of a piece whose tick is pending
-pub record IsAtLast (number : ℕ) (pod : PodSpec) (max_restart_delay : ℕ) (items : List PodObs) (is_pending : Bool)
-    (eviction : Option EvictionRecord) (state : PodState) (observed : PodObs) : Type 0 where
-  pub pending : IsTrue is_pending
-  pub last : last_of (map pod_tick items) ≡ Some (pod_tick observed)
-  pub next : IsNextTick pod (before_last (map pod_tick items)) (pod_tick observed)
-  pub now : IsStateOf pod max_restart_delay (place_of eviction) (before_last (map pod_tick items)) state
-  pub not_now : place_of eviction ≡ Some (length (before_last (map pod_tick items))) → ⊥
+-- what is known of the parts of a piece whose tick is pending, as its owner sees it
+pub record IsAtLast (parts : Parts) (observed : PodObs) : Type 0 where
+  pub held : AreKept parts
+  pub pending : IsTrue parts.is_pending
+  pub last : last_of (map pod_tick parts.history) ≡ Some (pod_tick observed)
+  pub next : IsNextTick parts.pod (before_last (map pod_tick parts.history)) (pod_tick observed)
+  pub now : IsStateOf parts.pod parts.max_restart_delay (place_of parts.eviction)
+      (before_last (map pod_tick parts.history)) parts.state
+  pub not_now : place_of parts.eviction ≡ Some (length (before_last (map pod_tick parts.history))) → ⊥
 
-pub at_last : (p : Piece) (number : ℕ) (pod : PodSpec) (max_restart_delay : ℕ) (items : List PodObs) (is_pending : Bool)
-    (eviction : Option EvictionRecord) (differs : List Differ) (state : PodState)
-    (status : PodStatus) (events : List PodEvent) (n : ℕ) (observed : PodObs)
-    → piece number pod max_restart_delay items is_pending eviction ≡ p → IsTrue p.is_pending
-    → IsKept (piece number pod max_restart_delay items is_pending eviction) differs state status events
-    → n ≡ length items
-    → observed ≡ get_or items (n - 1) observed
-    → IsAtLast number pod max_restart_delay items is_pending eviction state observed
-at_last p number pod max_restart_delay items is_pending eviction differs state status events n observed view pending'
-    kept long
-    is =
-    let pending : IsTrue is_pending = ap (λ (q : Piece). q.is_pending) view ∙ pending' in
-    let here = kept.next pending in
-    let last = observed_last items n observed long
-    (some_last items (IsNextTick pod (before_last (map pod_tick items))) here) is in
-    let after = state_pending (piece number pod max_restart_delay items is_pending eviction) differs state status events
-    pending kept in
-    let h = before_last (map pod_tick items) in
+pub at_last : (parts owned : Parts) (seen : Piece) (n : ℕ) (observed : PodObs) → parts ≡ owned → piece_of owned ≡ seen
+    → AreKept owned → IsTrue seen.is_pending → n ≡ length parts.history
+    → observed ≡ get_or parts.history (n - 1) observed → IsAtLast parts observed
+at_last parts owned seen n observed same view kept pending' long is =
+    let held : AreKept parts = subst AreKept (sym same) kept in
+    let pending : IsTrue parts.is_pending = ap (λ (q : Piece). q.is_pending) (ap piece_of same ∙ view) ∙ pending' in
+    let h = before_last (map pod_tick parts.history) in
+    let here = held.next pending in
+    let last = observed_last parts.history n observed long (some_last parts.history (IsNextTick parts.pod h) here) is in
+    let after = state_pending (piece_of parts) parts.differs.items parts.state parts.status parts.events.items pending
+    held in
     record {
+      held = held;
       pending = pending;
       last = last;
-      next = of_last (map pod_tick items) (pod_tick observed) (IsNextTick pod h) last here;
-      now = after.now (place_of eviction) (may_self (place_of eviction) (length h));
-      not_now = not_now (place_of eviction) (length h) (suc (length h)) (place_of eviction) (omega arith)
-          (ends_within pod h (place_of eviction) after.ended) (may_self (place_of eviction) (suc (length h)));
+      next = of_last (map pod_tick parts.history) (pod_tick observed) (IsNextTick parts.pod h) last here;
+      now = after.now (place_of parts.eviction) (may_self (place_of parts.eviction) (length h));
+      not_now = not_now (place_of parts.eviction) (length h) (suc (length h)) (place_of parts.eviction) (omega arith)
+          (ends_within parts.pod h (place_of parts.eviction) after.ended)
+          (may_self (place_of parts.eviction) (suc (length h)));
+    }
+
+-- what is known of those of one that is to be evicted at this moment
+pub record MayEvict (parts : Parts) (at : ℕ) : Type 0 where
+  pub held : AreKept parts
+  pub free : parts.is_pending ≡ false
+  pub lives : Lives (piece_of parts)
+  pub last : (entry : PodEntry) × (last_of (map pod_tick parts.history) ≡ Some (recorded at entry))
+
+pub may_evict : (parts owned : Parts) (seen : Piece) (at : ℕ) → parts ≡ owned → piece_of owned ≡ seen → AreKept owned
+    → seen.is_pending ≡ false → Lives seen → last_moment seen.handed ≡ Some at → MayEvict parts at
+may_evict parts owned seen at same is kept free lives last =
+    let view : piece_of parts ≡ seen = ap piece_of same ∙ is in
+    record {
+      held = subst AreKept (sym same) kept;
+      free = ap (λ (q : Piece). q.is_pending) view ∙ free;
+      lives = subst (λ (q : Piece). Lives q) (sym view) lives;
+      last = tick_at (map pod_tick parts.history) at (ap (λ (q : Piece). last_moment q.handed) view ∙ last);
     }

@@ -1,5 +1,6 @@
 -- Which listings of a pod's containers may come after these ticks, whether it has ended or not.
-use Rattle.std.specs.Prelude.{◌≡◌, ◌^◌, ℕ, ◌<◌, List, length, Option, slice_get, slice_index_or, unwrap_or}
+use Rattle.std.specs.Prelude.{◌≡◌, ℕ, ◌<◌, List, length, Option, slice_get, slice_index_or, unwrap_or}
+use Rattle.quantity.specs.Duration.{end_of_time}
 use Rattle.histories.specs.Histories.{EndsBefore}
 use Rattle.manifest.specs.declared.pod.PodSpec.{PodSpec}
 use Rattle.observations.specs.declared.container.ContainerObs.{ContainerObs}
@@ -28,7 +29,7 @@ pub record MayComeNext (pod : PodSpec) (h : List PodTick) (shown : List Containe
 pub record IsNextTick (pod : PodSpec) (h : List PodTick) (tick : PodTick) : Type 0 where
   pub shown : MayComeNext pod h tick.entry.containers
   pub later : EndsBefore h tick.moment
-  pub bounded : tick.moment < 2 ^ 40
+  pub bounded : tick.moment < end_of_time
 
 -- one differ for each container, as these ticks leave it
 pub record AreListed (pod : PodSpec) (h : List PodTick) (differs : List Differ) : Type 0 where

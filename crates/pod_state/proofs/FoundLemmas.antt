@@ -10,12 +10,13 @@ use Rattle.histories.proofs.Decide.{OrNot, negated, either, all_three, implied, 
 use Rattle.histories.proofs.Found.{all_below, first_so, so_or_not, transition_of, list_of}
 use Rattle.histories.proofs.Lists.{given_at}
 use Rattle.manifest.specs.declared.pod.PodSpec.{PodSpec}
+use Rattle.manifest.specs.declared.pod.Role.TheVariants.{Sidecar, App}
 use Rattle.phase.specs.declared.phase.Phase.{Phase}
 use Rattle.phase.specs.declared.phase.Phase.TheVariants.{Pending, Failed}
 use Rattle.phase.specs.declared.conditions.Condition.{Condition}
 use Rattle.phase.specs.declared.view.ContainerView.{ContainerView}
 use Rattle.phase.specs.RawPhase.{IsTerminal, AreInitialized}
-use Rattle.phase.proofs.DecideLemmas.{sidecar_or_not, app_or_not, initialized_or_not as views_initialized_or_not}
+use Rattle.phase.proofs.DecideLemmas.{role_or_not, initialized_or_not as views_initialized_or_not}
 use Rattle.phase.proofs.DecideLemmas.{terminal_cases}
 use Rattle.containers.specs.Shown as shown
 use Rattle.containers.specs.declared.status.ContainerStatus.{ContainerStatus}
@@ -117,8 +118,8 @@ lives_or_not pod evicted h (Some t) first = inr (λ lives. lives t first.holds)
 
 serves_or_not : (pod : PodSpec) (container : ℕ) → OrNot (Serves pod container)
 serves_or_not pod container =
-    either (given_or_not _ (λ spec. sidecar_or_not spec.role) (slice_get pod.containers container))
-    (given_or_not _ (λ spec. app_or_not spec.role) (slice_get pod.containers container))
+    either (given_or_not _ (λ spec. role_or_not Sidecar spec.role) (slice_get pod.containers container))
+    (given_or_not _ (λ spec. role_or_not App spec.role) (slice_get pod.containers container))
 
 ready_at_or_not : (pod : PodSpec) (h : List PodTick) (container : ℕ) → OrNot (IsReadyInPod pod h container)
 ready_at_or_not pod h container =

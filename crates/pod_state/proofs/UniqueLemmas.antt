@@ -1,5 +1,5 @@
 -- There is one status of a pod, and of each of its containers.
-use Rattle.std.proofs.Common.{◌≡◌, inl, inr, ℕ, ℤ, Bool, List, Option, Some, None, refl, subst, sym, ◌∙◌}
+use Rattle.std.proofs.Common.{◌≡◌, inl, inr, ℕ, ℤ, Bool, List, Option, Some, None, ap, refl, subst, sym, ◌∙◌}
 use Rattle.std.specs.Prelude.{◌↔◌}
 use Rattle.histories.proofs.First.{IsFirstMoment-unique}
 use Rattle.state_diff.specs.declared.seen.CriState.TheVariants.{Created, Running as IsRunning, Exited}
@@ -102,45 +102,18 @@ code_one P None None is is' = refl
 code_one P None (Some k) is is' = (is k).1 ((is' k).0 refl)
 code_one P (Some k) p is is' = sym ((is' k).1 ((is k).0 refl))
 
+abbrev status_with : ContainerState → Option ℤ → ℕ → Bool → Bool → ContainerStatus
+status_with state code restarts ready started =
+    record { state = state; code = code; restarts = restarts; ready = ready; started = started }
+
 shown_same : (s t : ContainerStatus) → s.state ≡ t.state → s.code ≡ t.code → s.restarts ≡ t.restarts
     → s.ready ≡ t.ready → s.started ≡ t.started → s ≡ t
 shown_same s t e f g i j =
-    let P : ContainerState → Type 0 = λ x. s ≡ record {
-      state = x;
-      code = t.code;
-      restarts = t.restarts;
-      ready = t.ready;
-      started = t.started;
-    } in
-    let Q : Option ℤ → Type 0 = λ x. s ≡ record {
-      state = s.state;
-      code = x;
-      restarts = t.restarts;
-      ready = t.ready;
-      started = t.started;
-    } in
-    let R : ℕ → Type 0 = λ x. s ≡ record {
-      state = s.state;
-      code = s.code;
-      restarts = x;
-      ready = t.ready;
-      started = t.started;
-    } in
-    let S : Bool → Type 0 = λ x. s ≡ record {
-      state = s.state;
-      code = s.code;
-      restarts = s.restarts;
-      ready = x;
-      started = t.started;
-    } in
-    let T : Bool → Type 0 = λ x. s ≡ record {
-      state = s.state;
-      code = s.code;
-      restarts = s.restarts;
-      ready = s.ready;
-      started = x;
-    } in
-    subst P e (subst Q f (subst R g (subst S i (subst T j refl))))
+    ap (λ x. status_with x s.code s.restarts s.ready s.started) e
+    ∙ ap (λ x. status_with t.state x s.restarts s.ready s.started) f
+    ∙ ap (λ x. status_with t.state t.code x s.ready s.started) g
+    ∙ ap (λ x. status_with t.state t.code t.restarts x s.started) i
+    ∙ ap (λ x. status_with t.state t.code t.restarts t.ready x) j
 
 shown_one : (spec : ContainerSpec) (is_evicted : Type 0) (h : List ContainerTick) (s t : ContainerStatus)
     → IsShown spec is_evicted h s → IsShown spec is_evicted h t → s ≡ t

@@ -1,15 +1,19 @@
 -- Where the ticks of a pod lead.
-use Rattle.std.specs.Prelude.{◌≡◌, ℕ, ◌<◌, List, length, Option, slice_get, slice_index_or, unwrap_or}
+use Rattle.std.specs.Prelude.{◌≡◌, ℕ, ◌<◌, List, [], ◌∷◌, ◌++◌, length, Option, Some, slice_get, slice_index_or}
+use Rattle.std.specs.Prelude.{unwrap_or}
 use Rattle.manifest.specs.declared.pod.PodSpec.{PodSpec}
+use Rattle.manifest.specs.declared.policy.Policy.{Policy}
 use Rattle.observations.specs.declared.container.ContainerObs.{ContainerObs}
 use Rattle.containers.specs.declared.container.Container.{Container}
 use Rattle.containers.specs.Container.{Accepts, IsBefore}
 use Rattle.phase.specs.RawPhase.{IsTerminal}
+use Rattle.pod_state.specs.declared.events.PodEvent.{PodEvent}
 use Rattle.pod_state.specs.declared.lifecycle.Lifecycle.{Lifecycle}
 use Rattle.pod_state.specs.declared.state.PodState.{PodState}
 use Rattle.pod_state.specs.Pods.{PodTick, unseen}
 use Rattle.pod_state.specs.Containers.{AreKept}
 use Rattle.pod_state.specs.Lifecycles.{IsProgressOf}
+use Rattle.pod_state.specs.Events.{AreEventsOf}
 
 -- the pod's phase and conditions after these ticks, and its containers after those that count, on a
 -- node with a greatest restart delay
@@ -18,7 +22,21 @@ pub record IsStateOf (pod : PodSpec) (max_restart_delay : ℕ) (evicted : Option
   pub progress : IsProgressOf pod evicted h state.lifecycle
   pub containers : AreKept pod max_restart_delay evicted h state.containers.items
 
--- it has so many containers
+-- a tick with this policy, which does not evict the pod, leads from one state to another
+abbrev pub LeadsTo : Policy → PodTick → PodState → PodState → Type 0
+LeadsTo policy tick old new =
+    (pod : PodSpec) (max_restart_delay : ℕ) (evicted : Option ℕ) (h : List PodTick) → pod.policy ≡ policy
+    → (evicted ≡ Some (length h) → ⊥) → IsStateOf pod max_restart_delay evicted h old
+    → IsStateOf pod max_restart_delay evicted (h ++ tick ∷ []) new
+
+-- and these are its events
+abbrev pub MakesEvents : Policy → PodTick → PodState → List PodEvent → Type 0
+MakesEvents policy tick old events =
+    (pod : PodSpec) (max_restart_delay : ℕ) (evicted : Option ℕ) (h : List PodTick) → pod.policy ≡ policy
+    → (evicted ≡ Some (length h) → ⊥) → IsStateOf pod max_restart_delay evicted h old
+    → AreEventsOf pod max_restart_delay evicted h tick events
+
+-- it has this many containers
 abbrev pub HasContainers : ℕ → PodState → Type 0
 HasContainers count state = count ≡ length state.containers.items
 

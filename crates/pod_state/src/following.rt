@@ -1,7 +1,8 @@
 //! The containers of a pod, one tick after the other.
 
-ghost use Rattle.std.specs.Prelude.{◌≡◌, ◌≢◌, ◌↔◌, ◌^◌, ◌<◌, ℕ, List, [], ◌∷◌, ◌++◌, length, slice_get, unwrap_or};
+ghost use Rattle.std.specs.Prelude.{◌≡◌, ◌≢◌, ◌↔◌, ◌<◌, ℕ, List, [], ◌∷◌, ◌++◌, length, slice_get, unwrap_or};
 ghost use Rattle.std.specs.Prelude.{IsTrue, IfOk};
+ghost use Rattle.quantity.specs.Duration.{end_of_time};
 ghost use Rattle.manifest.specs.declared.pod.ContainerSpec.{ContainerSpec};
 ghost use Rattle.manifest.specs.declared.pod.PodSpec.{PodSpec};
 ghost use Rattle.manifest.specs.declared.pod.Role.TheVariants.{Init};
@@ -65,7 +66,7 @@ pub(crate) fn step(
 ) -> ContainerEvents
     requires accepted { Accepts container.old (unwrap_or (slice_get observed.now.containers number) unseen).seen }
     requires later { IsBefore container.old observed.now.at }
-    requires bounded { observed.now.at < 2 ^ 40 }
+    requires bounded { observed.now.at < end_of_time }
     ensures state { (pod : PodSpec) (max_restart_delay : ℕ) (h : List PodTick)
         → IsContainerOf pod max_restart_delay h number container.old
         → IsContainerOf pod max_restart_delay (h ++ pod_tick observed.now ∷ []) number container.new }
@@ -86,7 +87,7 @@ pub(crate) fn next_containers(
 ) -> Result<AllStepped, AllocError>
     requires accepted { AllAccept containers.now observed.now.containers }
     requires later { AllBefore containers.now observed.now.at }
-    requires bounded { observed.now.at < 2 ^ 40 }
+    requires bounded { observed.now.at < end_of_time }
     ensures count { IfOk result (λ next. length next.containers.items ≡ length containers.now) }
     ensures containers { IfOk result (λ next. (pod : PodSpec) (max_restart_delay : ℕ) (h : List PodTick)
         → AreContainersOf pod max_restart_delay h containers.now

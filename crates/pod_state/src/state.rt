@@ -1,13 +1,14 @@
-ghost use Rattle.std.specs.Prelude.{◌≡◌, ◌↔◌, ◌^◌, ◌<◌, ℕ, List, [], ◌∷◌, ◌++◌, length, Option, Some, None, IsTrue};
+ghost use Rattle.std.specs.Prelude.{◌≡◌, ◌↔◌, ◌<◌, ℕ, List, [], ◌∷◌, ◌++◌, length, Option, Some, None, IsTrue};
 ghost use Rattle.std.specs.Prelude.{IfOk, OnOk, OnErr, vec_len};
+ghost use Rattle.quantity.specs.Duration.{end_of_time};
 ghost use Rattle.histories.specs.Histories.{recorded};
 ghost use Rattle.manifest.specs.declared.pod.PodSpec.{PodSpec};
 ghost use Rattle.phase.specs.RawPhase.{IsTerminal};
 ghost use Rattle.pod_state.specs.Pods.{PodEntry, PodTick, pod_tick, AreViewsOf, IsEnd, EndsEvicted};
 ghost use Rattle.pod_state.specs.Containers.{AreContainersOf, AreStatusesOf};
-ghost use Rattle.pod_state.specs.Events.{AreMade, AreEventsOf};
+ghost use Rattle.pod_state.specs.Events.{AreMade};
 ghost use Rattle.pod_state.specs.Lifecycles.{IsLifecycleOf, IsProgressOf};
-ghost use Rattle.pod_state.specs.States.{before_of, HasContainers, IsStateOf, MayFollow};
+ghost use Rattle.pod_state.specs.States.{before_of, HasContainers, IsStateOf, LeadsTo, MakesEvents, MayFollow};
 
 use crate::events::{PodEvent, events_of, phase_event};
 use crate::following::{all_ready, first_containers, next_containers, show, step, views_of};
@@ -67,19 +68,10 @@ impl PodState {
         observed: &PodObs,
     ) -> Result<Vec<PodEvent>, AllocError>
         requires follows { MayFollow self.old observed.now.at observed.now.containers }
-        requires bounded { observed.now.at < 2 ^ 40 }
-        ensures ok { OnOk result ((pod : PodSpec) (max_restart_delay : ℕ) (evicted : Option ℕ) (h : List PodTick)
-            → pod.policy ≡ policy
-            → (evicted ≡ Some (length h) → ⊥)
-            → IsStateOf pod max_restart_delay evicted h self.old
-            → IsStateOf pod max_restart_delay evicted (h ++ pod_tick observed.now ∷ []) self.new) }
+        requires bounded { observed.now.at < end_of_time }
+        ensures ok { OnOk result (LeadsTo policy (pod_tick observed.now) self.old self.new) }
         ensures before { OnOk result (before_of self.new ≡ self.old.lifecycle) }
-        ensures events { IfOk result (λ v. (pod : PodSpec) (max_restart_delay : ℕ) (evicted : Option ℕ)
-            (h : List PodTick)
-            → pod.policy ≡ policy
-            → (evicted ≡ Some (length h) → ⊥)
-            → IsStateOf pod max_restart_delay evicted h self.old
-            → AreEventsOf pod max_restart_delay evicted h (pod_tick observed.now) v.items) }
+        ensures events { IfOk result (λ v. MakesEvents policy (pod_tick observed.now) self.old v.items) }
         ensures err { OnErr result (self.new ≡ self.old) }
     {
         let mut lifecycle = self.lifecycle;
@@ -132,18 +124,9 @@ impl PodState {
             → AreMade pod max_restart_delay h (pod_tick observed.now) made.now }
         requires views { (pod : PodSpec) (max_restart_delay : ℕ) (h : List PodTick)
             → AreContainersOf pod max_restart_delay h next.now → AreViewsOf pod h views.now }
-        ensures ok { OnOk result ((pod : PodSpec) (max_restart_delay : ℕ) (evicted : Option ℕ) (h : List PodTick)
-            → pod.policy ≡ policy
-            → (evicted ≡ Some (length h) → ⊥)
-            → IsStateOf pod max_restart_delay evicted h self.old
-            → IsStateOf pod max_restart_delay evicted (h ++ pod_tick observed.now ∷ []) self.new) }
+        ensures ok { OnOk result (LeadsTo policy (pod_tick observed.now) self.old self.new) }
         ensures before { OnOk result (before_of self.new ≡ self.old.lifecycle) }
-        ensures events { IfOk result (λ v. (pod : PodSpec) (max_restart_delay : ℕ) (evicted : Option ℕ)
-            (h : List PodTick)
-            → pod.policy ≡ policy
-            → (evicted ≡ Some (length h) → ⊥)
-            → IsStateOf pod max_restart_delay evicted h self.old
-            → AreEventsOf pod max_restart_delay evicted h (pod_tick observed.now) v.items) }
+        ensures events { IfOk result (λ v. MakesEvents policy (pod_tick observed.now) self.old v.items) }
         ensures err { OnErr result (self.new ≡ self.old) }
     {
         let ready = all_ready(next);

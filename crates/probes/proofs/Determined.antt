@@ -3,6 +3,7 @@ use Rattle.std.proofs.Common.{◌≡◌, ◌⊎◌, inl, inr, ℕ, suc, zero, �
 use Rattle.std.proofs.Common.{take, drop, Option, Some, None, refl, sym, subst, arith}
 use Rattle.std.specs.Prelude.{◌↔◌, slice_get}
 use Rattle.std.proofs.lemmas.List.{take_all, take-take}
+use Rattle.std.proofs.lemmas.Option.{same_Some}
 use Rattle.manifest.specs.declared.outcome.Outcome.{Outcome}
 use Rattle.manifest.specs.declared.outcome.Outcome.TheVariants.{Success, Failure, Unknown}
 use Rattle.manifest.specs.Probe.{Probe, Probes}
@@ -14,27 +15,25 @@ use Rattle.histories.proofs.First.{IsFirst-unique}
 use Rattle.histories.proofs.Lasting.{Lasts-all, ComesTrue-later}
 use Rattle.probes.proofs.Counted.{passed_lasts}
 
+-- after a result that is no success the others decide
+passes_later : (f : ℕ) (x : Outcome) (xs : List Outcome) → (x ≡ Success → ⊥)
+    → PassesWithin f xs ⊎ (PassesWithin f xs → ⊥)
+    → PassesWithin (suc f) (x ∷ xs) ⊎ (PassesWithin (suc f) (x ∷ xs) → ⊥)
+passes_later f x xs other (inl later) =
+    inl (suc later.0, (let lt : later.0 < f = later.1 in omega arith), later.2)
+passes_later f x xs other (inr never) = inr (λ (k, lt, is). never (tail k lt is))
+  where
+    tail : (k : ℕ) → k < suc f → slice_get (x ∷ xs) k ≡ Some Success → PassesWithin f xs
+    tail zero lt is = absurd (other (same_Some x Success is))
+    tail (suc k) lt is = (k, omega arith, is)
+
 -- one of the first results is a success, or none is
 pub passes_or_not : (f : ℕ) (xs : List Outcome) → PassesWithin f xs ⊎ (PassesWithin f xs → ⊥)
 passes_or_not zero xs = inr (λ (k, lt, is). absurd (omega arith))
 passes_or_not (suc f) [] = inr (λ (k, lt, is). absurd (cc))
 passes_or_not (suc f) (Success ∷ xs) = inl (0, omega arith, refl)
-passes_or_not (suc f) (Failure ∷ xs) = elim (passes_or_not f xs) [
-  | inl later ↦ inl (suc later.0, (let lt : later.0 < f = later.1 in omega arith), later.2)
-  | inr never ↦ inr (λ (k, lt, is). never (tail k lt is))
-]
-  where
-    tail : (k : ℕ) → k < suc f → slice_get (Failure ∷ xs) k ≡ Some Success → PassesWithin f xs
-    tail zero lt is = absurd (cc)
-    tail (suc k) lt is = (k, omega arith, is)
-passes_or_not (suc f) (Unknown ∷ xs) = elim (passes_or_not f xs) [
-  | inl later ↦ inl (suc later.0, (let lt : later.0 < f = later.1 in omega arith), later.2)
-  | inr never ↦ inr (λ (k, lt, is). never (tail k lt is))
-]
-  where
-    tail : (k : ℕ) → k < suc f → slice_get (Unknown ∷ xs) k ≡ Some Success → PassesWithin f xs
-    tail zero lt is = absurd (cc)
-    tail (suc k) lt is = (k, omega arith, is)
+passes_or_not (suc f) (Failure ∷ xs) = passes_later f Failure xs (λ e. cc) (passes_or_not f xs)
+passes_or_not (suc f) (Unknown ∷ xs) = passes_later f Unknown xs (λ e. cc) (passes_or_not f xs)
 
 -- what holds of the first n ticks and lasts holds first at some tick
 first_tick : (P : List Tick → Type 0) (ticks : List Tick) → Lasts P → ((some : List Tick) → P some ⊎ (P some → ⊥))

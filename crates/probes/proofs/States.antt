@@ -14,7 +14,8 @@ use Rattle.probes.specs.Ticks.{Tick, IsStarted, HasPassed, HasStartupFailed, Has
 use Rattle.probes.specs.Startup.{IsStartupOf, IsProgressWith}
 use Rattle.probes.specs.Liveness.{IsLivenessOf}
 use Rattle.probes.specs.Readiness.{IsReadinessOf}
-use Rattle.probes.specs.Container.{AreInRange, IsKillOrdered, IsOrdered, IsPassTick, IsKillTick, IsInstanceReady}
+use Rattle.probes.specs.Container.{AreInRange, AreCounted, IsKillOrdered, IsOrdered, IsPassTick, IsKillTick}
+use Rattle.probes.specs.Container.{IsInstanceReady}
 use Rattle.probes.specs.ProbeSet.{Follows, IsStateOf}
 use Rattle.histories.proofs.Lasting.{ComesTrue-now}
 use Rattle.probes.proofs.Counted.{AreCounted-unique, AreCounted-more, AreCounted-none, AreCounted-start, passed_lasts}
@@ -29,22 +30,25 @@ failed_is probes start ticks set failed st reads =
     let P : Option Probe → Type 0 = λ p. IsTrue failed ↔ HasStartupFailed p start ticks in
     subst P st.follows.startup reads
 
+-- what is so of the ticks that count
+counted_is : (P : List Tick → Type 0) (startup : Option Probe) (start : ℕ) (ticks counted : List Tick) (flag : Bool)
+    → AreCounted startup start ticks counted → (IsTrue flag ↔ P counted)
+    → (IsTrue flag ↔ ((c : List Tick) × AreCounted startup start ticks c × P c))
+counted_is P startup start ticks counted flag are here = (
+  (λ t. (counted, are, here.0 t)),
+  (λ (c, are', so). here.1 (subst P (AreCounted-unique startup start ticks c counted are' are) so)),
+)
+
 -- whether liveness has failed
 pub dead_is : (probes : Probes) (start : ℕ) (ticks : List Tick) (set : ProbeSet) (dead : Bool)
     → IsStateOf probes start ticks set
     → ((c : List Tick) → IsLivenessOf start c set.liveness
     → (IsTrue dead ↔ HasLivenessFailed set.liveness.probe start c))
     → (IsTrue dead ↔ IsKillOrdered probes start causes.Liveness ticks)
-dead_is probes start ticks set dead st reads = (
-  (λ t. (st.counts.0, st.counts.1, here.0 t)),
-  (λ (c, are, fails). here.1 (let P : List Tick → Type 0 = λ x. HasLivenessFailed probes.liveness start x in
-      subst P (AreCounted-unique probes.startup start ticks c st.counts.0 are st.counts.1) fails)),
-)
-  where
-    here : IsTrue dead ↔ HasLivenessFailed probes.liveness start st.counts.0
-    here =
-        let P : Option Probe → Type 0 = λ p. IsTrue dead ↔ HasLivenessFailed p start st.counts.0 in
-        subst P st.follows.liveness (reads st.counts.0 st.counts.2.liveness)
+dead_is probes start ticks set dead st reads =
+    let P : Option Probe → Type 0 = λ p. IsTrue dead ↔ HasLivenessFailed p start st.counts.0 in
+    counted_is (HasLivenessFailed probes.liveness start) probes.startup start ticks st.counts.0 dead st.counts.1
+    (subst P st.follows.liveness (reads st.counts.0 st.counts.2.liveness))
 
 -- whether the instance is ready, where startup has passed
 pub ready_is : (probes : Probes) (start : ℕ) (ticks : List Tick) (set : ProbeSet) (ready : Bool)
@@ -52,16 +56,12 @@ pub ready_is : (probes : Probes) (start : ℕ) (ticks : List Tick) (set : ProbeS
     → IsStarted probes.startup start ticks
     → ((c : List Tick) → IsReadinessOf start c set.readiness → (IsTrue ready ↔ HoldsReady set.readiness.probe start c))
     → (IsTrue ready ↔ IsInstanceReady probes start ticks)
-ready_is probes start ticks set ready st started reads = (
-  (λ t. (started, (st.counts.0, st.counts.1, here.0 t))),
-  (λ (_, (c, are, holds)). here.1 (let P : List Tick → Type 0 = λ x. HoldsReady probes.readiness start x in
-      subst P (AreCounted-unique probes.startup start ticks c st.counts.0 are st.counts.1) holds)),
-)
-  where
-    here : IsTrue ready ↔ HoldsReady probes.readiness start st.counts.0
-    here =
-        let P : Option Probe → Type 0 = λ p. IsTrue ready ↔ HoldsReady p start st.counts.0 in
-        subst P st.follows.readiness (reads st.counts.0 st.counts.2.readiness)
+ready_is probes start ticks set ready st started reads =
+    let P : Option Probe → Type 0 = λ p. IsTrue ready ↔ HoldsReady p start st.counts.0 in
+    let holds =
+    counted_is (HoldsReady probes.readiness start) probes.startup start ticks st.counts.0 ready st.counts.1
+    (subst P st.follows.readiness (reads st.counts.0 st.counts.2.readiness)) in
+    ((λ t. (started, holds.0 t)), (λ w. holds.1 w.1))
 
 -- there is an order where it has a cause
 pub ordered_is : (probes : Probes) (start : ℕ) (ticks : List Tick) (found : Option Cause)

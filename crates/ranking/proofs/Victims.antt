@@ -24,31 +24,34 @@ Below signal dedicated C i (Some n) =
     (p : PodStatus) × C n p × (n < i)
     × ((m : ℕ) (q : PodStatus) → m < i → C m q → m ≢ n → IsBefore signal dedicated p q)
 
+-- a candidate comes before all at a place where it comes before one
+ahead : (signal : Signal) (dedicated : Bool) (C : ℕ → PodStatus → Type 0) (count : ℕ) → AreCandidates C count
+    → (k m : ℕ) (p q r : PodStatus) → C k q → IsBefore signal dedicated p q → C m r
+    → ((m ≡ k → ⊥) → IsBefore signal dedicated p r) → IsBefore signal dedicated p r
+ahead signal dedicated C count are k m p q r c b d elsewhere = elim (cases_eq m k) [
+  | inl same ↦
+      let P : ℕ → Type 0 = λ j. C j r in
+      before_alike signal dedicated p q r (are.alike k q r c (subst P same d)) b
+  | inr other ↦ elsewhere other
+]
+
 -- it stays the victim
 stays : (signal : Signal) (dedicated : Bool) (C : ℕ → PodStatus → Type 0) (count : ℕ) → AreCandidates C count
     → (i n : ℕ) (p q : PodStatus) → C i q → IsBefore signal dedicated p q
     → ((m : ℕ) (r : PodStatus) → m < i → C m r → m ≢ n → IsBefore signal dedicated p r)
     → (m : ℕ) (r : PodStatus) → m < suc i → C m r → m ≢ n → IsBefore signal dedicated p r
-stays signal dedicated C count are i n p q c b before m r lt d apart = elim (cases_eq m i) [
-  | inl same ↦
-      let P : ℕ → Type 0 = λ k. C k r in
-      before_alike signal dedicated p q r (are.alike i q r c (subst P same d)) b
-  | inr other ↦ before m r (omega arith) d apart
-]
+stays signal dedicated C count are i n p q c b before m r lt d apart =
+    ahead signal dedicated C count are i m p q r c b d (λ other. before m r (omega arith) d apart)
 
 -- or the new candidate is evicted before it
 moves : (signal : Signal) (dedicated : Bool) (C : ℕ → PodStatus → Type 0) (count : ℕ) → AreCandidates C count
     → (i n : ℕ) (p q : PodStatus) → C n p → IsBefore signal dedicated q p
     → ((m : ℕ) (r : PodStatus) → m < i → C m r → m ≢ n → IsBefore signal dedicated p r)
     → (m : ℕ) (r : PodStatus) → m < suc i → C m r → m ≢ i → IsBefore signal dedicated q r
-moves signal dedicated C count are i n p q c b before m r lt d apart = elim (cases_eq m n) [
-  | inl same ↦
-      let P : ℕ → Type 0 = λ k. C k r in
-      before_alike signal dedicated q p r (are.alike n p r c (subst P same d)) b
-  | inr other ↦
-      let not : m ≡ i → ⊥ = apart in
-      goes_on_before signal dedicated q p r b (before m r (omega arith) d other)
-]
+moves signal dedicated C count are i n p q c b before m r lt d apart =
+    let not : m ≡ i → ⊥ = apart in
+    ahead signal dedicated C count are n m q p r c b d
+    (λ other. goes_on_before signal dedicated q p r b (before m r (omega arith) d other))
 
 best : (signal : Signal) (dedicated : Bool) (C : ℕ → PodStatus → Type 0) (count : ℕ) → AreCandidates C count
     → (i : ℕ) → (v : Option ℕ) × Below signal dedicated C i v

@@ -6,7 +6,7 @@ use Rattle.histories.specs.Histories.{Recorded, entry_at, IsLast}
 abbrev pub Exit : Type 0
 Exit = Recorded ℕ
 
--- a run of so many seconds or more begins the count anew
+-- a run of this many seconds or more begins the count anew
 abbrev pub long_run : ℕ
 long_run = 600
 

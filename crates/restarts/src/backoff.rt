@@ -1,6 +1,7 @@
 //! How long a restart is backed off.
 
-ghost use Rattle.std.specs.Prelude.{◌≡◌, ◌+◌, ◌^◌, ◌<◌, ◌≤◌, ◌↔◌, ℕ, List, [], ◌∷◌, ◌++◌, IsTrue};
+ghost use Rattle.std.specs.Prelude.{◌≡◌, ◌+◌, ◌<◌, ◌≤◌, ◌↔◌, ℕ, List, [], ◌∷◌, ◌++◌, IsTrue};
+ghost use Rattle.quantity.specs.Duration.{end_of_time};
 ghost use Rattle.histories.specs.Histories.{recorded};
 ghost use Rattle.manifest.specs.RestartDelay.{most_max_delay};
 ghost use Rattle.restarts.specs.Exits.{Exit, long_run};
@@ -9,7 +10,7 @@ ghost use Rattle.restarts.specs.Counts.{IsCountOf};
 
 use manifest::MaxRestartDelay;
 
-/// A run of so many seconds or more begins the count anew.
+/// A run of this many seconds or more begins the count anew.
 const LONG_RUN: u64 = 600;
 
 /// The delay of the second exit, in seconds, which each further one doubles.
@@ -47,12 +48,12 @@ impl Backoff {
         }
     }
 
-    /// Takes the next exit, at the moment `at` (in seconds) and after a run of so many seconds (0
+    /// Takes the next exit, at the moment `at` (in seconds) and after a run of this many seconds (0
     /// without a start), and answers by how many seconds its restart is backed off. Every exit counts,
     /// also one after which no restart is wanted. Exits come in the order of their moments, and
     /// those of one moment in that of their attempts.
     pub fn exited(&mut self, run_seconds: u64, at: u64) -> u64
-        requires { at < 2 ^ 40 }
+        requires { at < end_of_time }
         ensures state { (max_restart_delay : ℕ) (exits : List Exit)
             → IsStateOf max_restart_delay exits self.old
             → IsStateOf max_restart_delay (exits ++ recorded at run_seconds ∷ []) self.new }

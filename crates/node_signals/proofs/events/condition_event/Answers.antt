@@ -2,18 +2,8 @@ use Rattle.std.proofs.Common.{◌++◌, ◌∷◌, []}
 use Rattle.node_signals.specs.declared.event.NodeEvent.TheVariants.{Pressure}
 use Rattle.node_signals.specs.Conditions.{IsTrueAfter}
 use Rattle.node_signals.proofs.ConditionLemmas.{is_true_of}
-use Rattle.node_signals.proofs.EventLemmas.{changed, unchanged}
+use Rattle.node_signals.proofs.EventLemmas.{change_given}
 use Rattle.node_signals.proofs.events.condition_event.Goals as goal
-
-pub returns-then-value-is_true : goal.returns-then-value-is_true
-returns-then-value-is_true c = λ eviction period before tick old new.
-    let now = is_true_of eviction period c.args.condition (before ++ tick ∷ []) c.of.result c.is_true-value.result
-    (c.of.ensures eviction period (before ++ tick ∷ []) new) c.is_true-value.ensures in
-    let was = is_true_of eviction period c.args.condition before c.of-2.result c.is_true.result
-    (c.of-2.ensures eviction period before old) c.is_true.ensures in
-    unchanged (Pressure c.args.condition) (IsTrueAfter eviction period c.args.condition (before ++ tick ∷ []))
-    (IsTrueAfter eviction period c.args.condition before) c.is_true-value.result c.is_true.result now was
-    c.if-value-is_true.true
 
 pub returns : goal.returns
 returns c = λ eviction period before tick old new.
@@ -21,6 +11,6 @@ returns c = λ eviction period before tick old new.
     (c.of.ensures eviction period (before ++ tick ∷ []) new) c.is_true-value.ensures in
     let was = is_true_of eviction period c.args.condition before c.of-2.result c.is_true.result
     (c.of-2.ensures eviction period before old) c.is_true.ensures in
-    changed (Pressure c.args.condition) (IsTrueAfter eviction period c.args.condition (before ++ tick ∷ []))
-    (IsTrueAfter eviction period c.args.condition before) c.is_true-value.result c.is_true.result now was
-    c.if-value-is_true.false
+    change_given (Pressure c.args.condition) (IsTrueAfter eviction period c.args.condition (before ++ tick ∷ []))
+    (IsTrueAfter eviction period c.args.condition before) c.is_true-value.result c.is_true.result c.then_some.result
+    now was c.then_some.ensures

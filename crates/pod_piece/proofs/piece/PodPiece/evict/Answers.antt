@@ -1,59 +1,49 @@
-use Rattle.std.proofs.Common.{◌≡◌, ◌∙◌, ◌++◌, ◌∷◌, ◌-◌, [], ℕ, length, Some, true, false, refl, ap, sym, subst, arith}
+use Rattle.std.proofs.Common.{◌≡◌, ◌∙◌, ◌++◌, ◌∷◌, ◌-◌, [], ℕ, length, Some, true, refl, sym, subst, arith}
 use Rattle.std.proofs.lemmas.List.{length-map}
-use Rattle.histories.specs.Histories.{recorded, last_moment}
+use Rattle.histories.specs.Histories.{recorded}
 use Rattle.pod_state.specs.declared.lifecycle.Lifecycle.{Lifecycle}
 use Rattle.pod_state.specs.Pods.{pod_tick}
 use Rattle.pod_state.specs.Lifecycles.{IsLifecycleOf}
 use Rattle.pod_piece.specs.declared.status.PodStatus.{PodStatus}
-use Rattle.pod_piece.specs.Kept.{IsKept, AreKept, piece_of}
-use Rattle.pod_piece.specs.Piece.{Piece, piece, before_last, place_of, Lives}
+use Rattle.pod_piece.specs.Kept.{IsKept, piece_of}
+use Rattle.pod_piece.specs.Piece.{piece, before_last, place_of}
 use Rattle.pod_piece.proofs.PieceLemmas.{goes_on, state_free, lives_free, may_self, has_containers, kept_evicted}
-use Rattle.pod_piece.proofs.PieceLemmas.{evicted_state, by_eviction}
+use Rattle.pod_piece.proofs.PieceLemmas.{evicted_state, by_eviction, may_evict}
 use Rattle.pod_piece.proofs.UsageLemmas.{usage_evicted}
-use Rattle.pod_piece.proofs.LastTicks.{tick_at}
 use Rattle.pod_piece.proofs.piece.PodPiece.evict.Goals as goal
 
 pub evict-requires : goal.evict-requires
 evict-requires c =
     let i = c.deref_mut-parts.result.now in
-    let view : piece_of i ≡ c.args.self.now = ap piece_of c.deref_mut-parts.ensures.value ∙ c.self.view_is in
-    let held : AreKept i = subst AreKept (sym c.deref_mut-parts.ensures.value) c.self.invariant in
+    let from = may_evict i _ c.args.self.now c.args.order.at c.deref_mut-parts.ensures.value c.self.view_is
+    c.self.invariant c.requires.free c.requires.lives c.requires.last in
     let p = piece_of i in
-    let free : i.is_pending ≡ false = ap (λ (q : Piece). q.is_pending) view ∙ c.requires.free in
-    let lives = subst (λ (q : Piece). Lives q) (sym view) c.requires.lives in
-    let after = state_free p i.differs.items i.state i.status i.events.items free held in
+    let after = state_free p i.differs.items i.state i.status i.events.items from.free from.held in
     goes_on i.pod i.max_restart_delay (place_of i.eviction) p.handed i.state
-    (after.now (place_of i.eviction) (may_self (place_of i.eviction) (length p.handed))) (lives_free p free lives)
+    (after.now (place_of i.eviction) (may_self (place_of i.eviction) (length p.handed)))
+    (lives_free p from.free from.lives)
 
 pub show-requires : goal.show-requires
 show-requires c =
     let i = c.deref_mut-parts.result.now in
-    let view : piece_of i ≡ c.args.self.now = ap piece_of c.deref_mut-parts.ensures.value ∙ c.self.view_is in
-    let held : AreKept i = subst AreKept (sym c.deref_mut-parts.ensures.value) c.self.invariant in
+    let from = may_evict i _ c.args.self.now c.args.order.at c.deref_mut-parts.ensures.value c.self.view_is
+    c.self.invariant c.requires.free c.requires.lives c.requires.last in
     let p = piece_of i in
     let h = before_last p.handed in
-    let free : i.is_pending ≡ false = ap (λ (q : Piece). q.is_pending) view ∙ c.requires.free in
-    let lives = subst (λ (q : Piece). Lives q) (sym view) c.requires.lives in
-    let last = tick_at p.handed c.args.order.at (ap (λ (q : Piece). last_moment q.handed) view
-    ∙ c.requires.last) in
-    let now = evicted_state p (recorded c.args.order.at last.0) i.differs.items i.state c.evict.new.self i.status
-    i.events.items free lives last.1 held
-    (λ was before is. c.evict.ensures.state i.pod i.max_restart_delay h last.0 was before is) in
-    held.shown.containers.as_many ∙ has_containers i.pod i.max_restart_delay (Some (length h))
-    (h ++ recorded c.args.order.at last.0 ∷ []) c.evict.new.self now
+    let now = evicted_state p (recorded c.args.order.at from.last.0) i.differs.items i.state c.evict.new.self i.status
+    i.events.items from.free from.lives from.last.1 from.held
+    (λ was before is. c.evict.ensures.state i.pod i.max_restart_delay h from.last.0 was before is) in
+    from.held.shown.containers.as_many ∙ has_containers i.pod i.max_restart_delay (Some (length h))
+    (h ++ recorded c.args.order.at from.last.0 ∷ []) c.evict.new.self now
 
 pub invariant_of-self : goal.invariant_of-self
 invariant_of-self c =
     let i = c.deref_mut-parts.result.now in
-    let view : piece_of i ≡ c.args.self.now = ap piece_of c.deref_mut-parts.ensures.value ∙ c.self.view_is in
-    let held : AreKept i = subst AreKept (sym c.deref_mut-parts.ensures.value) c.self.invariant in
+    let from = may_evict i _ c.args.self.now c.args.order.at c.deref_mut-parts.ensures.value c.self.view_is
+    c.self.invariant c.requires.free c.requires.lives c.requires.last in
     let p = piece_of i in
     let h = before_last p.handed in
-    let free : i.is_pending ≡ false = ap (λ (q : Piece). q.is_pending) view ∙ c.requires.free in
-    let lives = subst (λ (q : Piece). Lives q) (sym view) c.requires.lives in
-    let last = tick_at p.handed c.args.order.at (ap (λ (q : Piece). last_moment q.handed) view
-    ∙ c.requires.last) in
-    let x = recorded c.args.order.at last.0 in
+    let x = recorded c.args.order.at from.last.0 in
     let k = h ++ x ∷ [] in
     let place : length p.handed - 1 ≡ c.len-place.result - 1 =
     omega (arith, c.len-place.ensures, length-map i.history pod_tick) in
@@ -69,11 +59,11 @@ invariant_of-self c =
       order = Some c.args.order;
     } in
     let kept = kept_evicted p x c.args.order i.differs.items i.state c.evict.new.self i.status status i.events.items
-    free lives last.1 held
+    from.free from.lives from.last.1 from.held
     (λ was before is. (
-      c.evict.ensures.state i.pod i.max_restart_delay h last.0 was before is,
+      c.evict.ensures.state i.pod i.max_restart_delay h from.last.0 was before is,
       c.evict.ensures.ends i.pod
-          i.max_restart_delay h last.0 was before is,
+          i.max_restart_delay h from.last.0 was before is,
     ))
     (λ shown none st end. record {
       number_is = shown.number_is;

@@ -1,4 +1,4 @@
-use Rattle.std.proofs.Common.{◌≡◌, ◌∙◌, ◌++◌, ◌∷◌, [], length, map, Option, refl, ap, sym, subst}
+use Rattle.std.proofs.Common.{◌∙◌, ◌++◌, ◌∷◌, [], length, map, Option, refl, sym, subst}
 use Rattle.std.specs.Prelude.{not, if◌then◌else◌}
 use Rattle.observations.specs.declared.usage.Usage.{Usage}
 use Rattle.pod_state.specs.declared.lifecycle.Lifecycle.{Lifecycle}
@@ -8,68 +8,50 @@ use Rattle.pod_piece.specs.Usage.{IsUsageOf, newer}
 use Rattle.pod_piece.specs.Piece.{piece, before_last, place_of}
 use Rattle.pod_piece.proofs.NextTicks.{may_take}
 use Rattle.pod_piece.proofs.PieceLemmas.{may_self, has_containers, kept_updated, by_eviction, end_is}
-use Rattle.pod_piece.proofs.PieceLemmas.{flag_says, at_last}
+use Rattle.pod_piece.proofs.PieceLemmas.{flag_says, IsAtLast, at_last}
 use Rattle.pod_piece.proofs.UsageLemmas.{usage_more}
-use Rattle.pod_piece.specs.Kept.{AreKept, piece_of}
 use Rattle.pod_piece.proofs.piece.PodPiece.update_in_place.Goals as goal
+
+here : (c : goal.After-take-arg-3-1) → IsAtLast c.deref_mut-parts.result.now c.at-observed.result.now
+here c =
+    at_last c.deref_mut-parts.result.now _ c.args.self.now c.len-last.result c.at-observed.result.now
+    c.deref_mut-parts.ensures.value c.self.view_is c.self.invariant c.requires c.len-last.ensures c.at-observed.ensures
 
 pub take-requires-clause-follows : goal.take-requires-clause-follows
 take-requires-clause-follows c =
     let i = c.deref_mut-parts.result.now in
-    let view : piece_of i ≡ c.args.self.now = ap piece_of c.deref_mut-parts.ensures.value ∙ c.self.view_is in
-    let held : AreKept i = subst AreKept (sym c.deref_mut-parts.ensures.value) c.self.invariant in
-    let observed = c.at-observed.result.now in
-    let here =
-    at_last c.args.self.now i.number i.pod i.max_restart_delay i.history i.is_pending i.eviction i.differs.items
-    i.state i.status i.events.items c.len-last.result observed
-    view c.requires held c.len-last.ensures c.at-observed.ensures in
-    may_take i.pod i.max_restart_delay (place_of i.eviction)
-    (before_last (map pod_tick i.history)) i.state observed here.now
-    here.next
+    may_take i.pod i.max_restart_delay (place_of i.eviction) (before_last (map pod_tick i.history)) i.state
+    c.at-observed.result.now (here c).now (here c).next
 
 pub take-requires-clause-bounded : goal.take-requires-clause-bounded
-take-requires-clause-bounded c =
-    let i = c.deref_mut-parts.result.now in
-    let view : piece_of i ≡ c.args.self.now = ap piece_of c.deref_mut-parts.ensures.value ∙ c.self.view_is in
-    let held : AreKept i = subst AreKept (sym c.deref_mut-parts.ensures.value) c.self.invariant in
-    let observed = c.at-observed.result.now in
-    (at_last c.args.self.now i.number i.pod i.max_restart_delay i.history i.is_pending i.eviction i.differs.items
-    i.state
-    i.status i.events.items c.len-last.result observed
-    view c.requires held c.len-last.ensures c.at-observed.ensures).next.bounded
+take-requires-clause-bounded c = (here c).next.bounded
 
 pub show-requires : goal.show-requires
 show-requires c =
     let i = c.deref_mut-parts.result.now in
-    let view : piece_of i ≡ c.args.self.now = ap piece_of c.deref_mut-parts.ensures.value ∙ c.self.view_is in
-    let held : AreKept i = subst AreKept (sym c.deref_mut-parts.ensures.value) c.self.invariant in
     let observed = c.at-observed.result.now in
     let h = before_last (map pod_tick i.history) in
     let here =
-    at_last c.args.self.now i.number i.pod i.max_restart_delay i.history i.is_pending i.eviction i.differs.items
-    i.state i.status i.events.items c.len-last.result observed
-    view c.requires held c.len-last.ensures c.at-observed.ensures in
+    at_last i _ c.args.self.now c.len-last.result observed c.deref_mut-parts.ensures.value c.self.view_is
+    c.self.invariant c.requires c.len-last.ensures c.at-observed.ensures in
     let after =
     c.in_ok-events.ensures.ok i.pod i.max_restart_delay (place_of i.eviction) h refl here.not_now here.now in
-    held.shown.containers.as_many ∙ has_containers i.pod i.max_restart_delay (place_of i.eviction)
+    here.held.shown.containers.as_many ∙ has_containers i.pod i.max_restart_delay (place_of i.eviction)
     (h ++ pod_tick observed ∷ []) c.take.new.self after
 
 pub invariant_of-self-2 : goal.invariant_of-self-2
 invariant_of-self-2 c =
     let i = c.deref_mut-parts.result.now in
-    let view : piece_of i ≡ c.args.self.now = ap piece_of c.deref_mut-parts.ensures.value ∙ c.self.view_is in
-    let held : AreKept i = subst AreKept (sym c.deref_mut-parts.ensures.value) c.self.invariant in
     let observed = c.at-observed.result.now in
     let h = before_last (map pod_tick i.history) in
     let k = h ++ pod_tick observed ∷ [] in
     let e = place_of i.eviction in
     let here =
-    at_last c.args.self.now i.number i.pod i.max_restart_delay i.history i.is_pending i.eviction i.differs.items
-    i.state i.status i.events.items c.len-last.result observed
-    view c.requires held c.len-last.ensures c.at-observed.ensures in
+    at_last i _ c.args.self.now c.len-last.result observed c.deref_mut-parts.ensures.value c.self.view_is
+    c.self.invariant c.requires c.len-last.ensures c.at-observed.ensures in
     kept_updated (piece i.number i.pod i.max_restart_delay i.history i.is_pending i.eviction) (pod_tick observed)
     i.differs.items i.state c.take.new.self i.status _ i.events.items c.in_ok-events.events.items
-    here.pending here.last held
+    here.pending here.last here.held
     (λ e not is. c.in_ok-events.ensures.ok i.pod i.max_restart_delay e h refl not is)
     (λ e is. subst (λ (l : Lifecycle). IsProgressOf i.pod e h l) (sym c.in_ok-events.ensures.before) is.progress)
     (λ e not is. c.in_ok-events.ensures.events i.pod i.max_restart_delay e h refl not is)

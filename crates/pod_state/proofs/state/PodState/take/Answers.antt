@@ -28,27 +28,18 @@ returns-then-has_ended-clause-events c = λ pod max_restart_delay evicted h poli
     (c.has_ended.ensures.terminal.0 c.if-has_ended.true) c.new.ensures.items
 
 -- of one container
+one_long : (c : goal.After-views-1) → length c.args.self.now.containers.items ≡ 1
+one_long c = omega (arith, c.len.ensures, c.if-len-eq1.true, c.args.self.now.containers.ok.0)
+
 pub settle-requires-clause-containers : goal.settle-requires-clause-containers
 settle-requires-clause-containers c = λ pod max_restart_delay h before.
-    let long : length c.args.self.now.containers.items ≡ 1 = omega (
-      arith,
-      c.len.ensures,
-      c.if-len-eq1.true,
-      c.args.self.now.containers.ok.0,
-    ) in
     one_next pod max_restart_delay h (pod_tick c.args.observed.now) c.args.self.now.containers.items c.index.result.now
-    c.step.new.container long c.index.ensures (c.step.ensures.state pod max_restart_delay h) before
+    c.step.new.container (one_long c) c.index.ensures (c.step.ensures.state pod max_restart_delay h) before
 
 pub settle-requires-clause-made : goal.settle-requires-clause-made
 settle-requires-clause-made c = λ pod max_restart_delay h policy before.
-    let long : length c.args.self.now.containers.items ≡ 1 = omega (
-      arith,
-      c.len.ensures,
-      c.if-len-eq1.true,
-      c.args.self.now.containers.ok.0,
-    ) in
     one_made pod max_restart_delay h (pod_tick c.args.observed.now) c.args.self.now.containers.items c.index.result.now
-    c.step.result long c.index.ensures (c.step.ensures.made pod max_restart_delay h policy) before
+    c.step.result (one_long c) c.index.ensures (c.step.ensures.made pod max_restart_delay h policy) before
 
 pub settle-requires-clause-views : goal.settle-requires-clause-views
 settle-requires-clause-views c = λ pod max_restart_delay h are.
@@ -57,31 +48,22 @@ settle-requires-clause-views c = λ pod max_restart_delay h are.
     (λ spec k st. c.view.ensures spec max_restart_delay k st)) are
 
 -- of two
+two_long : (c : goal.After-views-then-len-eq2-1) → length c.args.self.now.containers.items ≡ 2
+two_long c = omega (arith, c.len-2.ensures, c.if-len-eq2.true, c.args.self.now.containers.ok.0)
+
 pub settle-requires-then-len-eq2-clause-containers : goal.settle-requires-then-len-eq2-clause-containers
 settle-requires-then-len-eq2-clause-containers c = λ pod max_restart_delay h before.
-    let long : length c.args.self.now.containers.items ≡ 2 = omega (
-      arith,
-      c.len-2.ensures,
-      c.if-len-eq2.true,
-      c.args.self.now.containers.ok.0,
-    ) in
     two_next pod max_restart_delay h (pod_tick c.args.observed.now) c.args.self.now.containers.items
     c.index-then-len-eq2.result.now c.index-then-len-eq2-2.result.now c.step-then-len-eq2.new.container
-    c.step-then-len-eq2-2.new.container long c.index-then-len-eq2.ensures c.index-then-len-eq2-2.ensures
+    c.step-then-len-eq2-2.new.container (two_long c) c.index-then-len-eq2.ensures c.index-then-len-eq2-2.ensures
     (c.step-then-len-eq2.ensures.state pod max_restart_delay h)
     (c.step-then-len-eq2-2.ensures.state pod max_restart_delay h) before
 
 pub settle-requires-then-len-eq2-clause-made : goal.settle-requires-then-len-eq2-clause-made
 settle-requires-then-len-eq2-clause-made c = λ pod max_restart_delay h policy before.
-    let long : length c.args.self.now.containers.items ≡ 2 = omega (
-      arith,
-      c.len-2.ensures,
-      c.if-len-eq2.true,
-      c.args.self.now.containers.ok.0,
-    ) in
     two_made pod max_restart_delay h (pod_tick c.args.observed.now) c.args.self.now.containers.items
     c.index-then-len-eq2.result.now c.index-then-len-eq2-2.result.now c.step-then-len-eq2.result
-    c.step-then-len-eq2-2.result long c.index-then-len-eq2.ensures c.index-then-len-eq2-2.ensures
+    c.step-then-len-eq2-2.result (two_long c) c.index-then-len-eq2.ensures c.index-then-len-eq2-2.ensures
     (c.step-then-len-eq2.ensures.made pod max_restart_delay h policy)
     (c.step-then-len-eq2-2.ensures.made pod max_restart_delay h policy)
     before
