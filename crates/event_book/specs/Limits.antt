@@ -3,11 +3,11 @@ use Rattle.std.specs.Prelude.{ℕ, ◌≤◌, ◌^◌}
 use Rattle.event_book.specs.declared.totals.Entry.{Entry}
 use Rattle.event_book.specs.declared.totals.Totals.{Totals}
 
--- so many workers can share a book
+-- this many workers can share a book
 abbrev pub most_workers : ℕ
 most_workers = 64
 
--- so many events come of one update: at most eight of each of sixteen containers, and one of the pod
+-- this many events come of one update: at most eight of each of sixteen containers, and one of the pod
 abbrev pub most_events : ℕ
 most_events = 129
 

@@ -3,7 +3,7 @@ use Rattle.std.specs.Prelude.{◌⊎◌, ℕ, ◌<◌, ◌≤◌, ◌^◌}
 use Rattle.event_book.specs.declared.totals.Totals.{Totals}
 use Rattle.event_book.specs.declared.totals.Entry.{Entry}
 
--- into so many parts a book's shares can be cut: one for each worker, and one that stays
+-- into this many parts a book's shares can be cut: one for each worker, and one that stays
 abbrev pub most_parts : ℕ
 most_parts = 65
 

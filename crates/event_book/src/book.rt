@@ -4,10 +4,11 @@ ghost use Rattle.std.specs.Prelude.{◌≡◌, ◌<◌, ◌≤◌, ◌^◌, OnOk
 ghost use Rattle.event_book.specs.Totals.{plus, nothing};
 ghost use Rattle.event_book.specs.Shares.{most_parts, part, one_update, AreWithin, ArePast};
 
+use crate::blanks::Blanks;
 use crate::shares::Shares;
 use crate::totals::{Entry, Totals};
 use std::marker::Model;
-use std::sync::ledger::{Blank, Book, Ledger};
+use std::sync::ledger::{Book, Ledger};
 
 /// No total passes this.
 const GREATEST_TOTAL: u64 = 1 << 63;
@@ -41,17 +42,19 @@ impl<U: Ledger, E: Ledger, O: Ledger> Model for EventBook<U, E, O> {
 
 impl<U: Ledger, E: Ledger, O: Ledger> EventBook<U, E, O> {
     /// An empty book over these ledgers, and its whole share, of 65 parts.
-    pub fn new(
-        updates: Blank,
-        events: Blank,
-        orders: Blank,
-    ) -> (EventBook<U, E, O>, Shares<U, E, O>)
-        requires names { (updates.name ≡ U.name) × (events.name ≡ E.name) × (orders.name ≡ O.name) }
-        requires parts { (updates.parts ≡ U.parts) × (events.parts ≡ E.parts) × (orders.parts ≡ O.parts) }
-        requires level { (U.parts ≡ most_parts) × (E.parts ≡ most_parts) × (O.parts ≡ most_parts) }
+    pub fn new(blanks: Blanks) -> (EventBook<U, E, O>, Shares<U, E, O>)
+        requires names { (blanks.updates.name ≡ U.name) × (blanks.events.name ≡ E.name)
+            × (blanks.orders.name ≡ O.name) }
+        requires parts { (blanks.updates.parts ≡ U.parts) × (blanks.events.parts ≡ E.parts)
+            × (blanks.orders.parts ≡ O.parts) }
         ensures book { result.0 ≡ nothing }
         ensures whole { result.1 ≡ part most_parts nothing }
     {
+        let Blanks {
+            updates,
+            events,
+            orders,
+        } = blanks;
         let (update_book, update_share) = updates.open::<U>();
         let (event_book, event_share) = events.open::<E>();
         let (order_book, order_share) = orders.open::<O>();

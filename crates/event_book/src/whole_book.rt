@@ -4,11 +4,12 @@ ghost use Rattle.std.specs.Prelude.{◌≡◌};
 ghost use Rattle.event_book.specs.Totals.{plus, nothing};
 ghost use Rattle.event_book.specs.Shares.{most_parts, part, one_update, AreWithin};
 
+use crate::blanks::Blanks;
 use crate::book::EventBook;
 use crate::shares::Shares;
 use crate::totals::{Entry, Totals};
 use std::marker::Model;
-use std::sync::ledger::{Blank, Ledger};
+use std::sync::ledger::Ledger;
 
 /// A book in the hands of one: beside it is its whole share, so what was entered is what it holds.
 /// Contracts see its totals.
@@ -33,13 +34,14 @@ impl<U: Ledger, E: Ledger, O: Ledger> Model for WholeBook<U, E, O> {
 
 impl<U: Ledger, E: Ledger, O: Ledger> WholeBook<U, E, O> {
     /// An empty book over these ledgers.
-    pub fn new(updates: Blank, events: Blank, orders: Blank) -> WholeBook<U, E, O>
-        requires names { (updates.name ≡ U.name) × (events.name ≡ E.name) × (orders.name ≡ O.name) }
-        requires parts { (updates.parts ≡ U.parts) × (events.parts ≡ E.parts) × (orders.parts ≡ O.parts) }
-        requires level { (U.parts ≡ most_parts) × (E.parts ≡ most_parts) × (O.parts ≡ most_parts) }
+    pub fn new(blanks: Blanks) -> WholeBook<U, E, O>
+        requires names { (blanks.updates.name ≡ U.name) × (blanks.events.name ≡ E.name)
+            × (blanks.orders.name ≡ O.name) }
+        requires parts { (blanks.updates.parts ≡ U.parts) × (blanks.events.parts ≡ E.parts)
+            × (blanks.orders.parts ≡ O.parts) }
         ensures { result ≡ nothing }
     {
-        let (book, share) = EventBook::new(updates, events, orders);
+        let (book, share) = EventBook::new(blanks);
         WholeBook { book, share }
     }
 

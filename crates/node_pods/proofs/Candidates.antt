@@ -1,9 +1,9 @@
 -- The candidates that are held, and their victim.
-use Rattle.std.proofs.Common.{◌≡◌, ◌∙◌, inl, inr, ℕ, ◌+◌, ◌<◌, Bool, List, length, Option}
+use Rattle.std.proofs.Common.{◌≡◌, ◌∙◌, inl, inr, ℕ, ◌+◌, ◌<◌, Bool, List, length, get_or, Option}
 use Rattle.std.proofs.Common.{Some, None, refl, ap, sym, subst, arith}
 use Rattle.std.specs.Prelude.{IsSome, slice_get}
 use Rattle.std.proofs.lemmas.Bool.{cases_eq, cases_lt}
-use Rattle.std.proofs.lemmas.Option.{slice_get_within}
+use Rattle.std.proofs.lemmas.Option.{slice_get_read, slice_get_within}
 use Rattle.histories.specs.Histories.{last_moment}
 use Rattle.histories.proofs.Lists.{some_given}
 use Rattle.signals.specs.declared.signal.Signal.{Signal}
@@ -24,6 +24,12 @@ use Rattle.node_pods.proofs.Statuses.{alike, rank_alike, evicted_ended}
 pub same_piece : (pieces : List Piece) (n : ℕ) (one other : Piece) → slice_get pieces n ≡ Some one
     → slice_get pieces n ≡ Some other → one ≡ other
 same_piece pieces n one other e f = let both : Some one ≡ Some other = sym e ∙ f in cc
+
+-- what is read at the place of a piece
+pub read_at : (pieces : List Piece) (n : ℕ) (one read : Piece) → slice_get pieces n ≡ Some one
+    → read ≡ get_or pieces n read → slice_get pieces n ≡ Some read
+read_at pieces n one read at is =
+    slice_get_read pieces (length pieces) n read refl (slice_get_within pieces n one at) is
 
 pub status_at : (pieces : List Piece) (moment n : ℕ) (piece : Piece) (p : PodStatus)
     → slice_get pieces n ≡ Some piece → (c : IsCandidate pieces moment n p) → IsStatusOf piece p

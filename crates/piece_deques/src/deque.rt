@@ -28,7 +28,7 @@ pub fn number_of(piece: &PodPiece) -> usize
     piece.status().number
 }
 
-/// An empty deque, first in first out, with room for so many pieces.
+/// An empty deque, first in first out, with room for this many pieces.
 pub fn open<D: Deal>(alloc: Global, room: usize) -> Result<Owner<D>, AllocError>
     ensures owner { IfOk result IsOwner }
     ensures room { IfOk result (λ owner. room ≤ worker_capacity owner) }

@@ -285,18 +285,16 @@ plays_hand r stands w (Updated n) holds table same =
 plays_hand r stands w (Taken n) holds table updates = plays_update r stands w n holds table updates
 
 -- a hand that was read in place
-pub hand_read : (r : RoundState) (w : ℕ) (read : WorkerState) → w < length r.pool.workers
-    → read ≡ get_or r.pool.workers w read → (worker_at r.pool w).hand ≡ read.hand
-hand_read r w read within stands =
-    ap (λ (worker : WorkerState). worker.hand)
-    (sym (stands ∙ get_or_default r.pool.workers w read idle within))
+pub hand_read : (workers : List WorkerState) (w : ℕ) (read : WorkerState) → w < length workers
+    → read ≡ get_or workers w read → (get_or workers w idle).hand ≡ read.hand
+hand_read workers w read within stands =
+    ap (λ (worker : WorkerState). worker.hand) (sym (stands ∙ get_or_default workers w read idle within))
 
--- so many pieces wait in a deque that was read in place
-pub waiting_read : (r : RoundState) (w : ℕ) (read : WorkerState) → w < length r.pool.workers
-    → read ≡ get_or r.pool.workers w read → length read.deque ≡ length (worker_at r.pool w).deque
-waiting_read r w read within stands =
-    ap (λ (worker : WorkerState). length worker.deque)
-    (stands ∙ get_or_default r.pool.workers w read idle within)
+-- this many pieces wait in a deque that was read in place
+pub waiting_read : (workers : List WorkerState) (w : ℕ) (read : WorkerState) → w < length workers
+    → read ≡ get_or workers w read → length read.deque ≡ length (get_or workers w idle).deque
+waiting_read workers w read within stands =
+    ap (λ (worker : WorkerState). length worker.deque) (stands ∙ get_or_default workers w read idle within)
 
 pub plays_after : (r : RoundState) (s named : Step) → s ≡ named → Stands r → updated_by r.pool named ≡ []
     → (after : RoundState) → after ≡ with_pool r (step r.table.entries r.pool named) → Plays r (s ∷ []) after

@@ -38,7 +38,7 @@ module _ {D U E O : Type 0} {g : _} where
   abbrev pub finished_kept : (ℕ → ℕ) → FinishedWorker D U E O g → ℕ
   finished_kept weight ended = kept weight ended.worker_result
 
-  -- so many seats are away, all updates were made, and there is room for so many pieces
+  -- this many seats are away, all updates were made, and there is room for this many pieces
   pub record IsAway (away room : ℕ) (ended : FinishedWorker D U E O g) : Type 0 where
     pub parts : finished_parts ended + away ≡ all_parts
     pub none : ended.worker_result.refused ≡ None

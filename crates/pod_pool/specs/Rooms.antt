@@ -2,7 +2,7 @@
 use Rattle.std.specs.Prelude.{◌≡◌, ℕ, ◌≤◌, [], vec_capacity}
 use Rattle.pod_pool.specs.declared.gathered.ResultBuffers.{ResultBuffers}
 
--- it is empty, and enough for so many workers
+-- it is empty, and enough for this many workers
 pub record HasRoom {D U E O : Type 0} {g : _} (workers : ℕ) (room : ResultBuffers D U E O g) : Type 0 where
   pub none : room.finished.items ≡ []
   pub empty : room.rows.items ≡ []

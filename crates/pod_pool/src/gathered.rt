@@ -32,7 +32,7 @@ pub struct ResultBuffers<D: Deal, U: Ledger, E: Ledger, O: Ledger> {
 }
 
 impl<D: Deal, U: Ledger, E: Ledger, O: Ledger> ResultBuffers<D, U, E, O> {
-    /// Buffers for the contexts of so many workers.
+    /// Buffers for the contexts of this many workers.
     pub fn new(alloc: Global, workers: usize) -> Result<ResultBuffers<D, U, E, O>, AllocError>
         ensures { IfOk result (HasRoom workers) }
     {

@@ -1,6 +1,6 @@
 //! The pool.
 
-ghost use Rattle.std.specs.Prelude.{◌≡◌, ◌<◌, ◌≤◌, List, All, IfOk, IfErr, IsTrue, length, map};
+ghost use Rattle.std.specs.Prelude.{◌≡◌, ◌<◌, ◌≤◌, List, All, IfOk, IfErr, IsTrue, length, map, min, max};
 ghost use Rattle.observations.specs.Limits.{most_pods};
 ghost use Rattle.pod_piece.specs.Piece.{updated};
 ghost use Rattle.event_book.specs.declared.totals.Entry.{Entry};
@@ -23,17 +23,14 @@ use std::sync::ledger::Ledger;
 use std::sync::{Mutex, Wait};
 use std::thread::Threads;
 
-/// So many workers have something to do: no more than pieces, and one at least.
+/// This many workers have something to do: no more than pieces, and one at least.
 fn busy(workers: usize, pieces: usize) -> usize
     requires { 0 < workers }
+    ensures is { result ≡ min workers (max pieces 1) }
     ensures some { 0 < result }
     ensures most { result ≤ workers }
 {
-    if workers <= pieces {
-        workers
-    } else {
-        pieces.max(1)
-    }
+    workers.min(pieces.max(1))
 }
 
 fn pool<
@@ -81,7 +78,7 @@ fn pool<
     }
 }
 
-/// Updates each pending piece of a round once, and enters it in the book with the whole share of the book: so many
+/// Updates each pending piece of a round once, and enters it in the book with the whole share of the book: this many
 /// workers, 1 to 64, do it in threads of their own, no more than there are pieces, and take what is left in the deques
 /// of others once their own are empty. It gives the pieces in the order of their numbers, whatever the threads do, and
 /// the share. An `Err` says that memory was refused.

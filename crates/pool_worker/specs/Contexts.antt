@@ -29,7 +29,7 @@ tag_of owner handles share = tag (owner_place owner) (worker_view owner).parts (
 abbrev pub context_tag : {D U E O : Type 0} {g : _} → WorkerContext D U E O g → Tag
 context_tag context = tag_of context.owner context.handles.items context.worker_result.share.parts
 
--- so many seats of the deque are away, and the context has a seat of each of these deques and a part of the share
+-- this many seats of the deque are away, and the context has a seat of each of these deques and a part of the share
 pub record IsLaid (away : ℕ) (places : List Place) (t : Tag) : Type 0 where
   pub parts : t.parts + away ≡ all_parts
   pub seats : t.seats ≡ places

@@ -20,7 +20,7 @@ deal lists (n ∷ ns) = deal (give lists n) ns
 abbrev pub pushed_of : {T A P : Type 0} → Worker T A Tally P → List ℕ
 pushed_of owner = (worker_view owner).pushed
 
--- what so many empty deques are dealt of these pieces
+-- what this many empty deques are dealt of these pieces
 abbrev pub dealt_to : ℕ → List Piece → List (List ℕ)
 dealt_to workers pieces = deal (replicate workers []) (map number_of pieces)
 

@@ -13,7 +13,7 @@ use Rattle.pool_worker.specs.declared.slot.WorkerSlot.{WorkerSlot}
 use Rattle.pool_worker.specs.declared.slot.DealtSlot.{DealtSlot}
 use Rattle.pool_worker.specs.declared.slot.RoundBuffers.{RoundBuffers}
 
--- an owner of whose deque so many seats are away, and which has taken nothing
+-- an owner of whose deque this many seats are away, and which has taken nothing
 pub record IsHost {T P : Type 0} (away : ℕ) (owner : Worker T Global Tally P) : Type 0 where
   pub is_owner : IsOwner owner
   pub parts : (worker_view owner).parts + away ≡ all_parts
@@ -23,17 +23,17 @@ pub record IsHost {T P : Type 0} (away : ℕ) (owner : Worker T Global Tally P) 
 abbrev pub IsRich : {T P : Type 0} → Worker T Global Tally P → Type 0
 IsRich owner = 1 < (worker_view owner).parts
 
--- the thieves' ends are of these deques, in their order, and the slot has room for so many pieces
+-- the thieves' ends are of these deques, in their order, and the slot has room for this many pieces
 pub record IsSlot {D : Type 0} (room : ℕ) (deques : List (RowsId × Global)) (slot : WorkerSlot D) : Type 0 where
   pub thieves : map stealer_deque slot.thieves.items ≡ deques
   pub room_is : room ≤ vec_capacity slot.done
 
--- the seats are at these places, in their order, and the slot has room for so many pieces
+-- the seats are at these places, in their order, and the slot has room for this many pieces
 pub record IsDealtSlot {D : Type 0} (room : ℕ) (places : List Place) (dealt_slot : DealtSlot D) : Type 0 where
   pub seats : map seat_place dealt_slot.handles.items ≡ places
   pub room_is : room ≤ vec_capacity dealt_slot.done
 
--- the deques are empty, and all has room for so many pieces
+-- the deques are empty, and all has room for this many pieces
 pub record AreBuffers {D U E O : Type 0} {g : _} (pieces : ℕ) (buffers : RoundBuffers D U E O g) : Type 0 where
   pub opened : All (IsOpen pieces 0) buffers.owners.items
   pub none : (weight : ℕ → ℕ) → sum_by (pushed_weight weight) buffers.owners.items ≡ 0

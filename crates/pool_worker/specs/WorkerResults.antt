@@ -1,5 +1,5 @@
 -- What a worker keeps.
-use Rattle.std.specs.Prelude.{ℕ, ◌+◌}
+use Rattle.std.specs.Prelude.{ℕ, ◌+◌, ◌<◌, ◌≤◌, vec_len, vec_capacity}
 use Rattle.std.specs.Option.{option_to_list}
 use Rattle.pool_worker.specs.declared.worker_result.WorkerResult.{WorkerResult}
 use Rattle.pool_worker.specs.Done.{weigh}
@@ -9,3 +9,15 @@ abbrev pub kept : {D U E O : Type 0} {g : _} → (ℕ → ℕ) → WorkerResult 
 kept weight worker_result =
     weigh weight worker_result.done.items + weigh weight worker_result.uncounted.items + weigh weight
     (option_to_list worker_result.refused)
+
+-- its vectors take one piece more, each of them
+abbrev pub HasRoomForOne : {D U E O : Type 0} {g : _} → WorkerResult D U E O g → Type 0
+HasRoomForOne worker_result =
+    (vec_len worker_result.done < vec_capacity worker_result.done)
+    × (vec_len worker_result.uncounted < vec_capacity worker_result.uncounted)
+
+-- and all that another one has
+abbrev pub HasRoomFor : {D U E O : Type 0} {g : _} → WorkerResult D U E O g → WorkerResult D U E O g → Type 0
+HasRoomFor other worker_result =
+    (vec_len worker_result.done + vec_len other.done ≤ vec_capacity worker_result.done)
+    × (vec_len worker_result.uncounted + vec_len other.uncounted ≤ vec_capacity worker_result.uncounted)

@@ -109,7 +109,7 @@ fn assemble<D: Deal, U: Ledger, E: Ledger, O: Ledger>(
     })
 }
 
-/// The deques and the room for a round of so many pieces and workers. Each worker has room for all pieces, once each.
+/// The deques and the room for a round of this many pieces and workers. Each worker has room for all pieces, once each.
 pub fn make_buffers<D: Deal, U: Ledger, E: Ledger, O: Ledger>(
     alloc: Global,
     pieces: usize,

@@ -1,12 +1,12 @@
 //! How a worker updates and enters a piece, and how what two workers keep comes together.
 
-ghost use Rattle.std.specs.Prelude.{◌≡◌, ◌<◌, ◌≤◌, ◌+◌, [], ℕ, true, None, Some, vec_len, vec_capacity};
+ghost use Rattle.std.specs.Prelude.{◌≡◌, ◌<◌, ◌≤◌, ◌+◌, [], ℕ, true, None, Some, vec_capacity};
 ghost use Rattle.std.specs.Prelude.{IfOk, IfErr, OnOk, OnErr, is_ok, if◌then◌else◌};
 ghost use Rattle.event_book.specs.Totals.{nothing, plus};
 ghost use Rattle.event_book.specs.Shares.{part, one_update};
 ghost use Rattle.piece_deques.specs.Rule.{IsPieceDue};
 ghost use Rattle.pool_worker.specs.Done.{IsDone};
-ghost use Rattle.pool_worker.specs.WorkerResults.{kept};
+ghost use Rattle.pool_worker.specs.WorkerResults.{kept, HasRoomForOne, HasRoomFor};
 
 use crate::gate::{Gate, update};
 use crate::worker_result::WorkerResult;
@@ -68,8 +68,7 @@ impl<D: Deal, U: Ledger, E: Ledger, O: Ledger> WorkerResult<D, U, E, O> {
         requires ok { OnOk updated (IsDone D.all piece) }
         requires err { OnErr updated (IsPieceDue D.all piece) }
         requires none { self.old.refused ≡ None }
-        requires room { vec_len self.old.done < vec_capacity self.old.done }
-        requires room_uncounted { vec_len self.old.uncounted < vec_capacity self.old.uncounted }
+        requires room { HasRoomForOne self.old }
         ensures kept { (weight : ℕ → ℕ) → kept weight self.new ≡ kept weight self.old + weight piece.number }
         ensures room { vec_capacity self.new.done ≡ vec_capacity self.old.done }
         ensures room_uncounted { vec_capacity self.new.uncounted ≡ vec_capacity self.old.uncounted }
@@ -104,8 +103,7 @@ impl<D: Deal, U: Ledger, E: Ledger, O: Ledger> WorkerResult<D, U, E, O> {
     ) -> bool
         requires due { IsPieceDue D.all piece }
         requires none { self.old.refused ≡ None }
-        requires room { vec_len self.old.done < vec_capacity self.old.done }
-        requires room_uncounted { vec_len self.old.uncounted < vec_capacity self.old.uncounted }
+        requires room { HasRoomForOne self.old }
         ensures kept { (weight : ℕ → ℕ) → kept weight self.new ≡ kept weight self.old + weight piece.number }
         ensures room { vec_capacity self.new.done ≡ vec_capacity self.old.done }
         ensures room_uncounted { vec_capacity self.new.uncounted ≡ vec_capacity self.old.uncounted }
@@ -147,9 +145,7 @@ impl<D: Deal, U: Ledger, E: Ledger, O: Ledger> WorkerResult<D, U, E, O> {
     pub fn merge(&mut self, other: WorkerResult<D, U, E, O>)
         requires none { self.old.refused ≡ None }
         requires other { other.refused ≡ None }
-        requires room { vec_len self.old.done + vec_len other.done ≤ vec_capacity self.old.done }
-        requires room_uncounted { vec_len self.old.uncounted + vec_len other.uncounted
-            ≤ vec_capacity self.old.uncounted }
+        requires room { HasRoomFor other self.old }
         ensures kept { (weight : ℕ → ℕ) → kept weight self.new ≡ kept weight self.old + kept weight other }
         ensures room { vec_capacity self.old.done ≤ vec_capacity self.new.done }
         ensures room_uncounted { vec_capacity self.old.uncounted ≤ vec_capacity self.new.uncounted }

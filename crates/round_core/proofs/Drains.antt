@@ -41,26 +41,24 @@ after_enter round worker = finishing round worker worker.hand
 
 module _ (round : List Entry) (done rest : List WorkerState) where
   -- a step of one worker changes that worker alone
+  step_stands : (after : WorkerState → WorkerState) (pool : PoolState) (worker : WorkerState)
+      → Stands pool done worker rest
+      → set pool.workers (length done) (after (worker_at pool (length done))) ≡ done ++ after worker ∷ rest
+  step_stands after pool worker stands =
+      ap (λ (now : WorkerState). set pool.workers (length done) (after now)) (stands_at pool done worker rest stands)
+      ∙ set_stands pool done worker (after worker) rest stands
+
   pop_stands : (pool : PoolState) (worker : WorkerState) → Stands pool done worker rest
       → Stands (step round pool (Pop (length done))) done (after_pop worker) rest
-  pop_stands pool worker stands =
-      let at = stands_at pool done worker rest stands in
-      ap (λ (now : WorkerState). set pool.workers (length done) (after_pop now)) at
-      ∙ set_stands pool done worker (after_pop worker) rest stands
+  pop_stands = step_stands after_pop
 
   update_stands : (pool : PoolState) (worker : WorkerState) → Stands pool done worker rest
       → Stands (step round pool (Update (length done))) done (after_update worker) rest
-  update_stands pool worker stands =
-      let at = stands_at pool done worker rest stands in
-      ap (λ (now : WorkerState). set pool.workers (length done) (after_update now)) at
-      ∙ set_stands pool done worker (after_update worker) rest stands
+  update_stands = step_stands after_update
 
   enter_stands : (pool : PoolState) (worker : WorkerState) → Stands pool done worker rest
       → Stands (step round pool (Enter (length done))) done (after_enter round worker) rest
-  enter_stands pool worker stands =
-      let at = stands_at pool done worker rest stands in
-      ap (λ (now : WorkerState). set pool.workers (length done) (after_enter round now)) at
-      ∙ set_stands pool done worker (after_enter round worker) rest stands
+  enter_stands = step_stands (after_enter round)
 
   -- an update and an entry empty the hand, whatever is in it
   hand_finished : (worker : WorkerState) (hand : Hand) → worker.hand ≡ hand

@@ -53,27 +53,13 @@ merge-requires-clause-room g c =
     let all = ones g.D.Deal.all in
     let k = ones l.total.done.items in
     let p = ones t.done.items in
-    let each = l.invariant.each (λ _. 1) in
-    let theirs = c.in-Ok-finish.ensures.each (λ _. 1) in
-    omega (arith, l.invariant.room, l.total.done.ok.0, t.done.ok.0)
-
-pub merge-requires-clause-room_uncounted : goal.merge-requires-clause-room_uncounted
-merge-requires-clause-room_uncounted g c =
-    let l = c.joined in
-    let left = c.pop-in-joined.new.self in
-    let ended = c.in-Some-pop.ended in
-    let pop = c.in-Some-pop.ensures.items in
-    let t = c.in-Ok-finish.theirs in
-    let a = sum_grown (finished_kept (λ _. 1)) left.items l.left.items ended pop in
-    let b = sum_grown (finished_pushed (λ _. 1)) left.items l.left.items ended pop in
-    let d = sum_grown (finished_taken (λ _. 1)) left.items l.left.items ended pop in
-    let few = few_taken left.items in
-    let all = ones g.D.Deal.all in
     let m = ones l.total.uncounted.items in
     let q = ones t.uncounted.items in
     let each = l.invariant.each (λ _. 1) in
-    let theirs = c.in-Ok-finish.ensures.each (λ _. 1) in
-    omega (arith, l.invariant.room_uncounted, l.total.uncounted.ok.0, t.uncounted.ok.0)
+    let theirs = c.in-Ok-finish.ensures.each (λ _. 1) in (
+      omega (arith, l.invariant.room, l.total.done.ok.0, t.done.ok.0),
+      omega (arith, l.invariant.room_uncounted, l.total.uncounted.ok.0, t.uncounted.ok.0),
+    )
 
 pub joined-preserved : goal.joined-preserved
 joined-preserved g c =

@@ -6,12 +6,7 @@ use Rattle.played_round.proofs.round.Round.enter.Goals as goal
 
 pub entry-entry-requires : goal.entry-entry-requires
 entry-entry-requires g c =
-    let seen : RoundState =
-    record {
-      table = c.self.inside.table;
-      pool = record { workers = c.self.inside.workers.items; book = c.self.inside.book };
-    } in
     let can = subst (λ (round : RoundState). CanEnter round c.args.w) (sym c.self.view_is) c.requires in
     let within : c.args.w < length c.self.inside.workers.items = omega arith in
-    let holds = hand_read seen c.args.w c.index.result.now within c.index.ensures ∙ sym c.in-Updated.ensures in
-    (can c.in-Updated.number holds).has_entry
+    let read = hand_read c.self.inside.workers.items c.args.w c.index.result.now within c.index.ensures in
+    (can c.in-Updated.number (read ∙ sym c.in-Updated.ensures)).has_entry

@@ -17,14 +17,9 @@ loop-turn-init g c =
 
 pub loop-turn-preserved : goal.loop-turn-preserved
 loop-turn-preserved g c =
-    let seen : RoundState =
-    record {
-      table = c.self.inside.table;
-      pool = record { workers = c.self.inside.workers.items; book = c.self.inside.book };
-    } in
     let there = ap (λ (round : RoundState). length round.pool.workers) c.self.view_is in
     let in_range : c.args.w < length c.self.inside.workers.items = omega (arith, c.requires.in_range) in
-    let read = waiting_read seen c.args.w c.index.result.now in_range c.index.ensures in
+    let read = waiting_read c.self.inside.workers.items c.args.w c.index.result.now in_range c.index.ensures in
     let same = ap (λ (round : RoundState). length (worker_at round.pool c.args.w).deque) c.self.view_is in
     let deque = (worker_at c.args.self.now.pool c.args.w).deque in
     let within : c.loop-turn._turn < length deque = omega arith in

@@ -6,11 +6,7 @@ use Rattle.played_round.proofs.round.Round.update.Goals as goal
 
 pub update-requires : goal.update-requires
 update-requires g c =
-    let seen : RoundState =
-    record {
-      table = c.self.inside.table;
-      pool = record { workers = c.self.inside.workers.items; book = c.self.inside.book };
-    } in
     let can = subst (λ (round : RoundState). CanUpdate round c.args.w) (sym c.self.view_is) c.requires in
     let within : c.args.w < length c.self.inside.workers.items = omega arith in
-    can c.in-Taken.number (hand_read seen c.args.w c.index.result.now within c.index.ensures ∙ sym c.in-Taken.ensures)
+    let read = hand_read c.self.inside.workers.items c.args.w c.index.result.now within c.index.ensures in
+    can c.in-Taken.number (read ∙ sym c.in-Taken.ensures)

@@ -16,22 +16,10 @@ finish-requires-clause-room g c κs within =
     let n = length-append old.taken (c.in-Some-pop.piece.number ∷ []) in
     let r = room_left old.taken old.pushed b.worker_result.done.items b.worker_result.uncounted.items
     b.worker_result.refused
-    (vec_capacity b.worker_result.done) b.room (omega arith) in
-    omega (arith, b.worker_result.done.ok.0, r.0)
-
-pub finish-requires-clause-room_uncounted : goal.finish-requires-clause-room_uncounted
-finish-requires-clause-room_uncounted g c κs within =
-    let b = c.loop.self in
-    let old = worker_view b.owner in
-    let took = c.in-Some-pop.ensures.took in
-    let grown = ap (λ v. length v.taken) took.grown in
-    let same = ap (λ v. length v.pushed) took.grown in
-    let few = took.few in
-    let n = length-append old.taken (c.in-Some-pop.piece.number ∷ []) in
-    let r = room_left old.taken old.pushed b.worker_result.done.items b.worker_result.uncounted.items
-    b.worker_result.refused
-    (vec_capacity b.worker_result.done) b.room (omega arith) in
-    omega (arith, b.worker_result.uncounted.ok.0, b.room_uncounted, r.1)
+    (vec_capacity b.worker_result.done) b.room (omega arith) in (
+      omega (arith, b.worker_result.done.ok.0, r.0),
+      omega (arith, b.worker_result.uncounted.ok.0, b.room_uncounted, r.1),
+    )
 
 pub invariant_of-self-in-loop-clause-owns : goal.invariant_of-self-in-loop-clause-owns
 invariant_of-self-in-loop-clause-owns g c =

@@ -18,23 +18,10 @@ finish-requires-clause-room g c κs within =
     let most = no_more_of_others (owner_place b.owner) b.own b.handles.items b.unused in
     let r = room old.taken b.handles.items b.worker_result.done.items b.worker_result.uncounted.items
     b.worker_result.refused
-    (vec_capacity b.worker_result.done) (b.matched (λ _. 1)) (let all = b.room in omega arith) in
-    omega (arith, b.worker_result.done.ok.0, r.0)
-
-pub finish-requires-clause-room_uncounted : goal.finish-requires-clause-room_uncounted
-finish-requires-clause-room_uncounted g c κs within =
-    let b = c.args.self.now in
-    let old = worker_view b.owner in
-    let took = c.in-Some.ensures.took in
-    let grown = ap (λ v. length v.taken) took.grown in
-    let same = ap (λ v. length v.pushed) took.grown in
-    let few = took.few in
-    let n = length-append old.taken (c.in-Some.piece.number ∷ []) in
-    let most = no_more_of_others (owner_place b.owner) b.own b.handles.items b.unused in
-    let r = room old.taken b.handles.items b.worker_result.done.items b.worker_result.uncounted.items
-    b.worker_result.refused
-    (vec_capacity b.worker_result.done) (b.matched (λ _. 1)) (let all = b.room in omega arith) in
-    omega (arith, b.worker_result.uncounted.ok.0, b.room_uncounted, r.1)
+    (vec_capacity b.worker_result.done) (b.matched (λ _. 1)) (let all = b.room in omega arith) in (
+      omega (arith, b.worker_result.done.ok.0, r.0),
+      omega (arith, b.worker_result.uncounted.ok.0, b.room_uncounted, r.1),
+    )
 
 pub invariant_of-self-2-clause-owns : goal.invariant_of-self-2-clause-owns
 invariant_of-self-2-clause-owns g c =

@@ -19,20 +19,10 @@ finish-requires-clause-room g c κs within =
     c.take.ensures.deque b.unused c.in-Some.ensures.taken in
     let r = room old.taken b.handles.items b.worker_result.done.items b.worker_result.uncounted.items
     b.worker_result.refused
-    (vec_capacity b.worker_result.done) (b.matched (λ _. 1)) (omega (arith, b.few, b.room)) in
-    omega (arith, b.worker_result.done.ok.0, r.0)
-
-pub finish-requires-clause-room_uncounted : goal.finish-requires-clause-room_uncounted
-finish-requires-clause-room_uncounted g c κs within =
-    let b = c.args.self.now in
-    let old = worker_view b.owner in
-    let few = fewer b.handles.items c.args.from c.index_mut.result.now c.take.new.self (omega (arith, b.handles.ok.0))
-    c.index_mut.ensures.value c.take.ensures.pushed _ (owner_place b.owner) b.own c.requires.other
-    c.take.ensures.deque b.unused c.in-Some.ensures.taken in
-    let r = room old.taken b.handles.items b.worker_result.done.items b.worker_result.uncounted.items
-    b.worker_result.refused
-    (vec_capacity b.worker_result.done) (b.matched (λ _. 1)) (omega (arith, b.few, b.room)) in
-    omega (arith, b.worker_result.uncounted.ok.0, b.room_uncounted, r.1)
+    (vec_capacity b.worker_result.done) (b.matched (λ _. 1)) (omega (arith, b.few, b.room)) in (
+      omega (arith, b.worker_result.done.ok.0, r.0),
+      omega (arith, b.worker_result.uncounted.ok.0, b.room_uncounted, r.1),
+    )
 
 pub returns-then-finish-clause-same : goal.returns-then-finish-clause-same
 returns-then-finish-clause-same g c =
