@@ -242,7 +242,7 @@ none_left None old new Q [] ends long is = refl
 none_left None old new Q (x ∷ xs) ends long is = absurd (omega (arith, long, ends.1))
 none_left (Some x) old new Q rest ends long is = absurd (let w : Some x ≡ None = is in cc)
 
--- the first so many of these pods have arrived
+-- the first this many of these pods have arrived
 pub record AreArriving (all : List PodSpec) (i : ℕ) (old new : Option State) (left : List PodSpec) : Type 0 where
   pub arrived : (config : NodeConfig) (pods : List PodSpec) (ticks : List TickObs) → IsAfter config pods ticks old
       → IsAfter config (pods ++ take i all) ticks new

@@ -53,7 +53,7 @@ abbrev pub IsTooLong : Option (List ℕ) → Type 0
 IsTooLong None = Unit {0}
 IsTooLong (Some bytes) = longest_input < length bytes
 
--- the line of a trace with so many pods and ticks
+-- the line of a trace with this many pods and ticks
 abbrev pub check_line : ℕ → ℕ → List ℕ
 check_line pods ticks =
     joined (codes "ok pods=" ∷ decimal pods ∷ codes " ticks=" ∷ decimal ticks ∷ codes "\n" ∷ [])

@@ -1,5 +1,6 @@
 -- Which ticks a node with these pods can take one after the other.
-use Rattle.std.specs.Prelude.{◌≡◌, ℕ, ◌+◌, ◌<◌, ◌≤◌, ◌^◌, List, [], length, take, slice_get, Option, Some}
+use Rattle.std.specs.Prelude.{◌≡◌, ℕ, ◌+◌, ◌<◌, ◌≤◌, List, [], length, take, slice_get, Option, Some}
+use Rattle.quantity.specs.Duration.{end_of_time}
 use Rattle.histories.specs.Histories.{EndsBefore}
 use Rattle.manifest.specs.declared.pod.PodSpec.{PodSpec}
 use Rattle.node_config.specs.declared.node.NodeConfig.{NodeConfig}
@@ -27,7 +28,7 @@ pub record AreReplayable (pods : List PodSpec) (ticks : List TickObs) : Type 0 w
   pub rising : (t u : ℕ) (earlier later : TickObs) → t < u → slice_get ticks t ≡ Some earlier
       → slice_get ticks u ≡ Some later
       → earlier.at < later.at
-  pub below : (t : ℕ) (tick : TickObs) → slice_get ticks t ≡ Some tick → tick.at < 2 ^ 40
+  pub below : (t : ℕ) (tick : TickObs) → slice_get ticks t ≡ Some tick → tick.at < end_of_time
   pub growing : (t u : ℕ) (earlier later : TickObs) → t < u → slice_get ticks t ≡ Some earlier
       → slice_get ticks u ≡ Some later
       → length earlier.pods ≤ length later.pods
@@ -35,7 +36,7 @@ pub record AreReplayable (pods : List PodSpec) (ticks : List TickObs) : Type 0 w
   pub few_pods : length pods ≤ most_pods
   pub within : (t : ℕ) (tick : TickObs) → slice_get ticks t ≡ Some tick → length tick.pods ≤ length pods
 
--- a node of some configuration that has taken some ticks, on which so many more pods may arrive
+-- a node of some configuration that has taken some ticks, on which this many more pods may arrive
 pub record MayArrive (count : ℕ) (node : Option State) : Type 0 where
   pub config : NodeConfig
   pub arrived : List PodSpec

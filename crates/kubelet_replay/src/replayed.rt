@@ -17,7 +17,7 @@ use std::thread::Threads;
 use std::vec::IntoIter;
 use tick_round::{Gate, Node, Step, TickFault};
 
-/// The next pods arrive, so many of them.
+/// The next pods arrive, this many of them.
 fn arrive<U: Ledger, E: Ledger, O: Ledger>(
     node: &mut Node<U, E, O>,
     arriving: &mut IntoIter<PodSpec>,
@@ -38,7 +38,7 @@ fn arrive<U: Ledger, E: Ledger, O: Ledger>(
     Ok(())
 }
 
-/// A new node takes these ticks one after the other, each as a round on one thread that so many workers play by these
+/// A new node takes these ticks one after the other, each as a round on one thread that this many workers play by these
 /// steps. Each of these pods arrives before the first tick that shows it, those that no tick shows at the end.
 pub(crate) fn take_by_steps<U: Ledger, E: Ledger, O: Ledger>(
     node: &mut Node<U, E, O>,
@@ -67,7 +67,7 @@ pub(crate) fn take_by_steps<U: Ledger, E: Ledger, O: Ledger>(
     Ok(())
 }
 
-/// The same, where so many workers update the pods of each tick in threads of their own.
+/// The same, where this many workers update the pods of each tick in threads of their own.
 pub(crate) fn take_by_workers<
     U: Ledger + Send,
     E: Ledger + Send,

@@ -5,47 +5,21 @@ ghost use Rattle.manifest.specs.declared.pod.PodSpec.{PodSpec};
 ghost use Rattle.node_config.specs.declared.node.NodeConfig.{NodeConfig};
 ghost use Rattle.observations.specs.declared.tick.TickObs.{TickObs};
 ghost use Rattle.trace.specs.Sound.{AreAcceptable, HasShape};
-ghost use Rattle.event_book.specs.Shares.{most_parts};
 ghost use Rattle.event_book.specs.Limits.{most_workers};
 ghost use Rattle.tick_round.specs.Node.{IsAfter};
 ghost use Rattle.node_report.specs.Report.{IsReport};
 ghost use Rattle.kubelet_replay.specs.Report.{IsReportOf};
 
 use crate::replayed::{take_by_steps, take_by_workers};
-use event_book::WholeBook;
+use event_book::{Blanks, WholeBook};
 use node_report::report_text;
 use std::alloc::{AllocError, Global};
 use std::marker::Brand;
 use std::sync::Wait;
-use std::sync::ledger::{Blank, Ledger};
+use std::sync::ledger::Ledger;
 use std::thread::Threads;
 use tick_round::{Gate, Node, Step, TickFault};
 use trace::Trace;
-
-/// Into so many parts the shares of a book can be cut: one for each of 64 workers, and one that stays.
-const PARTS: u64 = 65;
-
-/// The ledgers of a book that is still to be opened.
-#[derive(Drop)]
-struct Blanks {
-    updates: Blank,
-    events: Blank,
-    orders: Blank,
-}
-
-impl Blanks {
-    /// Ledgers for a book whose shares can be cut into 65 parts.
-    fn new() -> Blanks
-        ensures parts { (result.updates.parts ≡ most_parts) × (result.events.parts ≡ most_parts)
-            × (result.orders.parts ≡ most_parts) }
-    {
-        Blanks {
-            updates: Blank::new(PARTS),
-            events: Blank::new(PARTS),
-            orders: Blank::new(PARTS),
-        }
-    }
-}
 
 /// The report of a node that is not halted. An `Err` says that memory was refused.
 fn report_of<U: Ledger, E: Ledger, O: Ledger>(
@@ -94,7 +68,6 @@ fn played<U: Ledger, E: Ledger, O: Ledger>(
     requires names { (blanks.updates.name ≡ U.name) × (blanks.events.name ≡ E.name) × (blanks.orders.name ≡ O.name) }
     requires parts { (blanks.updates.parts ≡ U.parts) × (blanks.events.parts ≡ E.parts)
         × (blanks.orders.parts ≡ O.parts) }
-    requires level { (U.parts ≡ most_parts) × (E.parts ≡ most_parts) × (O.parts ≡ most_parts) }
     requires some { 0 < workers }
     requires most { workers ≤ most_workers }
     ensures { IfOk result (λ s. IsReportOf trace (string_bytes s)) }
@@ -105,7 +78,7 @@ fn played<U: Ledger, E: Ledger, O: Ledger>(
         ticks,
         ..
     } = trace;
-    let book = WholeBook::<U, E, O>::new(blanks.updates, blanks.events, blanks.orders);
+    let book = WholeBook::<U, E, O>::new(blanks);
     let (pods, ticks) = (pods.into_vec(), ticks.into_vec());
     let mut node = match Node::new(alloc, node, Vec::new(alloc), book) {
         Ok(node) => node,
@@ -120,7 +93,7 @@ fn played<U: Ledger, E: Ledger, O: Ledger>(
     report
 }
 
-/// The same, where so many workers update the pods of each tick in threads of their own.
+/// The same, where this many workers update the pods of each tick in threads of their own.
 fn shared<U: Ledger + Send, E: Ledger + Send, O: Ledger + Send, R: Threads + Wait + Sync, G: Gate>(
     rt: &R,
     alloc: Global,
@@ -134,7 +107,6 @@ fn shared<U: Ledger + Send, E: Ledger + Send, O: Ledger + Send, R: Threads + Wai
     requires names { (blanks.updates.name ≡ U.name) × (blanks.events.name ≡ E.name) × (blanks.orders.name ≡ O.name) }
     requires parts { (blanks.updates.parts ≡ U.parts) × (blanks.events.parts ≡ E.parts)
         × (blanks.orders.parts ≡ O.parts) }
-    requires level { (U.parts ≡ most_parts) × (E.parts ≡ most_parts) × (O.parts ≡ most_parts) }
     requires some { 0 < workers }
     requires most { workers ≤ most_workers }
     ensures { IfOk result (λ s. IsReportOf trace (string_bytes s)) }
@@ -145,7 +117,7 @@ fn shared<U: Ledger + Send, E: Ledger + Send, O: Ledger + Send, R: Threads + Wai
         ticks,
         ..
     } = trace;
-    let book = WholeBook::<U, E, O>::new(blanks.updates, blanks.events, blanks.orders);
+    let book = WholeBook::<U, E, O>::new(blanks);
     let (pods, ticks) = (pods.into_vec(), ticks.into_vec());
     let mut node = match Node::new(alloc, node, Vec::new(alloc), book) {
         Ok(node) => node,
@@ -160,7 +132,7 @@ fn shared<U: Ledger + Send, E: Ledger + Send, O: Ledger + Send, R: Threads + Wai
     report
 }
 
-/// The report of a trace, each of whose ticks is a round that so many workers play by these steps.
+/// The report of a trace, each of whose ticks is a round that this many workers play by these steps.
 pub fn report_by_steps(
     alloc: Global,
     trace: Trace,
@@ -176,7 +148,7 @@ pub fn report_by_steps(
     played::<Brand, Brand, Brand>(alloc, trace, Blanks::new(), workers, steps)
 }
 
-/// The report of a trace, the pods of each of whose ticks so many workers update in threads of their own.
+/// The report of a trace, the pods of each of whose ticks this many workers update in threads of their own.
 pub fn report_by_workers<R: Threads + Wait + Sync, G: Gate>(
     rt: &R,
     alloc: Global,

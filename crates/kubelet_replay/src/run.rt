@@ -140,7 +140,7 @@ fn write_text<W: Sink>(output: &mut W, text: &str) -> Result<(), RunFault>
     }
 }
 
-/// Replays a trace and writes its report. So many workers, 1 to 64, update the pods of each tick in threads of their
+/// Replays a trace and writes its report. This many workers, 1 to 64, update the pods of each tick in threads of their
 /// own and steal from each other: no more than there are pods and, where no update waits in the gate, no more than are
 /// worth their start. The gate is told of each update. They share the lines of the text as well, but for its first
 /// 64 KiB, in windows of at most 4 MiB. The report is that of the rules applied by one thread, pod after pod, whatever

@@ -24,7 +24,7 @@ use std::rt::Files;
 use std::sync::Wait;
 use std::thread::Threads;
 
-/// So many workers share the pods where no word says how many.
+/// This many workers share the pods where no word says how many.
 const WORKERS: usize = 4;
 
 /// The most bytes of a steps file, 1 MiB.
@@ -39,7 +39,7 @@ fn words_of(rt: &(impl Env + AllocGlobal)) -> Result<Vec<String>, Fault> {
     Ok(words)
 }
 
-/// Replays the file of this path by so many workers.
+/// Replays the file of this path by this many workers.
 fn run<H: Files + Eprint + AllocGlobal + Threads + Wait + Sync, W: Sink>(
     rt: &H,
     progress: &Progress<'_, H>,
@@ -82,7 +82,7 @@ fn steps_text<H: Files + AllocGlobal>(rt: &H, path: &str) -> Result<Vec<u8>, Fau
     Ok(text?)
 }
 
-/// Replays the file of this path by so many workers that take these steps.
+/// Replays the file of this path by this many workers that take these steps.
 fn play<H: Files + AllocGlobal, W: Sink>(
     rt: &H,
     format: Format,

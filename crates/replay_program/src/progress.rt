@@ -7,10 +7,10 @@ use std::sync::atomic::{AtomicUsize, Ordering};
 /// Shorter inputs are read and replayed before a line could be read, 8 MiB.
 const WORTH_TELLING: usize = 8 << 20;
 
-/// A line is told for so many bytes more, 1 MiB.
+/// A line is told for this many bytes more, 1 MiB.
 const BYTES_A_LINE: usize = 1 << 20;
 
-/// A line is told for so many ticks more.
+/// A line is told for this many ticks more.
 const TICKS_A_LINE: usize = 1_000;
 
 /// How many bytes were read and how many ticks begun. It is told where standard error is a terminal and the input is
@@ -38,7 +38,7 @@ impl<'h, E: Eprint> Progress<'h, E> {
         self.is_shown && self.read.load(Ordering::SeqCst) >= WORTH_TELLING
     }
 
-    /// So many bytes more were read.
+    /// This many bytes more were read.
     fn add_bytes(&self, count: usize) {
         let before = self.read.fetch_add(count, Ordering::SeqCst);
         let now = before.wrapping_add(count);

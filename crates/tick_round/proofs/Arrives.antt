@@ -28,6 +28,7 @@ use Rattle.event_list.proofs.More.{events_arrived}
 use Rattle.tick_round.specs.Node.{State, state, piece_after, HasTaken}
 use Rattle.tick_round.specs.Round.{AreFew, IsKept}
 use Rattle.tick_round.proofs.GoesOn.{kept_by}
+use Rattle.tick_round.proofs.Pieces.{made}
 
 get_left : {A : Type 0} (xs : List A) (y : A) (n : ℕ) (x : A) → slice_get xs n ≡ Some x
     → slice_get (xs ++ y ∷ []) n ≡ Some x
@@ -48,18 +49,6 @@ unshown (x ∷ ticks) n none =
     ap (λ (o : Option PodObs). map pod_tick (cons_option o (own_ticks ticks n)))
     (ap option_flatten (slice_get_past x.pods n (none 0 x refl)))
     ∙ unshown ticks n (λ t tick at. none (suc t) tick at)
-
-abbrev piece_of : ℕ → PodSpec → ℕ → List PodTick → Option EvictionRecord → Piece
-piece_of number pod max_restart_delay handed eviction =
-    record {
-      number = number;
-      pod = pod;
-      max_restart_delay = max_restart_delay;
-      handed = handed;
-      is_pending =
-          false;
-      eviction = eviction;
-    }
 
 -- the round of an earlier tick does not see the pod
 same_round : (config : NodeConfig) (pods : List PodSpec) (pod : PodSpec) (before : List TickObs) (tick : TickObs)
@@ -166,10 +155,10 @@ newest pods ticks s pod n p taken here same =
     let delay = s.config.max_restart_delay in
     let done : slice_get (pieces_with s pod) (length pods)
     ≡ Some (piece_after s.config ticks s.evictions (length pods) pod) =
-    last ∙ ap (λ (k : ℕ). Some (piece_of k pod s.pods.max_restart_delay [] None)) many
-    ∙ ap (λ (k : ℕ). Some (piece_of (length pods) pod k [] None)) taken.max_restart_delay
-    ∙ ap (λ (h : List PodTick). Some (piece_of (length pods) pod delay h None)) none
-    ∙ ap (λ (e : Option EvictionRecord). Some (piece_of (length pods) pod delay (pod_ticks ticks (length pods)) e))
+    last ∙ ap (λ (k : ℕ). Some (made k pod s.pods.max_restart_delay [] None)) many
+    ∙ ap (λ (k : ℕ). Some (made (length pods) pod k [] None)) taken.max_restart_delay
+    ∙ ap (λ (h : List PodTick). Some (made (length pods) pod delay h None)) none
+    ∙ ap (λ (e : Option EvictionRecord). Some (made (length pods) pod delay (pod_ticks ticks (length pods)) e))
     (sym (never pods ticks s taken)) in
     let P : ℕ → Type 0 = λ k.
     slice_get (pieces_with s pod) k ≡ Some (piece_after s.config ticks s.evictions k pod) in

@@ -43,7 +43,7 @@ use Rattle.tick_round.proofs.Updates.{sums_low}
 use Rattle.tick_round.specs.declared.tick_in_progress.TickInProgress.{TickInProgress}
 use Rattle.tick_round.specs.Node.{State, state, ArePieces, HasTaken, Fits}
 use Rattle.tick_round.specs.Node.{last_of, IsAfter}
-use Rattle.tick_round.specs.Round.{most_of_tick, AreFew, IsKept, IsSampled, HasBegun, AreUpdated, MayEnd}
+use Rattle.tick_round.specs.Round.{most_of_tick, AreFew, IsKept, IsSampled, HasBegun, MayEnd}
 use Rattle.tick_round.proofs.Pieces.{pod_at, pieces_updated, pieces_evicted, pieces_spared}
 use Rattle.tick_round.proofs.Candidates.{ArePresent, are_present, round_of, may_be_evicted, evicts_now, pods_are}
 use Rattle.tick_round.proofs.Made.{made_by, entries_by}
@@ -386,13 +386,17 @@ may_update s shown pending kept is =
       };
     }
 
--- the pods that were handed a tick, once they were updated
-pub updated_by : (s : State) (x : TickObs) (pending back : List Piece) (book totals : Totals)
-    → pending ≡ handed_from 0 s.pods.pieces x.pods → back ≡ map updated pending → book ≡ s.totals
-    → AreEntered back book totals → AreUpdated s x back totals
-updated_by s x pending back book totals handed is same entered = record {
-  back_are = is ∙ ap (map updated) handed;
-  entered = subst (λ (t : Totals). AreEntered back t totals) same entered;
+-- the tick may end once the pods that were handed it are updated
+pub may_end : (s : State) (x : TickObs) (begun : TickInProgress) (pending back : List Piece) (book totals : Totals)
+    → Fits s x → HasBegun s x begun → pending ≡ handed_from 0 s.pods.pieces x.pods → back ≡ map updated pending
+    → book ≡ s.totals → AreEntered back book totals → MayEnd s x begun back totals
+may_end s x begun pending back book totals fits has_begun handed is same entered = record {
+  fits = fits;
+  has_begun = has_begun;
+  updated = record {
+    back_are = is ∙ ap (map updated) handed;
+    entered = subst (λ (t : Totals). AreEntered back t totals) same entered;
+  };
 }
 
 -- they come back as pods of the node

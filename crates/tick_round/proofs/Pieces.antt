@@ -32,7 +32,7 @@ use Rattle.node_pods.specs.Pods.{IsCandidate, AreAfter, AreEvicted}
 use Rattle.tick_round.specs.Node.{piece_after, ArePieces}
 
 -- a piece by its fields
-abbrev made : ℕ → PodSpec → ℕ → List PodTick → Option EvictionRecord → Piece
+abbrev pub made : ℕ → PodSpec → ℕ → List PodTick → Option EvictionRecord → Piece
 made number pod max_restart_delay handed eviction =
     record {
       number = number;

@@ -1,6 +1,7 @@
 -- Where the pods and the ticks of a node lead.
-use Rattle.std.specs.Prelude.{◌≡◌, ℕ, ◌<◌, ◌≤◌, ◌^◌, false, List, [], ◌∷◌, length, slice_get, Option, Some, None}
+use Rattle.std.specs.Prelude.{◌≡◌, ℕ, ◌<◌, ◌≤◌, false, List, [], ◌∷◌, length, slice_get, Option, Some, None}
 use Rattle.std.specs.Prelude.{IfSome, IsSomeAnd}
+use Rattle.quantity.specs.Duration.{end_of_time}
 use Rattle.manifest.specs.declared.pod.PodSpec.{PodSpec}
 use Rattle.node_config.specs.declared.node.NodeConfig.{NodeConfig}
 use Rattle.observations.specs.declared.tick.TickObs.{TickObs}
@@ -83,7 +84,7 @@ pub record HasTaken (pods : List PodSpec) (ticks : List TickObs) (s : State) : T
 pub record Fits (s : State) (tick : TickObs) : Type 0 where
   pub few : length s.evictions < most_ticks
   pub later : IfSome s.last (λ last. last < tick.at)
-  pub bounded : tick.at < 2 ^ 40
+  pub bounded : tick.at < end_of_time
   pub pods : PodsFit s.pods tick
 
 -- where the node is not halted, one more pod may arrive

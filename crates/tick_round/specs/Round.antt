@@ -24,7 +24,7 @@ most_of_tick = 33024
 abbrev pub AreFew : List PodSpec → Type 0
 AreFew pods = (n : ℕ) (pod : PodSpec) → slice_get pods n ≡ Some pod → length pod.containers ≤ 16
 
--- what a node keeps: it is the state of the ticks that it took, and its totals are what so many ticks may
+-- what a node keeps: it is the state of the ticks that it took, and its totals are what this many ticks may
 -- have added
 pub record IsKept (s : State) : Type 0 where
   pub ticks : List TickObs

@@ -1,8 +1,10 @@
 //! The updates of all pods in a tick, on one thread.
 
-ghost use Rattle.std.specs.Prelude.{◌≡◌, ◌-◌, ◌<◌, ◌^◌, length, map, slice_get, Some};
+ghost use Rattle.std.specs.Prelude.{◌≡◌, ◌-◌, ◌<◌, length, map, slice_get, Some};
 ghost use Rattle.std.specs.Prelude.{IsTrue, IfOk, OnOk};
 ghost use Rattle.pod_piece.specs.Piece.{Piece, updated};
+ghost use Rattle.event_book.specs.Limits.{most_events};
+ghost use Rattle.event_book.specs.Shares.{greatest_total};
 ghost use Rattle.tick_round.specs.Update.{AreUpTo, MayUpdate, IsEntered, UpdatesAt, AreEntered};
 
 use event_book::{Entry, WholeBook};
@@ -18,7 +20,7 @@ fn update_one<U: Ledger, E: Ledger, O: Ledger, G: Gate>(
     gate: &G,
 ) -> Result<(), AllocError>
     requires pending { IsTrue piece.old.is_pending }
-    requires room { AreUpTo (2 ^ 63 - 129) book.old }
+    requires room { AreUpTo (greatest_total - most_events) book.old }
     ensures piece { OnOk result (piece.new ≡ updated piece.old) }
     ensures book { OnOk result (IsEntered piece.new book.old book.new) }
 {
@@ -36,7 +38,7 @@ fn update_at<U: Ledger, E: Ledger, O: Ledger, G: Gate>(
 ) -> Result<(), AllocError>
     requires within { number < length pieces.old.items }
     requires pending { (piece : Piece) → slice_get pieces.old.items number ≡ Some piece → IsTrue piece.is_pending }
-    requires room { AreUpTo (2 ^ 63 - 129) book.old }
+    requires room { AreUpTo (greatest_total - most_events) book.old }
     ensures { OnOk result (UpdatesAt pieces.old.items number book.old pieces.new.items book.new) }
 {
     update_one(&mut pieces[number], book, gate)

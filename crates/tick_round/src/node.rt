@@ -124,7 +124,7 @@ impl<U: Ledger, E: Ledger, O: Ledger> Node<U, E, O> {
         }
     }
 
-    /// Takes one tick, whose round is played on one thread: so many workers, 1 to 64, update the pods by
+    /// Takes one tick, whose round is played on one thread: this many workers, 1 to 64, update the pods by
     /// these steps, then each finishes what it has. A step that is not possible is skipped. It answers
     /// the places, among the pods that are present, of those that each worker finished. The node is as after
     /// `tick_alone`, whatever the steps are. An `Err` says that memory was refused, or that the node was halted;
@@ -174,7 +174,7 @@ impl<U: Ledger, E: Ledger, O: Ledger> Node<U, E, O> {
 }
 
 impl<U: Ledger + Send, E: Ledger + Send, O: Ledger + Send> Node<U, E, O> {
-    /// Takes one tick, whose pods so many workers, 1 to 64, update in threads of their own: each pod that is present
+    /// Takes one tick, whose pods this many workers, 1 to 64, update in threads of their own: each pod that is present
     /// takes what the tick shows of it, then one of them at most is evicted. The gate is told of each update. The node
     /// is as after `tick_alone`, whatever the threads do. An `Err` says that memory was refused, or that the node was
     /// halted; it is halted then.

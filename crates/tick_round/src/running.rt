@@ -1,6 +1,6 @@
 //! A node that is not halted.
 //!
-//! Where a function that owns the node gives it up, it says so by `drop`: what goes out of scope by itself costs
+//! Where a function that owns the node drops it, it says so by `drop`: what goes out of scope by itself costs
 //! its proof several times as much.
 
 ghost use Rattle.std.specs.Prelude.{◌≡◌, ◌↔◌, ◌<◌, ◌≤◌, ◌++◌, ◌∷◌, []};
@@ -138,7 +138,7 @@ impl<U: Ledger, E: Ledger, O: Ledger> Running<U, E, O> {
 
     /// Takes the samples of a tick, and hands each pod that is present what the tick shows of it. Their pieces, which
     /// are still to take it into their statuses, and the book go out for the updates, beside what is left of the
-    /// node. A refused growth of memory gives the node up.
+    /// node. A refused growth of memory drops the node.
     pub(crate) fn begin(
         self,
         tick: TickObs,
@@ -192,7 +192,7 @@ impl<U: Ledger, E: Ledger, O: Ledger> Running<U, E, O> {
         }
     }
 
-    /// The node after one more tick, on one thread. A refused growth of memory gives the node up.
+    /// The node after one more tick, on one thread. A refused growth of memory drops the node.
     pub(crate) fn after_alone(self, tick: TickObs) -> Result<Running<U, E, O>, AllocError>
         requires { Fits self tick }
         ensures config { IfOk result (λ next. next.config ≡ self.config) }
@@ -209,8 +209,8 @@ impl<U: Ledger, E: Ledger, O: Ledger> Running<U, E, O> {
         }
     }
 
-    /// The node after one more tick, whose round so many workers play by these steps, and the places, among the pods
-    /// that are present, of those that each of them finished. A refused growth of memory gives the node up.
+    /// The node after one more tick, whose round this many workers play by these steps, and the places, among the pods
+    /// that are present, of those that each of them finished. A refused growth of memory drops the node.
     pub(crate) fn after_played(
         self,
         tick: TickObs,
@@ -258,8 +258,8 @@ impl<U: Ledger, E: Ledger, O: Ledger> Running<U, E, O> {
 }
 
 impl<U: Ledger + Send, E: Ledger + Send, O: Ledger + Send> Running<U, E, O> {
-    /// The node after one more tick, whose pods so many workers update. A refused growth of memory gives the
-    /// node up.
+    /// The node after one more tick, whose pods this many workers update. A refused growth of memory drops the
+    /// node.
     pub(crate) fn after<R: Threads + Wait + Sync, G: Gate>(
         self,
         rt: &R,

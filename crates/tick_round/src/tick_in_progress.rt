@@ -54,8 +54,8 @@ fn add_tick(
 
 impl TickInProgress {
     /// The node after the tick, with the pieces that come back, which have taken it into their statuses, and
-    /// this book, in which they were entered: one pod at most is evicted. A refused growth of memory gives
-    /// the node up.
+    /// this book, in which they were entered: one pod at most is evicted. A refused growth of memory drops
+    /// the node.
     pub(crate) fn end<U: Ledger, E: Ledger, O: Ledger>(
         self,
         back: Vec<PodPiece>,

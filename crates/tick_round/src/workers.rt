@@ -1,10 +1,11 @@
 //! The updates of all pods in a tick, by workers.
 
-ghost use Rattle.std.specs.Prelude.{◌≡◌, ◌<◌, ◌≤◌, map, IfOk};
+ghost use Rattle.std.specs.Prelude.{◌≡◌, ◌⊎◌, ◌<◌, ◌≤◌, map, IfOk};
 ghost use Rattle.pod_piece.specs.Piece.{updated};
 ghost use Rattle.event_book.specs.Limits.{most_workers};
 ghost use Rattle.piece_deques.specs.Rule.{AreNumbered};
 ghost use Rattle.tick_round.specs.Update.{MayUpdate, AreEntered};
+ghost use Rattle.tick_round.specs.Workers.{worth_their_start};
 
 use crate::alone::update_alone;
 use event_book::WholeBook;
@@ -15,22 +16,24 @@ use std::sync::ledger::Ledger;
 use std::sync::{Mutex, Wait};
 use std::thread::Threads;
 
-/// A worker is worth the start of its thread where it has so many pods. An update takes less than a microsecond, and
+/// A worker is worth the start of its thread where it has this many pods. An update takes less than a microsecond, and
 /// a thread more than thirty: with half as many pods for each, 256 pods took a fifth longer than on one thread.
 const PODS_A_WORKER: usize = 256;
 
-/// So many workers are worth their start, where no update waits for others.
+/// This many workers are worth their start, where no update waits for others.
 fn worth_their_start(workers: usize, pods: usize) -> usize
     requires { 0 < workers }
+    ensures is { result ≡ worth_their_start workers pods }
     ensures some { 0 < result }
     ensures most { result ≤ workers }
 {
     (pods / PODS_A_WORKER).clamp(1, workers)
 }
 
-/// So many workers run.
+/// This many workers run: all where an update may wait for others, else those that are worth their start.
 fn running<G: Gate>(workers: usize, pods: usize, gate: &G) -> usize
     requires { 0 < workers }
+    ensures either { (result ≡ workers) ⊎ (result ≡ worth_their_start workers pods) }
     ensures some { 0 < result }
     ensures most { result ≤ workers }
 {
@@ -41,7 +44,7 @@ fn running<G: Gate>(workers: usize, pods: usize, gate: &G) -> usize
     }
 }
 
-/// The updates of all pods by so many workers. The book is theirs under a lock until they have ended.
+/// The updates of all pods by this many workers. The book is theirs under a lock until they have ended.
 fn update_shared<
     U: Ledger + Send,
     E: Ledger + Send,

@@ -1,5 +1,5 @@
 use Rattle.tick_round.proofs.Rounds.{are_numbered}
-use Rattle.tick_round.proofs.GoesOn.{placed_back, updated_by}
+use Rattle.tick_round.proofs.GoesOn.{placed_back, may_end}
 use Rattle.tick_round.proofs.running.Running.after.Goals as goal
 
 pub update_by_workers-requires-clause-numbered : goal.update_by_workers-requires-clause-numbered
@@ -12,24 +12,20 @@ end-requires-clause-placed g c =
     c.in_ok-pieces.ensures.placed
 
 pub end-requires-clause-taken : goal.end-requires-clause-taken
-end-requires-clause-taken g c = (
-  c.args.self,
-  c.args.tick,
-  c.in_ok-pieces.ensures.kept,
-  record {
-    fits = c.requires.fits;
-    has_begun = c.in_ok-pieces.ensures.begun;
-    updated = updated_by c.args.self c.args.tick c.in_ok-pieces.pieces.items c.in-Ok.pieces.items
-        c.in_ok-pieces.book c.in-Ok.book c.in_ok-pieces.ensures.handed c.in-Ok.ensures.pieces
-        c.in_ok-pieces.ensures.book c.in-Ok.ensures.book;
-  },
-)
+end-requires-clause-taken g c =
+    let begun = c.in_ok-pieces in (
+      c.args.self,
+      c.args.tick,
+      begun.ensures.kept,
+      may_end c.args.self c.args.tick begun.begun begun.pieces.items c.in-Ok.pieces.items begun.book c.in-Ok.book
+          c.requires.fits begun.ensures.begun begun.ensures.handed c.in-Ok.ensures.pieces begun.ensures.book
+          c.in-Ok.ensures.book,
+    )
 
 pub returns-in-Ok-clause-taken : goal.returns-in-Ok-clause-taken
-returns-in-Ok-clause-taken g c = λ pods ticks taken. c.end.ensures.taken c.args.self c.args.tick pods ticks (record {
-  fits = c.requires.fits;
-  has_begun = c.in_ok-pieces.ensures.begun;
-  updated = updated_by c.args.self c.args.tick c.in_ok-pieces.pieces.items c.in-Ok.pieces.items
-      c.in_ok-pieces.book c.in-Ok.book c.in_ok-pieces.ensures.handed c.in-Ok.ensures.pieces
-      c.in_ok-pieces.ensures.book c.in-Ok.ensures.book;
-}) taken
+returns-in-Ok-clause-taken g c = λ pods ticks taken.
+    let begun = c.in_ok-pieces in
+    c.end.ensures.taken c.args.self c.args.tick pods ticks
+    (may_end c.args.self c.args.tick begun.begun begun.pieces.items c.in-Ok.pieces.items begun.book c.in-Ok.book
+    c.requires.fits begun.ensures.begun begun.ensures.handed c.in-Ok.ensures.pieces begun.ensures.book
+    c.in-Ok.ensures.book) taken

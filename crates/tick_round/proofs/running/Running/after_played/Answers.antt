@@ -1,6 +1,6 @@
 use Rattle.std.proofs.Common.{◌∙◌, length, ap, sym}
 use Rattle.node_pods.proofs.Handed.{handed_count}
-use Rattle.tick_round.proofs.GoesOn.{placed_back, updated_by}
+use Rattle.tick_round.proofs.GoesOn.{placed_back, may_end}
 use Rattle.tick_round.proofs.running.Running.after_played.Goals as goal
 
 pub end-requires-clause-placed : goal.end-requires-clause-placed
@@ -9,28 +9,25 @@ end-requires-clause-placed g c =
     c.in_ok-pieces.ensures.placed
 
 pub end-requires-clause-taken : goal.end-requires-clause-taken
-end-requires-clause-taken g c = (
-  c.args.self,
-  c.args.tick,
-  c.in_ok-pieces.ensures.kept,
-  record {
-    fits = c.requires.fits;
-    has_begun = c.in_ok-pieces.ensures.begun;
-    updated = updated_by c.args.self c.args.tick c.in_ok-pieces.pieces.items c.in-Ok.played.pieces.items
-        c.in_ok-pieces.book c.in-Ok.played.book c.in_ok-pieces.ensures.handed c.in-Ok.ensures.pieces
-        c.in_ok-pieces.ensures.book c.in-Ok.ensures.book;
-  },
-)
+end-requires-clause-taken g c =
+    let begun = c.in_ok-pieces in
+    let back = c.in-Ok.played in (
+      c.args.self,
+      c.args.tick,
+      begun.ensures.kept,
+      may_end c.args.self c.args.tick begun.begun begun.pieces.items back.pieces.items begun.book back.book
+          c.requires.fits begun.ensures.begun begun.ensures.handed c.in-Ok.ensures.pieces begun.ensures.book
+          c.in-Ok.ensures.book,
+    )
 
 pub returns-in_ok-next-in-Ok-clause-taken : goal.returns-in_ok-next-in-Ok-clause-taken
 returns-in_ok-next-in-Ok-clause-taken g c = λ pods ticks taken.
-    c.in_ok-next-in-Ok.ensures.taken c.args.self c.args.tick pods ticks (record {
-      fits = c.requires.fits;
-      has_begun = c.in_ok-pieces.ensures.begun;
-      updated = updated_by c.args.self c.args.tick c.in_ok-pieces.pieces.items c.in-Ok.played.pieces.items
-          c.in_ok-pieces.book c.in-Ok.played.book c.in_ok-pieces.ensures.handed c.in-Ok.ensures.pieces
-          c.in_ok-pieces.ensures.book c.in-Ok.ensures.book;
-    }) taken
+    let begun = c.in_ok-pieces in
+    let back = c.in-Ok.played in
+    c.in_ok-next-in-Ok.ensures.taken c.args.self c.args.tick pods ticks
+    (may_end c.args.self c.args.tick begun.begun begun.pieces.items back.pieces.items begun.book back.book
+    c.requires.fits begun.ensures.begun begun.ensures.handed c.in-Ok.ensures.pieces begun.ensures.book
+    c.in-Ok.ensures.book) taken
 
 pub returns-in_ok-next-in-Ok-clause-finished : goal.returns-in_ok-next-in-Ok-clause-finished
 returns-in_ok-next-in-Ok-clause-finished g c = λ entries many.
