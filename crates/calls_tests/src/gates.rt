@@ -9,10 +9,10 @@ use std::sync::atomic::{AtomicU64, Ordering};
 use std::thread;
 use std::time::{Clock, Duration};
 
-/// An update that waits for another gives up after so many looks: some 15 seconds.
+/// An update that waits for another gives up after this many looks: some 15 seconds.
 const LOOKS: u64 = 100_000;
 
-/// Waits until so many are counted, and says whether they ever were. It gives up early where another update did.
+/// Waits until this many are counted, and says whether they ever were. It gives up early where another update did.
 fn is_reached(clock: &impl Clock, count: &AtomicU64, wanted: u64, missed: &AtomicU64) -> bool {
     let pause = Duration::from_micros(100);
     for _ in 0..LOOKS {
@@ -55,7 +55,7 @@ fn are_all(counts: &[AtomicU64], wanted: u64) -> bool {
 }
 
 impl<'a, C: AllocGlobal + Clock> Meeting<'a, C> {
-    /// A gate for so many workers and pods.
+    /// A gate for this many workers and pods.
     pub(crate) fn new(
         clock: &'a C,
         workers: usize,
@@ -74,12 +74,12 @@ impl<'a, C: AllocGlobal + Clock> Meeting<'a, C> {
         })
     }
 
-    /// Whether each pod has entered and left so many times in turn, and no other has.
+    /// Whether each pod has entered and left this many times in turn, and no other has.
     fn has_counted(&self, times: u64) -> bool {
         are_all(&self.calls, times.saturating_mul(2)) && self.disordered.load(Ordering::SeqCst) == 0
     }
 
-    /// No update gave up, and each pod has entered and left so many times in turn.
+    /// No update gave up, and each pod has entered and left this many times in turn.
     pub(crate) fn expect(&self, rt: &impl Abort, times: u64) {
         let workers = self.workers;
         assert!(rt;

@@ -37,7 +37,7 @@ impl Write for Sheet {
     }
 }
 
-/// Moves so many bytes a call but for one call, which fails or moves none; after it a call works again.
+/// Moves this many bytes a call but for one call, which fails or moves none; after it a call works again.
 #[derive(Drop)]
 pub(crate) struct Halting<T: Drop> {
     pub(crate) inner: T,
@@ -48,7 +48,7 @@ pub(crate) struct Halting<T: Drop> {
 }
 
 impl<T: Drop> Halting<T> {
-    /// It halts at the call after so many, with an error of this kind if there is one.
+    /// It halts at the call after this many, with an error of this kind if there is one.
     pub(crate) fn new(
         inner: T,
         step: usize,

@@ -4,8 +4,6 @@
 #![tactic(auto)]
 
 #[cfg(test)]
-mod blanks;
-#[cfg(test)]
 mod book_tests;
 #[cfg(test)]
 mod calls;
@@ -29,6 +27,8 @@ mod replay_tests;
 mod replays;
 #[cfg(test)]
 mod rounds;
+#[cfg(test)]
+mod scenario;
 #[cfg(test)]
 mod size_tests;
 #[cfg(test)]

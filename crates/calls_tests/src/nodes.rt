@@ -1,11 +1,9 @@
 //! A node that takes the ticks of a trace.
 
-ghost use Rattle.std.specs.Prelude.{◌≡◌, ◌<◌, ◌≤◌};
-ghost use Rattle.event_book.specs.Shares.{most_parts};
-ghost use Rattle.event_book.specs.Limits.{most_workers};
+ghost use Rattle.std.specs.Prelude.{◌≡◌};
 
-use crate::blanks::Blanks;
-use event_book::WholeBook;
+use crate::scenario::Scenario;
+use event_book::{Blanks, WholeBook};
 use observations::{MOST_PODS, TickObs};
 use std::alloc::{AllocGlobal, Global};
 use std::marker::Brand;
@@ -14,23 +12,19 @@ use std::sync::ledger::Ledger;
 use std::test::Fail;
 use std::thread::Threads;
 use tick_round::{Gate, Node};
-use trace::{Format, Trace, read_trace};
+use trace::Trace;
 
-/// The node takes a tick, whose pods so many workers update.
+/// The node takes a tick, whose pods the scenario's workers update.
 fn take<U: Ledger + Send, E: Ledger + Send, O: Ledger + Send, R: Threads + Wait + Sync, G: Gate>(
     rt: &R,
     node: &mut Node<U, E, O>,
     tick: TickObs,
-    workers: usize,
-    gate: &G,
-) -> Result<(), Fail>
-    requires some { 0 < workers }
-    requires most { workers ≤ most_workers }
-{
+    scenario: &Scenario<'_, G>,
+) -> Result<(), Fail> {
     if !node.fits(&tick) {
         return Err(Fail::new("the node does not take its tick"));
     }
-    node.tick(rt, tick, workers, gate)?;
+    node.tick(rt, tick, scenario.workers, scenario.gate)?;
     Ok(())
 }
 
@@ -41,37 +35,35 @@ fn take_all<
     O: Ledger + Send,
     R: Threads + Wait + Sync,
     G: Gate,
->(rt: &R, alloc: Global, blanks: Blanks, trace: Trace, workers: usize, gate: &G) -> Result<(), Fail>
-    requires some { 0 < workers }
-    requires most { workers ≤ most_workers }
+>(
+    rt: &R,
+    alloc: Global,
+    blanks: Blanks,
+    trace: Trace,
+    scenario: &Scenario<'_, G>,
+) -> Result<(), Fail>
     requires names { (blanks.updates.name ≡ U.name) × (blanks.events.name ≡ E.name) × (blanks.orders.name ≡ O.name) }
     requires parts { (blanks.updates.parts ≡ U.parts) × (blanks.events.parts ≡ E.parts)
         × (blanks.orders.parts ≡ O.parts) }
-    requires level { (U.parts ≡ most_parts) × (E.parts ≡ most_parts) × (O.parts ≡ most_parts) }
 {
     let pods = trace.pods.into_vec();
     if pods.len() > MOST_PODS {
         return Err(Fail::new("the trace has too many pods"));
     }
-    let book = WholeBook::<U, E, O>::new(blanks.updates, blanks.events, blanks.orders);
+    let book = WholeBook::<U, E, O>::new(blanks);
     let mut node = Node::new(alloc, trace.node, pods, book)?;
     for tick in trace.ticks.into_vec() {
-        take(rt, &mut node, tick, workers, gate)?;
+        take(rt, &mut node, tick, scenario)?;
     }
     Ok(())
 }
 
-/// A node takes the ticks of a trace, whose pods so many workers update.
+/// A node takes the ticks of the scenario's trace.
 pub(crate) fn take_ticks<H: AllocGlobal + Threads + Wait + Sync, G: Gate>(
     rt: &H,
-    text: &str,
-    workers: usize,
-    gate: &G,
-) -> Result<(), Fail>
-    requires some { 0 < workers }
-    requires most { workers ≤ 64 }
-{
+    scenario: &Scenario<'_, G>,
+) -> Result<(), Fail> {
     let alloc = rt.alloc();
-    let trace = read_trace(alloc, Format::Standard, text.as_bytes())?;
-    take_all::<Brand, Brand, Brand, H, G>(rt, alloc, Blanks::new(), trace, workers, gate)
+    let trace = scenario.trace(alloc)?;
+    take_all::<Brand, Brand, Brand, H, G>(rt, alloc, Blanks::new(), trace, scenario)
 }

@@ -3,6 +3,7 @@
 use crate::gates::Meeting;
 use crate::replays::replay_text;
 use crate::rounds::ROUNDS;
+use crate::scenario::Scenario;
 use crate::stopwatch::Stopwatch;
 use crate::traces::{full_text, trace_text};
 use kubelet_replay::Gate;
@@ -17,7 +18,12 @@ fn workers_overlap(rt: HostRuntime) -> Result<(), Fail> {
             let text = trace_text(rt.alloc(), pods, 1)?;
             for round in ROUNDS {
                 let gate = Meeting::new(&rt, workers, pods)?;
-                round.make(&rt, text.as_str(), workers, &gate)?;
+                let scenario = Scenario {
+                    text: text.as_str(),
+                    workers,
+                    gate: &gate,
+                };
+                round.make(&rt, &scenario)?;
                 gate.expect(&rt, 1);
             }
         }
@@ -30,7 +36,12 @@ fn each_tick_passes_the_gate_once_for_each_pod(rt: HostRuntime) -> Result<(), Fa
     // one worker waits for nobody
     let gate = Meeting::new(&rt, 1, 20)?;
     let text = trace_text(rt.alloc(), 20, 50)?;
-    replay_text(&rt, text.as_str(), 3, &gate)?;
+    let scenario = Scenario {
+        text: text.as_str(),
+        workers: 3,
+        gate: &gate,
+    };
+    replay_text(&rt, &scenario)?;
     gate.expect(&rt, 50);
     Ok(())
 }
@@ -55,7 +66,12 @@ fn updates_take_their_time_between_the_calls(rt: HostRuntime) -> Result<(), Fail
     for round in ROUNDS {
         let gate = Stopwatch::new(&rt, 60)?;
         let idle = idle_time(&gate, rt.alloc(), 60)?;
-        round.make(&rt, text.as_str(), 2, &gate)?;
+        let scenario = Scenario {
+            text: text.as_str(),
+            workers: 2,
+            gate: &gate,
+        };
+        round.make(&rt, &scenario)?;
         let times = gate.sorted(rt.alloc())?;
         let shortest = times.first().copied().unwrap_or(0);
         // an update of sixteen containers takes twenty times as long as two calls; a coarse clock shows neither

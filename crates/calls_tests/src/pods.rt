@@ -1,62 +1,22 @@
 //! The first tick of a trace, whose pods a pool updates.
 
-ghost use Rattle.std.specs.Prelude.{◌≡◌, ◌<◌, ◌≤◌, false, length, IfOk, IfSome, IsTrue, OnOk};
+ghost use Rattle.std.specs.Prelude.{◌≡◌, ◌≤◌, length, IfOk, IsTrue, OnOk};
 ghost use Rattle.observations.specs.Limits.{most_pods};
-ghost use Rattle.pod_state.specs.Pods.{pod_tick};
-ghost use Rattle.pod_piece.specs.Listings.{IsNextTick};
-ghost use Rattle.event_book.specs.Shares.{most_parts};
-ghost use Rattle.event_book.specs.Limits.{most_workers};
-ghost use Rattle.calls_tests.specs.Pods.{ArePending};
+ghost use Rattle.test_pods.specs.Pods.{ArePending};
 
-use crate::blanks::Blanks;
-use event_book::EventBook;
+use crate::scenario::Scenario;
+use event_book::{Blanks, EventBook};
 use manifest::{MaxRestartDelay, PodSpec};
 use observations::{MOST_PODS, PodObs, TickObs};
 use pod_piece::PodPiece;
 use pod_pool::{Gate, PoolFault, update_all};
-use quantity::END_OF_TIME;
 use std::alloc::{AllocGlobal, Global};
 use std::marker::Brand;
 use std::sync::ledger::Ledger;
 use std::sync::{Mutex, Wait};
 use std::test::Fail;
 use std::thread::Threads;
-use trace::{Format, read_trace};
-
-/// Whether a moment comes after the last one, if there is one.
-fn is_later(last: Option<u64>, at: u64) -> bool
-    ensures { IsTrue result → IfSome last (λ moment. moment < at) }
-{
-    match last {
-        Some(last) => last < at,
-        None => true,
-    }
-}
-
-/// Whether the observation may come next.
-fn may_take(piece: &PodPiece, observed: &PodObs) -> bool
-    ensures free { IsTrue result → piece.now.is_pending ≡ false }
-    ensures next { IsTrue result → IsNextTick piece.now.pod piece.now.handed (pod_tick observed.now) }
-{
-    if piece.pending() {
-        return false;
-    }
-    observed.at() < END_OF_TIME
-        && is_later(piece.last_at(), observed.at())
-        && piece.accepts(observed)
-}
-
-/// The piece takes an observation, if it may come next.
-fn hand(piece: &mut PodPiece, observed: PodObs) -> Result<(), Fail>
-    ensures number { piece.new.number ≡ piece.old.number }
-    ensures pending { OnOk result (IsTrue piece.new.is_pending) }
-{
-    if !may_take(piece, &observed) {
-        return Err(Fail::new("a pod does not take its tick"));
-    }
-    piece.hand(observed)?;
-    Ok(())
-}
+use test_pods::hand;
 
 /// A pod to which an observation was handed.
 fn pending(alloc: Global, number: usize, pod: PodSpec, observed: PodObs) -> Result<PodPiece, Fail>
@@ -98,27 +58,31 @@ fn pieces_of(alloc: Global, pods: Vec<PodSpec>, tick: TickObs) -> Result<Vec<Pod
     Ok(pieces)
 }
 
-/// Updates the pods by so many workers, over a book with these ledgers, and looks at how many updates it has.
+/// Updates the pods by the scenario's workers, over a book with these ledgers.
 fn update<U: Ledger + Send, E: Ledger + Send, O: Ledger + Send, R: Threads + Wait + Sync, G: Gate>(
     rt: &R,
     alloc: Global,
     blanks: Blanks,
     pieces: Vec<PodPiece>,
-    workers: usize,
-    gate: &G,
+    scenario: &Scenario<'_, G>,
 ) -> Result<(), Fail>
     requires pending { ArePending pieces.items }
     requires few { length pieces.items ≤ most_pods }
-    requires some { 0 < workers }
-    requires most { workers ≤ most_workers }
     requires names { (blanks.updates.name ≡ U.name) × (blanks.events.name ≡ E.name) × (blanks.orders.name ≡ O.name) }
     requires parts { (blanks.updates.parts ≡ U.parts) × (blanks.events.parts ≡ E.parts)
         × (blanks.orders.parts ≡ O.parts) }
-    requires level { (U.parts ≡ most_parts) × (E.parts ≡ most_parts) × (O.parts ≡ most_parts) }
 {
-    let (book, share) = EventBook::<U, E, O>::new(blanks.updates, blanks.events, blanks.orders);
+    let (book, share) = EventBook::<U, E, O>::new(blanks);
     let book = Mutex::new(book);
-    match update_all(rt, alloc, pieces, &book, share, workers, gate) {
+    match update_all(
+        rt,
+        alloc,
+        pieces,
+        &book,
+        share,
+        scenario.workers,
+        scenario.gate,
+    ) {
         Ok(answer) => {
             drop(answer);
             Ok(())
@@ -130,18 +94,13 @@ fn update<U: Ledger + Send, E: Ledger + Send, O: Ledger + Send, R: Threads + Wai
     }
 }
 
-/// Updates the pods of a trace by so many workers, once each was handed the first tick.
+/// Updates the pods of the scenario's trace, once each was handed the first tick.
 pub(crate) fn update_pods<H: AllocGlobal + Threads + Wait + Sync, G: Gate>(
     rt: &H,
-    text: &str,
-    workers: usize,
-    gate: &G,
-) -> Result<(), Fail>
-    requires some { 0 < workers }
-    requires most { workers ≤ 64 }
-{
+    scenario: &Scenario<'_, G>,
+) -> Result<(), Fail> {
     let alloc = rt.alloc();
-    let trace = read_trace(alloc, Format::Standard, text.as_bytes())?;
+    let trace = scenario.trace(alloc)?;
     let Some(tick) = trace.ticks.into_vec().into_iter().next() else {
         return Err(Fail::new("the trace has no tick"));
     };
@@ -149,5 +108,5 @@ pub(crate) fn update_pods<H: AllocGlobal + Threads + Wait + Sync, G: Gate>(
     if pieces.len() > MOST_PODS {
         return Err(Fail::new("the trace has too many pods"));
     }
-    update::<Brand, Brand, Brand, H, G>(rt, alloc, Blanks::new(), pieces, workers, gate)
+    update::<Brand, Brand, Brand, H, G>(rt, alloc, Blanks::new(), pieces, scenario)
 }

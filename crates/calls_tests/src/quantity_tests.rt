@@ -23,7 +23,7 @@ fn shares_of_a_capacity_are_rounded_down(rt: HostRuntime) {
 fn whole_units_become_quantities(rt: HostRuntime) -> Result<(), Fail> {
     assert_eq!(rt; Quantity::from_units(3).milli(), 3000);
     assert_eq!(rt; Quantity::from_units(u64::MAX).milli(), GREATEST);
-    // no text writes so many digits, and it is printed in units
+    // no text writes this many digits, and it is printed in units
     let many = Quantity::from_units(123_456_789_012_345_678);
     let printed = format!(in rt.alloc(); "{many}")?;
     assert_eq!(rt; printed.as_str(), "123456789012345678");

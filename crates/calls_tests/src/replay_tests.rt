@@ -73,7 +73,7 @@ const PENDING: Written = Written {
     line: "ok pods=1 ticks=0\n",
 };
 
-/// What is answered to so many bytes of the beginning of `FIRST_TICK`.
+/// What is answered to this many bytes of the beginning of `FIRST_TICK`.
 fn answer_to_first(bytes: usize) -> (Result<(), RunFault>, Written) {
     match bytes {
         0 => (refused(1, FaultKind::Order), NOTHING),
@@ -128,7 +128,7 @@ fn readers_that_end_early_give_a_shorter_text(rt: HostRuntime) {
     }
 }
 
-/// A call over a reader of std that gives ten bytes a call, and halts once, after so many calls.
+/// A call over a reader of std that gives ten bytes a call, and halts once, after this many calls.
 fn expect_halted_reader<H: Abort + AllocGlobal + Threads + Wait + Sync>(
     rt: &H,
     call: Call,
@@ -160,7 +160,7 @@ fn readers_of_std_may_halt_once(rt: HostRuntime) {
     }
 }
 
-/// A call over a writer that takes ten bytes a call, and stops after so many calls.
+/// A call over a writer that takes ten bytes a call, and stops after this many calls.
 fn expect_stopped_writer<H: Abort + AllocGlobal + Threads + Wait + Sync>(
     rt: &H,
     call: Call,
@@ -175,7 +175,7 @@ fn expect_stopped_writer<H: Abort + AllocGlobal + Threads + Wait + Sync>(
     expect_answer(rt, call, answer, output.written(), wanted, front);
 }
 
-/// What a writer takes of a text in so many calls of ten bytes.
+/// What a writer takes of a text in this many calls of ten bytes.
 fn front_of(text: &[u8], calls: usize) -> &[u8] {
     &text[..calls.saturating_mul(10).min(text.len())]
 }
@@ -190,7 +190,7 @@ fn failing_writers_keep_the_beginning_of_the_answer(rt: HostRuntime) {
     }
 }
 
-/// A call over a writer of std that takes ten bytes a call, and halts once, after so many calls.
+/// A call over a writer of std that takes ten bytes a call, and halts once, after this many calls.
 fn expect_halted_writer<H: Abort + AllocGlobal + Threads + Wait + Sync>(
     rt: &H,
     call: Call,

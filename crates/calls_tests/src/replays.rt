@@ -1,7 +1,6 @@
 //! Replays of texts.
 
-ghost use Rattle.std.specs.Prelude.{◌<◌, ◌≤◌};
-
+use crate::scenario::Scenario;
 use kubelet_replay::{Gate, MemSink, MemSource, replay};
 use std::alloc::AllocGlobal;
 use std::sync::Wait;
@@ -11,19 +10,14 @@ use std::thread::Threads;
 /// No report of these tests is longer.
 const ROOM: usize = 1 << 20;
 
-/// Replays a text by so many workers in threads.
+/// Replays the scenario's trace.
 pub(crate) fn replay_text<H: AllocGlobal + Threads + Wait + Sync, G: Gate>(
     rt: &H,
-    text: &str,
-    workers: usize,
-    gate: &G,
-) -> Result<(), Fail>
-    requires some { 0 < workers }
-    requires most { workers ≤ 64 }
-{
+    scenario: &Scenario<'_, G>,
+) -> Result<(), Fail> {
     let mut room = vec![in rt.alloc(); 0u8; ROOM]?;
-    let mut input = MemSource::new(text.as_bytes(), 4096);
+    let mut input = MemSource::new(scenario.text.as_bytes(), 4096);
     let mut output = MemSink::new(&mut room, 4096);
-    replay(rt, &mut input, &mut output, workers, gate)?;
+    replay(rt, &mut input, &mut output, scenario.workers, scenario.gate)?;
     Ok(())
 }

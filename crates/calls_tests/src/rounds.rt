@@ -1,10 +1,9 @@
 //! The calls that update pods under a gate.
 
-ghost use Rattle.std.specs.Prelude.{◌<◌, ◌≤◌};
-
 use crate::nodes::take_ticks;
 use crate::pods::update_pods;
 use crate::replays::replay_text;
+use crate::scenario::Scenario;
 use kubelet_replay::Gate;
 use std::alloc::AllocGlobal;
 use std::sync::Wait;
@@ -25,21 +24,16 @@ pub(crate) enum Round {
 pub(crate) const ROUNDS: [Round; 3] = [Round::Replay, Round::Tick, Round::UpdateAll];
 
 impl Round {
-    /// Updates the pods of a trace by so many workers in threads.
+    /// Updates the pods of the scenario's trace.
     pub(crate) fn make<H: AllocGlobal + Threads + Wait + Sync, G: Gate>(
         self,
         rt: &H,
-        text: &str,
-        workers: usize,
-        gate: &G,
-    ) -> Result<(), Fail>
-        requires some { 0 < workers }
-        requires most { workers ≤ 64 }
-    {
+        scenario: &Scenario<'_, G>,
+    ) -> Result<(), Fail> {
         match self {
-            Round::Replay => replay_text(rt, text, workers, gate),
-            Round::Tick => take_ticks(rt, text, workers, gate),
-            Round::UpdateAll => update_pods(rt, text, workers, gate),
+            Round::Replay => replay_text(rt, scenario),
+            Round::Tick => take_ticks(rt, scenario),
+            Round::UpdateAll => update_pods(rt, scenario),
         }
     }
 }

@@ -12,7 +12,7 @@ use trace::FaultKind;
 /// A node line, with its newline.
 const NODE: &str = "{\"kind\":\"node\",\"name\":\"n1\"}\n";
 
-/// So many spaces, and this behind them.
+/// This many spaces, and this behind them.
 fn after_spaces(alloc: Global, spaces: usize, end: &str) -> Result<String, AllocError> {
     let mut text = " ".repeat(alloc, spaces)?;
     text.push_str(end)?;
@@ -38,7 +38,7 @@ fn lines_may_have_one_mebibyte(rt: HostRuntime) -> Result<(), Fail> {
     Ok(())
 }
 
-/// So many lines of 39 spaces.
+/// This many lines of 39 spaces.
 fn blank_lines(alloc: Global, count: usize) -> Result<String, AllocError> {
     let line = after_spaces(alloc, 39, "\n")?;
     line.as_str().repeat(alloc, count)
@@ -111,7 +111,7 @@ fn traces_may_have_20_000_ticks(rt: HostRuntime) -> Result<(), Fail> {
     Ok(())
 }
 
-/// So many spaces, which nobody keeps.
+/// This many spaces, which nobody keeps.
 #[derive(Drop)]
 struct Spaces {
     left: usize,

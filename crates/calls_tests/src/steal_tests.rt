@@ -2,6 +2,7 @@
 
 use crate::gates::Pair;
 use crate::replays::replay_text;
+use crate::scenario::Scenario;
 use crate::traces::trace_text;
 use std::test::Fail;
 
@@ -10,7 +11,12 @@ use std::test::Fail;
 fn tick_ends_by_a_theft(rt: HostRuntime) -> Result<(), Fail> {
     let gate = Pair::new(&rt);
     let text = trace_text(rt.alloc(), 3, 1)?;
-    replay_text(&rt, text.as_str(), 2, &gate)?;
+    let scenario = Scenario {
+        text: text.as_str(),
+        workers: 2,
+        gate: &gate,
+    };
+    replay_text(&rt, &scenario)?;
     gate.expect(&rt);
     Ok(())
 }

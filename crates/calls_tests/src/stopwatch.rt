@@ -28,7 +28,7 @@ fn nanos(clock: &impl Clock) -> u64 {
 }
 
 impl<'a, C: AllocGlobal> Stopwatch<'a, C> {
-    /// A gate for so many pods.
+    /// A gate for this many pods.
     pub(crate) fn new(clock: &'a C, pods: usize) -> Result<Stopwatch<'a, C>, AllocError> {
         let alloc = clock.alloc();
         Ok(Stopwatch {

@@ -50,7 +50,7 @@ fn add_tick(alloc: Global, text: &mut String, tick: usize, pods: usize) -> Resul
     text.push_str("]}\n")
 }
 
-/// A trace of so many pods and ticks, ten seconds apart from 0 on.
+/// A trace of this many pods and ticks, ten seconds apart from 0 on.
 pub(crate) fn trace_text(alloc: Global, pods: usize, ticks: usize) -> Result<String, AllocError> {
     let mut text = String::from_str(alloc, "{\"kind\":\"node\",\"name\":\"n1\"}\n")?;
     add_pods(alloc, &mut text, pods)?;
@@ -71,7 +71,7 @@ fn sixteen(alloc: Global, rest: &str) -> Result<String, AllocError> {
     Ok(text)
 }
 
-/// A trace of so many pods with sixteen containers, all of which run in its one tick.
+/// A trace of this many pods with sixteen containers, all of which run in its one tick.
 pub(crate) fn full_text(alloc: Global, pods: usize) -> Result<String, AllocError> {
     let containers = sixteen(alloc, "")?;
     let listings = sixteen(alloc, r#","state":"CONTAINER_RUNNING""#)?;

@@ -15,7 +15,7 @@ use std::thread::Threads;
 /// The greatest length of a report.
 const ROOM: usize = 1_048_576;
 
-/// So many bytes are read or written in one call.
+/// This many bytes are read or written in one call.
 const STEP: usize = 4096;
 
 /// What a replay gave.
@@ -38,7 +38,7 @@ fn answered(alloc: Global, output: &MemSink<'_>, outcome: Result<(), RunFault>) 
     }
 }
 
-/// Replays the bytes of a trace with so many workers, 1 to 64, in threads of their own.
+/// Replays the bytes of a trace with this many workers, 1 to 64, in threads of their own.
 fn replayed(
     rt: &(impl AllocGlobal + Threads + Wait + Sync),
     format: Format,
@@ -55,7 +55,7 @@ fn replayed(
     answered(rt.alloc(), &output, outcome)
 }
 
-/// Replays the bytes of a trace on one thread with so many workers, 1 to 64, by these steps.
+/// Replays the bytes of a trace on one thread with this many workers, 1 to 64, by these steps.
 fn played(
     alloc: Global,
     format: Format,

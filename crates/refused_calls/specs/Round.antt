@@ -1,10 +1,17 @@
 -- The pieces of a round.
-use Rattle.std.specs.Prelude.{◌≡◌, ℕ, List, length, All, IsTrue}
+use Rattle.std.specs.Prelude.{◌≡◌, ℕ, List, length}
 use Rattle.pod_piece.specs.Piece.{Piece}
-use Rattle.piece_deques.specs.Rule.{AreNumbered}
+use Rattle.event_book.specs.Shares.{Part, most_parts}
+use Rattle.event_book.specs.Limits.{AreLow}
+use Rattle.test_pods.specs.Pods.{ArePending}
 
--- so many pieces, numbered from 0 on, that are to be updated
+-- this many pieces, numbered from 0 on, that are to be updated
 pub record AreFirst (count : ℕ) (pieces : List Piece) : Type 0 where
   pub as_many : length pieces ≡ count
-  pub pending : All (λ (piece : Piece). IsTrue piece.is_pending) pieces
-  pub numbered : AreNumbered pieces
+  pub are_pending : ArePending pieces
+
+-- the whole share of a book whose ledgers have this many parts, with room for a round
+pub record IsWholeShare (share : Part) (updates events orders : ℕ) : Type 0 where
+  pub whole : share.parts ≡ most_parts
+  pub low : AreLow share.numbers
+  pub level : (updates ≡ most_parts) × (events ≡ most_parts) × (orders ≡ most_parts)

@@ -1,15 +1,14 @@
 //! The calls of a node, each over a book of its own.
 
 ghost use Rattle.std.specs.Prelude.{◌≡◌};
-ghost use Rattle.event_book.specs.Shares.{most_parts};
 ghost use Rattle.tick_round.specs.Node.{HasRoom};
 
 use crate::arrivals::arrive;
-use crate::blanks::Blanks;
 use crate::nodes::node_of;
 use crate::reports::report;
 use crate::seen::{Saw, Unprepared};
 use crate::ticks::{Way, tick};
+use event_book::Blanks;
 use std::alloc::Global;
 use std::marker::Brand;
 use std::sync::Wait;
@@ -58,7 +57,6 @@ fn over_book<U: Ledger + Send, E: Ledger + Send, O: Ledger + Send, R: Threads + 
     requires names { (blanks.updates.name ≡ U.name) × (blanks.events.name ≡ E.name) × (blanks.orders.name ≡ O.name) }
     requires parts { (blanks.updates.parts ≡ U.parts) × (blanks.events.parts ≡ E.parts)
         × (blanks.orders.parts ≡ O.parts) }
-    requires level { (U.parts ≡ most_parts) × (E.parts ≡ most_parts) × (O.parts ≡ most_parts) }
 {
     let mut node = match node_of::<U, E, O>(alloc, blanks, call.has_all()) {
         Ok(node) => node,

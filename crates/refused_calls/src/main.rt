@@ -4,7 +4,6 @@
 
 mod alike;
 mod arrivals;
-mod blanks;
 mod calls;
 mod nodes;
 mod pieces;

@@ -2,13 +2,11 @@
 
 ghost use Rattle.std.specs.Prelude.{◌≡◌, ◌<◌, ◌≤◌, length, None, IfOk, IsTrue};
 ghost use Rattle.observations.specs.Limits.{most_pods};
-ghost use Rattle.event_book.specs.Shares.{most_parts};
 ghost use Rattle.tick_round.specs.Node.{HasRoom};
 
-use crate::blanks::Blanks;
 use crate::recorded::{config, is_report, pods, ticks};
 use crate::seen::{Saw, Unprepared};
-use event_book::WholeBook;
+use event_book::{Blanks, WholeBook};
 use manifest::PodSpec;
 use node_report::report_text;
 use observations::{MOST_PODS, TickObs};
@@ -39,12 +37,11 @@ pub(crate) fn node_of<U: Ledger, E: Ledger, O: Ledger>(
     requires names { (blanks.updates.name ≡ U.name) × (blanks.events.name ≡ E.name) × (blanks.orders.name ≡ O.name) }
     requires parts { (blanks.updates.parts ≡ U.parts) × (blanks.events.parts ≡ E.parts)
         × (blanks.orders.parts ≡ O.parts) }
-    requires level { (U.parts ≡ most_parts) × (E.parts ≡ most_parts) × (O.parts ≡ most_parts) }
     ensures { IfOk result HasRoom }
 {
     let pods = few_pods(alloc, with_last)?;
     let config = config(alloc)?;
-    let book = WholeBook::<U, E, O>::new(blanks.updates, blanks.events, blanks.orders);
+    let book = WholeBook::<U, E, O>::new(blanks);
     Ok(Node::new(alloc, config, pods, book)?)
 }
 

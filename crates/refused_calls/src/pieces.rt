@@ -1,17 +1,14 @@
 //! A pod by itself: what stands where it is refused memory.
 
-ghost use Rattle.std.specs.Prelude.{◌≡◌, ◌<◌, false, IfOk, IfSome, IsTrue, OnOk};
-ghost use Rattle.pod_state.specs.Pods.{pod_tick};
-ghost use Rattle.pod_piece.specs.Listings.{IsNextTick};
+ghost use Rattle.std.specs.Prelude.{◌≡◌, IfOk, IsTrue, OnOk};
 
 use crate::alike::are_alike;
 use crate::recorded::{pod, shown};
 use crate::seen::{Saw, Unprepared};
 use manifest::MaxRestartDelay;
-use observations::PodObs;
 use pod_piece::PodPiece;
-use quantity::END_OF_TIME;
 use std::alloc::Global;
+use test_pods::Unhanded;
 
 /// A call of a piece.
 #[derive(Clone, Copy)]
@@ -32,55 +29,9 @@ pub(crate) enum Stage {
     Updated,
 }
 
-/// Why a piece did not take an observation.
-#[derive(Clone, Copy)]
-enum Unhanded {
-    /// It may not come next.
-    NotNext,
-    /// A growth of memory was refused.
-    Refused,
-}
-
 impl From<Unhanded> for Unprepared {
     fn from(_: Unhanded) -> Unprepared {
         Unprepared
-    }
-}
-
-/// Whether a moment comes after the last one, if there is one.
-fn is_later(last: Option<u64>, at: u64) -> bool
-    ensures { IsTrue result → IfSome last (λ moment. moment < at) }
-{
-    match last {
-        Some(last) => last < at,
-        None => true,
-    }
-}
-
-/// Whether the observation may come next.
-fn may_take(piece: &PodPiece, observed: &PodObs) -> bool
-    ensures free { IsTrue result → piece.now.is_pending ≡ false }
-    ensures next { IsTrue result → IsNextTick piece.now.pod piece.now.handed (pod_tick observed.now) }
-{
-    if piece.pending() {
-        return false;
-    }
-    observed.at() < END_OF_TIME
-        && is_later(piece.last_at(), observed.at())
-        && piece.accepts(observed)
-}
-
-/// The piece takes an observation, if it may come next.
-fn hand_to(piece: &mut PodPiece, observed: PodObs) -> Result<(), Unhanded>
-    ensures number { piece.new.number ≡ piece.old.number }
-    ensures pending { OnOk result (IsTrue piece.new.is_pending) }
-{
-    if !may_take(piece, &observed) {
-        return Err(Unhanded::NotNext);
-    }
-    match piece.hand(observed) {
-        Ok(()) => Ok(()),
-        Err(_) => Err(Unhanded::Refused),
     }
 }
 
@@ -98,7 +49,7 @@ fn hand_first(alloc: Global, piece: &mut PodPiece, number: usize) -> Result<(), 
     ensures pending { OnOk result (IsTrue piece.new.is_pending) }
 {
     let observed = shown(alloc, number)?;
-    hand_to(piece, observed)?;
+    test_pods::hand(piece, observed)?;
     Ok(())
 }
 
@@ -162,9 +113,9 @@ fn handed_again(alloc: Global, piece: &mut PodPiece) -> Result<Saw, Unprepared> 
 /// `PodPiece::hand`, of a piece that nothing was handed to.
 fn hand(alloc: Global, piece: &mut PodPiece) -> Result<Saw, Unprepared> {
     let observed = shown(alloc, 0)?;
-    match hand_to(piece, observed) {
+    match test_pods::hand(piece, observed) {
         Ok(()) => Ok(Saw::Done),
-        Err(Unhanded::Refused) => handed_again(alloc, piece),
+        Err(Unhanded::OutOfMemory) => handed_again(alloc, piece),
         Err(Unhanded::NotNext) => Ok(Saw::Wrong("the piece does not accept the observation")),
     }
 }

@@ -7,12 +7,20 @@ use std::alloc::Global;
 use trace::{Format, NodeConfig, Trace, read_trace};
 
 /// Two pods by two ticks.
-const TEXT: &str = r#"{"kind":"node","name":"n1"}
-{"kind":"pod","pod":{"metadata":{"name":"a"},"spec":{"containers":[{"name":"c"}]}}}
-{"kind":"pod","pod":{"metadata":{"name":"b"},"spec":{"containers":[{"name":"c"}]}}}
-{"kind":"tick","at":1,"pods":[{"pod":"default/a","containers":[{"name":"c","state":1}]},{"pod":"default/b","containers":[{"name":"c","state":1}]}]}
-{"kind":"tick","at":9,"pods":[{"pod":"default/a","containers":[{"name":"c","state":2,"exitCode":3}]},{"pod":"default/b","containers":[{"name":"c","state":1}]}]}
-"#;
+const TEXT: &str = concat!(
+    r#"{"kind":"node","name":"n1"}"#,
+    "\n",
+    r#"{"kind":"pod","pod":{"metadata":{"name":"a"},"spec":{"containers":[{"name":"c"}]}}}"#,
+    "\n",
+    r#"{"kind":"pod","pod":{"metadata":{"name":"b"},"spec":{"containers":[{"name":"c"}]}}}"#,
+    "\n",
+    r#"{"kind":"tick","at":1,"pods":[{"pod":"default/a","containers":[{"name":"c","state":1}]},"#,
+    r#"{"pod":"default/b","containers":[{"name":"c","state":1}]}]}"#,
+    "\n",
+    r#"{"kind":"tick","at":9,"pods":[{"pod":"default/a","containers":[{"name":"c","state":2,"exitCode":3}]},"#,
+    r#"{"pod":"default/b","containers":[{"name":"c","state":1}]}]}"#,
+    "\n",
+);
 
 /// The report of the trace.
 const REPORT: &str = "\

@@ -1,14 +1,12 @@
 //! A round of a pool over a book of its own.
 
-ghost use Rattle.std.specs.Prelude.{◌≡◌, ◌+◌, IfOk, OnOk};
-ghost use Rattle.event_book.specs.Limits.{AreLow};
-ghost use Rattle.event_book.specs.Shares.{most_parts};
-ghost use Rattle.refused_calls.specs.Round.{AreFirst};
+ghost use Rattle.std.specs.Prelude.{◌≡◌, ◌+◌, IfOk, IfErr, OnOk};
+ghost use Rattle.pod_pool.specs.Faults.{GivesBack};
+ghost use Rattle.refused_calls.specs.Round.{AreFirst, IsWholeShare};
 
-use crate::blanks::Blanks;
 use crate::pieces::{Stage, pending, shows};
 use crate::seen::{Line, Saw, Unprepared};
-use event_book::{EventBook, Shares, Totals};
+use event_book::{Blanks, EventBook, Shares, Totals};
 use pod_piece::PodPiece;
 use pod_pool::{NoGate, PoolFault, update_all};
 use std::alloc::Global;
@@ -17,7 +15,7 @@ use std::sync::ledger::Ledger;
 use std::sync::{Mutex, Wait};
 use std::thread::Threads;
 
-/// So many workers share the two pods.
+/// This many workers share the two pods.
 const WORKERS: usize = 2;
 
 /// What the book has of the first tick: each pod starts, becomes ready and runs.
@@ -124,85 +122,104 @@ fn given_up(alloc: Global, piece: &PodPiece) -> Result<(End, Saw), Unprepared> {
     }
 }
 
-/// The round with what came back of it.
-fn begun_again<U: Ledger + Send, E: Ledger + Send, O: Ledger + Send, R: Threads + Wait + Sync>(
-    rt: &R,
+/// Calls of a pool over a book.
+#[derive(Drop)]
+struct Pool<'a, U: Ledger, E: Ledger, O: Ledger, R> {
+    rt: &'a R,
     alloc: Global,
-    book: &Mutex<EventBook<U, E, O>>,
-    pieces: Vec<PodPiece>,
-    share: Shares<U, E, O>,
-) -> Result<(End, Saw), Unprepared>
-    requires first { AreFirst 2 pieces.items }
-    requires whole { share.parts ≡ most_parts }
-    requires level { (U.parts ≡ most_parts) × (E.parts ≡ most_parts) × (O.parts ≡ most_parts) }
-    requires low { AreLow share.numbers }
-{
-    let saw = Saw::Refused("pieces and share come back as they were, and are updated");
-    match update_all(rt, alloc, pieces, book, share, WORKERS, &NoGate) {
-        Ok((pieces, share)) => {
-            let saw = updated(alloc, &pieces, End::MadeAgain, saw);
-            drop((pieces, share));
-            saw
-        }
-        Err(fault) => {
-            drop(fault);
-            let saw = Saw::Wrong("the second call is refused");
-            Ok((End::MadeAgain, saw))
-        }
-    }
+    book: &'a Mutex<EventBook<U, E, O>>,
 }
 
-/// What was seen of a round that was not begun.
-fn not_begun<U: Ledger + Send, E: Ledger + Send, O: Ledger + Send, R: Threads + Wait + Sync>(
-    rt: &R,
-    alloc: Global,
-    book: &Mutex<EventBook<U, E, O>>,
-    pieces: Vec<PodPiece>,
-    share: Shares<U, E, O>,
-) -> Result<(End, Saw), Unprepared>
-    requires first { AreFirst 2 pieces.items }
-    requires whole { share.parts ≡ most_parts }
-    requires level { (U.parts ≡ most_parts) × (E.parts ≡ most_parts) × (O.parts ≡ most_parts) }
-    requires low { AreLow share.numbers }
-{
-    match are_both(alloc, &pieces, Stage::Pending) {
-        Ok(true) => begun_again(rt, alloc, book, pieces, share),
-        Ok(false) => {
-            drop((pieces, share));
-            let saw = Saw::Wrong("the pieces are other than they were");
-            Ok((End::MadeAgain, saw))
-        }
-        Err(unprepared) => {
-            drop((pieces, share));
-            Err(unprepared)
+impl<U: Ledger + Send, E: Ledger + Send, O: Ledger + Send, R: Threads + Wait + Sync> Pool<
+    '_,
+    U,
+    E,
+    O,
+    R,
+> {
+    /// `update_all`.
+    fn update(
+        &self,
+        pieces: Vec<PodPiece>,
+        share: Shares<U, E, O>,
+    ) -> Result<(Vec<PodPiece>, Shares<U, E, O>), PoolFault<U, E, O>>
+        requires first { AreFirst 2 pieces.items }
+        requires share { IsWholeShare share U.parts E.parts O.parts }
+        ensures { IfErr result (GivesBack pieces share) }
+    {
+        update_all(
+            self.rt, self.alloc, pieces, self.book, share, WORKERS, &NoGate,
+        )
+    }
+
+    /// The round with what came back of it.
+    fn begun_again(
+        &self,
+        pieces: Vec<PodPiece>,
+        share: Shares<U, E, O>,
+    ) -> Result<(End, Saw), Unprepared>
+        requires first { AreFirst 2 pieces.items }
+        requires share { IsWholeShare share U.parts E.parts O.parts }
+    {
+        let saw = Saw::Refused("pieces and share come back as they were, and are updated");
+        match self.update(pieces, share) {
+            Ok((pieces, share)) => {
+                let saw = updated(self.alloc, &pieces, End::MadeAgain, saw);
+                drop((pieces, share));
+                saw
+            }
+            Err(fault) => {
+                drop(fault);
+                let saw = Saw::Wrong("the second call is refused");
+                Ok((End::MadeAgain, saw))
+            }
         }
     }
-}
 
-/// How the round ended, and what was seen of it.
-fn played<U: Ledger + Send, E: Ledger + Send, O: Ledger + Send, R: Threads + Wait + Sync>(
-    rt: &R,
-    alloc: Global,
-    book: &Mutex<EventBook<U, E, O>>,
-    pieces: Vec<PodPiece>,
-    share: Shares<U, E, O>,
-) -> Result<(End, Saw), Unprepared>
-    requires first { AreFirst 2 pieces.items }
-    requires whole { share.parts ≡ most_parts }
-    requires level { (U.parts ≡ most_parts) × (E.parts ≡ most_parts) × (O.parts ≡ most_parts) }
-    requires low { AreLow share.numbers }
-{
-    match update_all(rt, alloc, pieces, book, share, WORKERS, &NoGate) {
-        Ok((pieces, share)) => {
-            let saw = updated(alloc, &pieces, End::Made, Saw::Done);
-            drop((pieces, share));
-            saw
+    /// What was seen of a round that was not begun.
+    fn not_begun(
+        &self,
+        pieces: Vec<PodPiece>,
+        share: Shares<U, E, O>,
+    ) -> Result<(End, Saw), Unprepared>
+        requires first { AreFirst 2 pieces.items }
+        requires share { IsWholeShare share U.parts E.parts O.parts }
+    {
+        match are_both(self.alloc, &pieces, Stage::Pending) {
+            Ok(true) => self.begun_again(pieces, share),
+            Ok(false) => {
+                drop((pieces, share));
+                let saw = Saw::Wrong("the pieces are other than they were");
+                Ok((End::MadeAgain, saw))
+            }
+            Err(unprepared) => {
+                drop((pieces, share));
+                Err(unprepared)
+            }
         }
-        Err(PoolFault::NoRoom(pieces, share)) => not_begun(rt, alloc, book, pieces, share),
-        Err(PoolFault::Update(piece)) => {
-            let saw = given_up(alloc, &piece);
-            drop(piece);
-            saw
+    }
+
+    /// How the round ended, and what was seen of it.
+    fn played(
+        &self,
+        pieces: Vec<PodPiece>,
+        share: Shares<U, E, O>,
+    ) -> Result<(End, Saw), Unprepared>
+        requires first { AreFirst 2 pieces.items }
+        requires share { IsWholeShare share U.parts E.parts O.parts }
+    {
+        match self.update(pieces, share) {
+            Ok((pieces, share)) => {
+                let saw = updated(self.alloc, &pieces, End::Made, Saw::Done);
+                drop((pieces, share));
+                saw
+            }
+            Err(PoolFault::NoRoom(pieces, share)) => self.not_begun(pieces, share),
+            Err(PoolFault::Update(piece)) => {
+                let saw = given_up(self.alloc, &piece);
+                drop(piece);
+                saw
+            }
         }
     }
 }
@@ -218,11 +235,15 @@ fn over_book<U: Ledger + Send, E: Ledger + Send, O: Ledger + Send, R: Threads + 
     requires names { (blanks.updates.name ≡ U.name) × (blanks.events.name ≡ E.name) × (blanks.orders.name ≡ O.name) }
     requires parts { (blanks.updates.parts ≡ U.parts) × (blanks.events.parts ≡ E.parts)
         × (blanks.orders.parts ≡ O.parts) }
-    requires level { (U.parts ≡ most_parts) × (E.parts ≡ most_parts) × (O.parts ≡ most_parts) }
 {
-    let (book, share) = EventBook::<U, E, O>::new(blanks.updates, blanks.events, blanks.orders);
+    let (book, share) = EventBook::<U, E, O>::new(blanks);
     let book = Mutex::new(book);
-    let (end, saw) = played(rt, alloc, &book, pieces, share)?;
+    let pool = Pool {
+        rt,
+        alloc,
+        book: &book,
+    };
+    let (end, saw) = pool.played(pieces, share)?;
     Ok(end.line(saw, book.into_inner().totals()))
 }
 

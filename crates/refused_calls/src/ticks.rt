@@ -13,7 +13,7 @@ use std::sync::ledger::Ledger;
 use std::thread::Threads;
 use tick_round::{NoGate, Node, TickFault};
 
-/// So many workers share the pods of a tick.
+/// This many workers share the pods of a tick.
 const WORKERS: usize = 2;
 
 /// How a node takes a tick.

@@ -5,23 +5,23 @@ use kubelet_replay::{Counted, Format, MemSource, NoGate, check_in, fault_line, r
 use std::sync::Wait;
 use std::thread::Threads;
 
-/// So many bytes a call gives, as a file's reader would.
+/// This many bytes a call gives, as a file's reader would.
 const BYTES_A_READ: usize = 64 << 10;
 
-/// So many workers share the pods of a tick at most.
+/// This many workers share the pods of a tick at most.
 const MOST_WORKERS: usize = 64;
 
 /// What is asked of a trace.
 #[derive(Clone, Copy)]
 pub(crate) enum Job {
-    /// Its report, by so many workers.
+    /// Its report, by this many workers.
     Run(usize),
     /// Whether it is a trace.
     Check,
 }
 
 impl Job {
-    /// The job of this name, by so many workers, of which there are 1 to 64.
+    /// The job of this name, by this many workers, of which there are 1 to 64.
     pub(crate) fn of_words(name: &str, workers: u64) -> Option<Job> {
         let workers = usize::try_from(workers).ok()?;
         match name {

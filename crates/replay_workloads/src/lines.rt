@@ -17,7 +17,7 @@ const HARD: &str = r#","evictionHard":{"memory.available":"100Mi","nodefs.availa
 const SOFT: &str =
     r#","evictionSoft":{"memory.available":"1Gi"},"evictionSoftGracePeriod":{"memory.available":"1m"}}"#;
 
-/// Whether this is the last tick of so many.
+/// Whether this is the last tick of this many.
 fn is_last_of(count: u64, tick: u64) -> bool {
     tick.wrapping_add(1).checked_rem(count) == Some(0)
 }
@@ -80,7 +80,7 @@ fn listing(pen: &mut Pen, shape: &Shape, container: u64, turn: u64) -> Result<()
     pen.text("}")
 }
 
-/// What a probe found: a failure once in so many random numbers.
+/// What a probe found: a failure once in this many random numbers.
 fn result(
     pen: &mut Pen,
     shape: &Shape,
@@ -186,7 +186,7 @@ fn tick_line(
     pen.text(words.signals_end)
 }
 
-/// The trace of this shape and so many ticks that comes of a seed.
+/// The trace of this shape and this many ticks that comes of a seed.
 pub(crate) fn trace(
     alloc: Global,
     shape: &Shape,

@@ -3,7 +3,7 @@
 //!
 //!     replay_workloads JOB SHAPE TICKS WORKERS TRACES SEED
 //!
-//! JOB is `run` or `check`, SHAPE a shape by its name; each of so many TRACES has TICKS ticks and comes of another
+//! JOB is `run` or `check`, SHAPE a shape by its name; each of this many TRACES has TICKS ticks and comes of another
 //! seed.
 #![tactic(auto)]
 

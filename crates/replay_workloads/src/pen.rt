@@ -11,7 +11,7 @@ pub(crate) struct Pen {
 }
 
 impl Pen {
-    /// Nothing is written, and there is room for so many bytes.
+    /// Nothing is written, and there is room for this many bytes.
     pub(crate) fn new(alloc: Global, room: usize) -> Result<Pen, AllocError> {
         Ok(Pen {
             text: Vec::with_capacity(alloc, room)?,

@@ -14,15 +14,15 @@ pub(crate) struct Shape {
     pub(crate) containers: u64,
     /// The probes of each container.
     pub(crate) probes: &'static [&'static str],
-    /// So many ticks an attempt is listed.
+    /// This many ticks an attempt is listed.
     pub(crate) attempt: u64,
-    /// So many of these as running, the first ones.
+    /// This many of these as running, the first ones.
     pub(crate) running: u64,
-    /// What the probes found is listed in each tick of so many.
+    /// What the probes found is listed in each tick of this many.
     pub(crate) probed: u64,
-    /// The node is short of memory in one tick of so many.
+    /// The node is short of memory in one tick of this many.
     pub(crate) shortage: u64,
-    /// A pod goes and another comes in one tick of so many, but never where it is 0.
+    /// A pod goes and another comes in one tick of this many, but never where it is 0.
     pub(crate) turnover: u64,
     pub(crate) words: &'static Words,
 }

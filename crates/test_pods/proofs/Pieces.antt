@@ -4,7 +4,7 @@ use Rattle.std.specs.Prelude.{IsTrue, slice_get}
 use Rattle.histories.proofs.Lists.{place_split}
 use Rattle.pod_piece.specs.Piece.{Piece}
 use Rattle.piece_deques.proofs.Lists.{grown}
-use Rattle.calls_tests.specs.Pods.{ArePending}
+use Rattle.test_pods.specs.Pods.{ArePending}
 
 pub one_more : (old new : List Piece) (piece : Piece) → ArePending old → new ≡ old ++ piece ∷ []
     → piece.number ≡ length old → IsTrue piece.is_pending → ArePending new

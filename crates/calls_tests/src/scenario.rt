@@ -1,0 +1,25 @@
+//! What the calls that update pods under a gate are made with.
+
+ghost use Rattle.std.specs.Prelude.{◌<◌, ◌≤◌};
+ghost use Rattle.event_book.specs.Limits.{most_workers};
+
+use kubelet_replay::Gate;
+use std::alloc::Global;
+use trace::{Format, LineFault, Trace, read_trace};
+
+/// The pods of a trace are updated by this many workers, 1 to 64, in threads of their own under a gate.
+#[derive(Drop)]
+pub(crate) struct Scenario<'a, G: Gate> {
+    pub(crate) text: &'a str,
+    pub(crate) workers: usize,
+    pub(crate) gate: &'a G,
+    ghost some: { 0 < workers },
+    ghost most: { workers ≤ most_workers },
+}
+
+impl<G: Gate> Scenario<'_, G> {
+    /// The trace that the text says.
+    pub(crate) fn trace(&self, alloc: Global) -> Result<Trace, LineFault> {
+        read_trace(alloc, Format::Standard, self.text.as_bytes())
+    }
+}
