@@ -3,18 +3,24 @@ import re
 import signal
 
 
-def rows_below(text, heading):
-    """The rows of the table whose heading begins so, as number and word. Want of memory names no line."""
-    table = text.split(f"\n| Number | {heading} |", 1)[1].split("\n\n", 1)[0]
+def manifest_faults(text):
+    """The numbers in the table of a manifest's faults. Want of memory names no line."""
+    table = text.split("\n| Number | Manifest fault |", 1)[1].split("\n\n", 1)[0]
     rows = re.findall(r"^\| (\d+) \| (\w+) \|", table, re.MULTILINE)
-    return [row for row in rows if row[1] != "OutOfMemory"]
+    return [number for number, word in rows if word != "OutOfMemory"]
+
+
+def kinds_of_fault(text):
+    """The items of the list of the first fault, as number and word."""
+    part = text.split("\n### The first fault of a text\n", 1)[1].split("\n#", 1)[0]
+    return re.findall(r"^- (\d+) (\w+): ", part, re.MULTILINE)
 
 
 def faults_in(text):
     """The faults of a line that docs/formats.md names, as the program says them behind the line's number."""
-    manifest = [f" {number}" for number, _ in rows_below(text, "Manifest fault")]
-    kinds = rows_below(text, "Kind")
-    return {f"{number} {word}{fault}" for number, word in kinds for fault in (manifest if word == "Manifest" else [""])}
+    manifest = [f" {number}" for number in manifest_faults(text)]
+    return {f"{number} {word}{fault}" for number, word in kinds_of_fault(text)
+            for fault in (manifest if word == "Manifest" else [""])}
 
 
 WITHOUT_LINE = {b"read failed\n", b"input too long\n", b"out of memory\n"}
@@ -22,7 +28,7 @@ REPORT = re.compile(rb"node (\S+) pods=(\d+) ticks=(\d+)\n(?s:.*\n)?totals updat
 
 
 def kind_of(answer, lines, faults, tight=False):
-    """The kind of an answer to a text of so many lines; one that begins with a ! is none that may be given."""
+    """The kind of an answer to a text of this many lines; one that begins with a ! is none that may be given."""
     status, written, said = answer
     if status < 0:
         return f"!ended by {signal.Signals(-status).name}"

@@ -26,7 +26,7 @@ class Run:
         return len(glob.glob(f"{self.folder}/fleet.db.done/*.rows.gz"))
 
     def look_until(self, done=None):
-        """Waits until so many traces are done, or until the end. Whoever ends this ends the run and its processes."""
+        """Waits until this many traces are done, or until the end. Whoever ends this ends the run and its processes."""
         try:
             while self.process.poll() is None and (done is None or self.done() < done):
                 self.peak = max(self.peak, processes.resident_of([self.process.pid, *self.others]))
@@ -92,7 +92,7 @@ def local_runs(fleet, traces, python, work):
 
 
 def dask_run(fleet, traces, python, work, count, ends=False):
-    """The database of a run with so many workers, of which one may be ended by its id meanwhile."""
+    """The database of a run with this many workers, of which one may be ended by its id meanwhile."""
     name = f"{count} workers of Dask" + (", one of them ended" if ends else "")
     folder = f"{work}/dask-{count}-{ends}"
     os.makedirs(folder)

@@ -1,5 +1,6 @@
 """The page on what the gate costs, docs/gate.md, from given figures."""
 import os
+import textwrap
 from typing import NamedTuple
 
 from gate_figures import KINDS, edits_of, longest_chain
@@ -18,7 +19,7 @@ took {wall} minutes and {spent} processor minutes; other processes of the machin
 {others}. What a run keeps has the figures of the run that proved it; beside these, too, other work may
 have gone on, which makes processors slower.
 
-The longest chain of parts that wait for one another takes {chain} processor minutes: {steps}.
+{chain}
 
 Lines are those of `src/`, `specs/` and `proofs/`; edits are the mutants in `must-fail/`.
 Seconds are processor seconds, looked at five times a second.
@@ -98,6 +99,12 @@ def minutes(seconds):
     return f"{seconds / 60:.1f}"
 
 
+def chain_text(length, steps):
+    """The sentence on the longest chain."""
+    return textwrap.fill(f"The longest chain of parts that wait for one another takes {length} processor minutes: "
+                         f"{', '.join(steps)}.", 118, break_long_words=False, break_on_hyphens=False)
+
+
 def text_of(top, below, found, run, machine, ticks):
     """The whole page."""
     rows, sums = table(top, below, found)
@@ -109,7 +116,7 @@ def text_of(top, below, found, run, machine, ticks):
     head = HEAD.format(
         machine=machine, whole=minutes(sum(sums)), proofs=proofs, tests=tests, edits=edits, last=run.last,
         proved=run.proved, crates=len(below), wall=minutes(run.wall), spent=minutes(run.spent),
-        others=minutes(run.others), chain=minutes(length), steps=", ".join(steps))
+        others=minutes(run.others), chain=chain_text(minutes(length), steps))
     return head + "\n".join([*rows, "", *costs(top, ticks)]) + "\n"
 
 

@@ -1,11 +1,14 @@
-"""Writes the manual page of the program to standard output, from what its help says and from the table of statuses in
-docs/formats.md.
+"""Writes the manual page of the program to standard output, from what its help says and from the list of statuses in
+docs/report.md.
 
     manual.py PROGRAM TOP VERSION DATE
 """
 import re
 import subprocess
 import sys
+
+# what stands above the list of statuses
+STATUSES = "\nThe program ends with a status, and says on standard error:\n\n"
 
 
 def said(program, *words):
@@ -54,11 +57,12 @@ def list_of(items):
 
 
 def statuses(top):
-    """The rows of the table of statuses, without its marks."""
-    with open(f"{top}/docs/formats.md", encoding="utf-8") as file:
-        table = file.read().partition("| Status | When |")[2].partition("\n\n")[0].split("\n")[2:]
-    for row in table:
-        status, when, line = (cell.strip().replace("`", "") for cell in row.strip().strip("|").split("|"))
+    """The items of the list of statuses, without its marks."""
+    with open(f"{top}/docs/report.md", encoding="utf-8") as file:
+        items = file.read().partition(STATUSES)[2].partition("\n\n")[0]
+    for item in re.split(r"\n(?=- )", items):
+        plain = " ".join(item.replace("`", "").split())
+        status, when, line = re.fullmatch(r"- (\d+) \((.*?)\): (.*)", plain).groups()
         yield status, f"{when}. On standard error: {line}."
 
 
@@ -87,8 +91,8 @@ def page(program, top, version, date):
             lines += command(program, name)
     lines += [".SH OPTIONS", *list_of(items_of(parts.get("Options", [])))]
     lines += [".SH EXIT STATUS", *list_of(statuses(top))]
-    lines += [".SH FILES", "Beside the program docs/rules.md has the rules, docs/formats.md says what a trace and a",
-              "report are, and examples/ has traces with their reports."]
+    lines += [".SH FILES", "Beside the program docs/rules.md has the rules, docs/formats.md says what a trace is,",
+              "docs/report.md what a report is, and examples/ has traces with their reports."]
     return "\n".join(lines) + "\n"
 
 

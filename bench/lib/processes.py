@@ -36,7 +36,7 @@ def wait(pid):
 
 
 def run(words, given=subprocess.DEVNULL, written=subprocess.DEVNULL, said=None, longest=None):
-    """Runs a command from its begin to its end. After so many seconds it is ended, and so is all that it began."""
+    """Runs a command from its begin to its end. After this many seconds it is ended, and so is all that it began."""
     child, late = subprocess.Popen(words, stdin=given, stdout=written, stderr=said, process_group=0), []
 
     def end():

@@ -40,7 +40,7 @@ def crowd(listed, length=4, ticks=20_000, behind=b""):
 
 
 def filled(before, first, again, last, after=b"", most=MIB):
-    """A line of 1 MiB at most, or of so many bytes, with a value that fills it."""
+    """A line of 1 MiB at most, or of this many bytes, with a value that fills it."""
     times = (most - len(before + first + last + after)) // len(again)
     return before + first + again * times + last + after
 
@@ -70,7 +70,7 @@ def shapes():
     for name, first, again, last in VALUES[1:]:
         # a number takes one place more than its sign
         line = filled(b'{"kind":"tick","at": #,"more":', first, again, last, b"}").replace(b" #", b"#") + b"\n"
-        yield "ticks of 1 MiB, with an unknown field: " + name, lines_up_to(NODE, line, 64)
+        yield "ticks of 1 MiB, unknown field: " + name, lines_up_to(NODE, line, 64)
     yield "one line of 1 MiB and 1 byte", [b"[" * (MIB + 1)]
     yield "a million blank lines", [b"\n" * 1_000_000]
     yield "64 MiB of blank lines", [b"\n" * MIB] * 64

@@ -1,4 +1,4 @@
-"""Reads a report of the program, as docs/formats.md says, and what it tells over time."""
+"""Reads a report of the program, as docs/report.md says, and what it tells over time."""
 
 from __future__ import annotations
 

@@ -9,7 +9,7 @@ TICK = 10
 
 
 def trace_of(pods, ticks, present):
-    """A trace of so many pods and ticks, with so many pods at a tick: crash loops, readiness that comes and goes, and
+    """A trace of so many pods and ticks, with this many at a tick: crash loops, readiness that comes and goes, and
     dips of memory that evict."""
     yield line(kind="node", name="big-node", version=2, evictionHard={"memory.available": "200Mi"},
                evictionSoft={"memory.available": "500Mi"}, evictionSoftGracePeriod={"memory.available": "2m"})

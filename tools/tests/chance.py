@@ -119,7 +119,7 @@ def lives_of(chance, play, number, look):
 
 
 def play_of(chance, look):
-    """A play of some pods, for a recorder that looks each so many seconds."""
+    """A play of some pods, for a recorder that looks each this many seconds."""
     play = {"begin": BEGIN, "pods": {}, "containers": [], "probes": [], "fails": faults(chance),
             "samples": {"-1": {"memory": 4294967296}, "9": {"memory": 4294967290}}}
     for number in range(chance.randint(1, 4)):

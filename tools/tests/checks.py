@@ -43,7 +43,7 @@ def read(path):
 
 
 def run(words, given="", longest=LONGEST, **settings):
-    """The status, the output and the errors of a command that may take so many seconds."""
+    """The status, the output and the errors of a command that may take this many seconds."""
     try:
         done = subprocess.run(words, input=given.encode(), capture_output=True, timeout=longest, check=False,
                               env={**os.environ, "KUBELET_REPLAY": REPLAY, **settings})

@@ -16,7 +16,7 @@ NODE = f"{HERE}/whys/file_system"
 PROBES = f"{HERE}/whys/probes"
 AGAIN = f"{TOP}/crates/case_runner/data/traces/extended"
 PODS, TICKS = 256, 20000
-# of the page of so many pods and ticks
+# of the page of this many pods and ticks
 MOST_BYTES = 6000000
 
 

@@ -51,7 +51,7 @@ def descendants(root):
 
 
 def end_descendants(seconds=20):
-    """Kills all that descends from this process; the ids of what is there after so many seconds."""
+    """Kills all that descends from this process; the ids of what is there after this many seconds."""
     until = time.monotonic() + seconds
     while True:
         reap()

@@ -88,7 +88,7 @@ class Observer:
         return answer
 
     def is_due(self, source, moment):
-        """Whether so many whole seconds have passed since a source was asked, also where it gave no answer."""
+        """Whether this many whole seconds have passed since a source was asked, also where it gave no answer."""
         asked = self.asked_at.get(source)
         return asked is None or int(moment) < int(asked) or int(moment) - int(asked) >= self.seconds[source]
 

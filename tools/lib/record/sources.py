@@ -15,7 +15,7 @@ class Failed(Exception):
 
 
 def run_command(words, seconds):
-    """What a command writes on standard output; Failed where it fails or takes longer than so many seconds."""
+    """What a command writes on standard output; Failed where it fails or takes longer than this many seconds."""
     try:
         done = subprocess.run(words, stdin=subprocess.DEVNULL, capture_output=True, timeout=seconds, check=False)
     except subprocess.TimeoutExpired:
