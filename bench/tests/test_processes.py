@@ -48,12 +48,19 @@ class Processes(Case):
             time.sleep(0.01)
 
     def test_a_run_is_interrupted(self):
-        begun = time.monotonic()
+        begun, wait, ended = time.monotonic(), processes.wait, []
+        # it ends once nobody can write to it
+        read_end, write_end = os.pipe()
+
+        def end(child):
+            os.close(write_end)
+            ended.append(wait(child)[0])
+
         with mock.patch.object(processes, "wait", side_effect=KeyboardInterrupt), \
-                mock.patch.object(processes, "end_group") as ended, self.assertRaises(KeyboardInterrupt):
-            processes.run(["true"])
-        [[child], _] = ended.call_args
-        self.assertEqual(processes.wait(child)[0], 0)
+                mock.patch.object(processes, "end_group", side_effect=end), self.assertRaises(KeyboardInterrupt):
+            processes.run(["cat"], given=read_end)
+        os.close(read_end)
+        self.assertEqual(ended, [0])
         self.assertLess(time.monotonic() - begun, 10)
 
     def test_processes_that_there_are(self):
