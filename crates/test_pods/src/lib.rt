@@ -1,9 +1,10 @@
 //! Pods to which tests hand what a tick shows of them.
 #![tactic(auto)]
 
-ghost use Rattle.std.specs.Prelude.{◌≡◌, ◌<◌, false, IfSome, IsTrue, OnOk};
+ghost use Rattle.std.specs.Prelude.{◌≡◌, ◌<◌, false, IfSome, IsTrue, OnErr, OnOk};
 ghost use Rattle.pod_state.specs.Pods.{pod_tick};
 ghost use Rattle.pod_piece.specs.Listings.{IsNextTick};
+ghost use Rattle.pod_piece.specs.Piece.{with_tick};
 
 use observations::PodObs;
 use pod_piece::PodPiece;
@@ -44,6 +45,8 @@ fn may_take(piece: &PodPiece, observed: &PodObs) -> bool
 
 /// The pod takes an observation, if it may come next. An `Err` changes nothing.
 pub fn hand(piece: &mut PodPiece, observed: PodObs) -> Result<(), Unhanded>
+    ensures ok { OnOk result (piece.new ≡ with_tick piece.old (pod_tick observed)) }
+    ensures err { OnErr result (piece.new ≡ piece.old) }
     ensures number { piece.new.number ≡ piece.old.number }
     ensures pending { OnOk result (IsTrue piece.new.is_pending) }
 {
