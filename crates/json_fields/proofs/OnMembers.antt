@@ -17,7 +17,7 @@ use Rattle.json.proofs.Grammar.{members_no_key, read_key_is}
 use Rattle.json.proofs.Printed.Trees.{value-json_tokens}
 use Rattle.json.proofs.Unique.Spelling.{value-json_tokens_back}
 use Rattle.serde_json.specs.Data.{Data, Members, no_members, put}
-use Rattle.serde_json.specs.Find.{get_member, as_object}
+use Rattle.serde_json.specs.Find.{get_member}
 use Rattle.serde_json.proofs.Views.{get_member-put, get_member-put_other}
 use Rattle.json_fields.specs.Borrowed.{data_of, members_data}
 use Rattle.json_fields.specs.Fields.{present, field_at}

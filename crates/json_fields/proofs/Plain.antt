@@ -1,5 +1,5 @@
 -- The data of a value whose texts were not copied are those that serde_json reads.
-use Rattle.std.proofs.Common.{◌≡◌, ◌==◌, ℕ, ◌^◌, ◌&&◌, List, [], ◌∷◌, map, Bool, true, false, not}
+use Rattle.std.proofs.Common.{◌≡◌, ◌==◌, ℕ, ◌^◌, ◌&&◌, List, [], ◌∷◌, map, Bool, true, false}
 use Rattle.std.proofs.Common.{Option, Some, None, is_some, option_map, refl, sym, ap, ◌∙◌}
 use Rattle.std.proofs.Common.{true≢false}
 use Rattle.std.specs.Prelude.{slice_index, nat_lt, if◌then◌else◌, cond}
@@ -11,8 +11,8 @@ use Rattle.json.specs.Json.{Json}
 use Rattle.json.specs.Find as found
 use Rattle.json.specs.Value.{value_view, items_view}
 use Rattle.json.specs.declared.value.Value.{Value}
-use Rattle.serde_json.specs.Data.{Num, unsigned, Data, null, boolean, number, string, array, object}
-use Rattle.serde_json.specs.Data.{Items, no_items, item, Members, no_members, member, put}
+use Rattle.serde_json.specs.Data.{Num, unsigned, Data, number, array, object}
+use Rattle.serde_json.specs.Data.{Members, no_members, put}
 use Rattle.serde_json.specs.Find.{get, get_member}
 use Rattle.serde_json.specs.Read.{is_integer, number_of, number_from, of_json, of_items, of_members}
 use Rattle.serde_json.proofs.Views.{get_member-put, get_member-put_other}

@@ -4,7 +4,7 @@ use Rattle.std.specs.Prelude.{ℕ, ◌*◌, min, List, Option, Some, None, is_so
 use Rattle.std.specs.Prelude.{Ok, Err}
 use Rattle.serde_json.specs.Data.{Data}
 use Rattle.serde_json.specs.Find.{as_str, as_number, as_i64, as_u64}
-use Rattle.json_fields.specs.Reading.{◌>>=◌}
+use Rattle.json_fields.specs.Reading.{◌>>=◌, else_fault}
 use Rattle.quantity.specs.Limit.{limit_of}
 use Rattle.quantity.specs.Quantity.{quantity_of, greatest}
 use Rattle.quantity.specs.declared.fault.QuantityFault.{QuantityFault}
@@ -34,6 +34,11 @@ quantity_from d (Some text) = written (quantity_of text)
 -- a quantity, in thousandths: a text of one, or a number of units
 abbrev pub quantity_in : Data → Result ℕ FieldFault
 quantity_in d = quantity_from d (as_str d)
+
+-- a quantity that may be left out; one that is faulty has this fault
+abbrev pub quantity_or : {E : Type 0} → E → Option Data → Result (Option ℕ) E
+quantity_or fault None = Ok None
+quantity_or fault (Some d) = else_fault fault (quantity_in d) >>= λ thousandths. Ok (Some thousandths)
 
 abbrev pub limit_from : Data → Option (List ℕ) → Result Limit FieldFault
 limit_from d None = units_in d >>= λ thousandths. Ok (Quantity thousandths)

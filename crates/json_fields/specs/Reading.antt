@@ -16,6 +16,11 @@ abbrev pub some_or : {A E : Type 0} → E → Option A → Result A E
 some_or fault None = Err fault
 some_or fault (Some x) = Ok x
 
+-- what was read, else this fault
+abbrev pub else_fault : {A F E : Type 0} → E → Result A F → Result A E
+else_fault fault (Ok x) = Ok x
+else_fault fault (Err other) = Err fault
+
 -- what f reads of each item in order, or the first fault
 abbrev pub each : {A B E : Type 0} → (A → Result B E) → List A → Result (List B) E
 each f [] = Ok []

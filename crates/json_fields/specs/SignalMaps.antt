@@ -1,12 +1,13 @@
 -- Maps from the names of signals (Kubernetes, "Kubelet Configuration": `evictionHard`, `evictionSoft`,
 -- `evictionSoftGracePeriod` and `evictionMinimumReclaim`; "Node-pressure Eviction", "Eviction signals").
-use Rattle.std.specs.Prelude.{ℕ, ◌&&◌, ◌||◌, Bool, true, false, not, List, Option, Some, None, is_some, option_and_then}
+use Rattle.std.specs.Prelude.{ℕ, Bool, true, false, not, List, Option, Some, None, option_and_then}
 use Rattle.std.specs.Prelude.{Result, Ok}
-use Rattle.serde_json.specs.Data.{Data, Members, no_members, member}
-use Rattle.serde_json.specs.Find.{as_null, as_object}
+use Rattle.serde_json.specs.Data.{Data, Members}
+use Rattle.serde_json.specs.Find.{as_object}
 use Rattle.json_fields.specs.Fields.{field_at}
 use Rattle.json_fields.specs.Strangers.{has_stranger as has_other}
 use Rattle.json_fields.specs.Reading.{◌>>=◌, refused_if}
+use Rattle.signals.specs.BySignal.{among, for_each}
 use Rattle.signals.specs.declared.by_signal.BySignal.{BySignal}
 use Rattle.signals.specs.declared.signal.Signal.{Signal}
 use Rattle.signals.specs.declared.signal.Signal.TheVariants.{MemoryAvailable, NodefsAvailable, ImagefsAvailable}
@@ -47,20 +48,13 @@ in_map found signal = option_and_then (field_at (name_of signal)) found
 -- what is read for each signal, or the first fault
 unfoldable pub read_each : {A E : Type 0} → (Signal → Result A E) → Result (BySignal A) E
 read_each read = do
-  memory_available ← read MemoryAvailable
-  nodefs_available ← read NodefsAvailable
-  imagefs_available ← read ImagefsAvailable
-  nodefs_inodes_free ← read NodefsInodesFree
-  imagefs_inodes_free ← read ImagefsInodesFree
-  pid_available ← read PidAvailable
-  Ok (record {
-    memory_available = memory_available;
-    nodefs_available = nodefs_available;
-    imagefs_available = imagefs_available;
-    nodefs_inodes_free = nodefs_inodes_free;
-    imagefs_inodes_free = imagefs_inodes_free;
-    pid_available = pid_available;
-  })
+  memory ← read MemoryAvailable
+  nodefs ← read NodefsAvailable
+  imagefs ← read ImagefsAvailable
+  nodefs_inodes ← read NodefsInodesFree
+  imagefs_inodes ← read ImagefsInodesFree
+  pid ← read PidAvailable
+  Ok (for_each (among memory nodefs imagefs nodefs_inodes imagefs_inodes pid))
 
 -- what is read of each signal in a map
 abbrev pub read_in : {A E : Type 0} → (Signal → Option Data → Result A E) → Option Data → Result (BySignal A) E

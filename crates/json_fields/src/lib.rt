@@ -15,7 +15,7 @@ mod value;
 pub use borrowed::{is_plain, is_plain_in};
 pub use fault::FieldFault;
 pub use fields::{field, text_at};
-pub use quantities::{limit_in, quantity_in};
+pub use quantities::{QuantityMap, limit_in, quantity_in};
 pub use scope::Scope;
 pub use signal_map::{ReadSignal, read_map};
 pub use tape::{DEEPEST, TapeItems, TapeMembers, TapeValue, is_plain_tape};

@@ -43,6 +43,17 @@ pub trait ReadSignal {
         ensures { result ≡ read_of self.now signal (option_map (λ v. V.data v.now) found.entry) };
 }
 
+/// What the reader reads of one signal in a map.
+fn read_signal<R: ReadSignal, V: Json>(
+    reader: &R,
+    found: Option<&V>,
+    signal: Signal,
+) -> Result<R::Read, R::Fault>
+    ensures { result ≡ R.read_of reader.now signal (in_map (option_map (λ v. V.data v.now) found.entry) signal) }
+{
+    reader.read(signal, in_map(found, signal))
+}
+
 #[tactic(auto, unfolding(crate::specs::SignalMaps::read_each))]
 fn read_in<R: ReadSignal, V: Json>(
     reader: &R,
@@ -50,34 +61,13 @@ fn read_in<R: ReadSignal, V: Json>(
 ) -> Result<BySignal<R::Read>, R::Fault>
     ensures { result ≡ read_in (R.read_of reader.now) (option_map (λ v. V.data v.now) found.entry) }
 {
-    let memory_available = reader.read(
-        Signal::MemoryAvailable,
-        in_map(found, Signal::MemoryAvailable),
-    )?;
-    let nodefs_available = reader.read(
-        Signal::NodefsAvailable,
-        in_map(found, Signal::NodefsAvailable),
-    )?;
-    let imagefs_available = reader.read(
-        Signal::ImagefsAvailable,
-        in_map(found, Signal::ImagefsAvailable),
-    )?;
-    let nodefs_inodes_free = reader.read(
-        Signal::NodefsInodesFree,
-        in_map(found, Signal::NodefsInodesFree),
-    )?;
-    let imagefs_inodes_free = reader.read(
-        Signal::ImagefsInodesFree,
-        in_map(found, Signal::ImagefsInodesFree),
-    )?;
-    let pid_available = reader.read(Signal::PidAvailable, in_map(found, Signal::PidAvailable))?;
     Ok(BySignal {
-        memory_available,
-        nodefs_available,
-        imagefs_available,
-        nodefs_inodes_free,
-        imagefs_inodes_free,
-        pid_available,
+        memory_available: read_signal(reader, found, Signal::MemoryAvailable)?,
+        nodefs_available: read_signal(reader, found, Signal::NodefsAvailable)?,
+        imagefs_available: read_signal(reader, found, Signal::ImagefsAvailable)?,
+        nodefs_inodes_free: read_signal(reader, found, Signal::NodefsInodesFree)?,
+        imagefs_inodes_free: read_signal(reader, found, Signal::ImagefsInodesFree)?,
+        pid_available: read_signal(reader, found, Signal::PidAvailable)?,
     })
 }
 

@@ -1,7 +1,9 @@
 -- Lines that several threads share, each beside what was read of it.
 use Rattle.std.proofs.Common.{◌≡◌, ℕ, suc, ◌+◌, ◌*◌, ◌<◌, ◌≤◌, List, [], ◌∷◌, ◌++◌, length, map, take, drop}
 use Rattle.std.proofs.Common.{get_or, All, IsOk, IfOk, OnOk, Result, Ok, Err, refl, sym, subst, ap₂, arith}
+use Rattle.std.proofs.Common.{◌/◌, ◌%◌, min}
 use Rattle.std.specs.List.{AllZip, flat_map}
+use Rattle.std.proofs.lemmas.Grind.{div_ceil_times}
 use Rattle.std.proofs.lemmas.List.{drop_all}
 use Rattle.std.proofs.lemmas.Simd.{chunk-drop}
 use Rattle.json_lines.specs.Parts.{read_in}
@@ -49,6 +51,16 @@ shared_zipped R view joined size xs parts (Ok all) reads every zipped enough =
     let all : length parts * size ≡ 0 + length parts * size = omega arith in
     rw reads (parts_zipped R view size xs 0 parts zipped every (subst (λ (n : ℕ). length xs ≤ n) all enough))
 shared_zipped R view joined size xs parts (Err e) reads every zipped enough = tt
+
+-- the same, where the parts are as many as chunks of this size
+pub shared_chunks : {A B C X E F : Type 0} (R : X → B → Type 0) (view : A → List B) (joined : C → List B) (size : ℕ)
+    (xs : List X) (parts : List (Result A E)) (result : Result C F)
+    → IfOk result (λ all. joined all ≡ flat_map (read_in view) parts) → OnOk result (All IsOk parts)
+    → AreZipped R view size xs 0 parts → 0 < size → length parts ≡ length xs / size + min 1 (length xs % size)
+    → IfOk result (λ all. AllZip R xs (joined all))
+shared_chunks R view joined size xs parts result reads every zipped some count =
+    shared_zipped R view joined size xs parts result reads every zipped
+    (rw count (div_ceil_times (length xs) size some).0)
 
 -- ---- each beside what it is mapped to
 

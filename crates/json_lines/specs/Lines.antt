@@ -1,11 +1,13 @@
 -- The lines of a text, and what each says by itself.
-use Rattle.std.specs.Prelude.{ℕ, ◌==◌, ◌||◌, Bool, List, [], ◌∷◌, length, nat_lt, Option, Some, None, Result}
+use Rattle.std.specs.Prelude.{◌≡◌, ℕ, ◌==◌, ◌||◌, Bool, List, [], ◌∷◌, length, nat_lt, Option, Some, None, Result}
 use Rattle.std.specs.Prelude.{option_and_then}
 use Rattle.std.specs.Prelude.{if◌then◌else◌}
 use Rattle.std.specs.List.{list_all}
 use Rattle.std.specs.Str.{is_utf8}
 use Rattle.json.specs.Json.{Json as JsonTree, value, if_last}
 use Rattle.json.specs.Lex.{tokens}
+use Rattle.json.specs.Token.{Token}
+use Rattle.json_fields.specs.Tape.{data_at}
 use Rattle.serde_json.specs.Data.{Data}
 use Rattle.serde_json.specs.Read.{read, max_depth}
 use Rattle.serde_json.specs.View.{view}
@@ -69,6 +71,10 @@ abbrev pub line_data : List ℕ → LineData
 line_data line =
     if is_blank line then Blank
     else (if nat_lt longest_line (length line) then TooLong else said_in line)
+
+-- a line says the tick that is on this tape
+abbrev pub SaysTickOn : LineData → List Token → Type 0
+SaysTickOn said tape = said ≡ Tick (moment_at (data_at tape)) (tick_line_of (data_at tape))
 
 abbrev pub data_of : TextLine → LineData
 data_of text_lines.Blank = Blank

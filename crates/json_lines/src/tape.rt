@@ -2,8 +2,7 @@
 
 ghost use Rattle.std.specs.Prelude.{◌≡◌, Some, IfOk, IfSome};
 ghost use Rattle.json_fields.specs.Tape.{data_at};
-ghost use Rattle.tick_lines.specs.Line.{tick_line_of};
-ghost use Rattle.json_lines.specs.Lines.{line_data, said_in, Tick};
+ghost use Rattle.json_lines.specs.Lines.{line_data, said_in, SaysTickOn};
 ghost use Rattle.json_lines.specs.Ticks.{is_tick, moment_at};
 
 use crate::line::LONGEST_LINE;
@@ -23,8 +22,7 @@ fn tape_in<'a>(
     line: &'a [u8],
     scratch: &'a mut Scratch,
 ) -> Result<Option<Tape<'a>>, AllocError>
-    ensures { IfOk result (λ found. IfSome found (λ tape.
-        said_in line.now ≡ Tick (moment_at (data_at tape)) (tick_line_of (data_at tape)))) }
+    ensures { IfOk result (λ found. IfSome found (SaysTickOn (said_in line.now))) }
 {
     let Ok(text) = from_utf8(line) else {
         return Ok(None);
@@ -53,8 +51,7 @@ pub fn tick_tape<'a>(
     line: &'a [u8],
     buffers: &'a mut LineBuffers,
 ) -> Result<Option<Tape<'a>>, AllocError>
-    ensures { IfOk result (λ found. IfSome found (λ tape.
-        line_data line.now ≡ Tick (moment_at (data_at tape)) (tick_line_of (data_at tape)))) }
+    ensures { IfOk result (λ found. IfSome found (SaysTickOn (line_data line.now))) }
 {
     if is_blank(line) || line.len() > LONGEST_LINE {
         return Ok(None);

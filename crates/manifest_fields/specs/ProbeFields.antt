@@ -11,7 +11,7 @@ use Rattle.manifest_fields.specs.declared.fault.ManifestFault.{ManifestFault}
 use Rattle.manifest_fields.specs.declared.fault.ManifestFault.TheVariants.{WrongKind, ProbeRange, InitProbe}
 use Rattle.manifest.specs.declared.pod.Role.{Role}
 use Rattle.manifest.specs.declared.pod.Role.TheVariants.{Init, Sidecar, App}
-use Rattle.manifest.specs.Probe.{Probe, Probes, no_probes}
+use Rattle.manifest.specs.Probe.{Probe, Probes, probe, no_probes}
 use Rattle.manifest_fields.specs.Fields.{object_of, absent}
 
 -- no number of a probe is greater
@@ -38,19 +38,13 @@ number_of least most default (Some d) = number_from least most d (option_and_the
 -- one probe, of this many successes at most
 unfoldable pub probe_in : ℕ → Data → Result Probe ManifestFault
 probe_in most_successes d = do
-  probe ← object_of fields.Probe (Some d)
-  initial_delay ← number_of 0 greatest 0 (field_at (codes "initialDelaySeconds") probe)
-  period ← number_of 1 greatest 10 (field_at (codes "periodSeconds") probe)
-  timeout ← number_of 1 greatest 1 (field_at (codes "timeoutSeconds") probe)
-  successes ← number_of 1 most_successes 1 (field_at (codes "successThreshold") probe)
-  failures ← number_of 1 greatest 3 (field_at (codes "failureThreshold") probe)
-  Ok (record {
-    initial_delay_seconds = initial_delay;
-    period_seconds = period;
-    timeout_seconds = timeout;
-    success_threshold = successes;
-    failure_threshold = failures;
-  })
+  written ← object_of fields.Probe (Some d)
+  initial_delay ← number_of 0 greatest 0 (field_at (codes "initialDelaySeconds") written)
+  period ← number_of 1 greatest 10 (field_at (codes "periodSeconds") written)
+  timeout ← number_of 1 greatest 1 (field_at (codes "timeoutSeconds") written)
+  successes ← number_of 1 most_successes 1 (field_at (codes "successThreshold") written)
+  failures ← number_of 1 greatest 3 (field_at (codes "failureThreshold") written)
+  Ok (probe initial_delay period timeout successes failures)
 
 -- a probe that may be left out
 abbrev pub probe_of : ℕ → Option Data → Result (Option Probe) ManifestFault

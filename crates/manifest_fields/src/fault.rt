@@ -5,7 +5,7 @@ ghost use Rattle.manifest_fields.specs.declared.fault.ManifestFault.TheVariants.
 
 use json_fields::FieldFault;
 use quantity::QuantityFault;
-use std::alloc::{AllocError, AllocFailed};
+use std::alloc::AllocError;
 use thiserror::Error;
 
 /// A place in a manifest, in the order in which they are read.
@@ -102,14 +102,6 @@ impl From<AllocError> for ManifestFault {
     ghost from_gives = { λ _ e. e ≡ OutOfMemory };
 
     fn from(_e: AllocError) -> ManifestFault {
-        ManifestFault::OutOfMemory
-    }
-}
-
-impl<T: Drop> From<AllocFailed<T>> for ManifestFault {
-    ghost from_gives = { λ _ e. e ≡ OutOfMemory };
-
-    fn from(_e: AllocFailed<T>) -> ManifestFault {
         ManifestFault::OutOfMemory
     }
 }

@@ -28,13 +28,10 @@ fn amounts_in(value: &Value) -> Result<Amounts, ManifestFault>
     ensures { GivesExactly (λ a. a) result (amounts_in (view value.now)) }
 {
     let amounts = object(Field::Resources, Some(value))?;
-    let cpu = quantity_at(field(amounts, "cpu"))?;
-    let memory = quantity_at(field(amounts, "memory"))?;
-    let ephemeral_storage = quantity_at(field(amounts, "ephemeral-storage"))?;
     Ok(Amounts {
-        cpu,
-        memory,
-        ephemeral_storage,
+        cpu: quantity_at(field(amounts, "cpu"))?,
+        memory: quantity_at(field(amounts, "memory"))?,
+        ephemeral_storage: quantity_at(field(amounts, "ephemeral-storage"))?,
     })
 }
 

@@ -1,6 +1,6 @@
 -- The rows of the table by what was found, which are the answers of its checks in their order.
 use Rattle.std.proofs.Common.{◌≡◌, ◌∙◌, ℕ, ◌+◌, List, [], ◌∷◌, ◌++◌, map, length, Option, Some, None, is_some, refl}
-use Rattle.std.specs.Prelude.{codes, nat_lt}
+use Rattle.std.specs.Prelude.{codes, nat_lt, if◌then◌else◌}
 use Rattle.std.specs.List.{flat_map}
 use Rattle.std.proofs.lemmas.List.{map-append}
 use Rattle.serde_json.specs.Data.{Data}
@@ -18,7 +18,7 @@ use Rattle.manifest_reader.specs.Manifest.{field_of}
 use Rattle.manifest_reader.specs.Found.{fault_of, fails_if, is_so, must_be, may_be, at, is_object, is_array, is_text}
 use Rattle.manifest_reader.specs.Found.{is_policy, is_priority, is_grace_period, items_in, is_empty, amounts_at}
 use Rattle.manifest_reader.specs.Found.{own_policy_fault, has_double, name_in, init_items, app_items}
-use Rattle.manifest_reader.specs.Table.{fault_at, probes_checks, container_checks, checks_of}
+use Rattle.manifest_reader.specs.Table.{fault_at, is_init, probes_checks, container_checks, checks_of}
 use Rattle.manifest_reader.proofs.Rows.{Row}
 
 -- requests or limits
@@ -66,11 +66,8 @@ unprobed_rows d =
     ∷ fails_if (is_some (field_at (codes "readinessProbe") d)) InitProbe
     ∷ []
 
--- an item of `initContainers` without a restart policy of its own is an init container
 abbrev pub probes_rows : Place → Option Data → Data → List Row
-probes_rows InitContainers None d = unprobed_rows d
-probes_rows InitContainers (Some policy) d = some_probes_rows d
-probes_rows Containers own_policy d = some_probes_rows d
+probes_rows place own_policy d = if is_init place own_policy then unprobed_rows d else some_probes_rows d
 
 -- a container
 unfoldable pub container_rows : Place → Data → List Row

@@ -6,6 +6,7 @@ use Rattle.serde_json.specs.Data.{Data, Items}
 use Rattle.serde_json.specs.Find.{as_str, as_number, as_u64, as_i64, as_array, as_object}
 use Rattle.json_fields.specs.Fields.{field_at, items_list}
 use Rattle.json_fields.specs.Quantities.{quantity_in}
+use Rattle.json_fields.specs.Reading.{◌>>=◌}
 use Rattle.json_fields.specs.declared.fault.FieldFault.{FieldFault}
 use Rattle.json_fields.specs.declared.fault.FieldFault.TheVariants.{WrongKind as OtherKind, Faulty}
 use Rattle.manifest.specs.Names.{is_name, is_label}
@@ -115,6 +116,14 @@ grace_period_only (Some d) = grace_period_from_only (option_and_then as_u64 (as_
 absent_only : (fault : ManifestFault) (found : Option Data) → IsFound fault → Only IsFound (absent fault found)
 absent_only fault found is = only_refused IsFound (is_some found) fault is
 
+-- three steps, none of which looks at another
+three_only : {A B C D : Type 0} (a : Result A ManifestFault) (b : Result B ManifestFault) (c : Result C ManifestFault)
+    (f : A → B → C → D) → Only IsFound a → Only IsFound b → Only IsFound c
+    → Only IsFound (a >>= λ x. b >>= λ y. c >>= λ z. Ok (f x y z))
+three_only a b c f first second third =
+    let P = IsFound in
+    only_bind P _ _ first (λ x. only_bind P _ _ second (λ y. only_bind P _ _ third (λ z. only_ok P (f x y z))))
+
 -- resources
 quantity_read_only : (read : Result ℕ FieldFault) → Only IsFound (quantity_read read)
 quantity_read_only (Ok n) = only_ok IsFound n
@@ -129,11 +138,10 @@ quantity_only (Some d) = only_bind IsFound (quantity_read (quantity_in d)) _ (qu
 amounts_in_only : (d : Data) → Only IsFound (amounts_in d)
 unfolding amounts_in
 amounts_in_only d =
-    let P = IsFound in
-    only_bind P _ _ (object_only fields.Resources (Some d)) (λ amounts.
-    only_bind P _ _ (quantity_only (field_at (codes "cpu") amounts)) (λ cpu.
-    only_bind P _ _ (quantity_only (field_at (codes "memory") amounts)) (λ memory.
-    only_bind P _ _ (quantity_only (field_at (codes "ephemeral-storage") amounts)) (λ storage. only_ok P _))))
+    only_bind IsFound _ _ (object_only fields.Resources (Some d)) (λ amounts.
+    three_only _ _ _ _ (quantity_only (field_at (codes "cpu") amounts))
+    (quantity_only (field_at (codes "memory") amounts))
+    (quantity_only (field_at (codes "ephemeral-storage") amounts)))
 
 amounts_only : (found : Option Data) → Only IsFound (amounts_of found)
 amounts_only None = only_ok IsFound nothing
@@ -185,20 +193,17 @@ probe_only most (Some d) = only_bind IsFound (probe_in most d) _ (probe_in_only 
 some_probes_only : (d : Data) → Only IsFound (some_probes d)
 unfolding some_probes
 some_probes_only d =
-    let P = IsFound in
-    only_bind P _ _ (probe_only _ (field_at (codes "startupProbe") d)) (λ startup.
-    only_bind P _ _ (probe_only _ (field_at (codes "livenessProbe") d)) (λ liveness.
-    only_bind P _ _ (probe_only _ (field_at (codes "readinessProbe") d)) (λ readiness. only_ok P _)))
+    three_only _ _ _ _ (probe_only _ (field_at (codes "startupProbe") d))
+    (probe_only _ (field_at (codes "livenessProbe") d)) (probe_only _ (field_at (codes "readinessProbe") d))
 
 unprobed_only : (d : Data) → Only IsFound (unprobed d)
 unfolding unprobed
 unprobed_only d =
-    let P = IsFound in
     let found : IsFound InitProbe = λ is. absurd (cc) in
-    only_bind P _ _ (absent_only InitProbe (field_at (codes "startupProbe") d) found) (λ startup.
-    only_bind P _ _ (absent_only InitProbe (field_at (codes "livenessProbe") d) found) (λ liveness.
-    only_bind P _ _ (absent_only InitProbe (field_at (codes "readinessProbe") d) found)
-    (λ readiness. only_ok P no_probes)))
+    three_only _ _ _ (λ startup liveness readiness. no_probes)
+    (absent_only InitProbe (field_at (codes "startupProbe") d) found)
+    (absent_only InitProbe (field_at (codes "livenessProbe") d) found)
+    (absent_only InitProbe (field_at (codes "readinessProbe") d) found)
 
 probes_only : (role : Role) (d : Data) → Only IsFound (probes_of role d)
 probes_only Init d = unprobed_only d
@@ -261,10 +266,9 @@ metadata_only found =
 settings_only : (spec : Data) → Only IsFound (settings_in spec)
 unfolding settings_in
 settings_only spec =
-    let P = IsFound in
-    only_bind P _ _ (policy_only (field_at (codes "restartPolicy") spec)) (λ policy.
-    only_bind P _ _ (priority_only (field_at (codes "priority") spec)) (λ priority.
-    only_bind P _ _ (grace_period_only (field_at (codes "terminationGracePeriodSeconds") spec)) (λ grace. only_ok P _)))
+    three_only _ _ _ _ (policy_only (field_at (codes "restartPolicy") spec))
+    (priority_only (field_at (codes "priority") spec))
+    (grace_period_only (field_at (codes "terminationGracePeriodSeconds") spec))
 
 spec_only : (found : Option Data) → Only IsFound (spec_of found)
 unfolding spec_of

@@ -25,7 +25,7 @@ use Rattle.manifest.specs.declared.resources.Amounts.{Amounts}
 use Rattle.manifest.specs.Names.{is_name, is_label}
 use Rattle.manifest.specs.Containers.{names_of, has_twice}
 use Rattle.manifest_fields.specs.Fields.{object_of, tested_text, required_text, text_or, items_or, array_or_none}
-use Rattle.manifest_fields.specs.Fields.{some_items, absent}
+use Rattle.manifest_fields.specs.Fields.{some_items}
 use Rattle.manifest.specs.Resources.{some_above}
 use Rattle.manifest_fields.specs.ResourceFields.{quantity_at, amounts_in, amounts_of, resources_in, resources_of}
 use Rattle.manifest_fields.specs.ProbeFields.{greatest, number_of, probe_in, probe_of, some_probes, unprobed, probes_of}
@@ -158,12 +158,9 @@ setting_rows spec =
 settings_read : (spec : Data) → Reads (settings_in spec) (setting_rows spec)
 unfolding settings_in
 settings_read spec =
-    let policy = field_at (codes "restartPolicy") spec in
-    let priority = field_at (codes "priority") spec in
-    let grace_period = field_at (codes "terminationGracePeriodSeconds") spec in
-    step_row (policy_of policy) _ _ _ (policy_row policy) (λ p e.
-    step_row (priority_of priority) _ _ _ (priority_row priority) (λ n f.
-    step_row (grace_period_of grace_period) _ _ _ (grace_period_row grace_period) (λ seconds g. read _)))
+    step_row _ _ _ _ (policy_row (field_at (codes "restartPolicy") spec)) (λ p e.
+    step_row _ _ _ _ (priority_row (field_at (codes "priority") spec)) (λ n f.
+    step_row _ _ _ _ (grace_period_row (field_at (codes "terminationGracePeriodSeconds") spec)) (λ seconds g. read _)))
 
 -- resources
 amount_given : (found : Option Data) (amount : Option ℕ) → quantity_at found ≡ Ok amount
@@ -254,22 +251,16 @@ probe_read most_successes (Some d) = last_step (probe_in most_successes d) (λ p
 some_probes_read : (d : Data) → Reads (some_probes d) (some_probes_rows d)
 unfolding some_probes
 some_probes_read d =
-    let startup = field_at (codes "startupProbe") d in
-    let liveness = field_at (codes "livenessProbe") d in
-    let readiness = field_at (codes "readinessProbe") d in
-    step (probe_of 1 startup) _ (probe_rows 1 startup) _ (probe_read 1 startup) (λ s e.
-    step (probe_of 1 liveness) _ (probe_rows 1 liveness) _ (probe_read 1 liveness) (λ l f.
-    last_step (probe_of greatest readiness) _ (probe_rows greatest readiness) (probe_read greatest readiness)))
+    step _ _ _ _ (probe_read 1 (field_at (codes "startupProbe") d)) (λ s e.
+    step _ _ _ _ (probe_read 1 (field_at (codes "livenessProbe") d)) (λ l f.
+    last_step _ _ _ (probe_read greatest (field_at (codes "readinessProbe") d))))
 
 unprobed_read : (d : Data) → Reads (unprobed d) (unprobed_rows d)
 unfolding unprobed
 unprobed_read d =
-    let startup = field_at (codes "startupProbe") d in
-    let liveness = field_at (codes "livenessProbe") d in
-    let readiness = field_at (codes "readinessProbe") d in
-    step_row (absent InitProbe startup) _ _ _ (refused (is_some startup) InitProbe) (λ s e.
-    step_row (absent InitProbe liveness) _ _ _ (refused (is_some liveness) InitProbe) (λ l f.
-    step_row (absent InitProbe readiness) _ _ _ (refused (is_some readiness) InitProbe) (λ r g. read _)))
+    step_row _ _ _ _ (refused (is_some (field_at (codes "startupProbe") d)) InitProbe) (λ s e.
+    step_row _ _ _ _ (refused (is_some (field_at (codes "livenessProbe") d)) InitProbe) (λ l f.
+    step_row _ _ _ _ (refused (is_some (field_at (codes "readinessProbe") d)) InitProbe) (λ r g. read _)))
 
 -- containers
 sidecar_row : (found : Option (List ℕ)) → fault_of (sidecar_from found) ≡ fails_if

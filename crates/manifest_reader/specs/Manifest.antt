@@ -23,7 +23,6 @@ use Rattle.manifest.specs.declared.pod.Place.{Place}
 use Rattle.manifest.specs.declared.pod.Place.TheVariants.{InitContainers, Containers}
 use Rattle.manifest_reader.specs.declared.reading.Metadata.{Metadata}
 use Rattle.manifest_reader.specs.declared.reading.Settings.{Settings}
-use Rattle.manifest_reader.specs.declared.reading.Spec.{Spec}
 use Rattle.manifest.specs.Names.{is_name, is_label}
 use Rattle.manifest_fields.specs.Fields.{object_of, array_of, array_or_none, some_items, required_text, text_or}
 use Rattle.manifest_fields.specs.ProbeFields.{probes_of}
@@ -132,6 +131,11 @@ settings_in spec = do
   priority ← priority_of (field_at (codes "priority") spec)
   grace_period ← grace_period_of (field_at (codes "terminationGracePeriodSeconds") spec)
   Ok (record { policy = policy; priority = priority; grace_period_seconds = grace_period })
+
+-- what is read of a pod's `spec`
+pub record Spec : Type 0 where
+  pub settings : Settings
+  pub containers : List ContainerSpec
 
 unfoldable pub spec_of : Option Data → Result Spec ManifestFault
 spec_of found = do

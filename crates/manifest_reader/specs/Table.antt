@@ -1,7 +1,8 @@
 -- The table of a manifest's checks: one constructor for each row, what it answers where it is
 -- failed, and the order. Each row is told by itself, by the field that it looks at; it says nothing
 -- of what those before it refuse. (Kubernetes API, `Pod`.)
-use Rattle.std.specs.Prelude.{nat_lt, ◌+◌, List, [], ◌∷◌, ◌++◌, length, map, Option, Some, None, is_some, codes}
+use Rattle.std.specs.Prelude.{nat_lt, ◌+◌, Bool, true, false, if◌then◌else◌, List, [], ◌∷◌, ◌++◌, length, map}
+use Rattle.std.specs.Prelude.{Option, None, is_some, codes}
 use Rattle.std.specs.List.{flat_map}
 use Rattle.serde_json.specs.Data.{Data}
 use Rattle.json_fields.specs.Fields.{field_at}
@@ -130,10 +131,13 @@ abbrev pub some_probes_checks : Data → List Check
 some_probes_checks item = probe_checks item Startup ++ probe_checks item Liveness ++ probe_checks item Readiness
 
 -- an item of `initContainers` without a restart policy of its own is an init container
+abbrev pub is_init : Place → Option Data → Bool
+is_init InitContainers None = true
+is_init place own_policy = false
+
 abbrev pub probes_checks : Place → Option Data → Data → List Check
-probes_checks InitContainers None item = absence_checks item
-probes_checks InitContainers (Some own_policy) item = some_probes_checks item
-probes_checks Containers found item = some_probes_checks item
+probes_checks place own_policy item =
+    if is_init place own_policy then absence_checks item else some_probes_checks item
 
 -- of a container
 unfoldable pub container_checks : Place → Data → List Check

@@ -1,18 +1,18 @@
 //! What the definition of a manifest implies, in the words of the table of its checks. The
 //! functions do nothing; their contracts are the laws.
-ghost use Rattle.manifest_reader.specs.Laws.{FirstCheck, EveryCheck, NeverMemory};
+ghost use Rattle.manifest_reader.specs.Laws as laws;
 
 /// A manifest is refused exactly with the fault of the first check of the table that it fails.
 pub fn first_check()
-    ensures { FirstCheck }
+    ensures { laws.FirstCheck }
 {}
 
 /// A manifest describes a pod exactly where it passes every check of the table.
 pub fn every_check()
-    ensures { EveryCheck }
+    ensures { laws.EveryCheck }
 {}
 
 /// No manifest is refused because memory ran out: that is a call's answer alone.
 pub fn never_memory()
-    ensures { NeverMemory }
+    ensures { laws.NeverMemory }
 {}

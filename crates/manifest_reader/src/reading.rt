@@ -10,7 +10,7 @@ ghost use Rattle.manifest.specs.Containers.{has_twice, MayHave, IsOf, AllOf};
 ghost use Rattle.manifest_reader.specs.Manifest.{policy_of, priority_from, priority_of, grace_period_from};
 ghost use Rattle.manifest_reader.specs.Manifest.{grace_period_of, field_of, sidecar_from, role_of, container_of, few};
 ghost use Rattle.manifest_reader.specs.Manifest.{apart, containers_of, app_items_of, containers_in, metadata_of};
-ghost use Rattle.manifest_reader.specs.Manifest.{settings_in, spec_of, pod_at};
+ghost use Rattle.manifest_reader.specs.Manifest.{settings_in, pod_at};
 
 use json_fields::field;
 use manifest::{ContainerList, ContainerSpec, GracePeriod, Place, PodSpec, Policy, Role, Text};
@@ -137,7 +137,9 @@ fn containers(
     let mut all = Vec::new(alloc);
     for value in values {
         let container = container_of(alloc, place, value)?;
-        all.push(container)?;
+        let Ok(()) = all.push(container) else {
+            return Err(ManifestFault::OutOfMemory);
+        };
     }
     Ok(all)
 }
@@ -266,53 +268,31 @@ struct Settings {
 fn settings_in(spec: &Value) -> Result<Settings, ManifestFault>
     ensures { GivesExactly (λ s. s) result (settings_in (view spec.now)) }
 {
-    let policy = policy_of(field(spec, "restartPolicy"))?;
-    let priority = priority_of(field(spec, "priority"))?;
-    let grace_period_seconds = grace_period_of(field(spec, "terminationGracePeriodSeconds"))?;
     Ok(Settings {
-        policy,
-        priority,
-        grace_period_seconds,
-    })
-}
-
-/// What is read of a pod's `spec`.
-#[derive(Drop)]
-struct Spec {
-    settings: Settings,
-    containers: ContainerList,
-}
-
-#[tactic(auto, unfolding(crate::specs::Manifest::spec_of))]
-fn spec_of(alloc: Global, found: Option<&Value>) -> Result<Spec, ManifestFault>
-    ensures { Gives (λ s. s) result (spec_of (option_map (λ v. view v.now) found.entry)) }
-{
-    let spec = object(Field::Spec, found)?;
-    let settings = settings_in(spec)?;
-    let containers = containers_in(alloc, spec)?;
-    Ok(Spec {
-        settings,
-        containers,
+        policy: policy_of(field(spec, "restartPolicy"))?,
+        priority: priority_of(field(spec, "priority"))?,
+        grace_period_seconds: grace_period_of(field(spec, "terminationGracePeriodSeconds"))?,
     })
 }
 
 /// The pod that a manifest describes, or the manifest's first fault in the order of its fields
 /// (`metadata`, its `name` and `namespace`, `spec`, its `restartPolicy`, `priority`,
 /// `terminationGracePeriodSeconds`, `initContainers` and `containers`; then each container).
-#[tactic(auto, unfolding(crate::specs::Manifest::pod_at))]
+#[tactic(auto, unfolding(crate::specs::Manifest::pod_at, crate::specs::Manifest::spec_of))]
 pub fn read_pod(alloc: Global, value: &Value) -> Result<PodSpec, ManifestFault>
     ensures { Gives (λ p. p) result (pod_at (view value.now)) }
 {
     let pod = object(Field::Pod, Some(value))?;
     let metadata = metadata_of(alloc, field(pod, "metadata"))?;
-    let spec = spec_of(alloc, field(pod, "spec"))?;
-    let settings = spec.settings;
+    let spec = object(Field::Spec, field(pod, "spec"))?;
+    let settings = settings_in(spec)?;
+    let containers = containers_in(alloc, spec)?;
     Ok(PodSpec {
         name: metadata.name,
         namespace: metadata.namespace,
         policy: settings.policy,
         priority: settings.priority,
         grace_period_seconds: settings.grace_period_seconds,
-        containers: spec.containers,
+        containers,
     })
 }

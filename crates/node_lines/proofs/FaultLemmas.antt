@@ -29,7 +29,7 @@ use Rattle.node_lines.specs.Maps.{map_of, or_config, duration_from, duration_at,
 use Rattle.json_fields.specs.declared.scope.Scope.TheVariants.{Node}
 use Rattle.json_fields.proofs.SignalMapRefused.{each_only, map_only, each_err}
 use Rattle.node_lines.specs.Node.{whole_number, version_named, version_of, name_from, restart_delay_of, flag_of}
-use Rattle.node_lines.specs.Node.{few_seconds, seconds_of, or_default, pause_of, settings_in, node_of}
+use Rattle.node_lines.specs.Node.{few_seconds, seconds_of, pause_of, settings_in, node_of}
 use Rattle.node_lines.specs.Thresholds.{soft_threshold, written_over, written_in, soft_thresholds, eviction_from}
 use Rattle.node_lines.proofs.LawLemmas.{IsWritten, limit_read, in_read, soft_limit_of, grace_of}
 
@@ -139,8 +139,7 @@ settings_only d =
     only_bind P _ _ (delay_only (field_at (codes "maxRestartDelay") d)) (λ b.
     only_bind P _ _ (flag_only (field_at (codes "dedicatedImagefs") d)) (λ c.
     only_bind P _ _ (seconds_only (field_at (codes "evictionMaxPodGracePeriod") d)) (λ f.
-    only_bind P _ _ (only_bind P _ _ (duration_only (field_at (codes "evictionPressureTransitionPeriod") d))
-    (λ w. only_ok P (or_default w))) (λ g.
+    only_bind P _ _ (duration_only (field_at (codes "evictionPressureTransitionPeriod") d)) (λ g.
     only_bind P _ _ (pause_only a (field_at (codes "evictionPauseSeconds") d)) (λ h. only_ok P _))))))
 
 -- so a missing grace was answered after them

@@ -3,9 +3,9 @@
 use Rattle.std.specs.Prelude.{ℕ, List, Option, Some, None, Result, Ok, Err}
 use Rattle.serde_json.specs.Data.{Data}
 use Rattle.serde_json.specs.Find.{as_str}
-use Rattle.json_fields.specs.Reading.{◌>>=◌}
+use Rattle.json_fields.specs.Reading.{◌>>=◌, else_fault}
 use Rattle.quantity.specs.Duration.{duration_of}
-use Rattle.json_fields.specs.Quantities.{quantity_in}
+use Rattle.json_fields.specs.Quantities.{quantity_or}
 use Rattle.json_fields.specs.declared.scope.Scope.TheVariants.{Node}
 use Rattle.json_fields.specs.SignalMaps.{read_map}
 use Rattle.signals.specs.declared.by_signal.BySignal.{BySignal}
@@ -20,13 +20,11 @@ map_of read found = read_map Node Config read found
 
 -- what was read, else the fault of a node's configuration
 abbrev pub or_config : {A E : Type 0} → Result A E → Result A NodeFault
-or_config (Ok x) = Ok x
-or_config (Err fault) = Err Config
+or_config read = else_fault Config read
 
 -- a quantity that may be left out, in thousandths
 abbrev pub quantity_at : Option Data → Result (Option ℕ) NodeFault
-quantity_at None = Ok None
-quantity_at (Some d) = or_config (quantity_in d) >>= λ thousandths. Ok (Some thousandths)
+quantity_at found = quantity_or Config found
 
 abbrev pub duration_from : Option (List ℕ) → Result (Option ℕ) NodeFault
 duration_from None = Err Config

@@ -60,14 +60,11 @@ seconds_of (Some d) = some_or Config (option_and_then few_seconds (whole_number 
 abbrev pub default_transition_period : ℕ
 default_transition_period = 300
 
--- one that is not written, or is written as 0, is the default
+-- how long a condition of the node stays (Kubernetes, "Node condition oscillation"): where no period is written, or 0,
+-- the default
 abbrev pub or_default : Option ℕ → ℕ
 or_default None = default_transition_period
 or_default (Some seconds) = if seconds == 0 then default_transition_period else seconds
-
--- how long a condition of the node stays (Kubernetes, "Node condition oscillation")
-abbrev pub transition_period_of : Option Data → Result ℕ NodeFault
-transition_period_of found = duration_at found >>= λ written. Ok (or_default written)
 
 -- for how many seconds after an eviction no pod is evicted; versions 1 and 2 have no such field
 abbrev pub pause_of : Version → Option Data → Result ℕ NodeFault
@@ -82,14 +79,14 @@ settings_in d = do
   max_restart_delay ← restart_delay_of (field_at (codes "maxRestartDelay") d)
   has_dedicated_imagefs ← flag_of (field_at (codes "dedicatedImagefs") d)
   max_pod_grace_period ← seconds_of (field_at (codes "evictionMaxPodGracePeriod") d)
-  transition_period ← transition_period_of (field_at (codes "evictionPressureTransitionPeriod") d)
+  transition_period ← duration_at (field_at (codes "evictionPressureTransitionPeriod") d)
   eviction_pause ← pause_of version (field_at (codes "evictionPauseSeconds") d)
   Ok (record {
     version = version;
     max_restart_delay = max_restart_delay;
     has_dedicated_imagefs = has_dedicated_imagefs;
     max_pod_grace_period = max_pod_grace_period;
-    transition_period = transition_period;
+    transition_period = or_default transition_period;
     eviction_pause = eviction_pause;
   })
 

@@ -1,11 +1,8 @@
 //! Why a node line was refused.
 
 ghost use Rattle.std.specs.Prelude.{◌≡◌};
-ghost use Rattle.node_lines.specs.declared.fault.NodeFault.TheVariants.{Config, OutOfMemory};
+ghost use Rattle.node_lines.specs.Maps.{or_config};
 
-use json_fields::FieldFault;
-use quantity::QuantityFault;
-use std::alloc::{AllocError, AllocFailed};
 use thiserror::Error;
 
 /// What is wrong with a node line. Whatever makes it `Config` comes before a missing grace period.
@@ -22,34 +19,12 @@ pub enum NodeFault {
     OutOfMemory,
 }
 
-impl From<FieldFault> for NodeFault {
-    ghost from_gives = { λ _ e. e ≡ Config };
-
-    fn from(_fault: FieldFault) -> NodeFault {
-        NodeFault::Config
-    }
-}
-
-impl From<QuantityFault> for NodeFault {
-    ghost from_gives = { λ _ e. e ≡ Config };
-
-    fn from(_fault: QuantityFault) -> NodeFault {
-        NodeFault::Config
-    }
-}
-
-impl From<AllocError> for NodeFault {
-    ghost from_gives = { λ _ e. e ≡ OutOfMemory };
-
-    fn from(_e: AllocError) -> NodeFault {
-        NodeFault::OutOfMemory
-    }
-}
-
-impl<T: Drop> From<AllocFailed<T>> for NodeFault {
-    ghost from_gives = { λ _ e. e ≡ OutOfMemory };
-
-    fn from(_e: AllocFailed<T>) -> NodeFault {
-        NodeFault::OutOfMemory
+/// What was read, else the fault of a node's configuration.
+pub(crate) fn or_config<T: Copy, E: Copy>(read: Result<T, E>) -> Result<T, NodeFault>
+    ensures { result ≡ or_config read }
+{
+    match read {
+        Ok(value) => Ok(value),
+        Err(_) => Err(NodeFault::Config),
     }
 }

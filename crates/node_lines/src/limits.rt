@@ -3,7 +3,7 @@
 ghost use Rattle.std.specs.Prelude.{◌≡◌, option_map};
 ghost use Rattle.node_lines.specs.Limits.{is_off, with_capacity, limit_at, reclaim_at};
 
-use crate::fault::NodeFault;
+use crate::fault::{NodeFault, or_config};
 use json_fields::{Json, limit_in};
 use quantity::{Limit, Quantity};
 
@@ -36,7 +36,7 @@ pub(crate) fn limit_at<V: Json>(
     let Some(value) = found else {
         return Ok(None);
     };
-    let limit = limit_in(value)?;
+    let limit = or_config(limit_in(value))?;
     if is_off(limit) {
         return Ok(None);
     }
@@ -52,6 +52,6 @@ pub(crate) fn reclaim_at<V: Json>(
 {
     match found {
         None => Ok(Limit::Quantity(Quantity::from_units(0))),
-        Some(value) => with_capacity(capacity, limit_in(value)?),
+        Some(value) => with_capacity(capacity, or_config(limit_in(value))?),
     }
 }

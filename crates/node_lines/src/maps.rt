@@ -2,24 +2,17 @@
 
 ghost use Rattle.std.specs.Prelude.{◌≡◌, option_map, IfOk};
 ghost use Rattle.serde_json.specs.View.{view};
-ghost use Rattle.node_lines.specs.Limits.{limits_in, reclaims_in, HaveTheirCapacity, ReclaimsHaveTheirCapacity};
+ghost use Rattle.node_lines.specs.Limits.{limit_at, reclaim_at, limits_in, reclaims_in, HaveTheirCapacity};
+ghost use Rattle.node_lines.specs.Limits.{ReclaimsHaveTheirCapacity};
 ghost use Rattle.node_lines.specs.Maps.{map_of, quantity_at, duration_at};
+ghost use Rattle.signals.specs.BySignal.{of};
 
-use crate::fault::NodeFault;
+use crate::fault::{NodeFault, or_config};
 use crate::limits::{limit_at, reclaim_at};
-use json_fields::{Json, ReadSignal, Scope, quantity_in, read_map};
+use json_fields::{Json, QuantityMap, ReadSignal, Scope, read_map};
 use quantity::{Limit, Quantity, seconds_of};
 use serde_json::Value;
 use signals::{BySignal, Signal};
-
-fn quantity_at<V: Json>(found: Option<&V>) -> Result<Option<Quantity>, NodeFault>
-    ensures { result ≡ quantity_at (option_map (λ v. V.data v.now) found.entry) }
-{
-    match found {
-        None => Ok(None),
-        Some(value) => Ok(Some(quantity_in(value)?)),
-    }
-}
 
 /// A duration that may be left out, in seconds.
 pub(crate) fn duration_at<V: Json>(found: Option<&V>) -> Result<Option<u64>, NodeFault>
@@ -29,36 +22,14 @@ pub(crate) fn duration_at<V: Json>(found: Option<&V>) -> Result<Option<u64>, Nod
         return Ok(None);
     };
     match value.text() {
-        Some(text) => Ok(Some(seconds_of(text.as_bytes())?)),
+        Some(text) => Ok(Some(or_config(seconds_of(text.as_bytes()))?)),
         None => Err(NodeFault::Config),
-    }
-}
-
-struct QuantityMap;
-
-impl ReadSignal for QuantityMap {
-    ghost use Rattle.node_lines.specs.Maps.{quantity_at};
-
-    type Read = Option<Quantity>;
-
-    type Fault = NodeFault;
-
-    ghost read_of = { λ reader signal found. quantity_at found };
-
-    fn read<V: Json>(
-        &self,
-        _signal: Signal,
-        found: Option<&V>,
-    ) -> Result<Option<Quantity>, NodeFault> {
-        quantity_at(found)
     }
 }
 
 struct DurationMap;
 
 impl ReadSignal for DurationMap {
-    ghost use Rattle.node_lines.specs.Maps.{duration_at};
-
     type Read = Option<u64>;
 
     type Fault = NodeFault;
@@ -77,9 +48,6 @@ struct LimitMap {
 }
 
 impl ReadSignal for LimitMap {
-    ghost use Rattle.node_lines.specs.Limits.{limit_at};
-    ghost use Rattle.signals.specs.BySignal.{of};
-
     type Read = Option<Limit>;
 
     type Fault = NodeFault;
@@ -98,9 +66,6 @@ struct ReclaimMap {
 }
 
 impl ReadSignal for ReclaimMap {
-    ghost use Rattle.node_lines.specs.Limits.{reclaim_at};
-    ghost use Rattle.signals.specs.BySignal.{of};
-
     type Read = Limit;
 
     type Fault = NodeFault;
@@ -116,7 +81,10 @@ impl ReadSignal for ReclaimMap {
 pub(crate) fn quantities(found: Option<&Value>) -> Result<BySignal<Option<Quantity>>, NodeFault>
     ensures { result ≡ map_of (λ signal. quantity_at) (option_map (λ v. view v.now) found.entry) }
 {
-    read_map(Scope::Node, NodeFault::Config, &QuantityMap, found)
+    let reader = QuantityMap {
+        fault: NodeFault::Config,
+    };
+    read_map(Scope::Node, NodeFault::Config, &reader, found)
 }
 
 /// The durations of a map, in seconds.

@@ -5,7 +5,7 @@ ghost use Rattle.serde_json.specs.View.{view};
 ghost use Rattle.json_fields.specs.Reading.{GivesExactly};
 ghost use Rattle.node_lines.specs.Gives.{Gives};
 ghost use Rattle.node_lines.specs.Node.{version_of, name_from, restart_delay_of, flag_of, seconds_of};
-ghost use Rattle.node_lines.specs.Node.{transition_period_of, pause_of, settings_in, node_of};
+ghost use Rattle.node_lines.specs.Node.{or_default, pause_of, settings_in, node_of};
 
 use crate::eviction::{eviction_from, written_in};
 use crate::fault::NodeFault;
@@ -57,7 +57,10 @@ fn node_name(alloc: Global, found: Option<&str>) -> Result<Text, NodeFault>
     ensures { Gives (λ t. t) result (name_from (option_map (λ s. s.now) found.entry)) }
 {
     let name = name_from(found)?;
-    Ok(Text::new(String::from_str(alloc, name)?))
+    match String::from_str(alloc, name) {
+        Ok(name) => Ok(Text::new(name)),
+        Err(_) => Err(NodeFault::OutOfMemory),
+    }
 }
 
 fn restart_delay(found: Option<&Value>) -> Result<MaxRestartDelay, NodeFault>
@@ -101,13 +104,14 @@ fn seconds(found: Option<&Value>) -> Result<u32, NodeFault>
     }
 }
 
-/// A period of 0 is the default too, since generated configurations write one for it.
-fn transition_period(found: Option<&Value>) -> Result<u64, NodeFault>
-    ensures { result ≡ transition_period_of (option_map (λ v. view v.now) found.entry) }
+/// How long a condition of the node stays. A period of 0 is the default too, since generated configurations write one
+/// for it.
+fn or_default(period: Option<u64>) -> u64
+    ensures { result ≡ or_default period }
 {
-    match duration_at(found)? {
-        None | Some(0) => Ok(DEFAULT_TRANSITION_PERIOD),
-        Some(seconds) => Ok(seconds),
+    match period {
+        None | Some(0) => DEFAULT_TRANSITION_PERIOD,
+        Some(seconds) => seconds,
     }
 }
 
@@ -129,14 +133,14 @@ fn settings_in(node: &Value) -> Result<Settings, NodeFault>
     let max_restart_delay = restart_delay(field(node, "maxRestartDelay"))?;
     let has_dedicated_imagefs = flag(field(node, "dedicatedImagefs"))?;
     let max_pod_grace_period = seconds(field(node, "evictionMaxPodGracePeriod"))?;
-    let transition_period = transition_period(field(node, "evictionPressureTransitionPeriod"))?;
+    let transition_period = duration_at(field(node, "evictionPressureTransitionPeriod"))?;
     let eviction_pause = pause(version, field(node, "evictionPauseSeconds"))?;
     Ok(Settings {
         version,
         max_restart_delay,
         has_dedicated_imagefs,
         max_pod_grace_period,
-        transition_period,
+        transition_period: or_default(transition_period),
         eviction_pause,
     })
 }

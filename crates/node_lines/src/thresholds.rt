@@ -58,18 +58,12 @@ pub(crate) fn soft_thresholds(written: &Written) -> Result<BySignal<Option<Thres
     ensures gives { result ≡ soft_thresholds written.now }
     ensures built { IfOk result (AreBuiltOf written.now.soft written.now.reclaims) }
 {
-    let memory_available = soft_threshold(written, Signal::MemoryAvailable)?;
-    let nodefs_available = soft_threshold(written, Signal::NodefsAvailable)?;
-    let imagefs_available = soft_threshold(written, Signal::ImagefsAvailable)?;
-    let nodefs_inodes_free = soft_threshold(written, Signal::NodefsInodesFree)?;
-    let imagefs_inodes_free = soft_threshold(written, Signal::ImagefsInodesFree)?;
-    let pid_available = soft_threshold(written, Signal::PidAvailable)?;
     Ok(BySignal {
-        memory_available,
-        nodefs_available,
-        imagefs_available,
-        nodefs_inodes_free,
-        imagefs_inodes_free,
-        pid_available,
+        memory_available: soft_threshold(written, Signal::MemoryAvailable)?,
+        nodefs_available: soft_threshold(written, Signal::NodefsAvailable)?,
+        imagefs_available: soft_threshold(written, Signal::ImagefsAvailable)?,
+        nodefs_inodes_free: soft_threshold(written, Signal::NodefsInodesFree)?,
+        imagefs_inodes_free: soft_threshold(written, Signal::ImagefsInodesFree)?,
+        pid_available: soft_threshold(written, Signal::PidAvailable)?,
     })
 }

@@ -1,6 +1,6 @@
 -- What a form prints of a quantity is a text of that quantity.
-use Rattle.std.proofs.Common.{◌≡◌, ◌≢◌, ◌≤◌, ◌<◌, ◌^◌, ◌+◌, ◌-◌, ◌*◌, ◌/◌, ◌%◌, ◌⊎◌, ⊎_elim, inl, inr, ℕ, zero, suc}
-use Rattle.std.proofs.Common.{true, false, List, [], ◌++◌, length, sym, ◌∙◌, ap, refl, subst, arith, Some}
+use Rattle.std.proofs.Common.{◌≡◌, ◌≢◌, ◌≤◌, ◌<◌, ◌^◌, ◌+◌, ◌-◌, ◌*◌, ◌/◌, ◌%◌, ⊎_elim, inr, ℕ, zero, suc}
+use Rattle.std.proofs.Common.{true, false, [], length, sym, ◌∙◌, ap, refl, subst, arith, Some}
 use Rattle.std.specs.Prelude.{◌==◌, ◌&&◌, codes, decimal, replicate, nat_lt}
 use Rattle.std.specs.Int.{div_ceil}
 use Rattle.std.specs.Char.{is_ascii_digit}
@@ -8,7 +8,7 @@ use Rattle.std.specs.Str.Parse.{digits_value}
 use Rattle.std.proofs.lemmas.Bool.{cases_lt, and_parts}
 use Rattle.std.proofs.lemmas.Bool.Decides.{nat_tests, eqb_tells}
 use Rattle.std.proofs.lemmas.Fmt.{length-decimal-le}
-use Rattle.std.proofs.lemmas.List.{append-nil, length-append, length-replicate}
+use Rattle.std.proofs.lemmas.List.{length-append, length-replicate}
 use Rattle.std.proofs.lemmas.List.Elements.{All-append, All-replicate}
 use Rattle.std.proofs.lemmas.Nat.{div-add-mod'}
 use Rattle.std.proofs.Math.Nat.{mod-lt}
@@ -16,82 +16,34 @@ use Rattle.quantity.specs.Digits.{AllDigits}
 use Rattle.quantity.specs.Printed.{scale_suffix, scale_numerator, scale_at, exact_number, least_number, form_of}
 use Rattle.quantity.specs.Printed.{form_at, form_text, zero_padded}
 use Rattle.quantity.specs.Quantity.{HasThousandths, thousandths_of}
-use Rattle.quantity.specs.Suffix.{HasFactor, times}
+use Rattle.quantity.specs.Suffix.{HasFactor, factor_of, times}
 use Rattle.quantity.specs.declared.form.Form.{Form}
 use Rattle.quantity.specs.declared.form.Scale.{Scale}
-use Rattle.quantity.specs.declared.form.Scale.TheVariants.{Units, Exa, Peta, Tera, Giga, Mega, Kilo, Exbi, Pebi, Tebi}
-use Rattle.quantity.specs.declared.form.Scale.TheVariants.{Gibi, Mebi, Kibi}
 use Rattle.quantity.proofs.Decimal.{product_le}
 use Rattle.quantity.proofs.Forms.{ten_some, ten_split}
 use Rattle.quantity.proofs.Numbers.{digits_value-append, div_ceil_is_least}
-use Rattle.quantity.proofs.Printing.{printed}
-use Rattle.quantity.proofs.Suffixes.{some_if, mapped}
+use Rattle.quantity.proofs.Printing.{printed, Parts, IsNumber, before, number_means, whole_alone, without_point}
+use Rattle.quantity.proofs.Suffixes.{some_if, mapped, factor_means}
 
 named : (scale : Scale) → HasFactor (scale_suffix scale) (times (scale_numerator scale))
-named Units = inl (0, omega arith, refl)
-named Kilo = inl (4, omega arith, refl)
-named Mega = inl (5, omega arith, refl)
-named Giga = inl (6, omega arith, refl)
-named Tera = inl (7, omega arith, refl)
-named Peta = inl (8, omega arith, refl)
-named Exa = inl (9, omega arith, refl)
-named Kibi = inl (10, omega arith, refl)
-named Mebi = inl (11, omega arith, refl)
-named Gibi = inl (12, omega arith, refl)
-named Tebi = inl (13, omega arith, refl)
-named Pebi = inl (14, omega arith, refl)
-named Exbi = inl (15, omega arith, refl)
+unfolding factor_of
+named scale =
+    let read : factor_of (scale_suffix scale) ≡ Some (times (scale_numerator scale)) = grind arith in
+    factor_means (scale_suffix scale) (times (scale_numerator scale)) read
 
 pub numerator_some : (scale : Scale) → 0 < scale_numerator scale
-numerator_some Units = omega arith
-numerator_some Kilo = omega arith
-numerator_some Mega = omega arith
-numerator_some Giga = omega arith
-numerator_some Tera = omega arith
-numerator_some Peta = omega arith
-numerator_some Exa = omega arith
-numerator_some Kibi = omega arith
-numerator_some Mebi = omega arith
-numerator_some Gibi = omega arith
-numerator_some Tebi = omega arith
-numerator_some Pebi = omega arith
-numerator_some Exbi = omega arith
+numerator_some scale = grind arith
 
 -- a number, a point and a suffix
-record IsNumber (whole point fraction : List ℕ) (places number : ℕ) : Type 0 where
-  whole_digits : AllDigits whole
-  fraction_digits : AllDigits fraction
-  some_digit : 1 ≤ length whole + length fraction
-  few_digits : length whole + length fraction ≤ 17
-  point_is : ((point ≡ []) × (fraction ≡ [])) ⊎ (point ≡ codes ".")
-  size : length fraction ≡ places
-  value : digits_value 10 (whole ++ fraction) ≡ number
-
-number_means : (whole point fraction : List ℕ) (q places number : ℕ) (scale : Scale)
-    → IsNumber whole point fraction places number → thousandths_of number places (times (scale_numerator scale)) ≡ q
-    → HasThousandths (whole ++ (point ++ (fraction ++ scale_suffix scale))) q
-number_means whole point fraction q places number scale is value =
+scaled_means : (parts : Parts) (q places number : ℕ) (scale : Scale) → IsNumber parts places number
+    → thousandths_of number places (times (scale_numerator scale)) ≡ q
+    → HasThousandths (before parts (scale_suffix scale)) q
+scaled_means parts q places number scale is value =
     let some = ten_some places in
-    let least = div_ceil_is_least (1000 * number * scale_numerator scale) (10 ^ places * 1) (omega (arith, some)) in
-    record {
-      plus = [];
-      whole = whole;
-      point = point;
-      fraction = fraction;
-      suffix = scale_suffix scale;
-      factor = times (scale_numerator scale);
-      text_is = refl;
-      plus_is = inl refl;
-      whole_digits = is.whole_digits;
-      fraction_digits = is.fraction_digits;
-      some_digit = is.some_digit;
-      few_digits = is.few_digits;
-      point_is = is.point_is;
-      scaled = named scale;
-      exact = div_ceil (1000 * number * scale_numerator scale) (10 ^ places * 1);
-      exact_is = rw (is.value, is.size) least;
-      thousandths_is = sym value;
-    }
+    number_means parts (scale_suffix scale) q
+    (div_ceil (1000 * number * scale_numerator scale) (10 ^ places * 1)) places number (times (scale_numerator scale))
+    is (named scale)
+    (div_ceil_is_least (1000 * number * scale_numerator scale) (10 ^ places * 1) (omega (arith, some))) (sym value)
 
 -- zeros before digits
 zeros_value : (n : ℕ) → digits_value 10 (replicate n 48) ≡ 0
@@ -120,21 +72,11 @@ padded_is places n some few small fits =
       value = joined ∙ (rw (none, p.value) (omega arith));
     }
 
-without_point : (n : ℕ) → n < 10 ^ 17 → IsNumber (decimal n) [] [] 0 n
-without_point n small =
-    let p = printed n small in
-    record {
-      whole_digits = p.digits;
-      fraction_digits = λ k d lt. absurd (omega (arith, lt));
-      some_digit = omega (arith, p.some);
-      few_digits = omega (arith, p.few);
-      point_is = inl (refl, refl);
-      size = refl;
-      value = rw append-nil p.value;
-    }
+abbrev fraction_alone : ℕ → ℕ → Parts
+fraction_alone places n = record { whole = []; point = codes "."; fraction = zero_padded places n }
 
 all_after_point : (places n : ℕ) → 0 < places → places ≤ 17 → n < 10 ^ places → n < 10 ^ 17
-    → IsNumber [] (codes ".") (zero_padded places n) places n
+    → IsNumber (fraction_alone places n) places n
 all_after_point places n some few small fits =
     let p = padded_is places n some few small fits in
     record {
@@ -158,9 +100,13 @@ whole_fits places whole number few below small =
     absurd (omega (arith, more, split, below, small)))
     (cases_lt whole (10 ^ (17 - places)))
 
+abbrev whole_and_fraction : ℕ → ℕ → ℕ → Parts
+whole_and_fraction places whole n =
+    record { whole = decimal whole; point = codes "."; fraction = zero_padded places n }
+
 both_sides : (places whole fraction number : ℕ) → 0 < places → places ≤ 17 → 0 < whole → fraction < 10 ^ places
-    → number ≡ whole * 10 ^ places + fraction → number < 10 ^ 17 → IsNumber (decimal whole) (codes ".")
-    (zero_padded places fraction) places number
+    → number ≡ whole * 10 ^ places + fraction → number < 10 ^ 17
+    → IsNumber (whole_and_fraction places whole fraction) places number
 both_sides places whole fraction number some few front small is fits =
     let one = ten_some places in
     let front_le : whole * 1 ≤ whole * 10 ^ places = product_le whole 1 whole (10 ^ places) (omega arith) one in
@@ -195,7 +141,7 @@ form_means q places number scale few small value =
     let one : 10 ^ places ≡ 1 = ap (λ k. 10 ^ k) none.1 in
     let whole : number / 10 ^ places ≡ number = rw one (omega arith) in
     let value' : thousandths_of number 0 (times (scale_numerator scale)) ≡ q = (rw none.1 at value) in
-    rw (none.0, whole) (number_means (decimal number) [] [] q 0 number scale (without_point number small) value'))
+    rw (none.0, whole) (scaled_means (whole_alone number) q 0 number scale (without_point number small) value'))
     (λ (some : ((places == 0) ≡ false) × (places ≢ 0)).
     let more : 0 < places =
     (let h = some.1 in ⊎_elim (λ (lt : 0 < places). lt) (λ (le : places ≤ 0). absurd (h (omega (arith, le))))
@@ -203,14 +149,14 @@ form_means q places number scale few small value =
     ⊎_elim (λ (none : ((number / 10 ^ places == 0) ≡ true) × (number / 10 ^ places ≡ 0)).
     let all : number % 10 ^ places ≡ number = (let s = (rw none.1 at split) in omega (arith, s)) in
     let low : number < 10 ^ places = omega (arith, all, rest) in
-    rw (some.0, none.0, all) (number_means [] (codes ".") (zero_padded places number) q places number scale
+    rw (some.0, none.0, all) (scaled_means (fraction_alone places number) q places number scale
     (all_after_point places number more few low small) value))
     (λ (front : ((number / 10 ^ places == 0) ≡ false) × (number / 10 ^ places ≢ 0)).
     let above : 0 < number / 10 ^ places =
     (let h = front.1 in ⊎_elim (λ (lt : 0 < number / 10 ^ places). lt)
     (λ (le : number / 10 ^ places ≤ 0). absurd (h (omega (arith, le)))) (cases_lt 0 (number / 10 ^ places))) in
-    rw (some.0, front.0) (number_means (decimal (number / 10 ^ places)) (codes ".")
-    (zero_padded places (number % 10 ^ places)) q places number scale
+    rw (some.0, front.0) (scaled_means
+    (whole_and_fraction places (number / 10 ^ places) (number % 10 ^ places)) q places number scale
     (both_sides places (number / 10 ^ places) (number % 10 ^ places) number more few above rest (sym split) small)
     value))
     (eqb_tells (number / 10 ^ places) 0))

@@ -1,6 +1,6 @@
 -- A percentage is refused for its first fault.
 use Rattle.std.proofs.Common.{◌≡◌, ◌≢◌, ◌≤◌, ◌<◌, ◌^◌, ◌+◌, ◌-◌, ◌*◌, ◌⊎◌, ⊎_elim, inl, inr, ℕ, zero, suc, Bool, true}
-use Rattle.std.proofs.Common.{false, not, ◌&&◌, ◌||◌, List, [], ◌∷◌, ◌++◌, length, drop, sym, ◌∙◌, refl, arith, Ok}
+use Rattle.std.proofs.Common.{false, not, ◌&&◌, ◌||◌, List, [], ◌++◌, length, drop, sym, ◌∙◌, refl, arith, Ok}
 use Rattle.std.proofs.Common.{Err, Result}
 use Rattle.std.specs.Prelude.{slice_index, ◌==◌, codes, nat_lt}
 use Rattle.std.specs.Char.{is_ascii_digit}
@@ -11,16 +11,16 @@ use Rattle.std.proofs.lemmas.Bool.Decides.{nat_tests}
 use Rattle.std.proofs.lemmas.Slice.Eq.{bytes_eq-Decides}
 use Rattle.quantity.specs.Digits.{after_digits}
 use Rattle.quantity.specs.Number.{whole_of, has_point, fraction_of, after_number}
-use Rattle.quantity.specs.Percent.{HasParts, HasPartsFault, HasPercentFault, hundredths_of, percent_of}
+use Rattle.quantity.specs.Percent.{HasParts, HasPartsFault, HasNumberFault, HasPercentFault, hundredths_of, percent_of}
 use Rattle.quantity.specs.Steps.{◌>>=◌, refused_if}
 use Rattle.quantity.specs.declared.fault.QuantityFault.{QuantityFault}
-use Rattle.quantity.specs.declared.fault.QuantityFault.TheVariants.{BadDigit, BadSuffix, TooManyDigits, Negative}
+use Rattle.quantity.specs.declared.fault.QuantityFault.TheVariants.{BadDigit, BadSuffix, TooManyDigits}
 use Rattle.quantity.proofs.Decimal.{leading_are_digits}
 use Rattle.quantity.proofs.Numbers.{NumberSplit, number_split, digits_value-append}
 use Rattle.quantity.proofs.PercentMeaning.{no_digits}
 use Rattle.quantity.proofs.QuantityLaws.{after_stops}
 use Rattle.quantity.proofs.Runs.{no_point}
-use Rattle.quantity.proofs.StepsPassed.{failed}
+use Rattle.quantity.proofs.StepsPassed.{failed, unsigned_fault}
 
 rest_stops : (text : List ℕ) (d : Bool) → has_point text ≡ d
     → is_ascii_digit (slice_index (after_number text) 0) ≡ false
@@ -156,29 +156,13 @@ number_fault text fault read h =
 
 pub percent_fault : (text : List ℕ) (fault : QuantityFault) → percent_of text ≡ Err fault → HasPercentFault text fault
 unfolding percent_of percent_checks value_checks
-percent_fault [] fault h = inl (refl, cc)
-percent_fault (c ∷ rest) fault h =
-    let text : List ℕ = c ∷ rest in
-    let none : (suc (length rest) == 0) ≡ false = grind (arith, nat_tests) in
-    let some : 0 < length (c ∷ rest) = omega arith in
-    let read = read_parts (c ∷ rest) (number_split (c ∷ rest) (has_point (c ∷ rest)) refl) in
-    ⊎_elim (λ (b : ((c == 45) ≡ true) × (fault ≡ Negative)).
-    let t : (c == 45) ≡ true = b.0 in
-    let same : c ≡ 45 = grind (arith, nat_tests) in
-    inr (inl (rest, rw same refl, b.1)))
-    (λ (b : ((c == 45) ≡ false) × _).
-    let t : (c == 45) ≡ false = b.0 in
-    let differs : c ≢ 45 = grind (arith, nat_tests) in
-    inr (inr (
-      some,
-      differs,
-      record {
-        whole = whole_of (c ∷ rest);
-        point = read.point;
-        fraction = fraction_of (c ∷ rest);
-        rest = after_number (c ∷ rest);
-        parts = read.parts;
-        fault_is = number_fault (c ∷ rest) fault read b.1;
-      },
-    )))
-    (failed (c == 45) _ _ fault (rw none at h))
+percent_fault text fault h =
+    let read = read_parts text (number_split text (has_point text) refl) in
+    unsigned_fault (HasNumberFault text fault) text fault _ h (λ e. record {
+      whole = whole_of text;
+      point = read.point;
+      fraction = fraction_of text;
+      rest = after_number text;
+      parts = read.parts;
+      fault_is = number_fault text fault read e;
+    })

@@ -1,7 +1,7 @@
 -- A percentage is read as what it means.
 use Rattle.std.proofs.Common.{◌≡◌, ◌≤◌, ◌<◌, ◌^◌, ◌+◌, ◌-◌, ◌*◌, ⊎_elim, inl, inr, ℕ, zero, suc, true, false, not}
 use Rattle.std.proofs.Common.{◌&&◌, ◌||◌, List, [], ◌∷◌, ◌++◌, length, sym, ◌∙◌, ap, refl, arith, Ok}
-use Rattle.std.specs.Prelude.{slice_get, unwrap_or, ◌==◌, codes, nat_lt}
+use Rattle.std.specs.Prelude.{slice_index, ◌==◌, codes, nat_lt}
 use Rattle.std.specs.Str.Parse.{digits_value}
 use Rattle.std.specs.Str.{bytes_eq}
 use Rattle.std.proofs.lemmas.Bool.Decides.{nat_tests}
@@ -37,7 +37,7 @@ no_digits (c ∷ cs) h = absurd (omega arith)
 -- each check passes
 record Passes (text whole fraction : List ℕ) : Type 0 where
   some_text : (length text == 0) ≡ false
-  no_minus : (unwrap_or (slice_get text 0) 0 == 45) ≡ false
+  no_minus : (slice_index text 0 == 45) ≡ false
   digits : (length (whole_of text) == 0 || (has_point text && length (fraction_of text) == 0)) ≡ false
   few : (nat_lt 3 (length (whole_of text)) || nat_lt 2 (length (fraction_of text))) ≡ false
   rest : after_number text ≡ codes "%"
@@ -54,7 +54,7 @@ reads text whole fraction hundredths p value small =
     rw (p.some_text, p.no_minus, p.digits, p.few, p.rest, same, fits)
 
 first_digit : (whole rest : List ℕ) → AllDigits whole → 1 ≤ length whole → ((length (whole ++ rest) == 0) ≡ false)
-    × ((unwrap_or (slice_get (whole ++ rest) 0) 0 == 45) ≡ false)
+    × ((slice_index (whole ++ rest) 0 == 45) ≡ false)
 first_digit [] rest all some = absurd (omega arith)
 first_digit (c ∷ whole) rest all some =
     let low : 48 ≤ c = (digit_value_is c (all 0 0 (omega arith))).1 in
@@ -143,7 +143,7 @@ pub percent_sound : (text : List ℕ) (hundredths : ℕ) → percent_of text ≡
 unfolding percent_of
 percent_sound text hundredths h =
     let a = passed (length text == 0) _ _ hundredths h in
-    let b = passed (unwrap_or (slice_get text 0) 0 == 45) _ _ hundredths a.1 in
+    let b = passed (slice_index text 0 == 45) _ _ hundredths a.1 in
     let c = passed (length (whole_of text) == 0 || (has_point text && length (fraction_of text) == 0)) _ _ hundredths
     b.1 in
     let d = passed (nat_lt 3 (length (whole_of text)) || nat_lt 2 (length (fraction_of text))) _ _ hundredths c.1 in

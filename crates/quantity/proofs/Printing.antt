@@ -1,7 +1,7 @@
 -- What is printed of a quantity is read as that quantity.
 use Rattle.std.proofs.Common.{◌≡◌, ◌≢◌, ◌≤◌, ◌<◌, ◌^◌, ◌+◌, ◌*◌, ◌/◌, ◌%◌, ◌⊎◌, ⊎_elim, inl, inr, ℕ, true, false}
 use Rattle.std.proofs.Common.{List, [], ◌++◌, length, get_or, sym, ap, refl, arith, append_assoc}
-use Rattle.std.specs.Prelude.{◌==◌, codes, decimal}
+use Rattle.std.specs.Prelude.{◌==◌, codes, decimal, min}
 use Rattle.std.specs.Char.{is_ascii_digit}
 use Rattle.std.specs.Int.{IsInRange}
 use Rattle.std.specs.Str.Parse.{digits_value, AllDigits as AllInRadix}
@@ -43,31 +43,69 @@ printed n small =
       value = numeral.1;
     }
 
--- a number with no point, and a suffix
-whole_means : (m n : ℕ) (suffix : List ℕ) (factor : Factor) → m ≤ greatest → n < 10 ^ 17 → HasFactor suffix factor
-    → IsLeastNotBelow m (1000 * n * factor.numerator) (1 * factor.denominator) → HasThousandths (decimal n ++ suffix) m
-whole_means m n suffix factor small few scaled least =
-    let p = printed n few in
-    let value : digits_value 10 (decimal n ++ []) ≡ n = rw append-nil p.value in
+-- the digits of a number, before and behind its point
+pub record Parts : Type 0 where
+  pub whole : List ℕ
+  pub point : List ℕ
+  pub fraction : List ℕ
+
+pub record IsNumber (parts : Parts) (places number : ℕ) : Type 0 where
+  pub whole_digits : AllDigits parts.whole
+  pub fraction_digits : AllDigits parts.fraction
+  pub some_digit : 1 ≤ length parts.whole + length parts.fraction
+  pub few_digits : length parts.whole + length parts.fraction ≤ 17
+  pub point_is : ((parts.point ≡ []) × (parts.fraction ≡ [])) ⊎ (parts.point ≡ codes ".")
+  pub size : length parts.fraction ≡ places
+  pub value : digits_value 10 (parts.whole ++ parts.fraction) ≡ number
+
+abbrev pub before : Parts → List ℕ → List ℕ
+before parts suffix = parts.whole ++ (parts.point ++ (parts.fraction ++ suffix))
+
+pub number_means : (parts : Parts) (suffix : List ℕ) (q exact places number : ℕ) (factor : Factor)
+    → IsNumber parts places number → HasFactor suffix factor
+    → IsLeastNotBelow exact (1000 * number * factor.numerator) (10 ^ places * factor.denominator)
+    → q ≡ min exact greatest → HasThousandths (before parts suffix) q
+number_means parts suffix q exact places number factor is scaled least value = record {
+  plus = [];
+  whole = parts.whole;
+  point = parts.point;
+  fraction = parts.fraction;
+  suffix = suffix;
+  factor = factor;
+  text_is = refl;
+  plus_is = inl refl;
+  whole_digits = is.whole_digits;
+  fraction_digits = is.fraction_digits;
+  some_digit = is.some_digit;
+  few_digits = is.few_digits;
+  point_is = is.point_is;
+  scaled = scaled;
+  exact = exact;
+  exact_is = rw (is.value, is.size) least;
+  thousandths_is = value;
+}
+
+abbrev pub whole_alone : ℕ → Parts
+whole_alone n = record { whole = decimal n; point = []; fraction = [] }
+
+pub without_point : (n : ℕ) → n < 10 ^ 17 → IsNumber (whole_alone n) 0 n
+without_point n small =
+    let p = printed n small in
     record {
-      plus = [];
-      whole = decimal n;
-      point = [];
-      fraction = [];
-      suffix = suffix;
-      factor = factor;
-      text_is = refl;
-      plus_is = inl refl;
       whole_digits = p.digits;
       fraction_digits = λ k d lt. absurd (omega (arith, lt));
       some_digit = omega (arith, p.some);
       few_digits = omega (arith, p.few);
       point_is = inl (refl, refl);
-      scaled = scaled;
-      exact = m;
-      exact_is = rw value least;
-      thousandths_is = omega (arith, small);
+      size = refl;
+      value = rw append-nil p.value;
     }
+
+-- a number with no point, and a suffix
+whole_means : (m n : ℕ) (suffix : List ℕ) (factor : Factor) → m ≤ greatest → n < 10 ^ 17 → HasFactor suffix factor
+    → IsLeastNotBelow m (1000 * n * factor.numerator) (1 * factor.denominator) → HasThousandths (decimal n ++ suffix) m
+whole_means m n suffix factor small few scaled least =
+    number_means (whole_alone n) suffix m m 0 n factor (without_point n few) scaled least (omega (arith, small))
 
 units_mean : (m n : ℕ) → m ≤ greatest → m ≡ 1000 * n → n < 10 ^ 17 → HasThousandths (decimal n) m
 units_mean m n small is few =

@@ -17,7 +17,7 @@ use Rattle.quantity.specs.declared.fault.QuantityFault.TheVariants.{Empty, BadDi
 use Rattle.quantity.proofs.Decimal.{leading_are_digits}
 use Rattle.quantity.proofs.Quantities.{scaled_number_none}
 use Rattle.quantity.proofs.Runs.{number_is_run}
-use Rattle.quantity.proofs.StepsPassed.{failed, lacked}
+use Rattle.quantity.proofs.StepsPassed.{failed, lacked, unsigned_fault}
 use Rattle.quantity.proofs.Suffixes.{factor_reads, factor_means}
 
 digits_in : List ℕ → ℕ
@@ -106,19 +106,8 @@ number_fault text fault h =
 pub quantity_fault : (text : List ℕ) (fault : QuantityFault) → quantity_of text ≡ Err fault
     → HasQuantityFault text fault
 unfolding quantity_of
-quantity_fault [] fault h = inl (refl, cc)
-quantity_fault (c ∷ text) fault h =
-    let some : 0 < length (c ∷ text) = omega arith in
-    let none : (suc (length text) == 0) ≡ false = grind (arith, nat_tests) in
-    ⊎_elim (λ (b : ((c == 45) ≡ true) × (fault ≡ Negative)).
-    let t : (c == 45) ≡ true = b.0 in
-    let same : c ≡ 45 = grind (arith, nat_tests) in
-    inr (inl (text, rw same refl, b.1)))
-    (λ (b : ((c == 45) ≡ false) × _).
-    let t : (c == 45) ≡ false = b.0 in
-    let differs : c ≢ 45 = grind (arith, nat_tests) in
-    inr (inr (some, differs, number_fault (after_plus (c ∷ text)) fault b.1)))
-    (failed (c == 45) _ _ fault (rw none at h))
+quantity_fault text fault h =
+    unsigned_fault (HasNumberFault (after_plus text) fault) text fault _ h (number_fault (after_plus text) fault)
 
 -- From the first fault to what is read.
 

@@ -1,8 +1,11 @@
 -- What a chain of checks that ends well has passed.
-use Rattle.std.proofs.Common.{◌≡◌, ◌⊎◌, ℕ, sym, inl, inr, Bool, true, false, refl, Ok, Err, Some, None, Option, Result}
-use Rattle.std.specs.Prelude.{⊤, if◌then◌else◌, IfOk, OnErr, IfErr}
+use Rattle.std.proofs.Common.{◌≡◌, ◌≢◌, ◌<◌, ◌⊎◌, ⊎_elim, ℕ, suc, sym, inl, inr, Bool, true, false, refl, Ok, Err}
+use Rattle.std.proofs.Common.{Some, None, Option, Result, List, [], ◌∷◌, length, arith}
+use Rattle.std.specs.Prelude.{⊤, if◌then◌else◌, IfOk, OnErr, IfErr, slice_index, ◌==◌}
+use Rattle.std.proofs.lemmas.Bool.Decides.{nat_tests}
 use Rattle.quantity.specs.Steps.{◌>>=◌, refused_if, or_refused}
 use Rattle.quantity.specs.declared.fault.QuantityFault.{QuantityFault}
+use Rattle.quantity.specs.declared.fault.QuantityFault.TheVariants.{Empty, Negative}
 
 pub passed : {A : Type 0} (test : Bool) (fault : QuantityFault) (f : ⊤ → Result A QuantityFault) (y : A)
     → (refused_if test fault >>= f) ≡ Ok y → (test ≡ false) × (f tt ≡ Ok y)
@@ -55,3 +58,23 @@ pub failed_at : {A B : Type 0} (r : Result A QuantityFault) (f : A → Result B 
     → (r >>= f) ≡ Err e → (r ≡ Err e) ⊎ ((x : A) × (r ≡ Ok x) × (f x ≡ Err e))
 failed_at (Ok x) f e h = inr (x, refl, h)
 failed_at (Err d) f e h = inl (cc)
+
+-- the fault of a text that may be empty or negative, before what is read of it after its sign
+pub unsigned_fault : {A : Type 0} (P : Type 0) (text : List ℕ) (fault : QuantityFault) (read : Result A QuantityFault)
+    → (refused_if (length text == 0) Empty >>= λ some. refused_if (slice_index text 0 == 45) Negative >>= λ plus. read)
+    ≡ Err fault → (read ≡ Err fault → P)
+    → ((text ≡ []) × (fault ≡ Empty)) ⊎ (((rest : List ℕ) × (text ≡ 45 ∷ rest) × (fault ≡ Negative)) ⊎
+    ((0 < length text) × (slice_index text 0 ≢ 45) × P))
+unsigned_fault P [] fault read h later = inl (refl, cc)
+unsigned_fault P (c ∷ rest) fault read h later =
+    let some : 0 < length (c ∷ rest) = omega arith in
+    let none : (suc (length rest) == 0) ≡ false = grind (arith, nat_tests) in
+    ⊎_elim (λ (b : ((c == 45) ≡ true) × (fault ≡ Negative)).
+    let t : (c == 45) ≡ true = b.0 in
+    let same : c ≡ 45 = grind (arith, nat_tests) in
+    inr (inl (rest, rw same refl, b.1)))
+    (λ (b : ((c == 45) ≡ false) × (read ≡ Err fault)).
+    let t : (c == 45) ≡ false = b.0 in
+    let differs : c ≢ 45 = grind (arith, nat_tests) in
+    inr (inr (some, differs, later b.1)))
+    (failed (c == 45) _ _ fault (rw none at h))

@@ -1,17 +1,19 @@
 -- A suffix is read as what it means.
 use Rattle.std.proofs.Common.{◌≡◌, ◌≢◌, ◌≤◌, ◌<◌, ◌^◌, ◌⊎◌, ⊎_elim, inl, inr, ℕ, suc, Bool, true, false, List, []}
-use Rattle.std.proofs.Common.{◌∷◌, ◌++◌, length, get_or, sym, ◌∙◌, ap, refl, subst, arith, Some, None, Option}
+use Rattle.std.proofs.Common.{◌∷◌, ◌++◌, length, map, take, drop, get_or, sym, ◌∙◌, ap, refl, subst, arith}
+use Rattle.std.proofs.Common.{Some, None, Option}
 use Rattle.std.specs.Prelude.{◌==◌, codes, Contains, option_map, if◌then◌else◌, nat_le, ◌&&◌, ◌||◌}
 use Rattle.std.specs.List.{AllByRecursion}
 use Rattle.std.specs.Char.{is_ascii_digit}
 use Rattle.std.specs.Str.Parse.{digits_value}
 use Rattle.std.proofs.lemmas.Bool.Decides.{nat_tests, eqb_tells}
 use Rattle.std.proofs.lemmas.List.{append-nil, nil_from_length, length-append}
-use Rattle.std.proofs.lemmas.List.Elements.{All-from_recursion}
+use Rattle.std.proofs.lemmas.List.Elements.{All-from_recursion, Contains-append_left, Contains-append_right}
 use Rattle.std.proofs.Math.Nat.{one-le-pow}
 use Rattle.quantity.specs.Digits.{AllDigits, after_digits, leading_digits}
 use Rattle.quantity.specs.Suffix.{HasFactor, IsExponent, IsScale, named_factors, factor_of, times, divided_by}
-use Rattle.quantity.specs.Suffix.{power_of, exponent_factor, decimal_factor, binary_factor, begins_exponent}
+use Rattle.quantity.specs.Suffix.{power_of, exponent_factor, factor_for, decimal_factors, binary_factors}
+use Rattle.quantity.specs.Suffix.{decimal_factor, binary_factor, begins_exponent}
 use Rattle.quantity.specs.declared.suffix.Factor.{Factor}
 use Rattle.quantity.proofs.Decimal.{ten_mono, digit_value_is, leading_are_digits}
 use Rattle.quantity.proofs.Numbers.{after-append, whole_text}
@@ -200,52 +202,34 @@ factor_reads suffix factor h = ⊎_elim (reads_named suffix factor) (reads_expon
 
 -- From what is read to what it means.
 
-pick : (n m : ℕ) (a factor : Factor) (other : Option Factor) (P : Type 0) → (if n == m then Some a else other) ≡ Some
-    factor → (n ≡ m → a ≡ factor → P) → (other ≡ Some factor → P) → P
-pick n m a factor other P h yes' no' =
-    ⊎_elim (λ (t : ((n == m) ≡ true) × (n ≡ m)). yes' t.1 (let g : Some a ≡ Some factor = (rw t.0 at h) in cc))
-    (λ (t : ((n == m) ≡ false) × (n ≢ m)). no' (rw t.0 at h))
-    (eqb_tells n m)
+-- a table whose letters have these names holds what it has for a letter
+named_in : (name : ℕ → List ℕ) (table : List (ℕ × Factor)) (letter : ℕ) (factor : Factor)
+    → factor_for table letter ≡ Some factor
+    → Contains {X = List ℕ × Factor} (map (λ (e : ℕ × Factor). (name e.0, e.1)) table) (name letter, factor)
+named_in name [] letter factor h = absurd (cc)
+named_in name (entry ∷ table) letter factor h =
+    ⊎_elim (λ (t : ((letter == entry.0) ≡ true) × (letter ≡ entry.0)).
+    let e : Some entry.1 ≡ Some factor = (rw t.0 at h) in
+    let same : entry.1 ≡ factor = cc in
+    rw (t.1, ← same) (0, omega arith, refl))
+    (λ (f : ((letter == entry.0) ≡ false) × (letter ≢ entry.0)).
+    let later = named_in name table letter factor (rw f.0 at h) in
+    let below = later.1 in
+    (suc later.0, omega (arith, below), later.2))
+    (eqb_tells letter entry.0)
 
 decimal_named : (letter : ℕ) (factor : Factor) → decimal_factor letter ≡ Some factor
     → Contains named_factors (letter ∷ [], factor)
 decimal_named letter factor h =
-    pick letter 110 (divided_by (10 ^ 9)) factor _ (Contains named_factors (letter ∷ [], factor)) h
-    (λ e g. rw (e, ← g) (1, omega arith, refl)) (λ h.
-    pick letter 117 (divided_by (10 ^ 6)) factor _ (Contains named_factors (letter ∷ [], factor)) h
-    (λ e g. rw (e, ← g) (2, omega arith, refl)) (λ h.
-    pick letter 109 (divided_by (10 ^ 3)) factor _ (Contains named_factors (letter ∷ [], factor)) h
-    (λ e g. rw (e, ← g) (3, omega arith, refl)) (λ h.
-    pick letter 107 (times (10 ^ 3)) factor _ (Contains named_factors (letter ∷ [], factor)) h
-    (λ e g. rw (e, ← g) (4, omega arith, refl)) (λ h.
-    pick letter 77 (times (10 ^ 6)) factor _ (Contains named_factors (letter ∷ [], factor)) h
-    (λ e g. rw (e, ← g) (5, omega arith, refl)) (λ h.
-    pick letter 71 (times (10 ^ 9)) factor _ (Contains named_factors (letter ∷ [], factor)) h
-    (λ e g. rw (e, ← g) (6, omega arith, refl)) (λ h.
-    pick letter 84 (times (10 ^ 12)) factor _ (Contains named_factors (letter ∷ [], factor)) h
-    (λ e g. rw (e, ← g) (7, omega arith, refl)) (λ h.
-    pick letter 80 (times (10 ^ 15)) factor _ (Contains named_factors (letter ∷ [], factor)) h
-    (λ e g. rw (e, ← g) (8, omega arith, refl)) (λ h.
-    pick letter 69 (times (10 ^ 18)) factor _ (Contains named_factors (letter ∷ [], factor)) h
-    (λ e g. rw (e, ← g) (9, omega arith, refl)) (λ h.
-    absurd (cc))))))))))
+    let named = named_in (λ letter. letter ∷ []) decimal_factors letter factor h in
+    Contains-append_right (take 1 named_factors) (drop 1 named_factors) (letter ∷ [], factor)
+    (Contains-append_left (take 9 (drop 1 named_factors)) (drop 10 named_factors) (letter ∷ [], factor) named)
 
 binary_named : (letter : ℕ) (factor : Factor) → binary_factor letter ≡ Some factor
     → Contains named_factors (letter ∷ 105 ∷ [], factor)
 binary_named letter factor h =
-    pick letter 75 (times (2 ^ 10)) factor _ (Contains named_factors (letter ∷ 105 ∷ [], factor)) h
-    (λ e g. rw (e, ← g) (10, omega arith, refl)) (λ h.
-    pick letter 77 (times (2 ^ 20)) factor _ (Contains named_factors (letter ∷ 105 ∷ [], factor)) h
-    (λ e g. rw (e, ← g) (11, omega arith, refl)) (λ h.
-    pick letter 71 (times (2 ^ 30)) factor _ (Contains named_factors (letter ∷ 105 ∷ [], factor)) h
-    (λ e g. rw (e, ← g) (12, omega arith, refl)) (λ h.
-    pick letter 84 (times (2 ^ 40)) factor _ (Contains named_factors (letter ∷ 105 ∷ [], factor)) h
-    (λ e g. rw (e, ← g) (13, omega arith, refl)) (λ h.
-    pick letter 80 (times (2 ^ 50)) factor _ (Contains named_factors (letter ∷ 105 ∷ [], factor)) h
-    (λ e g. rw (e, ← g) (14, omega arith, refl)) (λ h.
-    pick letter 69 (times (2 ^ 60)) factor _ (Contains named_factors (letter ∷ 105 ∷ [], factor)) h
-    (λ e g. rw (e, ← g) (15, omega arith, refl)) (λ h.
-    absurd (cc)))))))
+    let named = named_in (λ letter. letter ∷ 105 ∷ []) binary_factors letter factor h in
+    Contains-append_right (take 10 named_factors) (drop 10 named_factors) (letter ∷ 105 ∷ [], factor) named
 
 pub some_if : {A : Type 0} (test : Bool) (x y : A) → (if test then Some x else None) ≡ Some y → (test ≡ true) × (x ≡ y)
 some_if true x y h = (refl, cc)

@@ -1,6 +1,6 @@
 -- Percentages, as `10%` and `12.5%` (Kubernetes, "Node-pressure Eviction", "Eviction thresholds").
 use Rattle.std.specs.Prelude.{◌≡◌, ◌≢◌, ◌<◌, ◌∷◌, slice_index, false, ℕ, ◌+◌, ◌*◌, ◌-◌, ◌/◌, ◌^◌, ◌≤◌, ◌⊎◌, List, []}
-use Rattle.std.specs.Prelude.{◌++◌, length, unwrap_or, slice_get, Result, Ok, not, ◌&&◌, ◌||◌, nat_lt, ◌==◌, ◌%◌}
+use Rattle.std.specs.Prelude.{◌++◌, length, Result, Ok, not, ◌&&◌, ◌||◌, nat_lt, ◌==◌, ◌%◌}
 use Rattle.std.specs.Prelude.{if◌then◌else◌, codes, decimal}
 use Rattle.std.specs.Char.{is_ascii_digit}
 use Rattle.std.specs.Str.Parse.{digits_value}
@@ -73,7 +73,7 @@ hundredths_of whole fraction = digits_value 10 whole * 100 + digits_value 10 fra
 unfoldable pub percent_of : List ℕ → Result ℕ QuantityFault
 percent_of text = do
   _ ← refused_if (length text == 0) Empty
-  _ ← refused_if (unwrap_or (slice_get text 0) 0 == 45) Negative
+  _ ← refused_if (slice_index text 0 == 45) Negative
   _ ← refused_if (length (whole_of text) == 0 || (has_point text && length (fraction_of text) == 0)) BadDigit
   _ ← refused_if (nat_lt 3 (length (whole_of text)) || nat_lt 2 (length (fraction_of text))) TooManyDigits
   _ ← refused_if (not (bytes_eq (after_number text) (codes "%"))) BadSuffix

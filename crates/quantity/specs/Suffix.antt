@@ -55,30 +55,29 @@ HasFactor suffix factor = Contains named_factors (suffix, factor) ⊎ IsExponent
 
 -- What is read of a suffix.
 
--- one letter: `n` is 110, `u` 117, `m` 109, `k` 107, `M` 77, `G` 71, `T` 84, `P` 80 and `E` 69
-abbrev pub decimal_factor : ℕ → Option Factor
-decimal_factor letter =
-    if letter == 110 then Some (divided_by (10 ^ 9))
-    else if letter == 117 then Some (divided_by (10 ^ 6))
-    else if letter == 109 then Some (divided_by (10 ^ 3))
-    else if letter == 107 then Some (times (10 ^ 3))
-    else if letter == 77 then Some (times (10 ^ 6))
-    else if letter == 71 then Some (times (10 ^ 9))
-    else if letter == 84 then Some (times (10 ^ 12))
-    else if letter == 80 then Some (times (10 ^ 15))
-    else if letter == 69 then Some (times (10 ^ 18))
-    else None
+-- what a table has for a letter
+abbrev pub factor_for : List (ℕ × Factor) → ℕ → Option Factor
+factor_for [] letter = None
+factor_for (entry ∷ others) letter = if letter == entry.0 then Some entry.1 else factor_for others letter
 
--- the letter before `i`
+-- one letter: `n` is 110, `u` 117, `m` 109, `k` 107, `M` 77, `G` 71, `T` 84, `P` 80 and `E` 69
+abbrev pub decimal_factors : List (ℕ × Factor)
+decimal_factors =
+    (110, divided_by (10 ^ 9)) ∷ (117, divided_by (10 ^ 6)) ∷ (109, divided_by (10 ^ 3)) ∷
+    (107, times (10 ^ 3)) ∷ (77, times (10 ^ 6)) ∷ (71, times (10 ^ 9)) ∷
+    (84, times (10 ^ 12)) ∷ (80, times (10 ^ 15)) ∷ (69, times (10 ^ 18)) ∷ []
+
+abbrev pub decimal_factor : ℕ → Option Factor
+decimal_factor letter = factor_for decimal_factors letter
+
+-- the letter before `i`: `K` is 75
+abbrev pub binary_factors : List (ℕ × Factor)
+binary_factors =
+    (75, times (2 ^ 10)) ∷ (77, times (2 ^ 20)) ∷ (71, times (2 ^ 30)) ∷
+    (84, times (2 ^ 40)) ∷ (80, times (2 ^ 50)) ∷ (69, times (2 ^ 60)) ∷ []
+
 abbrev pub binary_factor : ℕ → Option Factor
-binary_factor letter =
-    if letter == 75 then Some (times (2 ^ 10))
-    else if letter == 77 then Some (times (2 ^ 20))
-    else if letter == 71 then Some (times (2 ^ 30))
-    else if letter == 84 then Some (times (2 ^ 40))
-    else if letter == 80 then Some (times (2 ^ 50))
-    else if letter == 69 then Some (times (2 ^ 60))
-    else None
+binary_factor letter = factor_for binary_factors letter
 
 -- ten to the power that one or two digits write, up to 18
 abbrev pub power_of : List ℕ → Option ℕ

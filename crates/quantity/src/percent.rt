@@ -31,6 +31,7 @@ impl Percent {
     /// The fault is the first of these: `Empty`; `Negative`; `BadDigit` where no digit stands
     /// first, or none after the point; `TooManyDigits` for more than three digits before the point
     /// or two after it; `BadSuffix` where the rest is not `%`; `TooManyDigits` above 100.
+    #[tactic(auto, using(crate::proofs::PercentMeaning::percent_sound))]
     pub fn parse(text: &[u8]) -> Result<Percent, QuantityFault>
         ensures reading { result ≡ percent_of text.now }
         ensures meaning { IfOk result (HasHundredths text.now) }

@@ -41,6 +41,7 @@ impl Quantity {
     /// The fault is the first of these: `Empty`; `Negative`; `BadDigit` where the number has no
     /// digit; `TooManyDigits`; `Exponent` for an unknown suffix that begins with `e` or `E`, and
     /// `BadSuffix` for any other.
+    #[tactic(auto, using(crate::proofs::QuantityMeaning::quantity_sound))]
     pub fn parse(text: &[u8]) -> Result<Quantity, QuantityFault>
         ensures reading { result ≡ quantity_of text.now }
         ensures meaning { IfOk result (HasThousandths text.now) }

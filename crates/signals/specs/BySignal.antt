@@ -13,6 +13,15 @@ of values NodefsInodesFree = values.nodefs_inodes_free
 of values ImagefsInodesFree = values.imagefs_inodes_free
 of values PidAvailable = values.pid_available
 
+-- that of this one among six values, in the order of the signals
+abbrev pub among : {A : Type 0} → A → A → A → A → A → A → Signal → A
+among a b c d e f MemoryAvailable = a
+among a b c d e f NodefsAvailable = b
+among a b c d e f ImagefsAvailable = c
+among a b c d e f NodefsInodesFree = d
+among a b c d e f ImagefsInodesFree = e
+among a b c d e f PidAvailable = f
+
 -- what f gives for each
 abbrev pub for_each : {A : Type 0} → (Signal → A) → BySignal A
 for_each f = record {

@@ -28,11 +28,8 @@ named name =
 -- it is of the node's file system, or of that of images and containers
 abbrev pub is_of_file_system : Signal → Bool
 is_of_file_system MemoryAvailable = false
-is_of_file_system NodefsAvailable = true
-is_of_file_system ImagefsAvailable = true
-is_of_file_system NodefsInodesFree = true
-is_of_file_system ImagefsInodesFree = true
 is_of_file_system PidAvailable = false
+is_of_file_system signal = true
 
 abbrev pub kind_name : ThresholdKind → List ℕ
 kind_name Hard = codes "hard"

@@ -1,6 +1,6 @@
 //! The signals for eviction, and their names.
 
-ghost use Rattle.std.specs.Prelude.{◌≡◌, ◌≢◌, IfSome, IfNone};
+ghost use Rattle.std.specs.Prelude.{◌≡◌};
 ghost use Rattle.signals.specs.declared.signal.Signal.{Signal};
 ghost use Rattle.signals.specs.Signals.{name_of, named, is_of_file_system};
 

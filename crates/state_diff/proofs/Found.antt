@@ -27,28 +27,23 @@ use Rattle.state_diff.proofs.Acceptable.{effective_state_is}
 use Rattle.state_diff.proofs.Runs.{run_from}
 use Rattle.state_diff.proofs.Unique.{IsState-unique}
 
-running_or_not : (state : CriState) → OrNot (state ≡ Running)
-running_or_not Running = inl refl
-running_or_not Created = inr (λ e. cc)
-running_or_not Exited = inr (λ e. cc)
-running_or_not Unknown = inr (λ e. cc)
-
-exited_or_not : (state : CriState) → OrNot (state ≡ Exited)
-exited_or_not Exited = inl refl
-exited_or_not Created = inr (λ e. cc)
-exited_or_not Running = inr (λ e. cc)
-exited_or_not Unknown = inr (λ e. cc)
+-- whether a state is Running, and whether it is Exited
+state_or_not : (state : CriState) → OrNot (state ≡ Running) × OrNot (state ≡ Exited)
+state_or_not Created = (inr (λ e. cc), inr (λ e. cc))
+state_or_not Running = (inl refl, inr (λ e. cc))
+state_or_not Exited = (inr (λ e. cc), inl refl)
+state_or_not Unknown = (inr (λ e. cc), inr (λ e. cc))
 
 pub listed_or_not : (h : List Tick) (a t : ℕ) → OrNot (Listed h a t)
 listed_or_not h a t = given_or_not (IsOf a) (λ s. cases_eq s.attempt a) (seen_at h t)
 
 runs_or_not : (h : List Tick) (a t : ℕ) → OrNot (ListedAs h a Running t)
 runs_or_not h a t =
-    given_or_not (IsOfAs a Running) (λ s. both (cases_eq s.attempt a) (running_or_not s.state)) (seen_at h t)
+    given_or_not (IsOfAs a Running) (λ s. both (cases_eq s.attempt a) (state_or_not s.state).0) (seen_at h t)
 
 exits_or_not : (h : List Tick) (a t : ℕ) → OrNot (ListedAs h a Exited t)
 exits_or_not h a t =
-    given_or_not (IsOfAs a Exited) (λ s. both (cases_eq s.attempt a) (exited_or_not s.state)) (seen_at h t)
+    given_or_not (IsOfAs a Exited) (λ s. both (cases_eq s.attempt a) (state_or_not s.state).1) (seen_at h t)
 
 ends_or_not : (h : List Tick) (a t : ℕ) → OrNot (Ends h a t)
 ends_or_not h a t =
@@ -179,7 +174,7 @@ pub running_state_or_not : (h : List Tick) (a : ℕ) → OrNot (IsState h a Runn
 running_state_or_not h a =
     let s = state_of h a in
     let P : CriState → Type 0 = λ v. IsState h a v in
-    elim (running_or_not s.0) [
+    elim (state_or_not s.0).0 [
       | inl e ↦ inl (subst P e s.1)
       | inr not ↦ inr (λ runs. not (IsState-unique h a s.0 Running s.1 runs))
     ]

@@ -11,9 +11,9 @@ loop-value-preserved c =
     c.value-item.result c.loop-value.all.items c.in_ok-container.container c.loop-value-test.true c.value-item.is
     c.in_ok-container.ensures.gives in
     record {
-      read = rw c.in_ok-push.ensures.items (read_on ∙ c.loop-value.invariant.read);
+      read = rw c.in-Ok.ensures.items (read_on ∙ c.loop-value.invariant.read);
       as_many = search rules;
-      of = rw c.in_ok-push.ensures.items
+      of = rw c.in-Ok.ensures.items
           (all_of_pushed c.args.place c.loop-value.all.items c.in_ok-container.container c.loop-value.invariant.of
           c.in_ok-container.ensures.of);
     }
