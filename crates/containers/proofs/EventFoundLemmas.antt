@@ -363,45 +363,25 @@ restart_one policy max_restart_delay spec h t v w (a, e, to, falls) (b, f, to', 
 restart_event : (policy : Policy) (max_restart_delay : ℕ) (spec : ContainerSpec) (h : List ContainerTick) (t : ℕ)
     → (event : Option PodEventKind) × Gives (IsRestarted policy max_restart_delay spec h t) event
 restart_event policy max_restart_delay spec h t =
-    given_event (IsRestarted policy max_restart_delay spec h t) some (restart_one policy max_restart_delay spec h t)
-  where
-    some : OrNot ((what : PodEventKind) × IsRestarted policy max_restart_delay spec h t what)
-    some = elim (both (to_restart_or_none policy spec h) (falls_due_or_not max_restart_delay h t)) [
+    given_event (IsRestarted policy max_restart_delay spec h t)
+    (elim (both (to_restart_or_none policy spec h) (falls_due_or_not max_restart_delay h t)) [
       | inl w ↦ inl (Restart w.0.0, (w.0.0, refl, w.0.1, w.1))
       | inr not ↦ inr (λ (what, (a, e, to, falls)). not ((a, to), falls))
-    ]
+    ]) (restart_one policy max_restart_delay spec h t)
 
 -- the events of a tick
 pub some_list_of_events : SomeListOfEvents
 some_list_of_events policy max_restart_delay spec h x range =
     let now = h ++ x ∷ [] in
     let t = length h in
-    let gone = gone_event now t in
-    let started = started_event now t in
-    let died = died_event now t in
-    let passed = passed_event spec h x in
-    let kill = kill_event spec h x range in
-    let readiness = readiness_event spec now t in
-    let backoff = backoff_event policy max_restart_delay spec now t in
-    let restart = restart_event policy max_restart_delay spec now t in (
-      record {
-        gone = gone.0;
-        started = started.0;
-        died = died.0;
-        passed = passed.0;
-        kill = kill.0;
-        readiness = readiness.0;
-        backoff = backoff.0;
-        restart = restart.0;
-      },
-      record {
-        gone = gone.1;
-        started = started.1;
-        died = died.1;
-        passed = passed.1;
-        kill = kill.1;
-        readiness = readiness.1;
-        backoff = backoff.1;
-        restart = restart.1;
-      },
+    let (g, g') = gone_event now t in
+    let (s, s') = started_event now t in
+    let (d, d') = died_event now t in
+    let (p, p') = passed_event spec h x in
+    let (k, k') = kill_event spec h x range in
+    let (r, r') = readiness_event spec now t in
+    let (b, b') = backoff_event policy max_restart_delay spec now t in
+    let (a, a') = restart_event policy max_restart_delay spec now t in (
+      record { gone = g; started = s; died = d; passed = p; kill = k; readiness = r; backoff = b; restart = a },
+      record { gone = g'; started = s'; died = d'; passed = p'; kill = k'; readiness = r'; backoff = b'; restart = a' },
     )

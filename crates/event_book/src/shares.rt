@@ -18,18 +18,12 @@ pub struct Shares<U: Ledger, E: Ledger, O: Ledger> {
 
 impl<U: Ledger, E: Ledger, O: Ledger> Model for Shares<U, E, O> {
     ghost use Rattle.std.specs.Prelude.{◌≡◌};
-    ghost use Rattle.event_book.specs.Shares.{Part};
+    ghost use Rattle.event_book.specs.Shares.{Part, part};
 
     ghost Value = { Part };
 
-    ghost view = { λ s. record {
-      parts = s.updates.parts;
-      numbers = record {
-        updates = s.updates.amount;
-        events = s.events.amount;
-        orders = s.orders.amount;
-      };
-    } };
+    ghost view = { λ s. part s.updates.parts
+        (record { updates = s.updates.amount; events = s.events.amount; orders = s.orders.amount }) };
 
     ghost invariant = { λ s. (s.events.parts ≡ s.updates.parts) × (s.orders.parts ≡ s.updates.parts) };
 }

@@ -17,6 +17,7 @@ use Rattle.containers.specs.declared.pod_event_kind.PodEventKind.{PodEventKind}
 use Rattle.containers.specs.declared.pod_event_kind.PodEventKind.TheVariants as whats
 use Rattle.pod_state.specs.declared.events.PodEvent.{PodEvent}
 use Rattle.pod_piece.specs.declared.order.EvictOrder.{EvictOrder}
+use Rattle.eviction.specs.declared.eviction.Eviction.{Eviction}
 use Rattle.event_list.specs.declared.event.Event.{Event}
 use Rattle.event_list.specs.declared.event.EventKind.{EventKind}
 use Rattle.event_list.specs.declared.event.EventKind.TheVariants.{Pod, Node, Evicted}
@@ -101,12 +102,16 @@ eviction_words key order =
     joined (key ∷ codes " " ∷ threshold_words (record { signal = order.signal; kind = order.kind })
     ∷ codes " " ∷ decimal order.grace ∷ [])
 
+-- the same on a node with these pods
+abbrev pub words_among : List PodSpec → Eviction → List ℕ
+words_among pods eviction = eviction_words (key_of (slice_get pods eviction.pod)) eviction.order
+
 -- the words of an event on a node with these pods
 unfoldable pub event_words : List PodSpec → EventKind → List ℕ
 event_words pods (Pod n event) = pod_event_words (slice_get pods n) event
 event_words pods (Node event) = node_event_words event
 event_words pods (Evicted eviction) =
-    joined (codes "node evicted " ∷ eviction_words (key_of (slice_get pods eviction.pod)) eviction.order ∷ [])
+    joined (codes "node evicted " ∷ words_among pods eviction ∷ [])
 
 -- its line
 unfoldable pub event_line : List PodSpec → Event → List ℕ

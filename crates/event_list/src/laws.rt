@@ -1,14 +1,14 @@
 //! What the definition of a node's events implies. The functions do nothing; their contracts are the laws.
 
-ghost use Rattle.event_list.specs.Laws.{SomeListOfEvents, OneListOfEvents};
+ghost use Rattle.event_list.specs.Laws as laws;
 
 /// Ticks with their evictions have a list of events, where they show none but the pods that there are, and the
 /// numbers of the probes of each container are in their ranges.
 pub fn some_list_of_events()
-    ensures { SomeListOfEvents }
+    ensures { laws.SomeListOfEvents }
 {}
 
 /// Ticks with their evictions have at most one list of events.
 pub fn one_list_of_events()
-    ensures { OneListOfEvents }
+    ensures { laws.OneListOfEvents }
 {}

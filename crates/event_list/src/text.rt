@@ -2,11 +2,11 @@
 
 ghost use Rattle.std.specs.Prelude.{◌≡◌, ◌++◌, IfOk, OnOk, OnErr, string_bytes, Option, codes};
 ghost use Rattle.event_list.specs.Text.{container_of, what_words, pod_event_words, node_event_words};
-ghost use Rattle.event_list.specs.Text.{event_words, event_line, key_of, eviction_words, Extends};
+ghost use Rattle.event_list.specs.Text.{event_words, event_line, Extends};
 ghost use Rattle.event_list.specs.declared.event.EventKind.TheVariants.{Evicted};
 ghost use Rattle.node_signals.specs.declared.event.NodeEvent.TheVariants.{Reclaim};
 ghost use Rattle.pod_piece.specs.Piece.{pods_in};
-ghost use Rattle.event_list.specs.Names.{pod_in};
+ghost use Rattle.event_list.specs.Names.{pod_in, words_of};
 
 use crate::event::{Event, EventKind};
 use crate::names::Names;
@@ -119,8 +119,7 @@ fn add_key_and_order(
     eviction: Eviction,
     names: Names<'_>,
 ) -> Result<(), AllocError>
-    ensures ok { OnOk result (string_bytes text.new
-        ≡ string_bytes text.old ++ eviction_words (key_of (pod_in names.entry.pods.now eviction.pod)) eviction.order) }
+    ensures ok { OnOk result (string_bytes text.new ≡ string_bytes text.old ++ words_of names.entry.pods.now eviction) }
     ensures more { Extends (string_bytes text.old) (string_bytes text.new) }
 {
     names.add_key(text, eviction.pod)?;
@@ -134,8 +133,7 @@ pub fn add_eviction_words(
     eviction: Eviction,
     names: Names<'_>,
 ) -> Result<(), AllocError>
-    ensures ok { OnOk result (string_bytes text.new
-        ≡ string_bytes text.old ++ eviction_words (key_of (pod_in names.entry.pods.now eviction.pod)) eviction.order) }
+    ensures ok { OnOk result (string_bytes text.new ≡ string_bytes text.old ++ words_of names.entry.pods.now eviction) }
     ensures err { OnErr result (string_bytes text.new ≡ string_bytes text.old) }
 {
     let length = text.len();

@@ -31,19 +31,11 @@ some_pod_lines : (ticks : List TickObs) (evictions : List (Option Eviction)) (n 
 some_pod_lines ticks evictions n pod =
     let evicted = evicting_tick n ticks evictions in
     let order = evicting_order n ticks evictions in
-    let lifecycle = some_status.of_pod pod evicted (pod_ticks ticks n) in
-    let statuses = some_status.of_containers pod evicted (pod_ticks ticks n) in
-    let class = some_class pod.containers in (
-      pod_text n pod class.0 lifecycle.0.phase lifecycle.0.conditions order statuses.0,
-      record {
-        lifecycle = lifecycle.0;
-        is_lifecycle = lifecycle.1;
-        containers = statuses.0;
-        are_statuses = statuses.1;
-        qos = class.0;
-        is_qos = class.1;
-        text = refl;
-      },
+    let (l, l') = some_status.of_pod pod evicted (pod_ticks ticks n) in
+    let (c, c') = some_status.of_containers pod evicted (pod_ticks ticks n) in
+    let (q, q') = some_class pod.containers in (
+      pod_text n pod q l.phase l.conditions order c,
+      record { lifecycle = l; is_lifecycle = l'; containers = c; are_statuses = c'; qos = q; is_qos = q'; text = refl },
     )
 
 -- of the pod with the number among these

@@ -1,6 +1,6 @@
 -- The lines of a report, as text.
 use Rattle.std.specs.Prelude.{ℕ, ℤ, Bool, List, [], ◌∷◌, ◌++◌, Option, Some, None, unwrap_or}
-use Rattle.std.specs.Prelude.{length, slice_get, if◌then◌else◌, codes}
+use Rattle.std.specs.Prelude.{length, if◌then◌else◌, codes}
 use Rattle.std.specs.List.{flat_map}
 use Rattle.std.specs.Fmt.{decimal, signed_decimal}
 use Rattle.manifest.specs.declared.pod.ContainerSpec.{ContainerSpec}
@@ -18,7 +18,7 @@ use Rattle.pod_piece.specs.declared.order.EvictOrder.{EvictOrder}
 use Rattle.eviction.specs.declared.eviction.Eviction.{Eviction}
 use Rattle.event_book.specs.declared.totals.Totals.{Totals}
 use Rattle.event_list.specs.declared.event.Event.{Event}
-use Rattle.event_list.specs.Text.{joined, phase_word, truth, key_of, eviction_words, event_line}
+use Rattle.event_list.specs.Text.{joined, phase_word, truth, words_among, event_line}
 use Rattle.tick_round.specs.declared.summary.ConditionStatus.{ConditionStatus}
 
 abbrev pub state_word : ContainerState → List ℕ
@@ -115,8 +115,7 @@ node_condition_line c =
 -- an eviction on a node with these pods, at its moment in seconds
 unfoldable pub eviction_line : List PodSpec → Eviction → List ℕ
 eviction_line pods eviction =
-    joined (codes "eviction " ∷ decimal eviction.order.at ∷ codes " "
-    ∷ eviction_words (key_of (slice_get pods eviction.pod)) eviction.order ∷ codes "\n" ∷ [])
+    joined (codes "eviction " ∷ decimal eviction.order.at ∷ codes " " ∷ words_among pods eviction ∷ codes "\n" ∷ [])
 
 -- that of a tick, if it evicts a pod
 abbrev pub eviction_text : List PodSpec → Option Eviction → List ℕ

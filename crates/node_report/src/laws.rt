@@ -1,14 +1,14 @@
 //! What the definition of a report implies. The functions do nothing; their contracts are the laws.
 
-ghost use Rattle.node_report.specs.Laws.{SomeReport, OneReport};
+ghost use Rattle.node_report.specs.Laws as laws;
 
 /// There is a report of a node's ticks, where they show none but the pods that there are, and the numbers of the
 /// probes of each container are in their ranges.
 pub fn some_report()
-    ensures { SomeReport }
+    ensures { laws.SomeReport }
 {}
 
 /// There is at most one report: the definition leaves no choice.
 pub fn one_report()
-    ensures { OneReport }
+    ensures { laws.OneReport }
 {}

@@ -4,7 +4,7 @@ ghost use Rattle.std.specs.Prelude.{◌≡◌, ◌++◌, IfOk, OnOk, string_byte
 ghost use Rattle.std.specs.List.{flat_map};
 ghost use Rattle.pod_piece.specs.Piece.{pods_in};
 ghost use Rattle.event_list.specs.Text.{event_line};
-ghost use Rattle.node_report.specs.Lines.{header_line, node_condition_line, eviction_line, eviction_text, totals_line};
+ghost use Rattle.node_report.specs.Lines.{header_line, node_condition_line, eviction_text, totals_line};
 
 use crate::pod_text::add;
 use event_list::{Event, Names, add_event_text, add_eviction_words, add_with_number, truth_word};
@@ -71,22 +71,8 @@ pub(crate) fn add_conditions_of_node(
     Ok(())
 }
 
-#[tactic(auto, unfolding(crate::specs::Lines::eviction_line))]
-fn add_eviction_line(
-    text: &mut String,
-    eviction: Eviction,
-    names: Names<'_>,
-) -> Result<(), AllocError>
-    ensures { OnOk result (string_bytes text.new
-        ≡ string_bytes text.old ++ eviction_line (pods_in names.entry.pods.now) eviction) }
-{
-    add_with_number(text, "eviction ", eviction.order.at)?;
-    add(text, " ")?;
-    add_eviction_words(text, eviction, names)?;
-    add(text, "\n")
-}
-
 /// Adds the line of a tick's eviction, if there is one.
+#[tactic(auto, unfolding(crate::specs::Lines::eviction_line))]
 fn add_eviction(
     text: &mut String,
     eviction: &Option<Eviction>,
@@ -95,10 +81,13 @@ fn add_eviction(
     ensures { OnOk result (string_bytes text.new
         ≡ string_bytes text.old ++ eviction_text (pods_in names.entry.pods.now) eviction.now) }
 {
-    if let Some(eviction) = eviction {
-        add_eviction_line(text, *eviction, names)?;
-    }
-    Ok(())
+    let Some(eviction) = eviction else {
+        return Ok(());
+    };
+    add_with_number(text, "eviction ", eviction.order.at)?;
+    add(text, " ")?;
+    add_eviction_words(text, *eviction, names)?;
+    add(text, "\n")
 }
 
 /// Adds a line for each eviction.

@@ -21,7 +21,7 @@ use Rattle.node_signals.specs.Events.{Changes, ChangesThreshold, ChangesConditio
 use Rattle.node_signals.specs.Laws.{SomeCondition, SomeListOfNodeEvents}
 use Rattle.node_signals.proofs.ConditionLemmas.{none_observed, observed_more, true_after}
 use Rattle.node_signals.proofs.Decide.{active_or_not, due_or_not, reclaimed_or_not, met_or_not, pressure_or_not}
-use Rattle.node_signals.proofs.EventLemmas.{gives_none, gives_one, change_given}
+use Rattle.node_signals.proofs.EventLemmas.{gives_none, gives_one, change_given, all_events}
 
 -- what the ticks say of a condition
 observed_after : (eviction : EvictionConfig) (condition : NodeCondition) (later before : List TickObs)
@@ -113,13 +113,6 @@ some_list_of_node_events eviction period before tick =
     conditions in
     let reclaims = given_list (Reclaims eviction before tick) (reclaim_event eviction before tick) serving_order in (
       thresholds.0 ++ pressures.0 ++ reclaims.0,
-      record {
-        thresholds = thresholds.0;
-        of_thresholds = thresholds.1;
-        pressures = pressures.0;
-        of_conditions = pressures.1;
-        reclaims = reclaims.0;
-        of_reclaims = reclaims.1;
-        in_order = refl;
-      },
+      all_events eviction period before tick thresholds.0 (thresholds.0 ++ pressures.0) _
+          (thresholds.0, thresholds.1, refl) (pressures.0, pressures.1, refl) (reclaims.0, reclaims.1, refl),
     )

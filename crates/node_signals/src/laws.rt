@@ -1,30 +1,29 @@
 //! What is true of every node, for every list of ticks. The functions do nothing; their contracts
 //! are the laws.
 
-ghost use Rattle.node_signals.specs.Laws.{OneServed, ServedIsDue, SomeCondition, SomeListOfNodeEvents};
-ghost use Rattle.node_signals.specs.Laws.{OneListOfNodeEvents};
+ghost use Rattle.node_signals.specs.Laws as laws;
 
 /// At most one threshold is served in a tick.
 pub fn one_served()
-    ensures { OneServed }
+    ensures { laws.OneServed }
 {}
 
 /// What is served is due, and the node has not freed enough for it by itself.
 pub fn served_is_due()
-    ensures { ServedIsDue }
+    ensures { laws.ServedIsDue }
 {}
 
 /// A condition is true after any ticks or it isn't, and has been so since some moment.
 pub fn some_condition()
-    ensures { SomeCondition }
+    ensures { laws.SomeCondition }
 {}
 
 /// Every tick has a list of events.
 pub fn some_list_of_node_events()
-    ensures { SomeListOfNodeEvents }
+    ensures { laws.SomeListOfNodeEvents }
 {}
 
 /// The events of a tick are determined, with their order.
 pub fn one_list_of_node_events()
-    ensures { OneListOfNodeEvents }
+    ensures { laws.OneListOfNodeEvents }
 {}

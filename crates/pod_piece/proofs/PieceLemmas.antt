@@ -158,17 +158,7 @@ kept_handed p tick old new state status events free next listed kept =
     }
 
 abbrev numbered : PodStatus → ℕ → PodStatus
-numbered status n = record {
-  number = n;
-  phase = status.phase;
-  conditions = status.conditions;
-  containers = status.containers;
-  class = status.class;
-  requests = status.requests;
-  usage = status.usage;
-  priority = status.priority;
-  order = status.order;
-}
+numbered status n = record status { number = n }
 
 -- one that has another number
 pub kept_numbered : (p : Piece) (n : ℕ) (differs : List Differ) (state : PodState) (status : PodStatus)
@@ -416,14 +406,8 @@ pub piece_handed : (number : ℕ) (pod : PodSpec) (max_restart_delay : ℕ) (ite
     → piece number pod max_restart_delay (items ++ observed ∷ []) true eviction ≡ with_tick
     (piece number pod max_restart_delay items was_pending eviction) (pod_tick observed)
 piece_handed number pod max_restart_delay items was_pending eviction observed =
-    ap (λ (h : List PodTick). record {
-      number = number;
-      pod = pod;
-      max_restart_delay = max_restart_delay;
-      handed = h;
-      is_pending = true;
-      eviction = eviction;
-    }) (map-append pod_tick items (observed ∷ []))
+    let old = piece number pod max_restart_delay items was_pending eviction in
+    ap (λ (h : List PodTick). record old { handed = h; is_pending = true }) (map-append pod_tick items (observed ∷ []))
 
 -- what is known of the parts of a piece whose tick is pending, as its owner sees it
 pub record IsAtLast (parts : Parts) (observed : PodObs) : Type 0 where

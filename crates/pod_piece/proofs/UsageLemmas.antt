@@ -150,20 +150,13 @@ one_sample resource h (Some a) (Some b) (t, last, is) (u, last', is') =
 
 one_of_each : (h : List PodTick) (one other : Usage) → AreNewestSamples h one → AreNewestSamples h other → one ≡ other
 one_of_each h one other v w =
-    let memory = one_sample (λ u. u.memory) h one.memory other.memory v.memory w.memory in
-    let volumes = one_sample (λ u. u.volumes) h one.volumes other.volumes v.volumes w.volumes in
-    let logs = one_sample (λ u. u.logs) h one.logs other.logs v.logs w.logs in
-    let writable = one_sample (λ u. u.writable) h one.writable other.writable v.writable w.writable in
-    let inodes = one_sample (λ u. u.inodes) h one.inodes other.inodes v.inodes w.inodes in
-    let pids = one_sample (λ u. u.pids) h one.pids other.pids v.pids w.pids in
-    λ i. record {
-      memory = memory i;
-      volumes = volumes i;
-      logs = logs i;
-      writable = writable i;
-      inodes = inodes i;
-      pids = pids i;
-    }
+    let m = one_sample (λ u. u.memory) h one.memory other.memory v.memory w.memory in
+    let s = one_sample (λ u. u.volumes) h one.volumes other.volumes v.volumes w.volumes in
+    let l = one_sample (λ u. u.logs) h one.logs other.logs v.logs w.logs in
+    let o = one_sample (λ u. u.writable) h one.writable other.writable v.writable w.writable in
+    let n = one_sample (λ u. u.inodes) h one.inodes other.inodes v.inodes w.inodes in
+    let p = one_sample (λ u. u.pids) h one.pids other.pids v.pids w.pids in
+    λ i. record { memory = m i; volumes = s i; logs = l i; writable = o i; inodes = n i; pids = p i }
 
 pub one_usage : (pod : PodSpec) (evicted : Option ℕ) (h : List PodTick) (one other : Usage)
     → IsUsageOf pod evicted h one → IsUsageOf pod evicted h other → one ≡ other

@@ -67,55 +67,20 @@ Lives p = HasEnded p.pod (evicted_at p) (ticks p) → ⊥
 
 -- a pod that nothing was handed to
 abbrev pub new_piece : ℕ → PodSpec → ℕ → Piece
-new_piece number pod max_restart_delay = record {
-  number = number;
-  pod = pod;
-  max_restart_delay = max_restart_delay;
-  handed = [];
-  is_pending = false;
-  eviction = None;
-}
+new_piece number pod max_restart_delay = piece number pod max_restart_delay [] false None
 
 -- one tick more is handed to it
 abbrev pub with_tick : Piece → PodTick → Piece
-with_tick p tick = record {
-  number = p.number;
-  pod = p.pod;
-  max_restart_delay = p.max_restart_delay;
-  handed = p.handed ++ tick ∷ [];
-  is_pending = true;
-  eviction = p.eviction;
-}
+with_tick p tick = record p { handed = p.handed ++ tick ∷ []; is_pending = true }
 
 -- the tick that was handed to it has come into its status
 abbrev pub updated : Piece → Piece
-updated p = record {
-  number = p.number;
-  pod = p.pod;
-  max_restart_delay = p.max_restart_delay;
-  handed = p.handed;
-  is_pending = false;
-  eviction = p.eviction;
-}
+updated p = record p { is_pending = false }
 
 -- its last tick evicts it
 abbrev pub with_eviction : Piece → EvictOrder → Piece
-with_eviction p order = record {
-  number = p.number;
-  pod = p.pod;
-  max_restart_delay = p.max_restart_delay;
-  handed = p.handed;
-  is_pending = p.is_pending;
-  eviction = Some (record { place = length p.handed - 1; order = order });
-}
+with_eviction p order = record p { eviction = Some (record { place = length p.handed - 1; order = order }) }
 
 -- it has another number
 abbrev pub with_number : Piece → ℕ → Piece
-with_number p number = record {
-  number = number;
-  pod = p.pod;
-  max_restart_delay = p.max_restart_delay;
-  handed = p.handed;
-  is_pending = p.is_pending;
-  eviction = p.eviction;
-}
+with_number p number = record p { number = number }

@@ -1,17 +1,19 @@
 -- What one more tick makes of the counters of each probe.
 use Rattle.std.proofs.Common.{◌≡◌, ◌⊎◌, inl, inr, ℕ, ◌-◌, Bool, nat_eq, List, [], ◌∷◌, ◌++◌, length, Option, Some}
-use Rattle.std.proofs.Common.{None, sym, ap, subst, ◌∙◌}
+use Rattle.std.proofs.Common.{None, refl, ap, subst, ◌∙◌}
 use Rattle.std.specs.Prelude.{◌↔◌, ◌||◌, IsTrue}
 use Rattle.std.specs.List.{filter_map, cons_option}
 use Rattle.std.proofs.lemmas.Bool.{or_cases, or_left, or_right, eqb-true, eq-eqb}
 use Rattle.std.proofs.lemmas.List.{append-nil}
+use Rattle.std.proofs.lemmas.Option.{same_Some}
 use Rattle.std.proofs.lemmas.List.Elements.{filter_map-append}
 use Rattle.manifest.specs.declared.outcome.Outcome.{Outcome}
 use Rattle.manifest.specs.declared.outcome.Outcome.TheVariants.{Success, Failure}
 use Rattle.manifest.specs.Probe.{Probe}
+use Rattle.probes.specs.declared.configured.ProbeResult.{ProbeResult}
 use Rattle.probes.specs.declared.startup.Progress.{Progress}
 use Rattle.probes.specs.Outcomes.{EndsRun, FailsInARow, HoldsAfter, IsRunLength}
-use Rattle.probes.specs.Ticks.{Tick, belonging}
+use Rattle.probes.specs.Ticks.{Tick, belonging, with_probe, result_of}
 use Rattle.probes.specs.Startup.{IsProgressOf, IsProgressWith}
 use Rattle.probes.specs.Liveness.{CountsLiveness}
 use Rattle.probes.specs.Readiness.{CountsReadiness, CountsResults}
@@ -30,17 +32,39 @@ filter_map-item {X} {Y} f xs x y some =
     filter_map-append f xs (x ∷ []) ∙ ap (λ (o : Option Y). filter_map f xs ++ cons_option o []) some
 
 -- what belongs to the instance in the new tick, by the age and the result that were handed in
-pub belonging_is : (p : Probe) (start age : ℕ) (next : Tick) (given in_tick r o : Option Outcome)
-    → next.moment - start ≡ age → in_tick ≡ given
-    → r ≡ belonging p age given → r ≡ o → belonging p (next.moment - start) in_tick ≡ o
-belonging_is p start age next given in_tick r o at is gives e = rw (at, is) (sym gives ∙ e)
+none_belongs : (p : Probe) (age : ℕ) (given : Option Outcome) → result_of (Some p) age given ≡ None
+    → belonging p age given ≡ None
+none_belongs p age given e = none_of (belonging p age given) e
+  where
+    none_of : (o : Option Outcome) → with_probe p o ≡ None → o ≡ None
+    none_of None e = refl
+    none_of (Some o) e = absurd (cc)
+
+pub one_belongs : (probe : Option Probe) (age : ℕ) (given : Option Outcome) (found : ProbeResult)
+    → result_of probe age given ≡ Some found
+    → (probe ≡ Some found.probe) × (belonging found.probe age given ≡ Some found.outcome)
+one_belongs None age given found e = absurd (cc)
+one_belongs (Some p) age given found e = one_of (belonging p age given) refl e
+  where
+    one_of : (r : Option Outcome) → belonging p age given ≡ r → with_probe p r ≡ Some found
+        → (Some p ≡ Some found.probe) × (belonging found.probe age given ≡ Some found.outcome)
+    one_of None is e = absurd (cc)
+    one_of (Some o) is e =
+        let same = same_Some (record { probe = p; outcome = o }) found e in
+        let probe : p ≡ found.probe = ap (λ (x : ProbeResult). x.probe) same in (
+          ap (λ (x : Probe). Some x) probe,
+          rw (← probe) (is ∙ ap (λ (x : ProbeResult). Some x.outcome) same),
+        )
 
 -- startup: the tick has no result that belongs, or one
-pub startup_skips : (p : Probe) (start : ℕ) (ticks : List Tick) (next : Tick) (progress : Progress)
-    → belonging p (next.moment - start) next.entry.startup ≡ None
-    → IsProgressWith (Some p) start ticks progress → IsProgressWith (Some p) start (ticks ++ next ∷ []) progress
-startup_skips p start ticks next progress none st =
-    rw (filter_map-nothing (λ t. belonging p (t.moment - start) t.entry.startup) ticks next none) st
+pub startup_skips : (probe : Option Probe) (start : ℕ) (ticks : List Tick) (next : Tick) (progress : Progress)
+    (age : ℕ) (given : Option Outcome) → next.moment - start ≡ age → next.entry.startup ≡ given
+    → result_of probe age given ≡ None
+    → IsProgressWith probe start ticks progress → IsProgressWith probe start (ticks ++ next ∷ []) progress
+startup_skips None start ticks next progress age given at is none st = st
+startup_skips (Some p) start ticks next progress age given at is none st =
+    rw (filter_map-nothing (λ t. belonging p (t.moment - start) t.entry.startup) ticks next
+    (rw (at, is) (none_belongs p age given none))) st
 
 pub startup_takes : (p : Probe) (start : ℕ) (ticks : List Tick) (next : Tick) (o : Outcome) (limit : ℕ)
     (progress progress' : Progress)
@@ -66,12 +90,15 @@ run_by o limit number counted n n' same step =
     subst F same step
 
 -- liveness
-pub liveness_skips : (p : Probe) (start : ℕ) (ticks : List Tick) (next : Tick) (failures : ℕ) (failed : Bool)
-    → belonging p (next.moment - start) next.entry.liveness ≡ None
-    → CountsLiveness (Some p) start ticks failures failed → CountsLiveness (Some p) start (ticks ++ next ∷ [])
-    failures failed
-liveness_skips p start ticks next failures failed none st =
-    rw (filter_map-nothing (λ t. belonging p (t.moment - start) t.entry.liveness) ticks next none) st
+pub liveness_skips : (probe : Option Probe) (start : ℕ) (ticks : List Tick) (next : Tick) (failures : ℕ) (failed : Bool)
+    (age : ℕ) (given : Option Outcome) → next.moment - start ≡ age → next.entry.liveness ≡ given
+    → result_of probe age given ≡ None
+    → CountsLiveness probe start ticks failures failed
+    → CountsLiveness probe start (ticks ++ next ∷ []) failures failed
+liveness_skips None start ticks next failures failed age given at is none st = st
+liveness_skips (Some p) start ticks next failures failed age given at is none st =
+    rw (filter_map-nothing (λ t. belonging p (t.moment - start) t.entry.liveness) ticks next
+    (rw (at, is) (none_belongs p age given none))) st
 
 liveness_counts : (f : ℕ) (results : List Outcome) (o : Outcome) (failures : ℕ) (failed : Bool)
     → IsRunLength Failure f (results ++ o ∷ []) failures
@@ -102,12 +129,16 @@ liveness_takes p start ticks next o limit failures failures' failed some same st
     (rw same (run, liveness_counts p.failure_threshold _ o failures' failed run st.1))
 
 -- readiness
-pub readiness_skips : (p : Probe) (start : ℕ) (ticks : List Tick) (next : Tick) (successes failures : ℕ)
-    (ready : Bool) → belonging p (next.moment - start) next.entry.readiness ≡ None
-    → CountsReadiness (Some p) start ticks successes failures ready
-    → CountsReadiness (Some p) start (ticks ++ next ∷ []) successes failures ready
-readiness_skips p start ticks next successes failures ready none st =
-    rw (filter_map-nothing (λ t. belonging p (t.moment - start) t.entry.readiness) ticks next none) st
+pub readiness_skips : (probe : Option Probe) (start : ℕ) (ticks : List Tick) (next : Tick)
+    (successes failures : ℕ) (ready : Bool) (age : ℕ) (given : Option Outcome)
+    → next.moment - start ≡ age → next.entry.readiness ≡ given
+    → result_of probe age given ≡ None
+    → CountsReadiness probe start ticks successes failures ready
+    → CountsReadiness probe start (ticks ++ next ∷ []) successes failures ready
+readiness_skips None start ticks next successes failures ready age given at is none st = st
+readiness_skips (Some p) start ticks next successes failures ready age given at is none st =
+    rw (filter_map-nothing (λ t. belonging p (t.moment - start) t.entry.readiness) ticks next
+    (rw (at, is) (none_belongs p age given none))) st
 
 readiness_counts : (p : Probe) (results : List Outcome) (o : Outcome) (s s' f f' : ℕ) (ready ready' : Bool)
     → (IsTrue ready' ↔ (IsTrue (nat_eq s' p.success_threshold) ⊎

@@ -1,12 +1,13 @@
 -- The results of the probes of one instance of a container, tick after tick, oldest first. A tick
 -- is named by its place, counted from 0. (Kubernetes, "Configure Liveness, Readiness and Startup
 -- Probes".)
-use Rattle.std.specs.Prelude.{ℕ, ◌-◌, ◌&&◌, nat_le, if◌then◌else◌, List, slice_index_or, Option, Some, None}
-use Rattle.std.specs.Prelude.{IsSomeAnd, MatchOption}
+use Rattle.std.specs.Prelude.{◌≡◌, ℕ, ◌-◌, ◌&&◌, nat_le, if◌then◌else◌, List, [], ◌∷◌, ◌++◌}
+use Rattle.std.specs.Prelude.{slice_index_or, Option, Some, None, IsSomeAnd, MatchOption}
 use Rattle.std.specs.List.{filter_map}
 use Rattle.manifest.specs.declared.outcome.Outcome.{Outcome}
 use Rattle.manifest.specs.Probe.{Probe}
 use Rattle.histories.specs.Histories.{Recorded, recorded}
+use Rattle.probes.specs.declared.configured.ProbeResult.{ProbeResult}
 use Rattle.probes.specs.Outcomes.{is_known, PassesWithin, FailsWithin, FailsInARow, HoldsAfter}
 
 -- the result of each probe in one tick, if there is one
@@ -32,6 +33,16 @@ abbrev pub belonging : Probe → ℕ → Option Outcome → Option Outcome
 belonging probe age None = None
 belonging probe age (Some outcome) =
     (if is_known outcome && nat_le probe.initial_delay_seconds age then Some outcome else None)
+
+-- a probe and its result, if it has one
+abbrev pub with_probe : Probe → Option Outcome → Option ProbeResult
+with_probe probe None = None
+with_probe probe (Some outcome) = Some (record { probe = probe; outcome = outcome })
+
+-- a probe, if there is one, and its result, if that belongs to an instance of this age
+abbrev pub result_of : Option Probe → ℕ → Option Outcome → Option ProbeResult
+result_of None age given = None
+result_of (Some probe) age given = with_probe probe (belonging probe age given)
 
 -- the results that belong to the instance with this start, in order
 abbrev pub startup_results : Probe → ℕ → List Tick → List Outcome
@@ -68,3 +79,9 @@ abbrev pub HoldsReady : Option Probe → ℕ → List Tick → Type 0
 HoldsReady readiness start ticks =
     MatchOption readiness (Unit {0}) (λ probe. HoldsAfter probe.success_threshold probe.failure_threshold
     (readiness_results probe start ticks))
+
+-- from the value after some ticks to that after one more, in which an instance of this age has this result of the probe
+abbrev pub TakesOne : {S : Type 0} → (ℕ → List Tick → S → Type 0) → (Results → Option Outcome) → ℕ → Option Outcome
+    → S → S → Type 0
+TakesOne IsOf of age outcome old new = (start : ℕ) (ticks : List Tick) (next : Tick) → next.moment - start ≡ age
+    → of next.entry ≡ outcome → IsOf start ticks old → IsOf start (ticks ++ next ∷ []) new

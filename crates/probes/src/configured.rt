@@ -1,6 +1,8 @@
 ghost use Rattle.std.specs.Prelude.{◌≡◌};
+ghost use Rattle.probes.specs.Ticks.{result_of};
 
-use manifest::Probe;
+use crate::outcome::belonging;
+use manifest::{Outcome, Probe};
 use std::marker::Model;
 
 /// The probe that a container is configured with, or none. Contracts see the option. It stands
@@ -22,6 +24,13 @@ impl Model for Configured {
     ghost inverse = { λ v. record { probe = v } };
 }
 
+/// A probe and a result of it.
+#[derive(Clone, Copy)]
+pub(crate) struct ProbeResult {
+    pub(crate) probe: Probe,
+    pub(crate) outcome: Outcome,
+}
+
 impl Configured {
     pub fn new(probe: Option<Probe>) -> Self
         ensures { result ≡ probe }
@@ -33,5 +42,14 @@ impl Configured {
         ensures { result ≡ self }
     {
         self.probe
+    }
+
+    /// The probe and its outcome, if there is a probe and this outcome belongs to an instance of this age in seconds.
+    pub(crate) fn result(self, age: u64, outcome: Option<Outcome>) -> Option<ProbeResult>
+        ensures { result ≡ result_of self age outcome }
+    {
+        let probe = self.probe?;
+        let outcome = belonging(probe, age, outcome)?;
+        Some(ProbeResult { probe, outcome })
     }
 }

@@ -1,30 +1,29 @@
 //! What the definitions of probes imply, for every container and every list of ticks. The functions
 //! do nothing; their contracts are the laws.
-ghost use Rattle.probes.specs.Laws.{OneCause, KillOrderStands, StartupPassesOnce, SomeCounted, OneCounted};
-ghost use Rattle.probes.specs.Laws.{ReadyWithoutProbe};
+ghost use Rattle.probes.specs.Laws as laws;
 
 /// No instance is to be killed for two causes.
 pub fn one_cause()
-    ensures { OneCause }
+    ensures { laws.OneCause }
 {}
 
 /// A kill order stands, whatever results come later.
 pub fn kill_order_stands()
-    ensures { KillOrderStands }
+    ensures { laws.KillOrderStands }
 {}
 
 /// A startup probe passes at most once, whatever results come later.
 pub fn startup_passes_once()
-    ensures { StartupPassesOnce }
+    ensures { laws.StartupPassesOnce }
 {}
 
 /// The ticks that count are there, and are the only ones.
 pub fn counted_ticks()
-    ensures some { SomeCounted }
-    ensures one { OneCounted }
+    ensures some { laws.SomeCounted }
+    ensures one { laws.OneCounted }
 {}
 
 /// A container with no readiness probe is ready once startup has passed.
 pub fn ready_without_probe()
-    ensures { ReadyWithoutProbe }
+    ensures { laws.ReadyWithoutProbe }
 {}

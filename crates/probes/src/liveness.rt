@@ -1,9 +1,9 @@
-ghost use Rattle.std.specs.Prelude.{◌≡◌, ◌-◌, ◌↔◌, ℕ, List, ◌∷◌, [], ◌++◌, IsTrue};
-ghost use Rattle.probes.specs.Ticks.{Tick, HasLivenessFailed};
+ghost use Rattle.std.specs.Prelude.{◌≡◌, ◌↔◌, ℕ, List, [], IsTrue};
+ghost use Rattle.probes.specs.Ticks.{Tick, TakesOne, HasLivenessFailed};
 ghost use Rattle.probes.specs.Liveness.{IsLivenessOf};
 
 use crate::configured::Configured;
-use crate::outcome::{belonging, is_failure};
+use crate::outcome::is_failure;
 use crate::run_length::extend_run;
 use manifest::Outcome;
 
@@ -38,18 +38,13 @@ impl Liveness {
     /// Takes the liveness probe's result in a tick that counts, at this age of the instance.
     pub fn take(&mut self, age: u64, outcome: Option<Outcome>)
         ensures probe { self.new.probe ≡ self.old.probe }
-        ensures state { (start : ℕ) (ticks : List Tick) (next : Tick) → next.moment - start ≡ age
-            → next.entry.liveness ≡ outcome → IsLivenessOf start ticks self.old
-            → IsLivenessOf start (ticks ++ next ∷ []) self.new }
+        ensures state { TakesOne IsLivenessOf (λ results. results.liveness) age outcome self.old self.new }
     {
-        let Some(probe) = self.probe.get() else {
+        let Some(found) = self.probe.result(age, outcome) else {
             return;
         };
-        let Some(outcome) = belonging(probe, age, outcome) else {
-            return;
-        };
-        let limit = probe.failure_threshold();
-        self.failures = extend_run(self.failures, is_failure(outcome), limit);
+        let limit = found.probe.failure_threshold();
+        self.failures = extend_run(self.failures, is_failure(found.outcome), limit);
         self.failed |= self.failures == limit;
     }
 }

@@ -1,9 +1,9 @@
-ghost use Rattle.std.specs.Prelude.{◌≡◌, ◌-◌, ◌↔◌, ◌⊎◌, ℕ, List, ◌∷◌, [], ◌++◌, IsTrue};
-ghost use Rattle.probes.specs.Ticks.{Tick, HoldsReady};
+ghost use Rattle.std.specs.Prelude.{◌≡◌, ◌↔◌, ◌⊎◌, ℕ, List, [], IsTrue};
+ghost use Rattle.probes.specs.Ticks.{Tick, TakesOne, HoldsReady};
 ghost use Rattle.probes.specs.Readiness.{IsReadinessOf};
 
 use crate::configured::Configured;
-use crate::outcome::{belonging, is_failure, is_success};
+use crate::outcome::{is_failure, is_success};
 use crate::run_length::extend_run;
 use manifest::Outcome;
 
@@ -42,28 +42,23 @@ impl Readiness {
     /// Takes the readiness probe's result in a tick that counts, at this age of the instance.
     pub fn take(&mut self, age: u64, outcome: Option<Outcome>)
         ensures probe { self.new.probe ≡ self.old.probe }
-        ensures state { (start : ℕ) (ticks : List Tick) (next : Tick) → next.moment - start ≡ age
-            → next.entry.readiness ≡ outcome → IsReadinessOf start ticks self.old
-            → IsReadinessOf start (ticks ++ next ∷ []) self.new }
+        ensures state { TakesOne IsReadinessOf (λ results. results.readiness) age outcome self.old self.new }
     {
-        let Some(probe) = self.probe.get() else {
-            return;
-        };
-        let Some(outcome) = belonging(probe, age, outcome) else {
+        let Some(found) = self.probe.result(age, outcome) else {
             return;
         };
         self.successes = extend_run(
             self.successes,
-            is_success(outcome),
-            probe.success_threshold(),
+            is_success(found.outcome),
+            found.probe.success_threshold(),
         );
         self.failures = extend_run(
             self.failures,
-            is_failure(outcome),
-            probe.failure_threshold(),
+            is_failure(found.outcome),
+            found.probe.failure_threshold(),
         );
-        let succeeds = self.successes == probe.success_threshold();
-        let fails = self.failures == probe.failure_threshold();
+        let succeeds = self.successes == found.probe.success_threshold();
+        let fails = self.failures == found.probe.failure_threshold();
         self.ready = stays_ready(self.ready, succeeds, fails);
     }
 }

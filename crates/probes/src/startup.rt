@@ -1,10 +1,10 @@
-ghost use Rattle.std.specs.Prelude.{◌≡◌, ◌≢◌, ◌-◌, ◌≤◌, ◌↔◌, ℕ, List, ◌∷◌, [], ◌++◌, IsTrue};
+ghost use Rattle.std.specs.Prelude.{◌≡◌, ◌≢◌, ◌≤◌, ◌↔◌, ℕ, List, ◌∷◌, [], ◌++◌, IsTrue};
 ghost use Rattle.manifest.specs.declared.outcome.Outcome.{Outcome};
-ghost use Rattle.probes.specs.Ticks.{Tick, IsStarted, HasStartupFailed};
+ghost use Rattle.probes.specs.Ticks.{Tick, TakesOne, IsStarted, HasStartupFailed};
 ghost use Rattle.probes.specs.Startup.{IsProgressOf, IsStartupOf};
 
 use crate::configured::Configured;
-use crate::outcome::{belonging, is_success};
+use crate::outcome::is_success;
 use manifest::Outcome;
 
 /// How far the startup of an instance has come.
@@ -81,16 +81,13 @@ impl Startup {
     /// Takes the startup probe's result in a tick, at this age of the instance.
     pub fn take(&mut self, age: u64, outcome: Option<Outcome>)
         ensures probe { self.new.probe ≡ self.old.probe }
-        ensures state { (start : ℕ) (ticks : List Tick) (next : Tick) → next.moment - start ≡ age
-            → next.entry.startup ≡ outcome → IsStartupOf start ticks self.old
-            → IsStartupOf start (ticks ++ next ∷ []) self.new }
+        ensures state { TakesOne IsStartupOf (λ results. results.startup) age outcome self.old self.new }
     {
-        let Some(probe) = self.probe.get() else {
+        let Some(found) = self.probe.result(age, outcome) else {
             return;
         };
-        let Some(outcome) = belonging(probe, age, outcome) else {
-            return;
-        };
-        self.progress = self.progress.after(outcome, probe.failure_threshold());
+        self.progress = self
+            .progress
+            .after(found.outcome, found.probe.failure_threshold());
     }
 }

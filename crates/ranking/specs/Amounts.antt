@@ -32,9 +32,7 @@ abbrev pub has_requests : Signal → Bool
 has_requests MemoryAvailable = true
 has_requests NodefsAvailable = true
 has_requests ImagefsAvailable = true
-has_requests NodefsInodesFree = false
-has_requests ImagefsInodesFree = false
-has_requests PidAvailable = false
+has_requests signal = false
 
 -- of inodes and processes nothing is requested
 abbrev pub requested : Signal → EffectiveRequests → ℕ

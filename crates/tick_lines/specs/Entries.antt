@@ -2,11 +2,11 @@
 use Rattle.std.specs.Prelude.{◌++◌, List, [], ◌∷◌, Option, Result, Ok, codes}
 use Rattle.serde_json.specs.Data.{Data}
 use Rattle.json_fields.specs.Fields.{field_at, text_at}
-use Rattle.json_fields.specs.Reading.{◌>>=◌, some_or, each}
+use Rattle.json_fields.specs.Reading.{◌>>=◌, some_or}
 use Rattle.tick_lines.specs.declared.entry.Entry.{Entry}
 use Rattle.tick_lines.specs.declared.fault.TickLineFault.{TickLineFault}
 use Rattle.tick_lines.specs.declared.fault.TickLineFault.TheVariants.{Usage}
-use Rattle.tick_lines.specs.Fields.{items_of}
+use Rattle.tick_lines.specs.Fields.{each_item}
 use Rattle.tick_lines.specs.Listings.{listings_of}
 use Rattle.tick_lines.specs.Results.{results_of}
 use Rattle.tick_lines.specs.Usages.{usage_of}
@@ -25,4 +25,4 @@ with_entry entries d = entry_of d >>= λ entry. Ok (entries ++ entry ∷ [])
 
 -- the entries of a tick line, in order
 abbrev pub entries_of : Option Data → Result (List Entry) TickLineFault
-entries_of found = items_of found >>= each entry_of
+entries_of found = each_item entry_of found

@@ -4,7 +4,7 @@ use Rattle.std.specs.Prelude.{Result, Ok, Err}
 use Rattle.serde_json.specs.Data.{Data, Items}
 use Rattle.serde_json.specs.Find.{as_array, as_object}
 use Rattle.json_fields.specs.Fields.{items_list}
-use Rattle.json_fields.specs.Reading.{◌>>=◌}
+use Rattle.json_fields.specs.Reading.{◌>>=◌, each}
 use Rattle.json_fields.specs.Quantities.{quantity_in}
 use Rattle.json_fields.specs.declared.fault.FieldFault.{FieldFault}
 use Rattle.tick_lines.specs.declared.fault.TickLineFault.{TickLineFault}
@@ -18,6 +18,10 @@ items_from (Some items) = Ok (items_list items)
 abbrev pub items_of : Option Data → Result (List Data) TickLineFault
 items_of None = Ok []
 items_of (Some d) = items_from (as_array d)
+
+-- what f reads of the items of an array that may be left out, in order
+abbrev pub each_item : {A : Type 0} → (Data → Result A TickLineFault) → Option Data → Result (List A) TickLineFault
+each_item f found = items_of found >>= each f
 
 abbrev pub only_object : Data → Result ⊤ TickLineFault
 only_object d = if is_some (as_object d) then Ok tt else Err Usage

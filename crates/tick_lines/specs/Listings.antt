@@ -4,14 +4,14 @@ use Rattle.std.specs.Prelude.{option_and_then, if◌then◌else◌, Result, Ok, 
 use Rattle.serde_json.specs.Data.{Data}
 use Rattle.serde_json.specs.Find.{as_str, as_number, as_i64, as_u64}
 use Rattle.json_fields.specs.Fields.{field_at, text_at}
-use Rattle.json_fields.specs.Reading.{◌>>=◌, some_or, each}
+use Rattle.json_fields.specs.Reading.{◌>>=◌, some_or}
 use Rattle.state_diff.specs.declared.seen.CriState.{CriState}
 use Rattle.state_diff.specs.declared.seen.CriState.TheVariants.{Created, Running, Exited, Unknown}
 use Rattle.tick_lines.specs.declared.fault.TickLineFault.{TickLineFault}
 use Rattle.tick_lines.specs.declared.fault.TickLineFault.TheVariants.{Usage}
 use Rattle.tick_lines.specs.declared.listing.ListedInstance.{ListedInstance}
 use Rattle.tick_lines.specs.declared.listing.Listing.{Listing}
-use Rattle.tick_lines.specs.Fields.{items_of, value_named}
+use Rattle.tick_lines.specs.Fields.{each_item, value_named}
 
 abbrev pub attempt_from : Option ℕ → Result ℕ TickLineFault
 attempt_from None = Err Usage
@@ -73,4 +73,4 @@ listing_of d = do
 
 -- the listings of an entry, in order
 abbrev pub listings_of : Option Data → Result (List Listing) TickLineFault
-listings_of found = items_of found >>= each listing_of
+listings_of found = each_item listing_of found

@@ -2,7 +2,7 @@
 use Rattle.std.specs.Prelude.{ℕ, List, [], ◌∷◌, Option, Result, Ok, codes}
 use Rattle.serde_json.specs.Data.{Data}
 use Rattle.json_fields.specs.Fields.{text_at}
-use Rattle.json_fields.specs.Reading.{◌>>=◌, some_or, each}
+use Rattle.json_fields.specs.Reading.{◌>>=◌, some_or}
 use Rattle.manifest.specs.declared.outcome.Outcome.{Outcome}
 use Rattle.manifest.specs.declared.outcome.Outcome.TheVariants.{Success, Failure, Unknown}
 use Rattle.manifest.specs.declared.outcome.ProbeKind.{ProbeKind}
@@ -10,7 +10,7 @@ use Rattle.manifest.specs.declared.outcome.ProbeKind.TheVariants.{Startup, Liven
 use Rattle.tick_lines.specs.declared.fault.TickLineFault.{TickLineFault}
 use Rattle.tick_lines.specs.declared.fault.TickLineFault.TheVariants.{Usage}
 use Rattle.tick_lines.specs.declared.probing.ProbeResult.{ProbeResult}
-use Rattle.tick_lines.specs.Fields.{items_of, value_named}
+use Rattle.tick_lines.specs.Fields.{each_item, value_named}
 
 abbrev pub probe_names : List (List ℕ × ProbeKind)
 probe_names = (codes "startup", Startup) ∷ (codes "liveness", Liveness) ∷ (codes "readiness", Readiness) ∷ []
@@ -35,4 +35,4 @@ result_of d = do
 
 -- the results of an entry, in order
 abbrev pub results_of : Option Data → Result (List ProbeResult) TickLineFault
-results_of found = items_of found >>= each result_of
+results_of found = each_item result_of found

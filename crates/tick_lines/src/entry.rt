@@ -1,14 +1,14 @@
 //! The entries of a tick line, as they are written.
 
-ghost use Rattle.std.specs.Prelude.{◌≡◌, map, option_map};
-ghost use Rattle.json_fields.specs.Reading.{each};
+ghost use Rattle.std.specs.Prelude.{◌≡◌};
 ghost use Rattle.tick_lines.specs.Gives.{Gives};
-ghost use Rattle.tick_lines.specs.Entries.{entry_of, with_entry, entries_of};
+ghost use Rattle.tick_lines.specs.Entries.{entry_of};
 
 use crate::fault::TickLineFault;
-use crate::fields::{items_of, text_of};
-use crate::listing::{Listing, listings_of};
-use crate::probing::{ProbeResult, results_of};
+use crate::fields::text_of;
+use crate::items::{ReadItem, read_items};
+use crate::listing::Listing;
+use crate::probing::ProbeResult;
 use crate::usage::usage_of;
 use json_fields::{Json, field, text_at};
 use lists::Sequence;
@@ -33,47 +33,18 @@ pub struct Entry {
 fn entry_of<V: Json>(alloc: Global, value: &V) -> Result<Entry, TickLineFault>
     ensures { Gives (λ e. e) result (entry_of (V.data value.now)) }
 {
-    let key = text_of(alloc, text_at(value, "pod"))?;
-    let listings = listings_of(alloc, field(value, "containers"))?;
-    let results = results_of(alloc, field(value, "probes"))?;
-    let usage = usage_of(field(value, "usage"))?;
     Ok(Entry {
-        key,
-        listings,
-        results,
-        usage,
+        key: text_of(alloc, text_at(value, "pod"))?,
+        listings: read_items::<Listing, V>(alloc, field(value, "containers"))?,
+        results: read_items::<ProbeResult, V>(alloc, field(value, "probes"))?,
+        usage: usage_of(field(value, "usage"))?,
     })
 }
 
-fn with_entry<V: Json>(
-    alloc: Global,
-    mut all: Vec<Entry>,
-    value: &V,
-) -> Result<Vec<Entry>, TickLineFault>
-    ensures { Gives (λ v. v.items) result (with_entry all.items (V.data value.now)) }
-{
-    let entry = entry_of(alloc, value)?;
-    all.push(entry)?;
-    Ok(all)
-}
+impl ReadItem for Entry {
+    ghost read_of = { entry_of };
 
-fn entries<V: Json>(alloc: Global, values: &[V]) -> Result<Vec<Entry>, TickLineFault>
-    ensures { Gives (λ v. v.items) result (each entry_of (map V.data values.now)) }
-{
-    let mut all = Vec::with_capacity(alloc, values.len())?;
-    for value in values {
-        all = with_entry(alloc, all, value)?;
+    fn read<V: Json>(alloc: Global, item: &V) -> Result<Entry, TickLineFault> {
+        entry_of(alloc, item)
     }
-    Ok(all)
-}
-
-/// The entries of a tick line.
-pub(crate) fn entries_of<V: Json>(
-    alloc: Global,
-    found: Option<&V>,
-) -> Result<Sequence<Entry>, TickLineFault>
-    ensures { Gives (λ s. s) result (entries_of (option_map (λ v. V.data v.now) found.entry)) }
-{
-    let entries = entries(alloc, items_of(found)?)?;
-    Ok(Sequence::from_vec(entries))
 }

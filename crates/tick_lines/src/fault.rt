@@ -4,7 +4,7 @@ ghost use Rattle.std.specs.Prelude.{◌≡◌};
 ghost use Rattle.tick_lines.specs.declared.fault.TickLineFault.TheVariants.{Usage, OutOfMemory};
 
 use json_fields::FieldFault;
-use std::alloc::{AllocError, AllocFailed};
+use std::alloc::AllocError;
 use thiserror::Error;
 
 /// What is wrong with a tick line by itself.
@@ -22,14 +22,6 @@ impl From<AllocError> for TickLineFault {
     ghost from_gives = { λ _ e. e ≡ OutOfMemory };
 
     fn from(_e: AllocError) -> TickLineFault {
-        TickLineFault::OutOfMemory
-    }
-}
-
-impl<T: Drop> From<AllocFailed<T>> for TickLineFault {
-    ghost from_gives = { λ _ e. e ≡ OutOfMemory };
-
-    fn from(_e: AllocFailed<T>) -> TickLineFault {
         TickLineFault::OutOfMemory
     }
 }

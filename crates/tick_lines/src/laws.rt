@@ -1,47 +1,46 @@
 //! What the definition of a tick line implies, in the words of the format. The functions do nothing;
 //! their contracts are the laws.
-ghost use Rattle.tick_lines.specs.Laws.{InOrder, TextsSaid, SamplesSaid, UsageSaid, OnlySignals, OnlyTheirFields};
-ghost use Rattle.tick_lines.specs.Laws.{NullIsAbsent, OneKind};
+ghost use Rattle.tick_lines.specs.Laws as laws;
 
 /// Each element of an array says the entry, the listing or the result at its place, and no others
 /// are said.
 pub fn in_order()
-    ensures { InOrder }
+    ensures { laws.InOrder }
 {}
 
 /// An entry, a listing and a result each name their pod or container by the text in one field.
 pub fn texts_said()
-    ensures { TextsSaid }
+    ensures { laws.TextsSaid }
 {}
 
 /// What a line says of a signal is exactly the quantity that its object has under the signal's
 /// name.
 pub fn samples_said()
-    ensures { SamplesSaid }
+    ensures { laws.SamplesSaid }
 {}
 
 /// What an entry says of a use is exactly the quantity that its object has under the use's name.
 pub fn usage_said()
-    ensures { UsageSaid }
+    ensures { laws.UsageSaid }
 {}
 
 /// A line is refused where it names a signal that it may not name.
 pub fn only_signals()
-    ensures { OnlySignals }
+    ensures { laws.OnlySignals }
 {}
 
 /// What a line, an entry, a listing and a result say depends on the fields that the format names,
 /// and on no others.
 pub fn only_their_fields()
-    ensures { OnlyTheirFields }
+    ensures { laws.OnlyTheirFields }
 {}
 
 /// A field with the value null counts as absent, whatever its name.
 pub fn null_is_absent()
-    ensures { NullIsAbsent }
+    ensures { laws.NullIsAbsent }
 {}
 
 /// Every fault of a tick line by itself is `Usage`.
 pub fn one_kind()
-    ensures { OneKind }
+    ensures { laws.OneKind }
 {}

@@ -4,6 +4,7 @@
 mod entry;
 mod fault;
 mod fields;
+mod items;
 pub mod laws;
 mod line;
 mod listing;

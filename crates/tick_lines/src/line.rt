@@ -4,8 +4,9 @@ ghost use Rattle.std.specs.Prelude.{◌≡◌, option_map};
 ghost use Rattle.tick_lines.specs.Gives.{Gives};
 ghost use Rattle.tick_lines.specs.Line.{tick_line_of};
 
-use crate::entry::{Entry, entries_of};
+use crate::entry::Entry;
 use crate::fault::TickLineFault;
+use crate::items::read_items;
 use crate::samples::samples_of;
 use json_fields::{Json, Scope, field};
 use lists::Sequence;
@@ -36,12 +37,9 @@ pub struct TickLine {
 pub fn tick_line_of<V: Json>(alloc: Global, line: &V) -> Result<TickLine, TickLineFault>
     ensures { Gives (λ t. t) result (tick_line_of (V.data line.now)) }
 {
-    let entries = entries_of(alloc, field(line, "pods"))?;
-    let signals = samples_of(Scope::Node, field(line, "signals"))?;
-    let after_reclaim = samples_of(Scope::FileSystems, field(line, "afterReclaim"))?;
     Ok(TickLine {
-        entries,
-        signals,
-        after_reclaim,
+        entries: read_items::<Entry, V>(alloc, field(line, "pods"))?,
+        signals: samples_of(Scope::Node, field(line, "signals"))?,
+        after_reclaim: samples_of(Scope::FileSystems, field(line, "afterReclaim"))?,
     })
 }

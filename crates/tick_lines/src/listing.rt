@@ -1,15 +1,15 @@
 //! The listings of an entry, as they are written.
 
-ghost use Rattle.std.specs.Prelude.{◌≡◌, map, option_map};
-ghost use Rattle.json_fields.specs.Reading.{each, GivesExactly};
+ghost use Rattle.std.specs.Prelude.{◌≡◌, option_map};
+ghost use Rattle.json_fields.specs.Reading.{GivesExactly};
 ghost use Rattle.tick_lines.specs.Gives.{Gives};
 ghost use Rattle.tick_lines.specs.Listings.{attempt_of, state_named, state_numbered, state_of, code_of, instance_of};
-ghost use Rattle.tick_lines.specs.Listings.{listing_of, listings_of};
+ghost use Rattle.tick_lines.specs.Listings.{listing_of};
 
 use crate::fault::TickLineFault;
-use crate::fields::{items_of, text_of};
+use crate::fields::text_of;
+use crate::items::ReadItem;
 use json_fields::{Json, field, text_at};
-use lists::Sequence;
 use manifest::Text;
 use state_diff::CriState;
 use std::alloc::Global;
@@ -97,13 +97,10 @@ pub(crate) fn code_of<V: Json>(found: Option<&V>) -> Option<i32>
 fn instance_of<V: Json>(value: &V) -> Result<ListedInstance, TickLineFault>
     ensures { GivesExactly (λ i. i) result (instance_of (V.data value.now)) }
 {
-    let attempt = attempt_of(field(value, "attempt"))?;
-    let state = state_of(field(value, "state"))?;
-    let code = code_of(field(value, "exitCode"));
     Ok(ListedInstance {
-        attempt,
-        state,
-        code,
+        attempt: attempt_of(field(value, "attempt"))?,
+        state: state_of(field(value, "state"))?,
+        code: code_of(field(value, "exitCode")),
     })
 }
 
@@ -111,29 +108,16 @@ fn instance_of<V: Json>(value: &V) -> Result<ListedInstance, TickLineFault>
 fn listing_of<V: Json>(alloc: Global, value: &V) -> Result<Listing, TickLineFault>
     ensures { Gives (λ l. l) result (listing_of (V.data value.now)) }
 {
-    let name = text_of(alloc, text_at(value, "name"))?;
-    let instance = instance_of(value)?;
-    Ok(Listing { name, instance })
+    Ok(Listing {
+        name: text_of(alloc, text_at(value, "name"))?,
+        instance: instance_of(value)?,
+    })
 }
 
-fn listings<V: Json>(alloc: Global, values: &[V]) -> Result<Vec<Listing>, TickLineFault>
-    ensures { Gives (λ v. v.items) result (each listing_of (map V.data values.now)) }
-{
-    let mut all = Vec::with_capacity(alloc, values.len())?;
-    for value in values {
-        let listing = listing_of(alloc, value)?;
-        all.push(listing)?;
+impl ReadItem for Listing {
+    ghost read_of = { listing_of };
+
+    fn read<V: Json>(alloc: Global, item: &V) -> Result<Listing, TickLineFault> {
+        listing_of(alloc, item)
     }
-    Ok(all)
-}
-
-/// The listings of an entry.
-pub(crate) fn listings_of<V: Json>(
-    alloc: Global,
-    found: Option<&V>,
-) -> Result<Sequence<Listing>, TickLineFault>
-    ensures { Gives (λ s. s) result (listings_of (option_map (λ v. V.data v.now) found.entry)) }
-{
-    let listings = listings(alloc, items_of(found)?)?;
-    Ok(Sequence::from_vec(listings))
 }

@@ -1,14 +1,14 @@
 //! The results of probes in an entry, as they are written.
 
-ghost use Rattle.std.specs.Prelude.{◌≡◌, map, option_map};
-ghost use Rattle.json_fields.specs.Reading.{each, GivesExactly};
+ghost use Rattle.std.specs.Prelude.{◌≡◌, option_map};
+ghost use Rattle.json_fields.specs.Reading.{GivesExactly};
 ghost use Rattle.tick_lines.specs.Gives.{Gives};
-ghost use Rattle.tick_lines.specs.Results.{probe_named, outcome_named, result_of, results_of};
+ghost use Rattle.tick_lines.specs.Results.{probe_named, outcome_named, result_of};
 
 use crate::fault::TickLineFault;
-use crate::fields::{items_of, text_of};
+use crate::fields::text_of;
+use crate::items::ReadItem;
 use json_fields::{Json, text_at};
-use lists::Sequence;
 use manifest::{Outcome, ProbeKind, Text};
 use std::alloc::Global;
 
@@ -55,34 +55,17 @@ pub(crate) fn outcome_named(found: Option<&str>) -> Result<Outcome, TickLineFaul
 fn result_of<V: Json>(alloc: Global, value: &V) -> Result<ProbeResult, TickLineFault>
     ensures { Gives (λ r. r) result (result_of (V.data value.now)) }
 {
-    let container = text_of(alloc, text_at(value, "container"))?;
-    let probe = probe_named(text_at(value, "probe"))?;
-    let outcome = outcome_named(text_at(value, "result"))?;
     Ok(ProbeResult {
-        container,
-        probe,
-        outcome,
+        container: text_of(alloc, text_at(value, "container"))?,
+        probe: probe_named(text_at(value, "probe"))?,
+        outcome: outcome_named(text_at(value, "result"))?,
     })
 }
 
-fn results<V: Json>(alloc: Global, values: &[V]) -> Result<Vec<ProbeResult>, TickLineFault>
-    ensures { Gives (λ v. v.items) result (each result_of (map V.data values.now)) }
-{
-    let mut all = Vec::with_capacity(alloc, values.len())?;
-    for value in values {
-        let read = result_of(alloc, value)?;
-        all.push(read)?;
-    }
-    Ok(all)
-}
+impl ReadItem for ProbeResult {
+    ghost read_of = { result_of };
 
-/// The results of an entry.
-pub(crate) fn results_of<V: Json>(
-    alloc: Global,
-    found: Option<&V>,
-) -> Result<Sequence<ProbeResult>, TickLineFault>
-    ensures { Gives (λ s. s) result (results_of (option_map (λ v. V.data v.now) found.entry)) }
-{
-    let results = results(alloc, items_of(found)?)?;
-    Ok(Sequence::from_vec(results))
+    fn read<V: Json>(alloc: Global, item: &V) -> Result<ProbeResult, TickLineFault> {
+        result_of(alloc, item)
+    }
 }

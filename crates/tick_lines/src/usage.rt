@@ -14,19 +14,13 @@ fn usage_in<V: Json>(value: &V) -> Result<Usage, TickLineFault>
     ensures { GivesExactly (λ u. u) result (usage_in (V.data value.now)) }
 {
     only_object(value)?;
-    let memory = quantity_at(field(value, "memory"))?;
-    let volumes = quantity_at(field(value, "volumes"))?;
-    let logs = quantity_at(field(value, "logs"))?;
-    let writable = quantity_at(field(value, "writable"))?;
-    let inodes = quantity_at(field(value, "inodes"))?;
-    let pids = quantity_at(field(value, "pids"))?;
     Ok(Usage {
-        memory,
-        volumes,
-        logs,
-        writable,
-        inodes,
-        pids,
+        memory: quantity_at(field(value, "memory"))?,
+        volumes: quantity_at(field(value, "volumes"))?,
+        logs: quantity_at(field(value, "logs"))?,
+        writable: quantity_at(field(value, "writable"))?,
+        inodes: quantity_at(field(value, "inodes"))?,
+        pids: quantity_at(field(value, "pids"))?,
     })
 }
 

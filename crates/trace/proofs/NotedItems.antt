@@ -105,17 +105,14 @@ pub listings_more : (pod : PodSpec) (whole left : List Data) (old new : List Con
 listings_more pod whole left old new d rest l has_one far is read coded notes first =
     let ls = far.noted.listings in
     let other = sym (notes.earlier ls [] pod.containers far.noted.noted) ∙ first in
-    record {
-      before = far.before ++ d ∷ [];
-      parts = next_part far.before left whole d rest far.parts is;
-      noted = record {
-        listings = ls ++ l ∷ [];
-        read = each_more (listing_read pod) far.before d ls l far.noted.read read;
-        once = listed_once ls l far.noted.once other;
-        coded = coded_more ls l far.noted.coded coded;
-        noted = notes.noted ls [] pod.containers far.noted.noted first;
-      };
-    }
+    let next : ListingsNoted pod (far.before ++ d ∷ []) new = record {
+      listings = ls ++ l ∷ [];
+      read = each_more (listing_read pod) far.before d ls l far.noted.read read;
+      once = listed_once ls l far.noted.once other;
+      coded = coded_more ls l far.noted.coded coded;
+      noted = notes.noted ls [] pod.containers far.noted.noted first;
+    } in
+    record { before = far.before ++ d ∷ []; parts = next_part far.before left whole d rest far.parts is; noted = next }
 
 all_parts : (before left whole : List Data) → before ++ left ≡ whole → left ≡ [] → before ≡ whole
 all_parts before left whole parts none =
@@ -150,16 +147,13 @@ pub results_more : (pod : PodSpec) (ls : List PlacedListing) (whole left : List 
 results_more pod ls whole left old new d rest w has_one far is read notes first =
     let rs = far.noted.results in
     let other = sym (notes.earlier ls rs pod.containers far.noted.noted) ∙ first in
-    record {
-      before = far.before ++ d ∷ [];
-      parts = next_part far.before left whole d rest far.parts is;
-      noted = record {
-        results = rs ++ w ∷ [];
-        read = each_more (result_read pod) far.before d rs w far.noted.read read;
-        once = result_once rs w far.noted.once other;
-        noted = notes.noted ls rs pod.containers far.noted.noted first;
-      };
-    }
+    let next : ResultsNoted pod ls (far.before ++ d ∷ []) new = record {
+      results = rs ++ w ∷ [];
+      read = each_more (result_read pod) far.before d rs w far.noted.read read;
+      once = result_once rs w far.noted.once other;
+      noted = notes.noted ls rs pod.containers far.noted.noted first;
+    } in
+    record { before = far.before ++ d ∷ []; parts = next_part far.before left whole d rest far.parts is; noted = next }
 
 pub results_end : (pod : PodSpec) (ls : List PlacedListing) (whole left : List Data) (all : List ContainerObs)
     → ResultsSoFar pod ls whole left all → left ≡ [] → ResultsNoted pod ls whole all

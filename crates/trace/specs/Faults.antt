@@ -13,43 +13,31 @@ use Rattle.trace.specs.declared.fault.FaultKind.TheVariants.{SoftWithoutGrace, D
 use Rattle.trace.specs.declared.fault.FaultKind.TheVariants.{StrangerContainer, Doubled, Moment, Backwards, ExitCode}
 use Rattle.trace.specs.declared.fault.FaultKind.TheVariants.{TooMany, Usage, OutOfMemory}
 
+-- the number and the word by which a refusal names the kind
+abbrev pub refusal_of : FaultKind → ℕ × List ℕ
+refusal_of TooLong = (31, codes "TooLong")
+refusal_of NotJson = (32, codes "NotJson")
+refusal_of UnknownKind = (33, codes "UnknownKind")
+refusal_of Order = (34, codes "Order")
+refusal_of (Manifest fault) = (35, codes "Manifest")
+refusal_of Config = (36, codes "Config")
+refusal_of SoftWithoutGrace = (37, codes "SoftWithoutGrace")
+refusal_of DuplicatePod = (38, codes "DuplicatePod")
+refusal_of StrangerPod = (39, codes "StrangerPod")
+refusal_of StrangerContainer = (40, codes "StrangerContainer")
+refusal_of Doubled = (41, codes "Doubled")
+refusal_of Moment = (42, codes "Moment")
+refusal_of Backwards = (43, codes "Backwards")
+refusal_of ExitCode = (44, codes "ExitCode")
+refusal_of TooMany = (45, codes "TooMany")
+refusal_of Usage = (46, codes "Usage")
+refusal_of OutOfMemory = (47, codes "OutOfMemory")
+
 abbrev pub number_of : FaultKind → ℕ
-number_of TooLong = 31
-number_of NotJson = 32
-number_of UnknownKind = 33
-number_of Order = 34
-number_of (Manifest fault) = 35
-number_of Config = 36
-number_of SoftWithoutGrace = 37
-number_of DuplicatePod = 38
-number_of StrangerPod = 39
-number_of StrangerContainer = 40
-number_of Doubled = 41
-number_of Moment = 42
-number_of Backwards = 43
-number_of ExitCode = 44
-number_of TooMany = 45
-number_of Usage = 46
-number_of OutOfMemory = 47
+number_of kind = (refusal_of kind).0
 
 abbrev pub word_of : FaultKind → List ℕ
-word_of TooLong = codes "TooLong"
-word_of NotJson = codes "NotJson"
-word_of UnknownKind = codes "UnknownKind"
-word_of Order = codes "Order"
-word_of (Manifest fault) = codes "Manifest"
-word_of Config = codes "Config"
-word_of SoftWithoutGrace = codes "SoftWithoutGrace"
-word_of DuplicatePod = codes "DuplicatePod"
-word_of StrangerPod = codes "StrangerPod"
-word_of StrangerContainer = codes "StrangerContainer"
-word_of Doubled = codes "Doubled"
-word_of Moment = codes "Moment"
-word_of Backwards = codes "Backwards"
-word_of ExitCode = codes "ExitCode"
-word_of TooMany = codes "TooMany"
-word_of Usage = codes "Usage"
-word_of OutOfMemory = codes "OutOfMemory"
+word_of kind = (refusal_of kind).1
 
 abbrev pub kind_of_manifest_fault : ManifestFault → FaultKind
 kind_of_manifest_fault manifest_faults.OutOfMemory = OutOfMemory

@@ -24,7 +24,7 @@ abbrev pub of_node : TraceSoFar → NodeConfig → TraceSoFar
 of_node past node = record past { node = Some node }
 
 abbrev pub with_roll : TraceSoFar → Roll → TraceSoFar
-with_roll past roll = record { format = past.format; node = past.node; roll = roll; ticks = past.ticks }
+with_roll past roll = record past { roll = roll }
 
 -- a pod goes behind the earlier ones; it arrives after the ticks so far
 abbrev pub with_pod : TraceSoFar → PodSpec → TraceSoFar
@@ -35,9 +35,4 @@ abbrev pub without : TraceSoFar → ℕ → TraceSoFar
 without past number = with_roll past (rolls.without past.roll number (length past.ticks))
 
 abbrev pub with_tick : TraceSoFar → TickObs → TraceSoFar
-with_tick past tick = record {
-  format = past.format;
-  node = past.node;
-  roll = past.roll;
-  ticks = past.ticks ++ tick ∷ [];
-}
+with_tick past tick = record past { ticks = past.ticks ++ tick ∷ [] }

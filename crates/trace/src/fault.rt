@@ -7,7 +7,7 @@ ghost use Rattle.trace.specs.Faults.{kind_of_manifest_fault, kind_of_node_fault,
 
 use manifest_reader::ManifestFault;
 use node_lines::NodeFault;
-use std::alloc::{AllocError, AllocFailed};
+use std::alloc::AllocError;
 use thiserror::Error;
 use tick_lines::TickLineFault;
 
@@ -54,54 +54,44 @@ pub enum FaultKind {
 impl FaultKind {
     ghost use Rattle.trace.specs.Faults.{number_of, word_of};
 
+    /// The number and the word by which a refusal names the kind.
+    fn refusal(self) -> (u8, &'static str)
+        ensures number { result.0 ≡ number_of self }
+        ensures word { result.1.now ≡ word_of self }
+    {
+        match self {
+            FaultKind::TooLong => (31, "TooLong"),
+            FaultKind::NotJson => (32, "NotJson"),
+            FaultKind::UnknownKind => (33, "UnknownKind"),
+            FaultKind::Order => (34, "Order"),
+            FaultKind::Manifest(_) => (35, "Manifest"),
+            FaultKind::Config => (36, "Config"),
+            FaultKind::SoftWithoutGrace => (37, "SoftWithoutGrace"),
+            FaultKind::DuplicatePod => (38, "DuplicatePod"),
+            FaultKind::StrangerPod => (39, "StrangerPod"),
+            FaultKind::StrangerContainer => (40, "StrangerContainer"),
+            FaultKind::Doubled => (41, "Doubled"),
+            FaultKind::Moment => (42, "Moment"),
+            FaultKind::Backwards => (43, "Backwards"),
+            FaultKind::ExitCode => (44, "ExitCode"),
+            FaultKind::TooMany => (45, "TooMany"),
+            FaultKind::Usage => (46, "Usage"),
+            FaultKind::OutOfMemory => (47, "OutOfMemory"),
+        }
+    }
+
     /// The number by which a refusal names the kind.
     pub fn number(self) -> u8
         ensures { result ≡ number_of self }
     {
-        match self {
-            FaultKind::TooLong => 31,
-            FaultKind::NotJson => 32,
-            FaultKind::UnknownKind => 33,
-            FaultKind::Order => 34,
-            FaultKind::Manifest(_) => 35,
-            FaultKind::Config => 36,
-            FaultKind::SoftWithoutGrace => 37,
-            FaultKind::DuplicatePod => 38,
-            FaultKind::StrangerPod => 39,
-            FaultKind::StrangerContainer => 40,
-            FaultKind::Doubled => 41,
-            FaultKind::Moment => 42,
-            FaultKind::Backwards => 43,
-            FaultKind::ExitCode => 44,
-            FaultKind::TooMany => 45,
-            FaultKind::Usage => 46,
-            FaultKind::OutOfMemory => 47,
-        }
+        self.refusal().0
     }
 
     /// The word by which a refusal names the kind.
     pub fn word(self) -> &'static str
         ensures { result.now ≡ word_of self }
     {
-        match self {
-            FaultKind::TooLong => "TooLong",
-            FaultKind::NotJson => "NotJson",
-            FaultKind::UnknownKind => "UnknownKind",
-            FaultKind::Order => "Order",
-            FaultKind::Manifest(_) => "Manifest",
-            FaultKind::Config => "Config",
-            FaultKind::SoftWithoutGrace => "SoftWithoutGrace",
-            FaultKind::DuplicatePod => "DuplicatePod",
-            FaultKind::StrangerPod => "StrangerPod",
-            FaultKind::StrangerContainer => "StrangerContainer",
-            FaultKind::Doubled => "Doubled",
-            FaultKind::Moment => "Moment",
-            FaultKind::Backwards => "Backwards",
-            FaultKind::ExitCode => "ExitCode",
-            FaultKind::TooMany => "TooMany",
-            FaultKind::Usage => "Usage",
-            FaultKind::OutOfMemory => "OutOfMemory",
-        }
+        self.refusal().1
     }
 }
 
@@ -109,14 +99,6 @@ impl From<AllocError> for FaultKind {
     ghost from_gives = { λ _ e. e ≡ OutOfMemory };
 
     fn from(_e: AllocError) -> FaultKind {
-        FaultKind::OutOfMemory
-    }
-}
-
-impl<T: Drop> From<AllocFailed<T>> for FaultKind {
-    ghost from_gives = { λ _ e. e ≡ OutOfMemory };
-
-    fn from(_e: AllocFailed<T>) -> FaultKind {
         FaultKind::OutOfMemory
     }
 }

@@ -1,80 +1,78 @@
 //! What the definition of a trace implies, in the words of the format. The functions do nothing;
 //! their contracts are the laws.
-ghost use Rattle.trace.specs.Laws.{FirstFault, WholeTrace, OneFault, FirstCheck, AllChecks, KindsOfChecks, Strangers};
-ghost use Rattle.trace.specs.Laws.{ResultsShown, ListingsShown, UsageShown, SignalsShown, BackwardsListing};
-ghost use Rattle.trace.specs.Laws.{StandardIsExtended, NeverMemory};
+ghost use Rattle.trace.specs.Laws as laws;
 
 /// A text is refused exactly with the fault of its first line that has one, or behind its last line
 /// where no line counts.
 pub fn first_fault()
-    ensures { FirstFault }
+    ensures { laws.FirstFault }
 {}
 
 /// A text has a trace exactly where no line has a fault and some line counts; the trace is what the
 /// lines say.
 pub fn whole_trace()
-    ensures { WholeTrace }
+    ensures { laws.WholeTrace }
 {}
 
 /// The first lines say one thing at most, and at most one line has the first fault.
 pub fn one_fault()
-    ensures { OneFault }
+    ensures { laws.OneFault }
 {}
 
 /// A line's fault is that of the first check that it fails, in the order in which a line is
 /// checked.
 pub fn first_check()
-    ensures { FirstCheck }
+    ensures { laws.FirstCheck }
 {}
 
 /// A line that passes all its checks says its node, its pod or its tick, behind what is said before
 /// it.
 pub fn all_checks()
-    ensures { AllChecks }
+    ensures { laws.AllChecks }
 {}
 
 /// The kinds of fault that each check of a line answers.
 pub fn kinds_of_checks()
-    ensures { KindsOfChecks }
+    ensures { laws.KindsOfChecks }
 {}
 
 /// Which entries of a tick line name a pod or a container that isn't known.
 pub fn strangers()
-    ensures { Strangers }
+    ensures { laws.Strangers }
 {}
 
 /// What a tick shows of a probe is the result that its entry gives, wherever it stands.
 pub fn results_shown()
-    ensures { ResultsShown }
+    ensures { laws.ResultsShown }
 {}
 
 /// What a tick shows of a container is what its line lists, wherever it stands.
 pub fn listings_shown()
-    ensures { ListingsShown }
+    ensures { laws.ListingsShown }
 {}
 
 /// What a tick shows of a pod's use is what the pod's entry tells, wherever it stands.
 pub fn usage_shown()
-    ensures { UsageShown }
+    ensures { laws.UsageShown }
 {}
 
 /// What a tick shows of the node's signals is what its line has of them.
 pub fn signals_shown()
-    ensures { SignalsShown }
+    ensures { laws.SignalsShown }
 {}
 
 /// A tick is refused as Backwards exactly where the listing of some container may not come after
 /// all its earlier ones.
 pub fn backwards_listing()
-    ensures { BackwardsListing }
+    ensures { laws.BackwardsListing }
 {}
 
 /// What the standard format takes says the same in the extended one.
 pub fn standard_is_extended()
-    ensures { StandardIsExtended }
+    ensures { laws.StandardIsExtended }
 {}
 
 /// No text has a fault because memory was refused.
 pub fn never_memory()
-    ensures { NeverMemory }
+    ensures { laws.NeverMemory }
 {}

@@ -1,7 +1,7 @@
 //! The entries of a tick line, with numbers in the place of names.
 
 ghost use Rattle.std.specs.Prelude.{◌≡◌, ◌==◌, length};
-ghost use Rattle.json_fields.specs.Reading.{each, some_or, GivesExactly};
+ghost use Rattle.json_fields.specs.Reading.{each, GivesExactly};
 ghost use Rattle.trace.specs.Gives.{Gives};
 ghost use Rattle.trace.specs.Placing.{number_in, container_number, placed_listing, placed_result, pod_numbered};
 ghost use Rattle.trace.specs.Placing.{entry_of_pod, entries_of_pods, has_twice, are_of_one_container, is_of_probe};
@@ -40,29 +40,49 @@ pub(crate) struct PlacedEntry {
     pub(crate) usage: Option<Usage>,
 }
 
-fn pod_number(roster: &Roster, entry: &Entry) -> Result<usize, FaultKind>
-    ensures { GivesExactly (λ n. n) result (number_in roster.now entry.now) }
-{
-    match roster.number_of(entry.key.as_str()) {
-        None => Err(FaultKind::StrangerPod),
-        Some(number) => Ok(number),
-    }
+/// What places that which is written, by the names that it has.
+pub(crate) trait Place<T> {
+    ghost use Rattle.std.specs.Prelude.{Result};
+    ghost use Rattle.json_fields.specs.Reading.{GivesExactly};
+    ghost use Rattle.trace.specs.declared.fault.FaultKind.{FaultKind};
+
+    type Placed: Drop;
+
+    /// The place, in the definition's words.
+    ghost placed_by: { Self → T → Result Self.Placed FaultKind };
+
+    fn place(&self, written: &T) -> Result<Self::Placed, FaultKind>
+        ensures { GivesExactly (λ p. p) result (placed_by self.now written.now) };
 }
 
-/// The numbers of the pods of all entries.
-pub(crate) fn pod_numbers(
+/// The places of all that is written, in order.
+pub(crate) fn place_each<T, P: Place<T>>(
     alloc: Global,
-    roster: &Roster,
-    entries: &[Entry],
-) -> Result<Vec<usize>, FaultKind>
-    ensures { Gives (λ v. v.items) result (each (number_in roster.now) entries.now) }
+    places: &P,
+    written: &[T],
+) -> Result<Sequence<P::Placed>, FaultKind>
+    ensures { Gives (λ s. s) result (each (P.placed_by places.now) written.now) }
 {
-    let mut all = Vec::new(alloc);
-    for entry in entries {
-        let number = pod_number(roster, entry)?;
-        all.push(number)?;
+    let mut all = Sequence::new(alloc);
+    for one in written {
+        let placed = places.place(one)?;
+        all.push(placed)?;
     }
     Ok(all)
+}
+
+/// A roster gives the number of the pod of an entry.
+impl Place<Entry> for Roster {
+    type Placed = usize;
+
+    ghost placed_by = { number_in };
+
+    fn place(&self, written: &Entry) -> Result<usize, FaultKind> {
+        match self.number_of(written.key.as_str()) {
+            None => Err(FaultKind::StrangerPod),
+            Some(number) => Ok(number),
+        }
+    }
 }
 
 fn container_number(pod: &PodSpec, name: &str) -> Result<usize, FaultKind>
@@ -74,55 +94,31 @@ fn container_number(pod: &PodSpec, name: &str) -> Result<usize, FaultKind>
     }
 }
 
-fn placed_listing(pod: &PodSpec, listing: &Listing) -> Result<PlacedListing, FaultKind>
-    ensures { GivesExactly (λ l. l) result (placed_listing pod.now listing.now) }
-{
-    let container = container_number(pod, listing.name.as_str())?;
-    Ok(PlacedListing {
-        container,
-        instance: listing.instance,
-    })
-}
+impl Place<Listing> for PodSpec {
+    type Placed = PlacedListing;
 
-fn placed_result(pod: &PodSpec, written: &ProbeResult) -> Result<PlacedResult, FaultKind>
-    ensures { GivesExactly (λ r. r) result (placed_result pod.now written.now) }
-{
-    let container = container_number(pod, written.container.as_str())?;
-    Ok(PlacedResult {
-        container,
-        probe: written.probe,
-        outcome: written.outcome,
-    })
-}
+    ghost placed_by = { placed_listing };
 
-fn placed_listings(
-    alloc: Global,
-    pod: &PodSpec,
-    listings: &[Listing],
-) -> Result<Vec<PlacedListing>, FaultKind>
-    ensures { Gives (λ v. v.items) result (each (placed_listing pod.now) listings.now) }
-{
-    let mut all = Vec::new(alloc);
-    for listing in listings {
-        let placed = placed_listing(pod, listing)?;
-        all.push(placed)?;
+    fn place(&self, written: &Listing) -> Result<PlacedListing, FaultKind> {
+        Ok(PlacedListing {
+            container: container_number(self, written.name.as_str())?,
+            instance: written.instance,
+        })
     }
-    Ok(all)
 }
 
-fn placed_results(
-    alloc: Global,
-    pod: &PodSpec,
-    results: &[ProbeResult],
-) -> Result<Vec<PlacedResult>, FaultKind>
-    ensures { Gives (λ v. v.items) result (each (placed_result pod.now) results.now) }
-{
-    let mut all = Vec::new(alloc);
-    for written in results {
-        let placed = placed_result(pod, written)?;
-        all.push(placed)?;
+impl Place<ProbeResult> for PodSpec {
+    type Placed = PlacedResult;
+
+    ghost placed_by = { placed_result };
+
+    fn place(&self, written: &ProbeResult) -> Result<PlacedResult, FaultKind> {
+        Ok(PlacedResult {
+            container: container_number(self, written.container.as_str())?,
+            probe: written.probe,
+            outcome: written.outcome,
+        })
     }
-    Ok(all)
 }
 
 pub(crate) fn pod_numbered(pods: &[PodSpec], number: usize) -> Result<&PodSpec, FaultKind>
@@ -144,12 +140,10 @@ fn entry_of_pod(
     ensures { Gives (λ e. e) result (entry_of_pod pods.now number entry.now) }
 {
     let pod = pod_numbered(pods, number)?;
-    let listings = placed_listings(alloc, pod, entry.listings.as_slice())?;
-    let results = placed_results(alloc, pod, entry.results.as_slice())?;
     Ok(PlacedEntry {
         pod: number,
-        listings: Sequence::from_vec(listings),
-        results: Sequence::from_vec(results),
+        listings: place_each(alloc, pod, entry.listings.as_slice())?,
+        results: place_each(alloc, pod, entry.results.as_slice())?,
         usage: entry.usage,
     })
 }
@@ -167,28 +161,9 @@ pub(crate) fn entries_of_pods(
     let mut all = Vec::with_capacity(alloc, entries.len())?;
     for (place, entry) in entries.iter().enumerate() {
         let placed = entry_of_pod(alloc, pods, numbers[place], entry)?;
-        all.push(placed)?;
+        all.push(placed).map_err(|_| FaultKind::OutOfMemory)?;
     }
     Ok(all)
-}
-
-fn has_container(listings: &[PlacedListing], container: usize) -> bool
-    ensures { result ≡ list_any (λ l. l.container == container) listings.now }
-{
-    listings.iter().any(|l| l.container == container)
-}
-
-fn has_container_twice(listings: &[PlacedListing]) -> bool
-    ensures { result ≡ has_twice are_of_one_container listings.now }
-{
-    let mut rest = listings;
-    while let [first, others @ ..] = rest {
-        if has_container(others, first.container) {
-            return true;
-        }
-        rest = others;
-    }
-    false
 }
 
 /// Whether the result is of this probe of the container with the number.
@@ -198,20 +173,44 @@ pub(crate) fn is_of_probe(placed: PlacedResult, container: usize, probe: ProbeKi
     placed.container == container && placed.probe.place() == probe.place()
 }
 
-fn has_result(results: &[PlacedResult], other: PlacedResult) -> bool
-    ensures { result ≡ list_any (λ r. are_of_one_probe r other) results.now }
-{
-    results
-        .iter()
-        .any(|r| is_of_probe(*r, other.container, other.probe))
+/// Items of which an entry may not have two alike.
+trait Alike: Copy {
+    ghost use Rattle.std.specs.Prelude.{◌≡◌, Bool};
+
+    ghost are_alike: { Self → Self → Bool };
+
+    fn is_like(self, other: Self) -> bool
+        ensures { result ≡ are_alike self other };
 }
 
-fn has_result_twice(results: &[PlacedResult]) -> bool
-    ensures { result ≡ has_twice are_of_one_probe results.now }
+impl Alike for PlacedListing {
+    ghost are_alike = { are_of_one_container };
+
+    fn is_like(self, other: PlacedListing) -> bool {
+        self.container == other.container
+    }
+}
+
+impl Alike for PlacedResult {
+    ghost are_alike = { are_of_one_probe };
+
+    fn is_like(self, other: PlacedResult) -> bool {
+        is_of_probe(self, other.container, other.probe)
+    }
+}
+
+fn has_alike<T: Alike>(items: &[T], other: T) -> bool
+    ensures { result ≡ list_any (λ item. T.are_alike item other) items.now }
 {
-    let mut rest = results;
+    items.iter().any(|item| item.is_like(other))
+}
+
+fn has_twice<T: Alike>(items: &[T]) -> bool
+    ensures { result ≡ has_twice T.are_alike items.now }
+{
+    let mut rest = items;
     while let [first, others @ ..] = rest {
-        if has_result(others, *first) {
+        if has_alike(others, *first) {
             return true;
         }
         rest = others;
@@ -222,7 +221,7 @@ fn has_result_twice(results: &[PlacedResult]) -> bool
 fn repeats(entry: &PlacedEntry) -> bool
     ensures { result ≡ repeats entry.now }
 {
-    has_container_twice(entry.listings.as_slice()) || has_result_twice(entry.results.as_slice())
+    has_twice(entry.listings.as_slice()) || has_twice(entry.results.as_slice())
 }
 
 /// Whether an entry has a container twice, or two results of one probe.

@@ -134,26 +134,15 @@ fn with_pod(
         ticks,
         following,
     } = so_far;
-    let following = match following.with_pod(alloc, pod.containers.as_slice().len()) {
-        Ok(following) => following,
-        Err(error) => {
-            drop((node, roster, ticks, pod, key));
-            return Err(FaultKind::from(error));
-        }
-    };
-    match roster.with_pod(pod, key, ticks.as_slice().len()) {
-        Ok(roster) => Ok(TraceSoFar {
-            format,
-            node,
-            roster,
-            ticks,
-            following,
-        }),
-        Err(error) => {
-            drop((node, ticks, following));
-            Err(FaultKind::from(error))
-        }
-    }
+    let following = following.with_pod(alloc, pod.containers.as_slice().len())?;
+    let roster = roster.with_pod(pod, key, ticks.as_slice().len())?;
+    Ok(TraceSoFar {
+        format,
+        node,
+        roster,
+        ticks,
+        following,
+    })
 }
 
 /// Adds a pod, if no pod that is present has its key.

@@ -20,7 +20,7 @@ ghost use Rattle.trace.specs.Written.{of_tick_line};
 use crate::by_pod::{EntriesByPod, entries_by_pod, entry_for};
 use crate::fault::{FaultKind, refused_if};
 use crate::placing::{
-    PlacedEntry, PlacedListing, PlacedResult, entries_of_pods, is_of_probe, pod_numbers,
+    PlacedEntry, PlacedListing, PlacedResult, entries_of_pods, is_of_probe, place_each,
     some_entry_repeats,
 };
 use crate::trace_so_far::TraceSoFar;
@@ -265,8 +265,8 @@ pub(crate) fn placed_by(
     ensures known { IfOk result (λ v. All (λ e. e.pod < length roster.now.pods) v.items) }
 {
     let entries = written.entries.as_slice();
-    let numbers = pod_numbers(alloc, roster, entries)?;
-    entries_of_pods(alloc, roster.pods(), &numbers, entries)
+    let numbers = place_each(alloc, roster, entries)?;
+    entries_of_pods(alloc, roster.pods(), numbers.as_slice(), entries)
 }
 
 /// The same by the pods so far.
@@ -340,19 +340,14 @@ pub(crate) fn with_tick(so_far: TraceSoFar, tick: TickObs) -> Result<TraceSoFar,
         mut following,
     } = so_far;
     following.step(&tick);
-    match ticks.push(tick) {
-        Ok(()) => Ok(TraceSoFar {
-            format,
-            node,
-            roster,
-            ticks,
-            following,
-        }),
-        Err(error) => {
-            drop((node, roster, ticks, following));
-            Err(FaultKind::from(error))
-        }
-    }
+    ticks.push(tick)?;
+    Ok(TraceSoFar {
+        format,
+        node,
+        roster,
+        ticks,
+        following,
+    })
 }
 
 /// The tick that a tick line says.

@@ -3,9 +3,7 @@ use Rattle.tick_lines.proofs.Members.{usage_whole}
 use Rattle.tick_lines.proofs.tape.usage_in.Goals as goal
 
 pub loop-field-preserved : goal.loop-field-preserved
-loop-field-preserved c =
-    c.in_ok-usage.ensures (data_at c.args.value.now) c.loop-field.members c.next.new.self c.in-Some.ensures.value
-    c.loop-field.invariant
+loop-field-preserved c = c.in_ok-usage.ensures _ _ _ c.in-Some.ensures.value c.loop-field.invariant
 
 pub returns : goal.returns
 returns c =

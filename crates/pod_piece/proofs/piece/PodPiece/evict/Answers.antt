@@ -47,15 +47,10 @@ invariant_of-self c =
     let k = h ++ x ∷ [] in
     let place : length p.handed - 1 ≡ c.len-place.result - 1 =
     omega (arith, c.len-place.ensures, length-map i.history pod_tick) in
-    let status : PodStatus = record {
-      number = i.status.number;
+    let status : PodStatus = record i.status {
       phase = c.lifecycle-lifecycle.result.phase;
       conditions = c.lifecycle-lifecycle.result.conditions;
       containers = c.show.new.statuses;
-      class = i.status.class;
-      requests = i.status.requests;
-      usage = i.status.usage;
-      priority = i.status.priority;
       order = Some c.args.order;
     } in
     let kept = kept_evicted p x c.args.order i.differs.items i.state c.evict.new.self i.status status i.events.items

@@ -1,9 +1,0 @@
-use Rattle.std.proofs.Common.{◌≡◌, map, drop}
-use Rattle.json_fields.specs.Reading.{each}
-use Rattle.json_fields.proofs.Each.{with_front}
-use Rattle.tick_lines.specs.Entries.{entry_of}
-use Rattle.tick_lines.proofs.entry.entries.Given as goal
-
-abbrev pub invariant-loop-value : goal.invariant-loop-value
-invariant-loop-value g l = with_front l.all.items (each entry_of (map g.V.HasData.data (drop l.value-index l.values)))
-    ≡ each entry_of (map g.V.HasData.data l.values)
