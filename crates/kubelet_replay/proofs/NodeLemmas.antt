@@ -19,7 +19,7 @@ use Rattle.pod_piece.specs.Piece.{Piece}
 use Rattle.eviction.specs.Replay.{pod_ticks}
 use Rattle.tick_round.specs.Node.{State, HasTaken, Fits, IsAfter, MayTake, HasRoom, last_of}
 use Rattle.tick_round.proofs.Pieces.{pod_at}
-use Rattle.kubelet_replay.specs.Ticks.{AreReplayable, MayArrive}
+use Rattle.kubelet_replay.specs.Ticks.{AreReplayable, HaveArrived, MayArrive}
 
 middle : {A : Type 0} (xs : List A) (x : A) (ys : List A) → slice_get (xs ++ x ∷ ys) (length xs) ≡ Some x
 middle [] x ys = refl
@@ -107,29 +107,27 @@ pub record IsSoFar (config : NodeConfig) (pods : List PodSpec) (ticks before res
   pub shown : (t : ℕ) (tick : TickObs) → slice_get rest t ≡ Some tick → arrived ≤ length tick.pods
   pub after : IsAfter config (take arrived pods) before node
 
-take_drop : (n k : ℕ) (pods : List PodSpec) → n ≤ k → take n pods ++ take (k - n) (drop n pods) ≡ take k pods
-take_drop zero k pods le = ap (λ (i : ℕ). take i pods) (let z : k - 0 ≡ k = omega arith in z)
-take_drop (suc n) zero pods le = absurd (omega arith)
-take_drop (suc n) (suc k) [] le = none (suc k - suc n)
-  where
-    none : (i : ℕ) → take {A = PodSpec} i [] ≡ []
-    none zero = refl
-    none (suc i) = refl
-take_drop (suc n) (suc k) (p ∷ pods) le =
-    ap (λ (i : ℕ). (p ∷ take n pods) ++ take i (drop n pods)) (let z : suc k - suc n ≡ k - n = omega arith in z)
-    ∙ ap (λ (ps : List PodSpec). p ∷ ps) (take_drop n k pods (omega arith))
+take_none : (i : ℕ) → take {A = PodSpec} i [] ≡ []
+take_none zero = refl
+take_none (suc i) = refl
 
-drop_drop : (n k : ℕ) (pods : List PodSpec) → n ≤ k → drop (k - n) (drop n pods) ≡ drop k pods
-drop_drop zero k pods le = ap (λ (i : ℕ). drop i pods) (let z : k - 0 ≡ k = omega arith in z)
-drop_drop (suc n) zero pods le = absurd (omega arith)
-drop_drop (suc n) (suc k) [] le = none (suc k - suc n)
-  where
-    none : (i : ℕ) → drop {A = PodSpec} i [] ≡ []
-    none zero = refl
-    none (suc i) = refl
-drop_drop (suc n) (suc k) (p ∷ pods) le =
-    ap (λ (i : ℕ). drop i (drop n pods)) (let z : suc k - suc n ≡ k - n = omega arith in z) ∙ drop_drop n k pods
-    (omega arith)
+drop_none : (i : ℕ) → drop {A = PodSpec} i [] ≡ []
+drop_none zero = refl
+drop_none (suc i) = refl
+
+-- a list that is cut at one place, and what is left at a later one
+cut_twice : (n k : ℕ) (pods : List PodSpec) → n ≤ k
+    → (take n pods ++ take (k - n) (drop n pods) ≡ take k pods) × (drop (k - n) (drop n pods) ≡ drop k pods)
+cut_twice zero k pods le =
+    let same : k - 0 ≡ k = omega arith in (ap (λ i. take i pods) same, ap (λ i. drop i pods) same)
+cut_twice (suc n) zero pods le = absurd (omega arith)
+cut_twice (suc n) (suc k) [] le = (take_none (suc k - suc n), drop_none (suc k - suc n))
+cut_twice (suc n) (suc k) (p ∷ pods) le =
+    let same : suc k - suc n ≡ k - n = omega arith in
+    let rest = cut_twice n k pods (omega arith) in (
+      ap (λ i. (p ∷ take n pods) ++ take i (drop n pods)) same ∙ ap (λ (ps : List PodSpec). p ∷ ps) rest.0,
+      ap (λ i. drop i (drop n pods)) same ∙ rest.1,
+    )
 
 -- no tick and no pod yet
 none_yet : (config : NodeConfig) (pods : List PodSpec) (ticks : List TickObs) (new : Option State)
@@ -162,7 +160,7 @@ arrived_next config pods ticks before tick rest arrived left old new s arrives =
     let now = arrives (take arrived pods) before s.after in
     subst (λ (ps : List PodSpec). IsAfter config ps before new)
     (ap (λ (ps : List PodSpec). take arrived pods ++ take (length tick.pods - arrived) ps) s.left_is
-    ∙ take_drop arrived (length tick.pods) pods le) now
+    ∙ (cut_twice arrived (length tick.pods) pods le).0) now
 
 may_take : (config : NodeConfig) (pods : List PodSpec) (ticks before : List TickObs) (tick : TickObs)
     (rest : List TickObs) (node : Option State)
@@ -197,8 +195,8 @@ one_more config pods ticks before tick rest arrived left left' old mid new may s
     s.whole ∙ middle before tick rest in
     record {
       whole = rest_more ticks before tick rest s.whole;
-      left_is = left_is ∙ ap (drop (length tick.pods - arrived)) s.left_is ∙ drop_drop arrived (length tick.pods) pods
-          le;
+      left_is = left_is ∙ ap (drop (length tick.pods - arrived)) s.left_is
+          ∙ (cut_twice arrived (length tick.pods) pods le).1;
       few = may.within (length before) tick at;
       shown = λ t later there.
           let place : slice_get ticks (length before + suc t) ≡ Some later =
@@ -220,8 +218,8 @@ all_taken config pods ticks before arrived count left old new s many arrives =
     let few : arrived ≤ length pods = s.few in
     let now = arrives (take arrived pods) before s.after in
     let all : take arrived pods ++ take (count - arrived) left ≡ pods =
-    ap (λ (ps : List PodSpec). take arrived pods ++ take (count - arrived) ps) s.left_is ∙ take_drop arrived count
-    pods (omega arith) ∙ take_all count pods (omega arith) in
+    ap (λ (ps : List PodSpec). take arrived pods ++ take (count - arrived) ps) s.left_is
+    ∙ (cut_twice arrived count pods (omega arith)).0 ∙ take_all count pods (omega arith) in
     subst (λ (ts : List TickObs). IsAfter config pods ts new) (sym (s.whole ∙ append-nil before))
     (subst (λ (ps : List PodSpec). IsAfter config ps before new) all now)
 
@@ -242,13 +240,7 @@ none_left None old new Q [] ends long is = refl
 none_left None old new Q (x ∷ xs) ends long is = absurd (omega (arith, long, ends.1))
 none_left (Some x) old new Q rest ends long is = absurd (let w : Some x ≡ None = is in cc)
 
--- the first this many of these pods have arrived
-pub record AreArriving (all : List PodSpec) (i : ℕ) (old new : Option State) (left : List PodSpec) : Type 0 where
-  pub arrived : (config : NodeConfig) (pods : List PodSpec) (ticks : List TickObs) → IsAfter config pods ticks old
-      → IsAfter config (pods ++ take i all) ticks new
-  pub left_is : left ≡ drop i all
-
-pub none_arrived : (all : List PodSpec) (old : Option State) → AreArriving all 0 old old all
+pub none_arrived : (all : List PodSpec) (old : Option State) → HaveArrived all 0 old old all
 none_arrived all old = record {
   arrived = λ config pods ticks after. subst (λ (ps : List PodSpec). IsAfter config ps ticks old)
       (sym (append-nil pods)) after;
@@ -264,14 +256,14 @@ cut (suc i) [] pod rest e = absurd (cc)
 cut (suc i) (p ∷ all) pod rest e = let w = cut i all pod rest e in (ap (λ (ps : List PodSpec). p ∷ ps) w.0, w.1)
 
 pub arriving_more : (all : List PodSpec) (i : ℕ) (old mid new : Option State) (left : List PodSpec) (pod : PodSpec)
-    (rest : List PodSpec) → AreArriving all i old mid left → left ≡ pod ∷ rest
+    (rest : List PodSpec) → HaveArrived all i old mid left → left ≡ pod ∷ rest
     → ((config : NodeConfig) (pods : List PodSpec) (ticks : List TickObs) → IsAfter config pods ticks mid
     → IsAfter config (pods ++ pod ∷ []) ticks new)
-    → AreArriving all (i + 1) old new rest
+    → HaveArrived all (i + 1) old new rest
 arriving_more all i old mid new left pod rest are is arrives =
     let w = cut i all pod rest (sym is ∙ are.left_is) in
     let next : suc i ≡ i + 1 = omega arith in
-    subst (λ (k : ℕ). AreArriving all k old new rest) next (record {
+    subst (λ (k : ℕ). HaveArrived all k old new rest) next (record {
       arrived = λ config pods ticks after.
           subst (λ (ps : List PodSpec). IsAfter config (pods ++ ps) ticks new) (sym w.0)
           (took_more config pods ticks (take i all) pod mid new (are.arrived config pods ticks after)
@@ -280,23 +272,16 @@ arriving_more all i old mid new left pod rest are is arrives =
     })
 
 short : (i n : ℕ) (all : List PodSpec) → [] ≡ drop i all → i ≤ n → (take i all ≡ take n all) × ([] ≡ drop n all)
-short i n [] e le = (none i ∙ sym (none n), sym (nothing n))
-  where
-    none : (k : ℕ) → take {A = PodSpec} k [] ≡ []
-    none zero = refl
-    none (suc k) = refl
-
-    nothing : (k : ℕ) → drop {A = PodSpec} k [] ≡ []
-    nothing zero = refl
-    nothing (suc k) = refl
-short zero n (p ∷ all) e le = absurd (let f : [] ≡ p ∷ all = e in cc)
-short (suc i) zero (p ∷ all) e le = absurd (omega arith)
-short (suc i) (suc n) (p ∷ all) e le = let w = short i n all e (omega arith) in
-    (ap (λ (ps : List PodSpec). p ∷ ps) w.0, w.1)
+short i n all e le =
+    let cut = cut_twice i n all le in (
+      sym (append-nil (take i all)) ∙ ap (λ ps. take i all ++ ps) (sym (take_none (n - i)))
+          ∙ ap (λ ps. take i all ++ take (n - i) ps) e ∙ cut.0,
+      sym (drop_none (n - i)) ∙ ap (drop (n - i)) e ∙ cut.1,
+    )
 
 -- where none are left all have
 pub all_arrived : (all : List PodSpec) (i count : ℕ) (old new : Option State) (left rest : List PodSpec)
-    → AreArriving all i old new left → left ≡ [] → rest ≡ [] → i ≤ count → AreArriving all count old new rest
+    → HaveArrived all i old new left → left ≡ [] → rest ≡ [] → i ≤ count → HaveArrived all count old new rest
 all_arrived all i count old new left rest are none none' le =
     let w = short i count all (sym none ∙ are.left_is) le in
     record {
@@ -306,9 +291,9 @@ all_arrived all i count old new left rest are none none' le =
     }
 
 pub as_many_arrived : (all : List PodSpec) (i count : ℕ) (old new : Option State) (left : List PodSpec)
-    → AreArriving all i old new left → i ≤ count → count ≤ i → AreArriving all count old new left
+    → HaveArrived all i old new left → i ≤ count → count ≤ i → HaveArrived all count old new left
 as_many_arrived all i count old new left are le ge = let same : i ≡ count = omega arith in
-    subst (λ (k : ℕ). AreArriving all k old new left) same are
+    subst (λ (k : ℕ). HaveArrived all k old new left) same are
 
 -- a halted node is after no ticks
 pub halted : (config : NodeConfig) (pods : List PodSpec) (ticks : List TickObs) (one : Option State) → one ≡ None
@@ -392,7 +377,7 @@ room_in config pods ticks (Some s) after lt =
 
 -- of these pods one more may arrive
 pub has_room : (all : List PodSpec) (i count : ℕ) (old new : Option State) (left : List PodSpec)
-    → MayArrive count old → AreArriving all i old new left → i < count → HasRoom new
+    → MayArrive count old → HaveArrived all i old new left → i < count → HasRoom new
 has_room all i count old new left may are lt =
     let room : length may.arrived + count ≤ most_pods = may.room in
     let few : length (take i all) ≤ i = at_most i all in

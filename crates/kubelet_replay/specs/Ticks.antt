@@ -1,5 +1,6 @@
 -- Which ticks a node with these pods can take one after the other.
-use Rattle.std.specs.Prelude.{◌≡◌, ℕ, ◌+◌, ◌<◌, ◌≤◌, List, [], length, take, slice_get, Option, Some}
+use Rattle.std.specs.Prelude.{◌≡◌, ℕ, ◌+◌, ◌<◌, ◌≤◌, ◌++◌, List, [], length, take, drop, slice_get, Option}
+use Rattle.std.specs.Prelude.{Some}
 use Rattle.quantity.specs.Duration.{end_of_time}
 use Rattle.histories.specs.Histories.{EndsBefore}
 use Rattle.manifest.specs.declared.pod.PodSpec.{PodSpec}
@@ -48,3 +49,9 @@ pub record MayArrive (count : ℕ) (node : Option State) : Type 0 where
 pub record IsNew (node : Option State) : Type 0 where
   pub config : NodeConfig
   pub after : IsAfter config [] [] node
+
+-- the first this many of these pods have arrived, one after the other, and these are left
+pub record HaveArrived (all : List PodSpec) (count : ℕ) (old new : Option State) (left : List PodSpec) : Type 0 where
+  pub arrived : (config : NodeConfig) (pods : List PodSpec) (ticks : List TickObs) → IsAfter config pods ticks old
+      → IsAfter config (pods ++ take count all) ticks new
+  pub left_is : left ≡ drop count all

@@ -1,13 +1,13 @@
 //! What the definition of a report implies. The functions do nothing; their contracts are the laws.
 
-ghost use Rattle.kubelet_replay.specs.Laws.{SomeReportOfText, OneReport};
+ghost use Rattle.kubelet_replay.specs.Laws as laws;
 
 /// There is a report of every text that is a trace.
 pub fn some_report_of_text()
-    ensures { SomeReportOfText }
+    ensures { laws.SomeReportOfText }
 {}
 
 /// There is at most one report: the definition leaves no choice.
 pub fn one_report()
-    ensures { OneReport }
+    ensures { laws.OneReport }
 {}

@@ -1,21 +1,17 @@
 //! The node of a trace, as its ticks leave it.
 
-ghost use Rattle.std.specs.Prelude.{◌≡◌, ◌<◌, ◌≤◌, ◌++◌, List, [], OnOk, take, drop};
-ghost use Rattle.manifest.specs.declared.pod.PodSpec.{PodSpec};
+ghost use Rattle.std.specs.Prelude.{◌<◌, ◌≤◌, [], OnOk};
 ghost use Rattle.node_config.specs.declared.node.NodeConfig.{NodeConfig};
-ghost use Rattle.observations.specs.declared.tick.TickObs.{TickObs};
 ghost use Rattle.event_book.specs.Limits.{most_workers};
 ghost use Rattle.tick_round.specs.Node.{IsAfter};
-ghost use Rattle.kubelet_replay.specs.Ticks.{AreReplayable, IsNew, MayArrive};
+ghost use Rattle.kubelet_replay.specs.Ticks.{AreReplayable, HaveArrived, IsNew, MayArrive};
 
 use manifest::PodSpec;
 use node_config::NodeConfig;
 use observations::TickObs;
-use std::sync::Wait;
 use std::sync::ledger::Ledger;
-use std::thread::Threads;
 use std::vec::IntoIter;
-use tick_round::{Gate, Node, Step, TickFault};
+use tick_round::{Gate, Node, Runtime, Step, TickFault};
 
 /// The next pods arrive, this many of them.
 fn arrive<U: Ledger, E: Ledger, O: Ledger>(
@@ -24,10 +20,8 @@ fn arrive<U: Ledger, E: Ledger, O: Ledger>(
     count: usize,
 ) -> Result<(), TickFault>
     requires { MayArrive count node.old }
-    ensures node { (config : NodeConfig) (pods : List PodSpec) (ticks : List TickObs)
-        → IsAfter config pods ticks node.old
-        → OnOk result (IsAfter config (pods ++ take count arriving.old.rest.items) ticks node.new) }
-    ensures left { OnOk result (arriving.new.rest.items ≡ drop count arriving.old.rest.items) }
+    ensures { OnOk result
+        (HaveArrived arriving.old.rest.items count node.old node.new arriving.new.rest.items) }
 {
     for _ in 0..count {
         let Some(pod) = arriving.next() else {
@@ -72,7 +66,7 @@ pub(crate) fn take_by_workers<
     U: Ledger + Send,
     E: Ledger + Send,
     O: Ledger + Send,
-    R: Threads + Wait + Sync,
+    R: Runtime,
     G: Gate,
 >(
     rt: &R,

@@ -15,10 +15,8 @@ use event_book::{Blanks, WholeBook};
 use node_report::report_text;
 use std::alloc::{AllocError, Global};
 use std::marker::Brand;
-use std::sync::Wait;
 use std::sync::ledger::Ledger;
-use std::thread::Threads;
-use tick_round::{Gate, Node, Step, TickFault};
+use tick_round::{Gate, Node, Runtime, Step, TickFault};
 use trace::Trace;
 
 /// The report of a node that is not halted. An `Err` says that memory was refused.
@@ -54,7 +52,7 @@ fn report_after<U: Ledger, E: Ledger, O: Ledger>(
     }
 }
 
-/// The report of a trace, on a node with a book over these ledgers, each of whose ticks is a round that so
+/// The report of a trace, on a node with a book over these ledgers, each of whose ticks is a round that this
 /// many workers play by these steps.
 fn played<U: Ledger, E: Ledger, O: Ledger>(
     alloc: Global,
@@ -94,7 +92,7 @@ fn played<U: Ledger, E: Ledger, O: Ledger>(
 }
 
 /// The same, where this many workers update the pods of each tick in threads of their own.
-fn shared<U: Ledger + Send, E: Ledger + Send, O: Ledger + Send, R: Threads + Wait + Sync, G: Gate>(
+fn shared<U: Ledger + Send, E: Ledger + Send, O: Ledger + Send, R: Runtime, G: Gate>(
     rt: &R,
     alloc: Global,
     trace: Trace,
@@ -149,7 +147,7 @@ pub fn report_by_steps(
 }
 
 /// The report of a trace, the pods of each of whose ticks this many workers update in threads of their own.
-pub fn report_by_workers<R: Threads + Wait + Sync, G: Gate>(
+pub fn report_by_workers<R: Runtime, G: Gate>(
     rt: &R,
     alloc: Global,
     trace: Trace,

@@ -198,7 +198,7 @@ pub fn replay_in<H: AllocGlobal + Threads + Wait + Sync, R: Source, W: Sink, G: 
     write_text(output, report.as_str())
 }
 
-/// Replays a trace on one thread and writes its report, as [`replay`] does. Each tick is a round that so
+/// Replays a trace on one thread and writes its report, as [`replay`] does. Each tick is a round that this
 /// many workers, 1 to 64, play by these steps, from their beginning; then each worker finishes what it has.
 pub fn replay_play<R: Source, W: Sink>(
     alloc: Global,

@@ -170,6 +170,21 @@ pub some_due : (all : List Piece) (v w : Tally) (P : Type 0) (found : Option Pie
 some_due all v w P None took = tt
 some_due all v w P (Some piece) took = one_due all v w piece took
 
+-- a deal stays one where other views take and have as much, and each lists what was pushed
+still_dealt : (all items : List Piece) (old new : List Tally) (d : IsDealt all items old)
+    → ((h : ℕ → ℕ) → sum_by (λ (u : Tally). sum_by h u.taken) old ≡ sum_by (λ (u : Tally). sum_by h u.taken) new)
+    → sum_by (λ (u : Tally). u.parts) new ≡ sum_by (λ (u : Tally). u.parts) old → Each (Lists d.pushed) new
+    → IsDealt all items new
+still_dealt all items old new d once whole listed = record {
+  pushed = d.pushed;
+  taken = d.taken;
+  in_order = d.in_order;
+  once = λ h. d.once h ∙ once h;
+  whole = whole ∙ d.whole;
+  listed = listed;
+  due = d.due;
+}
+
 -- a pass with two parts gives one of them away
 pub forks : (all : List Piece) (port : ℕ) (v : Tally) → 1 < v.parts
     → Forks (IsDealt all) port v (tally (v.parts - 1) v.pushed v.taken) (tally 1 v.pushed [])
@@ -178,23 +193,15 @@ forks all port v two_parts items views d at =
     let r : Tally = tally 1 v.pushed [] in
     let vs : List Tally = set views port l in
     let mine : v.pushed ≡ d.pushed = (d.listed port v at).same (omega arith) in
-    record {
-      pushed = d.pushed;
-      taken = d.taken;
-      in_order = d.in_order;
-      once = λ h.
-          let s = set_sum (λ (u : Tally). sum_by h u.taken) views port v l at in
-          let p = d.once h in
-          omega (arith, sum_by_push (λ (u : Tally). sum_by h u.taken) vs r);
-      whole =
-          let s = set_sum (λ (u : Tally). u.parts) views port v l at in
-          let p = d.whole in
-          omega (arith, sum_by_push (λ (u : Tally). u.parts) vs r);
-      listed = each_snoc (Lists d.pushed) vs r (record { idle = λ none. refl; same = λ _. mine })
-          (each_set (Lists d.pushed) views port l
-          (record { idle = λ none. absurd (omega arith); same = λ _. mine }) d.listed);
-      due = d.due;
-    }
+    still_dealt all items views (vs ++ r ∷ []) d
+    (λ h.
+    let s = set_sum (λ (u : Tally). sum_by h u.taken) views port v l at in
+    omega (arith, sum_by_push (λ (u : Tally). sum_by h u.taken) vs r))
+    (let s = set_sum (λ (u : Tally). u.parts) views port v l at in
+    omega (arith, sum_by_push (λ (u : Tally). u.parts) vs r))
+    (each_snoc (Lists d.pushed) vs r (record { idle = λ none. refl; same = λ _. mine })
+    (each_set (Lists d.pushed) views port l (record { idle = λ none. absurd (omega arith); same = λ _. mine })
+    d.listed))
 
 -- a pass takes another one in
 pub merges : (all : List Piece) (port : ℕ) (v : Tally) (other : ℕ) (u : Tally) → 0 < v.parts
@@ -203,26 +210,17 @@ merges all port v other u some_part items views d at two at' =
     let both : Tally = tally (v.parts + u.parts) v.pushed (v.taken ++ u.taken) in
     let spent : Tally = tally 0 [] [] in
     let vs : List Tally = set views port both in
-    record {
-      pushed = d.pushed;
-      taken = d.taken;
-      in_order = d.in_order;
-      once = λ h.
-          let s = set_sum (λ (y : Tally). sum_by h y.taken) views port v both at in
-          let t = set_sum (λ (y : Tally). sum_by h y.taken) vs other u spent at' in
-          let p = d.once h in
-          omega (arith, sum_by-append h v.taken u.taken);
-      whole =
-          let s = set_sum (λ (y : Tally). y.parts) views port v both at in
-          let t = set_sum (λ (y : Tally). y.parts) vs other u spent at' in
-          let p = d.whole in
-          omega arith;
-      listed = each_set (Lists d.pushed) vs other spent
-          (record { idle = λ none. refl; same = λ part. absurd (omega arith) })
-          (each_set (Lists d.pushed) views port both
-          (record { idle = λ none. absurd (omega arith); same = λ _. (d.listed port v at).same some_part }) d.listed);
-      due = d.due;
-    }
+    still_dealt all items views (set vs other spent) d
+    (λ h.
+    let s = set_sum (λ (y : Tally). sum_by h y.taken) views port v both at in
+    let t = set_sum (λ (y : Tally). sum_by h y.taken) vs other u spent at' in
+    omega (arith, sum_by-append h v.taken u.taken))
+    (let s = set_sum (λ (y : Tally). y.parts) views port v both at in
+    let t = set_sum (λ (y : Tally). y.parts) vs other u spent at' in
+    omega arith)
+    (each_set (Lists d.pushed) vs other spent (record { idle = λ none. refl; same = λ part. absurd (omega arith) })
+    (each_set (Lists d.pushed) views port both
+    (record { idle = λ none. absurd (omega arith); same = λ _. (d.listed port v at).same some_part }) d.listed))
 
 -- an owner that has every part and finds the deque empty knows that what was pushed was taken
 pub finds : (all : List Piece) (port : ℕ) (v : Tally) → 0 < v.parts → Finds (IsDealt all) port v (IsEmptied v)

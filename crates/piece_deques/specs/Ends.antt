@@ -11,7 +11,7 @@ pub record IsOwner {T A P : Type 0} (owner : Worker T A Tally P) : Type 0 where
   pub in_order : worker_flavor owner ≡ 0
   pub some : 0 < (worker_view owner).parts
 
--- an owner without any seats, which has taken nothing, has room for this many pieces and was given at most this many
+-- an owner without any permits, which has taken nothing, has room for this many pieces and was given at most this many
 pub record IsOpen {T A P : Type 0} (room most : ℕ) (owner : Worker T A Tally P) : Type 0 where
   pub is_owner : IsOwner owner
   pub alone : (worker_view owner).parts ≡ all_parts

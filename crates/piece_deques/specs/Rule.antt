@@ -6,7 +6,7 @@ use lib.ListN.{get_elem?}
 use Rattle.pod_piece.specs.Piece.{Piece}
 use Rattle.piece_deques.specs.declared.rule.Tally.{Tally}
 
--- into this many parts the right to know a whole deque is cut: one for a seat of each worker, and one for its owner
+-- into this many parts the right to know a whole deque is cut: one for a permit of each worker, and one for its owner
 abbrev pub all_parts : ℕ
 all_parts = 65
 

@@ -15,11 +15,11 @@ use std::sync::Wait;
 /// The owner's end of a deque.
 pub type Owner<D> = Worker<PodPiece, Global, Tally, Dealing<D>>;
 
-/// The end of a deque from which a thief takes pieces, with a seat of the deque.
+/// The end of a deque from which a thief takes pieces, with a permit of the deque.
 pub type Thief<D> = Stealer<PodPiece, Global, Tally, Dealing<D>>;
 
 /// The right to take pieces from a deque, which keeps count of those that it has taken. It takes no room at run time.
-pub type Seat = Pass<PodPiece, Tally>;
+pub type Permit = Pass<PodPiece, Tally>;
 
 /// The number of a piece.
 pub fn number_of(piece: &PodPiece) -> usize
@@ -38,7 +38,7 @@ pub fn open<D: Deal>(alloc: Global, room: usize) -> Result<Owner<D>, AllocError>
     Owner::fifo_as(alloc, room)
 }
 
-/// Pushes a piece to a deque that has room for it and has no seats.
+/// Pushes a piece to a deque that has room for it and has no permits.
 pub fn push<D: Deal>(owner: &mut Owner<D>, piece: PodPiece)
     requires due { IsPieceDue D.all piece }
     requires alone { (worker_view owner.old).parts ≡ all_parts }
@@ -55,28 +55,28 @@ pub fn push<D: Deal>(owner: &mut Owner<D>, piece: PodPiece)
     }
 }
 
-/// A seat of the deque.
-pub fn new_seat<D: Deal>(owner: &mut Owner<D>) -> Seat
+/// A permit of the deque.
+pub fn new_permit<D: Deal>(owner: &mut Owner<D>) -> Permit
     requires { 1 < (worker_view owner.old).parts }
     ensures same { SameWorker owner.old owner.new }
     ensures fits { IsPassOf (worker_deque owner.old) result }
     ensures owner { worker_view owner.new ≡ tally ((worker_view owner.old).parts - 1)
         (worker_view owner.old).pushed (worker_view owner.old).taken }
-    ensures seat { view result ≡ tally 1 (worker_view owner.old).pushed [] }
+    ensures permit { view result ≡ tally 1 (worker_view owner.old).pushed [] }
 {
     owner.another::<Cut>()
 }
 
-/// Takes a seat of the deque back.
-pub fn return_seat<D: Deal>(owner: &mut Owner<D>, seat: Seat)
-    requires fits { IsPassOf (worker_deque owner.old) seat }
+/// Takes a permit of the deque back.
+pub fn return_permit<D: Deal>(owner: &mut Owner<D>, permit: Permit)
+    requires fits { IsPassOf (worker_deque owner.old) permit }
     requires some { 0 < (worker_view owner.old).parts }
     ensures same { SameWorker owner.old owner.new }
     ensures bounded { IsBounded (worker_view owner.new) }
-    ensures owner { worker_view owner.new ≡ tally ((worker_view owner.old).parts + (view seat).parts)
-        (worker_view owner.old).pushed ((worker_view owner.old).taken ++ (view seat).taken) }
+    ensures owner { worker_view owner.new ≡ tally ((worker_view owner.old).parts + (view permit).parts)
+        (worker_view owner.old).pushed ((worker_view owner.old).taken ++ (view permit).taken) }
 {
-    owner.absorb::<Cut>(seat);
+    owner.absorb::<Cut>(permit);
     owner.len_as::<Few>();
 }
 
@@ -95,18 +95,18 @@ pub fn pop<D: Deal>(owner: &mut Owner<D>) -> Option<PodPiece>
 
 /// The first piece of a deque that is first in first out, for a thief. None where it found no piece in it: where
 /// another took a piece in between, it tries again.
-pub fn steal<D: Deal, R: Wait>(rt: &R, thief: &Thief<D>, seat: &mut Seat) -> Option<PodPiece>
+pub fn steal<D: Deal, R: Wait>(rt: &R, thief: &Thief<D>, permit: &mut Permit) -> Option<PodPiece>
     requires in_order { stealer_flavor thief.now ≡ 0 }
-    requires fits { IsPassOf (stealer_deque thief.now) seat.old }
-    requires some { 0 < (view seat.old).parts }
-    ensures same { IsPassOf (stealer_deque thief.now) seat.new }
-    ensures none { IfNone result (view seat.new ≡ view seat.old) }
-    ensures found { IfNone result (FoundEmpty D.all (view seat.old)) }
+    requires fits { IsPassOf (stealer_deque thief.now) permit.old }
+    requires some { 0 < (view permit.old).parts }
+    ensures same { IsPassOf (stealer_deque thief.now) permit.new }
+    ensures none { IfNone result (view permit.new ≡ view permit.old) }
+    ensures found { IfNone result (FoundEmpty D.all (view permit.old)) }
     ensures due { IfSome result (IsPieceDue D.all) }
-    ensures took { IfSome result (λ piece. Took D.all (view seat.old) (piece ∷ []) (view seat.new)) }
+    ensures took { IfSome result (λ piece. Took D.all (view permit.old) (piece ∷ []) (view permit.new)) }
 {
     for _ in rt.forever() {
-        match thief.steal_as::<Stolen<D>>(seat) {
+        match thief.steal_as::<Stolen<D>>(permit) {
             Steal::Success(piece) => return Some(piece),
             Steal::Empty => return None,
             Steal::Retry => {}

@@ -5,5 +5,7 @@
 mod deque;
 mod rule;
 
-pub use deque::{Owner, Seat, Thief, new_seat, number_of, open, pop, push, return_seat, steal};
+pub use deque::{
+    Owner, Permit, Thief, new_permit, number_of, open, pop, push, return_permit, steal,
+};
 pub use rule::{Deal, Dealing, Tally};

@@ -76,17 +76,7 @@ module _ (workers : ℕ) (round : RoundState) (some : 0 < workers) (fresh : IsFr
 -- The end
 
 updated_once : (piece : Piece) → piece.is_pending ≡ false → updated piece ≡ piece
-updated_once piece done =
-    ap
-    (λ (pending : Bool). let p : Piece = record {
-      number = piece.number;
-      pod = piece.pod;
-      max_restart_delay = piece.max_restart_delay;
-      handed = piece.handed;
-      is_pending = pending;
-      eviction = piece.eviction;
-    } in p)
-    (sym done)
+updated_once piece done = ap (λ (pending : Bool). record piece { is_pending = pending }) (sym done)
 
 all_updated : (pieces : List Piece)
     → ((n : ℕ) (piece : Piece) → slice_get pieces n ≡ Some piece → piece.is_pending ≡ false)

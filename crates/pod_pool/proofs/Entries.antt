@@ -1,17 +1,19 @@
 -- The entries of pieces in the order of their numbers.
-use Rattle.std.proofs.Common.{◌≡◌, ℕ, zero, suc, ◌<◌, List, [], ◌∷◌, ◌++◌, map, length, get_or, Some}
-use Rattle.std.proofs.Common.{sym, refl, ap, ◌∙◌, subst, arith, inl, inr}
+use Rattle.std.proofs.Common.{◌≡◌, ℕ, zero, suc, ◌+◌, ◌*◌, ◌^◌, ◌<◌, ◌≤◌, List, [], ◌∷◌, ◌++◌, map, length}
+use Rattle.std.proofs.Common.{get_or, Some, sym, refl, ap, ◌∙◌, subst, arith, inl, inr}
 use Rattle.std.specs.Prelude.{slice_get}
 use Rattle.std.specs.List.{sum_by}
 use Rattle.std.specs.List.Sorted.{IsPermutation}
 use Rattle.std.proofs.lemmas.List.{length-append}
 use Rattle.std.proofs.lemmas.Option.{slice_get-get_or, slice_get_within}
 use Rattle.histories.proofs.Lists.{place_split}
+use Rattle.observations.specs.Limits.{most_pods}
 use Rattle.pod_piece.specs.Piece.{Piece, updated}
 use Rattle.event_book.specs.declared.totals.Entry.{Entry}
 use Rattle.event_book.specs.declared.totals.Totals.{Totals}
 use Rattle.event_book.specs.Totals.{IsEntryOf, AreEntriesOf, plus, sums_of}
-use Rattle.event_book.specs.Shares.{Part, part}
+use Rattle.event_book.specs.Shares.{Part, part, greatest_total}
+use Rattle.event_book.specs.Limits.{most_events}
 use Rattle.event_book.proofs.Numbers.{totals_same}
 use Rattle.piece_deques.proofs.Lists.{sum_map}
 use Rattle.piece_deques.specs.Rule.{AreNumbered}
@@ -81,6 +83,11 @@ module _ (pieces : List Piece) (es : List Entry) (numbered : AreNumbered pieces)
       ∙ (sym (sum_map by_number (λ (e : Entry). e.events) pieces) ∙ ap (sum_by (λ (e : Entry). e.events)) all_listed))
       (added.orders
       ∙ (sym (sum_map by_number (λ (e : Entry). e.orders) pieces) ∙ ap (sum_by (λ (e : Entry). e.orders)) all_listed))
+
+-- what a round adds to a low number leaves room for one entry more
+pub within_round : {base added total more count : ℕ} → base ≤ 2 ^ 62 → total ≡ base + added
+    → added ≤ count * most_events → count ≤ most_pods → more ≤ most_events → total + more ≤ greatest_total
+within_round low is few many one = omega arith
 
 -- the number of a piece stays its place
 numbered_map : (all : List Piece) (at : ℕ → ℕ)

@@ -1,4 +1,4 @@
--- What is left of workers, and the rows of their seats.
+-- What is left of workers, and the rows of their permits.
 use Rattle.std.specs.Prelude.{◌≡◌, ℕ, ◌+◌, ◌≤◌, List, None, map, vec_capacity, Vec}
 use Rattle.std.specs.List.{sum_by}
 use mathlib.Core.Option.{some}
@@ -7,17 +7,17 @@ use Rattle.crossbeam_deque.specs.Handles.{worker_view}
 use Rattle.piece_deques.specs.Rule.{all_parts}
 use Rattle.pool_worker.specs.declared.handle.StealHandle.{StealHandle}
 use Rattle.pool_worker.specs.WorkerResults.{kept}
-use Rattle.pool_worker.specs.Seats.{Place, seat_place, owner_place}
+use Rattle.pool_worker.specs.Permits.{Place, permit_place, owner_place}
 use Rattle.pod_pool.specs.declared.finished_worker.FinishedWorker.{FinishedWorker}
 
--- the seats of a worker are one of each place, in their order
+-- the permits of a worker are one of each place, in their order
 abbrev pub IsRow : {D A : Type 0} → List Place → Vec (StealHandle D) A → Type 0
-IsRow places row = map seat_place row.items ≡ places
+IsRow places row = map permit_place row.items ≡ places
 
--- each seat is one of the deque that stands at its place in the list
+-- each permit is one of the deque that stands at its place in the list
 abbrev pub StandAt : {D : Type 0} → List (StealHandle D) → List Place → Type 0
 StandAt {D} row places =
-    (k : ℕ) (handle : StealHandle D) → get_elem? row k ≡ some handle → get_elem? places k ≡ some (seat_place handle)
+    (k : ℕ) (handle : StealHandle D) → get_elem? row k ≡ some handle → get_elem? places k ≡ some (permit_place handle)
 
 module _ {D U E O : Type 0} {g : _} where
   abbrev pub finished_place : FinishedWorker D U E O g → Place
@@ -38,7 +38,7 @@ module _ {D U E O : Type 0} {g : _} where
   abbrev pub finished_kept : (ℕ → ℕ) → FinishedWorker D U E O g → ℕ
   finished_kept weight ended = kept weight ended.worker_result
 
-  -- this many seats are away, all updates were made, and there is room for this many pieces
+  -- this many permits are away, all updates were made, and there is room for this many pieces
   pub record IsAway (away room : ℕ) (ended : FinishedWorker D U E O g) : Type 0 where
     pub parts : finished_parts ended + away ≡ all_parts
     pub none : ended.worker_result.refused ≡ None

@@ -1,8 +1,8 @@
-//! How the seats go back to their deques.
+//! How the permits go back to their deques.
 
 ghost use Rattle.std.specs.Prelude.{◌≡◌, ◌+◌, ◌*◌, ℕ, All, length, map, vec_len};
 ghost use Rattle.std.specs.List.{sum_by};
-ghost use Rattle.pool_worker.specs.Seats.{taken_by};
+ghost use Rattle.pool_worker.specs.Permits.{taken_by};
 ghost use Rattle.pod_pool.specs.FinishedWorkers.{finished_place, finished_parts, finished_taken, IsRow, StandAt};
 
 use crate::finished_worker::FinishedWorker;
@@ -10,7 +10,7 @@ use piece_deques::Deal;
 use pool_worker::StealHandle;
 use std::sync::ledger::Ledger;
 
-/// Takes the seats of one row back.
+/// Takes the permits of one row back.
 fn absorb<D: Deal, U: Ledger, E: Ledger, O: Ledger>(
     finished: &mut Vec<FinishedWorker<D, U, E, O>>,
     row: Vec<StealHandle<D>>,
@@ -31,7 +31,7 @@ fn absorb<D: Deal, U: Ledger, E: Ledger, O: Ledger>(
     }
 }
 
-/// Takes the seats of all rows back.
+/// Takes the permits of all rows back.
 pub(crate) fn absorb_all<D: Deal, U: Ledger, E: Ledger, O: Ledger>(
     finished: &mut Vec<FinishedWorker<D, U, E, O>>,
     rows: Vec<Vec<StealHandle<D>>>,

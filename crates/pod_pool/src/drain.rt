@@ -8,25 +8,25 @@ ghost use Rattle.pool_worker.specs.WorkerResults.{kept};
 
 use crate::finished_worker::FinishedWorker;
 use event_book::EventBook;
-use piece_deques::{Deal, pop, return_seat};
+use piece_deques::{Deal, pop, return_permit};
 use pod_piece::PodPiece;
 use pool_worker::{Gate, StealHandle, WorkerResult};
 use std::sync::ledger::Ledger;
 use std::sync::{Mutex, Wait};
 
 impl<D: Deal, U: Ledger, E: Ledger, O: Ledger> FinishedWorker<D, U, E, O> {
-    /// Takes a seat of the deque back.
+    /// Takes a permit of the deque back.
     pub(crate) fn absorb(&mut self, handle: StealHandle<D>)
         requires { stealer_deque handle.thief ≡ worker_deque self.old.owner }
         ensures deque { worker_deque self.new.owner ≡ worker_deque self.old.owner }
         ensures pushed { (worker_view self.new.owner).pushed ≡ (worker_view self.old.owner).pushed }
         ensures parts { (worker_view self.new.owner).parts ≡ (worker_view self.old.owner).parts + 1 }
         ensures taken { (worker_view self.new.owner).taken
-            ≡ (worker_view self.old.owner).taken ++ (view handle.seat).taken }
+            ≡ (worker_view self.old.owner).taken ++ (view handle.permit).taken }
         ensures worker_result { self.new.worker_result ≡ self.old.worker_result }
     {
-        let StealHandle { thief: _, seat } = handle;
-        return_seat(&mut self.owner, seat);
+        let StealHandle { thief: _, permit } = handle;
+        return_permit(&mut self.owner, permit);
     }
 
     /// Finishes each piece that is left in the deque, unless an update is refused.

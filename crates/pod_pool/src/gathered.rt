@@ -1,14 +1,12 @@
 //! From the contexts that come back to the pieces in order.
 
-ghost use Rattle.std.specs.Prelude.{◌≡◌, ◌<◌, ◌≤◌, ◌+◌, [], List, IfOk, IfErr, length, map, vec_len};
+ghost use Rattle.std.specs.Prelude.{◌≡◌, ◌<◌, ◌≤◌, ◌+◌, IfOk, IfErr, length, map, vec_len};
 ghost use Rattle.observations.specs.Limits.{most_pods};
-ghost use Rattle.pod_piece.specs.Piece.{updated};
-ghost use Rattle.event_book.specs.declared.totals.Entry.{Entry};
-ghost use Rattle.event_book.specs.Totals.{AreEntriesOf, plus, sums_of};
-ghost use Rattle.event_book.specs.Shares.{most_parts, part};
+ghost use Rattle.event_book.specs.Shares.{most_parts};
 ghost use Rattle.event_book.specs.Limits.{AreLow};
 ghost use Rattle.piece_deques.specs.Rule.{IsPieceDue, AreNumbered};
 ghost use Rattle.pool_worker.specs.Contexts.{context_tag, AreLaid};
+ghost use Rattle.pod_pool.specs.Order.{IsRoundDone};
 ghost use Rattle.pod_pool.specs.Rooms.{HasRoom};
 
 use crate::absorb::absorb_all;
@@ -61,9 +59,7 @@ pub fn gather<D: Deal, U: Ledger, E: Ledger, O: Ledger, R: Wait, G: Gate>(
     requires parts { share.parts + vec_len contexts ≡ most_parts }
     requires level { (U.parts ≡ most_parts) × (E.parts ≡ most_parts) × (O.parts ≡ most_parts) }
     requires low { AreLow share.numbers }
-    ensures pieces { IfOk result (λ r. r.0.items ≡ map updated D.all) }
-    ensures share { IfOk result (λ r. (entries : List Entry) × AreEntriesOf r.0.items entries
-        × (r.1 ≡ part most_parts (plus share.numbers (sums_of entries)))) }
+    ensures done { IfOk result (λ r. IsRoundDone D.all share r.0.items r.1) }
     ensures due { IfErr result (IsPieceDue D.all) }
 {
     let ResultBuffers { finished, rows } = room;

@@ -4,7 +4,7 @@ ghost use Rattle.std.specs.Prelude.{◌≡◌, ◌≤◌, ◌+◌, ℕ, [], None
 ghost use Rattle.std.specs.List.{sum_by};
 ghost use Rattle.crossbeam_deque.specs.Handles.{worker_view};
 ghost use Rattle.piece_deques.specs.Rule.{all_parts, IsPieceDue};
-ghost use Rattle.pool_worker.specs.Seats.{places_len, taken_by};
+ghost use Rattle.pool_worker.specs.Permits.{places_len, taken_by};
 ghost use Rattle.pool_worker.specs.Contexts.{context_place, context_tag, IsLaid};
 ghost use Rattle.pod_pool.specs.FinishedWorkers.{finished_place, finished_kept, finished_taken, IsAway, IsRow};
 
@@ -14,7 +14,7 @@ use pod_piece::PodPiece;
 use pool_worker::{StealHandle, WorkerContext};
 use std::sync::ledger::Ledger;
 
-/// Parts the seats from the rest. An `Err` is the piece whose update was refused.
+/// Parts the permits from the rest. An `Err` is the piece whose update was refused.
 fn part<D: Deal, U: Ledger, E: Ledger, O: Ledger>(
     context: WorkerContext<D, U, E, O>,
 ) -> Result<(FinishedWorker<D, U, E, O>, Vec<StealHandle<D>>), PodPiece>
@@ -46,7 +46,7 @@ fn part<D: Deal, U: Ledger, E: Ledger, O: Ledger>(
     }
 }
 
-/// Parts the seats from each context, in their order. An `Err` is a piece whose update was refused.
+/// Parts the permits from each context, in their order. An `Err` is a piece whose update was refused.
 pub(crate) fn part_all<D: Deal, U: Ledger, E: Ledger, O: Ledger>(
     contexts: Vec<WorkerContext<D, U, E, O>>,
     finished: &mut Vec<FinishedWorker<D, U, E, O>>,

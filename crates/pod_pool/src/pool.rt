@@ -1,27 +1,26 @@
 //! The pool.
 
-ghost use Rattle.std.specs.Prelude.{◌≡◌, ◌<◌, ◌≤◌, List, All, IfOk, IfErr, IsTrue, length, map, min, max};
+ghost use Rattle.std.specs.Prelude.{◌≡◌, ◌<◌, ◌≤◌, All, IfOk, IfErr, IsTrue, length, map, min, max};
 ghost use Rattle.observations.specs.Limits.{most_pods};
 ghost use Rattle.pod_piece.specs.Piece.{updated};
-ghost use Rattle.event_book.specs.declared.totals.Entry.{Entry};
-ghost use Rattle.event_book.specs.Totals.{AreEntriesOf, plus, sums_of};
-ghost use Rattle.event_book.specs.Shares.{most_parts, part};
+ghost use Rattle.event_book.specs.Shares.{most_parts};
 ghost use Rattle.event_book.specs.Limits.{most_workers, AreLow};
 ghost use Rattle.piece_deques.specs.Rule.{AreNumbered};
 ghost use Rattle.pod_pool.specs.Faults.{GivesBack};
+ghost use Rattle.pod_pool.specs.Order.{HasEntered};
 
 use crate::fault::PoolFault;
 use crate::gathered::{ResultBuffers, gather};
 use crate::run::run;
+use crate::runtime::Runtime;
 use event_book::{EventBook, Shares};
 use piece_deques::Deal;
 use pod_piece::PodPiece;
 use pool_worker::{Gate, lay_out, make_buffers};
 use std::alloc::Global;
 use std::marker::Brand;
+use std::sync::Mutex;
 use std::sync::ledger::Ledger;
-use std::sync::{Mutex, Wait};
-use std::thread::Threads;
 
 /// This many workers have something to do: no more than pieces, and one at least.
 fn busy(workers: usize, pieces: usize) -> usize
@@ -33,14 +32,7 @@ fn busy(workers: usize, pieces: usize) -> usize
     workers.min(pieces.max(1))
 }
 
-fn pool<
-    D: Deal + Send,
-    U: Ledger + Send,
-    E: Ledger + Send,
-    O: Ledger + Send,
-    R: Threads + Wait + Sync,
-    G: Gate,
->(
+fn pool<D: Deal + Send, U: Ledger + Send, E: Ledger + Send, O: Ledger + Send, R: Runtime, G: Gate>(
     rt: &R,
     alloc: Global,
     pieces: Vec<PodPiece>,
@@ -59,8 +51,7 @@ fn pool<
     requires level { (U.parts ≡ most_parts) × (E.parts ≡ most_parts) × (O.parts ≡ most_parts) }
     requires low { AreLow share.numbers }
     ensures pieces { IfOk result (λ r. r.0.items ≡ map updated pieces.items) }
-    ensures share { IfOk result (λ r. (entries : List Entry) × AreEntriesOf r.0.items entries
-        × (r.1 ≡ part most_parts (plus share.numbers (sums_of entries)))) }
+    ensures share { IfOk result (λ r. HasEntered r.0.items share r.1) }
     ensures fault { IfErr result (GivesBack pieces share) }
 {
     let Ok(buffers) = make_buffers::<D, U, E, O>(alloc, pieces.len(), workers) else {
@@ -82,13 +73,7 @@ fn pool<
 /// workers, 1 to 64, do it in threads of their own, no more than there are pieces, and take what is left in the deques
 /// of others once their own are empty. It gives the pieces in the order of their numbers, whatever the threads do, and
 /// the share. An `Err` says that memory was refused.
-pub fn update_all<
-    U: Ledger + Send,
-    E: Ledger + Send,
-    O: Ledger + Send,
-    R: Threads + Wait + Sync,
-    G: Gate,
->(
+pub fn update_all<U: Ledger + Send, E: Ledger + Send, O: Ledger + Send, R: Runtime, G: Gate>(
     rt: &R,
     alloc: Global,
     pieces: Vec<PodPiece>,
@@ -106,8 +91,7 @@ pub fn update_all<
     requires level { (U.parts ≡ most_parts) × (E.parts ≡ most_parts) × (O.parts ≡ most_parts) }
     requires low { AreLow share.numbers }
     ensures pieces { IfOk result (λ r. r.0.items ≡ map updated pieces.items) }
-    ensures share { IfOk result (λ r. (entries : List Entry) × AreEntriesOf r.0.items entries
-        × (r.1 ≡ part most_parts (plus share.numbers (sums_of entries)))) }
+    ensures share { IfOk result (λ r. HasEntered r.0.items share r.1) }
     ensures fault { IfErr result (GivesBack pieces share) }
 {
     let workers = busy(workers, pieces.len());

@@ -3,13 +3,13 @@
 ghost use Rattle.std.specs.Prelude.{◌≡◌, ◌<◌, None, All, length, map};
 ghost use Rattle.pool_worker.specs.Contexts.{context_tag, HasEmptied};
 
+use crate::runtime::Runtime;
 use event_book::EventBook;
 use piece_deques::Deal;
 use pool_worker::{Gate, WorkerContext};
+use std::sync::Mutex;
 use std::sync::ledger::Ledger;
-use std::sync::{Mutex, Wait};
 use std::thread;
-use std::thread::Threads;
 
 /// Runs a worker for each context, in as many threads, which come from halving the range of workers. Where the system
 /// starts fewer threads, those that run do the rest. Each ends when it has found every deque empty, or where an update
@@ -19,7 +19,7 @@ pub(crate) fn run<
     U: Ledger + Send,
     E: Ledger + Send,
     O: Ledger + Send,
-    R: Threads + Wait + Sync,
+    R: Runtime,
     G: Gate,
 >(rt: &R, book: &Mutex<EventBook<U, E, O>>, gate: &G, contexts: &mut [WorkerContext<D, U, E, O>])
     requires { 0 < length contexts.old }

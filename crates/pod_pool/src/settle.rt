@@ -1,15 +1,15 @@
 //! The end of a round: pieces that the book had no room for are entered, and all pieces are put in order.
 
-ghost use Rattle.std.specs.Prelude.{◌≡◌, ◌≤◌, ◌+◌, ℕ, List, None, length, map, vec_capacity};
+ghost use Rattle.std.specs.Prelude.{◌≡◌, ◌≤◌, ◌+◌, ℕ, List, None, length, vec_capacity};
 ghost use Rattle.observations.specs.Limits.{most_pods};
-ghost use Rattle.pod_piece.specs.Piece.{updated};
 ghost use Rattle.event_book.specs.declared.totals.Entry.{Entry};
-ghost use Rattle.event_book.specs.Totals.{AreEntriesOf, plus, sums_of};
-ghost use Rattle.event_book.specs.Shares.{most_parts, part};
+ghost use Rattle.event_book.specs.Totals.{AreEntriesOf};
+ghost use Rattle.event_book.specs.Shares.{most_parts};
 ghost use Rattle.event_book.specs.Limits.{AreLow};
 ghost use Rattle.piece_deques.specs.Rule.{AreNumbered};
 ghost use Rattle.pool_worker.specs.Done.{weigh};
 ghost use Rattle.pool_worker.specs.WorkerResults.{kept};
+ghost use Rattle.pod_pool.specs.Order.{IsRoundDone};
 
 use event_book::{Entry, EventBook, Shares};
 use piece_deques::Deal;
@@ -42,9 +42,7 @@ pub(crate) fn settle<D: Deal, U: Ledger, E: Ledger, O: Ledger, R: Wait>(
     requires level { (U.parts ≡ most_parts) × (E.parts ≡ most_parts) × (O.parts ≡ most_parts) }
     requires whole { share.parts + total.share.parts ≡ most_parts }
     requires low { AreLow share.numbers }
-    ensures pieces { result.0.items ≡ map updated D.all }
-    ensures share { (entries : List Entry) × AreEntriesOf result.0.items entries
-        × (result.1 ≡ part most_parts (plus share.numbers (sums_of entries))) }
+    ensures { IsRoundDone D.all share result.0.items result.1 }
 {
     let WorkerResult {
         done,

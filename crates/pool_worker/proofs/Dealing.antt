@@ -15,7 +15,7 @@ use Rattle.piece_deques.specs.declared.rule.Tally.{Tally}
 use Rattle.piece_deques.specs.Rule.{number_of}
 use Rattle.piece_deques.specs.Ends.{pushed_weight}
 use Rattle.piece_deques.proofs.Lists.{ones, map_map}
-use Rattle.pool_worker.specs.Seats.{Place, owner_place}
+use Rattle.pool_worker.specs.Permits.{Place, owner_place}
 use Rattle.pool_worker.specs.Dealing.{give, deal, pushed_of, dealt_to, DealtByRemainder}
 
 -- an item whose list has the number more, in the place of the one that the number names

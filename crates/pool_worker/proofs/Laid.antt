@@ -7,7 +7,7 @@ use Rattle.piece_deques.proofs.Lists.{all_unmap, map_map}
 use Rattle.pool_worker.specs.declared.context.WorkerContext.{WorkerContext}
 use Rattle.pool_worker.specs.Done.{weigh}
 use Rattle.pool_worker.specs.Dealing.{dealt_to}
-use Rattle.pool_worker.specs.Seats.{Place, places_weigh}
+use Rattle.pool_worker.specs.Permits.{Place, places_weigh}
 use Rattle.pool_worker.specs.Contexts.{Tag, context_place, context_tag, places_in, IsLaid, AreLaid}
 
 module _ {D U E O : Type 0} {g : _} where

@@ -1,6 +1,6 @@
 -- Owners and the places of their deques.
 use Rattle.std.proofs.Common.{◌≡◌, ℕ, ◌+◌, ◌<◌, List, [], ◌∷◌, ◌++◌, map, length, get_or, take, drop, reverse}
-use Rattle.std.proofs.Common.{append_assoc, sym, refl, ap, subst, ◌∙◌, arith}
+use Rattle.std.proofs.Common.{append_assoc, All, sym, refl, ap, subst, ◌∙◌, arith}
 use Rattle.std.specs.List.{sum_by}
 use Rattle.std.specs.Global.{Global}
 use Rattle.std.proofs.lemmas.List.{reverse-append, same_from_push}
@@ -13,10 +13,12 @@ use Rattle.crossbeam_deque.proofs.Lists.{at_last, at_longer}
 use Rattle.histories.proofs.Lists.{map_more}
 use Rattle.piece_deques.specs.declared.rule.Tally.{Tally}
 use Rattle.piece_deques.specs.Ends.{pushed_weight}
-use Rattle.piece_deques.proofs.Lists.{drop_map_more, map_same, ones, sum_map, sum_same}
+use Rattle.piece_deques.proofs.Lists.{drop_map_more, last, map_same, ones, sum_map, sum_same}
 use Rattle.piece_deques.proofs.Lists.{take_map_more}
 use Rattle.pool_worker.specs.declared.handle.StealHandle.{StealHandle}
-use Rattle.pool_worker.specs.Seats.{Place, owner_place, seat_place, places_len, pushed_to}
+use Rattle.pool_worker.specs.declared.slot.DealtSlot.{DealtSlot}
+use Rattle.pool_worker.specs.Permits.{Place, owner_place, permit_place, places_len, pushed_to}
+use Rattle.pool_worker.specs.Slots.{IsDealtSlot}
 
 module _ {T P : Type 0} where
   pub same_deques : (xs ys : List (Worker T Global Tally P)) → map owner_place xs ≡ map owner_place ys
@@ -39,9 +41,17 @@ module _ {T P : Type 0} where
         sum_by-cons (pushed_weight (λ _. 1)) x xs,
       )
 
-pub row_pushed : {D : Type 0} (row : List (StealHandle D)) (places : List Place) → map seat_place row ≡ places
+-- the last slot is dealt over the places of all owners, as each is
+pub next_slot : {T P D : Type 0} (owners : List (Worker T Global Tally P)) (slots rest : List (DealtSlot D))
+    (slot : DealtSlot D) → slots ≡ rest ++ slot ∷ []
+    → All (IsDealtSlot (sum_by (pushed_weight (λ _. 1)) owners) (map owner_place owners)) slots
+    → IsDealtSlot (sum_by (pushed_weight (λ _. 1)) owners) (map owner_place owners) slot
+next_slot owners slots rest slot put dealt =
+    last (IsDealtSlot (sum_by (pushed_weight (λ _. 1)) owners) (map owner_place owners)) slots rest slot put dealt
+
+pub row_pushed : {D : Type 0} (row : List (StealHandle D)) (places : List Place) → map permit_place row ≡ places
     → pushed_to row ≡ places_len places
-row_pushed row places e = sym (sum_map seat_place (λ (p : Place). length p.pushed) row) ∙ ap places_len e
+row_pushed row places e = sym (sum_map permit_place (λ (p : Place). length p.pushed) row) ∙ ap places_len e
 
 module _ {X Y Z : Type 0} (f : X → Z) (g : Y → Z) (ys : List Y) (y : Y) (n at : ℕ) (next : n ≡ at + 1)
     (in' : at < length ys) (was : y ≡ get_or ys at y) where
@@ -54,10 +64,10 @@ module _ {X Y Z : Type 0} (f : X → Z) (g : Y → Z) (ys : List Y) (y : Y) (n a
       ∙ (ap (map f) (sym row)
       ∙ (same ∙ (ap (λ k. take k (map g ys)) next ∙ take_map_more g ys at y in' was))))
 
-  -- a seat more at the front of the places
-  pub seated : (xs new : List X) (x : X) → new ≡ xs ++ x ∷ [] → reverse (map f xs) ≡ drop n (map g ys) → f x ≡ g y
+  -- a permit more at the front of the places
+  pub granted : (xs new : List X) (x : X) → new ≡ xs ++ x ∷ [] → reverse (map f xs) ≡ drop n (map g ys) → f x ≡ g y
       → reverse (map f new) ≡ drop at (map g ys)
-  seated xs new x put same fits =
+  granted xs new x put same fits =
       ap (λ l. reverse (map f l)) put
       ∙ (ap reverse (map_more f xs x)
       ∙ (reverse-append (map f xs) (f x ∷ [])

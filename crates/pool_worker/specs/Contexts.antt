@@ -1,5 +1,5 @@
 -- What stays the same of a context while its worker runs, and what is said of all contexts by it.
-use Rattle.std.specs.Prelude.{◌≡◌, ℕ, ◌+◌, List, All, length, map}
+use Rattle.std.specs.Prelude.{◌≡◌, ℕ, ◌+◌, List, All, length, map, vec_len}
 use Rattle.std.specs.Global.{Global}
 use Rattle.crossbeam_deque.specs.Handles.{worker_view}
 use Rattle.crossbeam_deque.specs.declared.handles.Worker.{Worker}
@@ -8,37 +8,43 @@ use Rattle.piece_deques.specs.declared.rule.Tally.{Tally}
 use Rattle.piece_deques.specs.Rule.{all_parts, FoundEmpty}
 use Rattle.pool_worker.specs.declared.handle.StealHandle.{StealHandle}
 use Rattle.pool_worker.specs.declared.context.WorkerContext.{WorkerContext}
-use Rattle.pool_worker.specs.Seats.{Place, seat_place, owner_place, places_weigh, FoundAllEmpty}
+use Rattle.pool_worker.specs.Permits.{Place, permit_place, owner_place, places_weigh, FoundAllEmpty}
 use Rattle.pool_worker.specs.Dealing.{dealt_to}
 use Rattle.pool_worker.specs.Done.{weigh}
 
--- the deque of the owner and what was pushed to it, the owner's parts, the deques of the seats, and the parts of the
+-- the deque of the owner and what was pushed to it, the owner's parts, the deques of the permits, and the parts of the
 -- share
 pub record Tag : Type 0 where
   pub place : Place
   pub parts : ℕ
-  pub seats : List Place
+  pub permits : List Place
   pub share : ℕ
 
 abbrev pub tag : Place → ℕ → List Place → ℕ → Tag
-tag place parts seats share = record { place = place; parts = parts; seats = seats; share = share }
+tag place parts permits share = record { place = place; parts = parts; permits = permits; share = share }
 
 abbrev pub tag_of : {T P D : Type 0} → Worker T Global Tally P → List (StealHandle D) → ℕ → Tag
-tag_of owner handles share = tag (owner_place owner) (worker_view owner).parts (map seat_place handles) share
+tag_of owner handles share = tag (owner_place owner) (worker_view owner).parts (map permit_place handles) share
 
 abbrev pub context_tag : {D U E O : Type 0} {g : _} → WorkerContext D U E O g → Tag
 context_tag context = tag_of context.owner context.handles.items context.worker_result.share.parts
 
--- this many seats of the deque are away, and the context has a seat of each of these deques and a part of the share
+-- the worker's tag, the place of its own deque and the number of its permits are as they were
+pub record IsSameWorker {D U E O : Type 0} {g : _} (old new : WorkerContext D U E O g) : Type 0 where
+  pub tag_is : context_tag new ≡ context_tag old
+  pub own : new.own ≡ old.own
+  pub count : vec_len new.handles ≡ vec_len old.handles
+
+-- this many permits of the deque are away, and the context has a permit of each of these deques and a part of the share
 pub record IsLaid (away : ℕ) (places : List Place) (t : Tag) : Type 0 where
   pub parts : t.parts + away ≡ all_parts
-  pub seats : t.seats ≡ places
+  pub permits : t.permits ≡ places
   pub share : t.share ≡ 1
 
 abbrev pub places_in : List Tag → List Place
 places_in tags = map (λ (t : Tag). t.place) tags
 
--- the contexts with these tags have a seat of each deque each, and these pieces were dealt to the deques by the rule:
+-- the contexts with these tags have a permit of each deque each, and these pieces were dealt to the deques by the rule:
 -- once each, so that their numbers add up to the same, however they are weighed
 pub record AreLaid (pieces : List Piece) (tags : List Tag) : Type 0 where
   pub each : All (IsLaid (length tags) (places_in tags)) tags
@@ -49,7 +55,7 @@ pub record AreLaid (pieces : List Piece) (tags : List Tag) : Type 0 where
 abbrev pub context_place : {D U E O : Type 0} {g : _} → WorkerContext D U E O g → Place
 context_place context = owner_place context.owner
 
--- its owner has found its deque empty, and so has each of its seats of another deque
+-- its owner has found its deque empty, and so has each of its permits of another deque
 pub record HasEmptied {D U E O : Type 0} {g : _} (all : List Piece) (context : WorkerContext D U E O g) : Type 0 where
   pub own : FoundEmpty all (worker_view context.owner)
   pub others : FoundAllEmpty all context.own (length context.handles.items) context.handles.items

@@ -1,6 +1,6 @@
 pub mod Done
 pub mod WorkerResults
 pub mod Dealing
-pub mod Seats
+pub mod Permits
 pub mod Contexts
 pub mod Slots

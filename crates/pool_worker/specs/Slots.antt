@@ -8,18 +8,18 @@ use Rattle.crossbeam_deque.specs.declared.handles.Worker.{Worker}
 use Rattle.piece_deques.specs.declared.rule.Tally.{Tally}
 use Rattle.piece_deques.specs.Rule.{all_parts}
 use Rattle.piece_deques.specs.Ends.{IsOwner, IsOpen, pushed_weight}
-use Rattle.pool_worker.specs.Seats.{Place, seat_place}
+use Rattle.pool_worker.specs.Permits.{Place, permit_place}
 use Rattle.pool_worker.specs.declared.slot.WorkerSlot.{WorkerSlot}
 use Rattle.pool_worker.specs.declared.slot.DealtSlot.{DealtSlot}
 use Rattle.pool_worker.specs.declared.slot.RoundBuffers.{RoundBuffers}
 
--- an owner of whose deque this many seats are away, and which has taken nothing
+-- an owner of whose deque this many permits are away, and which has taken nothing
 pub record IsHost {T P : Type 0} (away : ℕ) (owner : Worker T Global Tally P) : Type 0 where
   pub is_owner : IsOwner owner
   pub parts : (worker_view owner).parts + away ≡ all_parts
   pub none : (worker_view owner).taken ≡ []
 
--- an owner that can give a seat away and keep a part
+-- an owner that can give a permit away and keep a part
 abbrev pub IsRich : {T P : Type 0} → Worker T Global Tally P → Type 0
 IsRich owner = 1 < (worker_view owner).parts
 
@@ -28,9 +28,9 @@ pub record IsSlot {D : Type 0} (room : ℕ) (deques : List (RowsId × Global)) (
   pub thieves : map stealer_deque slot.thieves.items ≡ deques
   pub room_is : room ≤ vec_capacity slot.done
 
--- the seats are at these places, in their order, and the slot has room for this many pieces
+-- the permits are at these places, in their order, and the slot has room for this many pieces
 pub record IsDealtSlot {D : Type 0} (room : ℕ) (places : List Place) (dealt_slot : DealtSlot D) : Type 0 where
-  pub seats : map seat_place dealt_slot.handles.items ≡ places
+  pub permits : map permit_place dealt_slot.handles.items ≡ places
   pub room_is : room ≤ vec_capacity dealt_slot.done
 
 -- the deques are empty, and all has room for this many pieces

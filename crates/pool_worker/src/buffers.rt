@@ -5,7 +5,7 @@ ghost use Rattle.std.specs.List.{sum_by};
 ghost use Rattle.crossbeam_deque.specs.Handles.{worker_deque, stealer_deque};
 ghost use Rattle.observations.specs.Limits.{most_pods};
 ghost use Rattle.piece_deques.specs.Ends.{IsOwner, IsOpen, pushed_weight};
-ghost use Rattle.pool_worker.specs.Seats.{IsInOrder};
+ghost use Rattle.pool_worker.specs.Permits.{IsInOrder};
 ghost use Rattle.pool_worker.specs.Slots.{IsSlot, AreBuffers};
 
 use crate::context::WorkerContext;

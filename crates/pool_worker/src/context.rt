@@ -5,15 +5,15 @@ ghost use Rattle.std.specs.List.{sum_by};
 ghost use Rattle.crossbeam_deque.specs.Handles.{worker_view};
 ghost use Rattle.piece_deques.specs.Ends.{IsOwner};
 ghost use Rattle.pool_worker.specs.WorkerResults.{kept};
-ghost use Rattle.pool_worker.specs.Seats.{owner_place, pushed_to, taken_by, IsUnused};
+ghost use Rattle.pool_worker.specs.Permits.{owner_place, pushed_to, taken_by, IsUnused};
 
 use crate::handle::StealHandle;
 use crate::worker_result::WorkerResult;
 use piece_deques::{Deal, Owner};
 use std::sync::ledger::Ledger;
 
-/// The owner's end of a deque, the place of that deque among all, a seat of each deque in their order, and what the
-/// worker keeps: the pieces that it took, once each. By the seat of its own deque nothing is taken.
+/// The owner's end of a deque, the place of that deque among all, a permit of each deque in their order, and what the
+/// worker keeps: the pieces that it took, once each. By the permit of its own deque nothing is taken.
 #[derive(Drop)]
 pub struct WorkerContext<D: Deal, U: Ledger, E: Ledger, O: Ledger> {
     pub owner: Owner<D>,

@@ -9,13 +9,13 @@ ghost use Rattle.observations.specs.Limits.{most_pods};
 ghost use Rattle.event_book.specs.Shares.{most_parts};
 ghost use Rattle.piece_deques.specs.Rule.{IsPieceDue};
 ghost use Rattle.piece_deques.specs.Ends.{IsOwner, pushed_weight};
-ghost use Rattle.pool_worker.specs.Seats.{owner_place, seat_place, pushed_to};
+ghost use Rattle.pool_worker.specs.Permits.{owner_place, permit_place, pushed_to};
 ghost use Rattle.pool_worker.specs.Contexts.{tag_of, context_place, context_tag, IsLaid, AreLaid};
 ghost use Rattle.pool_worker.specs.Slots.{IsHost, IsDealtSlot, AreBuffers};
 
 use crate::context::WorkerContext;
 use crate::deal::deal;
-use crate::seats::seat_all;
+use crate::permits::permit_all;
 use crate::slot::{DealtSlot, RoundBuffers};
 use event_book::Shares;
 use piece_deques::{Deal, Owner};
@@ -31,7 +31,7 @@ fn make_context<D: Deal, U: Ledger, E: Ledger, O: Ledger>(
 ) -> WorkerContext<D, U, E, O>
     requires owner { IsOwner owner }
     requires none { (worker_view owner).taken ≡ [] }
-    requires own { get_elem? (map seat_place dealt_slot.handles.items) own ≡ some (owner_place owner) }
+    requires own { get_elem? (map permit_place dealt_slot.handles.items) own ≡ some (owner_place owner) }
     requires room { pushed_to dealt_slot.handles.items ≤ vec_capacity dealt_slot.done }
     requires share { 1 < share.old.parts }
     ensures tag { context_tag result ≡ tag_of owner dealt_slot.handles.items 1 }
@@ -80,7 +80,7 @@ fn make_contexts<D: Deal, U: Ledger, E: Ledger, O: Ledger>(
     }
 }
 
-/// Deals the pieces, the seats and the share: a context for each worker. It takes no memory.
+/// Deals the pieces, the permits and the share: a context for each worker. It takes no memory.
 pub fn lay_out<D: Deal, U: Ledger, E: Ledger, O: Ledger>(
     buffers: RoundBuffers<D, U, E, O>,
     pieces: Vec<PodPiece>,
@@ -107,7 +107,7 @@ pub fn lay_out<D: Deal, U: Ledger, E: Ledger, O: Ledger>(
     let mut dealt_slots = dealt_slots;
     let mut contexts = contexts;
     deal(&mut owners, pieces);
-    seat_all(&mut owners, slots, &mut dealt_slots);
+    permit_all(&mut owners, slots, &mut dealt_slots);
     make_contexts(owners, dealt_slots, share, &mut contexts);
     contexts
 }

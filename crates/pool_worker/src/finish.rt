@@ -6,7 +6,7 @@ ghost use Rattle.event_book.specs.Totals.{nothing, plus};
 ghost use Rattle.event_book.specs.Shares.{part, one_update};
 ghost use Rattle.piece_deques.specs.Rule.{IsPieceDue};
 ghost use Rattle.pool_worker.specs.Done.{IsDone};
-ghost use Rattle.pool_worker.specs.WorkerResults.{kept, HasRoomForOne, HasRoomFor};
+ghost use Rattle.pool_worker.specs.WorkerResults.{kept, KeepsOneMore, HasRoomForOne, HasRoomFor};
 
 use crate::gate::{Gate, update};
 use crate::worker_result::WorkerResult;
@@ -69,10 +69,7 @@ impl<D: Deal, U: Ledger, E: Ledger, O: Ledger> WorkerResult<D, U, E, O> {
         requires err { OnErr updated (IsPieceDue D.all piece) }
         requires none { self.old.refused ≡ None }
         requires room { HasRoomForOne self.old }
-        ensures kept { (weight : ℕ → ℕ) → kept weight self.new ≡ kept weight self.old + weight piece.number }
-        ensures room { vec_capacity self.new.done ≡ vec_capacity self.old.done }
-        ensures room_uncounted { vec_capacity self.new.uncounted ≡ vec_capacity self.old.uncounted }
-        ensures parts { self.new.share.parts ≡ self.old.share.parts }
+        ensures keeps { KeepsOneMore piece self.old self.new }
         ensures updated { result ≡ is_ok updated }
         ensures refused { self.new.refused ≡ (if is_ok updated then None else Some piece) }
     {
@@ -104,10 +101,7 @@ impl<D: Deal, U: Ledger, E: Ledger, O: Ledger> WorkerResult<D, U, E, O> {
         requires due { IsPieceDue D.all piece }
         requires none { self.old.refused ≡ None }
         requires room { HasRoomForOne self.old }
-        ensures kept { (weight : ℕ → ℕ) → kept weight self.new ≡ kept weight self.old + weight piece.number }
-        ensures room { vec_capacity self.new.done ≡ vec_capacity self.old.done }
-        ensures room_uncounted { vec_capacity self.new.uncounted ≡ vec_capacity self.old.uncounted }
-        ensures parts { self.new.share.parts ≡ self.old.share.parts }
+        ensures keeps { KeepsOneMore piece self.old self.new }
         ensures more { result ≡ true → self.new.refused ≡ None }
         ensures last { self.new.refused ≡ None → result ≡ true }
         ensures refused { self.new.refused ≡ (if result then None else Some piece) }

@@ -1,4 +1,4 @@
-//! What each worker of a pool is dealt, a deque of pieces of its own with a seat at each deque, and what it does: it
+//! What each worker of a pool is dealt, a deque of pieces of its own with a permit at each deque, and what it does: it
 //! takes pieces from its own deque and from those of others, updates them, enters them in the book, and keeps them; and
 //! the order of these pieces when all are done. All memory for it is taken before the first piece is dealt.
 #![tactic(auto)]
@@ -12,7 +12,7 @@ mod gate;
 mod handle;
 pub mod laws;
 mod order;
-mod seats;
+mod permits;
 mod slot;
 mod work;
 mod worker_result;

@@ -1,7 +1,7 @@
 //! What is made ready before a piece is dealt.
 
 ghost use Rattle.std.specs.Prelude.{◌≡◌, ◌≤◌, ℕ, [], All, vec_len, vec_capacity};
-ghost use Rattle.pool_worker.specs.Seats.{taken_by, IsInOrder};
+ghost use Rattle.pool_worker.specs.Permits.{taken_by, IsInOrder};
 
 use crate::context::WorkerContext;
 use crate::handle::StealHandle;
@@ -24,7 +24,7 @@ pub(crate) struct WorkerSlot<D: Deal> {
     pub ghost room_uncounted: { vec_capacity uncounted ≡ vec_capacity done },
 }
 
-/// The same with a seat of each deque, by which nothing was taken yet.
+/// The same with a permit of each deque, by which nothing was taken yet.
 #[derive(Drop)]
 pub(crate) struct DealtSlot<D: Deal> {
     pub(crate) handles: Vec<StealHandle<D>>,

@@ -1,6 +1,6 @@
 //! Which pod has a key.
 
-ghost use Rattle.std.specs.Prelude.{◌≡◌, ℕ, length, Some, None, OnOk, string_bytes};
+ghost use Rattle.std.specs.Prelude.{◌≡◌, ℕ, length, Some, None, IsTrue, IsFalse, OnOk, string_bytes};
 ghost use Rattle.lists.specs.Names.{place_of};
 ghost use Rattle.roster.specs.Holders.{holder_of, HasHeld};
 
@@ -16,14 +16,28 @@ pub(crate) fn holder_of(keys: &NameList, holders: &[Option<usize>], key: &str) -
     *holder
 }
 
+/// Sets of which pod a key is that was mentioned before, and says whether it was. It takes no memory.
+fn set(keys: &NameList, holders: &mut Vec<Option<usize>>, key: &str, pod: Option<usize>) -> bool
+    requires { length holders.old.items ≡ length keys.now }
+    ensures set { IsTrue result → HasHeld keys.now holders.old.items key.now pod keys.now holders.new.items }
+    ensures new { IsFalse result → place_of keys.now key.now ≡ None }
+    ensures same { IsFalse result → holders.new.items ≡ holders.old.items }
+{
+    match keys.number_of(key) {
+        Some(place) => {
+            holders[place] = pod;
+            true
+        }
+        None => false,
+    }
+}
+
 /// The key is of no pod any more. It takes no memory.
-pub(crate) fn give_up(keys: &NameList, holders: &mut Vec<Option<usize>>, key: &str)
+pub(crate) fn release(keys: &NameList, holders: &mut Vec<Option<usize>>, key: &str)
     requires { length holders.old.items ≡ length keys.now }
     ensures { HasHeld keys.now holders.old.items key.now None keys.now holders.new.items }
 {
-    if let Some(place) = keys.number_of(key) {
-        holders[place] = None;
-    }
+    let _was_mentioned = set(keys, holders, key, None);
 }
 
 /// The key is of the pod with the number.
@@ -37,12 +51,9 @@ pub(crate) fn hold(
     ensures { OnOk result
         (HasHeld keys.old holders.old.items (string_bytes key) (Some number) keys.new holders.new.items) }
 {
-    match keys.number_of(key.as_str()) {
-        Some(place) => holders[place] = Some(number),
-        None => {
-            keys.push(key)?;
-            holders.push(Some(number))?;
-        }
+    if !set(keys, holders, key.as_str(), Some(number)) {
+        keys.push(key)?;
+        holders.push(Some(number))?;
     }
     Ok(())
 }

@@ -3,7 +3,7 @@
 ghost use Rattle.std.specs.Prelude.{◌≡◌, ◌++◌, ◌∷◌, [], ℕ, ◌<◌, length, Some, None, IfOk, OnOk, string_bytes};
 ghost use Rattle.roster.specs.Roll.{nothing, key_of_pod, number_of, is_present, with_pod, without};
 
-use crate::hold::{give_up, hold, holder_of};
+use crate::hold::{hold, holder_of, release};
 use lists::{NameList, Sequence};
 use manifest::PodSpec;
 use std::alloc::{AllocError, Global};
@@ -125,7 +125,7 @@ impl Roster {
         requires { number_of self.old key.now ≡ Some number }
         ensures { self.new ≡ without self.old number ticks }
     {
-        give_up(&self.keys, &mut self.holders, key);
+        release(&self.keys, &mut self.holders, key);
         self.departures[number] = Some(ticks);
     }
 

@@ -95,12 +95,33 @@ module _ {round : List Entry} {amount : WorkerState → ℕ} {carried : ℕ → 
 
 -- Every piece keeps its weight, wherever it stands.
 
+-- what a worker has in its hand goes to its finished pieces, however a hand is counted that counts what is updated
+
+module _ (round : List Entry) (weight : ℕ → ℕ) (of_hand : Hand → ℕ) (none : of_hand Empty ≡ 0)
+    (updated : (piece : ℕ) → of_hand (Updated piece) ≡ weight piece) where
+  finishing_sum : (worker : WorkerState) (hand : Hand) → worker.hand ≡ hand
+      → of_hand (finishing round worker hand).hand + sum_by weight (finishing round worker hand).finished
+      ≡ of_hand worker.hand + sum_by weight worker.finished
+  finishing_sum worker Empty holds = refl
+  finishing_sum worker (Taken piece) holds = refl
+  finishing_sum worker (Updated piece) holds =
+      let is_held = ap of_hand holds in
+      let push = sum_by_push weight worker.finished piece in
+      let count = updated piece in
+      omega (arith, none)
+
+finishing_deque : (round : List Entry) (worker : WorkerState) (hand : Hand)
+    → (finishing round worker hand).deque ≡ worker.deque
+finishing_deque round worker Empty = refl
+finishing_deque round worker (Taken piece) = refl
+finishing_deque round worker (Updated piece) = refl
+
 finishing_weight : (round : List Entry) (weight : ℕ → ℕ) (worker : WorkerState) (hand : Hand) → worker.hand ≡ hand
     → worker_weight weight (finishing round worker hand) ≡ worker_weight weight worker
-finishing_weight round weight worker Empty holds = refl
-finishing_weight round weight worker (Taken piece) holds = refl
-finishing_weight round weight worker (Updated piece) holds =
-    let is_held = ap (held weight) holds in let push = sum_by_push weight worker.finished piece in omega arith
+finishing_weight round weight worker hand holds =
+    let sum = finishing_sum round weight (held weight) refl (λ _. refl) worker hand holds in
+    let deque = ap (sum_by weight) (finishing_deque round worker hand) in
+    omega arith
 
 marked_weight : (weight : ℕ → ℕ) (hand : Hand) → held weight (marked hand) ≡ held weight hand
 marked_weight weight Empty = refl
@@ -128,10 +149,7 @@ marked_of weight worker = held_updated weight worker.hand + sum_by weight worker
 
 finishing_marks : (round : List Entry) (weight : ℕ → ℕ) (worker : WorkerState) (hand : Hand) → worker.hand ≡ hand
     → marked_of weight (finishing round worker hand) ≡ marked_of weight worker
-finishing_marks round weight worker Empty holds = refl
-finishing_marks round weight worker (Taken piece) holds = refl
-finishing_marks round weight worker (Updated piece) holds =
-    let is_held = ap (held_updated weight) holds in let push = sum_by_push weight worker.finished piece in omega arith
+finishing_marks round weight = finishing_sum round weight (held_updated weight) refl (λ _. refl)
 
 marked_marks : (weight : ℕ → ℕ) (hand : Hand)
     → held_updated weight (marked hand) ≡ held_updated weight hand + sum_by weight (waiting hand)

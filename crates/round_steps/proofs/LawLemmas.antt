@@ -1,5 +1,5 @@
 -- The laws of a steps file.
-use Rattle.std.proofs.Common.{◌≡◌, ◌<◌, ℕ, List, [], ◌∷◌, ◌++◌, length, filter}
+use Rattle.std.proofs.Common.{◌≡◌, ◌≢◌, ◌<◌, ℕ, List, [], ◌∷◌, ◌++◌, length, filter}
 use Rattle.std.proofs.Common.{◌∙◌, refl, ap, sym, subst, arith, ap₂, inl, inr, codes}
 use Rattle.std.proofs.lemmas.List.Elements.{filter-append}
 use Rattle.std.proofs.lemmas.Bool.{cases_order}
@@ -13,39 +13,31 @@ use Rattle.round_steps.proofs.InOrder.{counted_first}
 use Rattle.round_steps.proofs.Numbers.{one_number, one_pair}
 use Rattle.round_steps.proofs.Words.{apart, same_rest}
 
+-- no line begins with two bytes
+other : {C : Type 0} (line : List ℕ) (v w : ℕ) (vs ws : List ℕ) → v ≢ w → line ≡ v ∷ vs → line ≡ w ∷ ws → C
+other line v w vs ws differ is so = absurd (apart line v w vs ws differ is so)
+
 -- a line spells one step at most
 pub one_spelling : OneSpelling
 one_spelling line _ _ (spells_pop r w is names) (spells_pop r' w' so names') =
     ap Pop (one_number r w w' names (same_rest (λ x. Names x w') (codes "pop ") line r r' is so names'))
-one_spelling line _ _ (spells_pop r w is names) (spells_steal r' t' o' so both') =
-    absurd (apart line 112 115 _ _ (omega arith) is so)
-one_spelling line _ _ (spells_pop r w is names) (spells_update r' w' so names') =
-    absurd (apart line 112 117 _ _ (omega arith) is so)
-one_spelling line _ _ (spells_pop r w is names) (spells_enter r' w' so names') =
-    absurd (apart line 112 101 _ _ (omega arith) is so)
-one_spelling line _ _ (spells_steal r t o is both) (spells_pop r' w' so names') =
-    absurd (apart line 115 112 _ _ (omega arith) is so)
+one_spelling line _ _ (spells_pop _ _ is _) (spells_steal _ _ _ so _) = other line 112 115 _ _ (omega arith) is so
+one_spelling line _ _ (spells_pop _ _ is _) (spells_update _ _ so _) = other line 112 117 _ _ (omega arith) is so
+one_spelling line _ _ (spells_pop _ _ is _) (spells_enter _ _ so _) = other line 112 101 _ _ (omega arith) is so
+one_spelling line _ _ (spells_steal _ _ _ is _) (spells_pop _ _ so _) = other line 115 112 _ _ (omega arith) is so
 one_spelling line _ _ (spells_steal r t o is both) (spells_steal r' t' o' so both') =
     let pair = one_pair r t o t' o' both (same_rest (λ x. NamesBoth x t' o') (codes "steal ") line r r' is so both') in
     ap₂ Steal pair.0 pair.1
-one_spelling line _ _ (spells_steal r t o is both) (spells_update r' w' so names') =
-    absurd (apart line 115 117 _ _ (omega arith) is so)
-one_spelling line _ _ (spells_steal r t o is both) (spells_enter r' w' so names') =
-    absurd (apart line 115 101 _ _ (omega arith) is so)
-one_spelling line _ _ (spells_update r w is names) (spells_pop r' w' so names') =
-    absurd (apart line 117 112 _ _ (omega arith) is so)
-one_spelling line _ _ (spells_update r w is names) (spells_steal r' t' o' so both') =
-    absurd (apart line 117 115 _ _ (omega arith) is so)
+one_spelling line _ _ (spells_steal _ _ _ is _) (spells_update _ _ so _) = other line 115 117 _ _ (omega arith) is so
+one_spelling line _ _ (spells_steal _ _ _ is _) (spells_enter _ _ so _) = other line 115 101 _ _ (omega arith) is so
+one_spelling line _ _ (spells_update _ _ is _) (spells_pop _ _ so _) = other line 117 112 _ _ (omega arith) is so
+one_spelling line _ _ (spells_update _ _ is _) (spells_steal _ _ _ so _) = other line 117 115 _ _ (omega arith) is so
 one_spelling line _ _ (spells_update r w is names) (spells_update r' w' so names') =
     ap Update (one_number r w w' names (same_rest (λ x. Names x w') (codes "update ") line r r' is so names'))
-one_spelling line _ _ (spells_update r w is names) (spells_enter r' w' so names') =
-    absurd (apart line 117 101 _ _ (omega arith) is so)
-one_spelling line _ _ (spells_enter r w is names) (spells_pop r' w' so names') =
-    absurd (apart line 101 112 _ _ (omega arith) is so)
-one_spelling line _ _ (spells_enter r w is names) (spells_steal r' t' o' so both') =
-    absurd (apart line 101 115 _ _ (omega arith) is so)
-one_spelling line _ _ (spells_enter r w is names) (spells_update r' w' so names') =
-    absurd (apart line 101 117 _ _ (omega arith) is so)
+one_spelling line _ _ (spells_update _ _ is _) (spells_enter _ _ so _) = other line 117 101 _ _ (omega arith) is so
+one_spelling line _ _ (spells_enter _ _ is _) (spells_pop _ _ so _) = other line 101 112 _ _ (omega arith) is so
+one_spelling line _ _ (spells_enter _ _ is _) (spells_steal _ _ _ so _) = other line 101 115 _ _ (omega arith) is so
+one_spelling line _ _ (spells_enter _ _ is _) (spells_update _ _ so _) = other line 101 117 _ _ (omega arith) is so
 one_spelling line _ _ (spells_enter r w is names) (spells_enter r' w' so names') =
     ap Enter (one_number r w w' names (same_rest (λ x. Names x w') (codes "enter ") line r r' is so names'))
 

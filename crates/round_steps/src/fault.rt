@@ -2,7 +2,6 @@
 
 ghost use Rattle.std.specs.Prelude.{◌≡◌, IfOk, string_bytes};
 ghost use Rattle.round_steps.specs.Fault.{status, line_of};
-ghost use Rattle.round_steps.specs.declared.fault.StepsFault.TheVariants.{OutOfMemory};
 
 use std::alloc::{AllocError, Global};
 use thiserror::Error;
@@ -19,14 +18,6 @@ pub enum StepsFault {
     /// A growth of memory was refused.
     #[error("out of memory")]
     OutOfMemory,
-}
-
-impl From<AllocError> for StepsFault {
-    ghost from_gives = { λ _ fault. fault ≡ OutOfMemory };
-
-    fn from(_: AllocError) -> StepsFault {
-        StepsFault::OutOfMemory
-    }
 }
 
 /// The status with which the program ends: 1 for the length and memory, and 3 for a faulty line.

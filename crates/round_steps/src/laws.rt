@@ -1,14 +1,14 @@
 //! What the definitions of a steps file imply. The functions do nothing; their contracts are the
 //! laws.
 
-ghost use Rattle.round_steps.specs.Laws.{OneSpelling, OneAnswer};
+ghost use Rattle.round_steps.specs.Laws as laws;
 
 /// A line spells one step at most.
 pub fn one_spelling()
-    ensures { OneSpelling }
+    ensures { laws.OneSpelling }
 {}
 
 /// Lines say one list of steps, or have one first fault, and never both.
 pub fn one_answer()
-    ensures { OneAnswer }
+    ensures { laws.OneAnswer }
 {}

@@ -44,10 +44,13 @@ fn take_line(steps: &mut Sequence<Step>, number: u64, line: &[u8]) -> Result<(),
         → AreSteps (lines ++ line.now ∷ []) steps.new) }
     ensures err { IfErr result (IsFaultOf number line.now steps.old) }
 {
-    if let Some(step) = said_by(steps.as_slice().len(), number, line)? {
-        steps.push(step)?;
+    let Some(step) = said_by(steps.as_slice().len(), number, line)? else {
+        return Ok(());
+    };
+    match steps.push(step) {
+        Ok(()) => Ok(()),
+        Err(_) => Err(StepsFault::OutOfMemory),
     }
-    Ok(())
 }
 
 fn read_lines(alloc: Global, text: &[u8]) -> Result<Sequence<Step>, StepsFault>

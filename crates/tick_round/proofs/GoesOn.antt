@@ -43,7 +43,7 @@ use Rattle.tick_round.proofs.Updates.{sums_low}
 use Rattle.tick_round.specs.declared.tick_in_progress.TickInProgress.{TickInProgress}
 use Rattle.tick_round.specs.Node.{State, state, ArePieces, HasTaken, Fits}
 use Rattle.tick_round.specs.Node.{last_of, IsAfter}
-use Rattle.tick_round.specs.Round.{most_of_tick, AreFew, IsKept, IsSampled, HasBegun, MayEnd}
+use Rattle.tick_round.specs.Round.{most_of_tick, AreFew, IsKept, IsSampled, HasBegun, MayEnd, CanEnd}
 use Rattle.tick_round.proofs.Pieces.{pod_at, pieces_updated, pieces_evicted, pieces_spared}
 use Rattle.tick_round.proofs.Candidates.{ArePresent, are_present, round_of, may_be_evicted, evicts_now, pods_are}
 use Rattle.tick_round.proofs.Made.{made_by, entries_by}
@@ -291,14 +291,8 @@ pub begun_as : (s t : State) (x : TickObs) (b : TickInProgress) → s ≡ t → 
     → b.pods ≡ awaited (kept_of s.pods.pieces x.pods) s.pods.max_restart_delay s.pods.has_dedicated_imagefs
     → b.evictions.items ≡ s.evictions → b.events.items ≡ s.events → b.at ≡ x.at → HasBegun t x b
 begun_as s t x b same config sampled pods evictions events at =
-    subst (λ (u : State). HasBegun u x b) same (record {
-      config = config;
-      sampled = sampled;
-      pods = pods;
-      evictions = evictions;
-      events = events;
-      at = at;
-    })
+    subst (λ (u : State). HasBegun u x b) same
+    (record { config = config; sampled = sampled; pods = pods; evictions = evictions; events = events; at = at })
 
 -- the pods that go out have few containers
 few_handed : (s : State) (x : TickObs) (back : List Piece) → back ≡ map updated (handed_from 0 s.pods.pieces x.pods)
@@ -400,10 +394,23 @@ may_end s x begun pending back book totals fits has_begun handed is same entered
 }
 
 -- they come back as pods of the node
-pub placed_back : (awaited_pods : Awaited) (pending back : List Piece) → back ≡ map updated pending
+placed_back : (awaited_pods : Awaited) (pending back : List Piece) → back ≡ map updated pending
     → ArePlaced (joined awaited_pods (map updated pending)) → ArePlaced (joined awaited_pods back)
 placed_back awaited_pods pending back is placed =
     subst (λ (ps : List Piece). ArePlaced (joined awaited_pods ps)) (sym is) placed
+
+-- a node that has begun a tick can end it once its pods are updated and entered
+pub can_end : (s : State) (x : TickObs) (begun : TickInProgress) (pending back : List Piece) (book totals : Totals)
+    → IsKept s → HasBegun s x begun → pending ≡ handed_from 0 s.pods.pieces x.pods → back ≡ map updated pending
+    → book ≡ s.totals → AreEntered back book totals → ArePlaced (joined begun.pods (map updated pending)) → Fits s x
+    → CanEnd begun back totals
+can_end s x begun pending back book totals kept has_begun handed is same entered placed fits = record {
+  node = s;
+  tick = x;
+  kept = kept;
+  may = may_end s x begun pending back book totals fits has_begun handed is same entered;
+  placed = placed_back begun.pods pending back is placed;
+}
 
 pub of_some : (config : NodeConfig) (pods : List PodSpec) (ticks : List TickObs) (before : Option State) (s : State)
     → before ≡ Some s → IsAfter config pods ticks before
@@ -414,6 +421,16 @@ pub to_some : (config : NodeConfig) (pods : List PodSpec) (ticks : List TickObs)
     → after ≡ Some s → s.config ≡ config → HasTaken pods ticks s → IsAfter config pods ticks after
 to_some config pods ticks after s is same taken =
     subst (λ (o : Option State). IsAfter config pods ticks o) (sym is) (same, taken)
+
+-- a node has taken a tick where what it keeps becomes what has
+pub takes_tick : (tick : TickObs) {before after : Option State} {s next : State} → before ≡ Some s → after ≡ Some next
+    → next.config ≡ s.config
+    → ((pods : List PodSpec) (ticks : List TickObs) → HasTaken pods ticks s → HasTaken pods (ticks ++ tick ∷ []) next)
+    → (config : NodeConfig) (pods : List PodSpec) (ticks : List TickObs) → IsAfter config pods ticks before
+    → IsAfter config pods (ticks ++ tick ∷ []) after
+takes_tick tick {before} {after} {s} {next} was now same taken config pods ticks old =
+    let had = of_some config pods ticks before s was old in
+    to_some config pods (ticks ++ tick ∷ []) after next now (same ∙ had.0) (taken pods ticks had.1)
 
 pub rest_next : {A : Type 0} (all front : List A) (rest : List A) (x : A) (behind : List A) → all ≡ front ++ rest
     → rest ≡ x ∷ behind → all ≡ front ++ x ∷ behind

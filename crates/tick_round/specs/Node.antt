@@ -1,6 +1,6 @@
 -- Where the pods and the ticks of a node lead.
-use Rattle.std.specs.Prelude.{◌≡◌, ℕ, ◌<◌, ◌≤◌, false, List, [], ◌∷◌, length, slice_get, Option, Some, None}
-use Rattle.std.specs.Prelude.{IfSome, IsSomeAnd}
+use Rattle.std.specs.Prelude.{◌≡◌, ℕ, ◌<◌, ◌≤◌, false, List, [], ◌∷◌, ◌++◌, length, slice_get}
+use Rattle.std.specs.Prelude.{Option, Some, None, Result, IfSome, IsSomeAnd, OnOk}
 use Rattle.quantity.specs.Duration.{end_of_time}
 use Rattle.manifest.specs.declared.pod.PodSpec.{PodSpec}
 use Rattle.node_config.specs.declared.node.NodeConfig.{NodeConfig}
@@ -94,6 +94,12 @@ HasRoom node = IfSome node (λ s. length s.pods.pieces < most_pods)
 -- the node is not halted: of this configuration, these pods have arrived, and these ticks were taken
 abbrev pub IsAfter : NodeConfig → List PodSpec → List TickObs → Option State → Type 0
 IsAfter config pods ticks node = IsSomeAnd node (λ s. (s.config ≡ config) × HasTaken pods ticks s)
+
+-- where a call does not fail, the node that it leaves has taken this tick too
+abbrev pub TakesTick : {V F : Type 0} → TickObs → Option State → Option State → Result V F → Type 0
+TakesTick tick old new result =
+    (config : NodeConfig) (pods : List PodSpec) (ticks : List TickObs) → IsAfter config pods ticks old
+    → OnOk result (IsAfter config pods (ticks ++ tick ∷ []) new)
 
 -- where it is not halted, the tick may come next
 abbrev pub MayTake : Option State → TickObs → Type 0

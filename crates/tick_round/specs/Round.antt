@@ -11,7 +11,7 @@ use Rattle.node_signals.specs.Node.{IsStateOf}
 use Rattle.node_signals.specs.Thresholds.{IsServed}
 use Rattle.pod_piece.specs.Piece.{Piece, updated, pods_in}
 use Rattle.event_book.specs.declared.totals.Totals.{Totals}
-use Rattle.node_pods.specs.Pods.{handed_from, kept_of, awaited}
+use Rattle.node_pods.specs.Pods.{ArePlaced, handed_from, joined, kept_of, awaited}
 use Rattle.tick_round.specs.Update.{AreUpTo, AreEntered}
 use Rattle.tick_round.specs.declared.tick_in_progress.TickInProgress.{TickInProgress}
 use Rattle.tick_round.specs.Node.{State, HasTaken, Fits}
@@ -66,3 +66,11 @@ pub record MayEnd (s : State) (tick : TickObs) (begun : TickInProgress) (back : 
   pub fits : Fits s tick
   pub has_begun : HasBegun s tick begun
   pub updated : AreUpdated s tick back totals
+
+-- some node may end its tick with these pieces and these totals, and its pods are numbered by their places then
+pub record CanEnd (begun : TickInProgress) (back : List Piece) (totals : Totals) : Type 0 where
+  pub node : State
+  pub tick : TickObs
+  pub kept : IsKept node
+  pub may : MayEnd node tick begun back totals
+  pub placed : ArePlaced (joined begun.pods back)

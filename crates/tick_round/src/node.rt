@@ -10,7 +10,7 @@ ghost use Rattle.observations.specs.Limits.{most_pods};
 ghost use Rattle.event_book.specs.Totals.{nothing};
 ghost use Rattle.event_book.specs.Limits.{most_workers};
 ghost use Rattle.tick_round.specs.declared.fault.TickFault.TheVariants.{Halted};
-ghost use Rattle.tick_round.specs.Node.{IsAfter, MayTake, HasRoom};
+ghost use Rattle.tick_round.specs.Node.{IsAfter, MayTake, HasRoom, TakesTick};
 ghost use Rattle.tick_round.specs.Played.{AreFinished};
 ghost use Rattle.tick_round.specs.Summary.{IsSummary};
 
@@ -21,13 +21,11 @@ use event_book::WholeBook;
 use manifest::PodSpec;
 use node_config::NodeConfig;
 use observations::TickObs;
-use pod_pool::Gate;
+use pod_pool::{Gate, Runtime};
 use round_steps::Step;
 use std::alloc::{AllocError, Global};
 use std::marker::Model;
-use std::sync::Wait;
 use std::sync::ledger::Ledger;
-use std::thread::Threads;
 
 /// A node with its pods. After a tick that failed because memory ran out it is halted: it takes no
 /// further tick and tells nothing. (Kubernetes, "Node-pressure Eviction".)
@@ -106,9 +104,7 @@ impl<U: Ledger, E: Ledger, O: Ledger> Node<U, E, O> {
     /// node was halted; it is halted then.
     pub fn tick_alone(&mut self, tick: TickObs) -> Result<(), TickFault>
         requires { MayTake self.old tick }
-        ensures taken { (config : NodeConfig) (pods : List PodSpec) (ticks : List TickObs)
-            → IsAfter config pods ticks self.old
-            → OnOk result (IsAfter config pods (ticks ++ tick ∷ []) self.new) }
+        ensures taken { TakesTick tick self.old self.new result }
         ensures err { OnErr result (self.new ≡ None) }
         ensures halted { IsErrOf result Halted ↔ (self.old ≡ None) }
     {
@@ -138,9 +134,7 @@ impl<U: Ledger, E: Ledger, O: Ledger> Node<U, E, O> {
         requires fits { MayTake self.old tick }
         requires some { 0 < workers }
         requires most { workers ≤ most_workers }
-        ensures taken { (config : NodeConfig) (pods : List PodSpec) (ticks : List TickObs)
-            → IsAfter config pods ticks self.old
-            → OnOk result (IsAfter config pods (ticks ++ tick ∷ []) self.new) }
+        ensures taken { TakesTick tick self.old self.new result }
         ensures finished { IfOk result (λ lists.
             AreFinished (length (all_shown tick)) workers steps.now (map (λ list. list.items) lists.items)) }
         ensures err { OnErr result (self.new ≡ None) }
@@ -178,7 +172,7 @@ impl<U: Ledger + Send, E: Ledger + Send, O: Ledger + Send> Node<U, E, O> {
     /// takes what the tick shows of it, then one of them at most is evicted. The gate is told of each update. The node
     /// is as after `tick_alone`, whatever the threads do. An `Err` says that memory was refused, or that the node was
     /// halted; it is halted then.
-    pub fn tick<R: Threads + Wait + Sync, G: Gate>(
+    pub fn tick<R: Runtime, G: Gate>(
         &mut self,
         rt: &R,
         tick: TickObs,
@@ -188,9 +182,7 @@ impl<U: Ledger + Send, E: Ledger + Send, O: Ledger + Send> Node<U, E, O> {
         requires fits { MayTake self.old tick }
         requires some { 0 < workers }
         requires most { workers ≤ most_workers }
-        ensures taken { (config : NodeConfig) (pods : List PodSpec) (ticks : List TickObs)
-            → IsAfter config pods ticks self.old
-            → OnOk result (IsAfter config pods (ticks ++ tick ∷ []) self.new) }
+        ensures taken { TakesTick tick self.old self.new result }
         ensures err { OnErr result (self.new ≡ None) }
         ensures halted { IsErrOf result Halted ↔ (self.old ≡ None) }
     {

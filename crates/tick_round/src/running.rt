@@ -34,14 +34,12 @@ use node_pods::NodePods;
 use node_signals::NodeSignals;
 use observations::{MOST_TICKS, TickObs};
 use pod_piece::PodPiece;
-use pod_pool::{Gate, NoGate};
+use pod_pool::{Gate, NoGate, Runtime};
 use quantity::END_OF_TIME;
 use round_steps::Step;
 use std::alloc::{AllocError, Global};
 use std::marker::Model;
-use std::sync::Wait;
 use std::sync::ledger::Ledger;
-use std::thread::Threads;
 
 /// A node that is not halted. Its type keeps that all in it is the state of the ticks that it took.
 #[derive(Drop)]
@@ -260,7 +258,7 @@ impl<U: Ledger, E: Ledger, O: Ledger> Running<U, E, O> {
 impl<U: Ledger + Send, E: Ledger + Send, O: Ledger + Send> Running<U, E, O> {
     /// The node after one more tick, whose pods this many workers update. A refused growth of memory drops the
     /// node.
-    pub(crate) fn after<R: Threads + Wait + Sync, G: Gate>(
+    pub(crate) fn after<R: Runtime, G: Gate>(
         self,
         rt: &R,
         tick: TickObs,

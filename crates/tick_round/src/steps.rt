@@ -13,7 +13,7 @@ use round_steps::Step;
 use std::alloc::{AllocError, Global};
 use std::sync::ledger::Ledger;
 
-/// All pods take the tick that was handed to them into their statuses, and are entered in the book, by so
+/// All pods take the tick that was handed to them into their statuses, and are entered in the book, by this
 /// many workers, 1 to 64, that one thread plays by these steps. An `Err` says that memory was refused.
 pub fn update_by_steps<U: Ledger, E: Ledger, O: Ledger>(
     alloc: Global,

@@ -4,9 +4,8 @@ ghost use Rattle.std.specs.Prelude.{◌≡◌, ◌++◌, ◌∷◌, [], List, If
 ghost use Rattle.manifest.specs.declared.pod.PodSpec.{PodSpec};
 ghost use Rattle.observations.specs.declared.tick.TickObs.{TickObs};
 ghost use Rattle.event_list.specs.Tick.{AddsEvents};
-ghost use Rattle.node_pods.specs.Pods.{ArePlaced, joined};
 ghost use Rattle.tick_round.specs.Node.{State, HasTaken};
-ghost use Rattle.tick_round.specs.Round.{IsKept, MayEnd};
+ghost use Rattle.tick_round.specs.Round.{CanEnd, MayEnd};
 
 use crate::evict::{carry_out, eviction_for};
 use crate::running::Running;
@@ -61,8 +60,7 @@ impl TickInProgress {
         back: Vec<PodPiece>,
         book: WholeBook<U, E, O>,
     ) -> Result<Running<U, E, O>, AllocError>
-        requires placed { ArePlaced (joined self.pods back.items) }
-        requires taken { (s : State) × (tick : TickObs) × IsKept s × MayEnd s tick self back.items book }
+        requires { CanEnd self back.items book }
         ensures config { IfOk result (λ next. next.config ≡ self.config) }
         ensures taken { (s : State) (tick : TickObs) (pods : List PodSpec) (ticks : List TickObs)
             → MayEnd s tick self back.items book → HasTaken pods ticks s

@@ -10,11 +10,10 @@ ghost use Rattle.tick_round.specs.Workers.{worth_their_start};
 use crate::alone::update_alone;
 use event_book::WholeBook;
 use pod_piece::PodPiece;
-use pod_pool::{Gate, update_all};
+use pod_pool::{Gate, Runtime, update_all};
 use std::alloc::{AllocError, Global};
+use std::sync::Mutex;
 use std::sync::ledger::Ledger;
-use std::sync::{Mutex, Wait};
-use std::thread::Threads;
 
 /// A worker is worth the start of its thread where it has this many pods. An update takes less than a microsecond, and
 /// a thread more than thirty: with half as many pods for each, 256 pods took a fifth longer than on one thread.
@@ -44,46 +43,11 @@ fn running<G: Gate>(workers: usize, pods: usize, gate: &G) -> usize
     }
 }
 
-/// The updates of all pods by this many workers. The book is theirs under a lock until they have ended.
-fn update_shared<
-    U: Ledger + Send,
-    E: Ledger + Send,
-    O: Ledger + Send,
-    R: Threads + Wait + Sync,
-    G: Gate,
->(
-    rt: &R,
-    alloc: Global,
-    pieces: Vec<PodPiece>,
-    book: WholeBook<U, E, O>,
-    workers: usize,
-    gate: &G,
-) -> Result<(Vec<PodPiece>, WholeBook<U, E, O>), AllocError>
-    requires may { MayUpdate pieces.items book }
-    requires numbered { AreNumbered pieces.items }
-    requires some { 0 < workers }
-    requires most { workers ≤ most_workers }
-    ensures pieces { IfOk result (λ r. r.0.items ≡ map updated pieces.items) }
-    ensures book { IfOk result (λ r. AreEntered r.0.items book r.1) }
-{
-    let (events, share) = book.into_parts();
-    let events = Mutex::new(events);
-    match update_all(rt, alloc, pieces, &events, share, workers, gate) {
-        Ok((pieces, share)) => Ok((pieces, WholeBook::of_parts(events.into_inner(), share))),
-        Err(_) => Err(AllocError),
-    }
-}
-
-/// All pods take the tick that was handed to them into their statuses, and are entered in the book, by so
-/// many workers, 1 to 64; where no update waits in the gate, by no more than are worth their start. One worker
-/// needs no thread, no deque and no lock. An `Err` says that memory was refused.
-pub fn update_by_workers<
-    U: Ledger + Send,
-    E: Ledger + Send,
-    O: Ledger + Send,
-    R: Threads + Wait + Sync,
-    G: Gate,
->(
+/// All pods take the tick that was handed to them into their statuses, and are entered in the book, by this
+/// many workers, 1 to 64; where no update waits in the gate, by no more than are worth their start. The book is theirs
+/// under a lock until they have ended. One worker needs no thread, no deque and no lock. An `Err` says that memory was
+/// refused.
+pub fn update_by_workers<U: Ledger + Send, E: Ledger + Send, O: Ledger + Send, R: Runtime, G: Gate>(
     rt: &R,
     alloc: Global,
     pieces: Vec<PodPiece>,
@@ -102,5 +66,10 @@ pub fn update_by_workers<
     if workers == 1 {
         return update_alone(pieces, book, gate);
     }
-    update_shared(rt, alloc, pieces, book, workers, gate)
+    let (events, share) = book.into_parts();
+    let events = Mutex::new(events);
+    match update_all(rt, alloc, pieces, &events, share, workers, gate) {
+        Ok((pieces, share)) => Ok((pieces, WholeBook::of_parts(events.into_inner(), share))),
+        Err(_) => Err(AllocError),
+    }
 }

@@ -12,31 +12,18 @@ loop-preserved g c =
     c.loop.arriving.rest.items c.in-Some.pod c.next.new.self.rest.items
     c.loop.invariant c.in-Some.ensures.items c.in_ok-arrive.ensures.arrived
 
-pub returns-in_default-clause-node : goal.returns-in_default-clause-node
-returns-in_default-clause-node g c =
+pub returns-in_default : goal.returns-in_default
+returns-in_default g c =
     let rest = c.next.new.self.rest in
     let none = none_left c.next.result _ _ _ rest.items c.next.ensures.cases (omega (arith, rest.ok)) c.in_default.is in
-    (all_arrived c.args.arriving.now.rest.items c.loop.counter c.args.count c.args.node.now c.loop.node
-    c.loop.arriving.rest.items rest.items
-    c.loop.invariant (c.in_default.ensures.items ∙ none) none c.loop.auto.counter-end).arrived
+    all_arrived c.args.arriving.now.rest.items c.loop.counter c.args.count c.args.node.now c.loop.node
+    c.loop.arriving.rest.items rest.items c.loop.invariant (c.in_default.ensures.items ∙ none) none
+    c.loop.auto.counter-end
 
-pub returns-in_default-clause-left : goal.returns-in_default-clause-left
-returns-in_default-clause-left g c =
-    let rest = c.next.new.self.rest in
-    let none = none_left c.next.result _ _ _ rest.items c.next.ensures.cases (omega (arith, rest.ok)) c.in_default.is in
-    (all_arrived c.args.arriving.now.rest.items c.loop.counter c.args.count c.args.node.now c.loop.node
-    c.loop.arriving.rest.items rest.items
-    c.loop.invariant (c.in_default.ensures.items ∙ none) none c.loop.auto.counter-end).left_is
-
-pub returns-clause-node : goal.returns-clause-node
-returns-clause-node g c =
-    (as_many_arrived c.args.arriving.now.rest.items c.loop.counter c.args.count c.args.node.now c.loop.node
-    c.loop.arriving.rest.items c.loop.invariant c.loop.auto.counter-end c.loop-test.false).arrived
-
-pub returns-clause-left : goal.returns-clause-left
-returns-clause-left g c =
-    (as_many_arrived c.args.arriving.now.rest.items c.loop.counter c.args.count c.args.node.now c.loop.node
-    c.loop.arriving.rest.items c.loop.invariant c.loop.auto.counter-end c.loop-test.false).left_is
+pub returns : goal.returns
+returns g c =
+    as_many_arrived c.args.arriving.now.rest.items c.loop.counter c.args.count c.args.node.now c.loop.node
+    c.loop.arriving.rest.items c.loop.invariant c.loop.auto.counter-end c.loop-test.false
 
 pub arrive-requires : goal.arrive-requires
 arrive-requires g c =

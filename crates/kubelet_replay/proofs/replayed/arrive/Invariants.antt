@@ -1,5 +1,5 @@
-use Rattle.kubelet_replay.proofs.NodeLemmas.{AreArriving}
+use Rattle.kubelet_replay.specs.Ticks.{HaveArrived}
 use Rattle.kubelet_replay.proofs.replayed.arrive.Given as goal
 
 abbrev pub invariant-loop : goal.invariant-loop
-invariant-loop g l = AreArriving l.fn.arriving.rest.items l.counter l.fn.node l.node l.arriving.rest.items
+invariant-loop g l = HaveArrived l.fn.arriving.rest.items l.counter l.fn.node l.node l.arriving.rest.items

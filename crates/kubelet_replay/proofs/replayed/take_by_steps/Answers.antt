@@ -17,7 +17,7 @@ tick_play-requires-clause-fits g c =
     c.loop-tick.arriving.rest.items c.loop-tick.node c.arrive.new.node c.requires.replayable
     (so_far_next new.config c.args.pods.items c.args.ticks.items c.loop-tick.yielded _ _ c.loop-tick.arrived _
     c.loop-tick.node c.in-Some.ensures.steps.0 (c.loop-tick.invariant.so_far new.config new.after))
-    c.as_slice-present.ensures (c.in_ok-arrive.ensures.node new.config)
+    c.as_slice-present.ensures (c.in_ok-arrive.ensures.arrived new.config)
 
 pub loop-tick-preserved : goal.loop-tick-preserved
 loop-tick-preserved g c = record {
@@ -27,7 +27,7 @@ loop-tick-preserved g c = record {
       c.tick_play.new.self c.requires.replayable
       (so_far_next config c.args.pods.items c.args.ticks.items c.loop-tick.yielded _ _ c.loop-tick.arrived _
       c.loop-tick.node c.in-Some.ensures.steps.0 (c.loop-tick.invariant.so_far config is))
-      c.as_slice-present.ensures (c.in_ok-arrive.ensures.node config) c.in_ok-arrive.ensures.left
+      c.as_slice-present.ensures (c.in_ok-arrive.ensures.arrived config) c.in_ok-arrive.ensures.left_is
       (c.in_ok-tick_play.ensures.taken config);
   count = c.loop-tick.invariant.count;
 }

@@ -4,6 +4,6 @@ use Rattle.piece_deques.proofs.deque.steal.Given as goal
 
 abbrev pub invariant-loop : goal.invariant-loop
 invariant-loop g l = record {
-  fits : IsPassOf (stealer_deque l.thief) l.seat;
-  same : view l.seat ≡ view l.initial.seat;
+  fits : IsPassOf (stealer_deque l.thief) l.permit;
+  same : view l.permit ≡ view l.initial.permit;
 }

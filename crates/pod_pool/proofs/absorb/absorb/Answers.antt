@@ -1,38 +1,32 @@
-use Rattle.std.proofs.Common.{◌≡◌, ◌<◌, ◌∷◌, [], map, length, sym, ap, ◌∙◌, arith, length-append}
+use Rattle.std.proofs.Common.{◌≡◌, ◌∷◌, [], map, length, sym, ap, ◌∙◌, arith, length-append}
 use Rattle.std.specs.List.{sum_by}
-use Rattle.std.proofs.lemmas.List.{length-map}
 use Rattle.std.proofs.lemmas.List.Sums.{sum_by_push, sum_by-append}
 use mathlib.Core.Option.{some-injective}
 use Rattle.crossbeam_deque.specs.Handles.{view, worker_deque, worker_view}
-use Rattle.piece_deques.proofs.Lists.{map_here, map_set, place_within, sum_set}
+use Rattle.piece_deques.proofs.Lists.{map_here, map_set, sum_set}
 use Rattle.pool_worker.specs.declared.handle.StealHandle.{StealHandle}
-use Rattle.pool_worker.specs.Seats.{Place, seat_place, taken_by}
+use Rattle.pool_worker.specs.Permits.{Place, permit_place, taken_by}
 use Rattle.pool_worker.proofs.Room.{place_same}
 use Rattle.pod_pool.specs.FinishedWorkers.{finished_place, finished_parts, finished_taken}
-use Rattle.pod_pool.proofs.FinishedWorkers.{last_stands, others_stand}
+use Rattle.pod_pool.proofs.FinishedWorkers.{last_place, others_stand}
 use Rattle.pod_pool.proofs.absorb.absorb.Goals as goal
 
 pub index_mut-requires : goal.index_mut-requires
 index_mut-requires g c =
     let l = c.loop-handle in
-    let places = map finished_place l.finished.items in
-    let at = c.len-at.result in
-    let s = last_stands l.row.items c.pop.new.self.items c.in-Some.handle places at c.in-Some.ensures.items
-    (omega (arith, c.pop.new.self.ok.0)) l.invariant.stand in
-    omega (arith, place_within places at _ s, length-map l.finished.items finished_place, l.finished.ok.0)
+    let there = last_place l.row.items c.pop.new.self.items c.in-Some.handle l.finished.items c.len-at.result
+    c.in-Some.ensures.items (omega (arith, c.pop.new.self.ok.0)) l.invariant.stand in
+    omega (arith, there.0, l.finished.ok.0)
 
 pub absorb-requires : goal.absorb-requires
 absorb-requires g c =
     let l = c.loop-handle in
-    let places = map finished_place l.finished.items in
-    let at = c.len-at.result in
-    let s = last_stands l.row.items c.pop.new.self.items c.in-Some.handle places at c.in-Some.ensures.items
-    (omega (arith, c.pop.new.self.ok.0)) l.invariant.stand in
-    let in' : at < length l.finished.items =
-    omega (arith, place_within places at _ s, length-map l.finished.items finished_place) in
-    let h = map_here finished_place l.finished.items at c.index_mut.result.now in' c.index_mut.ensures.value in
+    let there = last_place l.row.items c.pop.new.self.items c.in-Some.handle l.finished.items c.len-at.result
+    c.in-Some.ensures.items (omega (arith, c.pop.new.self.ok.0)) l.invariant.stand in
+    let h = map_here finished_place l.finished.items c.len-at.result c.index_mut.result.now there.0
+    c.index_mut.ensures.value in
     ap (λ (p : Place). p.deque)
-    (some-injective (seat_place c.in-Some.handle) (finished_place c.index_mut.result.now) (sym s ∙ h))
+    (some-injective (permit_place c.in-Some.handle) (finished_place c.index_mut.result.now) (sym there.1 ∙ h))
 
 pub loop-handle-preserved : goal.loop-handle-preserved
 loop-handle-preserved g c =
@@ -46,9 +40,8 @@ loop-handle-preserved g c =
     let ended = c.pop.new.self.items in
     let handle = c.in-Some.handle in
     let all = map finished_place l.finished.items in
-    let s = last_stands l.row.items ended handle all n row (omega (arith, c.pop.new.self.ok.0)) i.stand in
-    let in' : n < length l.finished.items =
-    omega (arith, place_within all n _ s, length-map l.finished.items finished_place) in
+    let there = last_place l.row.items ended handle l.finished.items n row (omega (arith, c.pop.new.self.ok.0)) i.stand
+    in
     let at = c.index_mut.ensures.value in
     let same : finished_place new ≡ finished_place old = place_same (worker_deque new.owner) (worker_deque old.owner)
     (worker_view new.owner).pushed (worker_view old.owner).pushed u.deque u.pushed in
@@ -58,14 +51,14 @@ loop-handle-preserved g c =
       places = places ∙ i.places;
       worker_results = map_set (λ r. r.worker_result) l.finished.items n old new at u.worker_result ∙ i.worker_results;
       parts = (
-          let t = sum_set finished_parts l.finished.items n old new in' at in
+          let t = sum_set finished_parts l.finished.items n old new there.0 at in
           let len = ap (λ l. length l) row ∙ length-append ended (handle ∷ []) in
           omega (arith, u.parts, i.parts));
       taken = λ h. (
-          let t = sum_set (finished_taken h) l.finished.items n old new in' at in
+          let t = sum_set (finished_taken h) l.finished.items n old new there.0 at in
           let r = ap (taken_by h) row
-          ∙ sum_by_push (λ (r : StealHandle g.row.D.Denot). sum_by h (view r.seat).taken) ended handle in
+          ∙ sum_by_push (λ (r : StealHandle g.row.D.Denot). sum_by h (view r.permit).taken) ended handle in
           let w = ap (sum_by h) u.taken
-          ∙ sum_by-append h (worker_view old.owner).taken (view handle.seat).taken in
+          ∙ sum_by-append h (worker_view old.owner).taken (view handle.permit).taken in
           omega (arith, i.taken h));
     }

@@ -1,7 +1,7 @@
 use Rattle.std.proofs.Common.{◌≡◌, ◌+◌, ◌*◌, map, length, vec_len, sym, ap, ◌∙◌, arith}
 use Rattle.std.proofs.lemmas.List.{length-map}
 use Rattle.piece_deques.proofs.Lists.{front, last, more_rows, sum_grown}
-use Rattle.pool_worker.specs.Seats.{seat_place, taken_by}
+use Rattle.pool_worker.specs.Permits.{permit_place, taken_by}
 use Rattle.pod_pool.specs.FinishedWorkers.{IsRow, finished_place}
 use Rattle.pod_pool.proofs.FinishedWorkers.{stands}
 use Rattle.pod_pool.proofs.absorb.absorb_all.Goals as goal
@@ -31,7 +31,7 @@ loop-row-preserved g c =
       worker_results = e.worker_results ∙ i.worker_results;
       parts = (
           let n : length row.items ≡ vec_len first =
-          sym (length-map row.items seat_place)
+          sym (length-map row.items permit_place)
           ∙ (ap (λ l. length l) mine ∙ (length-map first.items finished_place ∙ sym first.ok.0)) in
           let m : vec_len l.rows * vec_len first ≡ vec_len ended * vec_len first + vec_len first =
           ap (λ k. k * vec_len first) (sym c.in-Some.ensures.cases) ∙ more_rows (vec_len ended) (vec_len first) in

@@ -1,6 +1,6 @@
 use Rattle.std.proofs.Common.{◌≡◌, ◌+◌, ◌*◌, ℕ, All, map, vec_len}
 use Rattle.std.specs.List.{sum_by}
-use Rattle.pool_worker.specs.Seats.{taken_by}
+use Rattle.pool_worker.specs.Permits.{taken_by}
 use Rattle.pod_pool.specs.FinishedWorkers.{IsRow, finished_place, finished_parts, finished_taken}
 use Rattle.pod_pool.proofs.absorb.absorb_all.Given as goal
 

@@ -4,7 +4,7 @@ use Rattle.std.proofs.lemmas.List.{length-map}
 use Rattle.std.proofs.lemmas.List.Elements.{All-weaker}
 use Rattle.piece_deques.proofs.Lists.{all_by, all_full, all_less, ones, sum_map, sum_same}
 use Rattle.pool_worker.specs.WorkerResults.{kept}
-use Rattle.pool_worker.specs.Seats.{Place, places_len, places_weigh}
+use Rattle.pool_worker.specs.Permits.{Place, places_len, places_weigh}
 use Rattle.pool_worker.specs.Contexts.{context_place}
 use Rattle.pool_worker.proofs.Laid.{are_laid, laid_pushed}
 use Rattle.pod_pool.specs.FinishedWorkers.{IsAway, finished_place, finished_parts, finished_kept, finished_pushed}

@@ -2,7 +2,7 @@ use Rattle.std.proofs.Common.{arith, ap, vec_capacity}
 use Rattle.crossbeam_deque.specs.Handles.{worker_view}
 use Rattle.piece_deques.proofs.Lists.{ones}
 use Rattle.pool_worker.specs.WorkerResults.{kept}
-use Rattle.pool_worker.specs.Seats.{owner_place}
+use Rattle.pool_worker.specs.Permits.{owner_place}
 use Rattle.pool_worker.proofs.Room.{no_more_of_others}
 use Rattle.pod_pool.proofs.part.part.Goals as goal
 

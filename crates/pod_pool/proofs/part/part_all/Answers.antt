@@ -4,12 +4,12 @@ use Rattle.std.proofs.lemmas.List.Sorted.{All-permutation}
 use Rattle.crossbeam_deque.specs.Handles.{worker_view}
 use Rattle.piece_deques.specs.declared.rule.Tally.{Tally}
 use Rattle.piece_deques.proofs.Lists.{front, last, grown, moved, none_all, sum_grown, to_move}
-use Rattle.pool_worker.specs.Seats.{seat_place, owner_place, places_len, taken_by}
+use Rattle.pool_worker.specs.Permits.{permit_place, owner_place, places_len, taken_by}
 use Rattle.pool_worker.specs.Contexts.{context_place, context_tag, IsLaid}
 use Rattle.pool_worker.specs.WorkerResults.{kept}
+use Rattle.pool_worker.proofs.Places.{row_pushed}
 use Rattle.pod_pool.specs.FinishedWorkers.{finished_place, finished_parts, finished_kept, finished_taken, IsAway}
 use Rattle.pod_pool.specs.FinishedWorkers.{IsRow}
-use Rattle.pod_pool.proofs.FinishedWorkers.{row_pushed}
 use Rattle.pod_pool.proofs.part.part_all.Goals as goal
 
 pub loop-context-init : goal.loop-context-init
@@ -65,12 +65,12 @@ loop-context-preserved g c =
     let put = c.push_reserved.ensures in
     let put' = c.push_reserved-in-Some.ensures in
     let mine = last (λ b. IsLaid n places (context_tag b)) l.left.items left.items b pop i.laid in
-    let seats : map seat_place row.items ≡ places = ap (λ v. map seat_place v.items) e.handles ∙ mine.seats in
+    let permits : map permit_place row.items ≡ places = ap (λ v. map permit_place v.items) e.handles ∙ mine.permits in
     let parts : finished_parts ended ≡ (worker_view b.owner).parts =
     ap (λ w. (worker_view {V = Tally} w).parts) e.owner in
     let room : vec_capacity ended.worker_result.done ≡ vec_capacity b.worker_result.done =
     ap (λ t. vec_capacity t.done) e.worker_result in
-    let many = row_pushed b.handles.items places mine.seats in
+    let many = row_pushed b.handles.items places mine.permits in
     record {
       laid = front (λ b. IsLaid n places (context_tag b)) l.left.items left.items b pop i.laid;
       len = omega (arith, put.len, c.in-Some.ensures.cases, i.len);
@@ -89,7 +89,7 @@ loop-context-preserved g c =
             share = ap (λ t. t.share.parts) e.worker_result ∙ mine.share;
             room_is = omega (arith, b.room);
           });
-      rows = grown (IsRow places) l.rows.items c.push_reserved-in-Some.new.self.items row put'.items i.rows seats;
+      rows = grown (IsRow places) l.rows.items c.push_reserved-in-Some.new.self.items row put'.items i.rows permits;
       kept = λ h. (
           let s = sum_grown (finished_kept h) l.finished.items c.push_reserved.new.self.items ended put.items in
           let t = sum_grown (finished_taken h) l.finished.items c.push_reserved.new.self.items ended put.items in

@@ -1,6 +1,6 @@
 use Rattle.std.proofs.Common.{◌≡◌, ◌+◌, ◌≤◌, ◌++◌, ℕ, All, map, reverse, vec_len, vec_capacity}
 use Rattle.std.specs.List.{sum_by}
-use Rattle.pool_worker.specs.Seats.{places_len, taken_by}
+use Rattle.pool_worker.specs.Permits.{places_len, taken_by}
 use Rattle.pool_worker.specs.Contexts.{context_place, context_tag, IsLaid}
 use Rattle.pod_pool.specs.FinishedWorkers.{finished_place, finished_kept, finished_taken, IsAway, IsRow}
 use Rattle.pod_pool.proofs.part.part_all.Given as goal

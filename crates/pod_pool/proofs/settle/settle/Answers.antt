@@ -7,7 +7,7 @@ use Rattle.piece_deques.proofs.Lists.{front, last, grown, ones}
 use Rattle.pool_worker.specs.Done.{IsDone, weigh}
 use Rattle.pool_worker.proofs.Numbers.{weigh_more}
 use Rattle.pool_worker.proofs.Sums.{plus_assoc, sums_more}
-use Rattle.pod_pool.proofs.Entries.{settled}
+use Rattle.pod_pool.proofs.Entries.{settled, within_round}
 use Rattle.pod_pool.proofs.settle.settle.Goals as goal
 
 pub entered-init : goal.entered-init
@@ -42,18 +42,8 @@ enter_whole-requires-clause-room g c =
     let n = sums.updates in
     record {
       updates = (let base = low.updates in let now = ap (λ t. t.updates) is in omega arith);
-      events = (
-          let base = low.events in
-          let now = ap (λ t. t.events) is in
-          let had = sums.few_events in
-          let more = mine.events in
-          omega arith);
-      orders = (
-          let base = low.orders in
-          let now = ap (λ t. t.orders) is in
-          let had = sums.few_orders in
-          let more = mine.orders in
-          omega arith);
+      events = within_round low.events (ap (λ t. t.events) is) sums.few_events few_done mine.events;
+      orders = within_round low.orders (ap (λ t. t.orders) is) sums.few_orders few_done mine.orders;
     }
 
 pub push_reserved-requires : goal.push_reserved-requires
@@ -100,17 +90,21 @@ entered-preserved g c =
       };
     }
 
-pub returns-clause-share : goal.returns-clause-share
-returns-clause-share g c =
+pub returns : goal.returns
+returns g c =
     let l = c.entered in
     let i = l.invariant in
     let found = c.look_over.ensures in
     let order = c.in_order-pieces.ensures in
     let pieces = c.in_order-pieces.result.items in
     let are : AreEntriesOf pieces found.0 =
-    subst (λ (ps : List Piece). AreEntriesOf ps found.0) c.deref.ensures.value found.1 in (
-      found.0,
-      are,
-      settled g.D.Deal.all l.done.items pieces found.0 c.args.share.numbers l.share _ c.requires.numbered order.placed
-          order.same are i.added i.whole,
-    )
+    subst (λ (ps : List Piece). AreEntriesOf ps found.0) c.deref.ensures.value found.1 in
+    record {
+      are_updated = order.placed;
+      entered = (
+        found.0,
+        are,
+        settled g.D.Deal.all l.done.items pieces found.0 c.args.share.numbers l.share _ c.requires.numbered
+            order.placed order.same are i.added i.whole,
+      );
+    }

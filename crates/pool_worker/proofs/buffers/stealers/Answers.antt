@@ -4,7 +4,7 @@ use Rattle.crossbeam_deque.specs.Handles.{worker_deque, stealer_deque}
 use Rattle.histories.proofs.Lists.{map_more}
 use Rattle.piece_deques.proofs.Lists.{grown, take_map_more}
 use Rattle.piece_deques.specs.Ends.{IsOwner}
-use Rattle.pool_worker.specs.Seats.{IsInOrder}
+use Rattle.pool_worker.specs.Permits.{IsInOrder}
 use Rattle.pool_worker.proofs.buffers.stealers.Goals as goal
 
 pub hired-preserved : goal.hired-preserved

@@ -1,6 +1,6 @@
 use Rattle.std.proofs.Common.{◌≡◌, ◌≤◌, ◌-◌, All, map, take, vec_len, vec_capacity}
 use Rattle.crossbeam_deque.specs.Handles.{worker_deque, stealer_deque}
-use Rattle.pool_worker.specs.Seats.{IsInOrder}
+use Rattle.pool_worker.specs.Permits.{IsInOrder}
 use Rattle.pool_worker.proofs.buffers.stealers.Given as goal
 
 abbrev pub invariant-hired : goal.invariant-hired

@@ -6,10 +6,10 @@ use mathlib.Core.Option.{some}
 use lib.ListN.{get_elem?}
 use Rattle.piece_deques.specs.Ends.{pushed_weight}
 use Rattle.piece_deques.proofs.Lists.{front, last, grown, moved, none_all, to_move}
-use Rattle.pool_worker.specs.Seats.{Place, owner_place}
+use Rattle.pool_worker.specs.Permits.{Place, owner_place}
 use Rattle.pool_worker.specs.Contexts.{Tag, context_place, context_tag, IsLaid}
 use Rattle.pool_worker.specs.Slots.{IsHost, IsDealtSlot}
-use Rattle.pool_worker.proofs.Places.{row_pushed, owners_pushed, stands_next}
+use Rattle.pool_worker.proofs.Places.{next_slot, row_pushed, owners_pushed, stands_next}
 use Rattle.pool_worker.proofs.contexts.make_contexts.Goals as goal
 
 pub loop-owner-init : goal.loop-owner-init
@@ -51,26 +51,23 @@ make_context-context-requires-clause-own g c =
     let owners = c.args.owners in
     let places = map owner_place owners.items in
     let l = c.loop-owner in
-    let dealt_slot = c.in-Some-pop.dealt_slot in
-    let seats = last (IsDealtSlot (sum_by (pushed_weight (λ _. 1)) owners.items) places) l.dealt_slots.items
-    c.pop-in-Some.new.self.items dealt_slot c.in-Some-pop.ensures.items l.invariant.dealt_slots in
+    let permits = next_slot owners.items l.dealt_slots.items c.pop-in-Some.new.self.items c.in-Some-pop.dealt_slot
+    c.in-Some-pop.ensures.items l.invariant.dealt_slots in
     let many : length (map context_place l.contexts.items) ≡ c.len-own.result =
     length-map l.contexts.items context_place ∙ (sym l.contexts.ok.0 ∙ sym c.len-own.ensures) in
-    subst (λ (p : List Place). get_elem? p c.len-own.result ≡ some (owner_place c.in-Some.owner)) (sym seats.seats)
+    subst (λ (p : List Place). get_elem? p c.len-own.result ≡ some (owner_place c.in-Some.owner)) (sym permits.permits)
     (stands_next context_place owner_place l.contexts.items l.left.items c.pop.new.self.items c.in-Some.owner places
     c.len-own.result c.in-Some.ensures.items l.invariant.order many)
 
 pub make_context-context-requires-clause-room : goal.make_context-context-requires-clause-room
 make_context-context-requires-clause-room g c =
-    let owners = c.args.owners in
-    let places = map owner_place owners.items in
-    let l = c.loop-owner in
-    let dealt_slot = c.in-Some-pop.dealt_slot in
-    let seats = last (IsDealtSlot (sum_by (pushed_weight (λ _. 1)) owners.items) places) l.dealt_slots.items
-    c.pop-in-Some.new.self.items dealt_slot c.in-Some-pop.ensures.items l.invariant.dealt_slots in
-    let a = row_pushed dealt_slot.handles.items places seats.seats in
-    let b = owners_pushed owners.items in
-    let room = seats.room_is in
+    let owners = c.args.owners.items in
+    let slot = c.in-Some-pop.dealt_slot in
+    let permits = next_slot owners c.loop-owner.dealt_slots.items c.pop-in-Some.new.self.items slot
+    c.in-Some-pop.ensures.items c.loop-owner.invariant.dealt_slots in
+    let a = row_pushed slot.handles.items (map owner_place owners) permits.permits in
+    let b = owners_pushed owners in
+    let room = permits.room_is in
     omega arith
 
 pub loop-owner-preserved : goal.loop-owner-preserved
@@ -92,7 +89,7 @@ loop-owner-preserved g c =
     let new = c.push_reserved.new.self in
     let put = c.push_reserved.ensures in
     let mine = last (IsHost n) l.left.items left.items owner pop i.hosts in
-    let seats = last (IsDealtSlot room places) l.dealt_slots.items dealt_slots.items dealt_slot pop' i.dealt_slots in
+    let permits = next_slot owners.items l.dealt_slots.items dealt_slots.items dealt_slot pop' i.dealt_slots in
     record {
       hosts = front (IsHost n) l.left.items left.items owner pop i.hosts;
       dealt_slots = front (IsDealtSlot room places) l.dealt_slots.items dealt_slots.items dealt_slot pop' i.dealt_slots;
@@ -104,7 +101,7 @@ loop-owner-preserved g c =
       laid = grown (λ b. IsLaid n places (context_tag b)) l.contexts.items new.items b put.items i.laid
           (record {
             parts = ap (λ (t : Tag). t.parts + n) e.tag ∙ mine.parts;
-            seats = ap (λ (t : Tag). t.seats) e.tag ∙ seats.seats;
+            permits = ap (λ (t : Tag). t.permits) e.tag ∙ permits.permits;
             share = ap (λ (t : Tag). t.share) e.tag;
           });
       some = omega (arith, i.some, e.parts, c.in-Some.ensures.cases);

@@ -1,7 +1,7 @@
 use Rattle.std.proofs.Common.{◌≡◌, ◌+◌, ◌<◌, ◌≤◌, ◌++◌, All, map, reverse, vec_len, vec_capacity}
 use Rattle.std.specs.List.{sum_by}
 use Rattle.piece_deques.specs.Ends.{pushed_weight}
-use Rattle.pool_worker.specs.Seats.{owner_place}
+use Rattle.pool_worker.specs.Permits.{owner_place}
 use Rattle.pool_worker.specs.Contexts.{context_place, context_tag, IsLaid}
 use Rattle.pool_worker.specs.Slots.{IsHost, IsDealtSlot}
 use Rattle.pool_worker.proofs.contexts.make_contexts.Given as goal

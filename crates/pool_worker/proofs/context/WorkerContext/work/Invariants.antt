@@ -1,7 +1,7 @@
 use Rattle.std.proofs.Common.{◌≡◌, None, length, vec_len}
 use Rattle.crossbeam_deque.specs.Handles.{worker_view}
 use Rattle.piece_deques.specs.Rule.{FoundEmpty}
-use Rattle.pool_worker.specs.Seats.{FoundAllEmpty}
+use Rattle.pool_worker.specs.Permits.{FoundAllEmpty}
 use Rattle.pool_worker.specs.Contexts.{context_tag}
 use Rattle.pool_worker.proofs.context.WorkerContext.work.Given as goal
 

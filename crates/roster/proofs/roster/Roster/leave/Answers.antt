@@ -16,5 +16,5 @@ invariant_of-self c =
     let i = c.self.inside in
     let there : number_in (present_keys i.pods i.departures.items) c.args.key.now ≡ Some c.args.number =
     ap (λ (r : Roll). number_of r c.args.key.now) c.self.view_is ∙ c.requires in
-    kept_without i.pods i.departures.items i.keys i.keys i.holders.items c.give_up.new.holders.items c.args.key.now
-    c.args.number c.args.ticks c.self.invariant there c.give_up.ensures
+    kept_without i.pods i.departures.items i.keys i.keys i.holders.items c.release.new.holders.items c.args.key.now
+    c.args.number c.args.ticks c.self.invariant there c.release.ensures

@@ -1,26 +1,17 @@
 use Rattle.tick_round.proofs.Rounds.{are_numbered}
-use Rattle.tick_round.proofs.GoesOn.{placed_back, may_end}
+use Rattle.tick_round.proofs.GoesOn.{can_end, may_end}
 use Rattle.tick_round.proofs.running.Running.after.Goals as goal
 
 pub update_by_workers-requires-clause-numbered : goal.update_by_workers-requires-clause-numbered
 update_by_workers-requires-clause-numbered g c κs within =
     are_numbered c.args.self.pods.pieces c.args.tick.pods c.in_ok-pieces.pieces.items c.in_ok-pieces.ensures.handed
 
-pub end-requires-clause-placed : goal.end-requires-clause-placed
-end-requires-clause-placed g c =
-    placed_back c.in_ok-pieces.begun.pods c.in_ok-pieces.pieces.items c.in-Ok.pieces.items c.in-Ok.ensures.pieces
-    c.in_ok-pieces.ensures.placed
-
-pub end-requires-clause-taken : goal.end-requires-clause-taken
-end-requires-clause-taken g c =
-    let begun = c.in_ok-pieces in (
-      c.args.self,
-      c.args.tick,
-      begun.ensures.kept,
-      may_end c.args.self c.args.tick begun.begun begun.pieces.items c.in-Ok.pieces.items begun.book c.in-Ok.book
-          c.requires.fits begun.ensures.begun begun.ensures.handed c.in-Ok.ensures.pieces begun.ensures.book
-          c.in-Ok.ensures.book,
-    )
+pub end-requires : goal.end-requires
+end-requires g c =
+    let begun = c.in_ok-pieces in
+    can_end c.args.self c.args.tick begun.begun begun.pieces.items c.in-Ok.pieces.items begun.book c.in-Ok.book
+    begun.ensures.kept begun.ensures.begun begun.ensures.handed c.in-Ok.ensures.pieces begun.ensures.book
+    c.in-Ok.ensures.book begun.ensures.placed c.requires.fits
 
 pub returns-in-Ok-clause-taken : goal.returns-in-Ok-clause-taken
 returns-in-Ok-clause-taken g c = λ pods ticks taken.

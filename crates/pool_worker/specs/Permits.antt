@@ -1,4 +1,4 @@
--- Seats, and the deques that they are of.
+-- Permits, and the deques that they are of.
 use Rattle.std.specs.Prelude.{◌≡◌, ◌≢◌, ◌<◌, ℕ, List, [], length, map, slice_index_or}
 use Rattle.std.specs.List.{sum_by}
 use Rattle.std.specs.Global.{Global}
@@ -21,21 +21,21 @@ pub record Place : Type 0 where
 abbrev pub place : RowsId × Global → List ℕ → Place
 place deque pushed = record { deque = deque; pushed = pushed }
 
--- that of a seat
-abbrev pub seat_place : {D : Type 0} → StealHandle D → Place
-seat_place handle = place (stealer_deque handle.thief) (view handle.seat).pushed
+-- that of a permit
+abbrev pub permit_place : {D : Type 0} → StealHandle D → Place
+permit_place handle = place (stealer_deque handle.thief) (view handle.permit).pushed
 
 -- that of an owner
 abbrev pub owner_place : {T P : Type 0} → Worker T Global Tally P → Place
 owner_place owner = place (worker_deque owner) (worker_view owner).pushed
 
--- the numbers of the pieces that were taken by these seats, weighed and added up
+-- the numbers of the pieces that were taken by these permits, weighed and added up
 abbrev pub taken_by : {D : Type 0} → (ℕ → ℕ) → List (StealHandle D) → ℕ
-taken_by {D} weight handles = sum_by (λ (handle : StealHandle D). sum_by weight (view handle.seat).taken) handles
+taken_by {D} weight handles = sum_by (λ (handle : StealHandle D). sum_by weight (view handle.permit).taken) handles
 
--- how many pieces were pushed to the deques of these seats
+-- how many pieces were pushed to the deques of these permits
 abbrev pub pushed_to : {D : Type 0} → List (StealHandle D) → ℕ
-pushed_to {D} handles = sum_by (λ (handle : StealHandle D). length (view handle.seat).pushed) handles
+pushed_to {D} handles = sum_by (λ (handle : StealHandle D). length (view handle.permit).pushed) handles
 
 -- how many pieces were pushed to these deques
 abbrev pub places_len : List Place → ℕ
@@ -49,12 +49,12 @@ places_weigh weight places = sum_by (λ (p : Place). sum_by weight p.pushed) pla
 abbrev pub IsInOrder : {T P : Type 0} → Stealer T Global Tally P → Type 0
 IsInOrder thief = stealer_flavor thief ≡ 0
 
--- the seat that stands at this place is of this deque, and nothing was taken by it
+-- the permit that stands at this place is of this deque, and nothing was taken by it
 pub record IsUnused {D : Type 0} (deque : Place) (own : ℕ) (handles : List (StealHandle D)) : Type 0 where
-  pub stands : get_elem? (map seat_place handles) own ≡ some deque
-  pub none : (handle : StealHandle D) → get_elem? handles own ≡ some handle → (view handle.seat).taken ≡ []
+  pub stands : get_elem? (map permit_place handles) own ≡ some deque
+  pub none : (handle : StealHandle D) → get_elem? handles own ≡ some handle → (view handle.permit).taken ≡ []
 
--- each of the first n seats, but the one at the worker's own place, has found its deque empty
+-- each of the first n permits, but the one at the worker's own place, has found its deque empty
 abbrev pub FoundAllEmpty : {D : Type 0} → List Piece → ℕ → ℕ → List (StealHandle D) → Type 0
 FoundAllEmpty {D} all own n handles =
-    (k : ℕ) (d : StealHandle D) → k < n → k ≢ own → FoundEmpty all (view (slice_index_or handles k d).seat)
+    (k : ℕ) (d : StealHandle D) → k < n → k ≢ own → FoundEmpty all (view (slice_index_or handles k d).permit)

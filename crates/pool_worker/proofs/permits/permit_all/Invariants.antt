@@ -1,8 +1,8 @@
 use Rattle.std.proofs.Common.{◌≡◌, ◌+◌, ◌≤◌, ℕ, All, map, vec_len, vec_capacity}
 use Rattle.crossbeam_deque.specs.Handles.{worker_deque, stealer_deque}
-use Rattle.pool_worker.specs.Seats.{owner_place}
+use Rattle.pool_worker.specs.Permits.{owner_place}
 use Rattle.pool_worker.specs.Slots.{IsHost, IsDealtSlot}
-use Rattle.pool_worker.proofs.seats.seat_all.Given as goal
+use Rattle.pool_worker.proofs.permits.permit_all.Given as goal
 
 abbrev pub invariant-loop-slot : goal.invariant-loop-slot
 invariant-loop-slot g l = record {

@@ -1,6 +1,6 @@
 use Rattle.std.proofs.Common.{arith, ap}
 use Rattle.piece_deques.proofs.Moves.{merges, learns}
-use Rattle.piece_deques.proofs.deque.return_seat.Goals as goal
+use Rattle.piece_deques.proofs.deque.return_permit.Goals as goal
 
 pub absorb-requires-clause-rule : goal.absorb-requires-clause-rule
 absorb-requires-clause-rule g c = merges _ _ _ _ _ c.requires.some

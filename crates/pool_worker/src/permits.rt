@@ -1,22 +1,22 @@
-//! The seats at the deques.
+//! The permits at the deques.
 
 ghost use Rattle.std.specs.Prelude.{◌≡◌, ◌<◌, ◌≤◌, ◌+◌, ℕ, [], All, map, vec_len, vec_capacity};
 ghost use Rattle.crossbeam_deque.specs.Handles.{stealer_deque, worker_deque};
-ghost use Rattle.pool_worker.specs.Seats.{owner_place, seat_place};
+ghost use Rattle.pool_worker.specs.Permits.{owner_place, permit_place};
 ghost use Rattle.pool_worker.specs.Slots.{IsHost, IsRich, IsDealtSlot};
 
 use crate::handle::StealHandle;
 use crate::slot::{DealtSlot, WorkerSlot};
-use piece_deques::{Deal, Owner, new_seat};
+use piece_deques::{Deal, Owner, new_permit};
 
-/// A seat of each deque, in their order.
-fn seat_slot<D: Deal>(owners: &mut Vec<Owner<D>>, slot: WorkerSlot<D>) -> DealtSlot<D>
+/// A permit of each deque, in their order.
+fn permit_slot<D: Deal>(owners: &mut Vec<Owner<D>>, slot: WorkerSlot<D>) -> DealtSlot<D>
     requires thieves { map stealer_deque slot.thieves.items ≡ map worker_deque owners.old.items }
     requires rich { All IsRich owners.old.items }
     ensures len { vec_len owners.new ≡ vec_len owners.old }
     ensures places { map owner_place owners.new.items ≡ map owner_place owners.old.items }
     ensures hosts { (n : ℕ) → n < 64 → All (IsHost n) owners.old.items → All (IsHost (n + 1)) owners.new.items }
-    ensures seats { map seat_place result.handles.items ≡ map owner_place owners.old.items }
+    ensures permits { map permit_place result.handles.items ≡ map owner_place owners.old.items }
     ensures room { vec_capacity result.done ≡ vec_capacity slot.done }
 {
     let WorkerSlot {
@@ -29,8 +29,8 @@ fn seat_slot<D: Deal>(owners: &mut Vec<Owner<D>>, slot: WorkerSlot<D>) -> DealtS
     let mut handles = handles;
     while let Some(thief) = thieves.pop() {
         let at = thieves.len();
-        let seat = new_seat(&mut owners[at]);
-        handles.push_reserved(StealHandle { thief, seat });
+        let permit = new_permit(&mut owners[at]);
+        handles.push_reserved(StealHandle { thief, permit });
     }
     handles.reverse();
     DealtSlot {
@@ -40,8 +40,8 @@ fn seat_slot<D: Deal>(owners: &mut Vec<Owner<D>>, slot: WorkerSlot<D>) -> DealtS
     }
 }
 
-/// A seat of each deque for each slot.
-pub(crate) fn seat_all<D: Deal>(
+/// A permit of each deque for each slot.
+pub(crate) fn permit_all<D: Deal>(
     owners: &mut Vec<Owner<D>>,
     slots: Vec<WorkerSlot<D>>,
     dealt_slots: &mut Vec<DealtSlot<D>>,
@@ -61,7 +61,7 @@ pub(crate) fn seat_all<D: Deal>(
 {
     let mut slots = slots;
     while let Some(slot) = slots.pop() {
-        let dealt_slot = seat_slot(owners, slot);
+        let dealt_slot = permit_slot(owners, slot);
         dealt_slots.push_reserved(dealt_slot);
     }
 }

@@ -1,9 +1,9 @@
 use Rattle.std.proofs.Common.{◌≡◌, ◌+◌, ◌<◌, ◌≤◌, ℕ, All, map, reverse, take, drop, vec_len, vec_capacity}
 use Rattle.std.specs.List.{AllWithin}
 use Rattle.crossbeam_deque.specs.Handles.{worker_deque, stealer_deque}
-use Rattle.pool_worker.specs.Seats.{owner_place, seat_place, taken_by, IsInOrder}
+use Rattle.pool_worker.specs.Permits.{owner_place, permit_place, taken_by, IsInOrder}
 use Rattle.pool_worker.specs.Slots.{IsHost, IsRich}
-use Rattle.pool_worker.proofs.seats.seat_slot.Given as goal
+use Rattle.pool_worker.proofs.permits.permit_slot.Given as goal
 
 abbrev pub invariant-loop-thief : goal.invariant-loop-thief
 invariant-loop-thief g l = record {
@@ -13,7 +13,7 @@ invariant-loop-thief g l = record {
   room : vec_len l.handles + vec_len l.thieves ≤ vec_capacity l.handles;
   thieves : map stealer_deque l.thieves.items ≡ take (vec_len l.thieves) (map worker_deque l.owners.items);
   in_order : All IsInOrder l.thieves.items;
-  seats : reverse (map seat_place l.handles.items) ≡ drop (vec_len l.thieves) (map owner_place l.owners.items);
+  permits : reverse (map permit_place l.handles.items) ≡ drop (vec_len l.thieves) (map owner_place l.owners.items);
   fresh : (weight : ℕ → ℕ) → taken_by weight l.handles.items ≡ 0;
   rich : AllWithin IsRich l.owners.items 0 (vec_len l.thieves);
   hosts : (n : ℕ) → n < 64 → All (IsHost n) l.initial.owners.items

@@ -2,10 +2,10 @@ use Rattle.std.proofs.Common.{◌≡◌, ◌≤◌, All, map, vec_len, vec_capac
 use Rattle.std.proofs.lemmas.List.Elements.{All-weaker}
 use Rattle.crossbeam_deque.specs.Handles.{worker_deque, stealer_deque}
 use Rattle.piece_deques.proofs.Lists.{front, last, grown}
-use Rattle.pool_worker.specs.Seats.{owner_place}
+use Rattle.pool_worker.specs.Permits.{owner_place}
 use Rattle.pool_worker.specs.Slots.{IsHost, IsDealtSlot}
 use Rattle.pool_worker.proofs.Places.{same_deques}
-use Rattle.pool_worker.proofs.seats.seat_all.Goals as goal
+use Rattle.pool_worker.proofs.permits.permit_all.Goals as goal
 
 pub loop-slot-preserved : goal.loop-slot-preserved
 loop-slot-preserved g c =
@@ -14,8 +14,8 @@ loop-slot-preserved g c =
     let slot = c.in-Some.slot in
     let left = c.pop.new.self in
     let pop = c.in-Some.ensures.items in
-    let e = c.seat_slot-dealt_slot.ensures in
-    let owners = c.seat_slot-dealt_slot.new.owners in
+    let e = c.permit_slot-dealt_slot.ensures in
+    let owners = c.permit_slot-dealt_slot.new.owners in
     let new = c.push_reserved.new.self in
     let put = c.push_reserved.ensures in
     let deques = same_deques owners.items l.owners.items e.places in
@@ -37,9 +37,9 @@ loop-slot-preserved g c =
           let q = i.dealt_slots room first in
           let mine = last (λ slot. room ≤ vec_capacity slot.done) l.slots.items left.items slot pop q.1 in (
             grown (IsDealtSlot room (map owner_place owners.items)) l.dealt_slots.items new.items
-                c.seat_slot-dealt_slot.result put.items
+                c.permit_slot-dealt_slot.result put.items
                 (subst (λ places. All (IsDealtSlot room places) l.dealt_slots.items) (sym e.places) q.0)
-                (record { seats = e.seats ∙ sym e.places; room_is = omega (arith, mine, e.room) }),
+                (record { permits = e.permits ∙ sym e.places; room_is = omega (arith, mine, e.room) }),
             front (λ slot. room ≤ vec_capacity slot.done) l.slots.items left.items slot pop q.1,
           ));
     }

@@ -4,18 +4,18 @@ use Rattle.std.proofs.lemmas.List.Sorted.{sum_by-IsPermutation}
 use Rattle.crossbeam_deque.specs.Handles.{view, IsPassOf, worker_deque, stealer_deque, worker_view}
 use Rattle.piece_deques.proofs.Lists.{front, last, map_reverse, map_set, below_set, above_set, sum_grown}
 use Rattle.pool_worker.specs.declared.handle.StealHandle.{StealHandle}
-use Rattle.pool_worker.specs.Seats.{owner_place, seat_place, IsInOrder}
+use Rattle.pool_worker.specs.Permits.{owner_place, permit_place, IsInOrder}
 use Rattle.pool_worker.proofs.Room.{place_same}
 use Rattle.pool_worker.specs.Slots.{IsHost, IsRich}
-use Rattle.pool_worker.proofs.Places.{paired, seated}
-use Rattle.pool_worker.proofs.seats.seat_slot.Goals as goal
+use Rattle.pool_worker.proofs.Places.{paired, granted}
+use Rattle.pool_worker.proofs.permits.permit_slot.Goals as goal
 
 pub invariant_of-push_reserved : goal.invariant_of-push_reserved
 invariant_of-push_reserved g c =
     let l = c.loop-thief in
     let at = c.len-at.result in
     let old = c.index_mut.result.now in
-    let s = c.new_seat-seat.ensures in
+    let s = c.new_permit-permit.ensures in
     let p = paired stealer_deque worker_deque l.owners.items old (vec_len l.thieves) at
     (omega (arith, c.in-Some.ensures.cases, c.len-at.ensures))
     (omega (arith, c.in-Some.ensures.cases, c.len-at.ensures, l.invariant.within, l.owners.ok.0))
@@ -24,9 +24,9 @@ invariant_of-push_reserved g c =
     record {
       in_order = last IsInOrder l.thieves.items c.pop.new.self.items c.in-Some.thief c.in-Some.ensures.items
           l.invariant.in_order;
-      fits = subst (λ d. IsPassOf d c.new_seat-seat.result) (sym p.1) s.fits;
-      one = ap (λ v. v.parts) s.seat;
-      few = (let n = ap (λ v. length v.taken) s.seat in omega arith);
+      fits = subst (λ d. IsPassOf d c.new_permit-permit.result) (sym p.1) s.fits;
+      one = ap (λ v. v.parts) s.permit;
+      few = (let n = ap (λ v. length v.taken) s.permit in omega arith);
     }
 
 pub loop-thief-preserved : goal.loop-thief-preserved
@@ -37,9 +37,9 @@ loop-thief-preserved g c =
     let n = vec_len l.thieves in
     let owners = l.owners.items in
     let old = c.index_mut.result.now in
-    let new = c.new_seat-seat.new.owner in
-    let seat = c.new_seat-seat.result in
-    let s = c.new_seat-seat.ensures in
+    let new = c.new_permit-permit.new.owner in
+    let permit = c.new_permit-permit.result in
+    let s = c.new_permit-permit.ensures in
     let row = c.in-Some.ensures.items in
     let was = c.index_mut.ensures.value in
     let left = c.pop.new.self in
@@ -49,7 +49,7 @@ loop-thief-preserved g c =
     let p = paired stealer_deque worker_deque owners old n at next in' was l.thieves.items left.items c.in-Some.thief
     row i.thieves in
     let pushed : (worker_view new).pushed ≡ (worker_view old).pushed = ap (λ v. v.pushed) s.owner in
-    let pushed' : (view seat).pushed ≡ (worker_view old).pushed = ap (λ v. v.pushed) s.seat in
+    let pushed' : (view permit).pushed ≡ (worker_view old).pushed = ap (λ v. v.pushed) s.permit in
     let same : owner_place new ≡ owner_place old =
     place_same (worker_deque new) (worker_deque old) (worker_view new).pushed (worker_view old).pushed s.same.0
     pushed in
@@ -63,16 +63,16 @@ loop-thief-preserved g c =
       thieves = p.0
           ∙ (ap (take at) (sym deques) ∙ ap (λ k. take k (map worker_deque (set owners at new))) c.len-at.ensures);
       in_order = front IsInOrder l.thieves.items left.items c.in-Some.thief row i.in_order;
-      seats =
-          seated seat_place owner_place owners old n at next in' was l.handles.items c.push_reserved.new.self.items _
-          put.items i.seats
-          (place_same (stealer_deque c.in-Some.thief) (worker_deque old) (view seat).pushed (worker_view old).pushed p.1
-          pushed')
+      permits =
+          granted permit_place owner_place owners old n at next in' was l.handles.items c.push_reserved.new.self.items _
+          put.items i.permits
+          (place_same (stealer_deque c.in-Some.thief) (worker_deque old) (view permit).pushed (worker_view old).pushed
+          p.1 pushed')
           ∙ (ap (drop at) (sym places) ∙ ap (λ k. drop k (map owner_place (set owners at new))) c.len-at.ensures);
       fresh = λ h. (
-          let a = sum_grown (λ (r : StealHandle g.row.D.Denot). sum_by h (view r.seat).taken) l.handles.items
+          let a = sum_grown (λ (r : StealHandle g.row.D.Denot). sum_by h (view r.permit).taken) l.handles.items
           c.push_reserved.new.self.items _ put.items in
-          let b : sum_by h (view seat).taken ≡ 0 = ap (λ v. sum_by h v.taken) s.seat in
+          let b : sum_by h (view permit).taken ≡ 0 = ap (λ v. sum_by h v.taken) s.permit in
           omega (arith, i.fresh h));
       rich = subst (AllWithin IsRich (set owners at new) 0) c.len-at.ensures
           (below_set IsRich owners at new (subst (AllWithin IsRich owners 0) next i.rich));
@@ -98,13 +98,13 @@ loop-thief-preserved g c =
 pub invariant_of-result-clause-fresh : goal.invariant_of-result-clause-fresh
 invariant_of-result-clause-fresh g c = λ h.
     sum_by-IsPermutation
-    (λ (r : StealHandle g.row.D.Denot). sum_by h (view r.seat).taken) _ _ c.reverse.ensures.permutation
+    (λ (r : StealHandle g.row.D.Denot). sum_by h (view r.permit).taken) _ _ c.reverse.ensures.permutation
     ∙ c.loop-thief.invariant.fresh h
 
-pub returns-clause-seats : goal.returns-clause-seats
-returns-clause-seats g c =
+pub returns-clause-permits : goal.returns-clause-permits
+returns-clause-permits g c =
     let l = c.loop-thief in
     let none : vec_len l.thieves ≡ 0 = c.in_default.ensures.cases.0 in
-    ap (map seat_place) c.reverse.ensures.items
-    ∙ (map_reverse seat_place l.handles.items
-    ∙ (l.invariant.seats ∙ (ap (λ k. drop k (map owner_place l.owners.items)) none ∙ l.invariant.places)))
+    ap (map permit_place) c.reverse.ensures.items
+    ∙ (map_reverse permit_place l.handles.items
+    ∙ (l.invariant.permits ∙ (ap (λ k. drop k (map owner_place l.owners.items)) none ∙ l.invariant.places)))

@@ -1,0 +1,9 @@
+//! What threads of workers run on.
+
+use std::sync::Wait;
+use std::thread::Threads;
+
+/// Starts threads that may wait, and is shared by them.
+pub trait Runtime: Threads + Wait + Sync {}
+
+impl<R: Threads + Wait + Sync> Runtime for R {}
