@@ -2,10 +2,12 @@
 
 ghost use Rattle.std.specs.Prelude.{◌≡◌, ◌<◌};
 
-use event_book::{Blanks, Entry, EventBook, Shares, Totals};
-use std::marker::Brand;
+use crate::rounds::{BookCall, over_book};
+use event_book::{Entry, EventBook, Shares, Totals};
+use kubelet_replay::NoGate;
 use std::process::Abort;
 use std::sync::ledger::Ledger;
+use std::test::Fail;
 
 /// Whether the book has room for an update with this many events and orders, which it then has.
 fn is_entered<U: Ledger, E: Ledger, O: Ledger>(
@@ -21,12 +23,14 @@ fn is_entered<U: Ledger, E: Ledger, O: Ledger>(
 }
 
 /// A book takes 2^63 events and 2^63 orders, and none beyond that.
-fn fill<U: Ledger, E: Ledger, O: Ledger>(rt: &impl Abort, blanks: Blanks)
-    requires names { (blanks.updates.name ≡ U.name) × (blanks.events.name ≡ E.name) × (blanks.orders.name ≡ O.name) }
-    requires parts { (blanks.updates.parts ≡ U.parts) × (blanks.events.parts ≡ E.parts)
-        × (blanks.orders.parts ≡ O.parts) }
+pub(crate) fn fill<U: Ledger, E: Ledger, O: Ledger>(
+    rt: &impl Abort,
+    book: EventBook<U, E, O>,
+    share: Shares<U, E, O>,
+)
+    requires { 0 < share.parts }
 {
-    let (mut book, mut share) = EventBook::<U, E, O>::new(blanks);
+    let (mut book, mut share) = (book, share);
     assert!(rt; is_entered(&mut book, &mut share, 1 << 62, 0));
     assert!(rt; is_entered(&mut book, &mut share, 1 << 62, 1 << 62));
     assert!(rt; !is_entered(&mut book, &mut share, 1, 0));
@@ -41,6 +45,6 @@ fn fill<U: Ledger, E: Ledger, O: Ledger>(rt: &impl Abort, blanks: Blanks)
 }
 
 #[test]
-fn a_full_book_takes_nothing_more(rt: HostRuntime) {
-    fill::<Brand, Brand, Brand>(&rt, Blanks::new());
+fn a_full_book_takes_nothing_more(rt: HostRuntime) -> Result<(), Fail> {
+    over_book(&rt, BookCall::<NoGate>::Enter)
 }

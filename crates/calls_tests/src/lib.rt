@@ -12,8 +12,6 @@ mod gates;
 #[cfg(test)]
 mod halting;
 #[cfg(test)]
-mod nodes;
-#[cfg(test)]
 mod overlap_tests;
 #[cfg(test)]
 mod pods;

@@ -18,11 +18,7 @@ fn workers_overlap(rt: HostRuntime) -> Result<(), Fail> {
             let text = trace_text(rt.alloc(), pods, 1)?;
             for round in ROUNDS {
                 let gate = Meeting::new(&rt, workers, pods)?;
-                let scenario = Scenario {
-                    text: text.as_str(),
-                    workers,
-                    gate: &gate,
-                };
+                let scenario = Scenario::new(text.as_str(), workers, &gate);
                 round.make(&rt, &scenario)?;
                 gate.expect(&rt, 1);
             }
@@ -36,11 +32,7 @@ fn each_tick_passes_the_gate_once_for_each_pod(rt: HostRuntime) -> Result<(), Fa
     // one worker waits for nobody
     let gate = Meeting::new(&rt, 1, 20)?;
     let text = trace_text(rt.alloc(), 20, 50)?;
-    let scenario = Scenario {
-        text: text.as_str(),
-        workers: 3,
-        gate: &gate,
-    };
+    let scenario = Scenario::new(text.as_str(), 3, &gate);
     replay_text(&rt, &scenario)?;
     gate.expect(&rt, 50);
     Ok(())
@@ -66,11 +58,7 @@ fn updates_take_their_time_between_the_calls(rt: HostRuntime) -> Result<(), Fail
     for round in ROUNDS {
         let gate = Stopwatch::new(&rt, 60)?;
         let idle = idle_time(&gate, rt.alloc(), 60)?;
-        let scenario = Scenario {
-            text: text.as_str(),
-            workers: 2,
-            gate: &gate,
-        };
+        let scenario = Scenario::new(text.as_str(), 2, &gate);
         round.make(&rt, &scenario)?;
         let times = gate.sorted(rt.alloc())?;
         let shortest = times.first().copied().unwrap_or(0);

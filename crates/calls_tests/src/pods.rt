@@ -1,21 +1,16 @@
-//! The first tick of a trace, whose pods a pool updates.
+//! The pods of a trace, each with what the first tick shows of it.
 
 ghost use Rattle.std.specs.Prelude.{◌≡◌, ◌≤◌, length, IfOk, IsTrue, OnOk};
 ghost use Rattle.observations.specs.Limits.{most_pods};
 ghost use Rattle.test_pods.specs.Pods.{ArePending};
 
 use crate::scenario::Scenario;
-use event_book::{Blanks, EventBook};
+use kubelet_replay::Gate;
 use manifest::{MaxRestartDelay, PodSpec};
 use observations::{MOST_PODS, PodObs, TickObs};
 use pod_piece::PodPiece;
-use pod_pool::{Gate, PoolFault, update_all};
-use std::alloc::{AllocGlobal, Global};
-use std::marker::Brand;
-use std::sync::ledger::Ledger;
-use std::sync::{Mutex, Wait};
+use std::alloc::Global;
 use std::test::Fail;
-use std::thread::Threads;
 use test_pods::hand;
 
 /// A pod to which an observation was handed.
@@ -58,48 +53,14 @@ fn pieces_of(alloc: Global, pods: Vec<PodSpec>, tick: TickObs) -> Result<Vec<Pod
     Ok(pieces)
 }
 
-/// Updates the pods by the scenario's workers, over a book with these ledgers.
-fn update<U: Ledger + Send, E: Ledger + Send, O: Ledger + Send, R: Threads + Wait + Sync, G: Gate>(
-    rt: &R,
+/// The pods of the scenario's trace, to which the first tick was handed.
+pub(crate) fn first_pieces<G: Gate>(
     alloc: Global,
-    blanks: Blanks,
-    pieces: Vec<PodPiece>,
     scenario: &Scenario<'_, G>,
-) -> Result<(), Fail>
-    requires pending { ArePending pieces.items }
-    requires few { length pieces.items ≤ most_pods }
-    requires names { (blanks.updates.name ≡ U.name) × (blanks.events.name ≡ E.name) × (blanks.orders.name ≡ O.name) }
-    requires parts { (blanks.updates.parts ≡ U.parts) × (blanks.events.parts ≡ E.parts)
-        × (blanks.orders.parts ≡ O.parts) }
+) -> Result<Vec<PodPiece>, Fail>
+    ensures pending { IfOk result (λ pieces. ArePending pieces.items) }
+    ensures few { IfOk result (λ pieces. length pieces.items ≤ most_pods) }
 {
-    let (book, share) = EventBook::<U, E, O>::new(blanks);
-    let book = Mutex::new(book);
-    match update_all(
-        rt,
-        alloc,
-        pieces,
-        &book,
-        share,
-        scenario.workers,
-        scenario.gate,
-    ) {
-        Ok(answer) => {
-            drop(answer);
-            Ok(())
-        }
-        Err(fault) => {
-            drop(fault);
-            Err(Fail::new("memory was refused"))
-        }
-    }
-}
-
-/// Updates the pods of the scenario's trace, once each was handed the first tick.
-pub(crate) fn update_pods<H: AllocGlobal + Threads + Wait + Sync, G: Gate>(
-    rt: &H,
-    scenario: &Scenario<'_, G>,
-) -> Result<(), Fail> {
-    let alloc = rt.alloc();
     let trace = scenario.trace(alloc)?;
     let Some(tick) = trace.ticks.into_vec().into_iter().next() else {
         return Err(Fail::new("the trace has no tick"));
@@ -108,5 +69,5 @@ pub(crate) fn update_pods<H: AllocGlobal + Threads + Wait + Sync, G: Gate>(
     if pieces.len() > MOST_PODS {
         return Err(Fail::new("the trace has too many pods"));
     }
-    update::<Brand, Brand, Brand, H, G>(rt, alloc, Blanks::new(), pieces, scenario)
+    Ok(pieces)
 }

@@ -1,14 +1,25 @@
 //! The calls that update pods under a gate.
 
-use crate::nodes::take_ticks;
-use crate::pods::update_pods;
+ghost use Rattle.std.specs.Prelude.{◌≡◌};
+ghost use Rattle.event_book.specs.Totals.{nothing};
+ghost use Rattle.event_book.specs.Shares.{most_parts, part};
+
+use crate::book_tests::fill;
+use crate::pods::first_pieces;
 use crate::replays::replay_text;
 use crate::scenario::Scenario;
+use event_book::{Blanks, EventBook, Shares, WholeBook};
 use kubelet_replay::Gate;
-use std::alloc::AllocGlobal;
-use std::sync::Wait;
+use observations::{MOST_PODS, TickObs};
+use pod_pool::{PoolFault, update_all};
+use std::alloc::{AllocGlobal, Global};
+use std::marker::Brand;
+use std::process::Abort;
+use std::sync::ledger::Ledger;
+use std::sync::{Mutex, Wait};
 use std::test::Fail;
 use std::thread::Threads;
+use tick_round::Node;
 
 /// A call that updates pods under a gate.
 #[derive(Clone, Copy)]
@@ -23,17 +34,127 @@ pub(crate) enum Round {
 
 pub(crate) const ROUNDS: [Round; 3] = [Round::Replay, Round::Tick, Round::UpdateAll];
 
+/// A call over a book that is made for it.
+#[derive(Clone, Copy)]
+pub(crate) enum BookCall<'a, G: Gate> {
+    /// `Node::tick`, for each tick of the scenario's trace.
+    Tick(&'a Scenario<'a, G>),
+    /// `update_all`, for its first tick.
+    UpdateAll(&'a Scenario<'a, G>),
+    /// `EventBook::enter`, until the book is full.
+    Enter,
+}
+
+/// The node takes a tick, whose pods the scenario's workers update.
+fn take<U: Ledger + Send, E: Ledger + Send, O: Ledger + Send, R: Threads + Wait + Sync, G: Gate>(
+    rt: &R,
+    node: &mut Node<U, E, O>,
+    tick: TickObs,
+    scenario: &Scenario<'_, G>,
+) -> Result<(), Fail> {
+    if !node.fits(&tick) {
+        return Err(Fail::new("the node does not take its tick"));
+    }
+    node.tick(rt, tick, scenario.workers, scenario.gate)?;
+    Ok(())
+}
+
+/// A node with the pods of the scenario's trace takes the trace's ticks.
+fn run<U: Ledger + Send, E: Ledger + Send, O: Ledger + Send, R: Threads + Wait + Sync, G: Gate>(
+    rt: &R,
+    alloc: Global,
+    book: WholeBook<U, E, O>,
+    scenario: &Scenario<'_, G>,
+) -> Result<(), Fail>
+    requires { book ≡ nothing }
+{
+    let trace = scenario.trace(alloc)?;
+    let pods = trace.pods.into_vec();
+    if pods.len() > MOST_PODS {
+        return Err(Fail::new("the trace has too many pods"));
+    }
+    let mut node = Node::new(alloc, trace.node, pods, book)?;
+    for tick in trace.ticks.into_vec() {
+        take(rt, &mut node, tick, scenario)?;
+    }
+    Ok(())
+}
+
+/// The pods of the scenario's trace take the first tick, as this round's pieces.
+fn update<U: Ledger + Send, E: Ledger + Send, O: Ledger + Send, R: Threads + Wait + Sync, G: Gate>(
+    rt: &R,
+    alloc: Global,
+    book: &Mutex<EventBook<U, E, O>>,
+    share: Shares<U, E, O>,
+    scenario: &Scenario<'_, G>,
+) -> Result<(), Fail>
+    requires whole { share ≡ part most_parts nothing }
+    requires level { (U.parts ≡ most_parts) × (E.parts ≡ most_parts) × (O.parts ≡ most_parts) }
+{
+    let pieces = first_pieces(alloc, scenario)?;
+    let answer = update_all(
+        rt,
+        alloc,
+        pieces,
+        book,
+        share,
+        scenario.workers,
+        scenario.gate,
+    );
+    let is_updated = answer.is_ok();
+    drop(answer);
+    if is_updated {
+        Ok(())
+    } else {
+        Err(Fail::new("memory was refused"))
+    }
+}
+
+/// The call, over a book with these ledgers.
+fn make<
+    U: Ledger + Send,
+    E: Ledger + Send,
+    O: Ledger + Send,
+    R: Abort + Threads + Wait + Sync,
+    G: Gate,
+>(rt: &R, alloc: Global, blanks: Blanks, call: BookCall<'_, G>) -> Result<(), Fail>
+    requires names { (blanks.updates.name ≡ U.name) × (blanks.events.name ≡ E.name) × (blanks.orders.name ≡ O.name) }
+    requires parts { (blanks.updates.parts ≡ U.parts) × (blanks.events.parts ≡ E.parts)
+        × (blanks.orders.parts ≡ O.parts) }
+{
+    match call {
+        BookCall::Tick(scenario) => run(rt, alloc, WholeBook::<U, E, O>::new(blanks), scenario),
+        BookCall::UpdateAll(scenario) => {
+            let (book, share) = EventBook::<U, E, O>::new(blanks);
+            update(rt, alloc, &Mutex::new(book), share, scenario)
+        }
+        BookCall::Enter => {
+            let (book, share) = EventBook::<U, E, O>::new(blanks);
+            fill(rt, book, share);
+            Ok(())
+        }
+    }
+}
+
+/// The call, over a book of its own.
+pub(crate) fn over_book<H: Abort + AllocGlobal + Threads + Wait + Sync, G: Gate>(
+    rt: &H,
+    call: BookCall<'_, G>,
+) -> Result<(), Fail> {
+    make::<Brand, Brand, Brand, H, G>(rt, rt.alloc(), Blanks::new(), call)
+}
+
 impl Round {
     /// Updates the pods of the scenario's trace.
-    pub(crate) fn make<H: AllocGlobal + Threads + Wait + Sync, G: Gate>(
+    pub(crate) fn make<H: Abort + AllocGlobal + Threads + Wait + Sync, G: Gate>(
         self,
         rt: &H,
         scenario: &Scenario<'_, G>,
     ) -> Result<(), Fail> {
         match self {
             Round::Replay => replay_text(rt, scenario),
-            Round::Tick => take_ticks(rt, scenario),
-            Round::UpdateAll => update_pods(rt, scenario),
+            Round::Tick => over_book(rt, BookCall::Tick(scenario)),
+            Round::UpdateAll => over_book(rt, BookCall::UpdateAll(scenario)),
         }
     }
 }

@@ -17,7 +17,19 @@ pub(crate) struct Scenario<'a, G: Gate> {
     ghost most: { workers ≤ most_workers },
 }
 
-impl<G: Gate> Scenario<'_, G> {
+impl<'a, G: Gate> Scenario<'a, G> {
+    /// The pods of the trace that this text says, and this many workers.
+    pub(crate) fn new(text: &'a str, workers: usize, gate: &'a G) -> Scenario<'a, G>
+        requires some { 0 < workers }
+        requires most { workers ≤ most_workers }
+    {
+        Scenario {
+            text,
+            workers,
+            gate,
+        }
+    }
+
     /// The trace that the text says.
     pub(crate) fn trace(&self, alloc: Global) -> Result<Trace, LineFault> {
         read_trace(alloc, Format::Standard, self.text.as_bytes())

@@ -1,13 +1,16 @@
 //! The greatest lines, traces, inputs and lists of steps.
 
-use crate::calls::{Call, NOTHING, Written, expect, expect_answer, expect_of, refused};
-use crate::replay_tests::NODE_ALONE;
+use crate::calls::{Call, NOTHING, expect, expect_answer, expect_of, refused};
+use crate::replay_tests::{FIRST_REPORT, FIRST_TICK, NODE_ALONE};
 use kubelet_replay::{Counted, MemSink, MemSource, RunFault, StepsFault, read_steps};
 use std::alloc::{AllocError, Global};
 use std::io;
 use std::io::Read;
 use std::test::Fail;
 use trace::FaultKind;
+
+/// A container that runs, as a tick lists it.
+const RUNS: &str = "{\"name\":\"c\",\"attempt\":0,\"state\":1}";
 
 /// A node line, with its newline.
 const NODE: &str = "{\"kind\":\"node\",\"name\":\"n1\"}\n";
@@ -60,51 +63,47 @@ fn the_first_of_two_faults_is_answered(rt: HostRuntime) -> Result<(), Fail> {
     Ok(())
 }
 
-/// A pod, and ticks a second apart from 0 on, which list none of its containers.
-fn idle_ticks(alloc: Global, count: u64) -> Result<String, AllocError> {
-    let mut text = String::from_str(alloc, NODE)?;
-    text.push_str(
-        "{\"kind\":\"pod\",\"pod\":{\"metadata\":{\"name\":\"a\"},\"spec\":{\"containers\":[{\"name\":\"c\"}]}}}\n",
-    )?;
-    for at in 0..count {
+/// `FIRST_TICK`, and behind it this many ticks more, a second apart, in which its pod runs on.
+fn longer_trace(alloc: Global, more: u64) -> Result<String, AllocError> {
+    let mut text = String::from_str(alloc, FIRST_TICK)?;
+    for at in 101..more.saturating_add(101) {
         let tick = format!(in alloc;
-            "{{\"kind\":\"tick\",\"at\":{at},\"pods\":[{{\"pod\":\"default/a\",\"containers\":[]}}]}}\n"
+            "{{\"kind\":\"tick\",\"at\":{at},\"pods\":[{{\"pod\":\"default/a\",\"containers\":[{RUNS}]}}]}}\n"
         )?;
         text.push_str(tick.as_str())?;
     }
     Ok(text)
 }
 
-/// What is written where the last of 20,000 ticks alone lists the container.
-const LAST_TICK: Written = Written {
-    report: "node n1 pods=1 ticks=20000
-event 19999 default/a c started 0
-event 19999 default/a c ready
-event 19999 default/a - phase Running
-pod 0 default/a phase=Running reason=- qos=BestEffort
-condition 0 PodScheduled True 0
-condition 0 Initialized True 0
-condition 0 ContainersReady True 19999
-condition 0 Ready True 19999
-container 0 c state=Running code=- restarts=0 ready=true started=true
-nodecondition MemoryPressure False 0
-nodecondition DiskPressure False 0
-nodecondition PIDPressure False 0
-totals updates=20000 events=3 orders=0
-",
-    line: "ok pods=1 ticks=20000\n",
-};
+/// The report of `FIRST_TICK` with another number of ticks, in which nothing happens any more.
+fn longer_report(alloc: Global, ticks: u64) -> Result<String, AllocError> {
+    let told = FIRST_REPORT
+        .strip_prefix("node n1 pods=1 ticks=1\n")
+        .and_then(|told| told.strip_suffix("totals updates=1 events=3 orders=0\n"))
+        .unwrap_or_default();
+    format!(in alloc;
+        "node n1 pods=1 ticks={ticks}\n{told}totals updates={ticks} events=3 orders=0\n"
+    )
+}
 
 #[test]
 fn traces_may_have_20_000_ticks(rt: HostRuntime) -> Result<(), Fail> {
-    let mut text = idle_ticks(rt.alloc(), 19_999)?;
-    text.push_str(
-        r#"{"kind":"tick","at":19999,"pods":[{"pod":"default/a","containers":[{"name":"c","state":1}]}]}"#,
-    )?;
-    let input = MemSource::new(text.as_bytes(), 4096);
-    expect_of(&rt, Call::Played, input, Ok(()), LAST_TICK);
+    let mut text = longer_trace(rt.alloc(), 19_999)?;
+    let report = longer_report(rt.alloc(), 20_000)?;
+    let mut room = [0u8; 1000];
+    let mut input = MemSource::new(text.as_bytes(), 4096);
+    let mut output = MemSink::new(&mut room, 100);
+    let answer = Call::Played.make(&rt, &mut input, &mut output);
+    expect_answer(
+        &rt,
+        Call::Played,
+        answer,
+        output.written(),
+        Ok(()),
+        report.as_bytes(),
+    );
     // one more tick, whose moment is faulty too
-    text.push_str("\n{\"kind\":\"tick\",\"at\":0}\n")?;
+    text.push_str("{\"kind\":\"tick\",\"at\":0}\n")?;
     let wanted = refused(20_003, FaultKind::TooMany);
     let input = MemSource::new(text.as_bytes(), 4096);
     expect_of(&rt, Call::Played, input, wanted, NOTHING);
@@ -141,25 +140,25 @@ fn inputs_may_have_64_mebibytes(rt: HostRuntime) {
 }
 
 #[test]
-fn steps_files_may_have_100_000_steps(rt: HostRuntime) -> Result<(), Fail> {
-    let mut text = "pop 0\n".repeat(rt.alloc(), 100_000)?;
-    let steps = read_steps(rt.alloc(), text.as_bytes())?;
-    assert_eq!(rt; steps.as_slice().len(), 100_000);
-    // an empty line is no step, and is counted
-    text.push_str("\npop 0")?;
-    let answer = read_steps(rt.alloc(), text.as_bytes());
-    assert_eq!(rt; answer.err(), Some(StepsFault::Line(100_002)));
-    Ok(())
-}
-
-#[test]
-fn steps_files_may_have_one_mebibyte(rt: HostRuntime) -> Result<(), Fail> {
-    let mut text = "\n".repeat(rt.alloc(), 1_048_576)?;
-    let steps = read_steps(rt.alloc(), text.as_bytes())?;
-    assert_eq!(rt; steps.as_slice().len(), 0);
-    // one byte more, which would be a faulty line
-    text.push_str("x")?;
-    let answer = read_steps(rt.alloc(), text.as_bytes());
-    assert_eq!(rt; answer.err(), Some(StepsFault::TooLong));
+fn steps_files_may_have_100_000_steps_and_one_mebibyte(rt: HostRuntime) -> Result<(), Fail> {
+    for (line, lines, steps, end, fault) in [
+        // an empty line is no step, and is counted
+        (
+            "pop 0\n",
+            100_000,
+            100_000,
+            "\npop 0",
+            StepsFault::Line(100_002),
+        ),
+        // one byte more, which would be a faulty line
+        ("\n", 1_048_576, 0, "x", StepsFault::TooLong),
+    ] {
+        let mut text = line.repeat(rt.alloc(), lines)?;
+        let read = read_steps(rt.alloc(), text.as_bytes())?;
+        assert_eq!(rt; read.as_slice().len(), steps);
+        text.push_str(end)?;
+        let answer = read_steps(rt.alloc(), text.as_bytes());
+        assert_eq!(rt; answer.err(), Some(fault));
+    }
     Ok(())
 }

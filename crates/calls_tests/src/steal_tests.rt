@@ -11,11 +11,7 @@ use std::test::Fail;
 fn tick_ends_by_a_theft(rt: HostRuntime) -> Result<(), Fail> {
     let gate = Pair::new(&rt);
     let text = trace_text(rt.alloc(), 3, 1)?;
-    let scenario = Scenario {
-        text: text.as_str(),
-        workers: 2,
-        gate: &gate,
-    };
+    let scenario = Scenario::new(text.as_str(), 2, &gate);
     replay_text(&rt, &scenario)?;
     gate.expect(&rt);
     Ok(())

@@ -1,5 +1,5 @@
 -- The program's command line, as clap's contracts see it.
-use Rattle.std.specs.Prelude.{◌≡◌, Some, [], ◌∷◌, codes, true, false}
+use Rattle.std.specs.Prelude.{◌≡◌, ℕ, List, Some, [], ◌∷◌, codes, true, false}
 use Rattle.clap.specs.declared.builder.action.ArgAction.TheVariants.{SetTrue}
 use Rattle.clap.specs.Words.{App, Rule, app_of, new_app, new_rule, with_rule, with_subcommand}
 use Rattle.clap.specs.declared.builder.command.Command.{Command}
@@ -28,19 +28,21 @@ extended_rule = record (new_rule (codes "extended")) {
   action = Some SetTrue;
 }
 
+-- each subcommand has a trace first: `NAME TRACE`
+abbrev pub of_trace : List ℕ → App
+of_trace name = with_rule (new_app name) trace_rule
+
 -- `run TRACE --workers N --extended`
 abbrev pub run : App
-run = with_rule (with_rule (with_rule (new_app (codes "run")) trace_rule) workers_rule) extended_rule
+run = with_rule (with_rule (of_trace (codes "run")) workers_rule) extended_rule
 
 -- `check TRACE --extended`
 abbrev pub check : App
-check = with_rule (with_rule (new_app (codes "check")) trace_rule) extended_rule
+check = with_rule (of_trace (codes "check")) extended_rule
 
 -- `play TRACE STEPS --workers N --extended`
 abbrev pub play : App
-play =
-    with_rule (with_rule (with_rule (with_rule (new_app (codes "play")) trace_rule) steps_rule) workers_rule)
-    extended_rule
+play = with_rule (with_rule (with_rule (of_trace (codes "play")) steps_rule) workers_rule) extended_rule
 
 -- the command wants one of its subcommands
 abbrev pub needing_one : App → App

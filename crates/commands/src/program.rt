@@ -2,8 +2,8 @@
 
 ghost use Rattle.std.specs.Prelude.{◌≡◌, IfOk, false};
 ghost use Rattle.clap.specs.Words.{rule_of};
-ghost use Rattle.commands.specs.Program.{trace_rule, steps_rule, workers_rule, extended_rule, run, check, play};
-ghost use Rattle.commands.specs.Program.{program, IsCommand};
+ghost use Rattle.commands.specs.Program.{trace_rule, steps_rule, workers_rule, extended_rule, of_trace};
+ghost use Rattle.commands.specs.Program.{run, check, play, program, IsCommand};
 
 use clap::{Arg, ArgAction, Command};
 use std::alloc::{AllocError, Global};
@@ -13,6 +13,14 @@ const VERSION: &str = "0.9.0";
 
 const ABOUT: &str =
     "Replays what a kubelet would have decided on a node, from the node's recorded trace.";
+
+const RUN_ABOUT: &str =
+    "Writes the report of a trace: why each pod was restarted, became unready or was evicted";
+
+const CHECK_ABOUT: &str = "Says whether a file is a trace, or names its first faulty line";
+
+const PLAY_ABOUT: &str =
+    "Writes the same report, with workers that take the steps of a steps file, in their order";
 
 const TRACE_HELP: &str =
     "The node's recorded trace, a file of JSON lines: the node's configuration, its pods, and what was \
@@ -65,14 +73,21 @@ fn extended_arg<'a>(alloc: Global) -> Arg<'a>
         .help(EXTENDED_HELP)
 }
 
+/// A subcommand that has a trace.
+fn of_trace<'a>(
+    alloc: Global,
+    name: &'static str,
+    about: &'static str,
+) -> Result<Command<'a>, AllocError>
+    ensures { IfOk result (IsCommand (of_trace name.now)) }
+{
+    Command::new(alloc, name).about(about).arg(trace_arg(alloc))
+}
+
 fn run_command<'a>(alloc: Global) -> Result<Command<'a>, AllocError>
     ensures { IfOk result (IsCommand run) }
 {
-    Command::new(alloc, "run")
-        .about(
-            "Writes the report of a trace: why each pod was restarted, became unready or was evicted",
-        )
-        .arg(trace_arg(alloc))?
+    of_trace(alloc, "run", RUN_ABOUT)?
         .arg(workers_arg(alloc))?
         .arg(extended_arg(alloc))
 }
@@ -80,20 +95,13 @@ fn run_command<'a>(alloc: Global) -> Result<Command<'a>, AllocError>
 fn check_command<'a>(alloc: Global) -> Result<Command<'a>, AllocError>
     ensures { IfOk result (IsCommand check) }
 {
-    Command::new(alloc, "check")
-        .about("Says whether a file is a trace, or names its first faulty line")
-        .arg(trace_arg(alloc))?
-        .arg(extended_arg(alloc))
+    of_trace(alloc, "check", CHECK_ABOUT)?.arg(extended_arg(alloc))
 }
 
 fn play_command<'a>(alloc: Global) -> Result<Command<'a>, AllocError>
     ensures { IfOk result (IsCommand play) }
 {
-    Command::new(alloc, "play")
-        .about(
-            "Writes the same report, with workers that take the steps of a steps file, in their order",
-        )
-        .arg(trace_arg(alloc))?
+    of_trace(alloc, "play", PLAY_ABOUT)?
         .arg(steps_arg(alloc))?
         .arg(workers_arg(alloc))?
         .arg(extended_arg(alloc))

@@ -10,8 +10,11 @@ pub record AreFirst (count : ℕ) (pieces : List Piece) : Type 0 where
   pub as_many : length pieces ≡ count
   pub are_pending : ArePending pieces
 
--- the whole share of a book whose ledgers have this many parts, with room for a round
-pub record IsWholeShare (share : Part) (updates events orders : ℕ) : Type 0 where
+-- the whole share of a book, with room for a round
+pub record IsWholeShare (share : Part) : Type 0 where
   pub whole : share.parts ≡ most_parts
   pub low : AreLow share.numbers
+
+-- ledgers of which each share can be cut into that many parts
+pub record AreLevel (updates events orders : ℕ) : Type 0 where
   pub level : (updates ≡ most_parts) × (events ≡ most_parts) × (orders ≡ most_parts)

@@ -1,4 +1,4 @@
-//! The calls of a node, each over a book of its own.
+//! The calls that have a book, each over one of its own.
 
 ghost use Rattle.std.specs.Prelude.{◌≡◌};
 ghost use Rattle.tick_round.specs.Node.{HasRoom};
@@ -6,9 +6,10 @@ ghost use Rattle.tick_round.specs.Node.{HasRoom};
 use crate::arrivals::arrive;
 use crate::nodes::node_of;
 use crate::reports::report;
-use crate::seen::{Saw, Unprepared};
+use crate::rounds::round;
+use crate::seen::{Line, Saw, Unprepared};
 use crate::ticks::{Way, tick};
-use event_book::Blanks;
+use event_book::{Blanks, EventBook};
 use std::alloc::Global;
 use std::marker::Brand;
 use std::sync::Wait;
@@ -24,7 +25,24 @@ pub(crate) enum NodeCall {
     ReportText,
 }
 
+/// A call that has a book.
+#[derive(Clone, Copy)]
+pub(crate) enum BookCall {
+    Node(NodeCall),
+    UpdateAll,
+}
+
 impl NodeCall {
+    fn name(self) -> &'static str {
+        match self {
+            NodeCall::Arrive => "arrive",
+            NodeCall::Tick(Way::Alone) => "tick_alone",
+            NodeCall::Tick(Way::Played) => "tick_play",
+            NodeCall::Tick(Way::InThreads) => "tick",
+            NodeCall::ReportText => "report_text",
+        }
+    }
+
     /// Whether the node has all pods of the trace before the call.
     fn has_all(self) -> bool {
         !matches!(self, NodeCall::Arrive)
@@ -47,31 +65,52 @@ fn on<U: Ledger + Send, E: Ledger + Send, O: Ledger + Send, R: Threads + Wait + 
     }
 }
 
-/// The call, on a node with a book over these ledgers.
+/// The call, on this node with room for a pod.
+fn on_node<U: Ledger + Send, E: Ledger + Send, O: Ledger + Send, R: Threads + Wait + Sync>(
+    rt: &R,
+    alloc: Global,
+    node: Node<U, E, O>,
+    call: NodeCall,
+) -> Result<Line, Unprepared>
+    requires { HasRoom node }
+{
+    let mut node = node;
+    let saw = on(rt, alloc, &mut node, call);
+    drop(node);
+    Ok(Line {
+        name: call.name(),
+        saw: saw?,
+    })
+}
+
+/// The call, over a book with these ledgers.
 fn over_book<U: Ledger + Send, E: Ledger + Send, O: Ledger + Send, R: Threads + Wait + Sync>(
     rt: &R,
     alloc: Global,
     blanks: Blanks,
-    call: NodeCall,
-) -> Result<Saw, Unprepared>
+    call: BookCall,
+) -> Result<Line, Unprepared>
     requires names { (blanks.updates.name ≡ U.name) × (blanks.events.name ≡ E.name) × (blanks.orders.name ≡ O.name) }
     requires parts { (blanks.updates.parts ≡ U.parts) × (blanks.events.parts ≡ E.parts)
         × (blanks.orders.parts ≡ O.parts) }
 {
-    let mut node = match node_of::<U, E, O>(alloc, blanks, call.has_all()) {
-        Ok(node) => node,
-        Err(unprepared) => return Err(unprepared),
-    };
-    let saw = on(rt, alloc, &mut node, call);
-    drop(node);
-    saw
+    match call {
+        BookCall::Node(call) => {
+            let node = node_of::<U, E, O>(alloc, blanks, call.has_all())?;
+            on_node(rt, alloc, node, call)
+        }
+        BookCall::UpdateAll => {
+            let (book, share) = EventBook::<U, E, O>::new(blanks);
+            round(rt, alloc, book, share)
+        }
+    }
 }
 
-/// The call, on a node of its own.
-pub(crate) fn on_node<R: Threads + Wait + Sync>(
+/// The call, over a book of its own.
+pub(crate) fn on_book<R: Threads + Wait + Sync>(
     rt: &R,
     alloc: Global,
-    call: NodeCall,
-) -> Result<Saw, Unprepared> {
+    call: BookCall,
+) -> Result<Line, Unprepared> {
     over_book::<Brand, Brand, Brand, R>(rt, alloc, Blanks::new(), call)
 }

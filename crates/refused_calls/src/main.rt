@@ -13,10 +13,9 @@ mod rounds;
 mod seen;
 mod ticks;
 
-use calls::{NodeCall, on_node};
+use calls::{BookCall, NodeCall, on_book};
 use pieces::{PieceCall, on_piece};
-use rounds::round;
-use seen::{Line, Saw, Unprepared};
+use seen::{Line, Unprepared};
 use std::process::ExitCode;
 use std::sync::Wait;
 use std::thread::Threads;
@@ -25,48 +24,28 @@ use ticks::Way;
 /// A call of the library.
 #[derive(Clone, Copy)]
 enum Call {
-    Hand,
-    UpdateInPlace,
-    Update,
-    Arrive,
-    TickAlone,
-    TickPlay,
-    Tick,
-    UpdateAll,
-    ReportText,
+    Piece(PieceCall),
+    Book(BookCall),
 }
 
 /// The calls in the order of their lines.
 const CALLS: [Call; 9] = [
-    Call::Hand,
-    Call::UpdateInPlace,
-    Call::Update,
-    Call::Arrive,
-    Call::TickAlone,
-    Call::TickPlay,
-    Call::Tick,
-    Call::UpdateAll,
-    Call::ReportText,
+    Call::Piece(PieceCall::Hand),
+    Call::Piece(PieceCall::UpdateInPlace),
+    Call::Piece(PieceCall::Update),
+    Call::Book(BookCall::Node(NodeCall::Arrive)),
+    Call::Book(BookCall::Node(NodeCall::Tick(Way::Alone))),
+    Call::Book(BookCall::Node(NodeCall::Tick(Way::Played))),
+    Call::Book(BookCall::Node(NodeCall::Tick(Way::InThreads))),
+    Call::Book(BookCall::UpdateAll),
+    Call::Book(BookCall::Node(NodeCall::ReportText)),
 ];
-
-fn named(name: &'static str, saw: Result<Saw, Unprepared>) -> Result<Line, Unprepared> {
-    let saw = saw?;
-    Ok(Line { name, saw })
-}
 
 /// What was seen of a call.
 fn line_of<R: AllocGlobal + Threads + Wait + Sync>(rt: &R, call: Call) -> Result<Line, Unprepared> {
-    let alloc = rt.alloc();
     match call {
-        Call::Hand => named("hand", on_piece(alloc, PieceCall::Hand)),
-        Call::UpdateInPlace => named("update_in_place", on_piece(alloc, PieceCall::UpdateInPlace)),
-        Call::Update => named("update", on_piece(alloc, PieceCall::Update)),
-        Call::Arrive => named("arrive", on_node(rt, alloc, NodeCall::Arrive)),
-        Call::TickAlone => named("tick_alone", on_node(rt, alloc, NodeCall::Tick(Way::Alone))),
-        Call::TickPlay => named("tick_play", on_node(rt, alloc, NodeCall::Tick(Way::Played))),
-        Call::Tick => named("tick", on_node(rt, alloc, NodeCall::Tick(Way::InThreads))),
-        Call::UpdateAll => round(rt, alloc),
-        Call::ReportText => named("report_text", on_node(rt, alloc, NodeCall::ReportText)),
+        Call::Piece(call) => on_piece(rt.alloc(), call),
+        Call::Book(call) => on_book(rt, rt.alloc(), call),
     }
 }
 

@@ -1,4 +1,4 @@
-//! A node with its pods: how the scenarios make it, and what it tells.
+//! A node with its pods: how it is made for a call, and what it tells.
 
 ghost use Rattle.std.specs.Prelude.{◌≡◌, ◌<◌, ◌≤◌, length, None, IfOk, IsTrue};
 ghost use Rattle.observations.specs.Limits.{most_pods};

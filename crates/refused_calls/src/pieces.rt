@@ -4,7 +4,7 @@ ghost use Rattle.std.specs.Prelude.{◌≡◌, IfOk, IsTrue, OnOk};
 
 use crate::alike::are_alike;
 use crate::recorded::{pod, shown};
-use crate::seen::{Saw, Unprepared};
+use crate::seen::{Line, Saw, Unprepared};
 use manifest::MaxRestartDelay;
 use pod_piece::PodPiece;
 use std::alloc::Global;
@@ -203,10 +203,11 @@ fn in_place(alloc: Global, stage: Stage) -> Result<Saw, Unprepared> {
 }
 
 /// The call, on a piece of its own.
-pub(crate) fn on_piece(alloc: Global, call: PieceCall) -> Result<Saw, Unprepared> {
-    match call {
-        PieceCall::Hand => in_place(alloc, Stage::Fresh),
-        PieceCall::UpdateInPlace => in_place(alloc, Stage::Pending),
-        PieceCall::Update => update(alloc),
-    }
+pub(crate) fn on_piece(alloc: Global, call: PieceCall) -> Result<Line, Unprepared> {
+    let (name, saw) = match call {
+        PieceCall::Hand => ("hand", in_place(alloc, Stage::Fresh)),
+        PieceCall::UpdateInPlace => ("update_in_place", in_place(alloc, Stage::Pending)),
+        PieceCall::Update => ("update", update(alloc)),
+    };
+    Ok(Line { name, saw: saw? })
 }

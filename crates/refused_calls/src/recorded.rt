@@ -1,4 +1,4 @@
-//! The trace of the scenarios, and its report.
+//! The trace of the calls, and its report.
 
 use crate::seen::Unprepared;
 use manifest::PodSpec;
@@ -57,7 +57,7 @@ pub(crate) fn is_report(text: &str) -> bool {
     text == REPORT
 }
 
-/// The trace. Each of the following reads it anew, so that a scenario holds no more of it than it uses.
+/// The trace. Each of the following reads it anew, so that a call holds no more of it than it uses.
 fn read(alloc: Global) -> Result<Trace, Unprepared> {
     Ok(read_trace(alloc, Format::Standard, TEXT.as_bytes())?)
 }

@@ -2,15 +2,14 @@
 
 ghost use Rattle.std.specs.Prelude.{◌≡◌, ◌+◌, IfOk, IfErr, OnOk};
 ghost use Rattle.pod_pool.specs.Faults.{GivesBack};
-ghost use Rattle.refused_calls.specs.Round.{AreFirst, IsWholeShare};
+ghost use Rattle.refused_calls.specs.Round.{AreFirst, AreLevel, IsWholeShare};
 
 use crate::pieces::{Stage, pending, shows};
 use crate::seen::{Line, Saw, Unprepared};
-use event_book::{Blanks, EventBook, Shares, Totals};
+use event_book::{EventBook, Shares, Totals};
 use pod_piece::PodPiece;
 use pod_pool::{NoGate, PoolFault, update_all};
 use std::alloc::Global;
-use std::marker::Brand;
 use std::sync::ledger::Ledger;
 use std::sync::{Mutex, Wait};
 use std::thread::Threads;
@@ -122,6 +121,15 @@ fn given_up(alloc: Global, piece: &PodPiece) -> Result<(End, Saw), Unprepared> {
     }
 }
 
+/// The two pods of the trace, each with a first tick, and the whole share of a book.
+#[derive(Drop)]
+struct Prepared<U: Ledger, E: Ledger, O: Ledger> {
+    pieces: Vec<PodPiece>,
+    share: Shares<U, E, O>,
+    ghost first: { AreFirst 2 pieces.items },
+    ghost whole: { IsWholeShare share },
+}
+
 /// Calls of a pool over a book.
 #[derive(Drop)]
 struct Pool<'a, U: Ledger, E: Ledger, O: Ledger, R> {
@@ -140,34 +148,36 @@ impl<U: Ledger + Send, E: Ledger + Send, O: Ledger + Send, R: Threads + Wait + S
     /// `update_all`.
     fn update(
         &self,
-        pieces: Vec<PodPiece>,
-        share: Shares<U, E, O>,
+        round: Prepared<U, E, O>,
     ) -> Result<(Vec<PodPiece>, Shares<U, E, O>), PoolFault<U, E, O>>
-        requires first { AreFirst 2 pieces.items }
-        requires share { IsWholeShare share U.parts E.parts O.parts }
-        ensures { IfErr result (GivesBack pieces share) }
+        requires { AreLevel U.parts E.parts O.parts }
+        ensures { IfErr result (GivesBack round.pieces round.share) }
     {
+        let Prepared { pieces, share } = round;
         update_all(
             self.rt, self.alloc, pieces, self.book, share, WORKERS, &NoGate,
         )
     }
 
-    /// The round with what came back of it.
-    fn begun_again(
+    /// What was seen of a round that was made.
+    fn made(
         &self,
-        pieces: Vec<PodPiece>,
-        share: Shares<U, E, O>,
-    ) -> Result<(End, Saw), Unprepared>
-        requires first { AreFirst 2 pieces.items }
-        requires share { IsWholeShare share U.parts E.parts O.parts }
+        answer: (Vec<PodPiece>, Shares<U, E, O>),
+        end: End,
+        saw: Saw,
+    ) -> Result<(End, Saw), Unprepared> {
+        let saw = updated(self.alloc, &answer.0, end, saw);
+        drop(answer);
+        saw
+    }
+
+    /// The round with what came back of it.
+    fn begun_again(&self, round: Prepared<U, E, O>) -> Result<(End, Saw), Unprepared>
+        requires { AreLevel U.parts E.parts O.parts }
     {
         let saw = Saw::Refused("pieces and share come back as they were, and are updated");
-        match self.update(pieces, share) {
-            Ok((pieces, share)) => {
-                let saw = updated(self.alloc, &pieces, End::MadeAgain, saw);
-                drop((pieces, share));
-                saw
-            }
+        match self.update(round) {
+            Ok(answer) => self.made(answer, End::MadeAgain, saw),
             Err(fault) => {
                 drop(fault);
                 let saw = Saw::Wrong("the second call is refused");
@@ -177,44 +187,30 @@ impl<U: Ledger + Send, E: Ledger + Send, O: Ledger + Send, R: Threads + Wait + S
     }
 
     /// What was seen of a round that was not begun.
-    fn not_begun(
-        &self,
-        pieces: Vec<PodPiece>,
-        share: Shares<U, E, O>,
-    ) -> Result<(End, Saw), Unprepared>
-        requires first { AreFirst 2 pieces.items }
-        requires share { IsWholeShare share U.parts E.parts O.parts }
+    fn not_begun(&self, round: Prepared<U, E, O>) -> Result<(End, Saw), Unprepared>
+        requires { AreLevel U.parts E.parts O.parts }
     {
-        match are_both(self.alloc, &pieces, Stage::Pending) {
-            Ok(true) => self.begun_again(pieces, share),
+        match are_both(self.alloc, &round.pieces, Stage::Pending) {
+            Ok(true) => self.begun_again(round),
             Ok(false) => {
-                drop((pieces, share));
+                drop(round);
                 let saw = Saw::Wrong("the pieces are other than they were");
                 Ok((End::MadeAgain, saw))
             }
             Err(unprepared) => {
-                drop((pieces, share));
+                drop(round);
                 Err(unprepared)
             }
         }
     }
 
     /// How the round ended, and what was seen of it.
-    fn played(
-        &self,
-        pieces: Vec<PodPiece>,
-        share: Shares<U, E, O>,
-    ) -> Result<(End, Saw), Unprepared>
-        requires first { AreFirst 2 pieces.items }
-        requires share { IsWholeShare share U.parts E.parts O.parts }
+    fn played(&self, round: Prepared<U, E, O>) -> Result<(End, Saw), Unprepared>
+        requires { AreLevel U.parts E.parts O.parts }
     {
-        match self.update(pieces, share) {
-            Ok((pieces, share)) => {
-                let saw = updated(self.alloc, &pieces, End::Made, Saw::Done);
-                drop((pieces, share));
-                saw
-            }
-            Err(PoolFault::NoRoom(pieces, share)) => self.not_begun(pieces, share),
+        match self.update(round) {
+            Ok(answer) => self.made(answer, End::Made, Saw::Done),
+            Err(PoolFault::NoRoom(pieces, share)) => self.not_begun(Prepared { pieces, share }),
             Err(PoolFault::Update(piece)) => {
                 let saw = given_up(self.alloc, &piece);
                 drop(piece);
@@ -224,31 +220,23 @@ impl<U: Ledger + Send, E: Ledger + Send, O: Ledger + Send, R: Threads + Wait + S
     }
 }
 
-/// The round, with a book over these ledgers.
-fn over_book<U: Ledger + Send, E: Ledger + Send, O: Ledger + Send, R: Threads + Wait + Sync>(
+/// `update_all`, over this book and its whole share.
+pub(crate) fn round<U: Ledger + Send, E: Ledger + Send, O: Ledger + Send, R: Threads + Wait + Sync>(
     rt: &R,
     alloc: Global,
-    blanks: Blanks,
-    pieces: Vec<PodPiece>,
+    book: EventBook<U, E, O>,
+    share: Shares<U, E, O>,
 ) -> Result<Line, Unprepared>
-    requires first { AreFirst 2 pieces.items }
-    requires names { (blanks.updates.name ≡ U.name) × (blanks.events.name ≡ E.name) × (blanks.orders.name ≡ O.name) }
-    requires parts { (blanks.updates.parts ≡ U.parts) × (blanks.events.parts ≡ E.parts)
-        × (blanks.orders.parts ≡ O.parts) }
+    requires share { IsWholeShare share }
+    requires level { AreLevel U.parts E.parts O.parts }
 {
-    let (book, share) = EventBook::<U, E, O>::new(blanks);
+    let pieces = both_pending(alloc)?;
     let book = Mutex::new(book);
     let pool = Pool {
         rt,
         alloc,
         book: &book,
     };
-    let (end, saw) = pool.played(pieces, share)?;
+    let (end, saw) = pool.played(Prepared { pieces, share })?;
     Ok(end.line(saw, book.into_inner().totals()))
-}
-
-/// `update_all`.
-pub(crate) fn round<R: Threads + Wait + Sync>(rt: &R, alloc: Global) -> Result<Line, Unprepared> {
-    let pieces = both_pending(alloc)?;
-    over_book::<Brand, Brand, Brand, R>(rt, alloc, Blanks::new(), pieces)
 }

@@ -1,4 +1,4 @@
-//! What a scenario saw of its call.
+//! What was seen of a call.
 
 use pod_piece::Refused;
 use std::alloc::{AllocError, AllocFailed};
@@ -6,7 +6,7 @@ use std::fmt;
 use tick_round::TickFault;
 use trace::LineFault;
 
-/// What a scenario saw of its call.
+/// What was seen of a call.
 #[derive(Clone, Copy)]
 pub(crate) enum Saw {
     /// It was made: no growth was refused that it needs.
@@ -17,7 +17,7 @@ pub(crate) enum Saw {
     Wrong(&'static str),
 }
 
-/// What the scenario of this name saw.
+/// What was seen of the call of this name.
 #[derive(Clone, Copy)]
 pub(crate) struct Line {
     pub(crate) name: &'static str,
@@ -35,7 +35,7 @@ impl fmt::Display for Line {
     }
 }
 
-/// A scenario did not come to its call, or could not look at what the call left: a growth of memory was refused there.
+/// A call was not reached, or what it left could not be looked at: a growth of memory was refused there.
 #[derive(Clone, Copy, Debug)]
 pub(crate) struct Unprepared;
 

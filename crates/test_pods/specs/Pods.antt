@@ -1,5 +1,7 @@
 -- The pods of a round.
-use Rattle.std.specs.Prelude.{List, All, IsTrue}
+use Rattle.std.specs.Prelude.{◌≡◌, List, All, IsTrue, false}
+use Rattle.pod_state.specs.Pods.{PodTick}
+use Rattle.pod_piece.specs.Listings.{IsNextTick}
 use Rattle.pod_piece.specs.Piece.{Piece}
 use Rattle.piece_deques.specs.Rule.{AreNumbered}
 
@@ -7,3 +9,8 @@ use Rattle.piece_deques.specs.Rule.{AreNumbered}
 pub record ArePending (pieces : List Piece) : Type 0 where
   pub pending : All (λ (piece : Piece). IsTrue piece.is_pending) pieces
   pub numbered : AreNumbered pieces
+
+-- the piece has taken all that was handed to it, behind which the tick may come
+pub record MayBeHanded (piece : Piece) (tick : PodTick) : Type 0 where
+  pub free : piece.is_pending ≡ false
+  pub next : IsNextTick piece.pod piece.handed tick

@@ -1,10 +1,11 @@
 //! Pods to which tests hand what a tick shows of them.
 #![tactic(auto)]
 
-ghost use Rattle.std.specs.Prelude.{◌≡◌, ◌<◌, false, IfSome, IsTrue, OnErr, OnOk};
+ghost use Rattle.std.specs.Prelude.{◌≡◌, ◌<◌, ◌↔◌, false, Err, IfSome, IsTrue, OnErr, OnOk};
 ghost use Rattle.pod_state.specs.Pods.{pod_tick};
-ghost use Rattle.pod_piece.specs.Listings.{IsNextTick};
 ghost use Rattle.pod_piece.specs.Piece.{with_tick};
+ghost use Rattle.test_pods.specs.Pods.{MayBeHanded};
+ghost use Rattle.test_pods.specs.declared.Unhanded.TheVariants.{NotNext};
 
 use observations::PodObs;
 use pod_piece::PodPiece;
@@ -22,7 +23,7 @@ pub enum Unhanded {
 
 /// Whether a moment comes after the last one, if there is one.
 fn is_later(last: Option<u64>, at: u64) -> bool
-    ensures { IsTrue result → IfSome last (λ moment. moment < at) }
+    ensures { IsTrue result ↔ IfSome last (λ moment. moment < at) }
 {
     match last {
         Some(last) => last < at,
@@ -32,8 +33,7 @@ fn is_later(last: Option<u64>, at: u64) -> bool
 
 /// Whether the observation may come next.
 fn may_take(piece: &PodPiece, observed: &PodObs) -> bool
-    ensures free { IsTrue result → piece.now.is_pending ≡ false }
-    ensures next { IsTrue result → IsNextTick piece.now.pod piece.now.handed (pod_tick observed.now) }
+    ensures { IsTrue result ↔ MayBeHanded piece.now (pod_tick observed.now) }
 {
     if piece.pending() {
         return false;
@@ -43,10 +43,12 @@ fn may_take(piece: &PodPiece, observed: &PodObs) -> bool
         && piece.accepts(observed)
 }
 
-/// The pod takes an observation, if it may come next. An `Err` changes nothing.
+/// The pod takes an observation, if it may come next. An `Err` changes nothing, and is `NotNext` exactly where the
+/// observation may not come next.
 pub fn hand(piece: &mut PodPiece, observed: PodObs) -> Result<(), Unhanded>
     ensures ok { OnOk result (piece.new ≡ with_tick piece.old (pod_tick observed)) }
     ensures err { OnErr result (piece.new ≡ piece.old) }
+    ensures not_next { (result ≡ Err NotNext) ↔ (MayBeHanded piece.old (pod_tick observed) → ⊥) }
     ensures number { piece.new.number ≡ piece.old.number }
     ensures pending { OnOk result (IsTrue piece.new.is_pending) }
 {

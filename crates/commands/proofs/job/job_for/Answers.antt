@@ -1,31 +1,26 @@
 use Rattle.std.proofs.Common.{codes}
 use Rattle.clap.specs.Words.{found_of, rows_of}
-use Rattle.commands.proofs.Found.{has_text, has_no_text, job_trace, run_workers, play_workers, play_steps}
+use Rattle.commands.proofs.Found.{has_text, no_trace, no_steps, none_to_run, none_to_play}
 use Rattle.commands.proofs.job.job_for.Goals as goal
 
 pub returns-in_err-trace : goal.returns-in_err-trace
 returns-in_err-trace c =
-    rw c.from_residual.ensures
-    (λ job is. let trace = job_trace c.args.name.now (rows_of (found_of c.args.given.now)) job is in
-    has_no_text (found_of c.args.given.now) (codes "TRACE") c.in_err-trace.ensures trace.0 trace.1)
+    rw c.from_residual.ensures (no_trace c.args.name.now (found_of c.args.given.now) c.in_err-trace.ensures)
 
 pub returns-in_err-workers-in-run : goal.returns-in_err-workers-in-run
 returns-in_err-workers-in-run c =
     rw c.from_residual-in_err-workers-in-run.ensures
-    (λ job is. let workers = run_workers c.args.name.now (rows_of (found_of c.args.given.now)) job c.in-run.is is in
-    c.in_err-workers-in-run.ensures workers.0 workers.1)
+    (none_to_run c.args.name.now (rows_of (found_of c.args.given.now)) c.in_err-workers-in-run.ensures c.in-run.is)
 
 pub returns-in_err-steps-in-play : goal.returns-in_err-steps-in-play
 returns-in_err-steps-in-play c =
     rw c.from_residual-in_err-steps-in-play.ensures
-    (λ job is. let steps = play_steps c.args.name.now (rows_of (found_of c.args.given.now)) job c.in-play.is is in
-    has_no_text (found_of c.args.given.now) (codes "STEPS") c.in_err-steps-in-play.ensures steps.0 steps.1)
+    (no_steps c.args.name.now (found_of c.args.given.now) c.in_err-steps-in-play.ensures c.in-play.is)
 
 pub returns-in_err-workers-in-play : goal.returns-in_err-workers-in-play
 returns-in_err-workers-in-play c =
     rw c.from_residual-in_err-workers-in-play.ensures
-    (λ job is. let workers = play_workers c.args.name.now (rows_of (found_of c.args.given.now)) job c.in-play.is is in
-    c.in_err-workers-in-play.ensures workers.0 workers.1)
+    (none_to_play c.args.name.now (rows_of (found_of c.args.given.now)) c.in_err-workers-in-play.ensures c.in-play.is)
 
 pub returns-in_ok-workers-in-run : goal.returns-in_ok-workers-in-run
 returns-in_ok-workers-in-run c = (

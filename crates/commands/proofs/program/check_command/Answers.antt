@@ -1,10 +1,7 @@
-use Rattle.commands.proofs.Built.{about_told, with_arg, with_last_arg}
+use Rattle.commands.proofs.Built.{with_last_arg}
 use Rattle.commands.proofs.program.check_command.Goals as goal
 
 pub returns : goal.returns
 returns c =
-    let start = about_told c.new.result c.about.result _ c.new.ensures.app c.new.ensures.local c.about.ensures in
-    let traced = with_arg c.about.result c.in_ok-arg.field-0 c.trace_arg.result _ _ start c.trace_arg.ensures.rule
-    c.trace_arg.ensures.local c.in_ok-arg.ensures in
-    with_last_arg c.in_ok-arg.field-0 c.arg-2.result c.extended_arg.result _ _ traced c.extended_arg.ensures.rule
-    c.extended_arg.ensures.local c.arg-2.ensures
+    with_last_arg c.in_ok-of_trace.field-0 c.arg.result c.extended_arg.result _ _ c.in_ok-of_trace.ensures
+    c.extended_arg.ensures.rule c.extended_arg.ensures.local c.arg.ensures

@@ -1,4 +1,4 @@
-use Rattle.refused_calls.proofs.rounds.round.Given as goal
+use Rattle.refused_calls.proofs.calls.on_book.Given as goal
 
 abbrev pub ghosts-over_book-U-Ledger : goal.ghosts-over_book-U-Ledger
 ghosts-over_book-U-Ledger g a = record { name = a.blanks.updates.name; parts = a.blanks.updates.parts }
