@@ -1,42 +1,41 @@
 //! What is true of the evictions of every node. The functions do nothing; their contracts are the
 //! laws.
 
-ghost use Rattle.eviction.specs.Laws.{SomeStatus, SomeReplay, OneReplay, EvictedOnce, EvictedPodLived, ServedAlone};
-ghost use Rattle.eviction.specs.Laws.{PausedBetween};
+ghost use Rattle.eviction.specs.Laws as laws;
 
 /// A pod has a status, whenever it is evicted and whatever its ticks are. (A status shows the
 /// containers in a vector, so that there are fewer than 2^63 of them.)
 pub fn some_status()
-    ensures { SomeStatus }
+    ensures { laws.SomeStatus }
 {}
 
 /// Every list of ticks has a list of evictions.
 pub fn some_replay()
-    ensures { SomeReplay }
+    ensures { laws.SomeReplay }
 {}
 
 /// A list of ticks has one list of evictions at most.
 pub fn one_replay()
-    ensures { OneReplay }
+    ensures { laws.OneReplay }
 {}
 
 /// No pod is evicted by two ticks.
 pub fn evicted_once()
-    ensures { EvictedOnce }
+    ensures { laws.EvictedOnce }
 {}
 
 /// The pod that a tick evicts is present, and had not ended before.
 pub fn evicted_pod_lived()
-    ensures { EvictedPodLived }
+    ensures { laws.EvictedPodLived }
 {}
 
 /// A tick that evicts a pod serves one threshold. That one is due and not reclaimed, and the order is
 /// of its signal and kind, at the tick's moment.
 pub fn served_alone()
-    ensures { ServedAlone }
+    ensures { laws.ServedAlone }
 {}
 
 /// Between two evictions the node's pause passes.
 pub fn paused_between()
-    ensures { PausedBetween }
+    ensures { laws.PausedBetween }
 {}

@@ -1,26 +1,25 @@
 //! What is true of the pods of every node. The functions do nothing; their contracts are the laws.
 
-ghost use Rattle.node_pods.specs.Laws.{CandidatesAreAlike, OneVictim, CandidateIsShown, EvictedIsNoCandidate};
-ghost use Rattle.node_pods.specs.Laws.{OneIsAfter, OneIsEvicted};
+ghost use Rattle.node_pods.specs.Laws as laws;
 
 /// All statuses of a candidate are one in what ranks it, and so there is one victim at most.
 pub fn candidates_are_alike()
-    ensures alike { CandidatesAreAlike }
-    ensures victim { OneVictim }
+    ensures alike { laws.CandidatesAreAlike }
+    ensures victim { laws.OneVictim }
 {}
 
 /// A candidate after a tick is a pod that the tick shows.
 pub fn candidate_is_shown()
-    ensures { CandidateIsShown }
+    ensures { laws.CandidateIsShown }
 {}
 
 /// The pod that was evicted is no candidate any more.
 pub fn evicted_is_no_candidate()
-    ensures { EvictedIsNoCandidate }
+    ensures { laws.EvictedIsNoCandidate }
 {}
 
 /// What the pods are after a tick, or an eviction, is determined by what they were before.
 pub fn one_is_after()
-    ensures tick { OneIsAfter }
-    ensures eviction { OneIsEvicted }
+    ensures tick { laws.OneIsAfter }
+    ensures eviction { laws.OneIsEvicted }
 {}

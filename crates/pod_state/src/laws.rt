@@ -1,50 +1,48 @@
 //! What the definitions of phases, conditions, container states and events imply. The functions do nothing;
 //! their contracts are the laws.
-ghost use Rattle.pod_state.specs.Laws.{OneRawPhase, OnePhase, EndedStaysEnded, TransitionsAreChanges, SomeStatus};
-ghost use Rattle.pod_state.specs.Laws.{OneStatus};
-ghost use Rattle.pod_state.specs.Laws.{NoEventsAfterTheEnd, SomeListOfEvents, OneListOfEvents};
+ghost use Rattle.pod_state.specs.Laws as laws;
 
 /// Of the listings of a pod there is one raw phase, and no other.
 pub fn one_raw_phase()
-    ensures { OneRawPhase }
+    ensures { laws.OneRawPhase }
 {}
 
 /// There is at most one phase.
 pub fn one_phase()
-    ensures { OnePhase }
+    ensures { laws.OnePhase }
 {}
 
 /// A pod that has succeeded or failed keeps its phase.
 pub fn ended_stays_ended()
-    ensures { EndedStaysEnded }
+    ensures { laws.EndedStaysEnded }
 {}
 
 /// A transition moment is that of a change, or of the first tick.
 pub fn transitions_are_changes()
-    ensures { TransitionsAreChanges }
+    ensures { laws.TransitionsAreChanges }
 {}
 
 /// There is a status of a pod, whatever its ticks are, and one of each of its containers.
 pub fn some_status()
-    ensures { SomeStatus }
+    ensures { laws.SomeStatus }
 {}
 
 /// There is at most one status of a pod, and of each of its containers.
 pub fn one_status()
-    ensures { OneStatus }
+    ensures { laws.OneStatus }
 {}
 
 /// A pod that has ended makes no events.
 pub fn no_events_after_the_end()
-    ensures { NoEventsAfterTheEnd }
+    ensures { laws.NoEventsAfterTheEnd }
 {}
 
 /// There is a list of a pod's events at a tick, where the numbers of its containers' probes are in their ranges.
 pub fn some_list_of_events()
-    ensures { SomeListOfEvents }
+    ensures { laws.SomeListOfEvents }
 {}
 
 /// There is at most one list of a pod's events at a tick.
 pub fn one_list_of_events()
-    ensures { OneListOfEvents }
+    ensures { laws.OneListOfEvents }
 {}

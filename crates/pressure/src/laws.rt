@@ -1,20 +1,20 @@
 //! What is true of every condition, for every list of observations. The functions do nothing; their
 //! contracts are the laws.
 
-ghost use Rattle.pressure.specs.Laws.{NoPeriodIsMetNow, TrueForThePeriod, OneSince};
+ghost use Rattle.pressure.specs.Laws as laws;
 
 /// With a period of 0 a condition is true exactly when it is met now.
 pub fn no_period_is_met_now()
-    ensures { NoPeriodIsMetNow }
+    ensures { laws.NoPeriodIsMetNow }
 {}
 
 /// Once it is no longer met a condition is true for less than the period after it was last met, and
 /// then is not.
 pub fn true_for_the_period()
-    ensures { TrueForThePeriod }
+    ensures { laws.TrueForThePeriod }
 {}
 
 /// There is exactly one moment since which a condition has been the same.
 pub fn one_since()
-    ensures { OneSince }
+    ensures { laws.OneSince }
 {}

@@ -1,20 +1,20 @@
 //! What the definitions of classes and effective requests imply, for every pod. The functions do
 //! nothing; their contracts are the laws.
-ghost use Rattle.qos.specs.Laws.{SomeClass, OneClass, NothingAskedFor, EffectiveRequestCovers};
+ghost use Rattle.qos.specs.Laws as laws;
 
 /// Every pod is of exactly one class.
 pub fn one_class()
-    ensures some { SomeClass }
-    ensures one { OneClass }
+    ensures some { laws.SomeClass }
+    ensures one { laws.OneClass }
 {}
 
 /// A pod none of whose containers has anything of cpu and memory is BestEffort, if it has a
 /// container.
 pub fn nothing_asked_for()
-    ensures { NothingAskedFor }
+    ensures { laws.NothingAskedFor }
 {}
 
 /// An effective request is at least that of each container, whatever its role is.
 pub fn effective_request_covers()
-    ensures { EffectiveRequestCovers }
+    ensures { laws.EffectiveRequestCovers }
 {}

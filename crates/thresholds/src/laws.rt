@@ -1,31 +1,30 @@
 //! What is true of every threshold, for every list of samples. The functions do nothing; their
 //! contracts are the laws.
 
-ghost use Rattle.thresholds.specs.Laws.{DueIsActive, HardIsDueWhenActive, NoReclaimIsBelowNow, ActiveGoesOn};
-ghost use Rattle.thresholds.specs.Laws.{OneActiveSince};
+ghost use Rattle.thresholds.specs.Laws as laws;
 
 /// A threshold that is due is active.
 pub fn due_is_active()
-    ensures { DueIsActive }
+    ensures { laws.DueIsActive }
 {}
 
 /// A hard threshold, of which the grace is 0, is due exactly when it is active.
 pub fn hard_is_due_when_active()
-    ensures { HardIsDueWhenActive }
+    ensures { laws.HardIsDueWhenActive }
 {}
 
 /// Without a reclaim a threshold is active exactly when the last value is below its limit.
 pub fn no_reclaim_is_below_now()
-    ensures { NoReclaimIsBelowNow }
+    ensures { laws.NoReclaimIsBelowNow }
 {}
 
 /// After one more sample a threshold is active exactly when the new value is below the limit, or it
 /// was active and the new value is below the limit plus the reclaim.
 pub fn active_goes_on()
-    ensures { ActiveGoesOn }
+    ensures { laws.ActiveGoesOn }
 {}
 
 /// A threshold is active since one moment, if it is active, and since none otherwise.
 pub fn one_active_since()
-    ensures { OneActiveSince }
+    ensures { laws.OneActiveSince }
 {}
