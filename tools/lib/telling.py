@@ -29,7 +29,7 @@ def event_words(event):
         "kill": lambda: (rest[0], f"kill order: {rest[1]}"),
         "ready": lambda: ("", "ready"),
         "unready": lambda: ("", "unready"),
-        "backoff": lambda: ("", f"restart put off by {rest[0]} s"),
+        "backoff": lambda: ("", f"restart backed off by {rest[0]} s"),
         "restart": lambda: (rest[0], "restart"),
         "phase": lambda: ("", f"phase {rest[0]}"),
         "evicted": lambda: ("", f"evicted by {rest[1]} {rest[2]}, grace {rest[3]} s"),

@@ -139,7 +139,7 @@ function told(event) {
     case 'died': return `died with code ${rest[1]}, attempt ${rest[0]}`;
     case 'startup-passed': return `startup passed, attempt ${rest[0]}`;
     case 'kill': return `kill order by ${rest[1]}, attempt ${rest[0]}`;
-    case 'backoff': return `restart put off by ${rest[0]} s`;
+    case 'backoff': return `restart backed off by ${rest[0]} s`;
     case 'restart': return `restart of attempt ${rest[0]}`;
     case 'phase': return `phase ${rest[0]}`;
     case 'evicted': return `evicted by ${rest[1]} ${rest[2]}, grace ${rest[3]} s`;

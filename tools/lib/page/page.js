@@ -12,7 +12,7 @@ const LEGEND = [
   ['waiting', 'waiting'], ['running', 'running'], ['ended', 'ended with 0'], ['failed', 'ended otherwise'],
   ['ready', 'ready'], ['unready', 'not ready'], ['pressure', 'pressure'], ['shade', 'threshold active'],
 ];
-const MARKS = [['▼', 'kill ordered', 'kill'], ['○', 'restart', 'mark'], ['□', 'restart put off', 'mark'],
+const MARKS = [['▼', 'kill ordered', 'kill'], ['○', 'restart', 'mark'], ['□', 'restart backed off', 'mark'],
   ['✕', 'evicted', 'failed'], ...(data.reclaims.length ? [['◇', 'reclaimed', 'quiet']] : [])];
 const byId = (name) => document.getElementById(name);
 let asked = 0, askedAll = false;
