@@ -13,7 +13,7 @@ some_container_backwards ticks pod n [] = false
 some_container_backwards ticks pod n (o ∷ os) =
     not (is_acceptable (history ticks pod n) o.seen) || some_container_backwards ticks pod (n + 1) os
 
--- the same of the pods that are shown, numbered from n on
+-- of the pods that are shown, numbered from n on, some container's listing may not come after these ticks
 abbrev pub some_pod_backwards : List TickObs → ℕ → List (Option PodObs) → Bool
 some_pod_backwards ticks n [] = false
 some_pod_backwards ticks n (None ∷ shown) = some_pod_backwards ticks (n + 1) shown

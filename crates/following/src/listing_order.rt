@@ -1,10 +1,8 @@
 //! The differs that follow the containers, one tick after the other.
 
-ghost use Rattle.std.specs.Prelude.{◌≡◌, ◌↔◌, ℕ, ◌<◌, List, [], length, IsTrue, IfOk, IsSome, slice_get, Some};
+ghost use Rattle.std.specs.Prelude.{◌↔◌, ◌<◌, [], length, IsTrue, IfOk, IsSome, Some};
 ghost use Rattle.std.specs.Prelude.{Vec};
-ghost use Rattle.std.specs.Global.{Global as AGlobal};
 ghost use Rattle.observations.specs.Observations.{shown_of};
-ghost use Rattle.state_diff.specs.declared.differ.Differ.{Differ as ADiffer};
 ghost use Rattle.following.specs.Followed.{HasFollowed, HasNewPod, MayFollow, HasNewTick, Tells};
 ghost use Rattle.following.specs.Steps.{AreNew, AreAccepted, PodsAreAccepted, Follow, HaveTaken, PodHasTaken};
 ghost use Rattle.following.specs.Steps.{PodsFollow, PodsHaveTaken, Takes, Follows};

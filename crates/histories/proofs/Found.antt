@@ -2,7 +2,7 @@
 use Rattle.std.proofs.Common.{◌≡◌, ◌⊎◌, inl, inr, ℕ, zero, suc, ◌<◌, ◌≤◌, List, [], ◌∷◌, ◌++◌, length, get_or, Option}
 use Rattle.std.proofs.Common.{Some, None, refl, arith}
 use Rattle.std.proofs.lemmas.Bool.{cases_lt, cases_eq}
-use Rattle.histories.specs.Histories.{Recorded, up_to, IsSo, IsFirst, IsFirstPlace, IsFirstMoment, ComesTrue}
+use Rattle.histories.specs.Histories.{Recorded, up_to, HoldsAt, IsFirst, IsFirstPlace, IsFirstMoment, ComesTrue}
 use Rattle.histories.specs.Histories.{IsSteady, IsTransition}
 use Rattle.histories.specs.Picked.{ArePicked}
 use Rattle.histories.proofs.Decide.{OrNot, negated, implied, less_or_not, at_most_or_not}
@@ -70,27 +70,27 @@ first_or_not P (None, none) t = inr (λ f. none t f.holds)
 
 -- of the history up to a place, and of it up to some place
 pub so_or_not : {A : Type 0} (P : List (Recorded A) → Type 0) → ((h : List (Recorded A)) → OrNot (P h))
-    → (h : List (Recorded A)) (t : ℕ) → OrNot (IsSo P h t)
+    → (h : List (Recorded A)) (t : ℕ) → OrNot (HoldsAt P h t)
 so_or_not P each h t = elim (less_or_not t (length h)) [
   | inl lt ↦ elim (each (up_to h t)) [ inl p ↦ inl (record { within = lt; so = p }) | inr not ↦ inr (λ s. not s.so) ]
   | inr not ↦ inr (λ s. not s.within)
 ]
 
 pub once_or_never : {A : Type 0} (P : List (Recorded A) → Type 0) → ((h : List (Recorded A)) → OrNot (P h))
-    → (h : List (Recorded A)) → OrNot ((t : ℕ) × IsSo P h t)
-once_or_never P each h = elim (some_below (IsSo P h) (so_or_not P each h) (length h)) [
+    → (h : List (Recorded A)) → OrNot ((t : ℕ) × HoldsAt P h t)
+once_or_never P each h = elim (some_below (HoldsAt P h) (so_or_not P each h) (length h)) [
   | inl w ↦ inl (w.0, w.2)
   | inr none ↦ inr (λ w. none (w.0, w.1.within, w.1))
 ]
 
 -- the first place up to which it holds, and whether it comes true at a place
 pub first_so : {A : Type 0} (P : List (Recorded A) → Type 0) → ((h : List (Recorded A)) → OrNot (P h))
-    → (h : List (Recorded A)) → (o : Option ℕ) × IsFirstPlace (IsSo P h) o
-first_so P each h = first_place (IsSo P h) (so_or_not P each h) (length h) (λ t s. s.within)
+    → (h : List (Recorded A)) → (o : Option ℕ) × IsFirstPlace (HoldsAt P h) o
+first_so P each h = first_place (HoldsAt P h) (so_or_not P each h) (length h) (λ t s. s.within)
 
 pub comes_or_not : {A : Type 0} (P : List (Recorded A) → Type 0) → ((h : List (Recorded A)) → OrNot (P h))
     → (h : List (Recorded A)) (t : ℕ) → OrNot (ComesTrue P h t)
-comes_or_not P each h t = first_or_not (IsSo P h) (first_so P each h) t
+comes_or_not P each h t = first_or_not (HoldsAt P h) (first_so P each h) t
 
 -- C stays from one place to another, of those from place u on
 abbrev Stays : (ℕ → Type 0) → ℕ → ℕ → ℕ → Type 0

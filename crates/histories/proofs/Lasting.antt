@@ -2,12 +2,12 @@
 use Rattle.std.proofs.Common.{◌≡◌, inl, inr, ℕ, suc, ◌<◌, List, [], ◌∷◌, ◌++◌, length, take, drop, subst, sym, arith}
 use Rattle.std.specs.Prelude.{◌↔◌}
 use Rattle.std.proofs.lemmas.List.{append-nil, append_assoc, take-append-drop}
-use Rattle.histories.specs.Histories.{Recorded, IsSo, ComesTrue, Lasts}
+use Rattle.histories.specs.Histories.{Recorded, HoldsAt, ComesTrue, Lasts}
 use Rattle.histories.proofs.First.{IsFirst-old, IsFirst-new, IsFirst-split, IsFirst-unique}
 use Rattle.histories.proofs.Growth.{grows_so, so_last}
 
 -- what holds of the history up to some place holds of all of it
-pub Lasts-all : {A : Type 0} (P : List (Recorded A) → Type 0) (h : List (Recorded A)) (t : ℕ) → Lasts P → IsSo P h t
+pub Lasts-all : {A : Type 0} (P : List (Recorded A) → Type 0) (h : List (Recorded A)) (t : ℕ) → Lasts P → HoldsAt P h t
     → P h
 Lasts-all P h t lasts s = subst P (take-append-drop (suc t) h) (lasts.more (take (suc t) h) (drop (suc t) h) s.so)
 
@@ -27,7 +27,7 @@ ComesTrue-later P h (x ∷ later) t f =
 -- it comes true once
 pub ComesTrue-unique : {A : Type 0} (P : List (Recorded A) → Type 0) (h : List (Recorded A)) (t u : ℕ)
     → ComesTrue P h t → ComesTrue P h u → t ≡ u
-ComesTrue-unique P h t u = IsFirst-unique (IsSo P h) t u
+ComesTrue-unique P h t u = IsFirst-unique (HoldsAt P h) t u
 
 -- it comes true by the new record exactly if it holds now and did not before
 pub ComesTrue-now : {A : Type 0} (P : List (Recorded A) → Type 0) (h : List (Recorded A)) (x : Recorded A) → Lasts P

@@ -11,3 +11,4 @@ pub mod Ahead
 pub mod Items
 pub mod Picked
 pub mod Found
+pub mod TheOne

@@ -3,7 +3,7 @@ use Rattle.std.proofs.Common.{◌≡◌, inl, inr, ℕ, suc, ◌<◌, List, [], 
 use Rattle.std.proofs.Common.{subst, ◌∙◌, arith}
 use Rattle.std.specs.Prelude.{◌↔◌, map}
 use Rattle.std.proofs.lemmas.List.{take-append-le, map-append}
-use Rattle.histories.specs.Histories.{Recorded, up_to, IsSo}
+use Rattle.histories.specs.Histories.{Recorded, up_to, HoldsAt}
 use Rattle.histories.specs.Picked.{ArePicked}
 use Rattle.histories.proofs.Growth.{grows_so}
 use Rattle.histories.proofs.Lists.{map_more}
@@ -80,7 +80,7 @@ map_long f [] = refl
 map_long f (y ∷ h) = ap suc (map_long f h)
 
 so_same : {A : Type 0} (Q : List (Recorded A) → Type 0) (h later : List (Recorded A)) (t : ℕ) → t < length h
-    → (IsSo Q (h ++ later) t ↔ IsSo Q h t)
+    → (HoldsAt Q (h ++ later) t ↔ HoldsAt Q h t)
 so_same Q h later t lt =
     let e : up_to (h ++ later) t ≡ up_to h t = take-append-le (suc t) h later (omega arith) in (
       (λ s. record { within = lt; so = subst Q e s.so }),
@@ -92,19 +92,20 @@ flip w = (w.1, w.0)
 
 pub so_picked_in : {A B : Type 0} (Q : List (Recorded A) → Type 0) (f : Recorded A → B) (h : List (Recorded A))
     (x : Recorded A) (picked : List B)
-    → ArePicked (IsSo Q h) (map f h) picked → Q (h ++ x ∷ []) → ArePicked (IsSo Q (h ++ x ∷ [])) (map f (h ++ x ∷ []))
+    → ArePicked (HoldsAt Q h) (map f h) picked → Q (h ++ x ∷ [])
+    → ArePicked (HoldsAt Q (h ++ x ∷ [])) (map f (h ++ x ∷ []))
     (picked ++ f x ∷ [])
 so_picked_in {A} {B} Q f h x picked p here =
-    let P : ℕ → Type 0 = IsSo Q (h ++ x ∷ []) in
+    let P : ℕ → Type 0 = HoldsAt Q (h ++ x ∷ []) in
     let long : length (map f h) ≡ length h = map_long f h in
-    let old : ArePicked P (map f h) picked = picked_same (IsSo Q h) P (map f h) picked
+    let old : ArePicked P (map f h) picked = picked_same (HoldsAt Q h) P (map f h) picked
     (λ t lt. flip (so_same Q h (x ∷ []) t (omega (arith, long)))) p in
     let new : P (length (map f h)) = subst P (sym long) ((grows_so Q h x).new here) in
     subst (λ (xs : List B). ArePicked P xs (picked ++ f x ∷ [])) (sym (map_more f h x))
     (picked_in P (map f h) picked (f x) old new)
 
 not_new : {A : Type 0} (Q : List (Recorded A) → Type 0) (h : List (Recorded A)) (x : Recorded A)
-    → (Q (h ++ x ∷ []) → ⊥) → IsSo Q (h ++ x ∷ []) (length h) → ⊥
+    → (Q (h ++ x ∷ []) → ⊥) → HoldsAt Q (h ++ x ∷ []) (length h) → ⊥
 not_new Q h x none s = elim ((grows_so Q h x).split (length h) s) [
   | inl old ↦ let lt : length h < length h = old.within in absurd (omega arith)
   | inr w ↦ none w.1
@@ -112,38 +113,38 @@ not_new Q h x none s = elim ((grows_so Q h x).split (length h) s) [
 
 pub so_picked_out : {A B : Type 0} (Q : List (Recorded A) → Type 0) (f : Recorded A → B) (h : List (Recorded A))
     (x : Recorded A) (picked : List B)
-    → ArePicked (IsSo Q h) (map f h) picked → (Q (h ++ x ∷ []) → ⊥)
-    → ArePicked (IsSo Q (h ++ x ∷ [])) (map f (h ++ x ∷ [])) picked
+    → ArePicked (HoldsAt Q h) (map f h) picked → (Q (h ++ x ∷ []) → ⊥)
+    → ArePicked (HoldsAt Q (h ++ x ∷ [])) (map f (h ++ x ∷ [])) picked
 so_picked_out {A} {B} Q f h x picked p none =
-    let P : ℕ → Type 0 = IsSo Q (h ++ x ∷ []) in
+    let P : ℕ → Type 0 = HoldsAt Q (h ++ x ∷ []) in
     let long : length (map f h) ≡ length h = map_long f h in
-    let old : ArePicked P (map f h) picked = picked_same (IsSo Q h) P (map f h) picked
+    let old : ArePicked P (map f h) picked = picked_same (HoldsAt Q h) P (map f h) picked
     (λ t lt. flip (so_same Q h (x ∷ []) t (omega (arith, long)))) p in
     subst (λ (xs : List B). ArePicked P xs picked) (sym (map_more f h x))
     (picked_out P (map f h) picked (f x) old (λ s. not_new Q h x none (subst P long s)))
 
 pub so_picked_back : {A B : Type 0} (Q : List (Recorded A) → Type 0) (f : Recorded A → B) (h : List (Recorded A))
     (x : Recorded A) (picked : List B)
-    → ArePicked (IsSo Q (h ++ x ∷ [])) (map f (h ++ x ∷ [])) picked → (Q (h ++ x ∷ []) → ⊥)
-    → ArePicked (IsSo Q h) (map f h) picked
+    → ArePicked (HoldsAt Q (h ++ x ∷ [])) (map f (h ++ x ∷ [])) picked → (Q (h ++ x ∷ []) → ⊥)
+    → ArePicked (HoldsAt Q h) (map f h) picked
 so_picked_back {A} {B} Q f h x picked p none =
-    let P : ℕ → Type 0 = IsSo Q (h ++ x ∷ []) in
+    let P : ℕ → Type 0 = HoldsAt Q (h ++ x ∷ []) in
     let long : length (map f h) ≡ length h = map_long f h in
     let all : ArePicked P (map f h ++ f x ∷ []) picked = subst (λ (xs : List B). ArePicked P xs picked)
     (map_more f h x) p in
-    picked_same P (IsSo Q h) (map f h) picked (λ t lt. so_same Q h (x ∷ []) t (omega (arith, long)))
+    picked_same P (HoldsAt Q h) (map f h) picked (λ t lt. so_same Q h (x ∷ []) t (omega (arith, long)))
     (picked_back P (map f h) picked (f x) all (λ s. not_new Q h x none (subst P long s)))
 
 pub so_picked_front : {A B : Type 0} (Q : List (Recorded A) → Type 0) (f : Recorded A → B)
     (h later : List (Recorded A)) (picked front : List B)
-    → ArePicked (IsSo Q (h ++ later)) (map f (h ++ later)) picked → ArePicked (IsSo Q h) (map f h) front
+    → ArePicked (HoldsAt Q (h ++ later)) (map f (h ++ later)) picked → ArePicked (HoldsAt Q h) (map f h) front
     → (back : List B) × (picked ≡ front ++ back)
 so_picked_front {A} {B} Q f h later picked front p q =
-    let P : ℕ → Type 0 = IsSo Q (h ++ later) in
+    let P : ℕ → Type 0 = HoldsAt Q (h ++ later) in
     let long : length (map f h) ≡ length h = map_long f h in
     let all : ArePicked P (map f h ++ map f later) picked = subst (λ (xs : List B). ArePicked P xs picked)
     (map-append f h later) p in
     let w = picked_front P (map f h) (map f later) picked all in
-    let mine : ArePicked (IsSo Q h) (map f h) w.0 = picked_same P (IsSo Q h) (map f h) w.0
+    let mine : ArePicked (HoldsAt Q h) (map f h) w.0 = picked_same P (HoldsAt Q h) (map f h) w.0
     (λ t lt. so_same Q h later t (omega (arith, long))) w.3 in
-    (w.1, w.2 ∙ ap (λ zs. zs ++ w.1) (picked_one (IsSo Q h) (map f h) w.0 front mine q))
+    (w.1, w.2 ∙ ap (λ zs. zs ++ w.1) (picked_one (HoldsAt Q h) (map f h) w.0 front mine q))

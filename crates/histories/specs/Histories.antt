@@ -10,7 +10,7 @@ pub record Recorded (A : Type 0) : Type 0 where
 abbrev pub recorded : {A : Type 0} → ℕ → A → Recorded A
 recorded moment entry = record { moment = moment; entry = entry }
 
--- the same moments, with what f makes of each entry
+-- a history with the same moments, and with what f makes of each entry
 abbrev pub project : {A B : Type 0} → (A → B) → List (Recorded A) → List (Recorded B)
 project f [] = []
 project f (x ∷ h) = recorded x.moment (f x.entry) ∷ project f h
@@ -44,12 +44,12 @@ abbrev pub up_to : {A : Type 0} → List (Recorded A) → ℕ → List (Recorded
 up_to h t = take (suc t) h
 
 -- P holds of the history up to the place
-pub record IsSo {A : Type 0} (P : List (Recorded A) → Type 0) (h : List (Recorded A)) (t : ℕ) : Type 0 where
+pub record HoldsAt {A : Type 0} (P : List (Recorded A) → Type 0) (h : List (Recorded A)) (t : ℕ) : Type 0 where
   pub within : t < length h
   pub so : P (up_to h t)
 
--- what holds of a history once goes on to hold, whatever is recorded later; and it does not hold of
--- none
+-- once P holds of a history it goes on to hold, whatever is recorded later; of the empty one it does
+-- not hold
 pub record Lasts {A : Type 0} (P : List (Recorded A) → Type 0) : Type 0 where
   pub none : P [] → ⊥
   pub more : (h later : List (Recorded A)) → P h → P (h ++ later)
@@ -61,7 +61,7 @@ pub record IsFirst (P : ℕ → Type 0) (t : ℕ) : Type 0 where
 
 -- P comes true at the place: it holds of the history up to it, and of none up to an earlier place
 abbrev pub ComesTrue : {A : Type 0} → (List (Recorded A) → Type 0) → List (Recorded A) → ℕ → Type 0
-ComesTrue P h t = IsFirst (IsSo P h) t
+ComesTrue P h t = IsFirst (HoldsAt P h) t
 
 -- the first place at which P holds, if there is one
 abbrev pub IsFirstPlace : (ℕ → Type 0) → Option ℕ → Type 0
@@ -73,7 +73,7 @@ abbrev pub IsFirstMoment : {A : Type 0} → List (Recorded A) → (ℕ → Type 
 IsFirstMoment h P None = (t : ℕ) → P t → ⊥
 IsFirstMoment h P (Some m) = (t : ℕ) × IsFirst P t × (moment_at h t ≡ Some m)
 
--- of n places, all from place u on are alike in C
+-- of n places, all from place u on agree on whether C holds
 pub record IsSteady (n : ℕ) (C : ℕ → Type 0) (u : ℕ) : Type 0 where
   pub within : u < n
   pub same : (v w : ℕ) → u ≤ v → v < n → u ≤ w → w < n → C v → C w

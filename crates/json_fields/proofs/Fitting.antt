@@ -8,7 +8,8 @@ use Rattle.json.specs.Json as json
 use Rattle.json.specs.Json.{Json}
 use Rattle.json.specs.Tree.{json_tokens, items_tokens, members_tokens, depth, items_depth, members_depth}
 use Rattle.json_fields.specs.Borrowed.{whole, is_plain, items_are_plain, members_are_plain}
-use Rattle.json_fields.specs.Tape.{deepest, one_less, one_more, room_if, room_after, fits, fits_from}
+use Rattle.serde_json.specs.Read.{max_depth}
+use Rattle.json_fields.specs.Tape.{one_less, one_more, room_if, room_after, fits, fits_from}
 
 opened_from : (b : Bool) (room : ℕ) (ts : List Token)
     → fits_from (if b then None else Some (room - 1)) (λ n. fits n ts) ≡ true → fits (room - 1) ts ≡ true
@@ -32,7 +33,7 @@ closed_from false r ts e = absurd (true≢false (sym e))
 
 -- behind its end there is as much room as before it
 closes : (r : ℕ) (ts : List Token) → fits_from (one_more r) (λ n. fits n ts) ≡ true → fits (suc r) ts ≡ true
-closes r ts e = closed_from (nat_lt r deepest) r ts e
+closes r ts e = closed_from (nat_lt r max_depth) r ts e
 
 plain_from : (b : Bool) (room : ℕ) (ts : List Token) → fits_from (room_if b room) (λ n. fits n ts) ≡ true
     → (b ≡ true) × (fits room ts ≡ true)
@@ -81,8 +82,8 @@ mutual
       (both _ _ f.0 m.0, omega (arith, f.1, m.1), m.2)
 
 -- a value all of whose tokens fit is plain, and nests no deeper than a line may
-pub fits_plain : (j : Json) (ts : List Token) → fits deepest ts ≡ true → ts ≡ json_tokens j
-    → (is_plain j ≡ true) × (depth j ≤ deepest)
+pub fits_plain : (j : Json) (ts : List Token) → fits max_depth ts ≡ true → ts ≡ json_tokens j
+    → (is_plain j ≡ true) × (depth j ≤ max_depth)
 fits_plain j ts fit spelled =
-    let f = fits-json j deepest [] (ap (fits deepest) (append-nil (json_tokens j) ∙ sym spelled) ∙ fit) in
+    let f = fits-json j max_depth [] (ap (fits max_depth) (append-nil (json_tokens j) ∙ sym spelled) ∙ fit) in
     (f.0, f.1)

@@ -23,7 +23,7 @@ use Rattle.serde_json.specs.Data.{Data}
 use Rattle.serde_json.specs.Find.{get, as_null, as_str, as_array, as_object}
 use Rattle.json_fields.specs.Borrowed.{data_of, items_data}
 use Rattle.json_fields.specs.Fields.{items_list}
-use Rattle.json_fields.specs.Tape.{data_at, data_from, datas_in, listed, HasItems}
+use Rattle.json_fields.specs.Tape.{data_at, data_from, items_in, listed, HasItems}
 use Rattle.json_fields.proofs.Plain.{get_data}
 
 -- nothing nests deeper than it has tokens
@@ -115,15 +115,15 @@ items_spelled (json.item j js) ts inside = go (after_end_array ts) refl (items_s
         )
 
 -- the data are those of the items with which the tokens begin
-pub datas_here : (ts : List Token) (js : json.Items) → InItems ts js → datas_in ts ≡ items_list (items_data js)
-unfolding datas_in
+pub datas_here : (ts : List Token) (js : json.Items) → InItems ts js → items_in ts ≡ items_list (items_data js)
+unfolding items_in
 datas_here ts js inside =
     let s = items_spelled js ts inside in
     ap (λ us. listed (as_array (data_at (begin_array ∷ us)))) s.1
     ∙ ap (λ d. listed (as_array d)) (data_of_tokens (json.array js) s.0)
 
 pub next_item : (old new : List Token) (r : Option (List Token)) → HasItems old → NextItem old r new
-    → MatchOption r (datas_in old ≡ []) (λ v. datas_in old ≡ data_at v ∷ datas_in new)
+    → MatchOption r (items_in old ≡ []) (λ v. items_in old ≡ data_at v ∷ items_in new)
 next_item old new None has is =
     datas_here old has.0 has.1 ∙ ap (λ js. items_list (items_data js)) (is has.0 has.1)
 next_item old new (Some us) has is =
@@ -142,12 +142,12 @@ array_data (json.object ms) e = refl
 pub found_items : (ts : List Token) (r : Option (List Token)) → HasValue ts
     → ((j : Json) → BeginsWith ts j → MatchOption r (found.as_array j ≡ None)
     (λ rest. (js : json.Items) × (j ≡ json.array js) × InItems rest js))
-    → option_map datas_in r ≡ option_map items_list (as_array (data_at ts))
+    → option_map items_in r ≡ option_map items_list (as_array (data_at ts))
 found_items ts r has is = go r (is has.0 has.1)
   where
     go : (r : Option (List Token)) → MatchOption r (found.as_array has.0 ≡ None)
         (λ rest. (js : json.Items) × (has.0 ≡ json.array js) × InItems rest js)
-        → option_map datas_in r ≡ option_map items_list (as_array (data_at ts))
+        → option_map items_in r ≡ option_map items_list (as_array (data_at ts))
     go None none = sym (ap (λ d. option_map items_list (as_array d)) (data_here ts has.0 has.1)
         ∙ ap (option_map items_list) (array_data has.0 none))
     go (Some us) some = ap Some (datas_here us some.0 some.2)

@@ -1,5 +1,6 @@
 pub mod Borrowed
 pub mod Fields
+pub mod Numbers
 pub mod Reading
 pub mod Strangers
 pub mod Tape

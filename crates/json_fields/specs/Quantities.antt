@@ -6,7 +6,7 @@ use Rattle.serde_json.specs.Data.{Data}
 use Rattle.serde_json.specs.Find.{as_str, as_number, as_i64, as_u64}
 use Rattle.json_fields.specs.Reading.{◌>>=◌, else_fault}
 use Rattle.quantity.specs.Limit.{limit_of}
-use Rattle.quantity.specs.Quantity.{quantity_of, greatest}
+use Rattle.quantity.specs.Quantity.{quantity_of, greatest_quantity}
 use Rattle.quantity.specs.declared.fault.QuantityFault.{QuantityFault}
 use Rattle.quantity.specs.declared.fault.QuantityFault.TheVariants.{Negative}
 use Rattle.quantity.specs.declared.limit.Limit.{Limit}
@@ -22,7 +22,7 @@ written (Err fault) = Err (Faulty fault)
 -- a whole number is one of units, and no negative one
 abbrev pub units_from : Data → Option ℕ → Result ℕ FieldFault
 units_from d None = if is_some (option_and_then as_i64 (as_number d)) then Err (Faulty Negative) else Err WrongKind
-units_from d (Some units) = Ok (min (1000 * units) greatest)
+units_from d (Some units) = Ok (min (1000 * units) greatest_quantity)
 
 abbrev pub units_in : Data → Result ℕ FieldFault
 units_in d = units_from d (option_and_then as_u64 (as_number d))

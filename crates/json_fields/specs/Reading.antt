@@ -1,20 +1,6 @@
 -- Reading step by step, where the first fault is the answer, and what a call answers beside it.
-use Rattle.std.specs.Prelude.{◌≡◌, ⊤, Bool, false, MatchBool, Option, Some, None, List, [], ◌∷◌}
-use Rattle.std.specs.Prelude.{if◌then◌else◌, Result, Ok, Err}
-
-infixl 10 ◌>>=◌
-abbrev pub ◌>>=◌ : {A B E : Type 0} → Result A E → (A → Result B E) → Result B E
-(Ok x) >>= f = f x
-(Err e) >>= f = Err e
-
--- this fault where the test holds
-abbrev pub refused_if : {E : Type 0} → Bool → E → Result ⊤ E
-refused_if test fault = if test then Err fault else Ok tt
-
--- the value that is there, else this fault
-abbrev pub some_or : {A E : Type 0} → E → Option A → Result A E
-some_or fault None = Err fault
-some_or fault (Some x) = Ok x
+use Rattle.std.specs.Prelude.{◌≡◌, Bool, false, MatchBool, List, [], ◌∷◌, Result, Ok, Err}
+pub use Rattle.quantity.specs.Steps.{◌>>=◌, refused_if, some_or}
 
 -- what was read, else this fault
 abbrev pub else_fault : {A F E : Type 0} → E → Result A F → Result A E

@@ -60,7 +60,7 @@ read_each read = do
 abbrev pub read_in : {A E : Type 0} → (Signal → Option Data → Result A E) → Option Data → Result (BySignal A) E
 read_in read found = read_each (λ signal. read signal (in_map found signal))
 
--- the same, or the given fault where this is no map from signals of the scope
+-- what is read of each signal in a map, or the given fault where this is no map from signals of the scope
 unfoldable pub read_map : {A E : Type 0} → Scope → E → (Signal → Option Data → Result A E) → Option Data
     → Result (BySignal A) E
 read_map scope fault read found = refused_if (not (is_signal_map scope found)) fault >>= λ signals_alone.

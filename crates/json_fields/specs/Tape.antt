@@ -11,6 +11,7 @@ use Rattle.json.specs.Find.{InItems, InMembers}
 use Rattle.serde_json.specs.Data.{Data, null}
 use Rattle.serde_json.specs.Data as serde
 use Rattle.serde_json.specs.Find.{as_array}
+use Rattle.serde_json.specs.Read.{max_depth}
 use Rattle.json_fields.specs.Borrowed.{data_of, whole}
 use Rattle.json_fields.specs.Fields.{items_list, present, field_at}
 
@@ -27,8 +28,8 @@ listed None = []
 listed (Some items) = items_list items
 
 -- the data of the items with which the tokens begin, up to the end of their array
-unfoldable pub datas_in : List Token → List Data
-datas_in ts = listed (as_array (data_at (begin_array ∷ ts)))
+unfoldable pub items_in : List Token → List Data
+items_in ts = listed (as_array (data_at (begin_array ∷ ts)))
 
 abbrev pub HasItems : List Token → Type 0
 HasItems ts = (js : Items) × InItems ts js
@@ -74,15 +75,11 @@ IsNextMember k v old new = (name : List ℕ) (before : Option Data) → field_be
 abbrev pub IsRead : {A E : Type 0} → (Option Data → Result A E) → List ℕ → Data → List Token → A → Type 0
 IsRead f name d left x = (before : Option Data) × (field_at name d ≡ field_behind name left before) × (f before ≡ Ok x)
 
--- Arrays and objects nest no deeper in a line that is read, as in `serde_json`.
-abbrev pub deepest : ℕ
-deepest = 127
-
 abbrev pub one_less : ℕ → Option ℕ
 one_less room = if room == 0 then None else Some (room - 1)
 
 abbrev pub one_more : ℕ → Option ℕ
-one_more room = if nat_lt room deepest then Some (room + 1) else None
+one_more room = if nat_lt room max_depth then Some (room + 1) else None
 
 abbrev pub room_if : Bool → ℕ → Option ℕ
 room_if plain room = if plain then Some room else None

@@ -6,7 +6,7 @@ ghost use Rattle.json_fields.specs.Borrowed.{data_of, is_plain, items_are_plain,
 ghost use Rattle.json_fields.specs.Borrowed.{has_name, has_last_stranger};
 ghost use Rattle.json_fields.specs.Strangers.{is_stranger};
 
-use crate::value::{HasData, Json, Names};
+use crate::value::{HasData, Json, MemberNames};
 use fast_float::Numeral;
 use json::Value;
 use std::alloc::Allocator;
@@ -36,7 +36,7 @@ pub fn is_plain(value: &Value<'_>) -> bool
     is_plain_in(value)
 }
 
-/// The same of a value in any memory.
+/// The same of a value whose memory is of any allocator.
 #[cycle(is_plain)]
 pub fn is_plain_in<A: Allocator>(value: &Value<'_, A>) -> bool
     ensures { result ≡ is_plain (value_view value.now) }
@@ -92,12 +92,7 @@ impl<'a, A: Allocator> Json for Value<'a, A> {
     }
 
     fn signed(&self) -> Option<i64> {
-        let n = whole(self.as_number()?)?;
-        if n <= i64::MAX as u64 {
-            Some(n as i64)
-        } else {
-            None
-        }
+        i64::try_from(whole(self.as_number()?)?).ok()
     }
 
     fn items<'v>(&'v self) -> Option<&'v [Value<'a, A>]> {
@@ -111,7 +106,7 @@ impl<'a, A: Allocator> Json for Value<'a, A> {
         matches!(self, Value::Object(_))
     }
 
-    fn has_stranger<N: Names>(&self, names: &N) -> bool {
+    fn has_stranger<N: MemberNames>(&self, names: &N) -> bool {
         match self {
             Value::Object(members) => has_last_stranger(names, members),
             _ => false,
@@ -132,7 +127,7 @@ fn has_name<A: Allocator>(members: &[(&str, Value<'_, A>)], name: &str) -> bool
 }
 
 /// Whether the member is other than null, under none of these names, and none of its own name is among those after it.
-fn is_last_stranger<N: Names, A: Allocator>(
+fn is_last_stranger<N: MemberNames, A: Allocator>(
     names: &N,
     name: &str,
     value: &Value<'_, A>,
@@ -145,7 +140,10 @@ fn is_last_stranger<N: Names, A: Allocator>(
 }
 
 /// Whether the last member of some name is other than null, and the name none of these.
-fn has_last_stranger<N: Names, A: Allocator>(names: &N, members: &[(&str, Value<'_, A>)]) -> bool
+fn has_last_stranger<N: MemberNames, A: Allocator>(
+    names: &N,
+    members: &[(&str, Value<'_, A>)],
+) -> bool
     ensures { result ≡ has_last_stranger (N.includes names.now) (members_view members.now) }
 {
     let mut rest = members;

@@ -18,5 +18,5 @@ pub use fields::{field, text_at};
 pub use quantities::{QuantityMap, limit_in, quantity_in};
 pub use scope::Scope;
 pub use signal_map::{ReadSignal, read_map};
-pub use tape::{DEEPEST, TapeItems, TapeMembers, TapeValue, is_plain_tape};
-pub use value::{HasData, Json, Names};
+pub use tape::{MAX_DEPTH, TapeItems, TapeMembers, TapeValue, is_plain_tape};
+pub use value::{HasData, Json, MemberNames};

@@ -4,7 +4,7 @@ ghost use Rattle.std.specs.Prelude.{◌≡◌};
 ghost use Rattle.serde_json.specs.View.{view, members_view};
 ghost use Rattle.json_fields.specs.Strangers.{is_stranger, has_stranger};
 
-use crate::value::{HasData, Json, Names};
+use crate::value::{HasData, Json, MemberNames};
 use serde_json::{Map, Value};
 
 impl HasData for Value {
@@ -13,13 +13,13 @@ impl HasData for Value {
     ghost data = { view };
 }
 
-fn is_stranger<N: Names>(names: &N, name: &str, value: &Value) -> bool
+fn is_stranger<N: MemberNames>(names: &N, name: &str, value: &Value) -> bool
     ensures { result ≡ is_stranger (N.includes names.now) name.now (view value.now) }
 {
     !value.is_null() && !names.includes(name)
 }
 
-fn has_stranger<N: Names>(names: &N, members: &Map<String, Value>) -> bool
+fn has_stranger<N: MemberNames>(names: &N, members: &Map<String, Value>) -> bool
     ensures { result ≡ has_stranger (N.includes names.now) (members_view members.now.entries) }
 {
     for (name, value) in members.iter() {
@@ -62,7 +62,7 @@ impl Json for Value {
         Value::is_object(self)
     }
 
-    fn has_stranger<N: Names>(&self, names: &N) -> bool {
+    fn has_stranger<N: MemberNames>(&self, names: &N) -> bool {
         match self.as_object() {
             Some(members) => has_stranger(names, members),
             None => false,

@@ -3,7 +3,7 @@
 ghost use Rattle.std.specs.Prelude.{◌≡◌};
 ghost use Rattle.json_fields.specs.SignalMaps.{includes};
 
-use crate::value::Names;
+use crate::value::MemberNames;
 use signals::Signal;
 
 /// The signals that a map may name.
@@ -24,7 +24,7 @@ fn includes(scope: Scope, signal: Signal) -> bool
     }
 }
 
-impl Names for Scope {
+impl MemberNames for Scope {
     ghost use Rattle.json_fields.specs.SignalMaps.{may_name};
 
     ghost includes = { may_name };

@@ -1,6 +1,6 @@
 //! The values of a line on a tape, whose texts are those of the text that was read.
 
-ghost use Rattle.std.specs.Prelude.{◌≡◌, ◌<◌, ◌∷◌, [], length, map, Some, None, option_map, is_some, MatchOption};
+ghost use Rattle.std.specs.Prelude.{◌≡◌, ◌<◌, ◌∷◌, [], length, Some, None, option_map, is_some, MatchOption};
 ghost use Rattle.std.specs.Prelude.{◌≤◌, ℕ, List, IfSome, IfOk, IsTrue, OnSome};
 ghost use Rattle.json.specs.Json as json;
 ghost use Rattle.json.specs.Json.{Json};
@@ -9,9 +9,10 @@ ghost use Rattle.json.specs.Tape.{node_token};
 ghost use Rattle.json.specs.Tree.{json_tokens, depth};
 ghost use Rattle.json.specs.Value.{value_view};
 ghost use Rattle.serde_json.specs.Find.{get, as_null, as_str, as_array, as_object};
+ghost use Rattle.serde_json.specs.Read.{max_depth};
 ghost use Rattle.json_fields.specs.Borrowed.{data_of, is_plain};
 ghost use Rattle.json_fields.specs.Fields.{field_at, text_at, items_list};
-ghost use Rattle.json_fields.specs.Tape.{data_at, datas_in, deepest, field_behind, room_after, fits};
+ghost use Rattle.json_fields.specs.Tape.{data_at, items_in, field_behind, room_after, fits};
 ghost use Rattle.json_fields.specs.Tape.{AreAllPassed, IsNextMember};
 
 use crate::borrowed::whole;
@@ -20,7 +21,7 @@ use std::alloc::{AllocError, Allocator};
 use std::marker::Model;
 
 /// Arrays and objects nest no deeper in a line that is read, as in `serde_json`.
-pub const DEEPEST: usize = 127;
+pub const MAX_DEPTH: usize = 127;
 
 /// How many more arrays and objects may open behind the node; none where that is too deep, or a number is not plain.
 #[tactic(auto, unfolding(crate::specs::Tape::room_after))]
@@ -29,7 +30,13 @@ fn room_after(room: usize, node: &Node<'_>) -> Option<usize>
 {
     match node {
         Node::Object(_) | Node::Array(_) => room.checked_sub(1),
-        Node::EndObject | Node::EndArray => { if room < DEEPEST { Some(room + 1) } else { None } }
+        Node::EndObject | Node::EndArray => {
+            if room < MAX_DEPTH {
+                Some(room + 1)
+            } else {
+                None
+            }
+        }
         Node::Number(text) => {
             if whole(text).is_some() {
                 Some(room)
@@ -42,12 +49,13 @@ fn room_after(room: usize, node: &Node<'_>) -> Option<usize>
 }
 
 /// Whether each number on the tape is one that digits alone write, below 2^64, and arrays and objects nest no deeper
-/// than 127. Then `serde_json` reads the same data.
+/// than [`MAX_DEPTH`]. Then `serde_json` reads the same data.
 pub fn is_plain_tape(tape: &Tape<'_>) -> bool
-    ensures fits { result ≡ fits deepest tape.now }
-    ensures plain { IsTrue result → (j : Json) → tape.now ≡ json_tokens j → IsTrue (is_plain j) × (depth j ≤ deepest) }
+    ensures fits { result ≡ fits max_depth tape.now }
+    ensures plain { IsTrue result → (j : Json) → tape.now ≡ json_tokens j
+        → IsTrue (is_plain j) × (depth j ≤ max_depth) }
 {
-    let mut room = DEEPEST;
+    let mut room = MAX_DEPTH;
     let nodes = tape.nodes();
     for node in nodes {
         let Some(left) = room_after(room, node) else {
@@ -79,7 +87,7 @@ impl<'t, 'a> Model for TapeValue<'t, 'a> {
     ghost invariant = { λ v. HasValue v.element };
 }
 
-/// The text, the number, the truth value or the null that this is, but for an array or an object.
+/// The text, the number, the truth value or the null that this is; none where it is an array or an object.
 fn scalar_of<'a, A: Allocator>(element: &Element<'_, 'a>) -> Option<Value<'a, A>>
     ensures { IfSome result (λ v. (j : Json) → BeginsWith element.now j → value_view v ≡ j) }
 {
@@ -136,6 +144,7 @@ impl<'t, 'a> TapeValue<'t, 'a> {
         }
     }
 
+    /// Whether this is null.
     pub fn is_null(&self) -> bool
         ensures { result ≡ is_some (as_null (data_at self.now)) }
     {
@@ -150,12 +159,14 @@ impl<'t, 'a> TapeValue<'t, 'a> {
         if found.is_null() { None } else { Some(found) }
     }
 
+    /// Whether this is an object, which may have no members.
     pub fn is_object(&self) -> bool
         ensures { result ≡ is_some (as_object (data_at self.now)) }
     {
         self.element.members().is_some()
     }
 
+    /// The text, where this is one.
     pub fn text(&self) -> Option<&'a str>
         ensures { option_map (λ s. s.now) result ≡ as_str (data_at self.now) }
     {
@@ -169,7 +180,7 @@ impl<'t, 'a> TapeValue<'t, 'a> {
         self.field(name)?.text()
     }
 
-    /// The members of an object, in their order.
+    /// The members in their order, where this is an object.
     pub fn members(&self) -> Option<TapeMembers<'t, 'a>>
         ensures some { IfSome result (λ left. (name : List ℕ)
             → field_at name (data_at self.now) ≡ field_behind name left None) }
@@ -181,9 +192,9 @@ impl<'t, 'a> TapeValue<'t, 'a> {
         }
     }
 
-    /// The items of an array, in their order.
+    /// The items in their order, where this is an array.
     pub fn items(&self) -> Option<TapeItems<'t, 'a>>
-        ensures { option_map datas_in result ≡ option_map items_list (as_array (data_at self.now)) }
+        ensures { option_map items_in result ≡ option_map items_list (as_array (data_at self.now)) }
     {
         match self.element.items() {
             Some(items) => Some(TapeItems { items }),
@@ -245,8 +256,8 @@ impl<'t, 'a> Model for TapeItems<'t, 'a> {
 impl<'t, 'a> TapeItems<'t, 'a> {
     /// The next item.
     pub fn next(&mut self) -> Option<TapeValue<'t, 'a>>
-        ensures value { MatchOption result (datas_in self.old ≡ [])
-            (λ v. datas_in self.old ≡ data_at v ∷ datas_in self.new) }
+        ensures value { MatchOption result (items_in self.old ≡ [])
+            (λ v. items_in self.old ≡ data_at v ∷ items_in self.new) }
         ensures shorter { OnSome result (length self.new < length self.old) }
     {
         match self.items.next() {

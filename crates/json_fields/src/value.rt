@@ -1,7 +1,7 @@
 //! What a JSON value shows, whichever reader has made it.
 
 /// The names that the members of an object may have.
-pub trait Names {
+pub trait MemberNames {
     ghost use Rattle.std.specs.Prelude.{◌≡◌, ℕ, List, Bool};
 
     /// Whether the name is one of them.
@@ -12,7 +12,7 @@ pub trait Names {
         ensures { result ≡ includes self.now name.now };
 }
 
-/// What the data of a JSON value are.
+/// A value that stands for JSON data.
 pub trait HasData {
     ghost use Rattle.serde_json.specs.Data.{Data};
 
@@ -37,19 +37,19 @@ pub trait Json: HasData + Sized {
     fn is_null(&self) -> bool
         ensures { result ≡ is_some (as_null (Self.data self.now)) };
 
-    /// The bytes of a text, as UTF-8.
+    /// The text, where this is one.
     fn text<'v>(&'v self) -> Option<&'v str>
         ensures { option_map (λ s. s.now) result ≡ as_str (Self.data self.now) };
 
-    /// A whole number from 0 to 2^64 - 1.
+    /// The number, where this is a whole one from 0 to 2^64 - 1.
     fn unsigned(&self) -> Option<u64>
         ensures { result ≡ option_and_then as_u64 (as_number (Self.data self.now)) };
 
-    /// A whole number from -2^63 to 2^63 - 1.
+    /// The number, where this is a whole one from -2^63 to 2^63 - 1.
     fn signed(&self) -> Option<i64>
         ensures { result ≡ option_and_then as_i64 (as_number (Self.data self.now)) };
 
-    /// The items of an array, in their order.
+    /// The items in their order, where this is an array.
     fn items<'v>(&'v self) -> Option<&'v [Self]>
         ensures { option_map (λ v. map Self.data v.now) result
             ≡ option_map items_list (as_array (Self.data self.now)) };
@@ -59,6 +59,6 @@ pub trait Json: HasData + Sized {
         ensures { result ≡ is_some (as_object (Self.data self.now)) };
 
     /// Whether an object has a member other than null under none of these names.
-    fn has_stranger<N: Names>(&self, names: &N) -> bool
+    fn has_stranger<N: MemberNames>(&self, names: &N) -> bool
         ensures { result ≡ has_stranger_in (N.includes names.now) (as_object (Self.data self.now)) };
 }

@@ -1,3 +1,4 @@
+pub mod Blanks
 pub mod Cutting
 pub mod Found
 pub mod ZippedParts

@@ -18,6 +18,7 @@ use Rattle.json_lines.specs.Ticks.{is_tick, moment_at}
 use Rattle.json_lines.specs.declared.line.TextLine.{TextLine}
 use Rattle.json_lines.specs.declared.line.TextLine.TheVariants as text_lines
 
+-- a byte put before the first of the lines
 abbrev pub in_front : ℕ → List (List ℕ) → List (List ℕ)
 in_front b [] = (b ∷ []) ∷ []
 in_front b (l ∷ ls) = (b ∷ l) ∷ ls
@@ -27,6 +28,7 @@ abbrev pub lines_of : List ℕ → List (List ℕ)
 lines_of [] = []
 lines_of (b ∷ bs) = if b == 10 then [] ∷ lines_of bs else in_front b (lines_of bs)
 
+-- a space, a tab or a carriage return
 abbrev pub is_blank_byte : ℕ → Bool
 is_blank_byte b = b == 32 || b == 9 || b == 13
 
@@ -76,6 +78,7 @@ line_data line =
 abbrev pub SaysTickOn : LineData → List Token → Type 0
 SaysTickOn said tape = said ≡ Tick (moment_at (data_at tape)) (tick_line_of (data_at tape))
 
+-- what was read of a line, as what the line says
 abbrev pub data_of : TextLine → LineData
 data_of text_lines.Blank = Blank
 data_of text_lines.TooLong = TooLong

@@ -1,4 +1,4 @@
-//! The lines of a text, each with what it says by itself, read by one thread or shared among several.
+//! The lines of a text, each with what it says by itself.
 #![tactic(auto)]
 
 mod line;
@@ -10,8 +10,9 @@ mod tick;
 mod window;
 
 pub use line::{TextLine, other_line, text_line};
+pub use lines::skip_blank_lines;
 pub use parts::joined;
 pub use plain::LineBuffers;
 pub use tape::{tape_moment, tick_tape};
 pub use tick::{TickRecord, tick_record};
-pub use window::{Window, next_tick_lines, window_alone, window_by_workers};
+pub use window::next_tick_lines;

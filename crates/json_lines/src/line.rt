@@ -1,6 +1,6 @@
 //! What a line says by itself.
 
-ghost use Rattle.std.specs.Prelude.{◌≡◌, IfOk, MatchOption, OnOk, OnErr, map, option_map};
+ghost use Rattle.std.specs.Prelude.{◌≡◌, IfOk, MatchOption, OnOk, OnErr, option_map};
 ghost use Rattle.serde_json.specs.Errors.{IsMemory};
 ghost use Rattle.serde_json.specs.View.{view};
 ghost use Rattle.json_lines.specs.Lines.{json_in, said_by, said_in, line_data, data_of};
@@ -122,16 +122,4 @@ pub fn other_line(alloc: Global, line: &[u8]) -> Result<TextLine, AllocError>
         Some(read) => Ok(read),
         None => said_by_value(alloc, line),
     }
-}
-
-/// What each line says, in their order.
-pub(crate) fn read_each(alloc: Global, lines: &[&[u8]]) -> Result<Vec<TextLine>, AllocError>
-    ensures { IfOk result (λ reads. map data_of reads.items ≡ map (λ line. line_data line.now) lines.now) }
-{
-    let mut buffers = LineBuffers::new(alloc);
-    let mut reads = Vec::with_capacity(alloc, lines.len())?;
-    for line in lines {
-        reads.push(text_line(alloc, line, &mut buffers)?)?;
-    }
-    Ok(reads)
 }

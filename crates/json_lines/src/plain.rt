@@ -8,14 +8,14 @@ ghost use Rattle.json_lines.specs.Lines.{line_value, said_in, Tick};
 use crate::tick::{TickRecord, is_tick, tick_record};
 use bumpalo::Bump;
 use json::{Error, Reader, Scratch, Value};
-use json_fields::{DEEPEST, is_plain_in};
+use json_fields::{MAX_DEPTH, is_plain_in};
 use simdutf8::compat::from_utf8;
 use std::alloc::{AllocError, Global};
 
 /// A writer of which this many lines in a row are not plain is taken for one whose lines are not.
 const MISSES: u32 = 4;
 
-/// Of such a writer each line of this many is still tried.
+/// Of such a writer one line in this many is still tried.
 const MISSES_A_TRY: u32 = 32;
 
 /// Goes on where the text is no JSON; `Err` where memory was refused, and nowhere else.
@@ -61,7 +61,7 @@ pub(crate) fn missed_after(missed: u32, is_plain: bool) -> u32 {
     if is_plain { 0 } else { missed.wrapping_add(1) }
 }
 
-/// The one value of the text, if it has one that nests no deeper than 127.
+/// The one value of the text, if it has one that nests no deeper than [`MAX_DEPTH`].
 fn only_value<'a>(
     text: &'a str,
     scratch: &'a mut Scratch,
@@ -72,7 +72,7 @@ fn only_value<'a>(
     let Ok(mut reader) = Reader::new(text, scratch) else {
         return Err(AllocError);
     };
-    match Value::read(values, &mut reader, DEEPEST) {
+    match Value::read(values, &mut reader, MAX_DEPTH) {
         Ok(value) => Ok(if reader.next().is_none() {
             Some(value)
         } else {

@@ -7,7 +7,7 @@ use std::alloc::{AllocError, Global};
 use std::marker::Model;
 use std::mem;
 
-/// This many items has a chunk.
+/// How many items a chunk has.
 const CHUNK: usize = 64;
 
 /// The item at the place of full chunks and a last one.

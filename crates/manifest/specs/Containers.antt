@@ -41,8 +41,12 @@ pub record IsOf (place : Place) (c : ContainerSpec) : Type 0 where
 unfoldable pub AllOf : Place → List ContainerSpec → Type 0
 AllOf place containers = All (IsOf place) containers
 
--- init containers and sidecars, then at least one app container; at most 16 together, no two of one
--- name
+-- a pod has no more containers (this profile's limit)
+abbrev pub most_containers : ℕ
+most_containers = 16
+
+-- init containers and sidecars, then at least one app container; not too many together, and no two of
+-- one name
 pub record AreContainers (containers : List ContainerSpec) : Type 0 where
   pub init : List ContainerSpec
   pub apps : List ContainerSpec
@@ -50,5 +54,5 @@ pub record AreContainers (containers : List ContainerSpec) : Type 0 where
   pub init_first : All (IsOf InitContainers) init
   pub apps_last : All (IsOf Containers) apps
   pub some : 0 < length apps
-  pub few : length containers ≤ 16
+  pub few : length containers ≤ most_containers
   pub apart : has_twice containers ≡ false

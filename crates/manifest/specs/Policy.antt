@@ -10,13 +10,14 @@ use Rattle.manifest.specs.declared.pod.Role.TheVariants.{Init, Sidecar, App}
 abbrev pub HasFailed : ℤ → Type 0
 HasFailed code = code ≢ pos 0
 
--- of an app container, by the pod's policy
+-- an app container that exited with this code is to restart, by the pod's policy
 abbrev pub WantsAppRestart : Policy → ℤ → Type 0
 WantsAppRestart Always code = Unit {0}
 WantsAppRestart OnFailure code = HasFailed code
 WantsAppRestart Never code = ⊥
 
--- of an init container: it has to end well once, so Always is as OnFailure ("Init Containers")
+-- an init container that exited with this code is to restart: it has to end well once, so Always is as OnFailure
+-- ("Init Containers")
 abbrev pub WantsInitRestart : Policy → ℤ → Type 0
 WantsInitRestart Always code = HasFailed code
 WantsInitRestart OnFailure code = HasFailed code

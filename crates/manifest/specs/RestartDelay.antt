@@ -6,7 +6,7 @@ use Rattle.std.specs.Prelude.{ℕ, ◌&&◌, nat_le, Option, Some, None, if◌th
 abbrev pub least_max_delay : ℕ
 least_max_delay = 1
 
--- that of a node that sets none, and none is greater
+-- the maximum delay of a node that sets none; none may be greater
 abbrev pub most_max_delay : ℕ
 most_max_delay = 300
 

@@ -14,7 +14,7 @@ mod text;
 pub use grace::GracePeriod;
 pub use names::{is_label, is_name};
 pub use outcome::{Outcome, ProbeKind};
-pub use pod::{ContainerList, ContainerSpec, Place, PodSpec, Role};
+pub use pod::{ContainerList, ContainerSpec, MOST_CONTAINERS, Place, PodSpec, Role};
 pub use policy::Policy;
 pub use probe::{Probe, Probes};
 pub use resources::{Amounts, Resource, Resources};

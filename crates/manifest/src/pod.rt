@@ -1,6 +1,6 @@
 //! What a manifest says of a pod.
 
-ghost use Rattle.std.specs.Prelude.{◌≡◌, ◌<◌, ◌≤◌, List, [], ◌∷◌, false, length, map};
+ghost use Rattle.std.specs.Prelude.{◌≡◌, ◌<◌, List};
 ghost use Rattle.lists.specs.Names.{place_of};
 
 use crate::grace::GracePeriod;
@@ -62,8 +62,11 @@ impl ContainerSpec {
     }
 }
 
+/// No pod has more containers.
+pub const MOST_CONTAINERS: usize = 16;
+
 /// The containers of a pod: init containers and sidecars in their order, then at least one app
-/// container, at most 16 together, no two of one name. An init container has no probes. Contracts
+/// container, at most [`MOST_CONTAINERS`] together, no two of one name. An init container has no probes. Contracts
 /// see them as a list.
 #[derive(Drop)]
 pub struct ContainerList {

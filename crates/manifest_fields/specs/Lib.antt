@@ -1,5 +1,5 @@
 pub mod Fault
-pub mod Gives
+pub mod GivesUnlessMemory
 pub mod Fields
 pub mod Grammar
 pub mod ProbeFields

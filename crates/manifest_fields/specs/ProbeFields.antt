@@ -1,10 +1,11 @@
 -- The probes that a manifest writes (Kubernetes, "Configure Liveness, Readiness and Startup
 -- Probes").
-use Rattle.std.specs.Prelude.{ℕ, ◌^◌, ◌-◌, ◌&&◌, ℤ, nat_le, Option, Some, None, option_and_then, if◌then◌else◌}
+use Rattle.std.specs.Prelude.{ℕ, ◌&&◌, ℤ, nat_le, Option, Some, None, option_and_then, if◌then◌else◌}
 use Rattle.std.specs.Prelude.{Result, Ok, Err, codes}
 use Rattle.serde_json.specs.Data.{Data}
 use Rattle.serde_json.specs.Find.{as_number, as_i64, as_u64}
 use Rattle.json_fields.specs.Fields.{field_at}
+use Rattle.json_fields.specs.Numbers.{max_int32}
 use Rattle.json_fields.specs.Reading.{◌>>=◌}
 use Rattle.manifest_fields.specs.declared.fault.Field.TheVariants as fields
 use Rattle.manifest_fields.specs.declared.fault.ManifestFault.{ManifestFault}
@@ -13,10 +14,6 @@ use Rattle.manifest.specs.declared.pod.Role.{Role}
 use Rattle.manifest.specs.declared.pod.Role.TheVariants.{Init, Sidecar, App}
 use Rattle.manifest.specs.Probe.{Probe, Probes, probe, no_probes}
 use Rattle.manifest_fields.specs.Fields.{object_of, absent}
-
--- no number of a probe is greater
-abbrev pub greatest : ℕ
-greatest = 2 ^ 31 - 1
 
 -- a whole number that isn't from 0 on is below each range, and any other number is none
 abbrev pub not_from_0 : Option ℤ → Result ℕ ManifestFault
@@ -39,11 +36,11 @@ number_of least most default (Some d) = number_from least most d (option_and_the
 unfoldable pub probe_in : ℕ → Data → Result Probe ManifestFault
 probe_in most_successes d = do
   written ← object_of fields.Probe (Some d)
-  initial_delay ← number_of 0 greatest 0 (field_at (codes "initialDelaySeconds") written)
-  period ← number_of 1 greatest 10 (field_at (codes "periodSeconds") written)
-  timeout ← number_of 1 greatest 1 (field_at (codes "timeoutSeconds") written)
+  initial_delay ← number_of 0 max_int32 0 (field_at (codes "initialDelaySeconds") written)
+  period ← number_of 1 max_int32 10 (field_at (codes "periodSeconds") written)
+  timeout ← number_of 1 max_int32 1 (field_at (codes "timeoutSeconds") written)
   successes ← number_of 1 most_successes 1 (field_at (codes "successThreshold") written)
-  failures ← number_of 1 greatest 3 (field_at (codes "failureThreshold") written)
+  failures ← number_of 1 max_int32 3 (field_at (codes "failureThreshold") written)
   Ok (probe initial_delay period timeout successes failures)
 
 -- a probe that may be left out
@@ -56,7 +53,7 @@ unfoldable pub some_probes : Data → Result Probes ManifestFault
 some_probes d = do
   startup ← probe_of 1 (field_at (codes "startupProbe") d)
   liveness ← probe_of 1 (field_at (codes "livenessProbe") d)
-  readiness ← probe_of greatest (field_at (codes "readinessProbe") d)
+  readiness ← probe_of max_int32 (field_at (codes "readinessProbe") d)
   Ok (record { startup = startup; liveness = liveness; readiness = readiness })
 
 -- an init container has none

@@ -3,7 +3,7 @@
 ghost use Rattle.std.specs.Prelude.{◌≡◌, ◌<◌, length, map, option_map, IfOk};
 ghost use Rattle.serde_json.specs.View.{view};
 ghost use Rattle.json_fields.specs.Reading.{GivesExactly};
-ghost use Rattle.manifest_fields.specs.Gives.{Gives};
+ghost use Rattle.manifest_fields.specs.GivesUnlessMemory.{GivesUnlessMemory};
 ghost use Rattle.manifest_fields.specs.Fields.{object_of, array_of, array_or_none, some_items, text_of};
 ghost use Rattle.manifest_fields.specs.Fields.{required_text, text_or, absent};
 ghost use Rattle.manifest_fields.specs.Grammar.{passes};
@@ -86,7 +86,7 @@ fn passes(grammar: Grammar, text: &[u8]) -> bool
 }
 
 fn text(alloc: Global, grammar: Grammar, field: Field, value: &Value) -> Result<Text, ManifestFault>
-    ensures { Gives (λ t. t) result (text_of (passes grammar) field (view value.now)) }
+    ensures { GivesUnlessMemory (λ t. t) result (text_of (passes grammar) field (view value.now)) }
 {
     match value.as_str() {
         Some(text) if passes(grammar, text.as_bytes()) => {
@@ -103,7 +103,8 @@ pub fn required_text(
     field: Field,
     found: Option<&Value>,
 ) -> Result<Text, ManifestFault>
-    ensures { Gives (λ t. t) result (required_text (passes grammar) field (option_map (λ v. view v.now) found.entry)) }
+    ensures { GivesUnlessMemory (λ t. t) result
+        (required_text (passes grammar) field (option_map (λ v. view v.now) found.entry)) }
 {
     match found {
         None => Err(ManifestFault::Missing(field)),
@@ -119,7 +120,7 @@ pub fn text_or(
     field: Field,
     found: Option<&Value>,
 ) -> Result<Text, ManifestFault>
-    ensures { Gives (λ t. t) result
+    ensures { GivesUnlessMemory (λ t. t) result
         (text_or default.now (passes grammar) field (option_map (λ v. view v.now) found.entry)) }
 {
     match found {

@@ -1,7 +1,8 @@
 //! Reading the probes of a container, field by field.
 
-ghost use Rattle.std.specs.Prelude.{◌≡◌, ◌≤◌, ◌<◌, ◌^◌, option_map, IfOk};
+ghost use Rattle.std.specs.Prelude.{◌≡◌, ◌≤◌, option_map, IfOk};
 ghost use Rattle.serde_json.specs.View.{view};
+ghost use Rattle.json_fields.specs.Numbers.{max_int32};
 ghost use Rattle.json_fields.specs.Reading.{GivesExactly};
 ghost use Rattle.manifest.specs.declared.pod.Role.TheVariants.{Init};
 ghost use Rattle.manifest.specs.Probe.{SucceedsByOne, no_probes};
@@ -14,8 +15,8 @@ use json_fields::field;
 use manifest::{Probe, Probes, Role};
 use serde_json::Value;
 
-/// No number of a probe is greater.
-const GREATEST: u32 = (1 << 31) - 1;
+/// The numbers of a probe are of the API's type int32.
+const MAX_INT32: u32 = i32::MAX as u32;
 
 fn in_range(least: u32, most: u32, number: u64) -> Result<u32, ManifestFault>
     ensures gives { GivesExactly (λ n. n) result (in_range least most number) }
@@ -51,22 +52,22 @@ fn number_of(
 
 #[tactic(auto, unfolding(crate::specs::ProbeFields::probe_in))]
 fn probe_in(most_successes: u32, value: &Value) -> Result<Probe, ManifestFault>
-    requires { (1 ≤ most_successes) × (most_successes < 2 ^ 31) }
+    requires { (1 ≤ most_successes) × (most_successes ≤ max_int32) }
     ensures gives { GivesExactly (λ p. p) result (probe_in most_successes (view value.now)) }
     ensures most { IfOk result (λ p. p.success_threshold ≤ most_successes) }
     ensures least { IfOk result (λ p. 1 ≤ p.success_threshold) }
 {
     let probe = object(Field::Probe, Some(value))?;
-    let initial_delay = number_of(0, GREATEST, 0, field(probe, "initialDelaySeconds"))?;
-    let period = number_of(1, GREATEST, 10, field(probe, "periodSeconds"))?;
-    let timeout = number_of(1, GREATEST, 1, field(probe, "timeoutSeconds"))?;
+    let initial_delay = number_of(0, MAX_INT32, 0, field(probe, "initialDelaySeconds"))?;
+    let period = number_of(1, MAX_INT32, 10, field(probe, "periodSeconds"))?;
+    let timeout = number_of(1, MAX_INT32, 1, field(probe, "timeoutSeconds"))?;
     let successes = number_of(1, most_successes, 1, field(probe, "successThreshold"))?;
-    let failures = number_of(1, GREATEST, 3, field(probe, "failureThreshold"))?;
+    let failures = number_of(1, MAX_INT32, 3, field(probe, "failureThreshold"))?;
     Ok(Probe::new(initial_delay, period, timeout, successes, failures))
 }
 
 fn probe_of(most_successes: u32, found: Option<&Value>) -> Result<Option<Probe>, ManifestFault>
-    requires { (1 ≤ most_successes) × (most_successes < 2 ^ 31) }
+    requires { (1 ≤ most_successes) × (most_successes ≤ max_int32) }
     ensures gives { GivesExactly (λ p. p) result (probe_of most_successes (option_map (λ v. view v.now) found.entry)) }
     ensures by_one { most_successes ≡ 1 → IfOk result SucceedsByOne }
 {
@@ -82,7 +83,7 @@ fn some_probes(container: &Value) -> Result<Probes, ManifestFault>
 {
     let startup = probe_of(1, field(container, "startupProbe"))?;
     let liveness = probe_of(1, field(container, "livenessProbe"))?;
-    let readiness = probe_of(GREATEST, field(container, "readinessProbe"))?;
+    let readiness = probe_of(MAX_INT32, field(container, "readinessProbe"))?;
     Ok(Probes::new(startup, liveness, readiness))
 }
 

@@ -8,12 +8,14 @@ use Rattle.json_fields.specs.Fields.{field_at}
 use Rattle.manifest_fields.specs.declared.fault.Field.TheVariants as fields
 use Rattle.manifest_fields.specs.declared.fault.ManifestFault.TheVariants.{Missing, InitProbe, RequestAboveLimit}
 use Rattle.manifest_fields.specs.declared.fault.ManifestFault.TheVariants.{DuplicateContainer, TooMany}
+use Rattle.manifest.specs.Containers.{most_containers}
 use Rattle.manifest.specs.declared.pod.Place.{Place}
 use Rattle.manifest.specs.declared.pod.Place.TheVariants.{InitContainers, Containers}
 use Rattle.manifest.specs.Names.{is_name, is_label}
 use Rattle.manifest.specs.Resources.{some_above}
 use Rattle.manifest_fields.specs.ResourceFields.{quantity_at}
-use Rattle.manifest_fields.specs.ProbeFields.{greatest, number_of}
+use Rattle.json_fields.specs.Numbers.{max_int32}
+use Rattle.manifest_fields.specs.ProbeFields.{number_of}
 use Rattle.manifest_reader.specs.Manifest.{field_of}
 use Rattle.manifest_reader.specs.Found.{fault_of, fails_if, is_so, must_be, may_be, at, is_object, is_array, is_text}
 use Rattle.manifest_reader.specs.Found.{is_policy, is_priority, is_grace_period, items_in, is_empty, amounts_at}
@@ -44,11 +46,11 @@ resource_rows found =
 abbrev pub probe_rows : ℕ → Option Data → List Row
 probe_rows most_successes found =
     may_be is_object fields.Probe found
-    ∷ fault_of (number_of 0 greatest 0 (at (codes "initialDelaySeconds") found))
-    ∷ fault_of (number_of 1 greatest 10 (at (codes "periodSeconds") found))
-    ∷ fault_of (number_of 1 greatest 1 (at (codes "timeoutSeconds") found))
+    ∷ fault_of (number_of 0 max_int32 0 (at (codes "initialDelaySeconds") found))
+    ∷ fault_of (number_of 1 max_int32 10 (at (codes "periodSeconds") found))
+    ∷ fault_of (number_of 1 max_int32 1 (at (codes "timeoutSeconds") found))
     ∷ fault_of (number_of 1 most_successes 1 (at (codes "successThreshold") found))
-    ∷ fault_of (number_of 1 greatest 3 (at (codes "failureThreshold") found))
+    ∷ fault_of (number_of 1 max_int32 3 (at (codes "failureThreshold") found))
     ∷ []
 
 -- the probes of an app container or a sidecar: one success is enough for startup and liveness
@@ -56,7 +58,7 @@ abbrev pub some_probes_rows : Data → List Row
 some_probes_rows d =
     probe_rows 1 (field_at (codes "startupProbe") d)
     ++ probe_rows 1 (field_at (codes "livenessProbe") d)
-    ++ probe_rows greatest (field_at (codes "readinessProbe") d)
+    ++ probe_rows max_int32 (field_at (codes "readinessProbe") d)
 
 -- an init container has none
 abbrev pub unprobed_rows : Data → List Row
@@ -81,7 +83,7 @@ container_rows place d =
 -- all containers
 unfoldable pub containers_rows : List Data → List Data → List Row
 containers_rows init_items items =
-    fails_if (nat_lt 16 (length init_items + length items)) TooMany
+    fails_if (nat_lt most_containers (length init_items + length items)) TooMany
     ∷ flat_map (container_rows InitContainers) init_items
     ++ (flat_map (container_rows Containers) items
     ++ fails_if (has_double (map name_in (init_items ++ items))) DuplicateContainer

@@ -34,7 +34,7 @@ use Rattle.manifest_reader.specs.Manifest.{policy_from, policy_of, priority_from
 use Rattle.manifest_reader.specs.Manifest.{grace_period_of, field_of, sidecar_from, role_of, container_of}
 use Rattle.manifest_reader.specs.Manifest.{containers_of, app_items_of, containers_in, metadata_of, settings_in}
 use Rattle.manifest_reader.specs.Manifest.{spec_of, pod_at}
-use Rattle.manifest.specs.Containers.{has_twice}
+use Rattle.manifest.specs.Containers.{has_twice, most_containers}
 use Rattle.json_fields.proofs.Only.{Only, only_ok, only_err, only_bind, only_if, only_refused, only_each}
 
 abbrev pub IsFound : ManifestFault → Type 0
@@ -236,7 +236,8 @@ containers_only : (init_items items : List Data) → Only IsFound (containers_of
 unfolding containers_of
 containers_only init_items items =
     let P = IsFound in
-    only_bind P _ _ (only_refused P (nat_lt 16 (length init_items + length items)) TooMany (λ is. absurd (cc))) (λ few.
+    let many = nat_lt most_containers (length init_items + length items) in
+    only_bind P _ _ (only_refused P many TooMany (λ is. absurd (cc))) (λ few.
     only_bind P _ _ (only_each P (container_of InitContainers) (container_only InitContainers) init_items) (λ init.
     only_bind P _ _ (only_each P (container_of Containers) (container_only Containers) items) (λ apps.
     only_bind P _ _ (only_refused P (has_twice (init ++ apps)) DuplicateContainer (λ is. absurd (cc)))

@@ -1,10 +1,11 @@
 -- Each step of reading a manifest has the rows of the table that its check has.
-use Rattle.std.proofs.Common.{◌≡◌, ◌∙◌, ℕ, ℤ, ◌+◌, ◌^◌, Bool, true, false, not, ◌&&◌, ◌||◌, List, [], ◌∷◌, ◌++◌, map}
+use Rattle.std.proofs.Common.{◌≡◌, ◌∙◌, ℕ, ℤ, ◌+◌, Bool, true, false, not, ◌||◌, List, [], ◌∷◌, ◌++◌, map}
 use Rattle.std.proofs.Common.{length, Option, Some, None, is_some, Result, Ok, Err, refl, ap, sym, bytes_eq}
-use Rattle.std.specs.Prelude.{pos, negsuc, int_le, if◌then◌else◌, option_and_then, unwrap_or, codes, nat_lt}
+use Rattle.std.specs.Prelude.{if◌then◌else◌, option_and_then, unwrap_or, codes, nat_lt}
 use Rattle.std.specs.List.{flat_map, list_any}
 use Rattle.serde_json.specs.Data.{Data, Items}
 use Rattle.serde_json.specs.Find.{as_str, as_number, as_i64, as_u64, as_array, as_object}
+use Rattle.quantity.specs.Duration.{end_of_time}
 use Rattle.json_fields.specs.Fields.{field_at, items_list}
 use Rattle.json_fields.specs.Reading.{◌>>=◌, refused_if, each}
 use Rattle.json_fields.proofs.Steps.{bind_ok}
@@ -23,12 +24,14 @@ use Rattle.manifest.specs.declared.pod.Place.{Place}
 use Rattle.manifest.specs.declared.pod.Place.TheVariants.{InitContainers, Containers}
 use Rattle.manifest.specs.declared.resources.Amounts.{Amounts}
 use Rattle.manifest.specs.Names.{is_name, is_label}
-use Rattle.manifest.specs.Containers.{names_of, has_twice}
+use Rattle.manifest.specs.Containers.{names_of, has_twice, most_containers}
 use Rattle.manifest_fields.specs.Fields.{object_of, tested_text, required_text, text_or, items_or, array_or_none}
 use Rattle.manifest_fields.specs.Fields.{some_items}
 use Rattle.manifest.specs.Resources.{some_above}
 use Rattle.manifest_fields.specs.ResourceFields.{quantity_at, amounts_in, amounts_of, resources_in, resources_of}
-use Rattle.manifest_fields.specs.ProbeFields.{greatest, number_of, probe_in, probe_of, some_probes, unprobed, probes_of}
+use Rattle.json_fields.specs.Numbers.{max_int32, is_int32}
+use Rattle.manifest_fields.specs.ProbeFields.{number_of, probe_in, probe_of, some_probes, unprobed}
+use Rattle.manifest_fields.specs.ProbeFields.{probes_of}
 use Rattle.manifest_reader.specs.Manifest.{policy_from, policy_of, priority_from, priority_of, grace_period_from}
 use Rattle.manifest_reader.specs.Manifest.{grace_period_of, field_of, sidecar_from, role_of, container_of}
 use Rattle.manifest_reader.specs.Manifest.{containers_of, app_items_of, containers_in, metadata_of, settings_in}
@@ -132,10 +135,9 @@ priority_row None = refl
 priority_row (Some d) = there (option_and_then as_i64 (as_number d))
   where
     there : (o : Option ℤ) → fault_of (priority_from o)
-        ≡ (if is_some_and (λ z. int_le (negsuc 2147483647) z && int_le z (pos 2147483647)) o then None else Some
-        (WrongKind fields.Priority))
+        ≡ (if is_some_and is_int32 o then None else Some (WrongKind fields.Priority))
     there None = refl
-    there (Some z) = fault_if (int_le (negsuc 2147483647) z && int_le z (pos 2147483647)) z (WrongKind fields.Priority)
+    there (Some z) = fault_if (is_int32 z) z (WrongKind fields.Priority)
 
 grace_period_row : (found : Option Data) → fault_of (grace_period_of found) ≡ may_be is_grace_period
     fields.GracePeriod found
@@ -143,10 +145,10 @@ grace_period_row None = refl
 grace_period_row (Some d) = there (option_and_then as_u64 (as_number d))
   where
     there : (o : Option ℕ)
-        → fault_of (grace_period_from o) ≡ (if is_some_and (λ n. nat_lt n (2 ^ 40)) o then None else Some
+        → fault_of (grace_period_from o) ≡ (if is_some_and (λ n. nat_lt n end_of_time) o then None else Some
         (WrongKind fields.GracePeriod))
     there None = refl
-    there (Some n) = fault_if (nat_lt n (2 ^ 40)) n (WrongKind fields.GracePeriod)
+    there (Some n) = fault_if (nat_lt n end_of_time) n (WrongKind fields.GracePeriod)
 
 abbrev setting_rows : Data → List Row
 setting_rows spec =
@@ -236,11 +238,11 @@ probe_in_read : (most_successes : ℕ) (d : Data) → Reads (probe_in most_succe
 unfolding probe_in
 probe_in_read most_successes d =
     object_step fields.Probe d _ _ (
-    step_row (number_of 0 greatest 0 (field_at (codes "initialDelaySeconds") d)) _ _ _ refl (λ initial_delay e.
-    step_row (number_of 1 greatest 10 (field_at (codes "periodSeconds") d)) _ _ _ refl (λ period f.
-    step_row (number_of 1 greatest 1 (field_at (codes "timeoutSeconds") d)) _ _ _ refl (λ timeout g.
+    step_row (number_of 0 max_int32 0 (field_at (codes "initialDelaySeconds") d)) _ _ _ refl (λ initial_delay e.
+    step_row (number_of 1 max_int32 10 (field_at (codes "periodSeconds") d)) _ _ _ refl (λ period f.
+    step_row (number_of 1 max_int32 1 (field_at (codes "timeoutSeconds") d)) _ _ _ refl (λ timeout g.
     step_row (number_of 1 most_successes 1 (field_at (codes "successThreshold") d)) _ _ _ refl (λ successes h.
-    step_row (number_of 1 greatest 3 (field_at (codes "failureThreshold") d)) _ _ _ refl (λ failures i. read _))))))
+    step_row (number_of 1 max_int32 3 (field_at (codes "failureThreshold") d)) _ _ _ refl (λ failures i. read _))))))
 
 probe_read : (most_successes : ℕ) (found : Option Data) → Reads (probe_of most_successes found)
     (probe_rows most_successes found)
@@ -253,7 +255,7 @@ unfolding some_probes
 some_probes_read d =
     step _ _ _ _ (probe_read 1 (field_at (codes "startupProbe") d)) (λ s e.
     step _ _ _ _ (probe_read 1 (field_at (codes "livenessProbe") d)) (λ l f.
-    last_step _ _ _ (probe_read greatest (field_at (codes "readinessProbe") d))))
+    last_step _ _ _ (probe_read max_int32 (field_at (codes "readinessProbe") d))))
 
 unprobed_read : (d : Data) → Reads (unprobed d) (unprobed_rows d)
 unfolding unprobed
@@ -366,7 +368,7 @@ containers_read : (init_items items : List Data) → Reads (containers_of init_i
     (containers_rows init_items items)
 unfolding containers_of containers_rows
 containers_read init_items items =
-    let many = nat_lt 16 (length init_items + length items) in
+    let many = nat_lt most_containers (length init_items + length items) in
     step_row (refused_if many TooMany) _ _ _ (refused many TooMany) (λ u e.
     step (each (container_of InitContainers) init_items) _ (flat_map (container_rows InitContainers) init_items) _
     (each_rows (container_of InitContainers) (container_rows InitContainers) (container_read InitContainers)

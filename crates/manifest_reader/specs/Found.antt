@@ -1,6 +1,6 @@
 -- What the checks of a manifest look at, and the faults that they answer. What stands in no object
 -- has no fields. (Kubernetes API, `Pod`.)
-use Rattle.std.specs.Prelude.{ℕ, pos, negsuc, int_le, nat_lt, ◌&&◌, ◌||◌, Bool, true, false, not, List, [], ◌∷◌}
+use Rattle.std.specs.Prelude.{ℕ, nat_lt, ◌||◌, Bool, true, false, not, List, [], ◌∷◌}
 use Rattle.std.specs.Prelude.{Option, Some, None, is_some, unwrap_or, option_and_then, if◌then◌else◌, Result, Ok, Err}
 use Rattle.std.specs.Prelude.{bytes_eq, codes}
 use Rattle.std.specs.List.{list_any}
@@ -20,7 +20,8 @@ use Rattle.manifest.specs.declared.resources.Resource.{Resource}
 use Rattle.manifest.specs.declared.resources.Resource.TheVariants.{Cpu, Memory, EphemeralStorage}
 use Rattle.manifest.specs.Resources.{some_above}
 use Rattle.manifest_fields.specs.ResourceFields.{quantity_at}
-use Rattle.manifest_fields.specs.ProbeFields.{greatest, number_of}
+use Rattle.json_fields.specs.Numbers.{max_int32, is_int32}
+use Rattle.manifest_fields.specs.ProbeFields.{number_of}
 
 -- the fault of what was refused
 abbrev pub fault_of : {A : Type 0} → Result A ManifestFault → Option ManifestFault
@@ -65,12 +66,10 @@ is_text test d = is_some_and test (as_str d)
 abbrev pub is_policy : List ℕ → Bool
 is_policy text = bytes_eq text (codes "Always") || bytes_eq text (codes "OnFailure") || bytes_eq text (codes "Never")
 
--- from -2^31 to 2^31 - 1
 abbrev pub is_priority : Data → Bool
-is_priority d = is_some_and (λ z. int_le (negsuc 2147483647) z && int_le z (pos 2147483647))
-    (option_and_then as_i64 (as_number d))
+is_priority d = is_some_and is_int32 (option_and_then as_i64 (as_number d))
 
--- from 0 to 2^40 - 1
+-- seconds before the end of time
 abbrev pub is_grace_period : Data → Bool
 is_grace_period d = is_some_and (λ n. nat_lt n end_of_time) (option_and_then as_u64 (as_number d))
 
@@ -150,7 +149,7 @@ probe_at Readiness item = field_at (codes "readinessProbe") item
 abbrev pub most_successes : ProbeKind → ℕ
 most_successes Startup = 1
 most_successes Liveness = 1
-most_successes Readiness = greatest
+most_successes Readiness = max_int32
 
 -- a number of a probe: its name, the least, the most, and its default
 abbrev pub number_fault : Data → ProbeKind → List ℕ → ℕ → ℕ → ℕ → Option ManifestFault

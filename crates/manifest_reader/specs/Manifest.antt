@@ -1,12 +1,13 @@
 -- What a manifest says of a pod, or its first fault: one line for each field, in the order in which
 -- they are read (Kubernetes API, `Pod`; "Pod Lifecycle", "Container restart policy"; "Pod Priority
 -- and Preemption").
-use Rattle.std.specs.Prelude.{ℕ, ℤ, pos, negsuc, int_le, ⊤, ◌+◌, ◌&&◌, List, ◌++◌, length, nat_lt, Option, Some}
+use Rattle.std.specs.Prelude.{ℕ, ℤ, pos, ⊤, ◌+◌, List, ◌++◌, length, nat_lt, Option, Some}
 use Rattle.std.specs.Prelude.{None, option_and_then, if◌then◌else◌, Result, Ok, Err, bytes_eq, codes}
 use Rattle.quantity.specs.Duration.{end_of_time}
 use Rattle.serde_json.specs.Data.{Data}
 use Rattle.serde_json.specs.Find.{as_str, as_number, as_i64, as_u64}
 use Rattle.json_fields.specs.Fields.{field_at}
+use Rattle.json_fields.specs.Numbers.{is_int32}
 use Rattle.json_fields.specs.Reading.{◌>>=◌, refused_if, each}
 use Rattle.manifest_fields.specs.declared.fault.Field.{Field}
 use Rattle.manifest_fields.specs.declared.fault.Field.TheVariants as fields
@@ -27,7 +28,7 @@ use Rattle.manifest.specs.Names.{is_name, is_label}
 use Rattle.manifest_fields.specs.Fields.{object_of, array_of, array_or_none, some_items, required_text, text_or}
 use Rattle.manifest_fields.specs.ProbeFields.{probes_of}
 use Rattle.manifest_fields.specs.ResourceFields.{resources_of}
-use Rattle.manifest.specs.Containers.{has_twice}
+use Rattle.manifest.specs.Containers.{has_twice, most_containers}
 
 abbrev pub policy_from : Option (List ℕ) → Result Policy ManifestFault
 policy_from None = Err (WrongKind fields.RestartPolicy)
@@ -42,8 +43,7 @@ policy_of (Some d) = policy_from (as_str d)
 
 abbrev pub priority_from : Option ℤ → Result ℤ ManifestFault
 priority_from None = Err (WrongKind fields.Priority)
-priority_from (Some z) =
-    if int_le (negsuc 2147483647) z && int_le z (pos 2147483647) then Ok z else Err (WrongKind fields.Priority)
+priority_from (Some z) = if is_int32 z then Ok z else Err (WrongKind fields.Priority)
 
 -- a whole number of 32 bits; 0 where none is written
 abbrev pub priority_of : Option Data → Result ℤ ManifestFault
@@ -87,9 +87,9 @@ container_of place d = do
   probes ← probes_of role object
   Ok (record { name = name; role = role; resources = resources; probes = probes })
 
--- at most 16 containers
+-- not too many containers
 abbrev pub few : List Data → List Data → Result ⊤ ManifestFault
-few init apps = refused_if (nat_lt 16 (length init + length apps)) TooMany
+few init apps = refused_if (nat_lt most_containers (length init + length apps)) TooMany
 
 -- no two of one name
 abbrev pub apart : List ContainerSpec → Result ⊤ ManifestFault

@@ -10,6 +10,7 @@ use Rattle.manifest_fields.specs.declared.fault.Field.TheVariants as fields
 use Rattle.manifest_fields.specs.declared.fault.ManifestFault.{ManifestFault}
 use Rattle.manifest_fields.specs.declared.fault.ManifestFault.TheVariants.{Missing, InitProbe, RequestAboveLimit}
 use Rattle.manifest_fields.specs.declared.fault.ManifestFault.TheVariants.{DuplicateContainer, TooMany}
+use Rattle.manifest.specs.Containers.{most_containers}
 use Rattle.manifest.specs.declared.outcome.ProbeKind.{ProbeKind}
 use Rattle.manifest.specs.declared.outcome.ProbeKind.TheVariants.{Startup, Liveness, Readiness}
 use Rattle.manifest.specs.declared.pod.Place.{Place}
@@ -18,7 +19,7 @@ use Rattle.manifest.specs.declared.resources.Resource.{Resource}
 use Rattle.manifest.specs.declared.resources.Resource.TheVariants.{Cpu, Memory, EphemeralStorage}
 use Rattle.manifest.specs.Names.{is_name, is_label}
 use Rattle.manifest_fields.specs.ResourceFields.{quantity_at}
-use Rattle.manifest_fields.specs.ProbeFields.{greatest}
+use Rattle.json_fields.specs.Numbers.{max_int32}
 use Rattle.manifest_reader.specs.Manifest.{field_of}
 use Rattle.manifest_reader.specs.Found.{fault_of, fails_if, is_so, must_be, may_be, is_object, is_array, is_text}
 use Rattle.manifest_reader.specs.Found.{is_policy, is_priority, is_grace_period, is_empty, has_request_above_limit}
@@ -77,7 +78,7 @@ fault_at d grace_period_in_range = may_be is_grace_period fields.GracePeriod
 fault_at d init_containers_are_array = may_be is_array fields.InitContainers (in_spec (codes "initContainers") d)
 fault_at d containers_are_array = must_be is_array fields.Containers (in_spec (codes "containers") d)
 fault_at d containers_not_empty = fails_if (is_empty (app_items d)) (Missing fields.Containers)
-fault_at d containers_are_few = fails_if (nat_lt 16 (length (init_items d) + length (app_items d))) TooMany
+fault_at d containers_are_few = fails_if (nat_lt most_containers (length (init_items d) + length (app_items d))) TooMany
 fault_at d (container_is_object place item) = is_so is_object (field_of place) item
 fault_at d (container_name_is_valid item) = must_be (is_text is_label) fields.ContainerName
     (field_at (codes "name") item)
@@ -90,11 +91,11 @@ fault_at d (limit_is_quantity item resource) = fault_of (quantity_at (amount_at 
 fault_at d (requests_within_limits item) = fails_if (has_request_above_limit item) RequestAboveLimit
 fault_at d (probe_is_absent item kind) = fails_if (is_some (probe_at kind item)) InitProbe
 fault_at d (probe_is_object item kind) = may_be is_object fields.Probe (probe_at kind item)
-fault_at d (initial_delay_in_range item kind) = number_fault item kind (codes "initialDelaySeconds") 0 greatest 0
-fault_at d (period_in_range item kind) = number_fault item kind (codes "periodSeconds") 1 greatest 10
-fault_at d (timeout_in_range item kind) = number_fault item kind (codes "timeoutSeconds") 1 greatest 1
+fault_at d (initial_delay_in_range item kind) = number_fault item kind (codes "initialDelaySeconds") 0 max_int32 0
+fault_at d (period_in_range item kind) = number_fault item kind (codes "periodSeconds") 1 max_int32 10
+fault_at d (timeout_in_range item kind) = number_fault item kind (codes "timeoutSeconds") 1 max_int32 1
 fault_at d (successes_in_range item kind) = number_fault item kind (codes "successThreshold") 1 (most_successes kind) 1
-fault_at d (failures_in_range item kind) = number_fault item kind (codes "failureThreshold") 1 greatest 3
+fault_at d (failures_in_range item kind) = number_fault item kind (codes "failureThreshold") 1 max_int32 3
 fault_at d names_are_apart = fails_if (has_double (map name_in (init_items d ++ app_items d))) DuplicateContainer
 
 abbrev pub each_resource : (Resource → Check) → List Check

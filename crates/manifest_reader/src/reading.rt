@@ -5,15 +5,17 @@ ghost use Rattle.std.specs.List.{list_any};
 ghost use Rattle.serde_json.specs.View.{view};
 ghost use Rattle.json_fields.specs.Reading.{each, GivesExactly};
 ghost use Rattle.manifest.specs.declared.pod.Role.TheVariants.{Sidecar};
-ghost use Rattle.manifest_fields.specs.Gives.{Gives};
-ghost use Rattle.manifest.specs.Containers.{has_twice, MayHave, IsOf, AllOf};
+ghost use Rattle.manifest_fields.specs.GivesUnlessMemory.{GivesUnlessMemory};
+ghost use Rattle.manifest.specs.Containers.{has_twice, most_containers, MayHave, IsOf, AllOf};
 ghost use Rattle.manifest_reader.specs.Manifest.{policy_of, priority_from, priority_of, grace_period_from};
 ghost use Rattle.manifest_reader.specs.Manifest.{grace_period_of, field_of, sidecar_from, role_of, container_of, few};
 ghost use Rattle.manifest_reader.specs.Manifest.{apart, containers_of, app_items_of, containers_in, metadata_of};
 ghost use Rattle.manifest_reader.specs.Manifest.{settings_in, pod_at};
 
 use json_fields::field;
-use manifest::{ContainerList, ContainerSpec, GracePeriod, Place, PodSpec, Policy, Role, Text};
+use manifest::{
+    ContainerList, ContainerSpec, GracePeriod, MOST_CONTAINERS, Place, PodSpec, Policy, Role, Text,
+};
 use manifest_fields::{
     Field, Grammar, ManifestFault, array, array_or_none, object, probes_of, required_text,
     resources_of, some_items, text_or,
@@ -39,10 +41,8 @@ fn policy_of(found: Option<&Value>) -> Result<Policy, ManifestFault>
 fn priority_from(number: Option<i64>) -> Result<i32, ManifestFault>
     ensures { GivesExactly (λ n. n) result (priority_from number) }
 {
-    match number {
-        Some(number) if i32::MIN as i64 <= number && number <= i32::MAX as i64 => Ok(number as i32),
-        _ => Err(ManifestFault::WrongKind(Field::Priority)),
-    }
+    let fault = ManifestFault::WrongKind(Field::Priority);
+    i32::try_from(number.ok_or(fault)?).map_err(|_| fault)
 }
 
 fn priority_of(found: Option<&Value>) -> Result<i32, ManifestFault>
@@ -108,7 +108,7 @@ fn role_of(place: Place, own_policy: Option<&Value>) -> Result<Role, ManifestFau
 
 #[tactic(auto, unfolding(crate::specs::Manifest::container_of))]
 fn container_of(alloc: Global, place: Place, value: &Value) -> Result<ContainerSpec, ManifestFault>
-    ensures gives { Gives (λ c. c) result (container_of place (view value.now)) }
+    ensures gives { GivesUnlessMemory (λ c. c) result (container_of place (view value.now)) }
     ensures of { IfOk result (IsOf place) }
 {
     let object = object(field_of(place), Some(value))?;
@@ -130,7 +130,7 @@ fn containers(
     place: Place,
     values: &[Value],
 ) -> Result<Vec<ContainerSpec>, ManifestFault>
-    ensures gives { Gives (λ cs. cs.items) result (each (container_of place) (map view values.now)) }
+    ensures gives { GivesUnlessMemory (λ cs. cs.items) result (each (container_of place) (map view values.now)) }
     ensures as_many { IfOk result (λ cs. length cs.items ≡ length values.now) }
     ensures of { IfOk result (λ cs. AllOf place cs.items) }
 {
@@ -165,9 +165,9 @@ fn has_twice(containers: &[ContainerSpec]) -> bool
 
 fn few(init: &[Value], apps: &[Value]) -> Result<(), ManifestFault>
     ensures gives { GivesExactly (λ t. t) result (few (map view init.now) (map view apps.now)) }
-    ensures within { OnOk result (length init.now + length apps.now ≤ 16) }
+    ensures within { OnOk result (length init.now + length apps.now ≤ most_containers) }
 {
-    if init.len() + apps.len() > 16 {
+    if init.len() + apps.len() > MOST_CONTAINERS {
         return Err(ManifestFault::TooMany);
     }
     Ok(())
@@ -203,7 +203,7 @@ fn containers_of(
     items: &[Value],
 ) -> Result<ContainerList, ManifestFault>
     requires { 0 < length items.now }
-    ensures { Gives (λ cs. cs) result (containers_of (map view init_items.now) (map view items.now)) }
+    ensures { GivesUnlessMemory (λ cs. cs) result (containers_of (map view init_items.now) (map view items.now)) }
 {
     few(init_items, items)?;
     let init = containers(alloc, Place::InitContainers, init_items)?;
@@ -226,7 +226,7 @@ fn app_items_of(found: Option<&Value>) -> Result<&[Value], ManifestFault>
 
 #[tactic(auto, unfolding(crate::specs::Manifest::containers_in))]
 fn containers_in(alloc: Global, spec: &Value) -> Result<ContainerList, ManifestFault>
-    ensures { Gives (λ cs. cs) result (containers_in (view spec.now)) }
+    ensures { GivesUnlessMemory (λ cs. cs) result (containers_in (view spec.now)) }
 {
     let init_items = array_or_none(Field::InitContainers, field(spec, "initContainers"))?;
     let items = app_items_of(field(spec, "containers"))?;
@@ -242,7 +242,7 @@ struct Metadata {
 
 #[tactic(auto, unfolding(crate::specs::Manifest::metadata_of))]
 fn metadata_of(alloc: Global, found: Option<&Value>) -> Result<Metadata, ManifestFault>
-    ensures { Gives (λ m. m) result (metadata_of (option_map (λ v. view v.now) found.entry)) }
+    ensures { GivesUnlessMemory (λ m. m) result (metadata_of (option_map (λ v. view v.now) found.entry)) }
 {
     let metadata = object(Field::Metadata, found)?;
     let name = required_text(alloc, Grammar::Name, Field::Name, field(metadata, "name"))?;
@@ -280,7 +280,7 @@ fn settings_in(spec: &Value) -> Result<Settings, ManifestFault>
 /// `terminationGracePeriodSeconds`, `initContainers` and `containers`; then each container).
 #[tactic(auto, unfolding(crate::specs::Manifest::pod_at, crate::specs::Manifest::spec_of))]
 pub fn read_pod(alloc: Global, value: &Value) -> Result<PodSpec, ManifestFault>
-    ensures { Gives (λ p. p) result (pod_at (view value.now)) }
+    ensures { GivesUnlessMemory (λ p. p) result (pod_at (view value.now)) }
 {
     let pod = object(Field::Pod, Some(value))?;
     let metadata = metadata_of(alloc, field(pod, "metadata"))?;

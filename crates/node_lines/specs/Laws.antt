@@ -22,6 +22,7 @@ use Rattle.json_fields.specs.SignalMaps.{in_map}
 use Rattle.node_lines.specs.Node.{name_from, settings_in, node_of}
 use Rattle.node_lines.specs.Thresholds.{hard_threshold, written_in}
 
+-- the value that was read, if there is one
 abbrev pub held : {A E : Type 0} → Result A E → Option A
 held (Ok x) = Some x
 held (Err fault) = None

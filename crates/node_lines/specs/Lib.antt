@@ -1,4 +1,4 @@
-pub mod Gives
+pub mod GivesUnlessMemory
 pub mod Laws
 pub mod Limits
 pub mod Maps

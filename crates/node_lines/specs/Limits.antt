@@ -41,11 +41,11 @@ abbrev pub reclaim_at : Option ℕ → Option Data → Result Limit NodeFault
 reclaim_at capacity None = Ok (Quantity 0)
 reclaim_at capacity (Some d) = or_config (limit_in d) >>= λ limit. with_capacity capacity limit
 
--- the limits of a map, over the capacity of each signal
+-- the limits of a map, each read on its signal's capacity
 abbrev pub limits_in : BySignal (Option ℕ) → Option Data → Result (BySignal (Option Limit)) NodeFault
 limits_in capacity found = map_of (λ signal. limit_at (of capacity signal)) found
 
--- its reclaims
+-- the reclaims of a map, each read on its signal's capacity
 abbrev pub reclaims_in : BySignal (Option ℕ) → Option Data → Result (BySignal Limit) NodeFault
 reclaims_in capacity found = map_of (λ signal. reclaim_at (of capacity signal)) found
 

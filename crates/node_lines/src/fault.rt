@@ -23,8 +23,5 @@ pub enum NodeFault {
 pub(crate) fn or_config<T: Copy, E: Copy>(read: Result<T, E>) -> Result<T, NodeFault>
     ensures { result ≡ or_config read }
 {
-    match read {
-        Ok(value) => Ok(value),
-        Err(_) => Err(NodeFault::Config),
-    }
+    read.map_err(|_| NodeFault::Config)
 }

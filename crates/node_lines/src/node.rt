@@ -3,7 +3,7 @@
 ghost use Rattle.std.specs.Prelude.{◌≡◌, option_map};
 ghost use Rattle.serde_json.specs.View.{view};
 ghost use Rattle.json_fields.specs.Reading.{GivesExactly};
-ghost use Rattle.node_lines.specs.Gives.{Gives};
+ghost use Rattle.node_lines.specs.GivesUnlessMemory.{GivesUnlessMemory};
 ghost use Rattle.node_lines.specs.Node.{version_of, name_from, restart_delay_of, flag_of, seconds_of};
 ghost use Rattle.node_lines.specs.Node.{or_default, pause_of, settings_in, node_of};
 
@@ -54,7 +54,7 @@ fn name_from(found: Option<&str>) -> Result<&str, NodeFault>
 }
 
 fn node_name(alloc: Global, found: Option<&str>) -> Result<Text, NodeFault>
-    ensures { Gives (λ t. t) result (name_from (option_map (λ s. s.now) found.entry)) }
+    ensures { GivesUnlessMemory (λ t. t) result (name_from (option_map (λ s. s.now) found.entry)) }
 {
     let name = name_from(found)?;
     match String::from_str(alloc, name) {
@@ -69,13 +69,8 @@ fn restart_delay(found: Option<&Value>) -> Result<MaxRestartDelay, NodeFault>
     let Some(value) = found else {
         return Ok(MaxRestartDelay::unset());
     };
-    let Some(seconds) = value.as_u64() else {
-        return Err(NodeFault::Config);
-    };
-    match MaxRestartDelay::new(seconds) {
-        Some(delay) => Ok(delay),
-        None => Err(NodeFault::Config),
-    }
+    let seconds = value.as_u64().ok_or(NodeFault::Config)?;
+    MaxRestartDelay::new(seconds).ok_or(NodeFault::Config)
 }
 
 /// True or false, and false where none is written.
@@ -85,10 +80,7 @@ fn flag(found: Option<&Value>) -> Result<bool, NodeFault>
     let Some(value) = found else {
         return Ok(false);
     };
-    match value.as_bool() {
-        Some(flag) => Ok(flag),
-        None => Err(NodeFault::Config),
-    }
+    value.as_bool().ok_or(NodeFault::Config)
 }
 
 /// Seconds below 2^31, and 0 where none are written.
@@ -145,13 +137,13 @@ fn settings_in(node: &Value) -> Result<Settings, NodeFault>
     })
 }
 
-/// The configuration that a node line says. The fault is `Config` where any field is refused, and
+/// The configuration that a node line gives. The fault is `Config` where any field is refused, and
 /// `SoftWithoutGrace` where none is and a soft threshold has no grace period; `OutOfMemory` where
 /// there is no memory for the name. (Kubernetes, "Node-pressure Eviction"; "Kubelet
 /// Configuration".)
 #[tactic(auto, unfolding(crate::specs::Node::node_of))]
 pub fn node_of(alloc: Global, node: &Value) -> Result<NodeConfig, NodeFault>
-    ensures { Gives (λ n. n) result (node_of (view node.now)) }
+    ensures { GivesUnlessMemory (λ n. n) result (node_of (view node.now)) }
 {
     let name = node_name(alloc, text_at(node, "name"))?;
     let settings = settings_in(node)?;

@@ -35,7 +35,7 @@ kept_in (shown.Unused containers) = containers.items
 kept_in (shown.Whole whole) = containers_in whole.value.containers
 kept_in (shown.Used used) = containers_in used.value.containers
 
--- and of the use of the node
+-- what a pod used of its node, as its packed containers keep it
 abbrev pub usage_in : PackedContainers → Option Usage
 usage_in (shown.OneWithMemory one memory) = Some (memory_as memory)
 usage_in (shown.TwoWithMemory one two memory) = Some (memory_as memory)

@@ -1,13 +1,13 @@
 -- A sample of a pod's use of the node in whole units, and the values that it is kept as.
 use Rattle.std.specs.Prelude.{ℕ, ◌*◌, ◌-◌, ◌^◌, ◌==◌, if◌then◌else◌, min, Option, Some, None}
-use Rattle.quantity.specs.Quantity.{greatest}
+use Rattle.quantity.specs.Quantity.{greatest_quantity}
 use Rattle.observations.specs.declared.usage.Usage.{Usage}
 use Rattle.observations.specs.declared.whole.Units.{Units}
 use Rattle.observations.specs.declared.whole.WholeUsage.{WholeUsage}
 
 -- this many whole units, in thousandths
 abbrev pub units_as : ℕ → ℕ
-units_as units = min (1000 * units) greatest
+units_as units = min (1000 * units) greatest_quantity
 
 -- the amount in thousandths; 2^64 - 1 units stand for none
 abbrev pub amount_as : Units → Option ℕ

@@ -1,3 +1,5 @@
+//! What a tick shows of one container.
+
 use manifest::Outcome;
 use state_diff::Seen;
 

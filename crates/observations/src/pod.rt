@@ -1,3 +1,5 @@
+//! What a tick shows of one pod.
+
 ghost use Rattle.std.specs.Prelude.{◌≡◌, length, IfOk, slice_get};
 ghost use Rattle.observations.specs.Pods.{pod_obs};
 

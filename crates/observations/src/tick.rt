@@ -1,3 +1,5 @@
+//! What a tick shows of a node.
+
 ghost use Rattle.std.specs.Prelude.{◌≡◌};
 ghost use Rattle.observations.specs.Observations.{seen_of};
 
@@ -10,7 +12,7 @@ use state_diff::Seen;
 /// One tick. A pod that is present and of which it has no entry lists none of its containers.
 #[derive(Drop)]
 pub struct TickObs {
-    /// The moment, in seconds, below 2^40 and later than the last tick's.
+    /// The moment, in seconds, below [`quantity::END_OF_TIME`] and later than the last tick's.
     pub at: u64,
     /// For each pod that has arrived, by number, what is shown of it; none of one that is gone.
     pub pods: Sequence<Option<PodObs>>,

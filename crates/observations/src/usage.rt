@@ -1,3 +1,5 @@
+//! What a pod uses of its node.
+
 use quantity::Quantity;
 
 /// What a tick tells of a pod's use of the node, by which pods are ranked for eviction. A sample

@@ -22,12 +22,7 @@ impl Units {
             return Some(Units(ABSENT));
         };
         let thousandths = u64::try_from(amount.milli()).ok()?;
-        let units = thousandths / 1000;
-        if thousandths % 1000 == 0 {
-            Some(Units(units))
-        } else {
-            None
-        }
+        (thousandths % 1000 == 0).then_some(Units(thousandths / 1000))
     }
 
     fn is_absent(self) -> bool

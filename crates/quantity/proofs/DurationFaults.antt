@@ -1,5 +1,5 @@
 -- A duration is refused for its first fault.
-use Rattle.std.proofs.Common.{◌≡◌, ◌≢◌, ◌≤◌, ◌<◌, ◌^◌, ◌+◌, ◌*◌, ◌⊎◌, ⊎_elim, inl, inr, ℕ, zero, suc, true, false}
+use Rattle.std.proofs.Common.{◌≡◌, ◌≢◌, ◌≤◌, ◌<◌, ◌+◌, ◌*◌, ◌⊎◌, ⊎_elim, inl, inr, ℕ, zero, suc, true, false}
 use Rattle.std.proofs.Common.{List, [], ◌∷◌, ◌++◌, length, drop, sym, ◌∙◌, ap, refl, arith, Ok, Err, Some, None}
 use Rattle.std.proofs.Common.{append_assoc}
 use Rattle.std.specs.Prelude.{slice_get, ◌==◌, codes, nat_lt, nat_le, option_and_then, sum_by}
@@ -16,6 +16,7 @@ use Rattle.std.proofs.lemmas.Slice.Eq.{bytes_eq-Decides}
 use Rattle.quantity.specs.Digits.{leading_digits, after_digits}
 use Rattle.quantity.specs.Duration.{Part, part_text, part_seconds, IsPart, HasUnitFault, HasPartFault, HasFaultAfter}
 use Rattle.quantity.specs.Duration.{HasDurationFault, unit_seconds, pieces_of, piece_seconds, sum_onto, duration_of}
+use Rattle.quantity.specs.Duration.{end_of_time}
 use Rattle.quantity.specs.declared.fault.QuantityFault.{QuantityFault}
 use Rattle.quantity.specs.declared.fault.QuantityFault.TheVariants.{BadDigit, BadSuffix, TooManyDigits}
 use Rattle.quantity.proofs.Decimal.{leading_are_digits, length_leading}
@@ -75,7 +76,7 @@ piece_fault sum text fault some h =
 
 -- a part that brings the sum to the limit
 large_piece : (sum seconds : ℕ) (text : List ℕ) → 0 < length text → piece_seconds text ≡ Ok seconds
-    → 2 ^ 40 ≤ sum + seconds → HasPartFault sum text TooManyDigits
+    → end_of_time ≤ sum + seconds → HasPartFault sum text TooManyDigits
 large_piece sum seconds text some h large =
     let a = passed (prefix_len is_ascii_digit text == 0) _ _ seconds h in
     let b = passed (nat_lt 12 (prefix_len is_ascii_digit text)) _ _ seconds a.1 in
@@ -89,7 +90,7 @@ large_piece sum seconds text some h large =
     rw (slice_get-drop text (prefix_len is_ascii_digit text)) u.1 in
     part_fault sum text TooManyDigits some (inr (inr (digits, few, inr (u.0, unit, rw same large, refl))))
 
-fault_here : (sum : ℕ) (text : List ℕ) (fault : QuantityFault) → sum < 2 ^ 40 → HasPartFault sum text fault
+fault_here : (sum : ℕ) (text : List ℕ) (fault : QuantityFault) → sum < end_of_time → HasPartFault sum text fault
     → HasFaultAfter sum text fault
 fault_here sum text fault small h =
     let e : sum ≡ sum + 0 = omega arith in
@@ -124,7 +125,7 @@ fault_later sum seconds text rest part fault is here same h =
       part_fault = rw (← e) h.part_fault;
     }
 
-fault_after : (n : ℕ) (text : List ℕ) (sum : ℕ) (fault : QuantityFault) → length text ≤ n → sum < 2 ^ 40
+fault_after : (n : ℕ) (text : List ℕ) (sum : ℕ) (fault : QuantityFault) → length text ≤ n → sum < end_of_time
     → sum_onto sum (pieces_of text) ≡ Err fault → HasFaultAfter sum text fault
 fault_after n [] sum fault fits small h = absurd (cc)
 fault_after zero (c ∷ text) sum fault fits small h = absurd (omega arith)
@@ -133,13 +134,13 @@ fault_after (suc n) (c ∷ text) sum fault fits small h =
     ⊎_elim (λ (e : piece_seconds (c ∷ text) ≡ Err fault). fault_here sum (c ∷ text) fault small
     (piece_fault sum (c ∷ text) fault some e))
     (λ (p : (x : ℕ) × (piece_seconds (c ∷ text) ≡ Ok x) × _).
-    ⊎_elim (λ (q : (nat_le (2 ^ 40) (sum + p.0) ≡ true) × (fault ≡ TooManyDigits)).
-    let t : nat_le (2 ^ 40) (sum + p.0) ≡ true = q.0 in
-    let large : 2 ^ 40 ≤ sum + p.0 = grind (arith, nat_tests) in
+    ⊎_elim (λ (q : (nat_le end_of_time (sum + p.0) ≡ true) × (fault ≡ TooManyDigits)).
+    let t : nat_le end_of_time (sum + p.0) ≡ true = q.0 in
+    let large : end_of_time ≤ sum + p.0 = grind (arith, nat_tests) in
     rw q.1 (fault_here sum (c ∷ text) TooManyDigits small (large_piece sum p.0 (c ∷ text) some p.1 large)))
-    (λ (q : (nat_le (2 ^ 40) (sum + p.0) ≡ false) × _).
-    let t : nat_le (2 ^ 40) (sum + p.0) ≡ false = q.0 in
-    let small' : sum + p.0 < 2 ^ 40 = grind (arith, nat_tests) in
+    (λ (q : (nat_le end_of_time (sum + p.0) ≡ false) × _).
+    let t : nat_le end_of_time (sum + p.0) ≡ false = q.0 in
+    let small' : sum + p.0 < end_of_time = grind (arith, nat_tests) in
     let b = piece_means (c ∷ text) p.0 p.1 in
     let shorter : length (drop (prefix_len is_ascii_digit (c ∷ text) + 1) (c ∷ text)) ≤ n =
     omega (arith, length-drop (prefix_len is_ascii_digit (c ∷ text) + 1) (c ∷ text), fits) in
@@ -147,7 +148,7 @@ fault_after (suc n) (c ∷ text) sum fault fits small h =
     small' q.1 in
     fault_later sum p.0 (c ∷ text) (drop (prefix_len is_ascii_digit (c ∷ text) + 1) (c ∷ text))
     (record { digits = leading_digits (c ∷ text); unit = b.unit }) fault b.text_is b.is_part b.seconds_are later)
-    (failed (nat_le (2 ^ 40) (sum + p.0)) _ _ fault p.2))
+    (failed (nat_le end_of_time (sum + p.0)) _ _ fault p.2))
     (failed_at (piece_seconds (c ∷ text)) _ fault (rw (pieces_split (c ∷ text) some, piece_seconds-take (c ∷ text)) at
     h))
 

@@ -1,5 +1,5 @@
 -- A duration is read as what it means.
-use Rattle.std.proofs.Common.{◌≡◌, ◌≢◌, ◌≤◌, ◌<◌, ◌^◌, ◌+◌, ◌*◌, ⊎_elim, inl, inr, ℕ, zero, suc, true, false, List}
+use Rattle.std.proofs.Common.{◌≡◌, ◌≢◌, ◌≤◌, ◌<◌, ◌+◌, ◌*◌, ⊎_elim, inl, inr, ℕ, zero, suc, true, false, List}
 use Rattle.std.proofs.Common.{[], ◌∷◌, ◌++◌, length, drop, get_or, sym, ◌∙◌, ap, refl, arith, rules, Ok, Some, None}
 use Rattle.std.proofs.Common.{Option, append_assoc}
 use Rattle.std.specs.Prelude.{slice_get, unwrap_or, ◌==◌, codes, nat_lt, nat_le, option_and_then, IsSome, All, sum_by}
@@ -16,7 +16,7 @@ use Rattle.std.proofs.lemmas.Option.{slice_get_within, get_or_from_slice_get}
 use Rattle.std.proofs.lemmas.Slice.Eq.{bytes_eq-Decides}
 use Rattle.quantity.specs.Digits.{leading_digits, after_digits}
 use Rattle.quantity.specs.Duration.{Part, part_text, part_seconds, IsPart, IsSumOf, HasSeconds, unit_seconds}
-use Rattle.quantity.specs.Duration.{pieces_of, piece_seconds, sum_onto, duration_of}
+use Rattle.quantity.specs.Duration.{pieces_of, piece_seconds, sum_onto, duration_of, end_of_time}
 use Rattle.quantity.proofs.Decimal.{leading_are_digits, length_leading}
 use Rattle.quantity.proofs.Durations.{pieces_split, piece_seconds-take, sum_next}
 use Rattle.quantity.proofs.Numbers.{prefix_len-digits, leading-append, whole_text}
@@ -79,7 +79,7 @@ record IsMadeOf (text : List ℕ) (sum total : ℕ) : Type 0 where
   some_part : 0 < length text → 0 < length parts
   each_part : All IsPart parts
   total_is : total ≡ sum + sum_by part_seconds parts
-  below : total < 2 ^ 40
+  below : total < end_of_time
 
 -- one part more
 made_more : (text rest : List ℕ) (sum seconds total : ℕ) (part : Part) → text ≡ part.digits ++ part.unit ∷ rest
@@ -94,7 +94,7 @@ made_more text rest sum seconds total part is here same made = record {
   below = made.below;
 }
 
-made_of : (n : ℕ) (text : List ℕ) (sum total : ℕ) → length text ≤ n → sum < 2 ^ 40
+made_of : (n : ℕ) (text : List ℕ) (sum total : ℕ) → length text ≤ n → sum < end_of_time
     → sum_onto sum (pieces_of text) ≡ Ok total → IsMadeOf text sum total
 made_of n [] sum total fits small h =
     let e : sum ≡ total = cc in
@@ -111,10 +111,10 @@ made_of (suc n) (c ∷ text) sum total fits small h =
     let some : 0 < length (c ∷ text) = omega arith in
     let p = had_ok (piece_seconds (c ∷ text)) _ total
     (rw (pieces_split (c ∷ text) some, piece_seconds-take (c ∷ text)) at h) in
-    let q = passed (nat_le (2 ^ 40) (sum + p.0)) _ _ total p.2 in
+    let q = passed (nat_le end_of_time (sum + p.0)) _ _ total p.2 in
     let b = piece_means (c ∷ text) p.0 p.1 in
-    let below : nat_le (2 ^ 40) (sum + p.0) ≡ false = q.0 in
-    let small' : sum + p.0 < 2 ^ 40 = grind (arith, nat_tests) in
+    let below : nat_le end_of_time (sum + p.0) ≡ false = q.0 in
+    let small' : sum + p.0 < end_of_time = grind (arith, nat_tests) in
     let shorter : length (drop (prefix_len is_ascii_digit (c ∷ text) + 1) (c ∷ text)) ≤ n =
     omega (arith, length-drop (prefix_len is_ascii_digit (c ∷ text) + 1) (c ∷ text), fits) in
     let made = made_of n (drop (prefix_len is_ascii_digit (c ∷ text) + 1) (c ∷ text)) (sum + p.0) total shorter small'
@@ -195,7 +195,7 @@ part_read part rest p =
     rw (digits, front, one, two, at, known)
 
 -- the sum of parts is read, after what came before them
-sum_read : (parts : List Part) (sum : ℕ) → All IsPart parts → sum + sum_by part_seconds parts < 2 ^ 40
+sum_read : (parts : List Part) (sum : ℕ) → All IsPart parts → sum + sum_by part_seconds parts < end_of_time
     → sum_onto sum (pieces_of (flat_map part_text parts)) ≡ Ok (sum + sum_by part_seconds parts)
 sum_read [] sum each below = (let e : sum ≡ sum + 0 = omega arith in ap Ok e)
 sum_read (part ∷ parts) sum each below =
@@ -208,7 +208,7 @@ sum_read (part ∷ parts) sum each below =
     let some : 0 < length (part.digits ++ part.unit ∷ flat_map part_text parts) =
     omega (arith, length-append part.digits (part.unit ∷ flat_map part_text parts)) in
     let read = part_read part (flat_map part_text parts) p in
-    let small : sum + part_seconds part < 2 ^ 40 = omega (arith, cons, below) in
+    let small : sum + part_seconds part < end_of_time = omega (arith, cons, below) in
     let next = sum_next sum (part_seconds part) (part.digits ++ part.unit ∷ flat_map part_text parts) some read small in
     let behind = rest_is part (flat_map part_text parts) p in
     let more = sum_read parts (sum + part_seconds part) (λ k d lt. each (suc k) d (omega arith))

@@ -1,12 +1,12 @@
 -- A duration's pieces, one after another.
-use Rattle.std.proofs.Common.{◌≡◌, ◌≤◌, ◌<◌, ◌^◌, ◌+◌, ℕ, zero, suc, Bool, true, false, cond, List, [], ◌∷◌, length}
+use Rattle.std.proofs.Common.{◌≡◌, ◌≤◌, ◌<◌, ◌+◌, ℕ, zero, suc, Bool, true, false, cond, List, [], ◌∷◌, length}
 use Rattle.std.proofs.Common.{take, drop, sym, arith, refl, Ok, Err}
 use Rattle.std.specs.Prelude.{slice_get, nat_le}
 use Rattle.std.specs.Char.{is_ascii_digit}
 use Rattle.std.specs.List.{prefix_len}
 use Rattle.std.proofs.lemmas.Bool.Decides.{nat_tests}
 use Rattle.std.proofs.lemmas.List.{take-take}
-use Rattle.quantity.specs.Duration.{pieces_of, joined, piece_seconds, sum_onto}
+use Rattle.quantity.specs.Duration.{pieces_of, joined, piece_seconds, sum_onto, end_of_time}
 use Rattle.quantity.specs.declared.fault.QuantityFault.{QuantityFault}
 use Rattle.quantity.specs.declared.fault.QuantityFault.TheVariants.{TooManyDigits}
 
@@ -63,10 +63,10 @@ piece_seconds-take text =
 
 -- one piece more: it is added, or its fault is the answer
 pub sum_next : (sum seconds : ℕ) (text : List ℕ) → 0 < length text → piece_seconds text ≡ Ok seconds
-    → sum + seconds < 2 ^ 40 → sum_onto sum (pieces_of text) ≡ sum_onto (sum + seconds)
+    → sum + seconds < end_of_time → sum_onto sum (pieces_of text) ≡ sum_onto (sum + seconds)
     (pieces_of (drop (prefix_len is_ascii_digit text + 1) text))
 sum_next sum seconds text some is small =
-    let fits : nat_le (2 ^ 40) (sum + seconds) ≡ false = grind (arith, nat_tests) in
+    let fits : nat_le end_of_time (sum + seconds) ≡ false = grind (arith, nat_tests) in
     rw (pieces_split text some, piece_seconds-take text, is, fits)
 
 pub sum_refused : (sum : ℕ) (fault : QuantityFault) (text : List ℕ) → 0 < length text → piece_seconds text ≡ Err fault
@@ -74,7 +74,7 @@ pub sum_refused : (sum : ℕ) (fault : QuantityFault) (text : List ℕ) → 0 < 
 sum_refused sum fault text some is = rw (pieces_split text some, piece_seconds-take text, is)
 
 pub sum_large : (sum seconds : ℕ) (text : List ℕ) → 0 < length text → piece_seconds text ≡ Ok seconds
-    → 2 ^ 40 ≤ sum + seconds → sum_onto sum (pieces_of text) ≡ Err TooManyDigits
+    → end_of_time ≤ sum + seconds → sum_onto sum (pieces_of text) ≡ Err TooManyDigits
 sum_large sum seconds text some is large =
-    let past : nat_le (2 ^ 40) (sum + seconds) ≡ true = grind (arith, nat_tests) in
+    let past : nat_le end_of_time (sum + seconds) ≡ true = grind (arith, nat_tests) in
     rw (pieces_split text some, piece_seconds-take text, is, past)

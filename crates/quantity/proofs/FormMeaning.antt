@@ -14,7 +14,7 @@ use Rattle.std.proofs.lemmas.Nat.{div-add-mod'}
 use Rattle.std.proofs.Math.Nat.{mod-lt}
 use Rattle.quantity.specs.Digits.{AllDigits}
 use Rattle.quantity.specs.Printed.{scale_suffix, scale_numerator, scale_at, exact_number, least_number, form_of}
-use Rattle.quantity.specs.Printed.{form_at, form_text, zero_padded}
+use Rattle.quantity.specs.Printed.{form_at, form_text, form_count, zero_padded}
 use Rattle.quantity.specs.Quantity.{HasThousandths, thousandths_of}
 use Rattle.quantity.specs.Suffix.{HasFactor, factor_of, times}
 use Rattle.quantity.specs.declared.form.Form.{Form}
@@ -178,7 +178,7 @@ exact_number_is q places numerator number h =
     (rw t.1 at low, rw t.1 at same)
 
 -- the form at a place prints the quantity
-pub form_at_means : (q place : ℕ) (form : Form) → place < 234 → form_at q place ≡ Some form
+pub form_at_means : (q place : ℕ) (form : Form) → place < form_count → form_at q place ≡ Some form
     → HasThousandths (form_text form) q
 form_at_means q place form below h =
     let m = mapped (form_of (place / 13) (scale_at (place % 13)))

@@ -11,8 +11,8 @@ use Rattle.std.proofs.lemmas.List.Elements.{All-from_recursion, All-append}
 use Rattle.std.proofs.Math.Nat.{pow-suc}
 use Rattle.std.specs.Char.{is_ascii_digit, digit_value}
 use Rattle.quantity.specs.Digits.{AllDigits}
-use Rattle.quantity.specs.Printed.{scale_at, scale_numerator, form_of, form_at, least_number}
-use Rattle.quantity.specs.Quantity.{HasThousandths, IsLeastNotBelow, greatest, thousandths_of}
+use Rattle.quantity.specs.Printed.{scale_at, scale_numerator, form_of, form_at, form_count, least_number}
+use Rattle.quantity.specs.Quantity.{HasThousandths, IsLeastNotBelow, greatest_quantity, thousandths_of}
 use Rattle.quantity.specs.Suffix.{HasFactor, IsExponent, named_factors, times, divided_by}
 use Rattle.quantity.specs.declared.form.Form.{Form}
 use Rattle.quantity.specs.declared.suffix.Factor.{Factor}
@@ -25,7 +25,7 @@ use Rattle.quantity.proofs.Suffixes.{factor_reads}
 
 -- some form writes the quantity
 abbrev pub HasForm : ℕ → Type 0
-HasForm q = (place : ℕ) × (place < 234) × (form : Form) × (form_at q place ≡ Some form)
+HasForm q = (place : ℕ) × (place < form_count) × (form : Form) × (form_at q place ≡ Some form)
 
 form_found : (q places place number : ℕ) → 0 < q → places ≤ 17 → place < 13 → number < 10 ^ 17
     → thousandths_of number places (times (scale_numerator (scale_at place))) ≡ q → HasForm q
@@ -141,8 +141,8 @@ no_larger : (number a b : ℕ) → 0 < b → a ≤ number * b → div_ceil a b �
 no_larger number a b some enough = (div_ceil_is_least a b some).least number enough
 
 -- thousands with zeros after them
-with_zeros : (q number zeros : ℕ) → 10 ^ 17 ≤ q → q ≤ greatest → number < 10 ^ 17 → 1 ≤ zeros → zeros ≤ 21
-    → min (number * 10 ^ zeros) greatest ≡ q → HasForm q
+with_zeros : (q number zeros : ℕ) → 10 ^ 17 ≤ q → q ≤ greatest_quantity → number < 10 ^ 17 → 1 ≤ zeros → zeros ≤ 21
+    → min (number * 10 ^ zeros) greatest_quantity ≡ q → HasForm q
 with_zeros q number zeros large most small some few value =
     ⊎_elim (λ (lt : zeros < 4).
     let sum : zeros + (3 - zeros) ≡ 3 = omega (arith, lt) in
@@ -157,7 +157,7 @@ with_zeros q number zeros large most small some few value =
     form_found q (21 - zeros) 1 number (omega (arith, large)) (omega (arith, le)) (omega arith) small (rw is value))
     (cases_lt zeros 4)
 
-multiplied : (q number places k : ℕ) → 10 ^ 17 ≤ q → q ≤ greatest → number < 10 ^ 17 → places ≤ 17 → k ≤ 18
+multiplied : (q number places k : ℕ) → 10 ^ 17 ≤ q → q ≤ greatest_quantity → number < 10 ^ 17 → places ≤ 17 → k ≤ 18
     → thousandths_of number places (times (10 ^ k)) ≡ q → HasForm q
 multiplied q number places k large most small few high value =
     let thousand : 10 ^ (3 + k) ≡ 1000 * 10 ^ k = pow-add 10 3 k in
@@ -197,8 +197,8 @@ divided q number places k large small value =
     absurd (omega (arith, low, value, large, small)))
     (cases_lt (places + k) 3)
 
-kind_has_form : (q number places : ℕ) (factor : Factor) → 10 ^ 17 ≤ q → q ≤ greatest → number < 10 ^ 17 → places ≤ 17
-    → Kind factor → thousandths_of number places factor ≡ q → HasForm q
+kind_has_form : (q number places : ℕ) (factor : Factor) → 10 ^ 17 ≤ q → q ≤ greatest_quantity → number < 10 ^ 17
+    → places ≤ 17 → Kind factor → thousandths_of number places factor ≡ q → HasForm q
 kind_has_form q number places factor large most small few kind value =
     ⊎_elim (λ (up : (k : ℕ) × (k ≤ 18) × (factor ≡ times (10 ^ k))). multiplied q number places up.0 large most small
     few up.1 (rw up.2 at value))

@@ -13,7 +13,7 @@ use Rattle.std.proofs.lemmas.Str.Parse.{digit_at}
 use Rattle.quantity.specs.Digits.{AllDigits}
 use Rattle.quantity.specs.Percent.{HasHundredths, percent_text}
 use Rattle.quantity.specs.Printed.{plain_text}
-use Rattle.quantity.specs.Quantity.{HasThousandths, IsLeastNotBelow, greatest}
+use Rattle.quantity.specs.Quantity.{HasThousandths, IsLeastNotBelow, greatest_quantity}
 use Rattle.quantity.specs.Suffix.{HasFactor, times, divided_by}
 use Rattle.quantity.specs.declared.suffix.Factor.{Factor}
 use Rattle.quantity.proofs.Numbers.{digits_value-append}
@@ -64,7 +64,7 @@ before parts suffix = parts.whole ++ (parts.point ++ (parts.fraction ++ suffix))
 pub number_means : (parts : Parts) (suffix : List ℕ) (q exact places number : ℕ) (factor : Factor)
     → IsNumber parts places number → HasFactor suffix factor
     → IsLeastNotBelow exact (1000 * number * factor.numerator) (10 ^ places * factor.denominator)
-    → q ≡ min exact greatest → HasThousandths (before parts suffix) q
+    → q ≡ min exact greatest_quantity → HasThousandths (before parts suffix) q
 number_means parts suffix q exact places number factor is scaled least value = record {
   plus = [];
   whole = parts.whole;
@@ -102,22 +102,23 @@ without_point n small =
     }
 
 -- a number with no point, and a suffix
-whole_means : (m n : ℕ) (suffix : List ℕ) (factor : Factor) → m ≤ greatest → n < 10 ^ 17 → HasFactor suffix factor
+whole_means : (m n : ℕ) (suffix : List ℕ) (factor : Factor) → m ≤ greatest_quantity → n < 10 ^ 17
+    → HasFactor suffix factor
     → IsLeastNotBelow m (1000 * n * factor.numerator) (1 * factor.denominator) → HasThousandths (decimal n ++ suffix) m
 whole_means m n suffix factor small few scaled least =
     number_means (whole_alone n) suffix m m 0 n factor (without_point n few) scaled least (omega (arith, small))
 
-units_mean : (m n : ℕ) → m ≤ greatest → m ≡ 1000 * n → n < 10 ^ 17 → HasThousandths (decimal n) m
+units_mean : (m n : ℕ) → m ≤ greatest_quantity → m ≡ 1000 * n → n < 10 ^ 17 → HasThousandths (decimal n) m
 units_mean m n small is few =
     let h = whole_means m n [] (times 1) small few (inl (0, omega arith, refl))
     (record { not_below = omega (arith, is); least = λ k h. omega (arith, is, h) }) in rw append-nil at h
 
-thousandths_mean : (m : ℕ) → m ≤ greatest → m < 10 ^ 17 → HasThousandths (decimal m ++ codes "m") m
+thousandths_mean : (m : ℕ) → m ≤ greatest_quantity → m < 10 ^ 17 → HasThousandths (decimal m ++ codes "m") m
 thousandths_mean m small few =
     whole_means m m (codes "m") (divided_by (10 ^ 3)) small few (inl (3, omega arith, refl))
     (record { not_below = omega arith; least = λ k h. omega (arith, h) })
 
-pub plain_reads_back : (m : ℕ) → m ≤ greatest → (m < 10 ^ 17) ⊎ ((m % 1000 ≡ 0) × (m / 1000 < 10 ^ 17))
+pub plain_reads_back : (m : ℕ) → m ≤ greatest_quantity → (m < 10 ^ 17) ⊎ ((m % 1000 ≡ 0) × (m / 1000 < 10 ^ 17))
     → HasThousandths (plain_text m) m
 plain_reads_back m small few =
     ⊎_elim (λ (w : ((m % 1000 == 0) ≡ true) × (m % 1000 ≡ 0)).

@@ -12,9 +12,10 @@ use Rattle.std.proofs.lemmas.Grind.{div_ceil_times}
 use Rattle.std.proofs.lemmas.List.Elements.{All-cons, All-append}
 use Rattle.quantity.specs.Digits.{AllDigits, after_digits, leading_digits}
 use Rattle.quantity.specs.Number.{whole_of, fraction_of, after_number}
-use Rattle.quantity.specs.Quantity.{HasThousandths, greatest, after_plus, digit_count, number_value, thousandths_of}
+use Rattle.quantity.specs.Quantity.{HasThousandths, greatest_quantity, after_plus, digit_count, number_value}
+use Rattle.quantity.specs.Quantity.{thousandths_of}
 use Rattle.quantity.specs.Quantity.{scaled_number_of, quantity_of}
-use Rattle.quantity.specs.Suffix.{factor_of, IsScale}
+use Rattle.quantity.specs.Suffix.{factor_of, IsInBounds}
 use Rattle.quantity.specs.declared.suffix.Factor.{Factor}
 use Rattle.quantity.proofs.Decimal.{digit_value_is, leading_are_digits, product_le}
 use Rattle.quantity.proofs.Numbers.{leading-append, after-append, whole_text, digits_value_after-append, ceil_at_most}
@@ -108,7 +109,7 @@ value_grows front rest low high is is' le =
     (after_grows (digits_value 10 front * 10 + digit_value low) (digits_value 10 front * 10 + digit_value high)
     rest more)
 
-thousandths_grow : (a b places : ℕ) (factor : Factor) → IsScale factor → a ≤ b
+thousandths_grow : (a b places : ℕ) (factor : Factor) → IsInBounds factor → a ≤ b
     → thousandths_of a places factor ≤ thousandths_of b places factor
 thousandths_grow a b places factor scale le =
     let some = denominator_some places factor scale in
@@ -119,7 +120,7 @@ thousandths_grow a b places factor scale le =
     (div_ceil_times (1000 * b * factor.numerator) (10 ^ places * factor.denominator) some).0 in
     let enough = ceil_at_most (1000 * a * factor.numerator) (10 ^ places * factor.denominator)
     (div_ceil (1000 * b * factor.numerator) (10 ^ places * factor.denominator)) some (le_trans more above) in
-    min_grows _ _ greatest enough
+    min_grows _ _ greatest_quantity enough
 
 scaled_value : (text : List ℕ) (n : ℕ) → scaled_number_of text ≡ Ok n → (factor : Factor)
     × (factor_of (after_number text) ≡ Some factor)
@@ -161,7 +162,7 @@ scaled_grows front low high back m n all is is' le one two =
     let fraction = fraction_shared front low high back a b in
     let rest = rest_shared front low high back a b in
     let same : v.0 ≡ w.0 = (let p = v.1 in let q = w.1 in cc) in
-    let scale : IsScale w.0 = (factor_reads _ _ (factor_means _ w.0 w.1)).scale in
+    let scale : IsInBounds w.0 = (factor_reads _ _ (factor_means _ w.0 w.1)).scale in
     let x : thousandths_of (number_value (front ++ low ∷ leading_digits back) (fraction_of (front ++ high ∷ back)))
     (length (fraction_of (front ++ high ∷ back))) w.0 ≡ m = (rw (a.whole_is, fraction, same) at v.2) in
     let y : thousandths_of (number_value (front ++ high ∷ leading_digits back) (fraction_of (front ++ high ∷ back)))

@@ -8,9 +8,9 @@ use Rattle.std.specs.Str.Parse.{digits_value}
 use Rattle.std.proofs.lemmas.Bool.Decides.{nat_tests, eqb_tells}
 use Rattle.quantity.specs.Digits.{AllDigits}
 use Rattle.quantity.specs.Number.{whole_of, has_point, fraction_of, after_number}
-use Rattle.quantity.specs.Quantity.{HasThousandths, IsLeastNotBelow, greatest, digit_count, number_value}
+use Rattle.quantity.specs.Quantity.{HasThousandths, IsLeastNotBelow, greatest_quantity, digit_count, number_value}
 use Rattle.quantity.specs.Quantity.{thousandths_of, scaled_number_of, quantity_of}
-use Rattle.quantity.specs.Suffix.{factor_of, IsScale}
+use Rattle.quantity.specs.Suffix.{factor_of, IsInBounds}
 use Rattle.quantity.specs.declared.suffix.Factor.{Factor}
 use Rattle.quantity.proofs.Decimal.{digit_value_is, leading_are_digits, product_le}
 use Rattle.quantity.proofs.Numbers.{parts_with_point, parts_without_point, digits_value-append, div_ceil_is_least}
@@ -85,15 +85,15 @@ quantity_plus text =
     let one : (suc (length text) == 0) ≡ false = grind (arith, nat_tests) in
     rw one
 
-pub denominator_some : (places : ℕ) (factor : Factor) → IsScale factor → 0 < 10 ^ places * factor.denominator
+pub denominator_some : (places : ℕ) (factor : Factor) → IsInBounds factor → 0 < 10 ^ places * factor.denominator
 denominator_some places factor scale =
     let ten : 0 < 10 = omega arith in
     product_le 1 1 (10 ^ places) factor.denominator (one-le-pow places 10 ten) scale.positive
 
-value_is : (whole fraction : List ℕ) (factor : Factor) (exact : ℕ) → IsScale factor
+value_is : (whole fraction : List ℕ) (factor : Factor) (exact : ℕ) → IsInBounds factor
     → IsLeastNotBelow exact (1000 * digits_value 10 (whole ++ fraction) * factor.numerator)
     (10 ^ length fraction * factor.denominator) → thousandths_of (number_value whole fraction) (length fraction)
-    factor ≡ min exact greatest
+    factor ≡ min exact greatest_quantity
 value_is whole fraction factor exact scale least =
     let joined = digits_value-append whole fraction in
     let ceil = div_ceil_is_least (1000 * digits_value 10 (whole ++ fraction) * factor.numerator)
@@ -105,7 +105,7 @@ scaled_is : (text whole fraction suffix : List ℕ) (factor : Factor) (exact : �
     → IsSplitInto text whole fraction suffix → 1 ≤ length whole + length fraction
     → length whole + length fraction ≤ 17 → Reads suffix factor
     → IsLeastNotBelow exact (1000 * digits_value 10 (whole ++ fraction) * factor.numerator)
-    (10 ^ length fraction * factor.denominator) → scaled_number_of text ≡ Ok (min exact greatest)
+    (10 ^ length fraction * factor.denominator) → scaled_number_of text ≡ Ok (min exact greatest_quantity)
 scaled_is text whole fraction suffix factor exact split some few reads least =
     let some' : 0 < digit_count text = rw (split.whole_is, split.fraction_is) some in
     let few' : digit_count text ≤ 17 = rw (split.whole_is, split.fraction_is) few in

@@ -3,7 +3,7 @@ use Rattle.std.proofs.Common.{◌≡◌, ◌≢◌, ◌<◌, ◌⊎◌, ⊎_elim
 use Rattle.std.proofs.Common.{Some, None, Option, Result, List, [], ◌∷◌, length, arith}
 use Rattle.std.specs.Prelude.{⊤, if◌then◌else◌, IfOk, OnErr, IfErr, slice_index, ◌==◌}
 use Rattle.std.proofs.lemmas.Bool.Decides.{nat_tests}
-use Rattle.quantity.specs.Steps.{◌>>=◌, refused_if, or_refused}
+use Rattle.quantity.specs.Steps.{◌>>=◌, refused_if, some_or}
 use Rattle.quantity.specs.declared.fault.QuantityFault.{QuantityFault}
 use Rattle.quantity.specs.declared.fault.QuantityFault.TheVariants.{Empty, Negative}
 
@@ -13,7 +13,7 @@ passed true fault f y h = absurd (cc)
 passed false fault f y h = (refl, h)
 
 pub had : {A B : Type 0} (o : Option A) (fault : QuantityFault) (f : A → Result B QuantityFault) (y : B)
-    → (or_refused o fault >>= f) ≡ Ok y → (x : A) × (o ≡ Some x) × (f x ≡ Ok y)
+    → (some_or fault o >>= f) ≡ Ok y → (x : A) × (o ≡ Some x) × (f x ≡ Ok y)
 had None fault f y h = absurd (cc)
 had (Some x) fault f y h = (x, refl, h)
 
@@ -45,7 +45,7 @@ failed true fault f e h = inl (refl, cc)
 failed false fault f e h = inr (refl, h)
 
 pub lacked : {A B : Type 0} (o : Option A) (fault : QuantityFault) (f : A → B) (e : QuantityFault)
-    → (or_refused o fault >>= (λ x. Ok (f x))) ≡ Err e → (o ≡ None) × (e ≡ fault)
+    → (some_or fault o >>= (λ x. Ok (f x))) ≡ Err e → (o ≡ None) × (e ≡ fault)
 lacked None fault f e h = (refl, cc)
 lacked (Some x) fault f e h = absurd (cc)
 

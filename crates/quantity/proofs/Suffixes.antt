@@ -11,7 +11,7 @@ use Rattle.std.proofs.lemmas.List.{append-nil, nil_from_length, length-append}
 use Rattle.std.proofs.lemmas.List.Elements.{All-from_recursion, Contains-append_left, Contains-append_right}
 use Rattle.std.proofs.Math.Nat.{one-le-pow}
 use Rattle.quantity.specs.Digits.{AllDigits, after_digits, leading_digits}
-use Rattle.quantity.specs.Suffix.{HasFactor, IsExponent, IsScale, named_factors, factor_of, times, divided_by}
+use Rattle.quantity.specs.Suffix.{HasFactor, IsExponent, IsInBounds, named_factors, factor_of, times, divided_by}
 use Rattle.quantity.specs.Suffix.{power_of, exponent_factor, factor_for, decimal_factors, binary_factors}
 use Rattle.quantity.specs.Suffix.{decimal_factor, binary_factor, begins_exponent}
 use Rattle.quantity.specs.declared.suffix.Factor.{Factor}
@@ -25,12 +25,12 @@ pub record Reads (suffix : List ℕ) (factor : Factor) : Type 0 where
   pub read : factor_of suffix ≡ Some factor
   pub no_digit : is_ascii_digit (get_or suffix 0 0) ≡ false
   pub no_point : get_or suffix 0 0 ≢ 46
-  pub scale : IsScale factor
+  pub scale : IsInBounds factor
 
-times_scale : (n : ℕ) → n ≤ 2 ^ 60 → IsScale (times n)
+times_scale : (n : ℕ) → n ≤ 2 ^ 60 → IsInBounds (times n)
 times_scale n h = record { small = h; positive = omega arith; fine = omega arith }
 
-divided_scale : (n : ℕ) → 0 < n → n ≤ 10 ^ 18 → IsScale (divided_by n)
+divided_scale : (n : ℕ) → 0 < n → n ≤ 10 ^ 18 → IsInBounds (divided_by n)
 divided_scale n some h = record { small = omega arith; positive = some; fine = h }
 
 reads_times : (suffix : List ℕ) (n : ℕ) → factor_of suffix ≡ Some (times n)
@@ -148,7 +148,7 @@ digit_between digits all some = let d = digit_value_is (get_or digits 0 0) (all 
 record ReadsSigned (text : List ℕ) (factor : Factor) : Type 0 where
   read : exponent_factor text ≡ Some factor
   differs : get_or text 0 0 ≢ 105
-  scale : IsScale factor
+  scale : IsInBounds factor
 
 signed_read : (suffix : List ℕ) (factor : Factor) (e : IsExponent suffix factor)
     → ReadsSigned (e.sign ++ e.digits) factor

@@ -8,7 +8,7 @@ use Rattle.std.specs.Char.{is_ascii_digit}
 use Rattle.std.specs.Str.Parse.{digits_value}
 use Rattle.std.specs.Str.{bytes_eq}
 use Rattle.quantity.specs.Digits.{AllDigits, leading_digits}
-use Rattle.quantity.specs.Steps.{◌>>=◌, refused_if, or_refused}
+use Rattle.quantity.specs.Steps.{◌>>=◌, refused_if, some_or}
 use Rattle.quantity.specs.declared.fault.QuantityFault.{QuantityFault}
 use Rattle.quantity.specs.declared.fault.QuantityFault.TheVariants.{Empty, BadDigit, BadSuffix, TooManyDigits}
 
@@ -41,7 +41,7 @@ pub record IsPart (part : Part) : Type 0 where
 abbrev pub part_seconds : Part → ℕ
 part_seconds part = digits_value 10 part.digits * unwrap_or (unit_seconds part.unit) 0
 
--- the text is these parts, one after another, and the seconds are their sum, below 2^40
+-- the text is these parts, one after another, and the seconds are their sum
 pub record IsSumOf (text : List ℕ) (parts : List Part) (seconds : ℕ) : Type 0 where
   pub text_is : text ≡ flat_map part_text parts
   pub some_part : 0 < length parts
@@ -55,7 +55,7 @@ HasSeconds text seconds = ((text ≡ codes "0") × (seconds ≡ 0)) ⊎ ((parts 
 
 -- Why a text has no value: the first fault from left to right.
 
--- a number and what follows it: no unit, or one that brings the sum to 2^40
+-- a number and what follows it: no unit, or one that brings the sum to the end of time
 abbrev pub HasUnitFault : ℕ → ℕ → List ℕ → QuantityFault → Type 0
 HasUnitFault sum number text fault =
     ((option_and_then unit_seconds (slice_get text 0) ≡ None) × (fault ≡ BadSuffix)) ⊎
@@ -75,7 +75,7 @@ pub record HasPartFault (sum : ℕ) (text : List ℕ) (fault : QuantityFault) : 
       (((12 < length digits) × (fault ≡ TooManyDigits)) ⊎
       ((0 < length digits) × (length digits ≤ 12) × HasUnitFault sum (digits_value 10 digits) more fault))
 
--- some parts are without fault, and sum up to less than 2^40; the part after them has the fault
+-- some parts are without fault, and so is their sum; the part after them has the fault
 pub record HasFaultAfter (sum : ℕ) (text : List ℕ) (fault : QuantityFault) : Type 0 where
   pub parts : List Part
   pub rest : List ℕ
@@ -106,7 +106,7 @@ abbrev pub piece_seconds : List ℕ → Result ℕ QuantityFault
 piece_seconds piece = do
   _ ← refused_if (prefix_len is_ascii_digit piece == 0) BadDigit
   _ ← refused_if (nat_lt 12 (prefix_len is_ascii_digit piece)) TooManyDigits
-  unit ← or_refused (option_and_then unit_seconds (slice_get piece (prefix_len is_ascii_digit piece))) BadSuffix
+  unit ← some_or BadSuffix (option_and_then unit_seconds (slice_get piece (prefix_len is_ascii_digit piece)))
   Ok (digits_value 10 (leading_digits piece) * unit)
 
 -- the sum of the pieces, after what came before them

@@ -7,7 +7,7 @@ use Rattle.quantity.specs.Number.{IsLongestRun, run_of, after_number}
 use Rattle.quantity.specs.declared.fault.QuantityFault.{QuantityFault}
 use Rattle.quantity.specs.Percent.{HasHundredths, percent_text, share_of}
 use Rattle.quantity.specs.Printed.{quantity_text}
-use Rattle.quantity.specs.Quantity.{HasThousandths, HasQuantityFault, greatest, after_plus}
+use Rattle.quantity.specs.Quantity.{HasThousandths, HasQuantityFault, greatest_quantity, after_plus}
 
 abbrev pub QuantityTextHasOneValue : List ℕ → ℕ → ℕ → Type 0
 QuantityTextHasOneValue text m n = HasThousandths text m → HasThousandths text n → m ≡ n
@@ -43,7 +43,8 @@ WrittenQuantitiesReadBack text thousandths = HasThousandths text thousandths
 -- among them all whose units, or thousandths, have at most 17 digits
 abbrev pub PrintedQuantitiesReadBack : ℕ → Type 0
 PrintedQuantitiesReadBack thousandths =
-    thousandths ≤ greatest → (thousandths < 10 ^ 17) ⊎ ((thousandths % 1000 ≡ 0) × (thousandths / 1000 < 10 ^ 17)) →
+    thousandths ≤ greatest_quantity →
+    (thousandths < 10 ^ 17) ⊎ ((thousandths % 1000 ≡ 0) × (thousandths / 1000 < 10 ^ 17)) →
     HasThousandths (quantity_text thousandths) thousandths
 
 -- the number of a text is the longest run that the text begins with

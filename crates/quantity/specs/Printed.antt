@@ -82,7 +82,11 @@ form_at thousandths place =
     let scale = scale_at (place % 13) in
     option_map (form_of places scale) (exact_number thousandths places (scale_numerator scale))
 
--- the first of this many forms that writes the quantity; there are 18 * 13
+-- how many forms there are: 18 numbers of digits after the point, with 13 scales each
+abbrev pub form_count : ℕ
+form_count = 18 * 13
+
+-- the first of this many forms that writes the quantity
 unfoldable pub first_form : ℕ → ℕ → Option Form
 first_form thousandths zero = None
 first_form thousandths (suc n) = option_or (first_form thousandths n) (form_at thousandths n)
@@ -101,7 +105,7 @@ form_text form =
 
 -- no form is needed below 10^17 thousandths
 abbrev pub printed_form : ℕ → Option Form
-printed_form thousandths = if nat_lt thousandths (10 ^ 17) then None else first_form thousandths 234
+printed_form thousandths = if nat_lt thousandths (10 ^ 17) then None else first_form thousandths form_count
 
 -- the units, or the thousandths where they are no whole number of units
 abbrev pub plain_text : ℕ → List ℕ

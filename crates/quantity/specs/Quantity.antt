@@ -8,14 +8,14 @@ use Rattle.std.specs.Str.Parse.{digits_value}
 use Rattle.quantity.specs.Digits.{AllDigits}
 use Rattle.quantity.specs.Number.{IsLongestRun, whole_of, fraction_of, after_number}
 use Rattle.quantity.specs.Suffix.{HasFactor, factor_of, suffix_fault}
-use Rattle.quantity.specs.Steps.{◌>>=◌, refused_if, or_refused}
+use Rattle.quantity.specs.Steps.{◌>>=◌, refused_if, some_or}
 use Rattle.quantity.specs.declared.suffix.Factor.{Factor}
 use Rattle.quantity.specs.declared.fault.QuantityFault.{QuantityFault}
 use Rattle.quantity.specs.declared.fault.QuantityFault.TheVariants.{Empty, BadDigit, TooManyDigits, Negative}
 
 -- no quantity is larger, in thousandths
-abbrev pub greatest : ℕ
-greatest = 1000 * (2 ^ 63 - 1)
+abbrev pub greatest_quantity : ℕ
+greatest_quantity = 1000 * (2 ^ 63 - 1)
 
 -- What a text means.
 
@@ -46,7 +46,7 @@ pub record HasThousandths (text : List ℕ) (thousandths : ℕ) : Type 0 where
   pub exact : ℕ
   pub exact_is : IsLeastNotBelow exact (1000 * digits_value 10 (whole ++ fraction) * factor.numerator)
       (10 ^ length fraction * factor.denominator)
-  pub thousandths_is : thousandths ≡ min exact greatest
+  pub thousandths_is : thousandths ≡ min exact greatest_quantity
 
 -- Why a text has no value: the first fault that holds.
 
@@ -86,14 +86,14 @@ number_value whole fraction = digits_value 10 whole * 10 ^ length fraction + dig
 
 abbrev pub thousandths_of : ℕ → ℕ → Factor → ℕ
 thousandths_of number places factor =
-    min (div_ceil (1000 * number * factor.numerator) (10 ^ places * factor.denominator)) greatest
+    min (div_ceil (1000 * number * factor.numerator) (10 ^ places * factor.denominator)) greatest_quantity
 
 -- a number and its suffix
 unfoldable pub scaled_number_of : List ℕ → Result ℕ QuantityFault
 scaled_number_of text = do
   _ ← refused_if (digit_count text == 0) BadDigit
   _ ← refused_if (nat_lt 17 (digit_count text)) TooManyDigits
-  factor ← or_refused (factor_of (after_number text)) (suffix_fault (after_number text))
+  factor ← some_or (suffix_fault (after_number text)) (factor_of (after_number text))
   Ok (thousandths_of (number_value (whole_of text) (fraction_of text)) (length (fraction_of text)) factor)
 
 unfoldable pub quantity_of : List ℕ → Result ℕ QuantityFault

@@ -107,12 +107,12 @@ factor_of suffix =
     else if begins_exponent suffix then exponent_factor (drop 1 suffix)
     else None
 
--- the fault of a suffix that is none
+-- the fault of an unknown suffix
 abbrev pub suffix_fault : List ℕ → QuantityFault
 suffix_fault suffix = if begins_exponent suffix then Exponent else BadSuffix
 
--- the factors stay within these bounds
-pub record IsScale (factor : Factor) : Type 0 where
+-- the bounds of every factor
+pub record IsInBounds (factor : Factor) : Type 0 where
   pub small : factor.numerator ≤ 2 ^ 60
   pub positive : 0 < factor.denominator
   pub fine : factor.denominator ≤ 10 ^ 18

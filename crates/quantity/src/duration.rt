@@ -19,7 +19,7 @@ pub const END_OF_TIME: u64 = 1 << 40;
 ///
 /// The fault is the first from left to right: `Empty`; `BadDigit` where a part has no digit;
 /// `TooManyDigits` where it has more than 12; `BadSuffix` where no unit follows them;
-/// `TooManyDigits` where the sum so far reaches 2^40.
+/// `TooManyDigits` where the sum so far reaches [`END_OF_TIME`].
 #[tactic(auto, using(crate::proofs::DurationMeaning::duration_sound, crate::proofs::DurationFaults::duration_fault))]
 pub fn seconds_of(text: &[u8]) -> Result<u64, QuantityFault>
     ensures reading { result ≡ duration_of text.now }

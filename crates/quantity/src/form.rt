@@ -1,9 +1,9 @@
 //! The texts that are printed of large quantities: which of them writes a quantity exactly.
 
 ghost use Rattle.std.specs.Prelude.{◌≡◌, ◌≤◌, ◌<◌, ◌+◌, ◌-◌, ◌*◌, ◌/◌, ◌%◌, ◌^◌, Some, IfSome};
-ghost use Rattle.quantity.specs.Quantity.{greatest};
+ghost use Rattle.quantity.specs.Quantity.{greatest_quantity};
 ghost use Rattle.quantity.specs.Printed.{scale_at, scale_suffix, scale_numerator, form_text, few_digits};
-ghost use Rattle.quantity.specs.Printed.{least_number, exact_number, form_of, form_at, first_form, printed_form};
+ghost use Rattle.quantity.specs.Printed.{least_number, exact_number, form_at, form_count, first_form, printed_form};
 
 use crate::quantity::scaled;
 use crate::suffix::Factor;
@@ -130,7 +130,7 @@ const FORMS: u32 = 18 * 13;
 /// The form that is printed of a quantity: none below 10^17 thousandths, and none where no form
 /// writes it.
 pub(crate) fn printed_form(thousandths: u128) -> Option<Form>
-    requires bound { thousandths ≤ greatest }
+    requires bound { thousandths ≤ greatest_quantity }
     ensures { result ≡ printed_form thousandths }
 {
     if thousandths < 10u128.pow(17) {
@@ -144,8 +144,8 @@ pub(crate) fn printed_form(thousandths: u128) -> Option<Form>
 /// scale.
 fn exact_form(thousandths: u128) -> Option<Form>
     requires some { 0 < thousandths }
-    requires bound { thousandths ≤ greatest }
-    ensures { result ≡ first_form thousandths 234 }
+    requires bound { thousandths ≤ greatest_quantity }
+    ensures { result ≡ first_form thousandths form_count }
 {
     for place in 0..FORMS {
         let form = form_at(thousandths, place);
@@ -159,8 +159,8 @@ fn exact_form(thousandths: u128) -> Option<Form>
 /// The form at a place, where it writes the quantity exactly.
 fn form_at(thousandths: u128, place: u32) -> Option<Form>
     requires some { 0 < thousandths }
-    requires bound { thousandths ≤ greatest }
-    requires place { place < 234 }
+    requires bound { thousandths ≤ greatest_quantity }
+    requires place { place < form_count }
     ensures { result ≡ form_at thousandths place }
 {
     let places = place / 13;
@@ -179,7 +179,7 @@ fn form_at(thousandths: u128, place: u32) -> Option<Form>
 /// quantity.
 fn exact_number(thousandths: u128, places: u32, numerator: u128) -> Option<u128>
     requires some { 0 < thousandths }
-    requires bound { thousandths ≤ greatest }
+    requires bound { thousandths ≤ greatest_quantity }
     requires places { places ≤ 17 }
     requires numerator { (0 < numerator) × (numerator ≤ 2 ^ 60) }
     ensures { result ≡ exact_number thousandths places numerator }
@@ -196,7 +196,7 @@ fn exact_number(thousandths: u128, places: u32, numerator: u128) -> Option<u128>
 /// it has at most 17 digits.
 fn least_number(thousandths: u128, places: u32, numerator: u128) -> Option<u128>
     requires some { 0 < thousandths }
-    requires bound { thousandths ≤ greatest }
+    requires bound { thousandths ≤ greatest_quantity }
     requires places { places ≤ 17 }
     requires numerator { (0 < numerator) × (numerator ≤ 2 ^ 60) }
     ensures value { result ≡ few_digits (least_number thousandths places numerator) }

@@ -2,7 +2,7 @@
 
 ghost use Rattle.std.specs.Prelude.{◌≡◌, ◌≤◌, IfSome};
 ghost use Rattle.quantity.specs.Limit.{limit_of, amount_of, HasItsCapacity};
-ghost use Rattle.quantity.specs.Quantity.{greatest};
+ghost use Rattle.quantity.specs.Quantity.{greatest_quantity};
 
 use crate::fault::QuantityFault;
 use crate::percent::Percent;
@@ -12,13 +12,15 @@ use crate::quantity::Quantity;
 /// signal's capacity. (Kubernetes, "Node-pressure Eviction", "Eviction thresholds".)
 #[derive(Clone, Copy, Debug, PartialEq, Eq, Hash)]
 pub enum Limit {
+    /// An amount.
     Quantity(Quantity),
+    /// A share of the signal's capacity.
     Percent(Percent),
 }
 
 impl Limit {
-    /// Reads a percentage where the text ends with `%`, and a quantity from any other text. The
-    /// fault is theirs.
+    /// Reads a percentage where the text ends with `%`, and a quantity from any other text, each
+    /// with its own faults.
     #[tactic(auto, unfolding(crate::specs::Limit::limit_of))]
     pub fn parse(text: &[u8]) -> Result<Limit, QuantityFault>
         ensures { result ≡ limit_of text.now }
@@ -34,9 +36,9 @@ impl Limit {
     /// that share of the signal's capacity, rounded down. The capacity is in thousandths too.
     pub fn amount(self, capacity: Option<u128>) -> u128
         requires percentage { HasItsCapacity capacity self }
-        requires capacity { IfSome capacity (λ c. c ≤ greatest) }
+        requires capacity { IfSome capacity (λ c. c ≤ greatest_quantity) }
         ensures value { result ≡ amount_of capacity self }
-        ensures within { result ≤ greatest }
+        ensures within { result ≤ greatest_quantity }
     {
         match self {
             Limit::Quantity(quantity) => quantity.milli(),

@@ -3,6 +3,7 @@
 ghost use Rattle.std.specs.Prelude.{◌≡◌, ◌≤◌, ◌-◌, ◌*◌, ◌^◌, ℕ, length, IfOk, IfErr, OnErr};
 ghost use Rattle.quantity.specs.Digits.{AllDigits};
 ghost use Rattle.quantity.specs.Percent.{percent_of, HasHundredths, HasPercentFault, hundredths_of, share_of};
+ghost use Rattle.quantity.specs.Quantity.{greatest_quantity};
 
 use crate::digits::decimal;
 use crate::fault::QuantityFault;
@@ -59,7 +60,7 @@ impl Percent {
 
     /// This share of a capacity, rounded down. Both are in thousandths.
     pub fn of(self, capacity: u128) -> u128
-        requires { capacity ≤ 1000 * (2 ^ 63 - 1) }
+        requires { capacity ≤ greatest_quantity }
         ensures share { result ≡ share_of self capacity }
         ensures within { result ≤ capacity }
     {

@@ -3,9 +3,9 @@
 ghost use Rattle.std.specs.Prelude.{◌≡◌, ◌≤◌, ◌<◌, ◌+◌, ◌-◌, ◌*◌, ◌^◌, ℕ, length, min, IfOk, IfErr, OnErr};
 ghost use Rattle.std.specs.Int.{div_ceil};
 ghost use Rattle.quantity.specs.Digits.{AllDigits};
-ghost use Rattle.quantity.specs.Suffix.{IsScale};
+ghost use Rattle.quantity.specs.Suffix.{IsInBounds};
 ghost use Rattle.quantity.specs.Quantity.{quantity_of, HasThousandths, HasQuantityFault, scaled_number_of};
-ghost use Rattle.quantity.specs.Quantity.{number_value, thousandths_of, after_plus, greatest};
+ghost use Rattle.quantity.specs.Quantity.{number_value, thousandths_of, after_plus, greatest_quantity};
 
 use crate::digits::decimal;
 use crate::fault::QuantityFault;
@@ -24,19 +24,22 @@ pub struct Quantity(u128);
 const GREATEST: u128 = 1000 * ((1 << 63) - 1);
 
 impl Model for Quantity {
+    ghost use Rattle.std.specs.Prelude.{ℕ, ◌≤◌};
+    ghost use Rattle.quantity.specs.Quantity.{greatest_quantity};
+
     ghost Value = { ℕ };
 
     ghost view = { λ q. q.0 };
 
-    ghost invariant = { λ q. q.0 ≤ 1000 * (2 ^ 63 - 1) };
+    ghost invariant = { λ q. q.0 ≤ greatest_quantity };
 
     ghost inverse = { λ n. record { 0 = n } };
 }
 
 impl Quantity {
     /// Reads an optional `+`, a number of at most 17 digits with at most one point, and a suffix.
-    /// What is no whole number of thousandths is rounded up, and what is above 2^63 - 1 units is
-    /// that.
+    /// What is no whole number of thousandths is rounded up, and anything above 2^63 - 1 units
+    /// is read as 2^63 - 1 units.
     ///
     /// The fault is the first of these: `Empty`; `Negative`; `BadDigit` where the number has no
     /// digit; `TooManyDigits`; `Exponent` for an unknown suffix that begins with `e` or `E`, and
@@ -53,7 +56,7 @@ impl Quantity {
 
     /// This many whole units, and the greatest quantity where that is more.
     pub fn from_units(units: u64) -> Quantity
-        ensures { result ≡ min (1000 * units) greatest }
+        ensures { result ≡ min (1000 * units) greatest_quantity }
     {
         Quantity((1000 * u128::from(units)).min(GREATEST))
     }
@@ -61,7 +64,7 @@ impl Quantity {
     /// The quantity in thousandths of a unit, at most 1000 * (2^63 - 1).
     pub fn milli(self) -> u128
         ensures value { result ≡ self }
-        ensures bound { result ≤ greatest }
+        ensures bound { result ≤ greatest_quantity }
     {
         self.0
     }
@@ -96,7 +99,7 @@ fn without_plus(text: &[u8]) -> &[u8]
 #[tactic(auto, unfolding(crate::specs::Quantity::scaled_number_of))]
 fn scaled_number(text: &[u8]) -> Result<u128, QuantityFault>
     ensures value { result ≡ scaled_number_of text.now }
-    ensures bound { IfOk result (λ n. n ≤ greatest) }
+    ensures bound { IfOk result (λ n. n ≤ greatest_quantity) }
 {
     let number = Number::at(text);
     let digits = number.whole.len() + number.fraction.len();
@@ -129,9 +132,9 @@ fn digits_of(whole: &[u8], fraction: &[u8]) -> u128
 pub(crate) fn scaled(number: u128, places: u32, factor: Factor) -> u128
     requires number { number < 10 ^ 17 }
     requires places { places ≤ 17 }
-    requires factor { IsScale factor }
+    requires factor { IsInBounds factor }
     ensures value { result ≡ thousandths_of number places factor }
-    ensures bound { result ≤ greatest }
+    ensures bound { result ≤ greatest_quantity }
 {
     let above = 1000 * number * factor.numerator;
     let below = 10u128.pow(places) * factor.denominator;
@@ -153,8 +156,8 @@ impl fmt::Display for Quantity {
     ghost output = { λ q. Some (quantity_text q) };
 
     /// The units, as `5`, or the thousandths, as `1500m`, where they are no whole number of units.
-    /// Where that has more than 17 digits, which no text has, a number of at most 17 digits with a
-    /// suffix, as `3Ei`, if one is exactly the quantity.
+    /// Where that has more than 17 digits, too many to be read back, a number of at most 17 digits
+    /// with a suffix, as `3Ei`, if one is exactly the quantity.
     fn fmt<W: fmt::Write>(&self, f: &mut fmt::Formatter<W>) -> fmt::Result {
         let thousandths = self.0;
         if let Some(form) = printed_form(thousandths) {

@@ -2,7 +2,7 @@
 
 ghost use Rattle.std.specs.Prelude.{◌≡◌, ◌≤◌, ◌<◌, ◌^◌, IfSome};
 ghost use Rattle.quantity.specs.Suffix.{factor_of, decimal_factor, binary_factor, exponent_factor, power_of};
-ghost use Rattle.quantity.specs.Suffix.{begins_exponent, suffix_fault, IsScale, times, divided_by};
+ghost use Rattle.quantity.specs.Suffix.{begins_exponent, suffix_fault, IsInBounds, times, divided_by};
 
 use crate::digits::{decimal, split_digits};
 use crate::fault::QuantityFault;
@@ -37,7 +37,7 @@ impl Factor {
     #[tactic(auto, unfolding(crate::specs::Suffix::factor_of))]
     pub(crate) fn of(suffix: &[u8]) -> Option<Factor>
         ensures factor { result ≡ factor_of suffix.now }
-        ensures bounds { IfSome result IsScale }
+        ensures bounds { IfSome result IsInBounds }
     {
         match suffix {
             [] => Some(Factor::times(1)),
@@ -49,7 +49,7 @@ impl Factor {
     }
 }
 
-/// The fault of a suffix that is none.
+/// The fault of an unknown suffix.
 pub(crate) fn fault_of(suffix: &[u8]) -> QuantityFault
     ensures { result ≡ suffix_fault suffix.now }
 {
@@ -70,7 +70,7 @@ fn begins_exponent(suffix: &[u8]) -> bool
 /// The factor of a suffix of one letter.
 fn decimal_factor(letter: u8) -> Option<Factor>
     ensures factor { result ≡ decimal_factor letter }
-    ensures bounds { IfSome result IsScale }
+    ensures bounds { IfSome result IsInBounds }
 {
     match letter {
         b'n' => Some(Factor::divided_by(1_000_000_000)),
@@ -89,7 +89,7 @@ fn decimal_factor(letter: u8) -> Option<Factor>
 /// The factor of a suffix of a letter and `i`.
 fn binary_factor(letter: u8) -> Option<Factor>
     ensures factor { result ≡ binary_factor letter }
-    ensures bounds { IfSome result IsScale }
+    ensures bounds { IfSome result IsInBounds }
 {
     match letter {
         b'K' => Some(Factor::times(1 << 10)),
@@ -105,7 +105,7 @@ fn binary_factor(letter: u8) -> Option<Factor>
 /// The factor of what follows an `e` or `E`: perhaps a sign, and one or two digits.
 fn exponent_factor(text: &[u8]) -> Option<Factor>
     ensures factor { result ≡ exponent_factor text.now }
-    ensures bounds { IfSome result IsScale }
+    ensures bounds { IfSome result IsInBounds }
 {
     match text {
         [b'-', digits @ ..] => power(digits).map(Factor::divided_by),

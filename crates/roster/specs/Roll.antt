@@ -12,6 +12,7 @@ pub record Roll : Type 0 where
 abbrev pub roll : List PodSpec → List ℕ → List (Option ℕ) → Roll
 roll pods arrivals departures = record { pods = pods; arrivals = arrivals; departures = departures }
 
+-- no pods
 abbrev pub nothing : Roll
 nothing = roll [] [] []
 
@@ -26,7 +27,7 @@ present_keys (p ∷ ps) [] = None ∷ present_keys ps []
 present_keys (p ∷ ps) (None ∷ departures) = Some (key_of_pod p) ∷ present_keys ps departures
 present_keys (p ∷ ps) (Some ticks ∷ departures) = None ∷ present_keys ps departures
 
--- the place of the first of the keys that is this one
+-- the place of the first of the keys that equals this one
 abbrev pub number_in : List (Option (List ℕ)) → List ℕ → Option ℕ
 number_in [] key = None
 number_in (None ∷ keys) key = option_map (λ i. i + 1) (number_in keys key)

@@ -1,6 +1,6 @@
 //! Which pod has a key.
 
-ghost use Rattle.std.specs.Prelude.{◌≡◌, ℕ, length, Some, None, IsTrue, IsFalse, OnOk, string_bytes};
+ghost use Rattle.std.specs.Prelude.{◌≡◌, length, Some, None, IsTrue, IsFalse, OnOk, string_bytes};
 ghost use Rattle.lists.specs.Names.{place_of};
 ghost use Rattle.roster.specs.Holders.{holder_of, HasHeld};
 

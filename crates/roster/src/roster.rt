@@ -1,6 +1,6 @@
 //! The pods of a trace.
 
-ghost use Rattle.std.specs.Prelude.{◌≡◌, ◌++◌, ◌∷◌, [], ℕ, ◌<◌, length, Some, None, IfOk, OnOk, string_bytes};
+ghost use Rattle.std.specs.Prelude.{◌≡◌, ◌++◌, ◌∷◌, [], ◌<◌, Some, None, IfOk, OnOk, string_bytes};
 ghost use Rattle.roster.specs.Roll.{nothing, key_of_pod, number_of, is_present, with_pod, without};
 
 use crate::hold::{hold, holder_of, release};

@@ -4,7 +4,7 @@ use Rattle.signals.specs.declared.signal.Signal.{Signal}
 use Rattle.signals.specs.declared.signal.Signal.TheVariants.{MemoryAvailable, NodefsAvailable, ImagefsAvailable}
 use Rattle.signals.specs.declared.signal.Signal.TheVariants.{NodefsInodesFree, ImagefsInodesFree, PidAvailable}
 
--- that of this one
+-- the value for the signal
 abbrev pub of : {A : Type 0} → BySignal A → Signal → A
 of values MemoryAvailable = values.memory_available
 of values NodefsAvailable = values.nodefs_available
@@ -13,7 +13,7 @@ of values NodefsInodesFree = values.nodefs_inodes_free
 of values ImagefsInodesFree = values.imagefs_inodes_free
 of values PidAvailable = values.pid_available
 
--- that of this one among six values, in the order of the signals
+-- the value for the signal among six, in the order of the signals
 abbrev pub among : {A : Type 0} → A → A → A → A → A → A → Signal → A
 among a b c d e f MemoryAvailable = a
 among a b c d e f NodefsAvailable = b
@@ -22,7 +22,7 @@ among a b c d e f NodefsInodesFree = d
 among a b c d e f ImagefsInodesFree = e
 among a b c d e f PidAvailable = f
 
--- what f gives for each
+-- for each signal what f gives
 abbrev pub for_each : {A : Type 0} → (Signal → A) → BySignal A
 for_each f = record {
   memory_available = f MemoryAvailable;
@@ -33,6 +33,6 @@ for_each f = record {
   pid_available = f PidAvailable;
 }
 
--- the same for each
+-- the same value for each signal
 abbrev pub every : {A : Type 0} → A → BySignal A
 every value = for_each (λ signal. value)

@@ -25,7 +25,7 @@ named name =
     else (if bytes_eq name (name_of ImagefsInodesFree) then Some ImagefsInodesFree
     else (if bytes_eq name (name_of PidAvailable) then Some PidAvailable else None)))))
 
--- it is of the node's file system, or of that of images and containers
+-- the signal is of the node's file system, or of that of images and containers
 abbrev pub is_of_file_system : Signal → Bool
 is_of_file_system MemoryAvailable = false
 is_of_file_system PidAvailable = false

@@ -3,7 +3,7 @@
 
 ghost use Rattle.signals.specs.Laws as laws;
 
-/// A signal is the one of its name, and a text names a signal only where it is its name.
+/// A signal's name names that signal, and a text that names a signal is the signal's name.
 pub fn names_are_inverse()
     ensures named { laws.NameNamesItsSignal }
     ensures name { laws.NamedSignalHasTheName }

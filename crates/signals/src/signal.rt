@@ -37,7 +37,7 @@ impl Signal {
         }
     }
 
-    /// The signal of this name, if it is one's.
+    /// The signal of this name, if there is one.
     pub fn named(name: &str) -> Option<Signal>
         ensures { result ≡ named name.now }
     {

@@ -1,6 +1,6 @@
 -- A history has a newest instance or lists none, and each instance has a state, and a code where it
 -- has ended.
-use Rattle.std.proofs.Common.{◌≡◌, ◌⊎◌, inl, inr, ℕ, zero, suc, ℤ, pos, false, ◌∙◌, ◌-◌, ◌<◌, ◌≤◌, List, [], ◌∷◌}
+use Rattle.std.proofs.Common.{◌≡◌, ◌⊎◌, inl, inr, ℕ, zero, suc, ℤ, false, ◌∙◌, ◌-◌, ◌<◌, ◌≤◌, List, [], ◌∷◌}
 use Rattle.std.proofs.Common.{length, Option, Some, None, refl, subst, sym, arith}
 use Rattle.std.specs.Prelude.{IsSomeAnd, unwrap_or}
 use Rattle.std.proofs.lemmas.Bool.{cases_lt, cases_eq}
@@ -13,7 +13,7 @@ use Rattle.state_diff.specs.declared.seen.Seen.{Seen}
 use Rattle.state_diff.specs.declared.seen.CriState.{CriState}
 use Rattle.state_diff.specs.declared.seen.CriState.TheVariants.{Created, Running, Exited, Unknown}
 use Rattle.state_diff.specs.States.{is_exited}
-use Rattle.state_diff.specs.Instances.{Tick, tick, seen_at, IsOf, IsOfAs, Listed, ListedAs, Ends, IsNewest}
+use Rattle.state_diff.specs.Instances.{Tick, tick, seen_at, IsOf, IsOfAs, Listed, ListedAs, Ends, IsNewest, killed_code}
 use Rattle.state_diff.specs.Instances.{IsEffective, IsState, IsStart, IsExit, IsCodeAt, IsExitCode, IsSetUp}
 use Rattle.state_diff.specs.Instances.{IsRun}
 use Rattle.state_diff.specs.Laws.{SomeOfEach}
@@ -181,7 +181,7 @@ running_state_or_not h a =
 
 pub code_at : (h : List Tick) (a t : ℕ) → Ends h a t → (code : ℤ) × IsCodeAt h a code t
 code_at h a t (inl q) = let k = coded a (seen_at h t) q in (k.0, inl k.1)
-code_at h a t (inr w) = (pos 137, inr (w.1, refl))
+code_at h a t (inr w) = (killed_code, inr (w.1, refl))
 
 -- the moment of an exit, and the run before it
 pub exit_moment : (h : List Tick) (a t : ℕ) → IsExit h a t → (m : ℕ) × IsFirstMoment h (Ends h a) (Some m)

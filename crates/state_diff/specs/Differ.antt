@@ -1,3 +1,4 @@
+-- What a differ keeps of a container's ticks, and what one more tick changes.
 use Rattle.std.specs.Prelude.{◌≡◌, ◌↔◌, ◌⊎◌, ℕ, ℤ, ◌-◌, ◌<◌, ◌≤◌, List, length, Bool, Option, Some, None, IsTrue}
 use Rattle.std.specs.Prelude.{IsSome, IsSomeAnd, IfSome}
 use Rattle.state_diff.specs.declared.seen.Seen.{Seen}

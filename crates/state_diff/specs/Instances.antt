@@ -80,12 +80,16 @@ IsExit h a t = IsFirst (Ends h a) t
 abbrev pub IsStart : List Tick → ℕ → ℕ → Type 0
 IsStart h a t = IsFirst (ListedAs h a Running) t
 
+-- the code of an instance that is no longer listed: 128 and the number of the signal SIGKILL, 9
+abbrev pub killed_code : ℤ
+killed_code = pos 137
+
 -- the code of the tick at a place: the one recorded there for the attempt, and 137 if it isn't
 -- listed there
 abbrev pub IsCodeAt : List Tick → ℕ → ℤ → ℕ → Type 0
 IsCodeAt h a code t =
     IsSomeAnd (seen_at h t) (λ seen. (seen.attempt ≡ a) × (seen.code ≡ Some code))
-    ⊎ ((Listed h a t → ⊥) × (code ≡ pos 137))
+    ⊎ ((Listed h a t → ⊥) × (code ≡ killed_code))
 
 -- the exit's code
 abbrev pub IsExitCode : List Tick → ℕ → ℤ → Type 0
@@ -97,7 +101,8 @@ IsState h a state =
     (((t : ℕ) × IsExit h a t) × (state ≡ Exited))
     ⊎ (((t : ℕ) → IsExit h a t → ⊥) × IsEffective h a state)
 
--- some instance has a start or an exit
+-- some instance has a start or an exit: the container was set up (Kubernetes, "Pod Lifecycle", "Pod
+-- phase")
 abbrev pub IsSetUp : List Tick → Type 0
 IsSetUp h = (a t : ℕ) × (IsStart h a t ⊎ IsExit h a t)
 

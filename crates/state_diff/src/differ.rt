@@ -1,3 +1,5 @@
+//! What the listings so far say of the newest instance of a container, and what each tick changes of it.
+
 ghost use Rattle.std.specs.Prelude.{◌≡◌, ◌↔◌, ◌<◌, ◌≤◌, ◌-◌, ℕ, ℤ, List, [], ◌∷◌, ◌++◌, length, Option, Some, None};
 ghost use Rattle.std.specs.Prelude.{IsSomeAnd, IsTrue, IsSome, IfSome, MatchOption};
 ghost use Rattle.state_diff.specs.Instances.{Tick, tick, IsOf, seen_at, Listed, ListedAs, IsNewest, IsState, IsExit};
@@ -117,7 +119,8 @@ impl Differ {
         self.newest?.run()
     }
 
-    /// Whether some instance has started or exited.
+    /// Whether the container was set up: some instance has started or exited. (Kubernetes, "Pod
+    /// Lifecycle", "Pod phase".)
     pub fn set_up(&self) -> bool
         ensures { (h : List Tick) → IsStateOf h self.now → (IsTrue result ↔ IsSetUp h) }
     {

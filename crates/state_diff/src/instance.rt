@@ -1,3 +1,5 @@
+//! One instance of a container, as the listings so far tell of it.
+
 ghost use Rattle.std.specs.Prelude.{◌≡◌, ◌≢◌, ◌↔◌, ◌≤◌, ◌-◌, ℕ, ℤ, List, [], ◌∷◌, ◌++◌, Option, Some, None};
 ghost use Rattle.std.specs.Prelude.{IsSomeAnd, IfSome, IsTrue, is_some, unwrap_or};
 ghost use Rattle.state_diff.specs.Instances.{Tick, tick, Listed, IsOf, IsEffective};
@@ -6,7 +8,7 @@ ghost use Rattle.state_diff.specs.declared.seen.Seen.{Seen};
 
 use crate::seen::{CriState, Seen};
 
-/// The exit code of an instance that is no longer listed: 128 and the signal SIGKILL, 9.
+/// The exit code of an instance that is no longer listed: 128 and the number of the signal SIGKILL, 9.
 pub const KILLED: i32 = 137;
 
 /// One instance: its state and exit code, and when it started and exited.

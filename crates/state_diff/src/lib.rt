@@ -7,4 +7,5 @@ pub mod laws;
 mod seen;
 
 pub use differ::{Changes, Differ};
+pub use instance::KILLED;
 pub use seen::{CriState, Seen};

@@ -1,3 +1,5 @@
+//! An instance of a container, as one tick lists it.
+
 ghost use Rattle.std.specs.Prelude.{◌≡◌, ◌≢◌, ◌↔◌, is_some, IsTrue};
 ghost use Rattle.state_diff.specs.States.{is_exited as exited, rank as rank_of};
 

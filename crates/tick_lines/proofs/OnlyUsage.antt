@@ -4,6 +4,7 @@ use Rattle.std.specs.Prelude.{◌^◌, is_some, if◌then◌else◌, option_and_
 use Rattle.serde_json.specs.Data.{Data, Items}
 use Rattle.serde_json.specs.Find.{as_str, as_number, as_u64, as_array, as_object}
 use Rattle.json_fields.specs.Fields.{field_at, text_at, items_list}
+use Rattle.json_fields.specs.Reading.{else_fault}
 use Rattle.json_fields.proofs.Only.{Only, only_ok, only_err, only_bind, only_if, only_some, only_each}
 use Rattle.json_fields.specs.Quantities.{quantity_in}
 use Rattle.json_fields.specs.declared.fault.FieldFault.{FieldFault}
@@ -12,7 +13,7 @@ use Rattle.tick_lines.specs.declared.fault.TickLineFault.{TickLineFault}
 use Rattle.tick_lines.specs.declared.fault.TickLineFault.TheVariants.{Usage}
 use Rattle.json_fields.specs.declared.scope.Scope.{Scope}
 use Rattle.json_fields.specs.declared.scope.Scope.TheVariants.{Node, FileSystems}
-use Rattle.tick_lines.specs.Fields.{items_from, items_of, only_object, held, quantity_at, value_named}
+use Rattle.tick_lines.specs.Fields.{items_from, items_of, only_object, quantity_at, value_named}
 use Rattle.tick_lines.specs.Listings.{attempt_from, attempt_of, state_names, state_numbered, state_from, state_of}
 use Rattle.tick_lines.specs.Listings.{instance_of, listing_of}
 use Rattle.tick_lines.specs.Results.{probe_names, probe_named, outcome_names, outcome_named, result_of}
@@ -96,13 +97,13 @@ items_only (Some d) = items_from_only (as_array d)
 object_only : (d : Data) → Only IsUsageFault (only_object d)
 object_only d = value_if (is_some (as_object d)) tt _ refused
 
-held_only : {A : Type 0} (r : Result A FieldFault) → Only IsUsageFault (held r)
-held_only (Ok x) = only_ok IsUsageFault x
-held_only (Err fault) = refused
+read_only : {A : Type 0} (r : Result A FieldFault) → Only IsUsageFault (else_fault Usage r)
+read_only (Ok x) = only_ok IsUsageFault x
+read_only (Err fault) = refused
 
 quantity_only : (found : Option Data) → Only IsUsageFault (quantity_at found)
 quantity_only None = only_ok IsUsageFault None
-quantity_only (Some d) = only_bind IsUsageFault _ _ (held_only (quantity_in d)) (λ thousandths. only_ok IsUsageFault _)
+quantity_only (Some d) = only_bind IsUsageFault _ _ (read_only (quantity_in d)) (λ thousandths. only_ok IsUsageFault _)
 
 usage_in_only : (d : Data) → Only IsUsageFault (usage_in d)
 unfolding usage_in

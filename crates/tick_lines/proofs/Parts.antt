@@ -7,7 +7,7 @@ use Rattle.json_fields.specs.Reading.{some_or}
 use Rattle.json_fields.proofs.Steps.{bind_ok}
 use Rattle.json_fields.proofs.Only.{same_value}
 use Rattle.observations.specs.declared.usage.Usage.{Usage}
-use Rattle.tick_lines.specs.declared.entry.Entry.{Entry}
+use Rattle.tick_lines.specs.declared.entry.TickEntry.{TickEntry}
 use Rattle.tick_lines.specs.declared.fault.TickLineFault.TheVariants as faults
 use Rattle.tick_lines.specs.declared.line.TickLine.{TickLine}
 use Rattle.json_fields.specs.declared.scope.Scope.TheVariants.{Node, FileSystems}
@@ -37,13 +37,13 @@ line_parts d line e =
       after_reclaim = after.1 ∙ ap (λ (l : TickLine). Ok l.after_reclaim) same;
     }
 
-pub record IsEntry (d : Data) (entry : Entry) : Type 0 where
+pub record IsEntry (d : Data) (entry : TickEntry) : Type 0 where
   pub key : some_or faults.Usage (text_at (codes "pod") d) ≡ Ok entry.key
   pub listings : listings_of (field_at (codes "containers") d) ≡ Ok entry.listings
   pub results : results_of (field_at (codes "probes") d) ≡ Ok entry.results
   pub usage : usage_of (field_at (codes "usage") d) ≡ Ok entry.usage
 
-pub entry_parts : (d : Data) (entry : Entry) → entry_of d ≡ Ok entry → IsEntry d entry
+pub entry_parts : (d : Data) (entry : TickEntry) → entry_of d ≡ Ok entry → IsEntry d entry
 unfolding entry_of
 entry_parts d entry e =
     let key = bind_ok (some_or faults.Usage (text_at (codes "pod") d)) _ entry e in
@@ -52,10 +52,10 @@ entry_parts d entry e =
     let usage = bind_ok (usage_of (field_at (codes "usage") d)) _ entry results.2 in
     let same = same_value _ entry usage.2 in
     record {
-      key = key.1 ∙ ap (λ (x : Entry). Ok x.key) same;
-      listings = listings.1 ∙ ap (λ (x : Entry). Ok x.listings) same;
-      results = results.1 ∙ ap (λ (x : Entry). Ok x.results) same;
-      usage = usage.1 ∙ ap (λ (x : Entry). Ok x.usage) same;
+      key = key.1 ∙ ap (λ (x : TickEntry). Ok x.key) same;
+      listings = listings.1 ∙ ap (λ (x : TickEntry). Ok x.listings) same;
+      results = results.1 ∙ ap (λ (x : TickEntry). Ok x.results) same;
+      usage = usage.1 ∙ ap (λ (x : TickEntry). Ok x.usage) same;
     }
 
 pub record HasUsage (d : Data) (usage : Usage) : Type 0 where

@@ -4,7 +4,7 @@ use Rattle.std.specs.Prelude.{◌↔◌, codes}
 use Rattle.std.proofs.lemmas.Option.{same_Some, none-some}
 use Rattle.serde_json.specs.Data.{Data}
 use Rattle.json_fields.specs.Fields.{field_at}
-use Rattle.json_fields.specs.Reading.{◌>>=◌}
+use Rattle.json_fields.specs.Reading.{◌>>=◌, else_fault}
 use Rattle.json_fields.proofs.Steps.{bind_ok}
 use Rattle.json_fields.proofs.Only.{same_value}
 use Rattle.observations.specs.declared.usage.Usage.{Usage}
@@ -19,7 +19,7 @@ use Rattle.json_fields.specs.declared.scope.Scope.TheVariants.{Node, FileSystems
 use Rattle.json_fields.specs.SignalMaps.{in_map}
 use Rattle.json_fields.proofs.EachSignal.{map_read}
 use Rattle.tick_lines.specs.declared.fault.TickLineFault.TheVariants as faults
-use Rattle.tick_lines.specs.Fields.{held, quantity_at}
+use Rattle.tick_lines.specs.Fields.{quantity_at}
 use Rattle.tick_lines.specs.Usages.{usage_in, usage_of}
 use Rattle.tick_lines.specs.Samples.{samples_of}
 use Rattle.tick_lines.specs.Laws.{IsSample, IsUsage, SaysUsage, SamplesSaid, UsageSaid}
@@ -29,16 +29,16 @@ use Rattle.tick_lines.proofs.Parts.{line_parts, entry_parts, usage_parts}
 abbrev IsQuantity : Option Data → ℕ → Type 0
 IsQuantity found n = (value : Data) × (found ≡ Some value) × (quantity_in value ≡ Ok n)
 
-held_is : (d : Data) (r : Result ℕ FieldFault) (sample : Option ℕ) → quantity_in d ≡ r
-    → (held r >>= λ thousandths. Ok (Some thousandths)) ≡ Ok sample → (n : ℕ)
+read_is : (d : Data) (r : Result ℕ FieldFault) (sample : Option ℕ) → quantity_in d ≡ r
+    → (else_fault faults.Usage r >>= λ thousandths. Ok (Some thousandths)) ≡ Ok sample → (n : ℕ)
     → (sample ≡ Some n ↔ IsQuantity (Some d) n)
-held_is d (Ok q) sample is e n =
+read_is d (Ok q) sample is e n =
     let same : Some q ≡ sample = same_value (Some q) sample e in (
       λ (said : sample ≡ Some n). (d, refl, is ∙ ap Ok (same_Some q n (same ∙ said))),
       λ (found : IsQuantity (Some d) n). sym same
           ∙ ap Some (same_value {E = FieldFault} q n (sym is ∙ ap quantity_in (same_Some d found.0 found.1) ∙ found.2)),
     )
-held_is d (Err fault) sample is e n = absurd (cc)
+read_is d (Err fault) sample is e n = absurd (cc)
 
 quantity_is : (found : Option Data) (sample : Option ℕ) → quantity_at found ≡ Ok sample → (n : ℕ)
     → (sample ≡ Some n ↔ IsQuantity found n)
@@ -48,7 +48,7 @@ quantity_is None sample e n =
       λ (found : IsQuantity None n). absurd
           (none-some found.0 found.1),
     )
-quantity_is (Some d) sample e n = held_is d (quantity_in d) sample refl e n
+quantity_is (Some d) sample e n = read_is d (quantity_in d) sample refl e n
 
 samples_are : (scope : Scope) (found : Option Data) (samples : BySignal (Option ℕ)) (signal : Signal)
     → samples_of scope found ≡ Ok samples → IsSample found (name_of signal) (of samples signal)

@@ -1,13 +1,12 @@
 -- The texts by which an entry, a listing and a result go.
-use Rattle.std.proofs.Common.{◌≡◌, ◌∙◌, Option, Some, None, Ok, ap}
+use Rattle.std.proofs.Common.{◌≡◌, ◌∙◌, Some, Ok, ap}
 use Rattle.std.specs.Prelude.{codes}
 use Rattle.serde_json.specs.Data.{Data}
 use Rattle.json_fields.specs.Fields.{text_at}
 use Rattle.json_fields.specs.Reading.{some_or}
-use Rattle.json_fields.proofs.Steps.{bind_ok}
+use Rattle.json_fields.proofs.Steps.{bind_ok, there_is}
 use Rattle.json_fields.proofs.Only.{same_value}
-use Rattle.tick_lines.specs.declared.entry.Entry.{Entry}
-use Rattle.tick_lines.specs.declared.fault.TickLineFault.{TickLineFault}
+use Rattle.tick_lines.specs.declared.entry.TickEntry.{TickEntry}
 use Rattle.tick_lines.specs.declared.fault.TickLineFault.TheVariants.{Usage}
 use Rattle.tick_lines.specs.declared.listing.Listing.{Listing}
 use Rattle.tick_lines.specs.declared.probing.ProbeResult.{ProbeResult}
@@ -17,19 +16,15 @@ use Rattle.tick_lines.specs.Entries.{entry_of}
 use Rattle.tick_lines.specs.Laws.{TextsSaid}
 use Rattle.tick_lines.proofs.Parts.{entry_parts}
 
-some_found : {A : Type 0} (found : Option A) (x : A) → some_or Usage found ≡ Ok x → found ≡ Some x
-some_found None x e = absurd (cc)
-some_found (Some y) x e = ap Some (same_value {E = TickLineFault} y x e)
-
-entry_said : (d : Data) (entry : Entry) → entry_of d ≡ Ok entry → text_at (codes "pod") d ≡ Some entry.key
-entry_said d entry e = some_found _ _ (entry_parts d entry e).key
+entry_said : (d : Data) (entry : TickEntry) → entry_of d ≡ Ok entry → text_at (codes "pod") d ≡ Some entry.key
+entry_said d entry e = there_is Usage _ _ (entry_parts d entry e).key
 
 listing_said : (d : Data) (listing : Listing) → listing_of d ≡ Ok listing → text_at (codes "name") d ≡ Some listing.name
 unfolding listing_of
 listing_said d listing e =
     let name = bind_ok (some_or Usage (text_at (codes "name") d)) _ listing e in
     let instance = bind_ok (instance_of d) _ listing name.2 in
-    some_found _ _ name.1 ∙ ap (λ (x : Listing). Some x.name) (same_value _ listing instance.2)
+    there_is Usage _ _ name.1 ∙ ap (λ (x : Listing). Some x.name) (same_value _ listing instance.2)
 
 result_said : (d : Data) (r : ProbeResult) → result_of d ≡ Ok r → text_at (codes "container") d ≡ Some r.container
 unfolding result_of
@@ -37,7 +32,7 @@ result_said d r e =
     let container = bind_ok (some_or Usage (text_at (codes "container") d)) _ r e in
     let probe = bind_ok (probe_named (text_at (codes "probe") d)) _ r container.2 in
     let outcome = bind_ok (outcome_named (text_at (codes "result") d)) _ r probe.2 in
-    some_found _ _ container.1 ∙ ap (λ (x : ProbeResult). Some x.container) (same_value _ r outcome.2)
+    there_is Usage _ _ container.1 ∙ ap (λ (x : ProbeResult). Some x.container) (same_value _ r outcome.2)
 
 pub texts_said : TextsSaid
 texts_said = record { entry = entry_said; listing = listing_said; probe_result = result_said }

@@ -3,7 +3,7 @@ use Rattle.std.specs.Prelude.{◌++◌, List, [], ◌∷◌, Option, Result, Ok,
 use Rattle.serde_json.specs.Data.{Data}
 use Rattle.json_fields.specs.Fields.{field_at, text_at}
 use Rattle.json_fields.specs.Reading.{◌>>=◌, some_or}
-use Rattle.tick_lines.specs.declared.entry.Entry.{Entry}
+use Rattle.tick_lines.specs.declared.entry.TickEntry.{TickEntry}
 use Rattle.tick_lines.specs.declared.fault.TickLineFault.{TickLineFault}
 use Rattle.tick_lines.specs.declared.fault.TickLineFault.TheVariants.{Usage}
 use Rattle.tick_lines.specs.Fields.{each_item}
@@ -11,7 +11,7 @@ use Rattle.tick_lines.specs.Listings.{listings_of}
 use Rattle.tick_lines.specs.Results.{results_of}
 use Rattle.tick_lines.specs.Usages.{usage_of}
 
-unfoldable pub entry_of : Data → Result Entry TickLineFault
+unfoldable pub entry_of : Data → Result TickEntry TickLineFault
 entry_of d = do
   key ← some_or Usage (text_at (codes "pod") d)
   listings ← listings_of (field_at (codes "containers") d)
@@ -20,9 +20,9 @@ entry_of d = do
   Ok (record { key = key; listings = listings; results = results; usage = usage })
 
 -- the entries with one more
-abbrev pub with_entry : List Entry → Data → Result (List Entry) TickLineFault
+abbrev pub with_entry : List TickEntry → Data → Result (List TickEntry) TickLineFault
 with_entry entries d = entry_of d >>= λ entry. Ok (entries ++ entry ∷ [])
 
 -- the entries of a tick line, in order
-abbrev pub entries_of : Option Data → Result (List Entry) TickLineFault
+abbrev pub entries_of : Option Data → Result (List TickEntry) TickLineFault
 entries_of found = each_item entry_of found

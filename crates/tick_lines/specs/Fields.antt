@@ -5,8 +5,7 @@ use Rattle.serde_json.specs.Data.{Data, Items}
 use Rattle.serde_json.specs.Find.{as_array, as_object}
 use Rattle.json_fields.specs.Fields.{items_list}
 use Rattle.json_fields.specs.Reading.{◌>>=◌, each}
-use Rattle.json_fields.specs.Quantities.{quantity_in}
-use Rattle.json_fields.specs.declared.fault.FieldFault.{FieldFault}
+use Rattle.json_fields.specs.Quantities.{quantity_or}
 use Rattle.tick_lines.specs.declared.fault.TickLineFault.{TickLineFault}
 use Rattle.tick_lines.specs.declared.fault.TickLineFault.TheVariants.{Usage}
 
@@ -14,7 +13,7 @@ abbrev pub items_from : Option Items → Result (List Data) TickLineFault
 items_from None = Err Usage
 items_from (Some items) = Ok (items_list items)
 
--- an array that may be left out
+-- the items of an array that may be left out
 abbrev pub items_of : Option Data → Result (List Data) TickLineFault
 items_of None = Ok []
 items_of (Some d) = items_from (as_array d)
@@ -26,15 +25,9 @@ each_item f found = items_of found >>= each f
 abbrev pub only_object : Data → Result ⊤ TickLineFault
 only_object d = if is_some (as_object d) then Ok tt else Err Usage
 
--- what a field holds, whatever its fault is
-abbrev pub held : {A : Type 0} → Result A FieldFault → Result A TickLineFault
-held (Ok x) = Ok x
-held (Err fault) = Err Usage
-
 -- a quantity that may be left out, in thousandths
 abbrev pub quantity_at : Option Data → Result (Option ℕ) TickLineFault
-quantity_at None = Ok None
-quantity_at (Some d) = held (quantity_in d) >>= λ thousandths. Ok (Some thousandths)
+quantity_at found = quantity_or Usage found
 
 -- what a name stands for in a table
 abbrev pub value_named : {A : Type 0} → List (List ℕ × A) → List ℕ → Result A TickLineFault

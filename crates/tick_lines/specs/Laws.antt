@@ -10,7 +10,7 @@ use Rattle.json_fields.specs.Quantities.{quantity_in}
 use Rattle.signals.specs.BySignal.{of}
 use Rattle.signals.specs.Signals.{name_of, named, is_of_file_system}
 use Rattle.signals.specs.declared.signal.Signal.{Signal}
-use Rattle.tick_lines.specs.declared.entry.Entry.{Entry}
+use Rattle.tick_lines.specs.declared.entry.TickEntry.{TickEntry}
 use Rattle.tick_lines.specs.declared.fault.TickLineFault.{TickLineFault}
 use Rattle.tick_lines.specs.declared.fault.TickLineFault.TheVariants as faults
 use Rattle.tick_lines.specs.declared.line.TickLine.{TickLine}
@@ -33,14 +33,14 @@ SaysInOrder read (Some d) all =
 pub record InOrder : Type 0 where
   pub entries : (d : Data) (line : TickLine) → tick_line_of d ≡ Ok line
       → SaysInOrder entry_of (field_at (codes "pods") d) line.entries
-  pub listings : (d : Data) (entry : Entry) → entry_of d ≡ Ok entry
+  pub listings : (d : Data) (entry : TickEntry) → entry_of d ≡ Ok entry
       → SaysInOrder listing_of (field_at (codes "containers") d) entry.listings
-  pub results : (d : Data) (entry : Entry) → entry_of d ≡ Ok entry
+  pub results : (d : Data) (entry : TickEntry) → entry_of d ≡ Ok entry
       → SaysInOrder result_of (field_at (codes "probes") d) entry.results
 
 -- the pod, the containers and their results go by the texts in these fields
 pub record TextsSaid : Type 0 where
-  pub entry : (d : Data) (entry : Entry) → entry_of d ≡ Ok entry → text_at (codes "pod") d ≡ Some entry.key
+  pub entry : (d : Data) (entry : TickEntry) → entry_of d ≡ Ok entry → text_at (codes "pod") d ≡ Some entry.key
   pub listing : (d : Data) (listing : Listing) → listing_of d ≡ Ok listing
       → text_at (codes "name") d ≡ Some listing.name
   pub probe_result : (d : Data) (r : ProbeResult) → result_of d ≡ Ok r
@@ -77,7 +77,7 @@ SaysUsage (Some d) said = (usage : Usage) × (said ≡ Some usage) × IsUsage d 
 
 -- what an entry says of a use is exactly the quantity under the use's name
 abbrev pub UsageSaid : Type 0
-UsageSaid = (d : Data) (entry : Entry) → entry_of d ≡ Ok entry → SaysUsage (field_at (codes "usage") d) entry.usage
+UsageSaid = (d : Data) (entry : TickEntry) → entry_of d ≡ Ok entry → SaysUsage (field_at (codes "usage") d) entry.usage
 
 -- it is the name of no signal of the file systems
 abbrev pub NamesNoFileSystem : List ℕ → Type 0

@@ -1,4 +1,4 @@
-pub mod Gives
+pub mod GivesUnlessMemory
 pub mod Fields
 pub mod Listings
 pub mod Results

@@ -1,9 +1,10 @@
 -- The listings of containers in an entry, as they are written.
-use Rattle.std.specs.Prelude.{ℕ, ℤ, pos, negsuc, int_le, ◌^◌, ◌&&◌, ◌==◌, List, [], ◌∷◌, nat_lt, Option, Some, None}
+use Rattle.std.specs.Prelude.{ℕ, ℤ, ◌^◌, ◌==◌, List, [], ◌∷◌, nat_lt, Option, Some, None}
 use Rattle.std.specs.Prelude.{option_and_then, if◌then◌else◌, Result, Ok, Err, codes}
 use Rattle.serde_json.specs.Data.{Data}
 use Rattle.serde_json.specs.Find.{as_str, as_number, as_i64, as_u64}
 use Rattle.json_fields.specs.Fields.{field_at, text_at}
+use Rattle.json_fields.specs.Numbers.{is_int32}
 use Rattle.json_fields.specs.Reading.{◌>>=◌, some_or}
 use Rattle.state_diff.specs.declared.seen.CriState.{CriState}
 use Rattle.state_diff.specs.declared.seen.CriState.TheVariants.{Created, Running, Exited, Unknown}
@@ -52,9 +53,9 @@ state_of (Some d) = state_from d (as_str d)
 
 abbrev pub code_from : Option ℤ → Option ℤ
 code_from None = None
-code_from (Some z) = if int_le (negsuc 2147483647) z && int_le z (pos 2147483647) then Some z else None
+code_from (Some z) = if is_int32 z then Some z else None
 
--- an exit code, if this is one: a whole number of 32 bits
+-- an exit code, if this is one: a number of the API's type int32
 abbrev pub code_of : Option Data → Option ℤ
 code_of None = None
 code_of (Some d) = code_from (option_and_then as_i64 (as_number d))

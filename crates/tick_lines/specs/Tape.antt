@@ -4,7 +4,7 @@ use Rattle.std.specs.Prelude.{Ok, codes}
 use Rattle.json.specs.Token.{Token}
 use Rattle.json_fields.specs.Fields.{field_at, text_at}
 use Rattle.json_fields.specs.Reading.{some_or}
-use Rattle.json_fields.specs.Tape.{datas_in, field_behind, IsRead}
+use Rattle.json_fields.specs.Tape.{items_in, field_behind, IsRead}
 use Rattle.manifest.specs.declared.outcome.Outcome.{Outcome}
 use Rattle.manifest.specs.declared.outcome.ProbeKind.{ProbeKind}
 use Rattle.observations.specs.declared.usage.Usage.{Usage}
@@ -31,7 +31,7 @@ use Rattle.tick_lines.specs.Usages.{usage_of}
 -- the data of the items that are left
 abbrev pub left_in : Option (List Token) → List Data
 left_in None = []
-left_in (Some items) = datas_in items
+left_in (Some items) = items_in items
 
 abbrev pub listing_as : ListingText → Listing
 listing_as l = record { name = l.name.now; instance = l.instance }

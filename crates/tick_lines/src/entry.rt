@@ -1,7 +1,6 @@
 //! The entries of a tick line, as they are written.
 
-ghost use Rattle.std.specs.Prelude.{◌≡◌};
-ghost use Rattle.tick_lines.specs.Gives.{Gives};
+ghost use Rattle.tick_lines.specs.GivesUnlessMemory.{GivesUnlessMemory};
 ghost use Rattle.tick_lines.specs.Entries.{entry_of};
 
 use crate::fault::TickLineFault;
@@ -18,7 +17,7 @@ use std::alloc::Global;
 
 /// A pod's entry.
 #[derive(Drop)]
-pub struct Entry {
+pub struct TickEntry {
     /// The pod's key, as `NAMESPACE/NAME`.
     pub key: Text,
     /// The listings of its containers, in the order of the line.
@@ -30,10 +29,10 @@ pub struct Entry {
 }
 
 #[tactic(auto, unfolding(crate::specs::Entries::entry_of))]
-fn entry_of<V: Json>(alloc: Global, value: &V) -> Result<Entry, TickLineFault>
-    ensures { Gives (λ e. e) result (entry_of (V.data value.now)) }
+fn entry_of<V: Json>(alloc: Global, value: &V) -> Result<TickEntry, TickLineFault>
+    ensures { GivesUnlessMemory (λ e. e) result (entry_of (V.data value.now)) }
 {
-    Ok(Entry {
+    Ok(TickEntry {
         key: text_of(alloc, text_at(value, "pod"))?,
         listings: read_items::<Listing, V>(alloc, field(value, "containers"))?,
         results: read_items::<ProbeResult, V>(alloc, field(value, "probes"))?,
@@ -41,10 +40,10 @@ fn entry_of<V: Json>(alloc: Global, value: &V) -> Result<Entry, TickLineFault>
     })
 }
 
-impl ReadItem for Entry {
+impl ReadItem for TickEntry {
     ghost read_of = { entry_of };
 
-    fn read<V: Json>(alloc: Global, item: &V) -> Result<Entry, TickLineFault> {
+    fn read<V: Json>(alloc: Global, item: &V) -> Result<TickEntry, TickLineFault> {
         entry_of(alloc, item)
     }
 }

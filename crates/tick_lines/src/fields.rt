@@ -1,9 +1,9 @@
 //! Fields of a tick line, all of which have one fault.
 
-ghost use Rattle.std.specs.Prelude.{◌≡◌, map, option_map};
+ghost use Rattle.std.specs.Prelude.{map, option_map};
 ghost use Rattle.tick_lines.specs.declared.fault.TickLineFault.TheVariants.{Usage};
 ghost use Rattle.json_fields.specs.Reading.{some_or, GivesExactly};
-ghost use Rattle.tick_lines.specs.Gives.{Gives};
+ghost use Rattle.tick_lines.specs.GivesUnlessMemory.{GivesUnlessMemory};
 ghost use Rattle.tick_lines.specs.Fields.{items_of, only_object, quantity_at};
 
 use crate::fault::TickLineFault;
@@ -23,7 +23,7 @@ fn written_text(found: Option<&str>) -> Result<&str, TickLineFault>
 
 /// The text of a field that has to be there.
 pub(crate) fn text_of(alloc: Global, found: Option<&str>) -> Result<Text, TickLineFault>
-    ensures { Gives (λ t. t) result (some_or Usage (option_map (λ s. s.now) found.entry)) }
+    ensures { GivesUnlessMemory (λ t. t) result (some_or Usage (option_map (λ s. s.now) found.entry)) }
 {
     let text = written_text(found)?;
     Ok(Text::new(String::from_str(alloc, text)?))

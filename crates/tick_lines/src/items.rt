@@ -1,9 +1,9 @@
 //! The items of an array, each of which is read in the same way.
 
-ghost use Rattle.std.specs.Prelude.{◌≡◌, map, option_map};
+ghost use Rattle.std.specs.Prelude.{map, option_map};
 ghost use Rattle.json_fields.specs.Reading.{each};
 ghost use Rattle.tick_lines.specs.Fields.{each_item};
-ghost use Rattle.tick_lines.specs.Gives.{Gives};
+ghost use Rattle.tick_lines.specs.GivesUnlessMemory.{GivesUnlessMemory};
 
 use crate::fault::TickLineFault;
 use crate::fields::items_of;
@@ -15,7 +15,7 @@ use std::alloc::Global;
 pub(crate) trait ReadItem: Drop + Sized {
     ghost use Rattle.std.specs.Prelude.{Result};
     ghost use Rattle.serde_json.specs.Data.{Data};
-    ghost use Rattle.tick_lines.specs.Gives.{Gives};
+    ghost use Rattle.tick_lines.specs.GivesUnlessMemory.{GivesUnlessMemory};
     ghost use Rattle.tick_lines.specs.declared.fault.TickLineFault.{TickLineFault};
 
     /// What is read of an item, in the definition's words.
@@ -23,14 +23,14 @@ pub(crate) trait ReadItem: Drop + Sized {
 
     /// Reads the item.
     fn read<V: Json>(alloc: Global, item: &V) -> Result<Self, TickLineFault>
-        ensures { Gives (λ r. r) result (read_of (V.data item.now)) };
+        ensures { GivesUnlessMemory (λ r. r) result (read_of (V.data item.now)) };
 }
 
 fn read_each<R: ReadItem, V: Json>(
     alloc: Global,
     values: &[V],
 ) -> Result<Sequence<R>, TickLineFault>
-    ensures { Gives (λ s. s) result (each R.read_of (map V.data values.now)) }
+    ensures { GivesUnlessMemory (λ s. s) result (each R.read_of (map V.data values.now)) }
 {
     let mut all = Sequence::from_vec(Vec::with_capacity(alloc, values.len())?);
     for value in values {
@@ -45,7 +45,7 @@ pub(crate) fn read_items<R: ReadItem, V: Json>(
     alloc: Global,
     found: Option<&V>,
 ) -> Result<Sequence<R>, TickLineFault>
-    ensures { Gives (λ s. s) result (each_item R.read_of (option_map (λ v. V.data v.now) found.entry)) }
+    ensures { GivesUnlessMemory (λ s. s) result (each_item R.read_of (option_map (λ v. V.data v.now) found.entry)) }
 {
     read_each::<R, V>(alloc, items_of(found)?)
 }

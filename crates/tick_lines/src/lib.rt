@@ -13,7 +13,7 @@ mod samples;
 mod tape;
 mod usage;
 
-pub use entry::Entry;
+pub use entry::TickEntry;
 pub use fault::TickLineFault;
 pub use line::{TickLine, tick_line_of};
 pub use listing::{ListedInstance, Listing};

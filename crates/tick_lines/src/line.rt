@@ -1,10 +1,9 @@
 //! A tick line, as it is written.
 
-ghost use Rattle.std.specs.Prelude.{◌≡◌, option_map};
-ghost use Rattle.tick_lines.specs.Gives.{Gives};
+ghost use Rattle.tick_lines.specs.GivesUnlessMemory.{GivesUnlessMemory};
 ghost use Rattle.tick_lines.specs.Line.{tick_line_of};
 
-use crate::entry::Entry;
+use crate::entry::TickEntry;
 use crate::fault::TickLineFault;
 use crate::items::read_items;
 use crate::samples::samples_of;
@@ -18,7 +17,7 @@ use std::alloc::Global;
 #[derive(Drop)]
 pub struct TickLine {
     /// The pods' entries, in the order of the line.
-    pub entries: Sequence<Entry>,
+    pub entries: Sequence<TickEntry>,
     /// What the node has left of each resource, in bytes, inodes and processes, where the line has
     /// a sample. (Kubernetes, "Node-pressure Eviction", "Eviction signals".)
     pub signals: BySignal<Option<Quantity>>,
@@ -35,10 +34,10 @@ pub struct TickLine {
 /// of its range, a faulty quantity, or a signal that it may not name.
 #[tactic(auto, unfolding(crate::specs::Line::tick_line_of))]
 pub fn tick_line_of<V: Json>(alloc: Global, line: &V) -> Result<TickLine, TickLineFault>
-    ensures { Gives (λ t. t) result (tick_line_of (V.data line.now)) }
+    ensures { GivesUnlessMemory (λ t. t) result (tick_line_of (V.data line.now)) }
 {
     Ok(TickLine {
-        entries: read_items::<Entry, V>(alloc, field(line, "pods"))?,
+        entries: read_items::<TickEntry, V>(alloc, field(line, "pods"))?,
         signals: samples_of(Scope::Node, field(line, "signals"))?,
         after_reclaim: samples_of(Scope::FileSystems, field(line, "afterReclaim"))?,
     })

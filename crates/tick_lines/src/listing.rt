@@ -2,7 +2,7 @@
 
 ghost use Rattle.std.specs.Prelude.{◌≡◌, option_map};
 ghost use Rattle.json_fields.specs.Reading.{GivesExactly};
-ghost use Rattle.tick_lines.specs.Gives.{Gives};
+ghost use Rattle.tick_lines.specs.GivesUnlessMemory.{GivesUnlessMemory};
 ghost use Rattle.tick_lines.specs.Listings.{attempt_of, state_named, state_numbered, state_of, code_of, instance_of};
 ghost use Rattle.tick_lines.specs.Listings.{listing_of};
 
@@ -87,10 +87,7 @@ pub(crate) fn state_of<V: Json>(found: Option<&V>) -> Result<CriState, TickLineF
 pub(crate) fn code_of<V: Json>(found: Option<&V>) -> Option<i32>
     ensures { result ≡ code_of (option_map (λ v. V.data v.now) found.entry) }
 {
-    match found?.signed() {
-        Some(code) if i32::MIN as i64 <= code && code <= i32::MAX as i64 => Some(code as i32),
-        _ => None,
-    }
+    i32::try_from(found?.signed()?).ok()
 }
 
 #[tactic(auto, unfolding(crate::specs::Listings::instance_of))]
@@ -106,7 +103,7 @@ fn instance_of<V: Json>(value: &V) -> Result<ListedInstance, TickLineFault>
 
 #[tactic(auto, unfolding(crate::specs::Listings::listing_of))]
 fn listing_of<V: Json>(alloc: Global, value: &V) -> Result<Listing, TickLineFault>
-    ensures { Gives (λ l. l) result (listing_of (V.data value.now)) }
+    ensures { GivesUnlessMemory (λ l. l) result (listing_of (V.data value.now)) }
 {
     Ok(Listing {
         name: text_of(alloc, text_at(value, "name"))?,

@@ -1,8 +1,8 @@
 //! The results of probes in an entry, as they are written.
 
-ghost use Rattle.std.specs.Prelude.{◌≡◌, option_map};
+ghost use Rattle.std.specs.Prelude.{option_map};
 ghost use Rattle.json_fields.specs.Reading.{GivesExactly};
-ghost use Rattle.tick_lines.specs.Gives.{Gives};
+ghost use Rattle.tick_lines.specs.GivesUnlessMemory.{GivesUnlessMemory};
 ghost use Rattle.tick_lines.specs.Results.{probe_named, outcome_named, result_of};
 
 use crate::fault::TickLineFault;
@@ -53,7 +53,7 @@ pub(crate) fn outcome_named(found: Option<&str>) -> Result<Outcome, TickLineFaul
 
 #[tactic(auto, unfolding(crate::specs::Results::result_of))]
 fn result_of<V: Json>(alloc: Global, value: &V) -> Result<ProbeResult, TickLineFault>
-    ensures { Gives (λ r. r) result (result_of (V.data value.now)) }
+    ensures { GivesUnlessMemory (λ r. r) result (result_of (V.data value.now)) }
 {
     Ok(ProbeResult {
         container: text_of(alloc, text_at(value, "container"))?,

@@ -1,6 +1,6 @@
 //! What an entry tells of its pod's use of the node.
 
-ghost use Rattle.std.specs.Prelude.{◌≡◌, option_map};
+ghost use Rattle.std.specs.Prelude.{option_map};
 ghost use Rattle.json_fields.specs.Reading.{GivesExactly};
 ghost use Rattle.tick_lines.specs.Usages.{usage_in, usage_of};
 

@@ -22,7 +22,8 @@ use Rattle.manifest_reader.specs.Manifest.{field_of, role_of, container_of, few,
 use Rattle.manifest_reader.specs.Manifest.{containers_in, metadata_of, settings_in, spec_of, pod_at}
 use Rattle.manifest.specs.Names.{is_label}
 use Rattle.manifest.specs.Probe.{Probe, Probes, IsInRange, HasNumbersInRange}
-use Rattle.manifest_fields.specs.ProbeFields.{greatest, not_from_0, in_range, number_from, number_of, probe_in}
+use Rattle.json_fields.specs.Numbers.{max_int32}
+use Rattle.manifest_fields.specs.ProbeFields.{not_from_0, in_range, number_from, number_of, probe_in}
 use Rattle.manifest_fields.specs.ProbeFields.{probe_of}
 use Rattle.manifest_fields.specs.ProbeFields.{some_probes, unprobed, probes_of}
 use Rattle.manifest_fields.specs.ResourceFields.{resources_of}
@@ -71,31 +72,31 @@ number_given least most default within (Some d) value e = by (option_and_then as
     by None e = absurd (not_given (option_and_then as_i64 (as_number d)) value e)
     by (Some n) e = in_range_given least most n value e
 
-below : (value most : ℕ) → value ≤ most → most ≤ greatest → value < 2 ^ 31
+below : (value most : ℕ) → value ≤ most → most ≤ max_int32 → value < 2 ^ 31
 below value most le low = omega arith
 
 -- one probe
-probe_given : (most : ℕ) → IsWithin 1 greatest most → (d : Data) (p : Probe) → probe_in most d ≡ Ok p → IsInRange p
+probe_given : (most : ℕ) → IsWithin 1 max_int32 most → (d : Data) (p : Probe) → probe_in most d ≡ Ok p → IsInRange p
 unfolding probe_in
 probe_given most within d p e =
     let object = bind_ok (object_of fields.Probe (Some d)) _ p e in
     let at : List ℕ → Option Data = λ name. field_at name object.0 in
-    let delay = bind_ok (number_of 0 greatest 0 (at (codes "initialDelaySeconds"))) _ p object.2 in
-    let period = bind_ok (number_of 1 greatest 10 (at (codes "periodSeconds"))) _ p delay.2 in
-    let timeout = bind_ok (number_of 1 greatest 1 (at (codes "timeoutSeconds"))) _ p period.2 in
+    let delay = bind_ok (number_of 0 max_int32 0 (at (codes "initialDelaySeconds"))) _ p object.2 in
+    let period = bind_ok (number_of 1 max_int32 10 (at (codes "periodSeconds"))) _ p delay.2 in
+    let timeout = bind_ok (number_of 1 max_int32 1 (at (codes "timeoutSeconds"))) _ p period.2 in
     let successes = bind_ok (number_of 1 most 1 (at (codes "successThreshold"))) _ p timeout.2 in
-    let failures = bind_ok (number_of 1 greatest 3 (at (codes "failureThreshold"))) _ p successes.2 in
-    let is_delay = number_given 0 greatest 0 (omega arith, omega arith)
+    let failures = bind_ok (number_of 1 max_int32 3 (at (codes "failureThreshold"))) _ p successes.2 in
+    let is_delay = number_given 0 max_int32 0 (omega arith, omega arith)
     (at (codes "initialDelaySeconds")) delay.0 delay.1 in
-    let is_period = number_given 1 greatest 10 (omega arith, omega arith)
+    let is_period = number_given 1 max_int32 10 (omega arith, omega arith)
     (at (codes "periodSeconds")) period.0 period.1 in
-    let is_timeout = number_given 1 greatest 1 (omega arith, omega arith)
+    let is_timeout = number_given 1 max_int32 1 (omega arith, omega arith)
     (at (codes "timeoutSeconds")) timeout.0 timeout.1 in
     let are_successes = number_given 1 most 1 (omega arith, within.0)
     (at (codes "successThreshold")) successes.0 successes.1 in
-    let are_failures = number_given 1 greatest 3 (omega arith, omega arith)
+    let are_failures = number_given 1 max_int32 3 (omega arith, omega arith)
     (at (codes "failureThreshold")) failures.0 failures.1 in
-    let all : (n : ℕ) → n ≤ greatest → n < 2 ^ 31 = λ n le. below n greatest le (omega arith) in
+    let all : (n : ℕ) → n ≤ max_int32 → n < 2 ^ 31 = λ n le. below n max_int32 le (omega arith) in
     subst IsInRange (same_value _ _ failures.2) (record {
       initial_delay = all delay.0 is_delay.1;
       some_period = is_period.0;
@@ -108,7 +109,7 @@ probe_given most within d p e =
       failures = all failures.0 are_failures.1;
     })
 
-optional_given : (most : ℕ) → IsWithin 1 greatest most → (found : Option Data) (o : Option Probe)
+optional_given : (most : ℕ) → IsWithin 1 max_int32 most → (found : Option Data) (o : Option Probe)
     → probe_of most found ≡ Ok o → HasNumbersInRange o
 optional_given most within None o e = subst HasNumbersInRange (same_value _ _ e) tt
 optional_given most within (Some d) o e =
@@ -121,11 +122,11 @@ unfolding some_probes
 some_probes_given d probes e =
     let startup = bind_ok (probe_of 1 (field_at (codes "startupProbe") d)) _ probes e in
     let liveness = bind_ok (probe_of 1 (field_at (codes "livenessProbe") d)) _ probes startup.2 in
-    let readiness = bind_ok (probe_of greatest (field_at (codes "readinessProbe") d)) _ probes liveness.2 in
+    let readiness = bind_ok (probe_of max_int32 (field_at (codes "readinessProbe") d)) _ probes liveness.2 in
     subst AreInRange (same_value _ _ readiness.2) (
       optional_given 1 (omega arith, omega arith) (field_at (codes "startupProbe") d) startup.0 startup.1,
       optional_given 1 (omega arith, omega arith) (field_at (codes "livenessProbe") d) liveness.0 liveness.1,
-      optional_given greatest (omega arith, omega arith) (field_at (codes "readinessProbe") d) readiness.0 readiness.1,
+      optional_given max_int32 (omega arith, omega arith) (field_at (codes "readinessProbe") d) readiness.0 readiness.1,
     )
 
 unprobed_given : (d : Data) (probes : Probes) → unprobed d ≡ Ok probes → AreInRange probes

@@ -1,9 +1,10 @@
 -- The moments of ticks.
 use Rattle.std.proofs.Common.{◌≡◌, ℕ, zero, suc, ◌-◌, ◌<◌, ◌&&◌, cond, Bool, true, false, List, [], ◌∷◌, ◌++◌, length}
 use Rattle.std.proofs.Common.{map, Option, Some, None, Ok, Err, refl, sym, subst, arith}
-use Rattle.std.specs.Prelude.{slice_get, option_map, option_and_then, nat_lt, ◌^◌, IfSome}
+use Rattle.std.specs.Prelude.{slice_get, option_map, option_and_then, nat_lt, IfSome}
 use Rattle.std.proofs.lemmas.Bool.{ltb-true}
 use Rattle.std.proofs.lemmas.List.{length-map, map_push}
+use Rattle.quantity.specs.Duration.{end_of_time}
 use Rattle.serde_json.specs.Data.{Data}
 use Rattle.serde_json.specs.Find.{as_number, as_u64}
 use Rattle.histories.specs.Histories.{Recorded, recorded, moment_at, IsRising, last_moment, EndsBefore}
@@ -82,7 +83,7 @@ moment_later ticks found at e = of_number (option_and_then as_u64 (option_and_th
 
     of_number : (o : Option ℕ) → moment_from ticks o ≡ Ok at → EndBefore ticks at
     of_number None e = absurd (cc)
-    of_number (Some n) e = here (nat_lt n (2 ^ 40)) (is_later (slice_get ticks (length ticks - 1)) n) refl e
+    of_number (Some n) e = here (nat_lt n end_of_time) (is_later (slice_get ticks (length ticks - 1)) n) refl e
       where
         here : (low late : Bool) → late ≡ is_later (slice_get ticks (length ticks - 1)) n
             → cond (low && late) (Ok n) (Err Moment) ≡ Ok at → EndBefore ticks at
@@ -92,16 +93,17 @@ moment_later ticks found at e = of_number (option_and_then as_u64 (option_and_th
         here false late is e = absurd (cc)
 
 -- and in range
-pub moment_low : (ticks : List TickObs) (found : Option Data) (at : ℕ) → moment_of ticks found ≡ Ok at → at < 2 ^ 40
+pub moment_low : (ticks : List TickObs) (found : Option Data) (at : ℕ) → moment_of ticks found ≡ Ok at
+    → at < end_of_time
 moment_low ticks found at e = of_number (option_and_then as_u64 (option_and_then as_number found)) e
   where
-    of_number : (o : Option ℕ) → moment_from ticks o ≡ Ok at → at < 2 ^ 40
+    of_number : (o : Option ℕ) → moment_from ticks o ≡ Ok at → at < end_of_time
     of_number None e = absurd (cc)
-    of_number (Some n) e = here (nat_lt n (2 ^ 40)) (is_later (slice_get ticks (length ticks - 1)) n) refl e
+    of_number (Some n) e = here (nat_lt n end_of_time) (is_later (slice_get ticks (length ticks - 1)) n) refl e
       where
-        here : (low late : Bool) → low ≡ nat_lt n (2 ^ 40) → cond (low && late) (Ok n) (Err Moment) ≡ Ok at
-            → at < 2 ^ 40
+        here : (low late : Bool) → low ≡ nat_lt n end_of_time → cond (low && late) (Ok n) (Err Moment) ≡ Ok at
+            → at < end_of_time
         here true true is e = let same : n ≡ at = cc in
-            subst (λ (m : ℕ). m < 2 ^ 40) same (ltb-true n (2 ^ 40) (sym is))
+            subst (λ (m : ℕ). m < end_of_time) same (ltb-true n end_of_time (sym is))
         here true false is e = absurd (cc)
         here false late is e = absurd (cc)

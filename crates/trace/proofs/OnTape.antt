@@ -19,7 +19,7 @@ use Rattle.observations.specs.declared.container.ContainerObs.{ContainerObs}
 use Rattle.observations.specs.Pods.{PodObs, pod_obs}
 use Rattle.roster.specs.Roll.{Roll, number_of, is_present}
 use Rattle.serde_json.specs.Data.{Data}
-use Rattle.tick_lines.specs.declared.entry.Entry.{Entry}
+use Rattle.tick_lines.specs.declared.entry.TickEntry.{TickEntry}
 use Rattle.tick_lines.specs.declared.fault.TickLineFault.{TickLineFault}
 use Rattle.tick_lines.specs.declared.line.TickLine.{TickLine}
 use Rattle.tick_lines.specs.declared.listing.Listing.{Listing}
@@ -70,7 +70,7 @@ read_then_placed {A} {B} f g (d ∷ ds) ys e =
       then_each (g read.0) (each g later.0) one.0 rest.0 read.2 later.2 ∙ rest.2,
     )
 
-entry_by_parts : (roll : Roll) (entry : Entry) (n : ℕ) (pod : PodSpec) (ls : List PlacedListing)
+entry_by_parts : (roll : Roll) (entry : TickEntry) (n : ℕ) (pod : PodSpec) (ls : List PlacedListing)
     (rs : List PlacedResult) → number_of roll entry.key ≡ Some n → slice_get roll.pods n ≡ Some pod
     → each (placed_listing pod) entry.listings ≡ Ok ls → each (placed_result pod) entry.results ≡ Ok rs
     → placed_entry roll entry ≡ Ok (record { pod = n; listings = ls; results = rs; usage = entry.usage })
@@ -92,7 +92,7 @@ entry_placed : (roll : Roll) (d : Data) (text : EntryText) (n : ℕ) (pod : PodS
 entry_placed roll d text n pod ls rs is number there read_listings read_results =
     let listings = read_then_placed listing_of (placed_listing pod) (left_in text.listings) ls read_listings in
     let results = read_then_placed result_of (placed_result pod) (left_in text.results) rs read_results in
-    let written : Entry = record {
+    let written : TickEntry = record {
       key = text.key.now;
       listings = listings.0;
       results = results.0;
@@ -105,7 +105,8 @@ entry_placed roll d text n pod ls rs is number there read_listings read_results 
 
 -- ---- all entries
 
-numbers_known : (roll : Roll) (es : List Entry) (placed : List PlacedEntry) → each (placed_entry roll) es ≡ Ok placed
+numbers_known : (roll : Roll) (es : List TickEntry) (placed : List PlacedEntry)
+    → each (placed_entry roll) es ≡ Ok placed
     → (ns : List ℕ) × (each (number_in roll) es ≡ Ok ns)
 unfolding placed_entry
 numbers_known roll [] placed e = ([], refl)
@@ -118,14 +119,14 @@ numbers_known roll (x ∷ xs) placed e =
       then_each (number_in roll x) (each (number_in roll) xs) number.0 later.0 number.1 later.1,
     )
 
-all_placed : (roll : Roll) (es : List Entry) (placed : List PlacedEntry) → each (placed_entry roll) es ≡ Ok placed
+all_placed : (roll : Roll) (es : List TickEntry) (placed : List PlacedEntry) → each (placed_entry roll) es ≡ Ok placed
     → placed_of roll es ≡ Ok placed
 unfolding placed_of
 all_placed roll es placed e =
     let numbers = numbers_known roll es placed e in
     then_ok (each (number_in roll) es) (λ ns. each (placed_entry roll) es) numbers.0 numbers.1 ∙ e
 
-line_spoken : (d : Data) (es : List Entry) (line : LineText) → entries_of (field_at (codes "pods") d) ≡ Ok es
+line_spoken : (d : Data) (es : List TickEntry) (line : LineText) → entries_of (field_at (codes "pods") d) ≡ Ok es
     → IsLine d line
     → tick_line_of d ≡ Ok (record { entries = es; signals = line.signals; after_reclaim = line.after_reclaim })
 unfolding tick_line_of

@@ -8,28 +8,28 @@ use Rattle.json_fields.specs.Reading.{◌>>=◌, each}
 use Rattle.json_fields.proofs.Steps.{bind_ok, then_ok, there_is}
 use Rattle.json_fields.proofs.Only.{same_value}
 use Rattle.manifest.specs.declared.pod.PodSpec.{PodSpec}
-use Rattle.tick_lines.specs.declared.entry.Entry.{Entry}
+use Rattle.tick_lines.specs.declared.entry.TickEntry.{TickEntry}
 use Rattle.trace.specs.declared.fault.FaultKind.{FaultKind}
 use Rattle.trace.specs.declared.placing.PlacedListing.{PlacedListing}
 use Rattle.trace.specs.declared.placing.PlacedResult.{PlacedResult}
 use Rattle.trace.specs.declared.placing.PlacedEntry.{PlacedEntry}
-use Rattle.trace.specs.Gives.{Gives}
+use Rattle.trace.specs.GivesUnlessMemory.{GivesUnlessMemory}
 use Rattle.roster.specs.Roll.{Roll}
 use Rattle.trace.specs.Placing.{number_in, pod_numbered, placed_listing, placed_result}
 use Rattle.trace.specs.Placing.{entry_of_pod, placed_entry, entries_of_pods, placed_of}
 
 -- the steps of an entry
-abbrev pub placed : Entry → ℕ → List PlacedListing → List PlacedResult → Result PlacedEntry FaultKind
+abbrev pub placed : TickEntry → ℕ → List PlacedListing → List PlacedResult → Result PlacedEntry FaultKind
 placed entry number listings results =
     Ok (record { pod = number; listings = listings; results = results; usage = entry.usage })
 
-abbrev pub with_listings : Entry → ℕ → PodSpec → List PlacedListing → Result PlacedEntry FaultKind
+abbrev pub with_listings : TickEntry → ℕ → PodSpec → List PlacedListing → Result PlacedEntry FaultKind
 with_listings entry number pod listings = each (placed_result pod) entry.results >>= placed entry number listings
 
-abbrev pub with_pod : Entry → ℕ → PodSpec → Result PlacedEntry FaultKind
+abbrev pub with_pod : TickEntry → ℕ → PodSpec → Result PlacedEntry FaultKind
 with_pod entry number pod = each (placed_listing pod) entry.listings >>= with_listings entry number pod
 
-abbrev pub with_number : List PodSpec → Entry → ℕ → Result PlacedEntry FaultKind
+abbrev pub with_number : List PodSpec → TickEntry → ℕ → Result PlacedEntry FaultKind
 with_number pods entry number = pod_numbered pods number >>= with_pod entry number
 
 -- what stands before the rest of a list, once its first step is known to go well
@@ -37,7 +37,7 @@ then_all : {A B E : Type 0} (r : Result A E) (f : A → Result B E) (x : A) (res
     → ((r >>= f) >>= λ y. rest >>= λ ys. Ok (y ∷ ys)) ≡ (f x >>= λ y. rest >>= λ ys. Ok (y ∷ ys))
 then_all r f x rest e = rw e refl
 
-entry_by_number : (roll : Roll) (x : Entry) (n : ℕ) (rest : Result (List PlacedEntry) FaultKind)
+entry_by_number : (roll : Roll) (x : TickEntry) (n : ℕ) (rest : Result (List PlacedEntry) FaultKind)
     → number_in roll x ≡ Ok n
     → (placed_entry roll x >>= λ y. rest >>= λ ys. Ok (y ∷ ys))
     ≡ (entry_of_pod roll.pods n x >>= λ y. rest >>= λ ys. Ok (y ∷ ys))
@@ -45,7 +45,7 @@ unfolding placed_entry
 entry_by_number roll x n rest e = then_all (number_in roll x) (λ number. entry_of_pod roll.pods number x) n rest e
 
 -- once the numbers of all pods are known, each entry is placed by its own
-pub by_numbers : (roll : Roll) (es : List Entry) (ns : List ℕ)
+pub by_numbers : (roll : Roll) (es : List TickEntry) (ns : List ℕ)
     → each (number_in roll) es ≡ Ok ns → each (placed_entry roll) es ≡ entries_of_pods roll.pods ns es
 by_numbers roll [] ns e =
     subst (λ (ks : List ℕ). each (placed_entry roll) [] ≡ entries_of_pods roll.pods ks [])
@@ -71,7 +71,7 @@ as_many {B = B} {E = E} f (x ∷ xs) ys e =
     ∙ ap suc (as_many f xs rest.0 rest.1)
 
 -- the pod of an entry that could be placed is there
-entry_known : (pods : List PodSpec) (n : ℕ) (entry : Entry) (e : PlacedEntry) → entry_of_pod pods n entry ≡ Ok e
+entry_known : (pods : List PodSpec) (n : ℕ) (entry : TickEntry) (e : PlacedEntry) → entry_of_pod pods n entry ≡ Ok e
     → e.pod < length pods
 unfolding entry_of_pod
 entry_known pods n entry e is =
@@ -86,7 +86,7 @@ entry_known pods n entry e is =
     }) e results.2) in
     subst (λ (k : ℕ). k < length pods) same (slice_get_within pods n pod.0 (there_is _ (slice_get pods n) pod.0 pod.1))
 
-pub all_known : (pods : List PodSpec) (ns : List ℕ) (es : List Entry) (placed : List PlacedEntry)
+pub all_known : (pods : List PodSpec) (ns : List ℕ) (es : List TickEntry) (placed : List PlacedEntry)
     → entries_of_pods pods ns es ≡ Ok placed → All (λ e. e.pod < length pods) placed
 all_known pods [] es placed is =
     subst (All (λ (e : PlacedEntry). e.pod < length pods)) (same_value {E = FaultKind} [] placed is) (All-nil _)
@@ -101,22 +101,23 @@ all_known pods (n ∷ ns) (x ∷ xs) placed is =
 
 -- entries placed by the numbers of their pods are the entries placed by their names
 pub by_names : {X : Type 0} (view : X → List PlacedEntry) (r : Result X FaultKind) (roll past : Roll)
-    (pods : List PodSpec) (ns numbers : List ℕ) (es entries : List Entry) → pods ≡ past.pods → roll ≡ past
-    → ns ≡ numbers → es ≡ entries → each (number_in roll) es ≡ Ok numbers → Gives view r (entries_of_pods pods ns es)
-    → Gives view r (placed_of past entries)
+    (pods : List PodSpec) (ns numbers : List ℕ) (es entries : List TickEntry) → pods ≡ past.pods → roll ≡ past
+    → ns ≡ numbers → es ≡ entries → each (number_in roll) es ≡ Ok numbers
+    → GivesUnlessMemory view r (entries_of_pods pods ns es)
+    → GivesUnlessMemory view r (placed_of past entries)
 unfolding placed_of
 by_names view r roll past pods ns numbers es entries pods_are is ns_are es_are e gives =
     let known : each (number_in past) es ≡ Ok numbers = ap (λ (l : Roll). each (number_in l) es) (sym is) ∙ e in
-    let names : List Entry → Result (List PlacedEntry) FaultKind =
+    let names : List TickEntry → Result (List PlacedEntry) FaultKind =
     λ xs. each (number_in past) xs >>= λ _. each (placed_entry past) xs in
     let whole : names es ≡ each (placed_entry past) es =
     then_ok (each (number_in past) es) (λ _. each (placed_entry past) es) numbers known in
-    subst (Gives view r) (ap (λ (ps : List PodSpec). entries_of_pods ps ns es) pods_are
+    subst (GivesUnlessMemory view r) (ap (λ (ps : List PodSpec). entries_of_pods ps ns es) pods_are
     ∙ ap (λ (ms : List ℕ). entries_of_pods past.pods ms es) ns_are
     ∙ sym (whole ∙ by_numbers past es numbers known) ∙ ap names es_are) gives
 
 pub known_pods : {X : Type 0} (view : X → List PlacedEntry) (r : Result X FaultKind) (pods past : List PodSpec)
-    (ns : List ℕ) (es : List Entry) → pods ≡ past → Gives view r (entries_of_pods pods ns es)
+    (ns : List ℕ) (es : List TickEntry) → pods ≡ past → GivesUnlessMemory view r (entries_of_pods pods ns es)
     → IfOk r (λ v. All (λ (e : PlacedEntry). e.pod < length past) (view v))
 known_pods view (Ok x) pods past ns es same gives =
     subst (λ (ps : List PodSpec). All (λ (e : PlacedEntry). e.pod < length ps) (view x)) same

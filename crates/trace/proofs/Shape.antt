@@ -1,9 +1,10 @@
 -- The shape of a trace.
 use Rattle.std.proofs.Common.{◌≡◌, ◌≢◌, ◌∙◌, ℕ, zero, suc, ◌+◌, ◌≤◌, ◌<◌, true, false, List, [], ◌∷◌, ◌++◌, length}
 use Rattle.std.proofs.Common.{Option, Some, None, Result, Ok, Err, refl, ap, sym, subst, inl, inr, arith}
-use Rattle.std.specs.Prelude.{slice_get, slice_set, ◌^◌, codes, IfOk, IsSome}
+use Rattle.std.specs.Prelude.{slice_get, slice_set, codes, IfOk, IsSome}
 use Rattle.std.proofs.lemmas.List.{length-append}
 use Rattle.std.proofs.lemmas.Option.{slice_get_within}
+use Rattle.quantity.specs.Duration.{end_of_time}
 use Rattle.histories.proofs.Lists.{given_at, place_split, slice_get-kept, set_length, set_others, set_split}
 use Rattle.json_fields.specs.Fields.{field_at, text_at}
 use Rattle.manifest.specs.declared.pod.PodSpec.{PodSpec}
@@ -15,7 +16,7 @@ use Rattle.trace.specs.declared.fault.LineFault.{LineFault}
 use Rattle.trace.specs.declared.trace_so_far.Trace.{Trace}
 use Rattle.tick_lines.specs.declared.line.TickLine.{TickLine}
 use Rattle.trace.specs.declared.placing.PlacedEntry.{PlacedEntry}
-use Rattle.trace.specs.Gives.{GivesAt}
+use Rattle.trace.specs.GivesUnlessMemory.{GivesAt}
 use Rattle.trace.specs.Laws.{HasKey, Says, says_node, says_pod, says_gone, says_tick}
 use Rattle.trace.specs.Observed.{observed}
 use Rattle.trace.specs.TraceSoFar.{TraceSoFar, with_pod, without}
@@ -383,7 +384,7 @@ line_keeps past line _ all (says_tick d at written placed is coded) =
       };
       below = λ t tick here. elim (place_split past.ticks now tick t here) [
         | inl before ↦ all.below t tick before
-        | inr last ↦ subst (λ (o : TickObs). o.at < 2 ^ 40) last.1
+        | inr last ↦ subst (λ (o : TickObs). o.at < end_of_time) last.1
             (moment_low past.ticks (field_at (codes "at") d) at has.moment)
       ];
       rising = rising-more past.ticks now all.rising (moment_later past.ticks (field_at (codes "at") d) at has.moment);

@@ -17,7 +17,7 @@ use Rattle.node_config.specs.declared.node.Format.{Format}
 use Rattle.trace.specs.declared.fault.LineFault.{LineFault}
 use Rattle.trace.specs.declared.trace_so_far.Trace.{Trace}
 use Rattle.following.specs.Backwards.{is_backwards}
-use Rattle.trace.specs.Gives.{GivesAt}
+use Rattle.trace.specs.GivesUnlessMemory.{GivesAt}
 use Rattle.trace.specs.Laws.{Says, says_node, says_pod, says_gone, says_tick}
 use Rattle.trace.specs.Observed.{observed}
 use Rattle.trace.specs.TraceSoFar.{TraceSoFar}

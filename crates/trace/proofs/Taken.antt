@@ -1,7 +1,8 @@
 -- A text whose lines are taken by what each says by itself.
-use Rattle.std.proofs.Common.{◌≡◌, ◌∙◌, ℕ, suc, ◌+◌, false, List, [], ◌∷◌, ◌++◌, length, map, nat_lt}
+use Rattle.std.proofs.Common.{◌≡◌, ◌∙◌, ℕ, suc, ◌+◌, false, List, [], ◌∷◌, ◌++◌, drop, length, map, nat_lt}
 use Rattle.std.proofs.Common.{Option, Some, None, Result, Ok, Err, refl, ap, sym, subst, inl, inr, true, arith}
 use Rattle.std.proofs.lemmas.List.{length-map}
+use Rattle.std.specs.List.{prefix_len}
 use Rattle.std.specs.Prelude.{MatchBool}
 use Rattle.std.proofs.lemmas.Bool.{cases_Bool}
 use Rattle.serde_json.specs.Data.{Data}
@@ -22,7 +23,7 @@ use Rattle.trace.specs.declared.fault.FaultKind.TheVariants.{UnknownKind}
 use Rattle.trace.specs.declared.fault.LineFault.{LineFault}
 use Rattle.trace.specs.declared.trace_so_far.LineKind.{LineKind}
 use Rattle.trace.specs.declared.trace_so_far.Trace.{Trace}
-use Rattle.trace.specs.Gives.{is_memory}
+use Rattle.trace.specs.GivesUnlessMemory.{is_memory}
 use Rattle.trace.specs.TraceSoFar.{TraceSoFar, version_in}
 use Rattle.trace.specs.declared.trace_so_far.LineKind.TheVariants as line_kinds
 use Rattle.trace.specs.Taken.{tick_of, tick_after, value_at, any_line_at, lines_at}
@@ -126,6 +127,24 @@ read_taken n past (line ∷ lines) = elim (cases_Bool (is_blank line)) [
       (λ next. read_data (n + 1) next (map line_data lines)) (λ next. read_taken (n + 1) next lines))
 ]
 
+-- blank lines at the beginning say nothing
+blank_skipped : (n : ℕ) (past : TraceSoFar) (lines : List (List ℕ))
+    → read_data (n + prefix_len is_blank lines) past (map line_data (drop (prefix_len is_blank lines) lines))
+    ≡ read_data n past (map line_data lines)
+blank_skipped n past [] =
+    let here : n + 0 ≡ n = omega arith in
+    rw here refl
+blank_skipped n past (line ∷ lines) = elim (cases_Bool (is_blank line)) [
+  | inl blank ↦
+      let one : 1 + prefix_len is_blank lines ≡ suc (prefix_len is_blank lines) = omega arith in
+      let moved : n + suc (prefix_len is_blank lines) ≡ n + 1 + prefix_len is_blank lines = omega arith in
+      rw (blank, one, moved) (blank_skipped (n + 1) past lines)
+  | inr counts ↦
+      let none : prefix_len is_blank (line ∷ lines) ≡ 0 = rw counts refl in
+      let here : n + 0 ≡ n = omega arith in
+      rw (none, here) refl
+]
+
 -- lines, and those behind them
 behind : (n : ℕ) (past : TraceSoFar) (lines later : List LineData)
     → read_data n past (lines ++ later) ≡ (lines_at n past lines >>= λ next. read_data (n + length lines) next later)
@@ -149,6 +168,12 @@ LeadsOn format text n past rest = read_data n past (map line_data (lines_of rest
 pub leads_from_start : (format : Format) (text : List ℕ) → LeadsOn format text 1 (nothing format) text
 unfolding trace_of
 leads_from_start format text = sym (read_taken 1 (nothing format) (lines_of text))
+
+pub leads_behind_blanks : (format : Format) (text : List ℕ) (n : ℕ) (past : TraceSoFar) (rest later : List ℕ)
+    (blanks : ℕ) → LeadsOn format text n past rest → blanks ≡ prefix_len is_blank (lines_of rest)
+    → lines_of later ≡ drop blanks (lines_of rest) → LeadsOn format text (n + blanks) past later
+leads_behind_blanks format text n past rest later blanks leads counted cut =
+    rw (cut, counted) (blank_skipped n past (lines_of rest) ∙ leads)
 
 pub leads_on : {A : Type 0} (view : A → LineData) (format : Format) (text : List ℕ) (n : ℕ) (past : TraceSoFar)
     (rest later : List ℕ)

@@ -26,7 +26,7 @@ use Rattle.trace.specs.declared.trace_so_far.Turn.{Turn}
 use Rattle.trace.specs.declared.placing.PlacedEntry.{PlacedEntry}
 use Rattle.trace.specs.declared.ahead.LineAhead.{LineAhead}
 use Rattle.trace.specs.Ahead.{IsShown, IsAhead, AreAhead, IsReadAhead, KeepsPods, may_stand}
-use Rattle.trace.specs.Gives.{is_memory}
+use Rattle.trace.specs.GivesUnlessMemory.{is_memory}
 use Rattle.trace.specs.Observed.{observed, some_code_missing}
 use Rattle.trace.specs.TraceSoFar.{TraceSoFar, version_in, with_tick}
 use Rattle.trace.specs.Placing.{placed_of, is_doubled, has_twice, are_of_one_pod, repeats}

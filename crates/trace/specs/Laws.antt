@@ -14,7 +14,7 @@ use Rattle.trace.specs.declared.trace_so_far.Trace.{Trace}
 use Rattle.trace.specs.declared.trace_so_far.LineKind.{LineKind}
 use Rattle.trace.specs.declared.trace_so_far.LineKind.TheVariants as kinds
 use Rattle.tick_lines.specs.declared.listing.Listing.{Listing}
-use Rattle.tick_lines.specs.declared.entry.Entry.{Entry}
+use Rattle.tick_lines.specs.declared.entry.TickEntry.{TickEntry}
 use Rattle.tick_lines.specs.declared.probing.ProbeResult.{ProbeResult}
 use Rattle.lists.specs.Names.{place_of}
 use Rattle.roster.specs.Roll.{Roll, key_of_pod, number_of, is_present}
@@ -256,13 +256,13 @@ pub record KindsOfChecks : Type 0 where
   pub moment : (ticks : List TickObs) (found : Option Data) (kind : FaultKind) → moment_of ticks found ≡ Err kind
       → kind ≡ Moment
   pub tick : (d : Data) (kind : FaultKind) → tick_line_in d ≡ Err kind → kind ≡ Usage
-  pub places : (roll : Roll) (es : List Entry) (kind : FaultKind) → placed_of roll es ≡ Err kind
+  pub places : (roll : Roll) (es : List TickEntry) (kind : FaultKind) → placed_of roll es ≡ Err kind
       → (kind ≡ StrangerPod) ⊎ (kind ≡ StrangerContainer)
 
 -- an entry names a pod that isn't present
-pub record NamesStranger (roll : Roll) (es : List Entry) : Type 0 where
+pub record NamesStranger (roll : Roll) (es : List TickEntry) : Type 0 where
   pub n : ℕ
-  pub entry : Entry
+  pub entry : TickEntry
   pub here : slice_get es n ≡ Some entry
   pub unknown : number_of roll entry.key ≡ None
 
@@ -271,15 +271,15 @@ abbrev pub HasNo : PodSpec → List ℕ → Type 0
 HasNo pod name = place_of (names_of pod.containers) name ≡ None
 
 -- a listing or a result of the entry names a container that isn't the pod's
-abbrev pub NamesOther : PodSpec → Entry → Type 0
+abbrev pub NamesOther : PodSpec → TickEntry → Type 0
 NamesOther pod entry =
     ((m : ℕ) × (listing : Listing) × (slice_get entry.listings m ≡ Some listing) × HasNo pod listing.name)
     ⊎ ((m : ℕ) × (r : ProbeResult) × (slice_get entry.results m ≡ Some r) × HasNo pod r.container)
 
 -- an entry of a pod that is present names a container that isn't the pod's
-pub record NamesStrangerContainer (roll : Roll) (es : List Entry) : Type 0 where
+pub record NamesStrangerContainer (roll : Roll) (es : List TickEntry) : Type 0 where
   pub n : ℕ
-  pub entry : Entry
+  pub entry : TickEntry
   pub number : ℕ
   pub pod : PodSpec
   pub here : slice_get es n ≡ Some entry
@@ -290,8 +290,8 @@ pub record NamesStrangerContainer (roll : Roll) (es : List Entry) : Type 0 where
 -- every pod of the line has to be present before any of its containers is looked for; a key is of the pod that is
 -- present and has it, and of none where there is no such pod
 pub record Strangers : Type 0 where
-  pub pod : (roll : Roll) (es : List Entry) → (placed_of roll es ≡ Err StrangerPod ↔ NamesStranger roll es)
-  pub container : (roll : Roll) (es : List Entry)
+  pub pod : (roll : Roll) (es : List TickEntry) → (placed_of roll es ≡ Err StrangerPod ↔ NamesStranger roll es)
+  pub container : (roll : Roll) (es : List TickEntry)
       → (placed_of roll es ≡ Err StrangerContainer ↔ ((NamesStranger roll es → ⊥) × NamesStrangerContainer roll es))
   pub named : (roll : Roll) (key : List ℕ) (n : ℕ) → number_of roll key ≡ Some n → IsNamed roll n key
   pub unnamed : (roll : Roll) (key : List ℕ) → (number_of roll key ≡ None ↔ (HasKey roll key → ⊥))

@@ -1,5 +1,5 @@
 pub mod Faults
-pub mod Gives
+pub mod GivesUnlessMemory
 pub mod Written
 pub mod Pod
 pub mod Placing

@@ -8,7 +8,7 @@ use Rattle.manifest.specs.Containers.{names_of}
 use Rattle.trace.specs.declared.fault.FaultKind.{FaultKind}
 use Rattle.trace.specs.declared.fault.FaultKind.TheVariants.{StrangerPod, StrangerContainer}
 use Rattle.tick_lines.specs.declared.listing.Listing.{Listing}
-use Rattle.tick_lines.specs.declared.entry.Entry.{Entry}
+use Rattle.tick_lines.specs.declared.entry.TickEntry.{TickEntry}
 use Rattle.tick_lines.specs.declared.probing.ProbeResult.{ProbeResult}
 use Rattle.manifest.specs.declared.outcome.ProbeKind.{ProbeKind}
 use Rattle.trace.specs.declared.placing.PlacedListing.{PlacedListing}
@@ -18,7 +18,7 @@ use Rattle.roster.specs.Roll.{Roll, number_of}
 use Rattle.manifest.specs.ProbeKinds.{place}
 
 -- the number of the pod that an entry names
-abbrev pub number_in : Roll → Entry → Result ℕ FaultKind
+abbrev pub number_in : Roll → TickEntry → Result ℕ FaultKind
 number_in roll entry = some_or StrangerPod (number_of roll entry.key)
 
 abbrev pub pod_numbered : List PodSpec → ℕ → Result PodSpec FaultKind
@@ -39,25 +39,25 @@ placed_result pod r = container_number pod r.container
     >>= λ number. Ok (record { container = number; probe = r.probe; outcome = r.outcome })
 
 -- an entry of the pod with this number
-unfoldable pub entry_of_pod : List PodSpec → ℕ → Entry → Result PlacedEntry FaultKind
+unfoldable pub entry_of_pod : List PodSpec → ℕ → TickEntry → Result PlacedEntry FaultKind
 entry_of_pod pods number entry = do
   pod ← pod_numbered pods number
   listings ← each (placed_listing pod) entry.listings
   results ← each (placed_result pod) entry.results
   Ok (record { pod = number; listings = listings; results = results; usage = entry.usage })
 
-unfoldable pub placed_entry : Roll → Entry → Result PlacedEntry FaultKind
+unfoldable pub placed_entry : Roll → TickEntry → Result PlacedEntry FaultKind
 placed_entry roll entry = number_in roll entry >>= λ number. entry_of_pod roll.pods number entry
 
 -- the entries, each of the pod with its number
-abbrev pub entries_of_pods : List PodSpec → List ℕ → List Entry → Result (List PlacedEntry) FaultKind
+abbrev pub entries_of_pods : List PodSpec → List ℕ → List TickEntry → Result (List PlacedEntry) FaultKind
 entries_of_pods pods [] es = Ok []
 entries_of_pods pods (n ∷ ns) [] = Ok []
 entries_of_pods pods (n ∷ ns) (e ∷ es) =
     entry_of_pod pods n e >>= λ placed. entries_of_pods pods ns es >>= λ rest. Ok (placed ∷ rest)
 
 -- all entries: first every pod has to be known and present, then every container
-unfoldable pub placed_of : Roll → List Entry → Result (List PlacedEntry) FaultKind
+unfoldable pub placed_of : Roll → List TickEntry → Result (List PlacedEntry) FaultKind
 placed_of roll entries = do
   numbers ← each (number_in roll) entries
   each (placed_entry roll) entries

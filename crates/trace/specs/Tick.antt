@@ -30,7 +30,7 @@ moment_from ticks None = Err Moment
 moment_from ticks (Some at) = if nat_lt at end_of_time && is_later (slice_get ticks (length ticks - 1)) at then Ok at
     else Err Moment
 
--- a moment below 2^40, later than the last tick's
+-- a moment before the end of time, later than the last tick's
 abbrev pub moment_of : List TickObs → Option Data → Result ℕ FaultKind
 moment_of ticks found = moment_from ticks (option_and_then as_u64 (option_and_then as_number found))
 

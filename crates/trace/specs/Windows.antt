@@ -2,15 +2,15 @@
 use Rattle.std.specs.Prelude.{ℕ, ◌<◌, ◌≤◌, ◌+◌, ◌*◌, length}
 use Rattle.roster.specs.Roll.{Roll}
 
--- bytes, 64 KiB
+-- in bytes, 64 KiB
 abbrev pub smallest_window : ℕ
 smallest_window = 65536
 
--- bytes, 4 MiB
+-- in bytes, 4 MiB
 abbrev pub greatest_window : ℕ
 greatest_window = 4194304
 
--- this many pods the lines of a window show together at most
+-- the lines of a window show no more pods together
 abbrev pub most_shown : ℕ
 most_shown = 262144
 

@@ -25,8 +25,8 @@ pub fn first_check()
     ensures { laws.FirstCheck }
 {}
 
-/// A line that passes all its checks says its node, its pod or its tick, behind what is said before
-/// it.
+/// A line that passes all its checks says its node, its pod, that a pod is gone, or its tick,
+/// behind what is said before it.
 pub fn all_checks()
     ensures { laws.AllChecks }
 {}

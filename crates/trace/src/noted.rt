@@ -1,7 +1,7 @@
 //! What an entry shows of its pod's containers, noted as its listings and results come.
 
 ghost use Rattle.std.specs.Prelude.{◌≡◌, ◌↔◌, ◌<◌, List, [], length, IsTrue, OnOk, Ok, Some, IfSome};
-ghost use Rattle.json_fields.specs.Tape.{data_at, datas_in};
+ghost use Rattle.json_fields.specs.Tape.{data_at, items_in};
 ghost use Rattle.manifest.specs.Containers.{names_of};
 ghost use Rattle.lists.specs.Names.{place_of};
 ghost use Rattle.tick_lines.specs.Tape.{left_in};
@@ -113,7 +113,7 @@ fn result_near(pod: &PodSpec, value: &TapeValue<'_, '_>, near: usize) -> Option<
 /// Notes these listings; or says no, where one is at fault or has no such container, or two are of one container.
 fn has_noted_listings(pod: &PodSpec, mut items: TapeItems<'_, '_>, all: &mut [ContainerObs]) -> bool
     requires { all.old ≡ containers_from [] [] 0 pod.now.containers }
-    ensures { IsTrue result → ListingsNoted pod.now (datas_in items.entry) all.new }
+    ensures { IsTrue result → ListingsNoted pod.now (items_in items.entry) all.new }
 {
     let mut near = 0;
     while let Some(value) = items.next() {
@@ -132,7 +132,7 @@ fn has_noted_listings(pod: &PodSpec, mut items: TapeItems<'_, '_>, all: &mut [Co
 fn has_noted_results(pod: &PodSpec, mut items: TapeItems<'_, '_>, all: &mut [ContainerObs]) -> bool
     requires { length all.old ≡ length pod.now.containers }
     ensures { (ls : List PlacedListing) → all.old ≡ containers_from ls [] 0 pod.now.containers
-        → IsTrue result → ResultsNoted pod.now ls (datas_in items.entry) all.new }
+        → IsTrue result → ResultsNoted pod.now ls (items_in items.entry) all.new }
 {
     let mut near = 0;
     while let Some(value) = items.next() {

@@ -2,7 +2,7 @@
 
 ghost use Rattle.std.specs.Prelude.{◌≡◌, ◌==◌, length};
 ghost use Rattle.json_fields.specs.Reading.{each, GivesExactly};
-ghost use Rattle.trace.specs.Gives.{Gives};
+ghost use Rattle.trace.specs.GivesUnlessMemory.{GivesUnlessMemory};
 ghost use Rattle.trace.specs.Placing.{number_in, container_number, placed_listing, placed_result, pod_numbered};
 ghost use Rattle.trace.specs.Placing.{entry_of_pod, entries_of_pods, has_twice, are_of_one_container, is_of_probe};
 ghost use Rattle.trace.specs.Placing.{are_of_one_probe, repeats};
@@ -14,7 +14,7 @@ use manifest::{Outcome, PodSpec, ProbeKind};
 use observations::Usage;
 use roster::Roster;
 use std::alloc::Global;
-use tick_lines::{Entry, ListedInstance, Listing, ProbeResult};
+use tick_lines::{ListedInstance, Listing, ProbeResult, TickEntry};
 
 /// A listing of the container with the number.
 #[derive(Clone, Copy)]
@@ -61,7 +61,7 @@ pub(crate) fn place_each<T, P: Place<T>>(
     places: &P,
     written: &[T],
 ) -> Result<Sequence<P::Placed>, FaultKind>
-    ensures { Gives (λ s. s) result (each (P.placed_by places.now) written.now) }
+    ensures { GivesUnlessMemory (λ s. s) result (each (P.placed_by places.now) written.now) }
 {
     let mut all = Sequence::new(alloc);
     for one in written {
@@ -72,26 +72,23 @@ pub(crate) fn place_each<T, P: Place<T>>(
 }
 
 /// A roster gives the number of the pod of an entry.
-impl Place<Entry> for Roster {
+impl Place<TickEntry> for Roster {
     type Placed = usize;
 
     ghost placed_by = { number_in };
 
-    fn place(&self, written: &Entry) -> Result<usize, FaultKind> {
-        match self.number_of(written.key.as_str()) {
-            None => Err(FaultKind::StrangerPod),
-            Some(number) => Ok(number),
-        }
+    fn place(&self, written: &TickEntry) -> Result<usize, FaultKind> {
+        self.number_of(written.key.as_str())
+            .ok_or(FaultKind::StrangerPod)
     }
 }
 
 fn container_number(pod: &PodSpec, name: &str) -> Result<usize, FaultKind>
     ensures { GivesExactly (λ n. n) result (container_number pod.now name.now) }
 {
-    match pod.containers.number_of(name) {
-        None => Err(FaultKind::StrangerContainer),
-        Some(number) => Ok(number),
-    }
+    pod.containers
+        .number_of(name)
+        .ok_or(FaultKind::StrangerContainer)
 }
 
 impl Place<Listing> for PodSpec {
@@ -124,10 +121,7 @@ impl Place<ProbeResult> for PodSpec {
 pub(crate) fn pod_numbered(pods: &[PodSpec], number: usize) -> Result<&PodSpec, FaultKind>
     ensures { GivesExactly (λ p. p.now) result (pod_numbered pods.now number) }
 {
-    match pods.get(number) {
-        None => Err(FaultKind::StrangerPod),
-        Some(pod) => Ok(pod),
-    }
+    pods.get(number).ok_or(FaultKind::StrangerPod)
 }
 
 #[tactic(auto, unfolding(crate::specs::Placing::entry_of_pod))]
@@ -135,9 +129,9 @@ fn entry_of_pod(
     alloc: Global,
     pods: &[PodSpec],
     number: usize,
-    entry: &Entry,
+    entry: &TickEntry,
 ) -> Result<PlacedEntry, FaultKind>
-    ensures { Gives (λ e. e) result (entry_of_pod pods.now number entry.now) }
+    ensures { GivesUnlessMemory (λ e. e) result (entry_of_pod pods.now number entry.now) }
 {
     let pod = pod_numbered(pods, number)?;
     Ok(PlacedEntry {
@@ -153,10 +147,10 @@ pub(crate) fn entries_of_pods(
     alloc: Global,
     pods: &[PodSpec],
     numbers: &[usize],
-    entries: &[Entry],
+    entries: &[TickEntry],
 ) -> Result<Vec<PlacedEntry>, FaultKind>
     requires { length numbers.now ≡ length entries.now }
-    ensures { Gives (λ v. v.items) result (entries_of_pods pods.now numbers.now entries.now) }
+    ensures { GivesUnlessMemory (λ v. v.items) result (entries_of_pods pods.now numbers.now entries.now) }
 {
     let mut all = Vec::with_capacity(alloc, entries.len())?;
     for (place, entry) in entries.iter().enumerate() {

@@ -4,7 +4,7 @@ ghost use Rattle.std.specs.Prelude.{◌≡◌, option_map, None, IfOk, string_by
 ghost use Rattle.serde_json.specs.View.{view};
 ghost use Rattle.json_fields.specs.Reading.{GivesExactly};
 ghost use Rattle.roster.specs.Roll.{key_of_pod, number_of};
-ghost use Rattle.trace.specs.Gives.{Gives};
+ghost use Rattle.trace.specs.GivesUnlessMemory.{GivesUnlessMemory};
 ghost use Rattle.trace.specs.Pod.{has_key, new_key, room_for_pod, manifest_of, pod_from};
 
 use crate::fault::{FaultKind, refused_if};
@@ -20,15 +20,12 @@ use std::alloc::{AllocError, Global};
 fn manifest_of(found: Option<&Value>) -> Result<&Value, FaultKind>
     ensures { GivesExactly (λ v. view v.now) result (manifest_of (option_map (λ v. view v.now) found.entry)) }
 {
-    match found {
-        None => Err(FaultKind::Manifest(ManifestFault::Missing(Field::Pod))),
-        Some(value) => Ok(value),
-    }
+    found.ok_or(FaultKind::Manifest(ManifestFault::Missing(Field::Pod)))
 }
 
 /// The pod that a pod line's manifest describes.
 pub(crate) fn pod_from(alloc: Global, found: Option<&Value>) -> Result<PodSpec, FaultKind>
-    ensures { Gives (λ p. p) result (pod_from (option_map (λ v. view v.now) found.entry)) }
+    ensures { GivesUnlessMemory (λ p. p) result (pod_from (option_map (λ v. view v.now) found.entry)) }
 {
     let manifest = manifest_of(found)?;
     Ok(read_pod(alloc, manifest)?)
@@ -62,7 +59,7 @@ pub(crate) fn new_key(
     so_far: &TraceSoFar,
     pod: &PodSpec,
 ) -> Result<String, FaultKind>
-    ensures gives { Gives (λ _. tt) result (new_key so_far.now.roll pod.now) }
+    ensures gives { GivesUnlessMemory (λ _. tt) result (new_key so_far.now.roll pod.now) }
     ensures key { IfOk result (λ s. string_bytes s ≡ key_of_pod pod.now) }
     ensures new { IfOk result (λ s. number_of so_far.now.roll (string_bytes s) ≡ None) }
 {

@@ -1,13 +1,13 @@
 //! A line, behind what the lines before it say.
 
-ghost use Rattle.std.specs.Prelude.{◌≡◌, [], option_map, option_and_then, None, Ok, OnOk, string_bytes};
+ghost use Rattle.std.specs.Prelude.{◌≡◌, option_map, option_and_then, None, Ok, OnOk, string_bytes};
 ghost use Rattle.json_fields.specs.Fields.{field_at};
 ghost use Rattle.node_lines.specs.Node.{whole_number};
 ghost use Rattle.serde_json.specs.View.{view};
 ghost use Rattle.json_fields.specs.Reading.{GivesExactly};
 ghost use Rattle.json_lines.specs.Lines.{LineData, data_of};
 ghost use Rattle.trace.specs.Ahead.{IsReadAhead, IsShown, may_stand};
-ghost use Rattle.trace.specs.Gives.{Gives};
+ghost use Rattle.trace.specs.GivesUnlessMemory.{GivesUnlessMemory};
 ghost use Rattle.roster.specs.Roll.{key_of_pod, number_of};
 ghost use Rattle.trace.specs.Written.{is_foreign, node_in};
 ghost use Rattle.trace.specs.TraceSoFar.{version_in, with_pod, without};
@@ -64,10 +64,7 @@ fn kind_from(version: Option<Version>, kind: Option<&str>) -> Option<LineKind>
 fn kind_of_line(version: Option<Version>, line: &Value) -> Result<LineKind, FaultKind>
     ensures { GivesExactly (λ k. k) result (kind_of_line version (view line.now)) }
 {
-    match kind_from(version, text_at(line, "kind")) {
-        None => Err(FaultKind::UnknownKind),
-        Some(line_kind) => Ok(line_kind),
-    }
+    kind_from(version, text_at(line, "kind")).ok_or(FaultKind::UnknownKind)
 }
 
 /// Whether the line says version 3, which the standard format does not have.
@@ -82,7 +79,7 @@ fn is_foreign(format: Format, line: &Value) -> bool
 
 /// The configuration that a node line says.
 fn node_in(alloc: Global, format: Format, line: &Value) -> Result<NodeConfig, FaultKind>
-    ensures { Gives (λ n. n) result (node_in format (view line.now)) }
+    ensures { GivesUnlessMemory (λ n. n) result (node_in format (view line.now)) }
 {
     refused_if(is_foreign(format, line), FaultKind::Config)?;
     Ok(node_of(alloc, line)?)
@@ -91,7 +88,7 @@ fn node_in(alloc: Global, format: Format, line: &Value) -> Result<NodeConfig, Fa
 /// Takes a node line.
 #[tactic(auto, unfolding(crate::specs::Trace::with_node))]
 fn take_node(alloc: Global, so_far: TraceSoFar, line: &Value) -> Result<TraceSoFar, FaultKind>
-    ensures { Gives (λ r. r) result (with_node so_far (view line.now)) }
+    ensures { GivesUnlessMemory (λ r. r) result (with_node so_far (view line.now)) }
 {
     let node = match node_in(alloc, so_far.format, line) {
         Ok(node) => node,
@@ -125,7 +122,7 @@ fn with_pod(
 ) -> Result<TraceSoFar, FaultKind>
     requires key { string_bytes key ≡ key_of_pod pod }
     requires new { number_of so_far.roll (string_bytes key) ≡ None }
-    ensures { Gives (λ r. r) result (Ok (with_pod so_far pod)) }
+    ensures { GivesUnlessMemory (λ r. r) result (Ok (with_pod so_far pod)) }
 {
     let TraceSoFar {
         format,
@@ -147,7 +144,7 @@ fn with_pod(
 
 /// Adds a pod, if no pod that is present has its key.
 fn with_new_pod(alloc: Global, so_far: TraceSoFar, pod: PodSpec) -> Result<TraceSoFar, FaultKind>
-    ensures { Gives (λ r. r) result (with_new_pod so_far pod) }
+    ensures { GivesUnlessMemory (λ r. r) result (with_new_pod so_far pod) }
 {
     match new_key(alloc, &so_far, &pod) {
         Ok(key) => with_pod(alloc, so_far, pod, key),
@@ -176,7 +173,7 @@ fn pod_in(
     so_far: &TraceSoFar,
     line: &Value,
 ) -> Result<PodSpec, FaultKind>
-    ensures { Gives (λ p. p) result (pod_in version so_far.now (view line.now)) }
+    ensures { GivesUnlessMemory (λ p. p) result (pod_in version so_far.now (view line.now)) }
 {
     refused_if(is_late(version, so_far), FaultKind::Order)?;
     room_for_pod(so_far)?;
@@ -191,7 +188,7 @@ fn take_pod(
     so_far: TraceSoFar,
     line: &Value,
 ) -> Result<TraceSoFar, FaultKind>
-    ensures { Gives (λ r. r) result (pod_line_at version so_far (view line.now)) }
+    ensures { GivesUnlessMemory (λ r. r) result (pod_line_at version so_far (view line.now)) }
 {
     match pod_in(alloc, version, &so_far, line) {
         Ok(pod) => with_new_pod(alloc, so_far, pod),
@@ -271,7 +268,7 @@ fn turn_of(version: Option<Version>, line_kind: LineKind) -> Result<Turn, FaultK
 
 /// Takes the JSON value of a tick line.
 fn take_tick_value(alloc: Global, so_far: TraceSoFar, line: &Value) -> Result<TraceSoFar, FaultKind>
-    ensures { Gives (λ r. r) result (tick_at so_far (view line.now)) }
+    ensures { GivesUnlessMemory (λ r. r) result (tick_at so_far (view line.now)) }
 {
     match tick_record(alloc, line) {
         Ok(tick) => take_tick(alloc, so_far, &tick),
@@ -288,7 +285,7 @@ fn take_in_order(
     line_kind: LineKind,
     line: &Value,
 ) -> Result<TraceSoFar, FaultKind>
-    ensures { Gives (λ r. r) result (in_order (version_in so_far) so_far line_kind (view line.now)) }
+    ensures { GivesUnlessMemory (λ r. r) result (in_order (version_in so_far) so_far line_kind (view line.now)) }
 {
     match turn_of(version_in(&so_far), line_kind) {
         Ok(Turn::Node) => take_node(alloc, so_far, line),
@@ -305,7 +302,7 @@ fn take_in_order(
 /// Takes a line of JSON.
 #[tactic(auto, unfolding(crate::specs::Taken::value_at))]
 fn take_value(alloc: Global, so_far: TraceSoFar, line: &Value) -> Result<TraceSoFar, FaultKind>
-    ensures { Gives (λ r. r) result (value_at so_far (view line.now)) }
+    ensures { GivesUnlessMemory (λ r. r) result (value_at so_far (view line.now)) }
 {
     match kind_of_line(version_in(&so_far), line) {
         Ok(line_kind) => take_in_order(alloc, so_far, line_kind, line),
@@ -322,7 +319,7 @@ fn take_tick_line(
     so_far: TraceSoFar,
     line: &TickRecord,
 ) -> Result<TraceSoFar, FaultKind>
-    ensures { Gives (λ r. r) result (tick_line_at so_far line.now.at line.now.written) }
+    ensures { GivesUnlessMemory (λ r. r) result (tick_line_at so_far line.now.at line.now.written) }
 {
     match turn_of(version_in(&so_far), LineKind::Tick) {
         Ok(_) => take_tick(alloc, so_far, line),
@@ -350,7 +347,7 @@ fn may_stand(so_far: &TraceSoFar, tick: &TickObs) -> Result<(), FaultKind>
 pub(crate) fn take_shown(so_far: TraceSoFar, tick: TickObs) -> Result<TraceSoFar, FaultKind>
     requires { IsReadAhead so_far.roll tick }
     ensures { (said : LineData) → IsShown so_far.roll said tick
-        → Gives (λ r. r) result (any_line_at so_far said) }
+        → GivesUnlessMemory (λ r. r) result (any_line_at so_far said) }
 {
     match may_stand(&so_far, &tick) {
         Ok(()) => with_tick(so_far, tick),
@@ -367,7 +364,7 @@ pub(crate) fn take_line(
     so_far: TraceSoFar,
     line: &TextLine,
 ) -> Result<TraceSoFar, FaultKind>
-    ensures { Gives (λ r. r) result (any_line_at so_far (data_of line.now)) }
+    ensures { GivesUnlessMemory (λ r. r) result (any_line_at so_far (data_of line.now)) }
 {
     let kind = match line {
         TextLine::Blank => return Ok(so_far),

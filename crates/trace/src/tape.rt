@@ -3,7 +3,7 @@
 
 ghost use Rattle.std.specs.Prelude.{◌≡◌, ◌++◌, ◌∷◌, [], true, length, List, IfOk, IfSome};
 ghost use Rattle.serde_json.specs.Data.{Data};
-ghost use Rattle.json_fields.specs.Tape.{data_at, datas_in};
+ghost use Rattle.json_fields.specs.Tape.{data_at, items_in};
 ghost use Rattle.json_lines.specs.Lines.{Tick, line_data};
 ghost use Rattle.json_lines.specs.Ticks.{moment_at};
 ghost use Rattle.tick_lines.specs.Line.{tick_line_of};
@@ -63,7 +63,7 @@ fn note_entries(
     mut items: TapeItems<'_, '_>,
 ) -> Result<Option<Vec<Option<PodObs>>>, AllocError>
     ensures { IfOk result (λ found. IfSome found (λ slots.
-        EntriesNoted roster.now at (datas_in items.entry) slots.items)) }
+        EntriesNoted roster.now at (items_in items.entry) slots.items)) }
 {
     let mut containers = Vec::new(alloc);
     let mut slots = no_pods(alloc, roster.pods().len())?;

@@ -6,7 +6,7 @@ ghost use Rattle.json_fields.specs.Reading.{GivesExactly};
 ghost use Rattle.json_lines.specs.Lines.{LineData, line_data};
 ghost use Rattle.roster.specs.Roll.{Roll};
 ghost use Rattle.trace.specs.Ahead.{AreAhead, IsAhead, KeepsPods};
-ghost use Rattle.trace.specs.Gives.{is_memory, Gives, GivesAt};
+ghost use Rattle.trace.specs.GivesUnlessMemory.{is_memory, GivesUnlessMemory, GivesAt};
 ghost use Rattle.trace.specs.Sound.{AreAcceptable, AreRising, HasShape};
 ghost use Rattle.trace.specs.Taken.{any_line_at, lines_at};
 ghost use Rattle.trace.specs.Trace.{at_line, finished, nothing, trace_of};
@@ -15,9 +15,11 @@ use crate::ahead::{LineAhead, line_ahead};
 use crate::fault::{FaultKind, LineFault};
 use crate::reading::{take_line, take_shown};
 use crate::trace_so_far::{Trace, TraceSoFar};
-use crate::windows::{ALONE, OneThread, Window, WindowReader, Workers, bytes_behind};
+use crate::windows::{
+    OneThread, SMALLEST_WINDOW, WindowAhead, WindowReader, Workers, bytes_behind,
+};
 use following::ListingOrder;
-use json_lines::{LineBuffers, TextLine};
+use json_lines::{LineBuffers, TextLine, skip_blank_lines};
 use lists::Sequence;
 use node_config::Format;
 use roster::Roster;
@@ -40,7 +42,7 @@ fn nothing(alloc: Global, format: Format) -> TraceSoFar
 
 /// Takes a line whose turn has come, where the pods are no longer those beside which it was read.
 fn take_anew(alloc: Global, so_far: TraceSoFar, line: &[u8]) -> Result<TraceSoFar, FaultKind>
-    ensures { Gives (λ r. r) result (any_line_at so_far (line_data line.now)) }
+    ensures { GivesUnlessMemory (λ r. r) result (any_line_at so_far (line_data line.now)) }
 {
     let mut buffers = LineBuffers::new(alloc);
     match line_ahead(alloc, &so_far.roster, line, &mut buffers) {
@@ -62,7 +64,7 @@ fn take_ahead(
     is_fresh: bool,
 ) -> Result<TraceSoFar, FaultKind>
     requires { (roll : Roll) × IsAhead roll (line_data line.now) read × (IsTrue is_fresh → so_far.roll ≡ roll) }
-    ensures { Gives (λ r. r) result (any_line_at so_far (line_data line.now)) }
+    ensures { GivesUnlessMemory (λ r. r) result (any_line_at so_far (line_data line.now)) }
 {
     match read {
         LineAhead::Shown(tick) if is_fresh => take_shown(so_far, tick),
@@ -205,13 +207,16 @@ fn read_windows<W: WindowReader>(
     let mut so_far = nothing(alloc, format);
     let mut rest = text;
     let mut number = 1u64;
-    let mut bytes = ALONE;
+    let mut bytes = SMALLEST_WINDOW;
     while !rest.is_empty() {
-        let Ok(window) = reader.window(alloc, &so_far.roster, rest, bytes) else {
+        // a text may be blank lines by the million: they are counted before anything is made of each
+        let (blanks, read) = skip_blank_lines(rest);
+        number += blanks;
+        let Ok(window) = reader.window(alloc, &so_far.roster, read, bytes) else {
             drop(so_far);
             return Err(no_memory(number));
         };
-        let Window {
+        let WindowAhead {
             lines,
             reads,
             rest: after,

@@ -3,7 +3,7 @@
 ghost use Rattle.std.specs.Prelude.{◌≡◌, ◌<◌, All, length, option_map, Some, None, if◌then◌else◌, Ok, IfOk};
 ghost use Rattle.std.specs.List.{list_any};
 ghost use Rattle.json_fields.specs.Reading.{refused_if, GivesExactly};
-ghost use Rattle.trace.specs.Gives.{Gives};
+ghost use Rattle.trace.specs.GivesUnlessMemory.{GivesUnlessMemory};
 ghost use Rattle.trace.specs.TraceSoFar.{with_tick};
 ghost use Rattle.trace.specs.ByPod.{AreFirst};
 ghost use Rattle.trace.specs.Placing.{placed_of, is_doubled};
@@ -261,7 +261,7 @@ pub(crate) fn placed_by(
     roster: &Roster,
     written: &TickLine,
 ) -> Result<Vec<PlacedEntry>, FaultKind>
-    ensures gives { Gives (λ v. v.items) result (placed_of roster.now written.now.entries) }
+    ensures gives { GivesUnlessMemory (λ v. v.items) result (placed_of roster.now written.now.entries) }
     ensures known { IfOk result (λ v. All (λ e. e.pod < length roster.now.pods) v.items) }
 {
     let entries = written.entries.as_slice();
@@ -275,7 +275,7 @@ fn placed_of(
     so_far: &TraceSoFar,
     written: &TickLine,
 ) -> Result<Vec<PlacedEntry>, FaultKind>
-    ensures gives { Gives (λ v. v.items) result (placed_of so_far.now.roll written.now.entries) }
+    ensures gives { GivesUnlessMemory (λ v. v.items) result (placed_of so_far.now.roll written.now.entries) }
     ensures known { IfOk result (λ v. All (λ e. e.pod < length so_far.now.roll.pods) v.items) }
 {
     placed_by(alloc, &so_far.roster, written)
@@ -288,7 +288,7 @@ fn by_pod(
     placed: &[PlacedEntry],
 ) -> Result<EntriesByPod, FaultKind>
     requires { All (λ e. e.pod < length so_far.now.roll.pods) placed.now }
-    ensures apart { Gives (λ _. tt) result (refused_if (is_doubled placed.now) FaultKind.Doubled) }
+    ensures apart { GivesUnlessMemory (λ _. tt) result (refused_if (is_doubled placed.now) FaultKind.Doubled) }
     ensures first { IfOk result (λ found. AreFirst placed.now (length so_far.now.roll.pods) found.first.items) }
 {
     let found = entries_by_pod(alloc, placed, so_far.roster.pods().len())?;
@@ -318,7 +318,7 @@ fn observed_in(
 ) -> Result<TickObs, FaultKind>
     requires later { EndBefore so_far.now.ticks at }
     requires known { All (λ e. e.pod < length so_far.now.roll.pods) placed.now }
-    ensures gives { Gives (λ t. t) result (observed_in so_far.now at written.now placed.now) }
+    ensures gives { GivesUnlessMemory (λ t. t) result (observed_in so_far.now at written.now placed.now) }
     ensures follows { IfOk result (MayStandBehind so_far.now) }
 {
     let by_pod = by_pod(alloc, so_far, placed)?;
@@ -330,7 +330,7 @@ fn observed_in(
 
 pub(crate) fn with_tick(so_far: TraceSoFar, tick: TickObs) -> Result<TraceSoFar, FaultKind>
     requires { MayStandBehind so_far tick }
-    ensures { Gives (λ r. r) result (Ok (with_tick so_far tick)) }
+    ensures { GivesUnlessMemory (λ r. r) result (Ok (with_tick so_far tick)) }
 {
     let TraceSoFar {
         format,
@@ -353,7 +353,7 @@ pub(crate) fn with_tick(so_far: TraceSoFar, tick: TickObs) -> Result<TraceSoFar,
 /// The tick that a tick line says.
 #[tactic(auto, unfolding(crate::specs::Taken::tick_of))]
 fn tick_of(alloc: Global, so_far: &TraceSoFar, line: &TickRecord) -> Result<TickObs, FaultKind>
-    ensures gives { Gives (λ t. t) result (tick_of so_far.now line.now.at line.now.written) }
+    ensures gives { GivesUnlessMemory (λ t. t) result (tick_of so_far.now line.now.at line.now.written) }
     ensures follows { IfOk result (MayStandBehind so_far.now) }
 {
     room(so_far)?;
@@ -370,7 +370,7 @@ pub(crate) fn take_tick(
     so_far: TraceSoFar,
     line: &TickRecord,
 ) -> Result<TraceSoFar, FaultKind>
-    ensures { Gives (λ r. r) result (tick_after so_far line.now.at line.now.written) }
+    ensures { GivesUnlessMemory (λ r. r) result (tick_after so_far line.now.at line.now.written) }
 {
     match tick_of(alloc, &so_far, line) {
         Ok(tick) => with_tick(so_far, tick),

@@ -2,7 +2,7 @@
 
 ghost use Rattle.std.specs.Prelude.{◌≡◌, ◌<◌, ◌≤◌, ◌+◌, ◌++◌, ⊤, false, IfOk, IsTrue, length, map};
 ghost use Rattle.std.specs.Thread.{IsSync};
-ghost use Rattle.json_lines.specs.Lines.{line_data, lines_of};
+ghost use Rattle.json_lines.specs.Lines.{lines_of};
 ghost use Rattle.trace.specs.Ahead.{AreAhead};
 ghost use Rattle.trace.specs.Windows.{AreFew, smallest_window, greatest_window};
 
@@ -12,26 +12,26 @@ use roster::Roster;
 use std::alloc::{AllocError, Global};
 use std::thread::{Threads, map_chunks};
 
-/// A window that one thread reads has this many bytes, 64 KiB, and the end of its last line, and so has the first one
-/// where there are workers: an early fault is found before threads start. Workers share no shorter window.
-pub(crate) const ALONE: usize = 65_536;
+/// A window that one thread reads has this many bytes, 64 KiB, and the end of its last line. So has the first one where
+/// there are workers: an early fault is found before threads start. Workers share no shorter window.
+pub(crate) const SMALLEST_WINDOW: usize = 65_536;
 
 /// A window that workers share has no more bytes than these, 4 MiB, and the end of its last line: the threads start
 /// anew for each.
-const SHARED: usize = 4_194_304;
+const GREATEST_WINDOW: usize = 4_194_304;
 
-/// The lines of a window show this many pods together, each of them in each line, and no more.
-const SHOWN: usize = 262_144;
+/// The lines of a window show no more pods together, where each line shows each pod.
+const MOST_SHOWN: usize = 262_144;
 
 /// What is read of a line takes as much memory as this many pods, beside those that it shows.
-const LINE: usize = 8;
+const WEIGHT_OF_LINE: usize = 8;
 
-/// This many lines a window has at most.
+/// The most lines that a window has.
 fn most_lines(roster: &Roster) -> usize
     ensures some { 0 < result }
     ensures few { AreFew roster.now result }
 {
-    (SHOWN / roster.pods().len().saturating_add(LINE)).max(1)
+    (MOST_SHOWN / roster.pods().len().saturating_add(WEIGHT_OF_LINE)).max(1)
 }
 
 /// A window has this many times the bytes of the one before it, until it has 4 MiB: behind 64 KiB it has 1 MiB.
@@ -46,15 +46,17 @@ pub(crate) fn bytes_behind(bytes: usize, some_in_vain: bool) -> usize
     ensures grows { some_in_vain ≡ false → bytes ≤ greatest_window → bytes ≤ result }
 {
     if some_in_vain {
-        ALONE
+        SMALLEST_WINDOW
     } else {
-        bytes.saturating_mul(GROWTH).clamp(ALONE, SHARED)
+        bytes
+            .saturating_mul(GROWTH)
+            .clamp(SMALLEST_WINDOW, GREATEST_WINDOW)
     }
 }
 
 /// The lines at the beginning of a text, what was read of each ahead, and the text after them.
 #[derive(Drop)]
-pub(crate) struct Window<'t> {
+pub(crate) struct WindowAhead<'t> {
     pub(crate) lines: Vec<&'t [u8]>,
     pub(crate) reads: Vec<LineAhead>,
     pub(crate) rest: &'t [u8],
@@ -91,7 +93,7 @@ pub(crate) trait WindowReader {
         roster: &Roster,
         text: &'t [u8],
         bytes: usize,
-    ) -> Result<Window<'t>, AllocError>
+    ) -> Result<WindowAhead<'t>, AllocError>
         requires reader { can_read self.now }
         requires bytes { 0 < bytes }
         ensures lines { IfOk result (λ window. lines_of text.now
@@ -115,10 +117,10 @@ impl WindowReader for OneThread {
         roster: &Roster,
         text: &'t [u8],
         _bytes: usize,
-    ) -> Result<Window<'t>, AllocError> {
-        let (lines, rest) = next_tick_lines(alloc, text, ALONE, most_lines(roster))?;
+    ) -> Result<WindowAhead<'t>, AllocError> {
+        let (lines, rest) = next_tick_lines(alloc, text, SMALLEST_WINDOW, most_lines(roster))?;
         let reads = read_each(alloc, roster, &lines)?;
-        Ok(Window { lines, reads, rest })
+        Ok(WindowAhead { lines, reads, rest })
     }
 }
 
@@ -138,13 +140,13 @@ impl<R: Threads + Sync> WindowReader for Workers<'_, R> {
         roster: &Roster,
         text: &'t [u8],
         bytes: usize,
-    ) -> Result<Window<'t>, AllocError> {
+    ) -> Result<WindowAhead<'t>, AllocError> {
         let (lines, rest) = next_tick_lines(alloc, text, bytes, most_lines(roster))?;
-        let reads = if bytes <= ALONE || text.len() - rest.len() < ALONE {
+        let reads = if bytes <= SMALLEST_WINDOW || text.len() - rest.len() < SMALLEST_WINDOW {
             read_each(alloc, roster, &lines)?
         } else {
             read_shared(self.rt, alloc, roster, &lines, self.workers)?
         };
-        Ok(Window { lines, reads, rest })
+        Ok(WindowAhead { lines, reads, rest })
     }
 }

@@ -1,7 +1,8 @@
 -- The kinds of fault that the checks of a line answer.
 use Rattle.std.proofs.Common.{◌≡◌, ◌⊎◌, ℕ, List, length, slice_get, Option, Some, None, Result, Ok, Err}
 use Rattle.std.proofs.Common.{refl, ap, sym, subst, inl, inr, Bool, true, false}
-use Rattle.std.specs.Prelude.{◌&&◌, ◌-◌, ◌^◌, option_and_then, nat_lt, codes}
+use Rattle.std.specs.Prelude.{◌&&◌, ◌-◌, option_and_then, nat_lt, codes}
+use Rattle.quantity.specs.Duration.{end_of_time}
 use Rattle.serde_json.specs.Data.{Data}
 use Rattle.serde_json.specs.Find.{as_number, as_u64}
 use Rattle.json_fields.specs.Fields.{field_at}
@@ -12,7 +13,7 @@ use Rattle.trace.specs.declared.fault.FaultKind.TheVariants.{NotJson, Config, So
 use Rattle.trace.specs.declared.fault.FaultKind.TheVariants.{Usage, StrangerPod, StrangerContainer, Order}
 use Rattle.trace.specs.declared.fault.LineFault.{LineFault}
 use Rattle.observations.specs.declared.tick.TickObs.{TickObs}
-use Rattle.tick_lines.specs.declared.entry.Entry.{Entry}
+use Rattle.tick_lines.specs.declared.entry.TickEntry.{TickEntry}
 use Rattle.tick_lines.specs.declared.probing.ProbeResult.{ProbeResult}
 use Rattle.json_lines.specs.Lines.{lines_of, json_in}
 use Rattle.manifest_fields.specs.declared.fault.ManifestFault.{ManifestFault}
@@ -87,7 +88,7 @@ pod_only (Some d) = manifest_only (pod_at d) (pod_at_only d)
 moment_only : (ticks : List TickObs) (found : Option ℕ) → Only (Is Moment) (moment_from ticks found)
 moment_only ticks None = only_err (Is Moment) Moment refl
 moment_only ticks (Some at) =
-    only_if (Is Moment) (nat_lt at (2 ^ 40) && is_later (slice_get ticks (length ticks - 1)) at) (Ok at) (Err Moment)
+    only_if (Is Moment) (nat_lt at end_of_time && is_later (slice_get ticks (length ticks - 1)) at) (Ok at) (Err Moment)
     (only_ok (Is Moment) at) (only_err (Is Moment) Moment refl)
 
 of_tick_only : {A : Type 0} (r : Result A TickLineFault) → Only IsUsageFault r → Only (Is Usage) (of_tick_line r)
@@ -101,7 +102,7 @@ tick_only d = of_tick_only (tick_line_of d) (record { has = one_kind d })
 abbrev IsStranger : FaultKind → Type 0
 IsStranger kind = (kind ≡ StrangerPod) ⊎ (kind ≡ StrangerContainer)
 
-number_only : (roll : Roll) (entry : Entry) → Only IsStranger (number_in roll entry)
+number_only : (roll : Roll) (entry : TickEntry) → Only IsStranger (number_in roll entry)
 number_only roll entry = only_some IsStranger StrangerPod (number_of roll entry.key) (inl refl)
 
 container_number_only : (pod : PodSpec) (name : List ℕ) → Only IsStranger (container_number pod name)
@@ -116,7 +117,7 @@ placed_result_only : (pod : PodSpec) (r : ProbeResult) → Only IsStranger (plac
 placed_result_only pod r = only_bind IsStranger _ _ (container_number_only pod r.container)
     (λ number. only_ok IsStranger _)
 
-placed_entry_only : (roll : Roll) (entry : Entry) → Only IsStranger (placed_entry roll entry)
+placed_entry_only : (roll : Roll) (entry : TickEntry) → Only IsStranger (placed_entry roll entry)
 unfolding placed_entry entry_of_pod
 placed_entry_only roll entry =
     let P = IsStranger in
@@ -125,7 +126,7 @@ placed_entry_only roll entry =
     only_bind P _ _ (only_each P (placed_listing pod) (placed_listing_only pod) entry.listings) (λ listings.
     only_bind P _ _ (only_each P (placed_result pod) (placed_result_only pod) entry.results) (λ results. only_ok P _))))
 
-placed_only : (roll : Roll) (es : List Entry) → Only IsStranger (placed_of roll es)
+placed_only : (roll : Roll) (es : List TickEntry) → Only IsStranger (placed_of roll es)
 unfolding placed_of
 placed_only roll es =
     let P = IsStranger in

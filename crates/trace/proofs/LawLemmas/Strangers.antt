@@ -10,7 +10,7 @@ use Rattle.manifest.specs.Containers.{names_of}
 use Rattle.trace.specs.declared.fault.FaultKind.{FaultKind}
 use Rattle.trace.specs.declared.fault.FaultKind.TheVariants.{StrangerPod, StrangerContainer}
 use Rattle.tick_lines.specs.declared.listing.Listing.{Listing}
-use Rattle.tick_lines.specs.declared.entry.Entry.{Entry}
+use Rattle.tick_lines.specs.declared.entry.TickEntry.{TickEntry}
 use Rattle.tick_lines.specs.declared.probing.ProbeResult.{ProbeResult}
 use Rattle.trace.specs.declared.placing.PlacedListing.{PlacedListing}
 use Rattle.trace.specs.declared.placing.PlacedResult.{PlacedResult}
@@ -86,7 +86,7 @@ result_fault pod r kind e =
     ]
 
 -- a fault of an entry of a known pod: it names a container that isn't the pod's
-known_fault : (entry : Entry) (number : ℕ) (pod : PodSpec) (kind : FaultKind) → with_pod entry number pod ≡ Err kind
+known_fault : (entry : TickEntry) (number : ℕ) (pod : PodSpec) (kind : FaultKind) → with_pod entry number pod ≡ Err kind
     → (kind ≡ StrangerContainer) × NamesOther pod entry
 known_fault entry number pod kind e =
     elim (bind_err (each (placed_listing pod) entry.listings) (with_listings entry number pod) kind e) [
@@ -111,7 +111,7 @@ known_fault entry number pod kind e =
     ]
 
 -- and where it names one, that is its fault
-known_is : (entry : Entry) (number : ℕ) (pod : PodSpec) → NamesOther pod entry
+known_is : (entry : TickEntry) (number : ℕ) (pod : PodSpec) → NamesOther pod entry
     → (r : Result (List PlacedListing) FaultKind) → each (placed_listing pod) entry.listings ≡ r
     → with_pod entry number pod ≡ Err StrangerContainer
 known_is entry number pod (inl (m, listing, here, unknown)) r e =
@@ -139,7 +139,7 @@ known_is entry number pod (inr other) (Err kind) e =
     (e ∙ ap Err (listing_fault pod at.1 kind at.3).1)
 
 -- a fault of one entry: its pod isn't known, or a container isn't its pod's
-entry_fault : (roll : Roll) (es : List Entry) (n : ℕ) (entry : Entry) (kind : FaultKind)
+entry_fault : (roll : Roll) (es : List TickEntry) (n : ℕ) (entry : TickEntry) (kind : FaultKind)
     → slice_get es n ≡ Some entry → placed_entry roll entry ≡ Err kind
     → NamesStranger roll es ⊎ ((kind ≡ StrangerContainer) × NamesStrangerContainer roll es)
 unfolding placed_entry entry_of_pod
@@ -180,7 +180,7 @@ entry_fault roll es n entry kind here e =
           ]
     ]
 
-unknown_pod : (roll : Roll) (es : List Entry) → NamesStranger roll es
+unknown_pod : (roll : Roll) (es : List TickEntry) → NamesStranger roll es
     → each (number_in roll) es ≡ Err StrangerPod
 unknown_pod roll es is =
     each_meets (number_in roll) StrangerPod es is.n is.entry is.here
@@ -188,11 +188,11 @@ unknown_pod roll es is =
     (λ m z other at e. (missing_is StrangerPod other (number_of roll z.key) e).1)
 
 -- where every number is found, no entry names a stranger
-all_known : (roll : Roll) (es : List Entry) (numbers : List ℕ)
+all_known : (roll : Roll) (es : List TickEntry) (numbers : List ℕ)
     → each (number_in roll) es ≡ Ok numbers → NamesStranger roll es → ⊥
 all_known roll es numbers e is = no_fault numbers StrangerPod (sym e ∙ unknown_pod roll es is)
 
-entries_fault : (roll : Roll) (es : List Entry) (kind : FaultKind) → placed_of roll es ≡ Err kind
+entries_fault : (roll : Roll) (es : List TickEntry) (kind : FaultKind) → placed_of roll es ≡ Err kind
     → ((kind ≡ StrangerPod) × NamesStranger roll es) ⊎ ((kind ≡ StrangerContainer) × NamesStrangerContainer roll es)
 unfolding placed_of
 entries_fault roll es kind e =
@@ -210,12 +210,12 @@ entries_fault roll es kind e =
           ]
     ]
 
-pod_is : (roll : Roll) (es : List Entry) → NamesStranger roll es → placed_of roll es ≡ Err StrangerPod
+pod_is : (roll : Roll) (es : List TickEntry) → NamesStranger roll es → placed_of roll es ≡ Err StrangerPod
 unfolding placed_of
 pod_is roll es is = then_err (each (number_in roll) es)
     (λ numbers. each (placed_entry roll) es) StrangerPod (unknown_pod roll es is)
 
-one_entry : (roll : Roll) (es : List Entry) → (is : NamesStrangerContainer roll es)
+one_entry : (roll : Roll) (es : List TickEntry) → (is : NamesStrangerContainer roll es)
     → placed_entry roll is.entry ≡ Err StrangerContainer
 unfolding placed_entry entry_of_pod
 one_entry roll es is =
@@ -225,15 +225,15 @@ one_entry roll es is =
     (ap (λ (found : Option PodSpec). some_or StrangerPod found) is.pod_is)
     ∙ known_is is.entry is.number is.pod is.other (each (placed_listing is.pod) is.entry.listings) refl
 
-only_container : (roll : Roll) (es : List Entry) → (NamesStranger roll es → ⊥)
-    → (m : ℕ) (z : Entry) (other : FaultKind) → slice_get es m ≡ Some z
+only_container : (roll : Roll) (es : List TickEntry) → (NamesStranger roll es → ⊥)
+    → (m : ℕ) (z : TickEntry) (other : FaultKind) → slice_get es m ≡ Some z
     → placed_entry roll z ≡ Err other → other ≡ StrangerContainer
 only_container roll es none m z other at faulty = elim (entry_fault roll es m z other at faulty) [
   | inl stranger ↦ absurd (none stranger)
   | inr container ↦ container.0
 ]
 
-container_is : (roll : Roll) (es : List Entry) → (NamesStranger roll es → ⊥) → NamesStrangerContainer roll es
+container_is : (roll : Roll) (es : List TickEntry) → (NamesStranger roll es → ⊥) → NamesStrangerContainer roll es
     → (r : Result (List ℕ) FaultKind) → each (number_in roll) es ≡ r
     → placed_of roll es ≡ Err StrangerContainer
 unfolding placed_of
@@ -251,7 +251,7 @@ container_is roll es none is (Err kind) e =
           (missing_is StrangerPod kind (number_of roll at.1.key) at.3).0;
     }))
 
-pod_of : (roll : Roll) (es : List Entry) → placed_of roll es ≡ Err StrangerPod → NamesStranger roll es
+pod_of : (roll : Roll) (es : List TickEntry) → placed_of roll es ≡ Err StrangerPod → NamesStranger roll es
 pod_of roll es e = elim (entries_fault roll es StrangerPod e) [
   | inl pod ↦ pod.1
   | inr container ↦ let other : StrangerPod ≡ StrangerContainer = container.0 in absurd (cc)
@@ -260,7 +260,7 @@ pod_of roll es e = elim (entries_fault roll es StrangerPod e) [
 apart : ◌≡◌ {A = Result (List PlacedEntry) FaultKind} (Err StrangerPod) (Err StrangerContainer) → ⊥
 apart e = let same = same_fault {A = List PlacedEntry} StrangerPod StrangerContainer e in absurd (cc)
 
-container_of : (roll : Roll) (es : List Entry) → placed_of roll es ≡ Err StrangerContainer
+container_of : (roll : Roll) (es : List TickEntry) → placed_of roll es ≡ Err StrangerContainer
     → (NamesStranger roll es → ⊥) × NamesStrangerContainer roll es
 container_of roll es e = elim (entries_fault roll es StrangerContainer e) [
   | inl pod ↦ let other : StrangerContainer ≡ StrangerPod = pod.0 in absurd (cc)

@@ -8,5 +8,5 @@ decreases-loop-rest g l = length l.rest
 
 abbrev pub invariant-loop-rest : goal.invariant-loop-rest
 invariant-loop-rest g l =
-    has_last_stranger (g.N.Names.includes l.names) (members_view l.rest)
-    ≡ has_last_stranger (g.N.Names.includes l.names) (members_view l.members)
+    has_last_stranger (g.N.MemberNames.includes l.names) (members_view l.rest)
+    ≡ has_last_stranger (g.N.MemberNames.includes l.names) (members_view l.members)

@@ -1,11 +1,11 @@
 use Rattle.std.proofs.Common.{sym, subst}
-use Rattle.trace.specs.Gives.{Gives}
+use Rattle.trace.specs.GivesUnlessMemory.{GivesUnlessMemory}
 use Rattle.trace.proofs.TakenAhead.{shown_stands, shown_refused}
 use Rattle.trace.proofs.reading.take_shown.Goals as goal
 
 pub returns-in-Ok : goal.returns-in-Ok
 returns-in-Ok c said is =
-    subst (Gives (λ r. r) c.with_tick.result)
+    subst (GivesUnlessMemory (λ r. r) c.with_tick.result)
     (sym (shown_stands c.args.so_far said c.args.tick _ is c.in-Ok.ensures.gives)) c.with_tick.ensures
 
 pub returns-in-Err : goal.returns-in-Err

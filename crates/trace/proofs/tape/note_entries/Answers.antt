@@ -1,5 +1,5 @@
 use Rattle.std.proofs.Common.{◌∙◌, ◌++◌, ◌∷◌, [], ap, rules, sym}
-use Rattle.json_fields.specs.Tape.{data_at, datas_in}
+use Rattle.json_fields.specs.Tape.{data_at, items_in}
 use Rattle.std.proofs.lemmas.List.{append_assoc}
 use Rattle.trace.proofs.OnTape.{noted_length}
 use Rattle.trace.proofs.tape.note_entries.Goals as goal
@@ -11,6 +11,6 @@ pub loop-value-preserved : goal.loop-value-preserved
 loop-value-preserved c = (
   c.loop-value.invariant.0 ++ data_at c.in-Some.value ∷ [],
   c.loop-value.invariant.1 ∙ ap (λ ds. c.loop-value.invariant.0 ++ ds) c.in-Some.ensures.value
-      ∙ sym (append_assoc c.loop-value.invariant.0 (data_at c.in-Some.value ∷ []) (datas_in c.next.new.self)),
+      ∙ sym (append_assoc c.loop-value.invariant.0 (data_at c.in-Some.value ∷ []) (items_in c.next.new.self)),
   c.in_ok-note_entry.ensures c.loop-value.invariant.0 c.loop-value.invariant.2 (search rules),
 )

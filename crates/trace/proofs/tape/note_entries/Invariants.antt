@@ -1,11 +1,11 @@
 use Rattle.std.proofs.Common.{◌≡◌, ◌++◌, List, length}
-use Rattle.json_fields.specs.Tape.{datas_in}
+use Rattle.json_fields.specs.Tape.{items_in}
 use Rattle.serde_json.specs.Data.{Data}
 use Rattle.trace.specs.Tape.{EntriesNoted}
 use Rattle.trace.proofs.tape.note_entries.Given as goal
 
 abbrev pub invariant-loop-value : goal.invariant-loop-value
-invariant-loop-value l = (read : List Data) × (datas_in l.fn.items ≡ read ++ datas_in l.items)
+invariant-loop-value l = (read : List Data) × (items_in l.fn.items ≡ read ++ items_in l.items)
     × EntriesNoted l.roster l.at read l.slots.items
 
 abbrev pub decreases-loop-value : goal.decreases-loop-value

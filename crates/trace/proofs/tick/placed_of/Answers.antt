@@ -1,14 +1,14 @@
 use Rattle.std.proofs.Common.{◌<◌, All, IfOk, ap, length, subst}
 use Rattle.roster.specs.Roll.{Roll}
 use Rattle.trace.specs.declared.placing.PlacedEntry.{PlacedEntry}
-use Rattle.trace.specs.Gives.{Gives}
+use Rattle.trace.specs.GivesUnlessMemory.{GivesUnlessMemory}
 use Rattle.trace.specs.TraceSoFar.{TraceSoFar}
 use Rattle.trace.specs.Placing.{placed_of}
 use Rattle.trace.proofs.tick.placed_of.Goals as goal
 
 pub returns-clause-gives : goal.returns-clause-gives
 returns-clause-gives c =
-    subst (λ (r : Roll). Gives (λ v. v.items) c.placed_by.result (placed_of r c.args.written.now.entries))
+    subst (λ (r : Roll). GivesUnlessMemory (λ v. v.items) c.placed_by.result (placed_of r c.args.written.now.entries))
     (ap (λ (p : TraceSoFar). p.roll) c.so_far.view_is) c.placed_by.ensures.gives
 
 pub returns-clause-known : goal.returns-clause-known

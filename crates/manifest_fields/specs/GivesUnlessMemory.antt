@@ -8,6 +8,6 @@ abbrev pub is_memory : ManifestFault → Bool
 is_memory OutOfMemory = true
 is_memory fault = false
 
--- of a call that takes memory: out of memory aside
-abbrev pub Gives : {X Y : Type 0} → (X → Y) → Result X ManifestFault → Result Y ManifestFault → Type 0
-Gives view result given = GivesUnless is_memory view result given
+-- a call that takes memory answers what the definition gives, or that memory ran out
+abbrev pub GivesUnlessMemory : {X Y : Type 0} → (X → Y) → Result X ManifestFault → Result Y ManifestFault → Type 0
+GivesUnlessMemory view result given = GivesUnless is_memory view result given

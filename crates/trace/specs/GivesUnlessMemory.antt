@@ -9,10 +9,10 @@ abbrev pub is_memory : FaultKind → Bool
 is_memory OutOfMemory = true
 is_memory kind = false
 
--- of a call that takes memory: out of memory aside
-abbrev pub Gives : {X Y : Type 0} → (X → Y) → Result X FaultKind → Result Y FaultKind → Type 0
-Gives view result given = GivesUnless is_memory view result given
+-- a call that takes memory answers what the definition gives, or that memory ran out
+abbrev pub GivesUnlessMemory : {X Y : Type 0} → (X → Y) → Result X FaultKind → Result Y FaultKind → Type 0
+GivesUnlessMemory view result given = GivesUnless is_memory view result given
 
--- of a call that takes memory, with the line
+-- a call that takes memory answers what the definition gives, with the line of a fault, or that memory ran out
 abbrev pub GivesAt : {X Y : Type 0} → (X → Y) → Result X LineFault → Result Y LineFault → Type 0
 GivesAt view result given = GivesUnless (λ fault. is_memory fault.kind) view result given
