@@ -4,7 +4,7 @@ use Rattle.std.proofs.Common.{subst, sym, append-nil, append_assoc, arith}
 use Rattle.std.specs.Prelude.{◌↔◌, IsSomeAnd, IsTrue}
 use Rattle.std.proofs.lemmas.Bool.{cases_eq}
 use Rattle.std.proofs.lemmas.List.{take-append-drop}
-use Rattle.histories.specs.Histories.{IsSo, ComesTrue, Lasts}
+use Rattle.histories.specs.Histories.{HoldsAt, ComesTrue, Lasts}
 use Rattle.histories.proofs.First.{IsFirst-new, IsFirstMoment-unique}
 use Rattle.histories.proofs.Growth.{grows_so, so_last}
 use Rattle.histories.proofs.Lasting.{ComesTrue-now}
@@ -107,7 +107,7 @@ comes_by Q h x a start ticks is lasts =
       )),
     )
   where
-    earlier : (t : ℕ) → IsSo (λ k. SaysOf Q k a) h t → Q start ticks
+    earlier : (t : ℕ) → HoldsAt (λ k. SaysOf Q k a) h t → Q start ticks
     earlier t s =
         let k = take (suc t) h in
         let later = drop (suc t) h in

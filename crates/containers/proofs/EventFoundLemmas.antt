@@ -1,20 +1,21 @@
 -- Each place of a tick has an event or none.
-use Rattle.std.proofs.Common.{◌≡◌, ◌∙◌, inl, inr, ℕ, suc, ℤ, pos, ◌+◌, ◌-◌, ◌<◌, ◌≤◌, List, [], ◌∷◌, ◌++◌}
+use Rattle.std.proofs.Common.{◌≡◌, ◌∙◌, inl, inr, ℕ, suc, ℤ, ◌+◌, ◌-◌, ◌<◌, ◌≤◌, List, [], ◌∷◌, ◌++◌}
 use Rattle.std.proofs.Common.{length, map, Option, Some, None, refl, subst, sym, ap, arith}
 use Rattle.std.specs.Prelude.{IsSomeAnd}
 use Rattle.std.proofs.lemmas.Bool.{cases_eq}
-use Rattle.std.proofs.lemmas.Option.{same_Some}
-use Rattle.histories.specs.Histories.{moment_at, last_moment, IsSo, IsFirst, ComesTrue}
+use Rattle.histories.specs.Histories.{moment_at, last_moment, HoldsAt, IsFirst, ComesTrue}
+use Rattle.histories.specs.TheOne.{IsTheOne}
 use Rattle.histories.proofs.Decide.{OrNot, negated, both, less_or_not, at_most_or_not, given_or_not}
 use Rattle.histories.proofs.Found.{some_below, first_place, first_or_not, so_or_not, comes_or_not}
 use Rattle.histories.proofs.Places.{moment_given-below}
 use Rattle.histories.proofs.Picked.{picked_one, so_picked_back}
+use Rattle.histories.proofs.TheOne.{IsTheOne-exists}
 use Rattle.manifest.specs.Probe.{Probe}
 use Rattle.manifest.specs.Policy.{WantsRestart}
 use Rattle.manifest.specs.declared.policy.Policy.{Policy}
 use Rattle.manifest.specs.declared.pod.ContainerSpec.{ContainerSpec}
 use Rattle.state_diff.specs.declared.seen.CriState.TheVariants.{Running}
-use Rattle.state_diff.specs.Instances.{Tick, seen_at, IsOf, Listed, IsNewest, IsStart, IsExit, IsCodeAt}
+use Rattle.state_diff.specs.Instances.{Tick, seen_at, IsOf, Listed, IsNewest, IsStart, IsExit, IsCodeAt, killed_code}
 use Rattle.state_diff.proofs.Listings.{of_weaker, one_listed}
 use Rattle.state_diff.proofs.Found.{listed_or_not, start_or_not, exit_or_not, exit_or_none, ended_listed}
 use Rattle.state_diff.proofs.Found.{newest_or_none}
@@ -39,7 +40,7 @@ use Rattle.containers.specs.Ticks.{ContainerTick, listings, BelongsTo, results_o
 use Rattle.containers.specs.Probed.{HasPassed, IsKillOrdered, IsContainerReady}
 use Rattle.containers.specs.Exits.{AreExits, IsToRestart, IsDelayed, FallsDue}
 use Rattle.containers.specs.Events.{IsGone, HasStarted, HasDied, Passes, IsKilled, WasReady, ChangesReadiness}
-use Rattle.containers.specs.Events.{IsBackedOff, IsRestarted, Gives}
+use Rattle.containers.specs.Events.{IsBackedOff, IsRestarted}
 use Rattle.containers.specs.Laws.{SomeListOfEvents}
 use Rattle.containers.proofs.TickLemmas.{seen_now, start_cases}
 use Rattle.containers.proofs.FollowLemmas.{belongs_listed, none_before_start}
@@ -48,21 +49,13 @@ use Rattle.containers.proofs.RestartLemmas.{exits_one, due_one}
 use Rattle.containers.proofs.LawLemmas.{killed_once}
 use Rattle.containers.proofs.FoundLemmas.{belongs_or_not, says_or_not, ready_or_not, some_list_of_exits, some_delay}
 
--- where some event or none has it, and no two have, it gives an event or none
-pub given_event : (P : PodEventKind → Type 0) → OrNot ((what : PodEventKind) × P what)
-    → ((v w : PodEventKind) → P v → P w → v ≡ w)
-    → (event : Option PodEventKind) × Gives P event
-given_event P (inl (what, p)) one =
-    (Some what, (λ v. ((λ e. subst P (same_Some what v e) p), (λ q. ap (λ k. Some k) (one what v p q)))))
-given_event P (inr none) one = (None, (λ v. ((λ e. absurd (cc)), (λ q. absurd (none (v, q))))))
-
 -- the instance that is gone
 gone_one : (h : List ContainerTick) (t : ℕ) (v w : PodEventKind) → IsGone h t v → IsGone h t w → v ≡ w
 gone_one h t v w (a, e, exit, gone) (b, f, exit', gone') =
     let k = listings h in
     let same : a ≡ b =
     one_listed (seen_at k (t - 1)) a b (gone_before k a t exit gone) (gone_before k b t exit' gone') in
-    e ∙ ap (λ c. Died c (pos 137)) same ∙ sym f
+    e ∙ ap (λ c. Died c killed_code) same ∙ sym f
 
 abbrev IsGoneAt : List Tick → ℕ → ℕ → Type 0
 IsGoneAt k t a = IsExit k a t × (Listed k a t → ⊥)
@@ -70,13 +63,13 @@ IsGoneAt k t a = IsExit k a t × (Listed k a t → ⊥)
 gone_or_not : (k : List Tick) (t a : ℕ) → OrNot (IsGoneAt k t a)
 gone_or_not k t a = both (exit_or_not k a t) (negated (listed_or_not k a t))
 
-gone_event : (h : List ContainerTick) (t : ℕ) → (event : Option PodEventKind) × Gives (IsGone h t) event
+gone_event : (h : List ContainerTick) (t : ℕ) → (event : Option PodEventKind) × IsTheOne (IsGone h t) event
 gone_event h t =
     let k = listings h in
     let some = attempt_or_none k (IsGoneAt k t) (gone_or_not k t) (λ a w. ended_listed k a t w.0.holds) in
-    given_event (IsGone h t) (elim some [
-      | inl w ↦ inl (Died w.0 (pos 137), (w.0, refl, w.1.0, w.1.1))
-      | inr none ↦ inr (λ (what, (a, e, exit, gone)). none (a, (exit, gone)))
+    IsTheOne-exists (IsGone h t) (elim some [
+      | inl w ↦ inl (Died w.0 killed_code, (w.0, refl, w.1.0, w.1.1))
+      | inr none ↦ inr (λ (kind, (a, e, exit, gone)). none (a, (exit, gone)))
     ]) (gone_one h t)
 
 -- the one that started
@@ -89,14 +82,14 @@ started_one h t v w (a, e, start) (b, f, start') =
     let same : a ≡ b = one_listed (seen_at k t) a b (started_listed k a t start) (started_listed k b t start') in
     e ∙ ap (λ c. Started c) same ∙ sym f
 
-started_event : (h : List ContainerTick) (t : ℕ) → (event : Option PodEventKind) × Gives (HasStarted h t) event
+started_event : (h : List ContainerTick) (t : ℕ) → (event : Option PodEventKind) × IsTheOne (HasStarted h t) event
 started_event h t =
     let k = listings h in
     let some =
     attempt_or_none k (λ a. IsStart k a t) (λ a. start_or_not k a t) (λ a start. (t, started_listed k a t start)) in
-    given_event (HasStarted h t) (elim some [
+    IsTheOne-exists (HasStarted h t) (elim some [
       | inl w ↦ inl (Started w.0, (w.0, refl, w.1))
-      | inr none ↦ inr (λ (what, (a, e, start)). none (a, start))
+      | inr none ↦ inr (λ (kind, (a, e, start)). none (a, start))
     ]) (started_one h t)
 
 -- the listed one that died
@@ -107,15 +100,15 @@ died_one h t v w (a, c, e, exit, l, is) (b, d, f, exit', l', is') =
     let code : c ≡ d = IsCodeAt-unique k b c d t (subst (λ (i : ℕ). IsCodeAt k i c t) same is) is' in
     e ∙ ap (λ i. Died i c) same ∙ ap (λ j. Died b j) code ∙ sym f
 
-died_event : (h : List ContainerTick) (t : ℕ) → (event : Option PodEventKind) × Gives (HasDied h t) event
+died_event : (h : List ContainerTick) (t : ℕ) → (event : Option PodEventKind) × IsTheOne (HasDied h t) event
 died_event h t =
     let k = listings h in
     let died = λ (a : ℕ). both (exit_or_not k a t) (listed_or_not k a t) in
     let some = attempt_or_none k (λ a. IsExit k a t × Listed k a t) died (λ a w. (t, w.1)) in
-    given_event (HasDied h t) (elim some [
+    IsTheOne-exists (HasDied h t) (elim some [
       | inl w ↦
           let code = code_at k w.0 t w.1.0.holds in inl (Died w.0 code.0, (w.0, code.0, refl, w.1.0, w.1.1, code.1))
-      | inr none ↦ inr (λ (what, (a, c, e, exit, l, is)). none (a, (exit, l)))
+      | inr none ↦ inr (λ (kind, (a, c, e, exit, l, is)). none (a, (exit, l)))
     ]) (died_one h t)
 
 -- what comes true of an instance by what its results say comes true of the listed one
@@ -134,7 +127,7 @@ comes_listed Q h x a nothing comes = elim (belongs_or_not a (h ++ x ∷ [])) [
             said_before Q h x a says comes
         | inr w ↦
             let empty : s.ticks ≡ [] =
-            picked_one (IsSo (BelongsTo a) h) (map results_of h) s.ticks [] before (none_before_start h a w.2) in
+            picked_one (HoldsAt (BelongsTo a) h) (map results_of h) s.ticks [] before (none_before_start h a w.2) in
             nothing s.start (subst (λ (ts : List ProbeTick). Q s.start ts) empty s.says)
       ])
 ]
@@ -164,15 +157,15 @@ passed_one spec h x v w (a, e, passes) (b, f, passes') =
     e ∙ ap (λ c. StartupPassed c) (one_listed x.entry.seen a b (listed a passes) (listed b passes')) ∙ sym f
 
 passed_event : (spec : ContainerSpec) (h : List ContainerTick) (x : ContainerTick)
-    → (event : Option PodEventKind) × Gives (Passes spec (h ++ x ∷ []) (length h)) event
+    → (event : Option PodEventKind) × IsTheOne (Passes spec (h ++ x ∷ []) (length h)) event
 passed_event spec h x =
     let now = h ++ x ∷ [] in
     let startup = spec.probes.startup in
     let some = attempt_or_none (listings now) (PassesAt startup now (length h)) (passes_or_not startup now (length h))
     (λ a passes. (length h, (seen_now (IsOf a) h x).1 (passes_listed startup h x a passes))) in
-    given_event (Passes spec now (length h)) (elim some [
+    IsTheOne-exists (Passes spec now (length h)) (elim some [
       | inl w ↦ inl (StartupPassed w.0, (w.0, refl, w.1))
-      | inr none ↦ inr (λ (what, (a, e, passes)). none (a, passes))
+      | inr none ↦ inr (λ (kind, (a, e, passes)). none (a, passes))
     ]) (passed_one spec h x)
 
 -- the kill order
@@ -219,14 +212,14 @@ killed_one spec h x range v w (a, c, e, comes) (b, d, f, comes') =
     e ∙ ap (λ i. Kill i c) same ∙ ap (λ j. Kill b j) cause ∙ sym f
 
 kill_event : (spec : ContainerSpec) (h : List ContainerTick) (x : ContainerTick) → AreInRange spec.probes
-    → (event : Option PodEventKind) × Gives (IsKilled spec (h ++ x ∷ []) (length h)) event
+    → (event : Option PodEventKind) × IsTheOne (IsKilled spec (h ++ x ∷ []) (length h)) event
 kill_event spec h x range =
     let now = h ++ x ∷ [] in
     let some = attempt_or_none (listings now) (IsKilledAt spec now (length h)) (killed_or_not spec now (length h))
     (λ a killed. (length h, (seen_now (IsOf a) h x).1 (kill_listed spec h x a range killed))) in
-    given_event (IsKilled spec now (length h)) (elim some [
+    IsTheOne-exists (IsKilled spec now (length h)) (elim some [
       | inl w ↦ inl (Kill w.0 w.1.0, (w.0, w.1.0, refl, w.1.1))
-      | inr none ↦ inr (λ (what, (a, cause, e, comes)). none (a, (cause, comes)))
+      | inr none ↦ inr (λ (kind, (a, cause, e, comes)). none (a, (cause, comes)))
     ]) (killed_one spec h x range)
 
 -- the change of readiness
@@ -246,17 +239,17 @@ readiness_one spec h t v w (inr p) (inl q) = absurd (p.1 q.1)
 readiness_one spec h t v w (inr p) (inr q) = p.0 ∙ sym q.0
 
 readiness_event : (spec : ContainerSpec) (h : List ContainerTick) (t : ℕ)
-    → (event : Option PodEventKind) × Gives (ChangesReadiness spec h t) event
+    → (event : Option PodEventKind) × IsTheOne (ChangesReadiness spec h t) event
 readiness_event spec h t =
     let some = by (ready_or_not spec h) (was_ready_or_not spec h t) in
-    given_event (ChangesReadiness spec h t) some (readiness_one spec h t)
+    IsTheOne-exists (ChangesReadiness spec h t) some (readiness_one spec h t)
   where
     by : OrNot (IsContainerReady spec h) → OrNot (WasReady spec h t)
-        → OrNot ((what : PodEventKind) × ChangesReadiness spec h t what)
-    by (inl now) (inl was) = inr (λ (what, c). elim c [ inl p ↦ p.2 was | inr p ↦ p.1 now ])
+        → OrNot ((kind : PodEventKind) × ChangesReadiness spec h t kind)
+    by (inl now) (inl was) = inr (λ (kind, c). elim c [ inl p ↦ p.2 was | inr p ↦ p.1 now ])
     by (inl now) (inr was_not) = inl (Ready, inl (refl, now, was_not))
     by (inr not_now) (inl was) = inl (Unready, inr (refl, not_now, was))
-    by (inr not_now) (inr was_not) = inr (λ (what, c). elim c [ inl p ↦ not_now p.1 | inr p ↦ was_not p.2 ])
+    by (inr not_now) (inr was_not) = inr (λ (kind, c). elim c [ inl p ↦ not_now p.1 | inr p ↦ was_not p.2 ])
 
 -- the newest instance, if it is to be started again
 to_restart_or_not : (policy : Policy) (spec : ContainerSpec) (h : List ContainerTick) (a : ℕ) → IsNewest (listings h) a
@@ -300,19 +293,19 @@ backoff_one policy max_restart_delay spec h t v w (a, c, e, exit, to, is, lt) (b
     e ∙ ap (λ n. Backoff n) (delay_one max_restart_delay h c d is is') ∙ sym f
 
 backoff_event : (policy : Policy) (max_restart_delay : ℕ) (spec : ContainerSpec) (h : List ContainerTick) (t : ℕ)
-    → (event : Option PodEventKind) × Gives (IsBackedOff policy max_restart_delay spec h t) event
+    → (event : Option PodEventKind) × IsTheOne (IsBackedOff policy max_restart_delay spec h t) event
 backoff_event policy max_restart_delay spec h t =
-    given_event (IsBackedOff policy max_restart_delay spec h t) some (backoff_one policy max_restart_delay spec h t)
+    IsTheOne-exists (IsBackedOff policy max_restart_delay spec h t) some (backoff_one policy max_restart_delay spec h t)
   where
-    some : OrNot ((what : PodEventKind) × IsBackedOff policy max_restart_delay spec h t what)
+    some : OrNot ((kind : PodEventKind) × IsBackedOff policy max_restart_delay spec h t kind)
     some =
         let k = listings h in
         let delay = some_delay max_restart_delay h in
         elim (to_restart_or_none policy spec h) [
-          | inr none ↦ inr (λ (what, (a, d, e, exit, to, is, lt)). none (a, to))
+          | inr none ↦ inr (λ (kind, (a, d, e, exit, to, is, lt)). none (a, to))
           | inl (a, to) ↦ elim (both (exit_or_not k a t) (less_or_not 0 delay.0)) [
             | inl w ↦ inl (Backoff delay.0, (a, delay.0, refl, w.0, to, delay.1, w.1))
-            | inr not ↦ inr (λ (what, (b, d, e, exit, to', is, lt)). not (
+            | inr not ↦ inr (λ (kind, (b, d, e, exit, to', is, lt)). not (
               subst (λ (c : ℕ). IsExit k c t) (IsNewest-unique k b a to'.newest to.newest) exit,
               subst (λ (n : ℕ). 0 < n) (delay_one max_restart_delay h d delay.0 is delay.1) lt,
             ))
@@ -361,12 +354,12 @@ restart_one policy max_restart_delay spec h t v w (a, e, to, falls) (b, f, to', 
     e ∙ ap (λ c. Restart c) (IsNewest-unique (listings h) a b to.newest to'.newest) ∙ sym f
 
 restart_event : (policy : Policy) (max_restart_delay : ℕ) (spec : ContainerSpec) (h : List ContainerTick) (t : ℕ)
-    → (event : Option PodEventKind) × Gives (IsRestarted policy max_restart_delay spec h t) event
+    → (event : Option PodEventKind) × IsTheOne (IsRestarted policy max_restart_delay spec h t) event
 restart_event policy max_restart_delay spec h t =
-    given_event (IsRestarted policy max_restart_delay spec h t)
+    IsTheOne-exists (IsRestarted policy max_restart_delay spec h t)
     (elim (both (to_restart_or_none policy spec h) (falls_due_or_not max_restart_delay h t)) [
       | inl w ↦ inl (Restart w.0.0, (w.0.0, refl, w.0.1, w.1))
-      | inr not ↦ inr (λ (what, (a, e, to, falls)). not ((a, to), falls))
+      | inr not ↦ inr (λ (kind, (a, e, to, falls)). not ((a, to), falls))
     ]) (restart_one policy max_restart_delay spec h t)
 
 -- the events of a tick

@@ -1,10 +1,11 @@
 -- The events of one more tick, place by place.
-use Rattle.std.proofs.Common.{◌≡◌, ◌⊎◌, inl, inr, ℕ, suc, ℤ, pos, ◌-◌, ◌<◌, ◌≤◌, Bool, List, [], ◌∷◌, ◌++◌, length}
+use Rattle.std.proofs.Common.{◌≡◌, ◌⊎◌, inl, inr, ℕ, suc, ℤ, ◌-◌, ◌<◌, ◌≤◌, Bool, List, [], ◌∷◌, ◌++◌, length}
 use Rattle.std.proofs.Common.{Option, Some, None, refl, subst, sym, ◌∙◌, arith}
 use Rattle.std.specs.Prelude.{◌↔◌, IsSomeAnd, IfSome, IsTrue}
 use Rattle.std.proofs.lemmas.Bool.{cases_lt, cases_order}
 use Rattle.std.proofs.lemmas.List.{take_all}
 use Rattle.histories.specs.Histories.{moment_at, last_moment, IsRising, IsFirst, IsFirstMoment}
+use Rattle.histories.specs.TheOne.{IsTheOne}
 use Rattle.histories.proofs.Growth.{grows_so}
 use Rattle.histories.proofs.Moments.{all_before, moment_within}
 use Rattle.histories.proofs.Places.{moment_at-old, moment_at-new, moment_at-below, moment_at-project}
@@ -13,7 +14,7 @@ use Rattle.manifest.specs.declared.policy.Policy.{Policy}
 use Rattle.manifest.specs.declared.pod.ContainerSpec.{ContainerSpec}
 use Rattle.state_diff.specs.declared.differ.Differ.{Differ}
 use Rattle.state_diff.specs.declared.differ.Changes.{Changes}
-use Rattle.state_diff.specs.Instances.{Tick, seen_at, IsOf, Listed, IsExit, Ends}
+use Rattle.state_diff.specs.Instances.{Tick, seen_at, IsOf, Listed, IsExit, Ends, killed_code}
 use Rattle.state_diff.specs.Differ.{IsStateOf as IsDifferOf, AreChanges}
 use Rattle.state_diff.proofs.Places.{kept}
 use Rattle.state_diff.proofs.Unique.{of_coded}
@@ -26,7 +27,7 @@ use Rattle.containers.specs.declared.pod_event_kind.PodEventKind.TheVariants.{Di
 use Rattle.containers.specs.Ticks.{ContainerTick, listings}
 use Rattle.containers.specs.Probed.{IsContainerReady}
 use Rattle.containers.specs.Exits.{IsToRestart}
-use Rattle.containers.specs.Events.{IsGone, HasDied, WasReady, ChangesReadiness, IsBackedOff, IsRestarted, Gives}
+use Rattle.containers.specs.Events.{IsGone, HasDied, WasReady, ChangesReadiness, IsBackedOff, IsRestarted}
 use Rattle.containers.specs.Step.{AreCounted}
 use Rattle.containers.proofs.TickLemmas.{listing, onto_at, from_at}
 use Rattle.containers.proofs.ExitLemmas.{IsGoneNow, leaving}
@@ -52,35 +53,36 @@ pub gone_gives : (h : List ContainerTick) (x : ContainerTick) (d : Differ) (chan
     (event : Option PodEventKind)
     → IsDifferOf (listings h) d
     → AreChanges (listings (h ++ x ∷ [])) (length h) changes
-    → ((what : PodEventKind) → ((event ≡ Some what) ↔ ((a : ℕ) × (what ≡ Died a (pos 137)) × (changes.removed ≡ Some a)
+    → ((kind : PodEventKind)
+    → ((event ≡ Some kind) ↔ ((a : ℕ) × (kind ≡ Died a killed_code) × (changes.removed ≡ Some a)
     × IsTrue changes.removed_died)))
-    → Gives (IsGone (h ++ x ∷ []) (length h)) event
-gone_gives h x d changes event is are gives what =
+    → IsTheOne (IsGone (h ++ x ∷ []) (length h)) event
+gone_gives h x d changes event is are gives kind =
     let G : List Tick → ℕ → ℕ → Type 0 = λ k t a. IsExit k a t × (Listed k a t → ⊥) in
     let changed = from_at (λ k t. AreChanges k t changes) h x are in
     let by = gone_is (listings h) d (listing x) changes is changed in (
       (λ e.
-          let w = (gives what).0 e in
+          let w = (gives kind).0 e in
           let g = onto_at (λ k t. G k t w.0) h x ((by w.0).0 (w.2, w.3)) in
           (w.0, w.1, g.0, g.1)),
       (λ w.
           let r = (by w.0).1 (from_at (λ k t. G k t w.0) h x (w.2, w.3)) in
-          (gives what).1 (w.0, w.1, r.0, r.1)),
+          (gives kind).1 (w.0, w.1, r.0, r.1)),
     )
 
 -- the listed one that died
 pub died_gives : (h : List ContainerTick) (x : ContainerTick) (changes : Changes) (event : Option PodEventKind)
     → AreChanges (listings (h ++ x ∷ [])) (length h) changes
-    → ((what : PodEventKind) → ((event ≡ Some what)
-    ↔ ((a : ℕ) × (code : ℤ) × (what ≡ Died a code) × (changes.died ≡ Some (a, code)))))
-    → Gives (HasDied (h ++ x ∷ []) (length h)) event
-died_gives h x changes event are gives what = (
+    → ((kind : PodEventKind) → ((event ≡ Some kind)
+    ↔ ((a : ℕ) × (code : ℤ) × (kind ≡ Died a code) × (changes.died ≡ Some (a, code)))))
+    → IsTheOne (HasDied (h ++ x ∷ []) (length h)) event
+died_gives h x changes event are gives kind = (
   (λ e.
-      let w = (gives what).0 e in
+      let w = (gives kind).0 e in
       let q = (are.died w.0 w.1).0 w.3 in
       (w.0, w.1, w.2, q.0, of_coded w.0 w.1 (seen_at (listings (h ++ x ∷ [])) (length h)) q.1, inl q.1)),
   (λ (a, code, e, exit, listed, at). elim at [
-    | inl q ↦ (gives what).1 (a, code, e, (are.died a code).1 (exit, q))
+    | inl q ↦ (gives kind).1 (a, code, e, (are.died a code).1 (exit, q))
     | inr w ↦ absurd (w.0 listed)
   ]),
 )
@@ -112,17 +114,17 @@ was_ready spec h x = (forth, back h)
 pub readiness_gives : (spec : ContainerSpec) (h : List ContainerTick) (x : ContainerTick) (before now : Bool)
     (event : Option PodEventKind) → (IsTrue before ↔ IsContainerReady spec h)
     → (IsTrue now ↔ IsContainerReady spec (h ++ x ∷ []))
-    → ((what : PodEventKind) → ((event ≡ Some what)
-    ↔ (((what ≡ Ready) × IsTrue now × (IsTrue before → ⊥)) ⊎ ((what ≡ Unready) × (IsTrue now → ⊥)
+    → ((kind : PodEventKind) → ((event ≡ Some kind)
+    ↔ (((kind ≡ Ready) × IsTrue now × (IsTrue before → ⊥)) ⊎ ((kind ≡ Unready) × (IsTrue now → ⊥)
     × IsTrue before))))
-    → Gives (ChangesReadiness spec (h ++ x ∷ []) (length h)) event
-readiness_gives spec h x before now event old new gives what =
+    → IsTheOne (ChangesReadiness spec (h ++ x ∷ []) (length h)) event
+readiness_gives spec h x before now event old new gives kind =
     let was = was_ready spec h x in (
-      (λ e. elim ((gives what).0 e) [
+      (λ e. elim ((gives kind).0 e) [
         | inl w ↦ inl (w.0, new.0 w.1, (λ r. w.2 (old.1 (was.0 r))))
         | inr w ↦ inr (w.0, (λ r. w.1 (new.1 r)), was.1 (old.0 w.2))
       ]),
-      (λ c. (gives what).1 (elim c [
+      (λ c. (gives kind).1 (elim c [
         | inl w ↦ inl (w.0, new.1 w.1, (λ t. w.2 (was.1 (old.0 t))))
         | inr w ↦ inr (w.0, (λ t. w.1 (new.0 t)), old.1 (was.0 w.2))
       ])),
@@ -166,12 +168,12 @@ pub backoff_gives : (policy : Policy) (max_restart_delay : ℕ) (spec : Containe
     → IsRising (h ++ x ∷ []) → AreCounted max_restart_delay h x backoff delay
     → (IsTrue backs_off ↔ ((a : ℕ) × IsToRestart policy spec (h ++ x ∷ []) a × IsFirstMoment (listings (h ++ x ∷ []))
     (Ends (listings (h ++ x ∷ [])) a) (Some x.moment)))
-    → ((what : PodEventKind) → ((event ≡ Some what)
-    ↔ ((d : ℕ) × (what ≡ Backoff d) × (delay ≡ Some d) × (0 < d) × IsTrue backs_off)))
-    → Gives (IsBackedOff policy max_restart_delay spec (h ++ x ∷ []) (length h)) event
-backoff_gives policy max_restart_delay spec h x backoff delay backs_off event rising counted off gives what = (
+    → ((kind : PodEventKind) → ((event ≡ Some kind)
+    ↔ ((d : ℕ) × (kind ≡ Backoff d) × (delay ≡ Some d) × (0 < d) × IsTrue backs_off)))
+    → IsTheOne (IsBackedOff policy max_restart_delay spec (h ++ x ∷ []) (length h)) event
+backoff_gives policy max_restart_delay spec h x backoff delay backs_off event rising counted off gives kind = (
   (λ e.
-      let w = (gives what).0 e in
+      let w = (gives kind).0 e in
       let p = off.0 w.4 in
       let exit = (exit_now h x p.0 rising).0 p.2 in
       let d = delay_at (λ n. IsDelay max_restart_delay counted.exits n) delay w.0 w.2 (counted.delayed p.0 exit) in
@@ -182,7 +184,7 @@ backoff_gives policy max_restart_delay spec h x backoff delay backs_off event ri
       let mine : IsDelay max_restart_delay counted.exits d =
       subst (λ (es : List Exit). IsDelay max_restart_delay es d) same is in
       let one : w.0 ≡ d = (one_delay max_restart_delay counted.exits).1 w.0 d w.2 mine in
-      (gives what).1 (
+      (gives kind).1 (
         d,
         e,
         subst (λ (n : ℕ). delay ≡ Some n) one w.1,
@@ -233,14 +235,14 @@ pub restart_gives : (policy : Policy) (max_restart_delay : ℕ) (spec : Containe
     → ((a : ℕ) → ((attempt ≡ Some a) ↔ IsToRestart policy spec (h ++ x ∷ []) a))
     → (IsTrue is_due ↔ ((due : ℕ) × IsRestartDue max_restart_delay counted.exits (Some due) × (due ≤ x.moment)
     × IfSome last_at (λ last. last < due)))
-    → ((what : PodEventKind)
-    → ((event ≡ Some what) ↔ ((a : ℕ) × (what ≡ Restart a) × (attempt ≡ Some a) × IsTrue is_due)))
-    → Gives (IsRestarted policy max_restart_delay spec (h ++ x ∷ []) (length h)) event
+    → ((kind : PodEventKind)
+    → ((event ≡ Some kind) ↔ ((a : ℕ) × (kind ≡ Restart a) × (attempt ≡ Some a) × IsTrue is_due)))
+    → IsTheOne (IsRestarted policy max_restart_delay spec (h ++ x ∷ []) (length h)) event
 restart_gives policy max_restart_delay spec h x backoff delay attempt last_at is_due event rising counted last to due
     gives
-    what = (
+    kind = (
       (λ e.
-          let w = (gives what).0 e in
+          let w = (gives kind).0 e in
           let d = due.0 w.3 in
           let before = subst (λ (o : Option ℕ). IfSome o (λ last. last < d.0)) last d.3 in (
             w.0,
@@ -262,5 +264,5 @@ restart_gives policy max_restart_delay spec h x backoff delay attempt last_at is
           exits_one (listings (h ++ x ∷ [])) exits counted.exits are counted.are_exits in
           let mine : IsRestartDue max_restart_delay counted.exits (Some at) =
           subst (λ (es : List Exit). IsRestartDue max_restart_delay es (Some at)) same is in
-          (gives what).1 (a, e, (to a).1 t, due.1 (at, mine, w.0, before))),
+          (gives kind).1 (a, e, (to a).1 t, due.1 (at, mine, w.0, before))),
     )

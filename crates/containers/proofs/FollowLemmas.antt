@@ -3,7 +3,7 @@ use Rattle.std.proofs.Common.{◌≡◌, inl, inr, ℕ, zero, suc, ◌-◌, ◌<
 use Rattle.std.proofs.Common.{take, drop, Option, Some, None, refl, subst, sym, ◌∙◌, arith}
 use Rattle.std.specs.Prelude.{◌↔◌, IsSome, IsSomeAnd, IfSome, IsTrue, is_some}
 use Rattle.std.proofs.lemmas.List.{take-append-drop}
-use Rattle.histories.specs.Histories.{IsSo}
+use Rattle.histories.specs.Histories.{HoldsAt}
 use Rattle.histories.proofs.First.{IsFirst-new, IsFirstMoment-unique}
 use Rattle.histories.proofs.Picked.{picked_none, so_picked_in, so_picked_out}
 use Rattle.histories.proofs.Lists.{some_given}
@@ -99,7 +99,7 @@ pub none_before_start : (h : List ContainerTick) (a : ℕ) → ((u : ℕ) → Li
     → AreTicksOf h a []
 none_before_start h a none = picked_none _ _ (λ t lt s. absurd (never t s))
   where
-    never : (t : ℕ) → IsSo (BelongsTo a) h t → ⊥
+    never : (t : ℕ) → HoldsAt (BelongsTo a) h t → ⊥
     never t s =
         let r = runs_at (listings (take (suc t) h)) a s.so.runs in
         let P : List ContainerTick → Type 0 = λ k. ListedAs (listings k) a Running r.0 in

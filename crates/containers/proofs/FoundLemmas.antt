@@ -4,7 +4,7 @@ use Rattle.std.proofs.Common.{◌≡◌, inl, inr, ℕ, zero, suc, ◌-◌, ◌<
 use Rattle.std.proofs.Common.{None, refl, subst, arith}
 use Rattle.std.specs.Prelude.{◌↔◌, Contains, IsTrue}
 use Rattle.std.proofs.lemmas.Bool.{cases_lt}
-use Rattle.histories.specs.Histories.{recorded, IsSo, IsFirstMoment}
+use Rattle.histories.specs.Histories.{recorded, HoldsAt, IsFirstMoment}
 use Rattle.histories.proofs.Decide.{OrNot, negated, both, test_of, true_or_not}
 use Rattle.histories.proofs.Found.{so_or_not, once_or_never, picked_of}
 use Rattle.manifest.specs.declared.pod.ContainerSpec.{ContainerSpec}
@@ -129,7 +129,7 @@ belongs_or_not a h = elim (both (listed_or_not (listings h) a (length h - 1)) (r
 
 pub some_list_of_results : SomeListOfResults
 some_list_of_results h a =
-    picked_of (IsSo (BelongsTo a) h) (so_or_not (BelongsTo a) (belongs_or_not a) h) (map results_of h)
+    picked_of (HoldsAt (BelongsTo a) h) (so_or_not (BelongsTo a) (belongs_or_not a) h) (map results_of h)
 
 -- of an instance that has started its probes say so, or not
 says_from : (Q : ℕ → List ProbeTick → Type 0) → ((start : ℕ) (ticks : List ProbeTick) → OrNot (Q start ticks))

@@ -1,11 +1,12 @@
 -- The laws of a container.
-use Rattle.std.proofs.Common.{◌≡◌, inl, inr, ℕ, suc, ◌≤◌, List, ◌++◌, map, take, drop, Option, Some, None, refl}
+use Rattle.std.proofs.Common.{◌≡◌, inl, inr, ℕ, suc, ◌≤◌, List, ◌++◌, map, take, drop, Option, Some, refl}
 use Rattle.std.proofs.Common.{subst, sym, arith}
 use Rattle.std.proofs.lemmas.Bool.{cases_lt}
 use Rattle.std.proofs.lemmas.List.{take-append-drop, take-take}
-use Rattle.histories.specs.Histories.{IsSo, ComesTrue}
+use Rattle.histories.specs.Histories.{HoldsAt, ComesTrue}
 use Rattle.histories.proofs.First.{IsFirst-unique, IsFirstMoment-unique}
 use Rattle.histories.proofs.Picked.{picked_one, so_picked_front}
+use Rattle.histories.proofs.TheOne.{IsTheOne-unique}
 use Rattle.manifest.specs.declared.pod.ContainerSpec.{ContainerSpec}
 use Rattle.probes.specs.declared.probe_set.Cause.{Cause}
 use Rattle.probes.specs.declared.probe_set.Cause.TheVariants.{Startup, Liveness}
@@ -18,7 +19,7 @@ use Rattle.containers.specs.declared.events.ContainerEvents.{ContainerEvents}
 use Rattle.containers.specs.Ticks.{ContainerTick, BelongsTo, results_of}
 use Rattle.containers.specs.Probed.{IsKillOrdered}
 use Rattle.containers.specs.Exits.{IsToRestart}
-use Rattle.containers.specs.Events.{IsKilled, Gives}
+use Rattle.containers.specs.Events.{IsKilled}
 use Rattle.containers.specs.Laws.{OneListOfExits, OneListOfResults, RestartsTheNewest, KilledOnce, OneListOfEvents}
 use Rattle.containers.proofs.ComesLemmas.{start_later}
 use Rattle.containers.proofs.RestartLemmas.{exits_one}
@@ -27,7 +28,7 @@ pub one_list_of_exits : OneListOfExits
 one_list_of_exits = exits_one
 
 pub one_list_of_results : OneListOfResults
-one_list_of_results h a ticks others are are' = picked_one (IsSo (BelongsTo a) h) (map results_of h) ticks others are
+one_list_of_results h a ticks others are are' = picked_one (HoldsAt (BelongsTo a) h) (map results_of h) ticks others are
     are'
 
 pub restarts_the_newest : RestartsTheNewest
@@ -61,7 +62,7 @@ causes_agree spec start ticks Liveness Startup range k l = absurd (one_cause spe
 -- of two orders the causes agree
 ordered : (spec : ContainerSpec) (h : List ContainerTick) (a t u : ℕ) (cause other : Cause) → AreInRange spec.probes
     → t ≤ u
-    → IsSo (IsKillOrdered spec cause a) h t → IsSo (IsKillOrdered spec other a) h u → cause ≡ other
+    → HoldsAt (IsKillOrdered spec cause a) h t → HoldsAt (IsKillOrdered spec other a) h u → cause ≡ other
 ordered spec h a t u cause other range le k l =
     let whole : take (suc t) (take (suc u) h) ++ drop (suc t) (take (suc u) h) ≡ take (suc u) h =
     take-append-drop (suc t) (take (suc u) h) in
@@ -75,7 +76,7 @@ ordered spec h a t u cause other range le k l =
     late.says
 
 either_way : (spec : ContainerSpec) (h : List ContainerTick) (a t u : ℕ) (cause other : Cause) → AreInRange spec.probes
-    → IsSo (IsKillOrdered spec cause a) h t → IsSo (IsKillOrdered spec other a) h u → cause ≡ other
+    → HoldsAt (IsKillOrdered spec cause a) h t → HoldsAt (IsKillOrdered spec other a) h u → cause ≡ other
 either_way spec h a t u cause other range k l = elim (cases_lt u t) [
   | inl lt ↦ sym (ordered spec h a u t other cause range (omega arith) l k)
   | inr ge ↦ ordered spec h a t u cause other range (omega arith) k l
@@ -95,13 +96,7 @@ killed_once spec h t u a cause other range killed killed' =
     let l = killed_of spec h u a other killed' in
     let same : cause ≡ other = either_way spec h a t u cause other range k.holds l.holds in
     let k' = subst (λ (d : Cause). ComesTrue (IsKillOrdered spec d a) h t) same k in
-    (IsFirst-unique (IsSo (IsKillOrdered spec other a) h) t u k' l, same)
-
--- there is one event of a place
-pub event_one : (P : PodEventKind → Type 0) (o p : Option PodEventKind) → Gives P o → Gives P p → o ≡ p
-event_one P None None is is' = refl
-event_one P None (Some w) is is' = (is w).1 ((is' w).0 refl)
-event_one P (Some w) p is is' = sym ((is' w).1 ((is w).0 refl))
+    (IsFirst-unique (HoldsAt (IsKillOrdered spec other a) h) t u k' l, same)
 
 events_same : (e f : ContainerEvents) → e.gone ≡ f.gone → e.started ≡ f.started → e.died ≡ f.died
     → e.passed ≡ f.passed → e.kill ≡ f.kill
@@ -130,8 +125,8 @@ events_same e f gone started died passed kill readiness backoff restart =
 
 pub one_list_of_events : OneListOfEvents
 one_list_of_events policy max_restart_delay spec h t e f are are' =
-    events_same e f (event_one _ _ _ are.gone are'.gone) (event_one _ _ _ are.started are'.started)
-    (event_one _ _ _ are.died are'.died)
-    (event_one _ _ _ are.passed are'.passed) (event_one _ _ _ are.kill are'.kill)
-    (event_one _ _ _ are.readiness are'.readiness)
-    (event_one _ _ _ are.backoff are'.backoff) (event_one _ _ _ are.restart are'.restart)
+    events_same e f (IsTheOne-unique _ _ _ are.gone are'.gone) (IsTheOne-unique _ _ _ are.started are'.started)
+    (IsTheOne-unique _ _ _ are.died are'.died)
+    (IsTheOne-unique _ _ _ are.passed are'.passed) (IsTheOne-unique _ _ _ are.kill are'.kill)
+    (IsTheOne-unique _ _ _ are.readiness are'.readiness)
+    (IsTheOne-unique _ _ _ are.backoff are'.backoff) (IsTheOne-unique _ _ _ are.restart are'.restart)

@@ -1,7 +1,7 @@
 -- What its probes make of a container that serves.
 use Rattle.std.proofs.Common.{◌≡◌, inl, inr, ℕ, Bool, List, Option, Some, None, subst}
 use Rattle.std.specs.Prelude.{◌↔◌, IsTrue, map}
-use Rattle.histories.specs.Histories.{IsSo, IsFirstMoment}
+use Rattle.histories.specs.Histories.{HoldsAt, IsFirstMoment}
 use Rattle.histories.proofs.First.{IsFirstMoment-unique}
 use Rattle.histories.proofs.Picked.{picked_one}
 use Rattle.manifest.specs.declared.pod.ContainerSpec.{ContainerSpec}
@@ -54,7 +54,8 @@ said Q h a start ticks starts are s =
     let same' : s.start ≡ start = cc in
     let P : ℕ → Type 0 = λ m. Q m s.ticks in
     let R : List ProbeTick → Type 0 = λ ts. Q start ts in
-    subst R (picked_one (IsSo (BelongsTo a) h) (map results_of h) s.ticks ticks s.are_ticks are) (subst P same' s.says)
+    subst R (picked_one (HoldsAt (BelongsTo a) h) (map results_of h) s.ticks ticks s.are_ticks are)
+    (subst P same' s.says)
 
 -- where the container serves, the probe set says it of its instance
 pub says_by : (Q : ℕ → List ProbeTick → Type 0) (spec : ContainerSpec) (h : List ContainerTick) (c : Container)

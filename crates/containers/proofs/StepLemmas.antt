@@ -2,7 +2,8 @@
 use Rattle.std.proofs.Common.{◌≡◌, ◌⊎◌, inl, inr, ℕ, ◌-◌, ◌<◌, Bool, true, false, List, [], ◌∷◌, ◌++◌, length, Option}
 use Rattle.std.proofs.Common.{Some, refl, subst, sym, ap, ◌∙◌, arith}
 use Rattle.std.specs.Prelude.{◌↔◌, ◌||◌, IsSomeAnd, IfSome, IsTrue}
-use Rattle.histories.specs.Histories.{Recorded, moment_at, last_moment, EndsBefore, IsSo}
+use Rattle.histories.specs.Histories.{Recorded, moment_at, last_moment, EndsBefore, HoldsAt}
+use Rattle.histories.specs.TheOne.{IsTheOne}
 use Rattle.histories.proofs.Growth.{grows_so}
 use Rattle.histories.proofs.Moments.{IsRising-more}
 use Rattle.histories.proofs.Places.{moment_at-project}
@@ -21,7 +22,7 @@ use Rattle.containers.specs.declared.pod_event_kind.PodEventKind.{PodEventKind}
 use Rattle.containers.specs.declared.pod_event_kind.PodEventKind.TheVariants.{Started, StartupPassed, Kill}
 use Rattle.containers.specs.Ticks.{ContainerTick, listings}
 use Rattle.containers.specs.Probed.{IsStarted, WasStarted}
-use Rattle.containers.specs.Events.{HasStarted, Passes, IsKilled, Gives}
+use Rattle.containers.specs.Events.{HasStarted, Passes, IsKilled}
 use Rattle.containers.specs.Container.{IsBefore, IsFollowing, IsStateOf}
 use Rattle.containers.specs.Step.{AreVerdictsOf, AreCounted}
 use Rattle.containers.proofs.TickLemmas.{long}
@@ -62,8 +63,8 @@ or_true true b = ((λ e. inl e), (λ w. refl))
 or_true false b = ((λ e. inr e), (λ w. elim w [ inl e ↦ absurd (let x : IsTrue false = e in cc) | inr e ↦ e ]))
 
 was_more : {A : Type 0} (P : List (Recorded A) → Type 0) (h : List (Recorded A)) (x : Recorded A) (before now : Bool)
-    → (IsTrue before ↔ ((t : ℕ) × IsSo P h t)) → (IsTrue now ↔ P (h ++ x ∷ []))
-    → (IsTrue (before || now) ↔ ((t : ℕ) × IsSo P (h ++ x ∷ []) t))
+    → (IsTrue before ↔ ((t : ℕ) × HoldsAt P h t)) → (IsTrue now ↔ P (h ++ x ∷ []))
+    → (IsTrue (before || now) ↔ ((t : ℕ) × HoldsAt P (h ++ x ∷ []) t))
 was_more P h x before now was is =
     let g = grows_so P h x in
     let or = or_true before now in (
@@ -107,34 +108,34 @@ state_more spec max_restart_delay h x before c started delay is later follows sa
 -- the place of the start
 pub started_gives : (h : List ContainerTick) (x : ContainerTick) (changes : Changes) (event : Option PodEventKind)
     → AreChanges (listings (h ++ x ∷ [])) (length h) changes
-    → ((what : PodEventKind) → ((event ≡ Some what) ↔ ((a : ℕ) × (what ≡ Started a) × (changes.started ≡ Some a))))
-    → Gives (HasStarted (h ++ x ∷ []) (length h)) event
-started_gives h x changes event are gives what = (
-  (λ e. let w = (gives what).0 e in (w.0, w.1, (are.started w.0).0 w.2)),
-  (λ w. (gives what).1 (w.0, w.1, (are.started w.0).1 w.2)),
+    → ((kind : PodEventKind) → ((event ≡ Some kind) ↔ ((a : ℕ) × (kind ≡ Started a) × (changes.started ≡ Some a))))
+    → IsTheOne (HasStarted (h ++ x ∷ []) (length h)) event
+started_gives h x changes event are gives kind = (
+  (λ e. let w = (gives kind).0 e in (w.0, w.1, (are.started w.0).0 w.2)),
+  (λ w. (gives kind).1 (w.0, w.1, (are.started w.0).1 w.2)),
 )
 
 -- the places of the probes
 pub passed_gives : (spec : ContainerSpec) (h : List ContainerTick) (x : ContainerTick) (d : Differ)
     (verdicts : Option Verdicts) (event : Option PodEventKind)
     → IsDifferOf (listings h) d → DifferAccepts d x.entry.seen → AreVerdictsOf spec h x verdicts
-    → ((what : PodEventKind)
-    → ((event ≡ Some what) ↔ ((a : ℕ) × (what ≡ StartupPassed a) × IsSomeAnd x.entry.seen (IsOf a)
+    → ((kind : PodEventKind)
+    → ((event ≡ Some kind) ↔ ((a : ℕ) × (kind ≡ StartupPassed a) × IsSomeAnd x.entry.seen (IsOf a)
     × IsSomeAnd verdicts (λ v. IsTrue v.passed))))
-    → Gives (Passes spec (h ++ x ∷ []) (length h)) event
-passed_gives spec h x d verdicts event is accepts are gives what = (
-  (λ e. let w = (gives what).0 e in (w.0, w.1, (passes_by spec h x d verdicts is accepts are w.0).0 (w.2, w.3))),
-  (λ w. let v = (passes_by spec h x d verdicts is accepts are w.0).1 w.2 in (gives what).1 (w.0, w.1, v.0, v.1)),
+    → IsTheOne (Passes spec (h ++ x ∷ []) (length h)) event
+passed_gives spec h x d verdicts event is accepts are gives kind = (
+  (λ e. let w = (gives kind).0 e in (w.0, w.1, (passes_by spec h x d verdicts is accepts are w.0).0 (w.2, w.3))),
+  (λ w. let v = (passes_by spec h x d verdicts is accepts are w.0).1 w.2 in (gives kind).1 (w.0, w.1, v.0, v.1)),
 )
 
 pub kill_gives : (spec : ContainerSpec) (h : List ContainerTick) (x : ContainerTick) (d : Differ)
     (verdicts : Option Verdicts) (event : Option PodEventKind)
     → IsDifferOf (listings h) d → DifferAccepts d x.entry.seen → AreVerdictsOf spec h x verdicts
-    → ((what : PodEventKind) → ((event ≡ Some what)
-    ↔ ((a : ℕ) × (cause : Cause) × (what ≡ Kill a cause) × IsSomeAnd x.entry.seen (IsOf a)
+    → ((kind : PodEventKind) → ((event ≡ Some kind)
+    ↔ ((a : ℕ) × (cause : Cause) × (kind ≡ Kill a cause) × IsSomeAnd x.entry.seen (IsOf a)
     × IsSomeAnd verdicts (λ v. v.kill ≡ Some cause))))
-    → Gives (IsKilled spec (h ++ x ∷ []) (length h)) event
-kill_gives spec h x d verdicts event is accepts are gives what = (
-  (λ e. let w = (gives what).0 e in (w.0, w.1, w.2, (kill_by spec h x d verdicts is accepts are w.0 w.1).0 (w.3, w.4))),
-  (λ w. let v = (kill_by spec h x d verdicts is accepts are w.0 w.1).1 w.3 in (gives what).1 (w.0, w.1, w.2, v.0, v.1)),
+    → IsTheOne (IsKilled spec (h ++ x ∷ []) (length h)) event
+kill_gives spec h x d verdicts event is accepts are gives kind = (
+  (λ e. let w = (gives kind).0 e in (w.0, w.1, w.2, (kill_by spec h x d verdicts is accepts are w.0 w.1).0 (w.3, w.4))),
+  (λ w. let v = (kill_by spec h x d verdicts is accepts are w.0 w.1).1 w.3 in (gives kind).1 (w.0, w.1, w.2, v.0, v.1)),
 )

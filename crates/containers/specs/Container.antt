@@ -1,4 +1,4 @@
--- Where the ticks of a container lead.
+-- The state of a container after its ticks.
 use Rattle.std.specs.Prelude.{◌≡◌, ◌↔◌, ℕ, List, Option, IsTrue}
 use Rattle.histories.specs.Histories.{IsRising}
 use Rattle.manifest.specs.declared.pod.ContainerSpec.{ContainerSpec}
@@ -14,7 +14,7 @@ use Rattle.containers.specs.Ticks.{ContainerTick, listings, AreTicksOf, StartsAt
 use Rattle.containers.specs.Probed.{WasStarted}
 use Rattle.containers.specs.Exits.{AreExits}
 
--- once the newest instance has started, the probe set follows it
+-- the newest instance, a, started at this moment, and the probe set follows it
 pub record IsFollowedBy (spec : ContainerSpec) (h : List ContainerTick) (c : Container) (start : ℕ)
     (a : ℕ) : Type 0 where
   pub ticks : List ProbeTick
@@ -28,7 +28,7 @@ pub record IsFollowing (spec : ContainerSpec) (h : List ContainerTick) (c : Cont
   pub follows : Follows c.probes spec.probes
   pub probed : (a start : ℕ) → IsNewest (listings h) a → StartsAt h a start → IsFollowedBy spec h c start a
 
--- the container's value after these ticks, on a node with a greatest restart delay
+-- the container's state after these ticks, on a node with a maximum restart delay
 pub record IsStateOf (spec : ContainerSpec) (max_restart_delay : ℕ) (h : List ContainerTick)
     (c : Container) : Type 0 where
   pub role : c.role ≡ spec.role

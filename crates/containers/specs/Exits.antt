@@ -23,7 +23,7 @@ AreExitsOf h [] (exit ∷ exits) = ⊥
 AreExitsOf h (a ∷ attempts) [] = ⊥
 AreExitsOf h (a ∷ attempts) (exit ∷ exits) = IsExitOf h a exit × AreExitsOf h attempts exits
 
--- each is greater than those before it
+-- each attempt is greater than those before it
 abbrev pub IsRisingList : List ℕ → Type 0
 IsRisingList attempts = (i j a b : ℕ) → i < j → slice_get attempts i ≡ Some a → slice_get attempts j ≡ Some b → a < b
 
@@ -41,12 +41,12 @@ pub record IsToRestart (policy : Policy) (spec : ContainerSpec) (h : List Contai
   pub exited : IsExitCode (listings h) a code
   pub wanted : WantsRestart policy spec.role code
 
--- the delay after the last exit, on a node with a greatest delay
+-- the delay after the last exit, on a node with a maximum delay
 abbrev pub IsDelayed : ℕ → List ContainerTick → ℕ → Type 0
 IsDelayed max_restart_delay h delay = (exits : List Exit) × AreExits (listings h) exits
     × IsDelay max_restart_delay exits delay
 
--- the first tick that is not before the moment from which on the restart is due
+-- t is the first tick that is not before the moment from which on the restart after the last exit is due
 abbrev pub FallsDue : ℕ → List ContainerTick → ℕ → Type 0
 FallsDue max_restart_delay h t =
     (exits : List Exit) × (due : ℕ) × AreExits (listings h) exits × IsRestartDue max_restart_delay exits (Some due)

@@ -20,7 +20,7 @@ use Rattle.containers.specs.Events.{IsKilled, IsRestarted, AreEvents}
 abbrev pub SomeListOfExits : Type 0
 SomeListOfExits = (h : List Tick) → (exits : List Exit) × AreExits h exits
 
--- with a delay after the last of them
+-- there is a delay after the last of its exits
 abbrev pub SomeDelay : Type 0
 SomeDelay = (max_restart_delay : ℕ) (h : List ContainerTick) → (delay : ℕ) × IsDelayed max_restart_delay h delay
 
@@ -28,7 +28,7 @@ SomeDelay = (max_restart_delay : ℕ) (h : List ContainerTick) → (delay : ℕ)
 abbrev pub SomeListOfResults : Type 0
 SomeListOfResults = (h : List ContainerTick) (a : ℕ) → (ticks : List ProbeTick) × AreTicksOf h a ticks
 
--- and it has a view, and a status in a pod that was evicted or was not
+-- a container has a view, and a status in a pod that was evicted or was not
 pub record SomeStatus : Type 0 where
   pub view : (spec : ContainerSpec) (h : List ContainerTick) → (view : ContainerView) × IsViewOf spec h view
   pub shown : (spec : ContainerSpec) (is_evicted : Bool) (h : List ContainerTick)
@@ -38,7 +38,7 @@ pub record SomeStatus : Type 0 where
 abbrev pub OneListOfExits : Type 0
 OneListOfExits = (h : List Tick) (exits others : List Exit) → AreExits h exits → AreExits h others → exits ≡ others
 
--- and an instance at most one list of results
+-- an instance has at most one list of results
 abbrev pub OneListOfResults : Type 0
 OneListOfResults = (h : List ContainerTick) (a : ℕ) (ticks others : List ProbeTick) → AreTicksOf h a ticks
     → AreTicksOf h a others → ticks ≡ others

@@ -2,7 +2,7 @@
 -- "Container probes"; "Sidecar Containers"; that an init container is never started or ready is
 -- this profile's rule.)
 use Rattle.std.specs.Prelude.{◌≢◌, ℕ, List}
-use Rattle.histories.specs.Histories.{IsSo}
+use Rattle.histories.specs.Histories.{HoldsAt}
 use Rattle.manifest.specs.declared.pod.ContainerSpec.{ContainerSpec}
 use Rattle.manifest.specs.declared.pod.Role.TheVariants.{Init}
 use Rattle.manifest.specs.Probe.{Probe}
@@ -27,14 +27,14 @@ pub record Serves (spec : ContainerSpec) (h : List ContainerTick) (a : ℕ) : Ty
   pub newest : IsNewest (listings h) a
   pub runs : IsState (listings h) a Running
 
--- it is started: it serves, and the startup of its instance has passed
+-- the container is started: it serves, and the startup of its newest instance has passed
 abbrev pub IsStarted : ContainerSpec → List ContainerTick → Type 0
 IsStarted spec h = (a : ℕ) × Serves spec h a × SaysOf (IsStartedBy spec.probes.startup) h a
 
--- it is ready: it is started, and its instance is ready by its probes
+-- the container is ready: it serves, and its newest instance is started and ready by its probes
 abbrev pub IsContainerReady : ContainerSpec → List ContainerTick → Type 0
 IsContainerReady spec h = (a : ℕ) × Serves spec h a × SaysOf (IsInstanceReady spec.probes) h a
 
--- at some tick it was started
+-- after some tick the container was started
 abbrev pub WasStarted : ContainerSpec → List ContainerTick → Type 0
-WasStarted spec h = (t : ℕ) × IsSo (IsStarted spec) h t
+WasStarted spec h = (t : ℕ) × HoldsAt (IsStarted spec) h t

@@ -43,7 +43,7 @@ AreVerdictsOf spec h x (Some verdicts) =
     × ((a : ℕ) × (start : ℕ) × (ticks : List Tick) × IsTaken h x a start ticks
     × AreVerdicts spec.probes start (ticks ++ results_of x ∷ []) (length ticks) verdicts)
 
--- the exits with those of the tick are counted; where there was one, its delay is known
+-- the exits are counted, with those of the tick; where the tick has one, the delay after it is known
 pub record AreCounted (max_restart_delay : ℕ) (h : List ContainerTick) (x : ContainerTick) (backoff : RestartBackoff)
     (delay : Option ℕ) : Type 0 where
   pub exits : List Exit

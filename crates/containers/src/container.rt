@@ -1,3 +1,5 @@
+//! A container, tick by tick.
+
 ghost use Rattle.std.specs.Prelude.{◌≡◌, ◌↔◌, ◌<◌, ◌≤◌, ℕ, List, [], ◌∷◌, ◌++◌, length, Some, IsTrue, IsSomeAnd};
 ghost use Rattle.std.specs.Prelude.{IfSome};
 ghost use Rattle.quantity.specs.Duration.{end_of_time};
@@ -42,7 +44,7 @@ pub struct Container {
 }
 
 impl Container {
-    /// A container that no tick has shown yet, on a node with this greatest restart delay.
+    /// A container that no tick has shown yet, on a node with this maximum restart delay.
     pub fn new(spec: &ContainerSpec, max_restart_delay: MaxRestartDelay) -> Self
         ensures { IsStateOf spec.now max_restart_delay [] result }
     {
@@ -181,9 +183,9 @@ impl Container {
         Followed { changes, verdicts }
     }
 
-    /// Counts the exits of a tick at the moment, by its changes and by when the newest instance of
-    /// the container before it began to run: by how many seconds the restart after the last exit is
-    /// backed off.
+    /// Counts the exits of a tick at the moment, by its changes and by when the instance that was the
+    /// newest before it began to run. Gives by how many seconds the restart after the last of these
+    /// exits is backed off.
     fn count_exits(&mut self, start: Option<u64>, changes: &Changes, at: u64) -> Option<u64>
         requires { at < end_of_time }
         ensures role { self.new.role ≡ self.old.role }
@@ -206,8 +208,8 @@ impl Container {
         count_both(&mut self.backoff, at, gone, died)
     }
 
-    /// A tick comes, at the moment, in seconds, below 2^40 and later than the last tick's, with
-    /// what it shows of the container: a listing that may come next, and results.
+    /// A tick comes, at the moment, in seconds, before `END_OF_TIME` and later than the last tick's,
+    /// with what it shows of the container: a listing that may come next, and results.
     pub fn step(&mut self, policy: Policy, at: u64, observed: ContainerObs) -> ContainerEvents
         requires accepted { Accepts self.old observed.seen }
         requires later { IsBefore self.old at }

@@ -1,3 +1,5 @@
+//! The events of a container in a tick.
+
 ghost use Rattle.std.specs.Prelude.{◌≡◌, [], ◌∷◌};
 
 use crate::pod_event_kind::PodEventKind;

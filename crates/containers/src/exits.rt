@@ -25,8 +25,8 @@ pub fn run_until(died: bool, start: Option<u64>, at: u64) -> Option<u64>
     }
 }
 
-/// An exit at this moment, if there is one, after a run of this many seconds; by how many seconds its
-/// restart is backed off.
+/// Counts an exit at this moment, if there is one, after a run of this many seconds. Gives by how many
+/// seconds its restart is backed off.
 fn count(backoff: &mut Backoff, at: u64, run: Option<u64>) -> Option<u64>
     requires { at < end_of_time }
     ensures state { (max_restart_delay : ℕ) (exits : List Exit)
@@ -44,9 +44,9 @@ fn count(backoff: &mut Backoff, at: u64, run: Option<u64>) -> Option<u64>
     }
 }
 
-/// The exits of a tick at this moment, of which each gives its run: that of the instance which is
-/// no longer listed comes first, and then that of the listed one. By how many seconds the restart
-/// after the last of them is backed off.
+/// Counts the exits of a tick at this moment, each after its run: first that of the instance which is
+/// no longer listed, and then that of the listed one. Gives by how many seconds the restart after the
+/// last of them is backed off.
 pub fn count_both(
     backoff: &mut Backoff,
     at: u64,

@@ -1,4 +1,5 @@
-//! Laws of a container, over the definitions alone.
+//! What the definitions of a container imply, for every list of ticks. The functions do nothing; their
+//! contracts are the laws.
 
 ghost use Rattle.containers.specs.Laws as laws;
 

@@ -1,7 +1,7 @@
-//! The events of a tick, place by place.
+//! The events of a tick, by the places that they have in it.
 
-ghost use Rattle.std.specs.Prelude.{◌≡◌, ◌⊎◌, ◌↔◌, ◌<◌, ◌≤◌, ℕ, ℤ, pos, Option, Some, IsTrue, IsSomeAnd, IfSome};
-ghost use Rattle.state_diff.specs.Instances.{IsOf};
+ghost use Rattle.std.specs.Prelude.{◌≡◌, ◌⊎◌, ◌↔◌, ◌<◌, ◌≤◌, ℕ, ℤ, Option, Some, IsTrue, IsSomeAnd, IfSome};
+ghost use Rattle.state_diff.specs.Instances.{IsOf, killed_code};
 ghost use Rattle.probes.specs.declared.probe_set.Cause.{Cause};
 ghost use Rattle.containers.specs.declared.pod_event_kind.PodEventKind.{PodEventKind};
 ghost use Rattle.containers.specs.declared.pod_event_kind.PodEventKind.TheVariants.{Died, Started, StartupPassed, Kill};
@@ -10,15 +10,12 @@ ghost use Rattle.containers.specs.declared.pod_event_kind.PodEventKind.TheVarian
 
 use crate::pod_event_kind::PodEventKind;
 use probes::Verdicts;
-use state_diff::{Changes, Seen};
-
-/// The exit code of an instance that is no longer listed: 128 and the signal SIGKILL, 9.
-const KILLED: i32 = 137;
+use state_diff::{Changes, KILLED, Seen};
 
 /// An instance died because it is no longer listed.
 pub fn gone(changes: &Changes) -> Option<PodEventKind>
-    ensures { (what : PodEventKind) → ((result ≡ Some what)
-        ↔ ((a : ℕ) × (what ≡ Died a (pos 137)) × (changes.now.removed ≡ Some a)
+    ensures { (kind : PodEventKind) → ((result ≡ Some kind)
+        ↔ ((a : ℕ) × (kind ≡ Died a killed_code) × (changes.now.removed ≡ Some a)
         × IsTrue changes.now.removed_died)) }
 {
     let attempt = changes.removed?;
@@ -34,8 +31,8 @@ pub fn gone(changes: &Changes) -> Option<PodEventKind>
 
 /// The listed instance started.
 pub fn started(changes: &Changes) -> Option<PodEventKind>
-    ensures { (what : PodEventKind) → ((result ≡ Some what)
-        ↔ ((a : ℕ) × (what ≡ Started a) × (changes.now.started ≡ Some a))) }
+    ensures { (kind : PodEventKind) → ((result ≡ Some kind)
+        ↔ ((a : ℕ) × (kind ≡ Started a) × (changes.now.started ≡ Some a))) }
 {
     let attempt = changes.started?;
     Some(PodEventKind::Started { attempt })
@@ -43,8 +40,8 @@ pub fn started(changes: &Changes) -> Option<PodEventKind>
 
 /// The listed instance died.
 pub fn died(changes: &Changes) -> Option<PodEventKind>
-    ensures { (what : PodEventKind) → ((result ≡ Some what)
-        ↔ ((a : ℕ) × (code : ℤ) × (what ≡ Died a code) × (changes.now.died ≡ Some (a, code)))) }
+    ensures { (kind : PodEventKind) → ((result ≡ Some kind)
+        ↔ ((a : ℕ) × (code : ℤ) × (kind ≡ Died a code) × (changes.now.died ≡ Some (a, code)))) }
 {
     let (attempt, exit_code) = changes.died?;
     Some(PodEventKind::Died { attempt, exit_code })
@@ -52,8 +49,8 @@ pub fn died(changes: &Changes) -> Option<PodEventKind>
 
 /// The startup probe of the listed instance passed.
 pub fn passed(seen: Option<Seen>, verdicts: Option<Verdicts>) -> Option<PodEventKind>
-    ensures { (what : PodEventKind) → ((result ≡ Some what)
-        ↔ ((a : ℕ) × (what ≡ StartupPassed a) × IsSomeAnd seen (IsOf a)
+    ensures { (kind : PodEventKind) → ((result ≡ Some kind)
+        ↔ ((a : ℕ) × (kind ≡ StartupPassed a) × IsSomeAnd seen (IsOf a)
         × IsSomeAnd verdicts (λ v. IsTrue v.passed))) }
 {
     let seen = seen?;
@@ -69,8 +66,8 @@ pub fn passed(seen: Option<Seen>, verdicts: Option<Verdicts>) -> Option<PodEvent
 
 /// The listed instance is to be killed.
 pub fn kill(seen: Option<Seen>, verdicts: Option<Verdicts>) -> Option<PodEventKind>
-    ensures { (what : PodEventKind) → ((result ≡ Some what)
-        ↔ ((a : ℕ) × (cause : Cause) × (what ≡ Kill a cause) × IsSomeAnd seen (IsOf a)
+    ensures { (kind : PodEventKind) → ((result ≡ Some kind)
+        ↔ ((a : ℕ) × (cause : Cause) × (kind ≡ Kill a cause) × IsSomeAnd seen (IsOf a)
         × IsSomeAnd verdicts (λ v. v.kill ≡ Some cause))) }
 {
     let seen = seen?;
@@ -84,9 +81,9 @@ pub fn kill(seen: Option<Seen>, verdicts: Option<Verdicts>) -> Option<PodEventKi
 
 /// The container became ready, or is no longer.
 pub fn readiness(before: bool, now: bool) -> Option<PodEventKind>
-    ensures { (what : PodEventKind) → ((result ≡ Some what)
-        ↔ (((what ≡ Ready) × IsTrue now × (IsTrue before → ⊥))
-        ⊎ ((what ≡ Unready) × (IsTrue now → ⊥) × IsTrue before))) }
+    ensures { (kind : PodEventKind) → ((result ≡ Some kind)
+        ↔ (((kind ≡ Ready) × IsTrue now × (IsTrue before → ⊥))
+        ⊎ ((kind ≡ Unready) × (IsTrue now → ⊥) × IsTrue before))) }
 {
     if now && !before {
         Some(PodEventKind::Ready)
@@ -97,10 +94,10 @@ pub fn readiness(before: bool, now: bool) -> Option<PodEventKind>
     }
 }
 
-/// The restart is backed off by the delay, if it is of an instance that has exited now and wants one.
+/// The restart is backed off by the delay, unless that is 0, if an exit of the tick is followed by a restart.
 pub fn backoff(delay: Option<u64>, backs_off: bool) -> Option<PodEventKind>
-    ensures { (what : PodEventKind) → ((result ≡ Some what)
-        ↔ ((d : ℕ) × (what ≡ Backoff d) × (delay ≡ Some d) × (0 < d) × IsTrue backs_off)) }
+    ensures { (kind : PodEventKind) → ((result ≡ Some kind)
+        ↔ ((d : ℕ) × (kind ≡ Backoff d) × (delay ≡ Some d) × (0 < d) × IsTrue backs_off)) }
 {
     let delay = delay?;
     if backs_off && delay > 0 {
@@ -110,10 +107,10 @@ pub fn backoff(delay: Option<u64>, backs_off: bool) -> Option<PodEventKind>
     }
 }
 
-/// The instance that is to be started again, where that falls due.
+/// The instance that is started again, if its restart falls due.
 pub fn restart(attempt: Option<u32>, is_due: bool) -> Option<PodEventKind>
-    ensures { (what : PodEventKind) → ((result ≡ Some what)
-        ↔ ((a : ℕ) × (what ≡ Restart a) × (attempt ≡ Some a) × IsTrue is_due)) }
+    ensures { (kind : PodEventKind) → ((result ≡ Some kind)
+        ↔ ((a : ℕ) × (kind ≡ Restart a) × (attempt ≡ Some a) × IsTrue is_due)) }
 {
     let attempt = attempt?;
     if is_due {

@@ -1,3 +1,5 @@
+//! What may happen to a container or to a pod.
+
 use phase::Phase;
 use probes::Cause;
 

@@ -1,3 +1,5 @@
+//! The status of a container.
+
 use phase::ContainerState;
 
 /// What a pod's status shows of a container. (Kubernetes, "Pod Lifecycle", "Container states".)

@@ -23,7 +23,7 @@ use Rattle.pod_piece.specs.Piece.{place_of}
 use Rattle.ranking.specs.Order.{IsVictim}
 use Rattle.eviction.specs.declared.eviction.Eviction.{Eviction}
 use Rattle.eviction.specs.Replay.{pod_ticks, EvictedAt, evicted_at, own_eviction, IsCandidate, order_of, IsOfVictim}
-use Rattle.eviction.specs.Replay.{IsEvictionFor, is_paused, unless_paused, IsRound, IsReplay}
+use Rattle.eviction.specs.Replay.{IsEvictionFor, is_paused, unless_paused, IsEvictionOfTick, IsReplay}
 use Rattle.eviction.specs.Laws.{EvictedOnce, EvictedPodLived, ServedAlone}
 use Rattle.eviction.proofs.Own.{pod_ticks-more, of_pod, evicted_unless, own_eviction-longer}
 
@@ -39,7 +39,8 @@ record Reason (config : NodeConfig) (pods : List PodSpec) (before : List TickObs
 
 reason_of : (config : NodeConfig) (pods : List PodSpec) (before : List TickObs) (tick : TickObs)
     (evictions : List (Option Eviction)) (eviction : Eviction)
-    → IsRound config pods before tick evictions (Some eviction) → Reason config pods before tick evictions eviction
+    → IsEvictionOfTick config pods before tick evictions (Some eviction)
+    → Reason config pods before tick evictions eviction
 reason_of config pods before tick evictions eviction round =
     unpaused (is_paused config tick.at evictions) round.served round.is_served round.is_for
   where
@@ -71,7 +72,7 @@ reason_of config pods before tick evictions eviction round =
 -- the moment of an eviction is that of its tick
 pub moment_of : (config : NodeConfig) (pods : List PodSpec) (before : List TickObs) (tick : TickObs)
     (evictions : List (Option Eviction)) (eviction : Eviction)
-    → IsRound config pods before tick evictions (Some eviction) → eviction.order.at ≡ tick.at
+    → IsEvictionOfTick config pods before tick evictions (Some eviction) → eviction.order.at ≡ tick.at
 moment_of config pods before tick evictions eviction round =
     ap (λ (o : EvictOrder). o.at) (reason_of config pods before tick evictions eviction round).order
 

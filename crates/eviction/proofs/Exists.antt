@@ -30,7 +30,7 @@ use Rattle.ranking.proofs.LawLemmas.{RankAlike}
 use Rattle.ranking.proofs.Victims.{AreCandidates, victim_among}
 use Rattle.eviction.specs.declared.eviction.Eviction.{Eviction}
 use Rattle.eviction.specs.Replay.{pod_ticks, own_eviction, IsCandidate, order_of, IsEvictionFor, is_paused}
-use Rattle.eviction.specs.Replay.{unless_paused, IsRound, IsReplay}
+use Rattle.eviction.specs.Replay.{unless_paused, IsEvictionOfTick, IsReplay}
 use Rattle.eviction.specs.Laws.{SomeReplay}
 use Rattle.eviction.proofs.More.{no_replay, replay_more}
 use Rattle.eviction.proofs.Statuses.{some_status}
@@ -147,7 +147,7 @@ candidates pods before tick evictions = record {
 -- a tick has its eviction, or none
 some_round : (config : NodeConfig) (pods : List PodSpec) (before : List TickObs) (tick : TickObs)
     (evictions : List (Option Eviction))
-    → (e : Option Eviction) × IsRound config pods before tick evictions e
+    → (e : Option Eviction) × IsEvictionOfTick config pods before tick evictions e
 some_round config pods before tick evictions =
     let served = some_served config.eviction before tick in
     let found = some_eviction (unless_paused (is_paused config tick.at evictions) served.0) in

@@ -4,7 +4,7 @@ use Rattle.std.proofs.Common.{arith, append_assoc, append-nil}
 use Rattle.std.specs.Prelude.{◌^◌, option_map}
 use Rattle.std.specs.Global.{Vec}
 use denote.RawPtr.{null_ptr}
-use Rattle.histories.specs.Histories.{IsSo}
+use Rattle.histories.specs.Histories.{HoldsAt}
 use Rattle.histories.proofs.Decide.{test_of}
 use Rattle.histories.proofs.Found.{first_or_none}
 use Rattle.manifest.specs.declared.pod.PodSpec.{PodSpec}
@@ -45,7 +45,7 @@ usage_after pod evicted [] h usage is =
     (usage, subst P (sym (append-nil h)) is)
 usage_after pod evicted (x ∷ later) h usage is =
     let P : List PodTick → Type 0 = λ k. (u : Usage) × IsUsageOf pod evicted k u in
-    let ended = test_of (first_or_none (IsSo (EndsPod pod evicted) h) (some_end pod evicted h)) in
+    let ended = test_of (first_or_none (HoldsAt (EndsPod pod evicted) h) (some_end pod evicted h)) in
     let end = some_end pod evicted (h ++ x ∷ []) in
     let next = usage_more pod evicted end.0 h x usage ended.0 is ended.1 end.1 in
     subst P (append_assoc h (x ∷ []) later) (usage_after pod evicted later (h ++ x ∷ []) _ next)

@@ -16,7 +16,7 @@ use Rattle.pod_piece.specs.declared.status.PodStatus.{PodStatus}
 use Rattle.ranking.proofs.LawLemmas.{victim_unique}
 use Rattle.eviction.specs.declared.eviction.Eviction.{Eviction}
 use Rattle.eviction.specs.Replay.{IsCandidate, order_of, Evicts, IsOfVictim, IsEvictionFor, is_paused, unless_paused}
-use Rattle.eviction.specs.Replay.{IsRound}
+use Rattle.eviction.specs.Replay.{IsEvictionOfTick}
 use Rattle.eviction.specs.Laws.{OneReplay}
 
 -- two lists of which each place is determined by the places before it are one
@@ -75,7 +75,8 @@ eviction_unique config pods before tick evictions (Some key) one other (a, is, e
 
 pub round_unique : (config : NodeConfig) (pods : List PodSpec) (before : List TickObs) (tick : TickObs)
     (evictions : List (Option Eviction)) (one other : Option Eviction)
-    → IsRound config pods before tick evictions one → IsRound config pods before tick evictions other → one ≡ other
+    → IsEvictionOfTick config pods before tick evictions one → IsEvictionOfTick config pods before tick evictions other
+    → one ≡ other
 round_unique config pods before tick evictions one other v w =
     let P : Option ThresholdKey → Type 0 = λ served. IsEvictionFor config pods before tick evictions
     (unless_paused (is_paused config tick.at evictions) served) other in
@@ -88,6 +89,7 @@ one_replay config pods ticks one other v w = same_lists one other (v.as_many ∙
     let lt : t < length one = slice_get_within one t x e in
     let many : length one ≡ length ticks = v.as_many in
     let tick = given_at ticks t (omega arith) in
-    let P : List (Option Eviction) → Type 0 = λ evictions. IsRound config pods (take t ticks) tick.0 evictions y in
+    let P : List (Option Eviction) → Type 0 =
+    λ evictions. IsEvictionOfTick config pods (take t ticks) tick.0 evictions y in
     round_unique config pods (take t ticks) tick.0 (take t one) x y (v.each t tick.0 x tick.1 e)
     (subst P (sym before) (w.each t tick.0 y tick.1 f)))

@@ -29,7 +29,7 @@ SomeReplay =
     (config : NodeConfig) (pods : List PodSpec) (ticks : List TickObs)
     → (evictions : List (Option Eviction)) × IsReplay config pods ticks evictions
 
--- and one at most
+-- the ticks have at most one list of evictions
 abbrev pub OneReplay : Type 0
 OneReplay =
     (config : NodeConfig) (pods : List PodSpec) (ticks : List TickObs) (one other : List (Option Eviction))
@@ -81,12 +81,12 @@ pub record ServesOne (config : NodeConfig) (before : List TickObs) (tick : TickO
   pub kind : eviction.order.kind ≡ key.kind
   pub moment : eviction.order.at ≡ tick.at
 
--- a tick that evicts does so
+-- a tick that evicts a pod serves one threshold so
 abbrev pub ServedAlone : Type 0
 ServedAlone =
     OfEachEviction (λ config pods before tick evictions eviction. ServesOne config before tick eviction)
 
--- between two evictions as many seconds pass as the node's pause has, at least
+-- between two evictions at least the node's pause passes
 abbrev pub PausedBetween : Type 0
 PausedBetween =
     (config : NodeConfig) (pods : List PodSpec) (ticks : List TickObs) (evictions : List (Option Eviction))

@@ -31,7 +31,7 @@ pub record EvictedAt : Type 0 where
   pub tick : ℕ
   pub order : EvictOrder
 
--- one tick later
+-- the same eviction, counted from one tick earlier
 abbrev pub later : EvictedAt → EvictedAt
 later found = record { tick = suc found.tick; order = found.order }
 
@@ -82,7 +82,7 @@ pub record Evicts (config : NodeConfig) (pods : List PodSpec) (at : ℕ) (key : 
   pub number : eviction.pod ≡ n
   pub order : eviction.order ≡ order_of config pod at key
 
--- of the candidates the victim is evicted, if there is one
+-- the victim is evicted, if there is one
 abbrev pub IsOfVictim : NodeConfig → List PodSpec → ℕ → ThresholdKey → Option ℕ → Option Eviction → Type 0
 IsOfVictim config pods at key None eviction = eviction ≡ None
 IsOfVictim config pods at key (Some n) None = ⊥
@@ -102,7 +102,8 @@ abbrev pub is_recent : NodeConfig → ℕ → Option Eviction → Bool
 is_recent config at None = false
 is_recent config at (Some earlier) = nat_lt (at - earlier.order.at) config.eviction_pause
 
--- some earlier eviction is, so that no pod is evicted (this project's extended format)
+-- the eviction of some earlier tick is less than the node's pause ago, so that no pod is evicted (this project's
+-- extended format)
 abbrev pub is_paused : NodeConfig → ℕ → List (Option Eviction) → Bool
 is_paused config at evictions = list_any (is_recent config at) evictions
 
@@ -112,17 +113,17 @@ unless_paused true served = None
 unless_paused false served = served
 
 -- the eviction of a tick that comes after these ticks with these evictions
-pub record IsRound (config : NodeConfig) (pods : List PodSpec) (before : List TickObs) (tick : TickObs)
+pub record IsEvictionOfTick (config : NodeConfig) (pods : List PodSpec) (before : List TickObs) (tick : TickObs)
     (evictions : List (Option Eviction)) (eviction : Option Eviction) : Type 0 where
   pub served : Option ThresholdKey
   pub is_served : IsServed config.eviction before tick served
   pub is_for : IsEvictionFor config pods before tick evictions
       (unless_paused (is_paused config tick.at evictions) served) eviction
 
--- these are the evictions of these ticks
+-- these are the evictions of these ticks, one or none for each
 pub record IsReplay (config : NodeConfig) (pods : List PodSpec) (ticks : List TickObs)
     (evictions : List (Option Eviction)) : Type 0 where
   pub as_many : length evictions ≡ length ticks
   pub each : (t : ℕ) (tick : TickObs) (eviction : Option Eviction) → slice_get ticks t ≡ Some tick
       → slice_get evictions t ≡ Some eviction
-      → IsRound config pods (take t ticks) tick (take t evictions) eviction
+      → IsEvictionOfTick config pods (take t ticks) tick (take t evictions) eviction

@@ -15,7 +15,7 @@ use signals::ThresholdKind;
 pub struct Eviction {
     /// The number of the pod that is evicted.
     pub pod: usize,
-    /// The order.
+    /// The order to evict it.
     pub order: EvictOrder,
 }
 

@@ -22,7 +22,7 @@ use Rattle.node_signals.specs.declared.key.ThresholdKey.{ThresholdKey}
 use Rattle.node_signals.specs.declared.condition.NodeCondition.{NodeCondition}
 use Rattle.node_signals.specs.declared.condition.NodeCondition.TheVariants.{MemoryPressure, DiskPressure, PidPressure}
 use Rattle.node_signals.specs.Keys.{serving_order, threshold_at}
-use Rattle.node_signals.specs.Thresholds.{samples, IsActive, IsDue, IsEnough, IsReclaimed}
+use Rattle.node_signals.specs.Thresholds.{samples, IsActiveOnNode, IsDueOnNode, IsEnough, IsReclaimed}
 use Rattle.node_signals.specs.Conditions.{condition_of, Meets, IsMet}
 
 -- a threshold is active, or it isn't
@@ -35,7 +35,7 @@ threshold_active_or_not threshold capacity h =
     of_test (is_some since.0) (one_active_since.some limit reclaim h since.0 since.1)
 
 pub active_or_not : (eviction : EvictionConfig) (ticks : List TickObs) (key : ThresholdKey)
-    → OrNot (IsActive eviction ticks key)
+    → OrNot (IsActiveOnNode eviction ticks key)
 active_or_not eviction ticks key =
     let capacity = of eviction.capacity key.signal in
     given_or_not (λ threshold. IsThresholdActive threshold capacity (samples key.signal ticks))
@@ -56,7 +56,7 @@ threshold_due_or_not threshold capacity h x =
     ]
 
 pub due_or_not : (eviction : EvictionConfig) (before : List TickObs) (tick : TickObs) (key : ThresholdKey)
-    → OrNot (IsDue eviction (before ++ tick ∷ []) key)
+    → OrNot (IsDueOnNode eviction (before ++ tick ∷ []) key)
 due_or_not eviction before tick key =
     let capacity = of eviction.capacity key.signal in
     let sample_of : TickObs → Sample = λ t. sample t.at (of t.signals key.signal) in

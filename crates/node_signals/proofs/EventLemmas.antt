@@ -5,32 +5,19 @@ use mathlib.Core.Bool.{beq, not}
 use Rattle.std.specs.Prelude.{◌↔◌, IsTrue, slice_get}
 use Rattle.std.specs.Bool.{then_some}
 use Rattle.std.proofs.lemmas.List.{take_all}
+use Rattle.histories.specs.TheOne.{IsTheOne}
 use Rattle.histories.proofs.Decide.{same_bool}
 use Rattle.histories.proofs.Lists.{take_more}
+use Rattle.histories.proofs.TheOne.{IsTheOne-none, IsTheOne-some, IsTheOne-unique}
 use Rattle.node_signals.specs.declared.event.NodeEvent.{NodeEvent}
 use Rattle.node_config.specs.EvictionConfig.{EvictionConfig}
 use Rattle.observations.specs.declared.tick.TickObs.{TickObs}
 use Rattle.node_signals.specs.declared.key.ThresholdKey.{ThresholdKey}
 use Rattle.node_signals.specs.Keys.{serving_order}
 use Rattle.node_signals.specs.Conditions.{conditions}
-use Rattle.node_signals.specs.Events.{Changes, ChangesThreshold, ChangesCondition, Reclaims, Gives, as_list, AreGiven}
+use Rattle.node_signals.specs.Events.{Changes, ChangesThreshold, ChangesCondition, Reclaims, as_list, AreGiven}
 use Rattle.node_signals.specs.Events.{AreNodeEvents, Adds}
 use Rattle.node_signals.proofs.ServedLemmas.{key_at}
-
-pub gives_none : (P : NodeEvent → Type 0) → ((e : NodeEvent) → P e → ⊥) → Gives P None
-gives_none P none = λ e. ((λ is. absurd (cc)), (λ p. absurd (none e p)))
-
-pub gives_one : (P : NodeEvent → Type 0) (event : NodeEvent) → P event → ((e : NodeEvent) → P e → event ≡ e)
-    → Gives P (Some event)
-gives_one P event p one = λ e. (
-  (λ is. let same : event ≡ e = cc in subst P same p),
-  (λ q. ap (λ k. Some k) (one e q)),
-)
-
-pub gives_unique : (P : NodeEvent → Type 0) (a b : Option NodeEvent) → Gives P a → Gives P b → a ≡ b
-gives_unique P None None f g = refl
-gives_unique P (Some x) b f g = sym ((g x).1 ((f x).0 refl))
-gives_unique P None (Some y) f g = (f y).1 ((g y).0 refl)
 
 apart_from : (x y : Bool) → beq x y ≡ false → x ≡ y → ⊥
 apart_from true true e same = absurd (cc)
@@ -47,9 +34,9 @@ same_from false false e = refl
 -- a value that changed, or did not
 changed : (event_of : Bool → NodeEvent) (N O : Type 0) (value old : Bool) → (IsTrue value ↔ N) → (IsTrue old ↔ O)
     → beq value old ≡ false
-    → Gives (Changes event_of N O) (Some (event_of value))
+    → IsTheOne (Changes event_of N O) (Some (event_of value))
 changed event_of N O value old now was apart =
-    gives_one (Changes event_of N O) (event_of value) (
+    IsTheOne-some (Changes event_of N O) (event_of value) (
       value,
       refl,
       now,
@@ -60,28 +47,28 @@ changed event_of N O value old now was apart =
 
 unchanged : (event_of : Bool → NodeEvent) (N O : Type 0) (value old : Bool) → (IsTrue value ↔ N) → (IsTrue old ↔ O)
     → beq value old ≡ true
-    → Gives (Changes event_of N O) None
+    → IsTheOne (Changes event_of N O) None
 unchanged event_of N O value old now was same =
-    gives_none (Changes event_of N O) (λ e c.
+    IsTheOne-none (Changes event_of N O) (λ e c.
     let both : value ≡ c.0 = same_bool value c.0 ((λ t. c.2.1 (now.0 t)), (λ t. now.1 (c.2.0 t))) in
     let P : Bool → Type 0 = λ b. IsTrue b ↔ O in
     c.3 (subst P (sym (same_from value old same) ∙ both) was))
 
 pub change_given : (event_of : Bool → NodeEvent) (N O : Type 0) (value old : Bool) (event : Option NodeEvent)
     → (IsTrue value ↔ N) → (IsTrue old ↔ O) → event ≡ then_some (not (beq value old)) (event_of value)
-    → Gives (Changes event_of N O) event
+    → IsTheOne (Changes event_of N O) event
 change_given event_of N O value old event now was is =
-    subst (λ (e : Option NodeEvent). Gives (Changes event_of N O) e) (sym is) (by (beq value old) refl)
+    subst (λ (e : Option NodeEvent). IsTheOne (Changes event_of N O) e) (sym is) (by (beq value old) refl)
   where
     by : (same : Bool) → beq value old ≡ same
-        → Gives (Changes event_of N O) (then_some (not same) (event_of value))
+        → IsTheOne (Changes event_of N O) (then_some (not same) (event_of value))
     by true e = unchanged event_of N O value old now was e
     by false e = changed event_of N O value old now was e
 
 -- one more item
 given_more : {A : Type 0} (P : A → NodeEvent → Type 0) (xs : List A) (x : A) (events : List NodeEvent)
     (event : Option NodeEvent)
-    → AreGiven P xs events → Gives (P x) event → AreGiven P (xs ++ x ∷ []) (events ++ as_list event)
+    → AreGiven P xs events → IsTheOne (P x) event → AreGiven P (xs ++ x ∷ []) (events ++ as_list event)
 given_more P [] x events event given gives =
     (event, [], gives, refl, ap (λ k. k ++ as_list event) given ∙ sym (append-nil (as_list event)))
 given_more P (y ∷ xs) x events event (first, rest, g, given, is) gives = (
@@ -97,7 +84,7 @@ adds_none P old = ([], refl, sym (append-nil old))
 
 pub adds_more : {A : Type 0} (P : A → NodeEvent → Type 0) (xs : List A) (x : A) (old mid new : List NodeEvent)
     (event : Option NodeEvent)
-    → Adds P xs old mid → Gives (P x) event → new ≡ mid ++ as_list event → Adds P (xs ++ x ∷ []) old new
+    → Adds P xs old mid → IsTheOne (P x) event → new ≡ mid ++ as_list event → Adds P (xs ++ x ∷ []) old new
 adds_more P xs x old mid new event (added, given, is) gives more = (
   added ++ as_list event,
   given_more P xs x added event given gives,
@@ -109,14 +96,14 @@ pub given_unique : {A : Type 0} (P : A → NodeEvent → Type 0) (xs : List A) (
     → AreGiven P xs b → a ≡ b
 given_unique P [] a b f g = f ∙ sym g
 given_unique P (x ∷ xs) a b (e, rest, gives, given, is) (e', rest', gives', given', is') =
-    let first : e ≡ e' = gives_unique (P x) e e' gives gives' in
+    let first : e ≡ e' = IsTheOne-unique (P x) e e' gives gives' in
     let later : rest ≡ rest' = given_unique P xs rest rest' given given' in
     is ∙ ap (λ k. as_list k ++ rest) first ∙ ap (λ k. as_list e' ++ k) later ∙ sym is'
 
 -- one more place of the serving order
 pub adds_next : (P : ThresholdKey → NodeEvent → Type 0) (place : ℕ) (old mid new : List NodeEvent)
     (event : Option NodeEvent) → place < 12
-    → ((key : ThresholdKey) → slice_get serving_order place ≡ Some key → Gives (P key) event)
+    → ((key : ThresholdKey) → slice_get serving_order place ≡ Some key → IsTheOne (P key) event)
     → new ≡ mid ++ as_list event → Adds P (take place serving_order) old mid
     → Adds P (take (place + 1) serving_order) old new
 adds_next P place old mid new event lt gives more adds =
@@ -135,7 +122,7 @@ adds_all P place old new le adds = subst (λ (keys : List ThresholdKey). Adds P 
 -- of three items one after the other
 pub adds_three : {A : Type 0} (P : A → NodeEvent → Type 0) (x y z : A) (old first second new : List NodeEvent)
     (a b c : Option NodeEvent)
-    → Gives (P x) a → Gives (P y) b → Gives (P z) c → first ≡ old ++ as_list a → second ≡ first ++ as_list b
+    → IsTheOne (P x) a → IsTheOne (P y) b → IsTheOne (P z) c → first ≡ old ++ as_list a → second ≡ first ++ as_list b
     → new ≡ second ++ as_list c
     → Adds P (x ∷ y ∷ z ∷ []) old new
 adds_three P x y z old first second new a b c gives_a gives_b gives_c one two three =

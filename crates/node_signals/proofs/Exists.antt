@@ -4,8 +4,10 @@ use Rattle.std.proofs.Common.{subst, append_assoc, append-nil}
 use mathlib.Core.Bool.{beq, not}
 use Rattle.std.specs.Prelude.{◌↔◌, IsTrue}
 use Rattle.std.specs.Bool.{then_some}
+use Rattle.histories.specs.TheOne.{IsTheOne}
 use Rattle.histories.specs.Histories.{recorded}
 use Rattle.histories.proofs.Decide.{both, test_of}
+use Rattle.histories.proofs.TheOne.{IsTheOne-none, IsTheOne-some}
 use Rattle.pressure.specs.Pressures.{Observation}
 use Rattle.pressure.proofs.LawLemmas.{one_since}
 use Rattle.node_config.specs.EvictionConfig.{EvictionConfig}
@@ -15,13 +17,13 @@ use Rattle.node_signals.specs.declared.condition.NodeCondition.{NodeCondition}
 use Rattle.node_signals.specs.declared.event.NodeEvent.{NodeEvent}
 use Rattle.node_signals.specs.declared.event.NodeEvent.TheVariants.{Threshold, Pressure, Reclaim}
 use Rattle.node_signals.specs.Keys.{serving_order}
-use Rattle.node_signals.specs.Thresholds.{IsActive}
+use Rattle.node_signals.specs.Thresholds.{IsActiveOnNode}
 use Rattle.node_signals.specs.Conditions.{conditions, AreObservations, IsTrueAfter, IsSinceMoment}
-use Rattle.node_signals.specs.Events.{Changes, ChangesThreshold, ChangesCondition, Reclaims, Gives, as_list, AreGiven}
+use Rattle.node_signals.specs.Events.{Changes, ChangesThreshold, ChangesCondition, Reclaims, as_list, AreGiven}
 use Rattle.node_signals.specs.Laws.{SomeCondition, SomeListOfNodeEvents}
 use Rattle.node_signals.proofs.ConditionLemmas.{none_observed, observed_more, true_after}
 use Rattle.node_signals.proofs.Decide.{active_or_not, due_or_not, reclaimed_or_not, met_or_not, pressure_or_not}
-use Rattle.node_signals.proofs.EventLemmas.{gives_none, gives_one, change_given, all_events}
+use Rattle.node_signals.proofs.EventLemmas.{change_given, all_events}
 
 -- what the ticks say of a condition
 observed_after : (eviction : EvictionConfig) (condition : NodeCondition) (later before : List TickObs)
@@ -63,40 +65,40 @@ some_condition = record { value = some_value; since = some_moment }
 -- what a value has become, if it changed
 change_of : (event_of : Bool → NodeEvent) (N O : Type 0) → (now : Bool) × (IsTrue now ↔ N)
     → (old : Bool) × (IsTrue old ↔ O)
-    → (event : Option NodeEvent) × Gives (Changes event_of N O) event
+    → (event : Option NodeEvent) × IsTheOne (Changes event_of N O) event
 change_of event_of N O (now, is) (old, was) =
     (then_some (not (beq now old)) (event_of now), change_given event_of N O now old _ is was refl)
 
 threshold_event : (eviction : EvictionConfig) (before : List TickObs) (tick : TickObs) (key : ThresholdKey)
-    → (event : Option NodeEvent) × Gives (ChangesThreshold eviction before tick key) event
+    → (event : Option NodeEvent) × IsTheOne (ChangesThreshold eviction before tick key) event
 threshold_event eviction before tick key =
-    change_of (Threshold key) (IsActive eviction (before ++ tick ∷ []) key) (IsActive eviction before key)
+    change_of (Threshold key) (IsActiveOnNode eviction (before ++ tick ∷ []) key) (IsActiveOnNode eviction before key)
     (test_of (active_or_not eviction (before ++ tick ∷ []) key)) (test_of (active_or_not eviction before key))
 
 condition_event : (eviction : EvictionConfig) (period : ℕ) (before : List TickObs) (tick : TickObs)
     (condition : NodeCondition)
-    → (event : Option NodeEvent) × Gives (ChangesCondition eviction period before tick condition) event
+    → (event : Option NodeEvent) × IsTheOne (ChangesCondition eviction period before tick condition) event
 condition_event eviction period before tick condition =
     change_of (Pressure condition) (IsTrueAfter eviction period condition (before ++ tick ∷ []))
     (IsTrueAfter eviction period condition before)
     (some_value eviction period condition (before ++ tick ∷ [])) (some_value eviction period condition before)
 
 reclaim_event : (eviction : EvictionConfig) (before : List TickObs) (tick : TickObs) (key : ThresholdKey)
-    → (event : Option NodeEvent) × Gives (Reclaims eviction before tick key) event
+    → (event : Option NodeEvent) × IsTheOne (Reclaims eviction before tick key) event
 reclaim_event eviction before tick key =
     elim (both (due_or_not eviction before tick key) (reclaimed_or_not eviction tick key)) [
       | inl w ↦ (
         Some (Reclaim key),
-        gives_one (Reclaims eviction before tick key) (Reclaim key) (refl, w.0, w.1) (λ e reclaims. sym reclaims.0),
+        IsTheOne-some (Reclaims eviction before tick key) (Reclaim key) (refl, w.0, w.1) (λ e reclaims. sym reclaims.0),
       )
       | inr not ↦ (
         None,
-        gives_none (Reclaims eviction before tick key) (λ e reclaims. not (reclaims.1, reclaims.2)),
+        IsTheOne-none (Reclaims eviction before tick key) (λ e reclaims. not (reclaims.1, reclaims.2)),
       )
     ]
 
 -- those of some items, where each gives one or none
-given_list : {A : Type 0} (P : A → NodeEvent → Type 0) → ((x : A) → (event : Option NodeEvent) × Gives (P x) event)
+given_list : {A : Type 0} (P : A → NodeEvent → Type 0) → ((x : A) → (event : Option NodeEvent) × IsTheOne (P x) event)
     → (xs : List A) → (events : List NodeEvent) × AreGiven P xs events
 given_list P each [] = ([], refl)
 given_list P each (x ∷ xs) =

@@ -12,13 +12,15 @@ use Rattle.node_signals.specs.declared.key.ThresholdKey.{ThresholdKey}
 use Rattle.node_signals.specs.declared.condition.NodeCondition.{NodeCondition}
 use Rattle.node_signals.specs.declared.condition.NodeCondition.TheVariants.{MemoryPressure, DiskPressure, PidPressure}
 use Rattle.node_signals.specs.Keys.{serving_order}
-use Rattle.node_signals.specs.Thresholds.{IsActive}
+use Rattle.node_signals.specs.Thresholds.{IsActiveOnNode}
 
+-- the condition's name in Kubernetes
 abbrev pub name_of : NodeCondition → List ℕ
 name_of MemoryPressure = codes "MemoryPressure"
 name_of DiskPressure = codes "DiskPressure"
 name_of PidPressure = codes "PIDPressure"
 
+-- the condition that a signal's thresholds belong to
 abbrev pub condition_of : Signal → NodeCondition
 condition_of MemoryAvailable = MemoryPressure
 condition_of NodefsAvailable = DiskPressure
@@ -27,6 +29,7 @@ condition_of NodefsInodesFree = DiskPressure
 condition_of ImagefsInodesFree = DiskPressure
 condition_of PidAvailable = PidPressure
 
+-- all conditions, in the order of the report
 abbrev pub conditions : List NodeCondition
 conditions = MemoryPressure ∷ DiskPressure ∷ PidPressure ∷ []
 
@@ -34,14 +37,14 @@ conditions = MemoryPressure ∷ DiskPressure ∷ PidPressure ∷ []
 pub record Meets (eviction : EvictionConfig) (condition : NodeCondition) (ticks : List TickObs)
     (key : ThresholdKey) : Type 0 where
   pub belongs : condition_of key.signal ≡ condition
-  pub active : IsActive eviction ticks key
+  pub active : IsActiveOnNode eviction ticks key
 
 -- the condition is met after these ticks: one of its thresholds is active
 abbrev pub IsMet : EvictionConfig → NodeCondition → List TickObs → Type 0
 IsMet eviction condition ticks =
     (place : ℕ) × IsSomeAnd (slice_get serving_order place) (Meets eviction condition ticks)
 
--- these say of each tick, at its moment, whether the condition is met after it
+-- one observation for each tick, at its moment: whether the condition is met after it
 pub record AreObservations (eviction : EvictionConfig) (condition : NodeCondition) (ticks : List TickObs)
     (h : List Observation) : Type 0 where
   pub as_many : length h ≡ length ticks
@@ -54,7 +57,7 @@ abbrev pub IsTrueAfter : EvictionConfig → ℕ → NodeCondition → List TickO
 IsTrueAfter eviction period condition ticks =
     (h : List Observation) × AreObservations eviction condition ticks h × IsUnderPressure period h
 
--- it has been true, or not been, since this moment
+-- the condition has been true, or has not been, since this moment
 abbrev pub IsSinceMoment : EvictionConfig → ℕ → NodeCondition → List TickObs → ℕ → Type 0
 IsSinceMoment eviction period condition ticks since =
     (h : List Observation) × AreObservations eviction condition ticks h × IsSince period h since

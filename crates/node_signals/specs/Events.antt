@@ -1,6 +1,7 @@
 -- The events of a node in a tick that comes after these ticks, by their places (Kubernetes,
 -- "Node-pressure Eviction"; the places are this profile's).
 use Rattle.std.specs.Prelude.{◌≡◌, ◌↔◌, List, [], ◌∷◌, ◌++◌, ℕ, Bool, Option, Some, None, IsTrue}
+use Rattle.histories.specs.TheOne.{IsTheOne}
 use Rattle.node_config.specs.EvictionConfig.{EvictionConfig}
 use Rattle.observations.specs.declared.tick.TickObs.{TickObs}
 use Rattle.node_signals.specs.declared.key.ThresholdKey.{ThresholdKey}
@@ -8,19 +9,19 @@ use Rattle.node_signals.specs.declared.condition.NodeCondition.{NodeCondition}
 use Rattle.node_signals.specs.declared.event.NodeEvent.{NodeEvent}
 use Rattle.node_signals.specs.declared.event.NodeEvent.TheVariants.{Threshold, Pressure, Reclaim}
 use Rattle.node_signals.specs.Keys.{serving_order}
-use Rattle.node_signals.specs.Thresholds.{IsActive, IsDue, IsReclaimed}
+use Rattle.node_signals.specs.Thresholds.{IsActiveOnNode, IsDueOnNode, IsReclaimed}
 use Rattle.node_signals.specs.Conditions.{conditions, IsTrueAfter}
 
--- what a value has become, of which N says whether it is true now, and O whether it was
+-- the event that a value has changed: N says whether it is true now, O whether it was before
 abbrev pub Changes : (Bool → NodeEvent) → Type 0 → Type 0 → NodeEvent → Type 0
 Changes event_of N O event = (value : Bool) × (event ≡ event_of value) × (IsTrue value ↔ N) × ((IsTrue value ↔ O) → ⊥)
 
 -- the threshold is active after the tick and was not before, or the other way round
 abbrev pub ChangesThreshold : EvictionConfig → List TickObs → TickObs → ThresholdKey → NodeEvent → Type 0
 ChangesThreshold eviction before tick key =
-    Changes (Threshold key) (IsActive eviction (before ++ tick ∷ []) key) (IsActive eviction before key)
+    Changes (Threshold key) (IsActiveOnNode eviction (before ++ tick ∷ []) key) (IsActiveOnNode eviction before key)
 
--- the same of a condition
+-- the condition is true after the tick and was not before, or the other way round
 abbrev pub ChangesCondition : EvictionConfig → ℕ → List TickObs → TickObs → NodeCondition → NodeEvent → Type 0
 ChangesCondition eviction period before tick condition =
     Changes (Pressure condition)
@@ -29,12 +30,9 @@ ChangesCondition eviction period before tick condition =
 -- the threshold is due, and the node has freed enough by itself
 abbrev pub Reclaims : EvictionConfig → List TickObs → TickObs → ThresholdKey → NodeEvent → Type 0
 Reclaims eviction before tick key event =
-    (event ≡ Reclaim key) × IsDue eviction (before ++ tick ∷ []) key × IsReclaimed eviction tick key
+    (event ≡ Reclaim key) × IsDueOnNode eviction (before ++ tick ∷ []) key × IsReclaimed eviction tick key
 
--- the event of which P holds, if there is one
-abbrev pub Gives : (NodeEvent → Type 0) → Option NodeEvent → Type 0
-Gives P event = (e : NodeEvent) → ((event ≡ Some e) ↔ P e)
-
+-- the list of an event, if there is one
 abbrev pub as_list : Option NodeEvent → List NodeEvent
 as_list None = []
 as_list (Some event) = event ∷ []
@@ -43,7 +41,7 @@ as_list (Some event) = event ∷ []
 abbrev pub AreGiven : {A : Type 0} → (A → NodeEvent → Type 0) → List A → List NodeEvent → Type 0
 AreGiven P [] events = events ≡ []
 AreGiven P (x ∷ xs) events =
-    (event : Option NodeEvent) × (rest : List NodeEvent) × Gives (P x) event × AreGiven P xs rest
+    (event : Option NodeEvent) × (rest : List NodeEvent) × IsTheOne (P x) event × AreGiven P xs rest
     × (events ≡ as_list event ++ rest)
 
 -- all events of the tick: thresholds in their serving order, conditions, then what was reclaimed

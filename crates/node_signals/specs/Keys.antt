@@ -11,9 +11,11 @@ use Rattle.signals.specs.declared.threshold.ThresholdKind.TheVariants.{Hard, Sof
 use Rattle.node_config.specs.EvictionConfig.{EvictionConfig, threshold_of}
 use Rattle.node_signals.specs.declared.key.ThresholdKey.{ThresholdKey}
 
+-- the threshold of a kind on a signal
 abbrev pub key : Signal → ThresholdKind → ThresholdKey
 key signal kind = record { signal = signal; kind = kind }
 
+-- the order in which thresholds are served
 abbrev pub serving_order : List ThresholdKey
 serving_order =
     key MemoryAvailable Hard ∷ key MemoryAvailable Soft
@@ -24,6 +26,6 @@ serving_order =
     ∷ key PidAvailable Hard ∷ key PidAvailable Soft
     ∷ []
 
--- the node's threshold, if it has it
+-- the node's threshold with this key, if it has one
 abbrev pub threshold_at : EvictionConfig → ThresholdKey → Option Threshold
 threshold_at eviction key = threshold_of eviction key.kind key.signal

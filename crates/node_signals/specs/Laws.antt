@@ -9,16 +9,19 @@ use Rattle.node_signals.specs.Thresholds.{Asks, IsServed}
 use Rattle.node_signals.specs.Conditions.{IsTrueAfter, IsSinceMoment}
 use Rattle.node_signals.specs.Events.{AreNodeEvents}
 
+-- at most one threshold is served in a tick
 abbrev pub OneServed : Type 0
 OneServed =
     (eviction : EvictionConfig) (before : List TickObs) (tick : TickObs) (one other : Option ThresholdKey)
     → IsServed eviction before tick one → IsServed eviction before tick other → one ≡ other
 
+-- the threshold that is served is due, and the node has not freed enough by itself
 abbrev pub ServedIsDue : Type 0
 ServedIsDue =
     (eviction : EvictionConfig) (before : List TickObs) (tick : TickObs) (key : ThresholdKey)
     → IsServed eviction before tick (Some key) → Asks eviction before tick key
 
+-- a tick has at most one list of events of the node
 abbrev pub OneListOfNodeEvents : Type 0
 OneListOfNodeEvents =
     (eviction : EvictionConfig) (period : ℕ) (before : List TickObs) (tick : TickObs) (events others : List NodeEvent)

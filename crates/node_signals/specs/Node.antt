@@ -1,4 +1,4 @@
--- Where a list of ticks leads.
+-- The state of a node's thresholds and conditions after a list of ticks.
 use Rattle.std.specs.Prelude.{◌≡◌, ℕ, List, length, slice_get, Option, Some, None}
 use Rattle.signals.specs.declared.threshold.Threshold.{Threshold}
 use Rattle.signals.specs.BySignal.{of}
@@ -19,35 +19,37 @@ use Rattle.node_signals.specs.Keys.{serving_order, threshold_at}
 use Rattle.node_signals.specs.Thresholds.{samples}
 use Rattle.node_signals.specs.Conditions.{AreObservations}
 
--- the watch of a threshold, where the node has it, is the state of these samples
+-- the watch after these samples; there is one where the node has the threshold, and only there
 abbrev pub IsWatchOf : Option Threshold → Option ℕ → List Sample → Option Watch → Type 0
 IsWatchOf None capacity h None = Unit {0}
 IsWatchOf None capacity h (Some watch) = ⊥
 IsWatchOf (Some threshold) capacity h None = ⊥
 IsWatchOf (Some threshold) capacity h (Some watch) = IsWatchState threshold capacity h watch
 
+-- the watch of the threshold with this key, after these ticks
 abbrev pub IsWatchAt : EvictionConfig → List TickObs → ThresholdKey → Option Watch → Type 0
 IsWatchAt eviction ticks key watch =
     IsWatchOf (threshold_at eviction key) (of eviction.capacity key.signal) (samples key.signal ticks) watch
 
--- one for each place of the serving order
+-- the watches after these ticks, one for each place of the serving order
 pub record AreWatches (eviction : EvictionConfig) (ticks : List TickObs) (watches : List (Option Watch)) : Type 0 where
   pub as_many : length watches ≡ length serving_order
   pub each : (place : ℕ) (key : ThresholdKey) (watch : Option Watch) → slice_get serving_order place ≡ Some key
       → slice_get watches place ≡ Some watch → IsWatchAt eviction ticks key watch
 
--- the pressure is the state of what the ticks say of the condition
+-- the state of a pressure after what these ticks say of its condition
 abbrev pub IsPressureOf : EvictionConfig → ℕ → NodeCondition → List TickObs → Pressure → Type 0
 IsPressureOf eviction period condition ticks pressure =
     (h : List Observation) × AreObservations eviction condition ticks h × IsPressureState period h pressure
 
+-- the pressures of the three conditions, after these ticks
 pub record ArePressures (eviction : EvictionConfig) (period : ℕ) (ticks : List TickObs)
     (pressures : Pressures) : Type 0 where
   pub memory : IsPressureOf eviction period MemoryPressure ticks pressures.memory
   pub disk : IsPressureOf eviction period DiskPressure ticks pressures.disk
   pub pid : IsPressureOf eviction period PidPressure ticks pressures.pid
 
--- the node's value after these ticks, with these thresholds and this transition period in seconds
+-- the node's state after these ticks, with these thresholds and this transition period in seconds
 pub record IsStateOf (eviction : EvictionConfig) (period : ℕ) (ticks : List TickObs) (node : NodeSignals) : Type 0 where
   pub watches : AreWatches eviction ticks node.watches
   pub pressures : ArePressures eviction period ticks node.pressures

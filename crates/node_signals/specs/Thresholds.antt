@@ -1,5 +1,5 @@
 -- Which of a node's thresholds are active, due and served (Kubernetes, "Node-pressure Eviction",
--- "Eviction thresholds" and "Node out of memory behavior"; that one threshold alone is served in a
+-- "Eviction thresholds" and "Reclaiming node level resources"; that one threshold alone is served in a
 -- tick is this profile's rule). The ticks are all that the node has recorded, oldest first.
 use Rattle.std.specs.Prelude.{◌≡◌, ℕ, ◌+◌, ◌≤◌, List, [], ◌∷◌, ◌++◌, map, slice_get, true, Option, option_and_then}
 use Rattle.std.specs.Prelude.{IsSomeAnd}
@@ -21,14 +21,14 @@ abbrev pub samples : Signal → List TickObs → List Sample
 samples signal ticks = map (λ (tick : TickObs). sample tick.at (of tick.signals signal)) ticks
 
 -- the node has the threshold, and it is active after these ticks
-abbrev pub IsActive : EvictionConfig → List TickObs → ThresholdKey → Type 0
-IsActive eviction ticks key =
+abbrev pub IsActiveOnNode : EvictionConfig → List TickObs → ThresholdKey → Type 0
+IsActiveOnNode eviction ticks key =
     IsSomeAnd (threshold_at eviction key)
     (λ threshold. IsThresholdActive threshold (of eviction.capacity key.signal) (samples key.signal ticks))
 
--- the same, and it is due
-abbrev pub IsDue : EvictionConfig → List TickObs → ThresholdKey → Type 0
-IsDue eviction ticks key =
+-- the node has the threshold, and it is due after these ticks
+abbrev pub IsDueOnNode : EvictionConfig → List TickObs → ThresholdKey → Type 0
+IsDueOnNode eviction ticks key =
     IsSomeAnd (threshold_at eviction key)
     (λ threshold. IsThresholdDue threshold (of eviction.capacity key.signal) (samples key.signal ticks))
 
@@ -36,7 +36,7 @@ IsDue eviction ticks key =
 abbrev pub IsEnough : Option ℕ → Threshold → ℕ → Type 0
 IsEnough capacity threshold value = amount_of capacity threshold.limit + amount_of capacity threshold.reclaim ≤ value
 
--- the node has freed enough by itself: after that the file system's signal has a value that is enough
+-- the node has freed enough by itself: the signal is of a file system, and what is left after that is enough
 pub record IsReclaimed (eviction : EvictionConfig) (tick : TickObs) (key : ThresholdKey) : Type 0 where
   pub of_file_system : is_of_file_system key.signal ≡ true
   pub freed : IsSomeAnd (threshold_at eviction key)
@@ -45,10 +45,10 @@ pub record IsReclaimed (eviction : EvictionConfig) (tick : TickObs) (key : Thres
 -- the threshold asks for an eviction in a tick that comes after these: it is due, and the node has
 -- not freed enough by itself
 pub record Asks (eviction : EvictionConfig) (before : List TickObs) (tick : TickObs) (key : ThresholdKey) : Type 0 where
-  pub due : IsDue eviction (before ++ tick ∷ []) key
+  pub due : IsDueOnNode eviction (before ++ tick ∷ []) key
   pub not_reclaimed : IsReclaimed eviction tick key → ⊥
 
--- the threshold at a place of the serving order does
+-- the threshold at a place of the serving order asks for an eviction
 abbrev pub AsksAt : EvictionConfig → List TickObs → TickObs → ℕ → Type 0
 AsksAt eviction before tick place = IsSomeAnd (slice_get serving_order place) (Asks eviction before tick)
 

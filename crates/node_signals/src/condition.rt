@@ -9,11 +9,11 @@ use signals::Signal;
 /// after. (Kubernetes, "Node-pressure Eviction", "Node conditions".)
 #[derive(Clone, Copy, Debug, PartialEq, Eq)]
 pub enum NodeCondition {
-    /// Of the memory signal.
+    /// Of the signal `memory.available`.
     MemoryPressure,
-    /// Of the file system signals.
+    /// Of the four signals of file systems.
     DiskPressure,
-    /// Of the signal of processes.
+    /// Of the signal `pid.available`.
     PidPressure,
 }
 

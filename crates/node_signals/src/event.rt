@@ -17,5 +17,7 @@ pub enum NodeEvent {
         value: bool,
     },
     /// A threshold was due, and the node freed enough by itself.
-    Reclaim(ThresholdKey),
+    Reclaim {
+        key: ThresholdKey,
+    },
 }

@@ -1,23 +1,23 @@
 //! The events of a node in a tick.
 
-ghost use Rattle.std.specs.Prelude.{◌≡◌, ◌↔◌, ◌<◌, ◌++◌, ◌∷◌, [], ℕ, List, slice_get, Some, OnOk};
+ghost use Rattle.std.specs.Prelude.{◌≡◌, ◌<◌, ◌++◌, ◌∷◌, [], ℕ, List, slice_get, Some, OnOk};
+ghost use Rattle.histories.specs.TheOne.{IsTheOne};
 ghost use Rattle.node_config.specs.EvictionConfig.{EvictionConfig};
 ghost use Rattle.observations.specs.declared.tick.TickObs.{TickObs};
 ghost use Rattle.node_signals.specs.declared.key.ThresholdKey.{ThresholdKey};
 ghost use Rattle.node_signals.specs.Keys.{serving_order};
 ghost use Rattle.node_signals.specs.Conditions.{conditions};
-ghost use Rattle.node_signals.specs.Events.{ChangesThreshold, ChangesCondition, Reclaims, Gives, as_list, Adds};
+ghost use Rattle.node_signals.specs.Events.{ChangesThreshold, ChangesCondition, Reclaims, as_list, Adds};
 ghost use Rattle.node_signals.specs.Node.{AreWatches, ArePressures};
 
 use crate::condition::NodeCondition;
 use crate::event::NodeEvent;
-use crate::key::key_at;
+use crate::key::{THRESHOLDS, key_at};
 use crate::pressures::Pressures;
-use crate::watches::{is_active, is_due, is_reclaimed};
+use crate::watches::{Watches, is_active, is_due, is_reclaimed};
 use node_config::EvictionConfig;
 use observations::TickObs;
 use std::alloc::AllocError;
-use thresholds::Watch;
 
 /// Adds an event, if there is one.
 fn add(events: &mut Vec<NodeEvent>, event: Option<NodeEvent>) -> Result<(), AllocError>
@@ -31,17 +31,13 @@ fn add(events: &mut Vec<NodeEvent>, event: Option<NodeEvent>) -> Result<(), Allo
 
 /// Whether the threshold at this place became active or was cleared, by the watches before and after
 /// the tick.
-fn threshold_event(
-    old: &[Option<Watch>; 12],
-    new: &[Option<Watch>; 12],
-    place: usize,
-) -> Option<NodeEvent>
-    requires { place < 12 }
+fn threshold_event(old: &Watches, new: &Watches, place: usize) -> Option<NodeEvent>
+    requires { place < THRESHOLDS }
     ensures { (eviction : EvictionConfig) (before : List TickObs) (tick : TickObs) (key : ThresholdKey)
         → slice_get serving_order place ≡ Some key
         → AreWatches eviction before old.now
         → AreWatches eviction (before ++ tick ∷ []) new.now
-        → Gives (ChangesThreshold eviction before tick key) result }
+        → IsTheOne (ChangesThreshold eviction before tick key) result }
 {
     let key = key_at(place);
     let active = is_active(new, place);
@@ -51,15 +47,15 @@ fn threshold_event(
 /// Adds an event for each threshold that became active or was cleared.
 pub(crate) fn add_threshold_events(
     events: &mut Vec<NodeEvent>,
-    old: &[Option<Watch>; 12],
-    new: &[Option<Watch>; 12],
+    old: &Watches,
+    new: &Watches,
 ) -> Result<(), AllocError>
     ensures { (eviction : EvictionConfig) (before : List TickObs) (tick : TickObs)
         → AreWatches eviction before old.now
         → AreWatches eviction (before ++ tick ∷ []) new.now
         → OnOk result (Adds (ChangesThreshold eviction before tick) serving_order events.old.items events.new.items) }
 {
-    for place in 0..12 {
+    for place in 0..THRESHOLDS {
         add(events, threshold_event(old, new, place))?;
     }
     Ok(())
@@ -70,7 +66,7 @@ fn condition_event(old: &Pressures, new: &Pressures, condition: NodeCondition) -
     ensures { (eviction : EvictionConfig) (period : ℕ) (before : List TickObs) (tick : TickObs)
         → ArePressures eviction period before old.now
         → ArePressures eviction period (before ++ tick ∷ []) new.now
-        → Gives (ChangesCondition eviction period before tick condition) result }
+        → IsTheOne (ChangesCondition eviction period before tick condition) result }
 {
     let value = new.of(condition).is_true();
     (value != old.of(condition).is_true()).then_some(NodeEvent::Pressure { condition, value })
@@ -105,20 +101,20 @@ pub(crate) fn add_condition_events(
 
 /// Whether the threshold at this place is due and the node has freed enough by itself.
 fn reclaim_event(
-    watches: &[Option<Watch>; 12],
+    watches: &Watches,
     eviction: &EvictionConfig,
     tick: &TickObs,
     place: usize,
 ) -> Option<NodeEvent>
-    requires { place < 12 }
+    requires { place < THRESHOLDS }
     ensures { (before : List TickObs) (key : ThresholdKey)
         → slice_get serving_order place ≡ Some key
         → AreWatches eviction.now (before ++ tick.now ∷ []) watches.now
-        → Gives (Reclaims eviction.now before tick.now key) result }
+        → IsTheOne (Reclaims eviction.now before tick.now key) result }
 {
     let key = key_at(place);
     if is_due(watches, place) && is_reclaimed(eviction, key, tick) {
-        Some(NodeEvent::Reclaim(key))
+        Some(NodeEvent::Reclaim { key })
     } else {
         None
     }
@@ -127,7 +123,7 @@ fn reclaim_event(
 /// Adds an event for each threshold that is due and reclaimed.
 pub(crate) fn add_reclaim_events(
     events: &mut Vec<NodeEvent>,
-    watches: &[Option<Watch>; 12],
+    watches: &Watches,
     eviction: &EvictionConfig,
     tick: &TickObs,
 ) -> Result<(), AllocError>
@@ -135,7 +131,7 @@ pub(crate) fn add_reclaim_events(
         → AreWatches eviction.now (before ++ tick.now ∷ []) watches.now
         → OnOk result (Adds (Reclaims eviction.now before tick.now) serving_order events.old.items events.new.items) }
 {
-    for place in 0..12 {
+    for place in 0..THRESHOLDS {
         add(events, reclaim_event(watches, eviction, tick, place))?;
     }
     Ok(())

@@ -8,13 +8,18 @@ use signals::{Signal, ThresholdKind};
 /// One of the thresholds that a node may have: on a signal there is one of each kind at most.
 #[derive(Clone, Copy, Debug, PartialEq, Eq)]
 pub struct ThresholdKey {
+    /// The signal that it is on.
     pub signal: Signal,
+    /// Whether it is hard or soft.
     pub kind: ThresholdKind,
 }
 
+/// How many thresholds a node may have: of each signal one of each kind.
+pub(crate) const THRESHOLDS: usize = 12;
+
 /// The order in which thresholds are served: signal after signal, and of one signal the hard
 /// threshold before the soft one. (This profile's rule.)
-const SERVING_ORDER: [ThresholdKey; 12] = [
+const SERVING_ORDER: [ThresholdKey; THRESHOLDS] = [
     ThresholdKey {
         signal: Signal::MemoryAvailable,
         kind: ThresholdKind::Hard,
@@ -67,7 +72,7 @@ const SERVING_ORDER: [ThresholdKey; 12] = [
 
 /// The threshold at this place of the serving order.
 pub(crate) fn key_at(place: usize) -> ThresholdKey
-    requires { place < 12 }
+    requires { place < THRESHOLDS }
     ensures { slice_get serving_order place ≡ Some result }
 {
     SERVING_ORDER[place]

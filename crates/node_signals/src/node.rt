@@ -13,17 +13,16 @@ use crate::event::NodeEvent;
 use crate::events::{add_condition_events, add_reclaim_events, add_threshold_events};
 use crate::key::ThresholdKey;
 use crate::pressures::Pressures;
-use crate::watches::{first_watches, sample_all, served};
+use crate::watches::{Watches, first_watches, sample_all, served};
 use node_config::EvictionConfig;
 use observations::TickObs;
 use std::alloc::{AllocError, Global};
-use thresholds::Watch;
 
 /// Follows the thresholds and the conditions of a node over its ticks, of which it keeps none.
 /// (Kubernetes, "Node-pressure Eviction".)
 #[derive(Clone, Copy, Debug, PartialEq, Eq)]
 pub struct NodeSignals {
-    watches: [Option<Watch>; 12],
+    watches: Watches,
     pressures: Pressures,
 }
 

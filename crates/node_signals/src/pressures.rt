@@ -10,10 +10,9 @@ ghost use Rattle.node_signals.specs.Conditions.{Meets, IsMet};
 ghost use Rattle.node_signals.specs.Node.{AreWatches, IsPressureOf, ArePressures};
 
 use crate::condition::NodeCondition;
-use crate::key::key_at;
-use crate::watches::is_active;
+use crate::key::{THRESHOLDS, key_at};
+use crate::watches::{Watches, is_active};
 use pressure::Pressure;
-use thresholds::Watch;
 
 /// One pressure for each condition.
 #[derive(Clone, Copy, Debug, PartialEq, Eq)]
@@ -24,8 +23,8 @@ pub(crate) struct Pressures {
 }
 
 /// Whether the threshold at this place is one of the condition's, and active.
-fn meets(watches: &[Option<Watch>; 12], condition: NodeCondition, place: usize) -> bool
-    requires { place < 12 }
+fn meets(watches: &Watches, condition: NodeCondition, place: usize) -> bool
+    requires { place < THRESHOLDS }
     ensures { (eviction : EvictionConfig) (ticks : List TickObs) (key : ThresholdKey)
         → slice_get serving_order place ≡ Some key
         → AreWatches eviction ticks watches.now
@@ -35,12 +34,12 @@ fn meets(watches: &[Option<Watch>; 12], condition: NodeCondition, place: usize) 
 }
 
 /// Whether the condition is met: one of its thresholds is active.
-fn is_met(watches: &[Option<Watch>; 12], condition: NodeCondition) -> bool
+fn is_met(watches: &Watches, condition: NodeCondition) -> bool
     ensures { (eviction : EvictionConfig) (ticks : List TickObs)
         → AreWatches eviction ticks watches.now
         → (IsTrue result ↔ IsMet eviction condition ticks) }
 {
-    for place in 0..12 {
+    for place in 0..THRESHOLDS {
         if meets(watches, condition, place) {
             return true;
         }
@@ -49,12 +48,7 @@ fn is_met(watches: &[Option<Watch>; 12], condition: NodeCondition) -> bool
 }
 
 /// The pressure after one more tick, at this moment.
-fn observed(
-    pressure: Pressure,
-    condition: NodeCondition,
-    at: u64,
-    watches: &[Option<Watch>; 12],
-) -> Pressure
+fn observed(pressure: Pressure, condition: NodeCondition, at: u64, watches: &Watches) -> Pressure
     ensures { (eviction : EvictionConfig) (period : ℕ) (before : List TickObs) (tick : TickObs)
         → tick.at ≡ at
         → AreWatches eviction (before ++ tick ∷ []) watches.now
@@ -67,7 +61,7 @@ fn observed(
 }
 
 impl Pressures {
-    /// Those of a node before any tick, with this transition period in seconds.
+    /// The pressures of a node before any tick, with this transition period in seconds.
     pub(crate) fn new(period: u64) -> Pressures
         ensures { (eviction : EvictionConfig) → ArePressures eviction period [] result }
     {
@@ -79,8 +73,8 @@ impl Pressures {
         }
     }
 
-    /// Those after one more tick, at this moment, which leaves the watches so.
-    pub(crate) fn observe(&mut self, at: u64, watches: &[Option<Watch>; 12])
+    /// Takes one more tick, at this moment, which leaves the watches so.
+    pub(crate) fn observe(&mut self, at: u64, watches: &Watches)
         ensures { (eviction : EvictionConfig) (period : ℕ) (before : List TickObs) (tick : TickObs)
             → tick.at ≡ at
             → AreWatches eviction (before ++ tick ∷ []) watches.now
@@ -92,7 +86,7 @@ impl Pressures {
         self.pid = observed(self.pid, NodeCondition::PidPressure, at, watches);
     }
 
-    /// That of a condition.
+    /// The pressure of a condition.
     pub(crate) fn of(&self, condition: NodeCondition) -> Pressure
         ensures { (eviction : EvictionConfig) (period : ℕ) (ticks : List TickObs)
             → ArePressures eviction period ticks self.now

@@ -2,26 +2,29 @@
 
 ghost use Rattle.std.specs.Prelude.{◌≡◌, ◌↔◌, ◌<◌, ◌≤◌, ℕ, slice_get, IsTrue, IfSome, IsSomeAnd, List, [], ◌∷◌, ◌++◌};
 ghost use Rattle.std.specs.Prelude.{Option, Some, None};
-ghost use Rattle.quantity.specs.Quantity.{greatest};
+ghost use Rattle.quantity.specs.Quantity.{greatest_quantity};
 ghost use Rattle.signals.specs.declared.threshold.Threshold.{Threshold};
 ghost use Rattle.thresholds.specs.Samples.{Sample, sample as sample_of};
 ghost use Rattle.node_config.specs.EvictionConfig.{EvictionConfig, HasCapacity};
 ghost use Rattle.observations.specs.declared.tick.TickObs.{TickObs};
 ghost use Rattle.node_signals.specs.declared.key.ThresholdKey.{ThresholdKey};
 ghost use Rattle.node_signals.specs.Keys.{serving_order};
-ghost use Rattle.node_signals.specs.Thresholds.{IsActive, IsDue, IsEnough, IsReclaimed, Asks, IsServed};
+ghost use Rattle.node_signals.specs.Thresholds.{IsActiveOnNode, IsDueOnNode, IsEnough, IsReclaimed, Asks, IsServed};
 ghost use Rattle.node_signals.specs.Node.{IsWatchOf, IsWatchAt, AreWatches};
 
-use crate::key::{ThresholdKey, key_at};
+use crate::key::{THRESHOLDS, ThresholdKey, key_at};
 use node_config::EvictionConfig;
 use observations::TickObs;
 use quantity::Quantity;
 use signals::Threshold;
 use thresholds::Watch;
 
+/// The watches of a node, in the serving order: one for each threshold that it has.
+pub(crate) type Watches = [Option<Watch>; THRESHOLDS];
+
 /// The watch at this place.
-fn watch_at(watches: &[Option<Watch>; 12], place: usize) -> Option<Watch>
-    requires { place < 12 }
+fn watch_at(watches: &Watches, place: usize) -> Option<Watch>
+    requires { place < THRESHOLDS }
     ensures { slice_get watches.now place ≡ Some result }
 {
     watches[place]
@@ -30,12 +33,9 @@ fn watch_at(watches: &[Option<Watch>; 12], place: usize) -> Option<Watch>
 /// A quantity in thousandths, where there is one.
 fn milli(value: Option<Quantity>) -> Option<u128>
     ensures value { result ≡ value }
-    ensures within { IfSome result (λ v. v ≤ greatest) }
+    ensures within { IfSome result (λ v. v ≤ greatest_quantity) }
 {
-    match value {
-        Some(value) => Some(value.milli()),
-        None => None,
-    }
+    Some(value?.milli())
 }
 
 /// The watch of a threshold before any sample.
@@ -49,11 +49,11 @@ fn first_watch(eviction: &EvictionConfig, key: ThresholdKey) -> Option<Watch>
 }
 
 /// The watches of a node before any tick.
-pub(crate) fn first_watches(eviction: &EvictionConfig) -> [Option<Watch>; 12]
+pub(crate) fn first_watches(eviction: &EvictionConfig) -> Watches
     ensures { AreWatches eviction.now [] result }
 {
-    let mut watches = [None; 12];
-    for place in 0..12 {
+    let mut watches = [None; THRESHOLDS];
+    for place in 0..THRESHOLDS {
         watches[place] = first_watch(eviction, key_at(place));
     }
     watches
@@ -65,34 +65,30 @@ fn sampled(watch: Option<Watch>, at: u64, value: Option<u128>) -> Option<Watch>
         → IsWatchOf threshold capacity h watch
         → IsWatchOf threshold capacity (h ++ sample_of at value ∷ []) result }
 {
-    match watch {
-        Some(mut watch) => {
-            watch.sample(at, value);
-            Some(watch)
-        }
-        None => None,
-    }
+    let mut watch = watch?;
+    watch.sample(at, value);
+    Some(watch)
 }
 
 /// Each watch takes its signal's sample of the tick.
-pub(crate) fn sample_all(watches: &mut [Option<Watch>; 12], tick: &TickObs)
+pub(crate) fn sample_all(watches: &mut Watches, tick: &TickObs)
     ensures { (eviction : EvictionConfig) (before : List TickObs)
         → AreWatches eviction before watches.old
         → AreWatches eviction (before ++ tick.now ∷ []) watches.new }
 {
-    for place in 0..12 {
+    for place in 0..THRESHOLDS {
         let value = milli(tick.signals.of(key_at(place).signal));
         watches[place] = sampled(watch_at(watches, place), tick.at, value);
     }
 }
 
 /// Whether the threshold at this place is active.
-pub(crate) fn is_active(watches: &[Option<Watch>; 12], place: usize) -> bool
-    requires { place < 12 }
+pub(crate) fn is_active(watches: &Watches, place: usize) -> bool
+    requires { place < THRESHOLDS }
     ensures { (eviction : EvictionConfig) (ticks : List TickObs) (key : ThresholdKey)
         → slice_get serving_order place ≡ Some key
         → AreWatches eviction ticks watches.now
-        → (IsTrue result ↔ IsActive eviction ticks key) }
+        → (IsTrue result ↔ IsActiveOnNode eviction ticks key) }
 {
     match watch_at(watches, place) {
         Some(watch) => watch.active(),
@@ -101,12 +97,12 @@ pub(crate) fn is_active(watches: &[Option<Watch>; 12], place: usize) -> bool
 }
 
 /// Whether the threshold at this place is due.
-pub(crate) fn is_due(watches: &[Option<Watch>; 12], place: usize) -> bool
-    requires { place < 12 }
+pub(crate) fn is_due(watches: &Watches, place: usize) -> bool
+    requires { place < THRESHOLDS }
     ensures { (eviction : EvictionConfig) (ticks : List TickObs) (key : ThresholdKey)
         → slice_get serving_order place ≡ Some key
         → AreWatches eviction ticks watches.now
-        → (IsTrue result ↔ IsDue eviction ticks key) }
+        → (IsTrue result ↔ IsDueOnNode eviction ticks key) }
 {
     match watch_at(watches, place) {
         Some(watch) => watch.due(),
@@ -117,7 +113,7 @@ pub(crate) fn is_due(watches: &[Option<Watch>; 12], place: usize) -> bool
 /// Whether the value is not below the threshold's limit plus its reclaim.
 fn is_enough(threshold: Threshold, capacity: Option<u128>, value: Option<u128>) -> bool
     requires capacity { HasCapacity capacity threshold }
-    requires within { IfSome capacity (λ c. c ≤ greatest) }
+    requires within { IfSome capacity (λ c. c ≤ greatest_quantity) }
     ensures { IsTrue result ↔ IsSomeAnd value (IsEnough capacity threshold) }
 {
     match value {
@@ -142,13 +138,8 @@ pub(crate) fn is_reclaimed(eviction: &EvictionConfig, key: ThresholdKey, tick: &
 
 /// Whether the threshold at this place asks for an eviction: it is due, and the node has not freed
 /// enough by itself.
-fn asks(
-    watches: &[Option<Watch>; 12],
-    eviction: &EvictionConfig,
-    tick: &TickObs,
-    place: usize,
-) -> bool
-    requires { place < 12 }
+fn asks(watches: &Watches, eviction: &EvictionConfig, tick: &TickObs, place: usize) -> bool
+    requires { place < THRESHOLDS }
     ensures { (before : List TickObs) (key : ThresholdKey)
         → slice_get serving_order place ≡ Some key
         → AreWatches eviction.now (before ++ tick.now ∷ []) watches.now
@@ -159,7 +150,7 @@ fn asks(
 
 /// The threshold that is served.
 pub(crate) fn served(
-    watches: &[Option<Watch>; 12],
+    watches: &Watches,
     eviction: &EvictionConfig,
     tick: &TickObs,
 ) -> Option<ThresholdKey>
@@ -167,7 +158,7 @@ pub(crate) fn served(
         → AreWatches eviction.now (before ++ tick.now ∷ []) watches.now
         → IsServed eviction.now before tick.now result }
 {
-    for place in 0..12 {
+    for place in 0..THRESHOLDS {
         if asks(watches, eviction, tick, place) {
             return Some(key_at(place));
         }

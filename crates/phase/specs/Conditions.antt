@@ -11,12 +11,13 @@ abbrev pub last_or : Bool → List (Recorded Bool) → Bool
 last_or initially [] = initially
 last_or initially (x ∷ h) = last_or x.entry h
 
+-- the condition after these values, and with this one before any
 pub record IsConditionOf (initially : Bool) (h : List (Recorded Bool)) (c : Condition) : Type 0 where
   pub value : c.value ≡ last_or initially h
   pub since : IsTransition h (λ t. IsSomeAnd (entry_at h t) IsTrue) c.since
 
 -- the conditions after these values: it is always true that the pod is scheduled; before any value
--- the pod is initialized only if it has no init container
+-- the pod is initialized only if it has neither an init container nor a sidecar
 pub record IsStateOf (has_init : Bool) (h : List (Recorded Values)) (conditions : Conditions) : Type 0 where
   pub pod_scheduled : IsConditionOf true (project (λ values. true) h) conditions.pod_scheduled
   pub initialized : IsConditionOf (not has_init) (project (λ values. values.initialized) h) conditions.initialized

@@ -1,6 +1,6 @@
--- What the rules ask of one container (Kubernetes, "Pod Lifecycle", "Pod phase" and "Container
--- restart policy"; "Init Containers"; "Sidecar Containers"). C is what describes it: a view, or its
--- number in a pod with a history.
+-- What the rules on phases ask of one container (Kubernetes, "Pod Lifecycle", "Pod phase" and "Container
+-- restart policy"; "Init Containers"; "Sidecar Containers"). C is what stands for the container: a view of
+-- it, or its number in a pod with a history.
 use Rattle.std.specs.Prelude.{◌≡◌, ◌≢◌, ℤ, pos, Option, Some, IsSomeAnd, IsTrue, option_and_then}
 use Rattle.state_diff.specs.declared.seen.CriState.TheVariants.{Running}
 use Rattle.manifest.specs.declared.policy.Policy.{Policy}
@@ -9,6 +9,7 @@ use Rattle.manifest.specs.declared.pod.Role.TheVariants.{App}
 use Rattle.manifest.specs.Policy.{WantsRestart}
 use Rattle.phase.specs.declared.view.ContainerView.{ContainerView}
 
+-- what the rules ask of a container
 pub record Facts (C : Type 0) : Type 1 where
   -- it has this role in its pod
   pub is : C → Role → Type 0
@@ -16,7 +17,7 @@ pub record Facts (C : Type 0) : Type 1 where
   pub exited : C → ℤ → Type 0
   -- one of its instances has started or exited
   pub set_up : C → Type 0
-  -- at some tick it was started, its startup probe passed
+  -- at some tick it was running and its startup had passed
   pub was_started : C → Type 0
 
 -- the exit code of the newest instance, if it has exited
@@ -36,15 +37,15 @@ of_view = record {
   was_started = λ view. IsTrue view.was_started;
 }
 
--- its newest instance has exited with 0
+-- the container's newest instance has exited with 0
 abbrev pub HasCompleted : {C : Type 0} → Facts C → C → Type 0
 HasCompleted facts container = facts.exited container (pos 0)
 
--- its newest instance has exited with a code other than 0
+-- the container's newest instance has exited with a code other than 0
 abbrev pub HasFailed : {C : Type 0} → Facts C → C → Type 0
 HasFailed facts container = (code : ℤ) × facts.exited container code × (code ≢ pos 0)
 
--- its newest instance has exited, and as one of an app container wants no restart
+-- the container's newest instance has exited, and an app container is not restarted after such an exit
 pub record HasFinished {C : Type 0} (facts : Facts C) (policy : Policy) (container : C) : Type 0 where
   pub code : ℤ
   pub exited : facts.exited container code

@@ -1,5 +1,6 @@
--- The phase of a pod by the present state of its containers alone (Kubernetes, "Pod Lifecycle",
--- "Pod phase"; "Init Containers"; "Sidecar Containers"; the order of the cases is this profile's).
+-- The raw phase of a pod: its phase by the present state of its containers alone, whatever was before
+-- (Kubernetes, "Pod Lifecycle", "Pod phase"; "Init Containers"; "Sidecar Containers"; the order of the
+-- cases is this profile's).
 use Rattle.std.specs.Prelude.{◌≡◌, ◌⊎◌, List, All, Any}
 use Rattle.manifest.specs.declared.policy.Policy.{Policy}
 use Rattle.manifest.specs.declared.policy.Policy.TheVariants.{Never}
@@ -12,12 +13,12 @@ use Rattle.phase.specs.Facts.{Facts, HasCompleted, HasFailed, HasFinished}
 abbrev pub IsFailedInit : {C : Type 0} → Facts C → C → Type 0
 IsFailedInit facts container = facts.is container Init × HasFailed facts container
 
--- some init container has failed for good
+-- some init container has failed, and is not restarted since the policy is Never
 abbrev pub InitHasFailed : {C : Type 0} → Facts C → Policy → List C → Type 0
 InitHasFailed facts policy containers = (policy ≡ Never) × Any (IsFailedInit facts) containers
 
--- the pod waits for it: an init container that hasn't completed, a sidecar that was never started,
--- or an app container that isn't set up
+-- the pod waits for the container: an init container that hasn't completed, a sidecar that was never started, or an app
+-- container that isn't set up
 abbrev pub IsAwaited : {C : Type 0} → Facts C → C → Type 0
 IsAwaited facts container =
     (facts.is container Init × (HasCompleted facts container → ⊥))
@@ -40,12 +41,12 @@ AnyApp facts P containers = Any (λ container. facts.is container App × P conta
 abbrev pub HaveFinished : {C : Type 0} → Facts C → Policy → List C → Type 0
 HaveFinished facts policy containers = AllApps facts (HasFinished facts policy) containers
 
--- and each has completed
+-- every app container has finished, and each has completed
 abbrev pub HaveSucceeded : {C : Type 0} → Facts C → Policy → List C → Type 0
 HaveSucceeded facts policy containers =
     HaveFinished facts policy containers × AllApps facts (HasCompleted facts) containers
 
--- and some has failed
+-- every app container has finished, and some has failed
 abbrev pub HaveFailed : {C : Type 0} → Facts C → Policy → List C → Type 0
 HaveFailed facts policy containers = HaveFinished facts policy containers × AnyApp facts (HasFailed facts) containers
 
@@ -53,7 +54,7 @@ HaveFailed facts policy containers = HaveFinished facts policy containers × Any
 abbrev pub Where : Type 0 → Type 0 → Type 0 → Type 0
 Where P here otherwise = (P × here) ⊎ ((P → ⊥) × otherwise)
 
--- the first case that holds says the phase; a sidecar that still runs holds no pod in Running
+-- the raw phase: the first case that holds gives it; a sidecar that still runs does not keep a pod Running
 abbrev pub IsRawPhase : {C : Type 0} → Facts C → Policy → List C → Phase → Type 0
 IsRawPhase facts policy containers phase =
     Where (InitHasFailed facts policy containers) (phase ≡ Failed)
@@ -66,12 +67,12 @@ IsRawPhase facts policy containers phase =
 abbrev pub IsTerminal : Phase → Type 0
 IsTerminal phase = (phase ≡ Succeeded) ⊎ (phase ≡ Failed)
 
--- nothing before the app containers is still to be done for it: an init container has completed,
--- and a sidecar was started
+-- nothing is left to be done for the container before the app containers start: an init container has completed, and
+-- a sidecar was started
 pub record HasInitialized {C : Type 0} (facts : Facts C) (container : C) : Type 0 where
   pub init : facts.is container Init → HasCompleted facts container
   pub sidecar : facts.is container Sidecar → facts.was_started container
 
--- the pod is initialized
+-- the pod is initialized: every init container has completed, and every sidecar was started
 abbrev pub AreInitialized : {C : Type 0} → Facts C → List C → Type 0
 AreInitialized facts containers = All (HasInitialized facts) containers

@@ -7,14 +7,14 @@ use Rattle.state_diff.specs.declared.seen.CriState.TheVariants.{Created, Running
 use Rattle.phase.specs.declared.container.ContainerState.{ContainerState}
 use Rattle.phase.specs.declared.container.ContainerState.TheVariants.{Waiting, Running, Terminated}
 
--- how a listing's state is shown; a view has none that is unknown
+-- how the state of an instance is shown; no view has one that is unknown
 abbrev pub shown_as : CriState → ContainerState
 shown_as Created = Waiting
 shown_as IsRunning = Running
 shown_as Exited = Terminated
 shown_as Unknown = Waiting
 
--- by the newest instance, and waiting before any is listed
+-- the state of a container: that of its newest instance, and waiting before any is listed
 abbrev pub state_shown : Option Seen → ContainerState
 state_shown None = Waiting
 state_shown (Some seen) = shown_as seen.state

@@ -1,3 +1,5 @@
+//! The conditions of a pod, and when each changed.
+
 ghost use Rattle.std.specs.Prelude.{◌≡◌, ◌≢◌, ◌⊎◌, ◌↔◌, List, [], ◌∷◌, ◌++◌, Bool, true, false, not, Option, None};
 ghost use Rattle.std.specs.Prelude.{IsTrue};
 ghost use Rattle.histories.specs.Histories.{Recorded, recorded};
@@ -13,12 +15,12 @@ pub struct Condition {
     pub since: Option<u64>,
 }
 
-/// What a tick makes of a pod's conditions.
+/// The values that a tick gives to a pod's conditions.
 #[derive(Clone, Copy, Debug, PartialEq, Eq)]
 pub struct Values {
-    /// Whether every init container has completed.
+    /// Whether every init container has completed, and every sidecar was started.
     pub initialized: bool,
-    /// Whether the pod has not ended, and every app container is ready.
+    /// Whether the pod has not ended, and every app container and sidecar is ready.
     pub containers_ready: bool,
 }
 
@@ -27,14 +29,14 @@ pub struct Values {
 pub struct Conditions {
     /// The pod is placed on a node, which is always true here.
     pub pod_scheduled: Condition,
-    /// Every init container has completed.
+    /// Every init container has completed, and every sidecar was started.
     pub initialized: Condition,
-    /// The pod has not ended, and every app container is ready.
+    /// The pod has not ended, and every app container and sidecar is ready.
     pub containers_ready: Condition,
 }
 
 impl Condition {
-    /// A condition that no tick has given a value yet.
+    /// A condition before any tick, with this value.
     pub fn new(value: bool) -> Self
         ensures { IsConditionOf value [] result }
     {
@@ -62,7 +64,7 @@ impl Condition {
 }
 
 impl Conditions {
-    /// The conditions of a pod that no tick has shown yet.
+    /// The conditions of a pod that no tick has shown yet, with an init container or sidecar or without.
     pub fn new(has_init: bool) -> Self
         ensures { IsStateOf has_init [] result }
     {

@@ -1,3 +1,5 @@
+//! The state of a container.
+
 ghost use Rattle.std.specs.Prelude.{◌≡◌};
 ghost use Rattle.phase.specs.Views.{shown_as, state_shown};
 

@@ -1,3 +1,5 @@
+//! The phase of a pod, and what it is by the containers alone.
+
 ghost use Rattle.std.specs.Prelude.{◌≡◌, ◌↔◌, All, Any, IsTrue};
 ghost use Rattle.manifest.specs.declared.policy.Policy.TheVariants.{Never};
 ghost use Rattle.manifest.specs.declared.pod.Role.TheVariants.{App};
@@ -8,7 +10,7 @@ ghost use Rattle.phase.specs.RawPhase.{HaveFinished, HaveSucceeded, HaveFailed, 
 use crate::view::ContainerView;
 use manifest::Policy;
 
-/// Where a pod stands in its life. (Kubernetes, "Pod Lifecycle", "Pod phase".)
+/// The phase of a pod. (Kubernetes, "Pod Lifecycle", "Pod phase".)
 #[derive(Clone, Copy, Debug, PartialEq, Eq)]
 pub enum Phase {
     /// Some init container has not completed, some sidecar was never started, or some app container
@@ -32,7 +34,7 @@ impl Phase {
     }
 }
 
-/// Whether no exit of a container without a policy of its own is followed by a restart.
+/// Whether the pod's restart policy is `Never`.
 fn is_never(policy: Policy) -> bool
     ensures { IsTrue result ↔ (policy ≡ Never) }
 {
@@ -51,14 +53,14 @@ fn is_failed_app(container: &ContainerView) -> bool
     container.is_app() && container.has_failed()
 }
 
-/// No app container, or a finished one.
+/// Whether it is no app container, or has finished.
 fn finishes(policy: Policy, container: &ContainerView) -> bool
     ensures { IsTrue result ↔ (of_view.is container.now App → HasFinished of_view policy container.now) }
 {
     !container.is_app() || container.has_finished(policy)
 }
 
-/// No app container, or a completed one.
+/// Whether it is no app container, or has completed.
 fn completes(container: &ContainerView) -> bool
     ensures { IsTrue result ↔ (of_view.is container.now App → HasCompleted of_view container.now) }
 {

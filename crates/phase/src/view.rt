@@ -1,3 +1,5 @@
+//! What a pod's phase and conditions need to know of a container.
+
 ghost use Rattle.std.specs.Prelude.{◌≡◌, ◌↔◌, IsTrue};
 ghost use Rattle.manifest.specs.declared.pod.Role.TheVariants.{Init, App};
 ghost use Rattle.phase.specs.Views.{restarts_of};

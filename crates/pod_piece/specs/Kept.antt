@@ -13,8 +13,8 @@ use Rattle.pod_piece.specs.Piece.{Piece, piece, before_last, last_of, ticks, evi
 use Rattle.pod_piece.specs.Listings.{IsNextTick, AreListed}
 use Rattle.pod_piece.specs.Status.{IsStatusOf, AreLastEvents}
 
--- what may be said of the pod's eviction once all is known: what happened, or that it comes no
--- earlier than place n
+-- the evictions of the pod that are possible still: the one that there was, or, if there was none, none or one at
+-- place n or later
 abbrev pub MayBe : Option ℕ → ℕ → Option ℕ → Type 0
 MayBe None n None = Unit {0}
 MayBe None n (Some t) = n ≤ t
@@ -33,7 +33,7 @@ pub record IsStateAfter (pod : PodSpec) (max_restart_delay : ℕ) (evicted : Opt
   pub before : evicted ≡ None → (e : Option ℕ) → MayBe None (length (before_last h)) e
       → IsProgressOf pod e (before_last h) (before_of state)
 
--- the values beside the history are those that the history leaves
+-- the values beside the history are those that follow from it
 pub record IsKept (p : Piece) (differs : List Differ) (state : PodState) (status : PodStatus)
     (events : List PodEvent) : Type 0 where
   pub listed : AreListed p.pod p.handed differs
@@ -42,9 +42,10 @@ pub record IsKept (p : Piece) (differs : List Differ) (state : PodState) (status
   pub shown : IsStatusOf p status
   pub made : AreLastEvents p events
 
--- the piece of these fields, and that they are kept so
+-- the piece of these fields
 abbrev pub piece_of : Parts → Piece
 piece_of parts = piece parts.number parts.pod parts.max_restart_delay parts.history parts.is_pending parts.eviction
 
+-- what holds of the fields of every piece
 abbrev pub AreKept : Parts → Type 0
 AreKept parts = IsKept (piece_of parts) parts.differs.items parts.state parts.status parts.events.items

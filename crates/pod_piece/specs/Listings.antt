@@ -25,7 +25,7 @@ pub record MayComeNext (pod : PodSpec) (h : List PodTick) (shown : List Containe
   pub as_many : length shown ≡ length pod.containers
   pub acceptable : AreAcceptable pod h shown
 
--- so may the tick, at its moment
+-- the tick may come next, at its moment
 pub record IsNextTick (pod : PodSpec) (h : List PodTick) (tick : PodTick) : Type 0 where
   pub shown : MayComeNext pod h tick.entry.containers
   pub later : EndsBefore h tick.moment
@@ -42,6 +42,7 @@ pub record Follows (differ : Differ) (at : ℕ) (seen : Option Seen) : Type 0 wh
   pub accepted : Accepts differ seen
   pub later : IsBefore differ at
 
+-- the listing of each container may come next, at the moment
 abbrev pub AllFollow : List Differ → ℕ → List ContainerObs → Type 0
 AllFollow differs at shown =
     (number : ℕ) (d : Differ) → number < length differs → Follows (slice_index_or differs number d) at

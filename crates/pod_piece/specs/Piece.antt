@@ -7,10 +7,11 @@ use Rattle.observations.specs.Pods.{PodObs}
 use Rattle.pod_piece.specs.declared.order.EvictOrder.{EvictOrder}
 use Rattle.pod_piece.specs.declared.piece.EvictionRecord.{EvictionRecord}
 
+-- a pod, all that was handed to it, and its eviction
 pub record Piece : Type 0 where
   pub number : ℕ
   pub pod : PodSpec
-  -- the node's greatest restart delay, in seconds
+  -- the node's maximum restart delay, in seconds
   pub max_restart_delay : ℕ
   -- every tick that was handed to it
   pub handed : List PodTick
@@ -18,7 +19,7 @@ pub record Piece : Type 0 where
   pub is_pending : Bool
   pub eviction : Option EvictionRecord
 
--- one of these values, with its observations as ticks
+-- the piece of these fields, with its observations as ticks
 abbrev pub piece : ℕ → PodSpec → ℕ → List PodObs → Bool → Option EvictionRecord → Piece
 piece number pod max_restart_delay history is_pending eviction = record {
   number = number;
@@ -37,15 +38,16 @@ pods_in pieces = map (λ (piece : Piece). piece.pod) pieces
 abbrev pub before_last : List PodTick → List PodTick
 before_last h = take (length h - 1) h
 
--- the last one
+-- the last tick
 abbrev pub last_of : List PodTick → Option PodTick
 last_of h = slice_get h (length h - 1)
 
--- the ticks that have come into its status
+-- the ticks of these that have come into a pod's status
 abbrev pub taken : Bool → List PodTick → List PodTick
 taken true handed = before_last handed
 taken false handed = handed
 
+-- the ticks that have come into the status of a piece
 abbrev pub ticks : Piece → List PodTick
 ticks p = taken p.is_pending p.handed
 
@@ -53,15 +55,16 @@ ticks p = taken p.is_pending p.handed
 abbrev pub place_of : Option EvictionRecord → Option ℕ
 place_of eviction = option_map (λ (e : EvictionRecord). e.place) eviction
 
+-- the place of the tick that evicts the pod of a piece, if it is evicted
 abbrev pub evicted_at : Piece → Option ℕ
 evicted_at p = place_of p.eviction
 
--- the same, if that tick was before a place
+-- the place of an evicting tick, if it is before this one
 abbrev pub evicted_before : Option ℕ → ℕ → Option ℕ
 evicted_before None t = None
 evicted_before (Some place) t = if nat_lt place t then Some place else None
 
--- it has not ended
+-- the pod has not ended
 abbrev pub Lives : Piece → Type 0
 Lives p = HasEnded p.pod (evicted_at p) (ticks p) → ⊥
 
@@ -69,18 +72,18 @@ Lives p = HasEnded p.pod (evicted_at p) (ticks p) → ⊥
 abbrev pub new_piece : ℕ → PodSpec → ℕ → Piece
 new_piece number pod max_restart_delay = piece number pod max_restart_delay [] false None
 
--- one tick more is handed to it
+-- the piece once one tick more was handed to it
 abbrev pub with_tick : Piece → PodTick → Piece
 with_tick p tick = record p { handed = p.handed ++ tick ∷ []; is_pending = true }
 
--- the tick that was handed to it has come into its status
+-- the piece once the tick that was handed to it has come into its status
 abbrev pub updated : Piece → Piece
 updated p = record p { is_pending = false }
 
--- its last tick evicts it
+-- the piece once its last tick has evicted it
 abbrev pub with_eviction : Piece → EvictOrder → Piece
 with_eviction p order = record p { eviction = Some (record { place = length p.handed - 1; order = order }) }
 
--- it has another number
+-- the piece with another number
 abbrev pub with_number : Piece → ℕ → Piece
 with_number p number = record p { number = number }

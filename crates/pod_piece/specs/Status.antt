@@ -16,7 +16,7 @@ use Rattle.pod_piece.specs.declared.status.PodStatus.{PodStatus}
 use Rattle.pod_piece.specs.Piece.{Piece, before_last, last_of, ticks, place_of, evicted_at, evicted_before}
 use Rattle.pod_piece.specs.Usage.{IsUsageOf}
 
--- what a pod asks for in effect, of each resource
+-- a pod's effective requests
 abbrev pub requests_of : PodSpec → EffectiveRequests
 requests_of pod = record {
   cpu = effective_request_of Cpu pod.containers;

@@ -12,6 +12,7 @@ use Rattle.pod_state.specs.Pods.{PodEntry, PodTick, IsEnd, counted}
 abbrev pub sample_in : (Usage → Option ℕ) → PodEntry → Option ℕ
 sample_in resource entry = option_and_then resource entry.usage
 
+-- the tick has a sample of the resource
 abbrev pub HasSample : (Usage → Option ℕ) → PodEntry → Type 0
 HasSample resource entry = IsSome (sample_in resource entry)
 
@@ -22,7 +23,7 @@ IsNewestSample resource h (Some amount) =
     (t : ℕ) × IsLast (λ u. IsSomeAnd (entry_at h u) (HasSample resource)) t
     × IsSomeAnd (entry_at h t) (λ entry. sample_in resource entry ≡ Some amount)
 
--- and of each resource
+-- the newest sample of each resource
 pub record AreNewestSamples (h : List PodTick) (usage : Usage) : Type 0 where
   pub memory : IsNewestSample (λ u. u.memory) h usage.memory
   pub volumes : IsNewestSample (λ u. u.volumes) h usage.volumes

@@ -12,7 +12,7 @@ use observations::PodObs;
 use state_diff::{Differ, Seen};
 use std::alloc::{AllocError, Global};
 
-/// Of this many containers, before any tick.
+/// A differ for each of this many containers, before any tick.
 pub(crate) fn first_differs(alloc: Global, count: usize) -> Result<Vec<Differ>, AllocError>
     ensures { IfOk result (λ v. (pod : PodSpec) → length pod.containers ≡ count → AreListed pod [] v.items) }
 {

@@ -1,3 +1,5 @@
+//! The order to evict a pod.
+
 use signals::{Signal, ThresholdKind};
 
 /// The order to evict a pod. (Kubernetes, "Node-pressure Eviction".)
@@ -5,7 +7,7 @@ use signals::{Signal, ThresholdKind};
 pub struct EvictOrder {
     /// The moment of the tick that evicts the pod, in seconds.
     pub at: u64,
-    /// The signal whose threshold was met.
+    /// The signal of the threshold for which it is evicted.
     pub signal: Signal,
     /// The kind of that threshold.
     pub kind: ThresholdKind,

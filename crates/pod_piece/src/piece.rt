@@ -48,8 +48,8 @@ struct Parts {
     events: Vec<PodEvent>,
 }
 
-/// One pod: its specification, all that was handed to it, and what the rules make of that. Its type
-/// keeps that every counter in it is the state of the history that it keeps. It is one word, and cheap to move.
+/// One pod: its specification, all that was handed to it, and what the rules make of that. By the invariant of
+/// the type each counter is the state of the history beside it. A piece is a pointer, and so cheap to move.
 #[derive(Drop)]
 pub struct PodPiece {
     parts: Box<Parts>,
@@ -83,7 +83,7 @@ const UNLISTED: ContainerStatus = ContainerStatus {
     started: false,
 };
 
-/// What a pod shows that nothing was handed to.
+/// The status of a pod that nothing was handed to.
 fn first_status(
     alloc: Global,
     number: usize,
@@ -123,7 +123,7 @@ fn moment_before(history: &ChunkedList<PodObs>, place: usize) -> Option<u64>
 }
 
 impl PodPiece {
-    /// The pod with this number and specification, on a node with this greatest restart delay.
+    /// The pod with this number and specification, on a node with this maximum restart delay.
     /// Nothing was handed to it yet.
     pub fn new(
         alloc: Global,
@@ -218,8 +218,8 @@ impl PodPiece {
         }
     }
 
-    /// The same in its place: takes what was handed to it into its status. An `Err` changes nothing, and it is
-    /// still pending.
+    /// As `update`, in its place: takes what was handed to it into its status. An `Err` changes nothing, so it
+    /// is still pending.
     pub fn update_in_place(&mut self) -> Result<(), AllocError>
         requires { IsTrue self.old.is_pending }
         ensures ok { OnOk result (self.new ≡ updated self.old) }
@@ -259,7 +259,7 @@ impl PodPiece {
         parts.eviction = Some(EvictionRecord { place, order });
     }
 
-    /// Gives it this number in the place of its own. It takes no memory.
+    /// Replaces its number by this one. It takes no memory.
     pub fn renumber(&mut self, number: usize)
         ensures { self.new ≡ with_number self.old number }
     {

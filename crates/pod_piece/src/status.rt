@@ -1,3 +1,5 @@
+//! The status of a pod.
+
 ghost use Rattle.std.specs.Prelude.{◌≡◌, ◌↔◌, Option, IsTrue, option_map};
 ghost use Rattle.manifest.specs.declared.pod.PodSpec.{PodSpec};
 ghost use Rattle.phase.specs.RawPhase.{IsTerminal};
@@ -18,7 +20,7 @@ pub enum Reason {
     Evicted,
 }
 
-/// What a pod asks for in effect, in thousandths. (Kubernetes, "Init Containers" and "Sidecar
+/// The effective requests of a pod, in thousandths. (Kubernetes, "Init Containers" and "Sidecar
 /// Containers", "Resource sharing within containers".)
 #[derive(Clone, Copy, Debug, PartialEq, Eq)]
 pub struct EffectiveRequests {
@@ -43,21 +45,21 @@ impl EffectiveRequests {
     }
 }
 
-/// What is known of a pod. (Kubernetes, "Pod Lifecycle".)
+/// The status of a pod. (Kubernetes, "Pod Lifecycle".)
 #[derive(Drop)]
 pub struct PodStatus {
     /// The pod's number among those of its node.
     pub number: usize,
     /// The phase.
     pub phase: Phase,
-    /// The conditions, each with the moment of its last transition. DisruptionTarget stands by
-    /// itself.
+    /// The conditions, each with the moment of its last transition, but for DisruptionTarget
+    /// (`disruption_target`).
     pub conditions: Conditions,
     /// The containers, by number: init containers and sidecars first.
     pub containers: Vec<ContainerStatus>,
     /// The QoS class.
     pub class: Qos,
-    /// What the pod asks for in effect.
+    /// Its effective requests.
     pub requests: EffectiveRequests,
     /// What it uses, by the newest sample of each resource.
     pub usage: Usage,

@@ -21,7 +21,7 @@ pub(crate) fn nothing() -> Usage
     }
 }
 
-/// The newer of two samples, if it is there.
+/// The newer sample where there is one, else the older.
 fn newer_of(old: Option<Quantity>, new: Option<Quantity>) -> Option<Quantity>
     ensures { result ≡ option_or new old }
 {

@@ -3,7 +3,7 @@ use Rattle.std.proofs.Common.{◌≡◌, inl, inr, ℕ, suc, ◌<◌, List, [], 
 use Rattle.std.proofs.Common.{ap, subst, sym, ◌∙◌, arith}
 use Rattle.std.specs.Prelude.{◌↔◌, IsSomeAnd}
 use Rattle.std.proofs.lemmas.List.{length-take-le}
-use Rattle.histories.specs.Histories.{up_to, IsSo}
+use Rattle.histories.specs.Histories.{up_to, HoldsAt}
 use Rattle.histories.proofs.Places.{length-more, up_to-old, up_to-new}
 use Rattle.histories.proofs.First.{Grows, IsFirst-old, IsFirst-new, IsFirst-split, IsFirstPlace-unique, none_more}
 use Rattle.histories.proofs.Growth.{grows_so, so_last}
@@ -20,7 +20,7 @@ use Rattle.phase.proofs.DecideLemmas.{terminal_cases}
 
 pub IsEnd-unique : (pod : PodSpec) (evicted : Option ℕ) (h : List PodTick) (o p : Option ℕ) → IsEnd pod evicted h o
     → IsEnd pod evicted h p → o ≡ p
-IsEnd-unique pod evicted h o p = IsFirstPlace-unique (IsSo (EndsPod pod evicted) h) o p
+IsEnd-unique pod evicted h o p = IsFirstPlace-unique (HoldsAt (EndsPod pod evicted) h) o p
 
 pub some_more : (h : List PodTick) (x : PodTick) → h ++ x ∷ [] ≡ [] → ⊥
 some_more h x e = let n : length (h ++ x ∷ []) ≡ 0 = ap length e in absurd (omega (arith, length-more h x))
@@ -96,7 +96,7 @@ ended_is pod evicted h p is = (terminal_end pod evicted h p is, (λ w. end_termi
 
 -- one more tick
 grows : (pod : PodSpec) (evicted : Option ℕ) (h : List PodTick) (x : PodTick)
-    → Grows (length h) (IsSo (EndsPod pod evicted) h) (IsSo (EndsPod pod evicted) (h ++ x ∷ []))
+    → Grows (length h) (HoldsAt (EndsPod pod evicted) h) (HoldsAt (EndsPod pod evicted) (h ++ x ∷ []))
     (EndsPod pod evicted (h ++ x ∷ []))
 grows pod evicted h x = grows_so (EndsPod pod evicted) h x
 

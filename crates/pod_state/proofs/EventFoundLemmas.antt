@@ -3,25 +3,27 @@ use Rattle.std.proofs.Common.{◌≡◌, ◌∙◌, inl, inr, ℕ, ◌<◌, List
 use Rattle.std.proofs.Common.{refl, sym, ap, subst}
 use Rattle.std.specs.Prelude.{All, slice_get, unwrap_or}
 use Rattle.std.proofs.lemmas.Option.{get_or_from_slice_get}
+use Rattle.histories.specs.TheOne.{IsTheOne}
 use Rattle.histories.specs.Histories.{recorded}
 use Rattle.histories.proofs.Decide.{OrNot}
 use Rattle.histories.proofs.Found.{list_of}
 use Rattle.histories.proofs.Places.{length-project}
 use Rattle.histories.proofs.Lists.{given_at}
+use Rattle.histories.proofs.TheOne.{IsTheOne-exists}
 use Rattle.manifest.specs.declared.pod.ContainerSpec.{ContainerSpec}
 use Rattle.manifest.specs.declared.pod.PodSpec.{PodSpec}
 use Rattle.phase.specs.declared.phase.Phase.{Phase}
 use Rattle.phase.specs.declared.phase.Phase.TheVariants.{Pending, Running, Succeeded, Failed}
 use Rattle.probes.specs.Container.{AreInRange}
 use Rattle.containers.specs.declared.pod_event_kind.PodEventKind.{PodEventKind}
-use Rattle.containers.specs.declared.pod_event_kind.PodEventKind.TheVariants as whats
+use Rattle.containers.specs.declared.pod_event_kind.PodEventKind.TheVariants as kinds
 use Rattle.containers.specs.declared.events.ContainerEvents.{ContainerEvents}
 use Rattle.containers.specs.Ticks.{ContainerTick}
-use Rattle.containers.specs.Events.{Gives, AreEvents}
-use Rattle.containers.proofs.EventFoundLemmas.{given_event, some_list_of_events as some_of_container}
+use Rattle.containers.specs.Events.{AreEvents}
+use Rattle.containers.proofs.EventFoundLemmas.{some_list_of_events as some_of_container}
 use Rattle.pod_state.specs.declared.events.PodEvent.{PodEvent}
 use Rattle.pod_state.specs.Pods.{PodEntry, PodTick, ticks_of, unseen, HasEnded, IsEnd, IsPhase}
-use Rattle.pod_state.specs.Events.{IsMadeOf, ChangesPhase, AreNews, events_from, events_at}
+use Rattle.pod_state.specs.Events.{IsMadeOf, ChangesPhase, AreEventsOfLivePod, events_from, events_at}
 use Rattle.pod_state.specs.Laws.{SomeListOfEvents}
 use Rattle.pod_state.proofs.TickLemmas.{of_spec, ticks_more}
 use Rattle.pod_state.proofs.EndLemmas.{raw_unique, IsPhase-unique}
@@ -82,28 +84,29 @@ was_phase_or_not pod evicted h p =
 change_one : (pod : PodSpec) (evicted : Option ℕ) (before : List PodTick) (tick : PodTick) (v w : PodEventKind)
     → ChangesPhase pod evicted before tick v → ChangesPhase pod evicted before tick w → v ≡ w
 change_one pod evicted before tick v w (p, e, raw, not) (q, f, raw', not') =
-    e ∙ ap (λ r. whats.Phase r) (raw_unique pod (before ++ tick ∷ []) p q raw raw') ∙ sym f
+    e ∙ ap (λ r. kinds.Phase r) (raw_unique pod (before ++ tick ∷ []) p q raw raw') ∙ sym f
 
 change_event : (pod : PodSpec) (evicted : Option ℕ) (before : List PodTick) (tick : PodTick)
-    → (event : Option PodEventKind) × Gives (ChangesPhase pod evicted before tick) event
+    → (event : Option PodEventKind) × IsTheOne (ChangesPhase pod evicted before tick) event
 change_event pod evicted before tick =
-    given_event (ChangesPhase pod evicted before tick) some (change_one pod evicted before tick)
+    IsTheOne-exists (ChangesPhase pod evicted before tick) some (change_one pod evicted before tick)
   where
-    some : OrNot ((what : PodEventKind) × ChangesPhase pod evicted before tick what)
+    some : OrNot ((kind : PodEventKind) × ChangesPhase pod evicted before tick kind)
     some =
         let raw = some_raw_phase pod (before ++ tick ∷ []) in
         elim (was_phase_or_not pod evicted before raw.0) [
-          | inr not ↦ inl (whats.Phase raw.0, (raw.0, refl, raw.1, not))
-          | inl was ↦ inr (λ (what, (p, e, is, not)).
+          | inr not ↦ inl (kinds.Phase raw.0, (raw.0, refl, raw.1, not))
+          | inl was ↦ inr (λ (kind, (p, e, is, not)).
               let same = raw_unique pod (before ++ tick ∷ []) raw.0 p raw.1 is in
               not (subst (λ (r : Phase). IsPhase pod evicted before r) same was))
         ]
 
 -- the events of a tick of a pod that lives
-some_news : (pod : PodSpec) (max_restart_delay : ℕ) (evicted : Option ℕ) (before : List PodTick) (tick : PodTick)
+some_events_of_live_pod : (pod : PodSpec) (max_restart_delay : ℕ) (evicted : Option ℕ) (before : List PodTick)
+    (tick : PodTick)
     → All (λ spec. AreInRange spec.probes) pod.containers
-    → (events : List PodEvent) × AreNews pod max_restart_delay evicted before tick events
-some_news pod max_restart_delay evicted before tick range =
+    → (events : List PodEvent) × AreEventsOfLivePod pod max_restart_delay evicted before tick events
+some_events_of_live_pod pod max_restart_delay evicted before tick range =
     let made =
     list_of (IsMadeOf pod max_restart_delay before tick) (length pod.containers)
     (made_at pod max_restart_delay before tick range) in
@@ -131,6 +134,6 @@ some_list_of_events pod max_restart_delay evicted before tick range =
     let end = some_end pod evicted before in
     elim (ended_or_not pod evicted before end.0 end.1) [
       | inl ended ↦ ([], inl (ended, refl))
-      | inr lives ↦ let news =
-          some_news pod max_restart_delay evicted before tick range in (news.0, inr (lives, news.1))
+      | inr lives ↦ let those =
+          some_events_of_live_pod pod max_restart_delay evicted before tick range in (those.0, inr (lives, those.1))
     ]

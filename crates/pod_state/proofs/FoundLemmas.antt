@@ -5,7 +5,7 @@ use Rattle.std.proofs.Common.{subst}
 use Rattle.std.specs.Prelude.{slice_get}
 use Rattle.std.proofs.lemmas.Bool.{cases_eq}
 use Rattle.std.proofs.lemmas.Option.{same_Some}
-use Rattle.histories.specs.Histories.{IsSo}
+use Rattle.histories.specs.Histories.{HoldsAt}
 use Rattle.histories.proofs.Decide.{OrNot, negated, either, all_three, implied, test_of, given_or_not}
 use Rattle.histories.proofs.Found.{all_below, first_so, so_or_not, transition_of, list_of}
 use Rattle.histories.proofs.Lists.{given_at}
@@ -143,7 +143,7 @@ condition_of : (C : List PodTick → Type 0) → ((h : List PodTick) → OrNot (
     → (c : Condition) × IsConditionAfter C h c
 condition_of C each h =
     let value = test_of (each h) in
-    let since = transition_of h (IsSo C h) (so_or_not C each h) in
+    let since = transition_of h (HoldsAt C h) (so_or_not C each h) in
     (record { value = value.0; since = since.0 }, record { value = value.1; since = since.1 })
 
 some_lifecycle : (pod : PodSpec) (evicted : Option ℕ) (h : List PodTick)

@@ -4,7 +4,7 @@ use Rattle.std.proofs.Common.{Some, refl, subst, sym, ◌∙◌, append_assoc, a
 use Rattle.std.specs.Prelude.{◌↔◌}
 use Rattle.std.proofs.lemmas.Bool.{cases_lt}
 use Rattle.std.proofs.lemmas.List.{append-nil}
-use Rattle.histories.specs.Histories.{moment_at, IsSo, IsFirst, IsRising, IsSteady, IsTransition}
+use Rattle.histories.specs.Histories.{moment_at, HoldsAt, IsFirst, IsRising, IsSteady, IsTransition}
 use Rattle.histories.proofs.Places.{moment_at-below}
 use Rattle.histories.proofs.Transitions.{transition_differs}
 use Rattle.phase.specs.declared.phase.Phase.{Phase}
@@ -63,16 +63,16 @@ not_later h t m is last rising end =
           omega arith
     ]
 
-changes : (C : List PodTick → Type 0) (h : List PodTick) (m : ℕ) (o : Option ℕ) → IsTransition h (IsSo C h) o
+changes : (C : List PodTick → Type 0) (h : List PodTick) (m : ℕ) (o : Option ℕ) → IsTransition h (HoldsAt C h) o
     → o ≡ Some m → ChangesAt h C m
-changes C h m o is e = let P : Option ℕ → Type 0 = λ o. IsTransition h (IsSo C h) o in at (subst P e is)
+changes C h m o is e = let P : Option ℕ → Type 0 = λ o. IsTransition h (HoldsAt C h) o in at (subst P e is)
   where
-    before : (t : ℕ) → IsFirst (IsSteady (length h) (IsSo C h)) t
-        → (t ≡ 0) ⊎ ((u : ℕ) × (t ≡ suc u) × ((IsSo C h u ↔ IsSo C h t) → ⊥))
+    before : (t : ℕ) → IsFirst (IsSteady (length h) (HoldsAt C h)) t
+        → (t ≡ 0) ⊎ ((u : ℕ) × (t ≡ suc u) × ((HoldsAt C h u ↔ HoldsAt C h t) → ⊥))
     before zero f = inl refl
-    before (suc u) f = inr (u, refl, transition_differs (length h) (IsSo C h) u f)
+    before (suc u) f = inr (u, refl, transition_differs (length h) (HoldsAt C h) u f)
 
-    at : IsTransition h (IsSo C h) (Some m) → ChangesAt h C m
+    at : IsTransition h (HoldsAt C h) (Some m) → ChangesAt h C m
     at (t, f, when) = record { place = t; moment = when; change = before t f; not_later = not_later h t m when }
 
 pub transitions_are_changes : TransitionsAreChanges

@@ -2,7 +2,7 @@
 use Rattle.std.proofs.Common.{◌≡◌, inl, inr, ℕ, suc, zero, ◌<◌, Bool, true, false, List, [], ◌∷◌, ◌++◌, length}
 use Rattle.std.proofs.Common.{Option, Some, None, refl, ap, subst, sym, ◌∙◌, arith}
 use Rattle.std.specs.Prelude.{◌↔◌, IsTrue, not}
-use Rattle.histories.specs.Histories.{Recorded, recorded, moment_at, IsSo}
+use Rattle.histories.specs.Histories.{Recorded, recorded, moment_at, HoldsAt}
 use Rattle.histories.proofs.Places.{length-more, project-append}
 use Rattle.histories.proofs.First.{Grows}
 use Rattle.histories.proofs.Growth.{grows_entry, grows_so}
@@ -44,8 +44,8 @@ values_more : (C : List PodTick → Type 0) (h : List PodTick) (x : PodTick) (vs
 values_more C h x vs b are is =
     let g : Grows (length vs) (IsTrueAt vs) (IsTrueAt (vs ++ recorded x.moment b ∷ [])) (IsTrue b) =
     grows_entry IsTrue vs (recorded x.moment b) in
-    let k : Grows (length h) (IsSo C h) (IsSo C (h ++ x ∷ [])) (C (h ++ x ∷ [])) = grows_so C h x in
-    let P : ℕ → Type 0 = IsSo C (h ++ x ∷ []) in
+    let k : Grows (length h) (HoldsAt C h) (HoldsAt C (h ++ x ∷ [])) (C (h ++ x ∷ [])) = grows_so C h x in
+    let P : ℕ → Type 0 = HoldsAt C (h ++ x ∷ []) in
     let Q : ℕ → Type 0 = IsTrueAt (vs ++ recorded x.moment b ∷ []) in
     record {
       count = omega (arith, length-more vs (recorded x.moment b), length-more h x, are.count);
@@ -68,7 +68,7 @@ condition_after : (C : List PodTick → Type 0) (h : List PodTick) (vs : List (R
     → (IsTrue (last_or initially vs) ↔ C h) → IsConditionOf initially vs c → IsConditionAfter C h c
 condition_after C h vs initially c are value is = record {
   value = let P : Bool → Type 0 = λ b. IsTrue b ↔ C h in subst P (sym is.value) value;
-  since = transition_same vs h (IsTrueAt vs) (IsSo C h) c.since are.count are.moments (record { old = are.same })
+  since = transition_same vs h (IsTrueAt vs) (HoldsAt C h) c.since are.count are.moments (record { old = are.same })
       is.since;
 }
 

@@ -6,16 +6,17 @@ use Rattle.std.proofs.Math.Seq.{take-suc}
 use Rattle.std.proofs.lemmas.List.{append_assoc, append-nil, length-take-le}
 use Rattle.std.proofs.lemmas.List.Elements.{filter_map-append}
 use Rattle.histories.proofs.Lists.{same_items}
+use Rattle.histories.proofs.TheOne.{IsTheOne-unique}
 use Rattle.phase.specs.declared.phase.Phase.{Phase}
 use Rattle.containers.specs.declared.pod_event_kind.PodEventKind.{PodEventKind}
 use Rattle.containers.specs.declared.events.ContainerEvents.{ContainerEvents}
 use Rattle.pod_state.specs.declared.events.PodEvent.{PodEvent}
 use Rattle.containers.specs.Events.{AreEvents}
-use Rattle.containers.proofs.LawLemmas.{event_one, one_list_of_events}
+use Rattle.containers.proofs.LawLemmas.{one_list_of_events}
 use Rattle.manifest.specs.declared.pod.ContainerSpec.{ContainerSpec}
 use Rattle.manifest.specs.declared.pod.PodSpec.{PodSpec}
 use Rattle.pod_state.specs.Pods.{PodTick, ticks_of}
-use Rattle.pod_state.specs.Events.{IsMadeOf, ChangesPhase, AreNews, places_in, events_at, events_from}
+use Rattle.pod_state.specs.Events.{IsMadeOf, ChangesPhase, AreEventsOfLivePod, places_in, events_at, events_from}
 use Rattle.pod_state.specs.Laws.{NoEventsAfterTheEnd, OneListOfEvents}
 use Rattle.pod_state.proofs.TickLemmas.{whatever, together}
 use Rattle.pod_state.proofs.EndLemmas.{raw_unique}
@@ -33,7 +34,7 @@ place_more container places place old new after so_far here =
     here ∙ ap (λ es. es ++ events_at container (place ∷ [])) so_far
     ∙ append_assoc old (events_at container places) (events_at container (place ∷ []))
     ∙ ap (λ es. old ++ es)
-    (sym (filter_map-append (option_map (λ what. record { container = container; what = what })) places (place ∷ [])))
+    (sym (filter_map-append (option_map (λ kind. record { container = container; kind = kind })) places (place ∷ [])))
 
 from_more : (phase : Phase) (n : ℕ) (made : List ContainerEvents) (next : ContainerEvents)
     → events_from phase n (made ++ next ∷ []) ≡ events_from phase n made ++ events_at (Some (n + length made))
@@ -80,17 +81,18 @@ made_one pod max_restart_delay before tick number made other is was =
     (together pod number (A made) (A other) (λ spec. made ≡ other)
     (λ spec one two. one_list_of_events pod.policy max_restart_delay spec h (length before) made other one two) is was)
 
-news_one : (pod : PodSpec) (max_restart_delay : ℕ) (evicted : Option ℕ) (before : List PodTick) (tick : PodTick)
-    (events others : List PodEvent) → AreNews pod max_restart_delay evicted before tick events
-    → AreNews pod max_restart_delay evicted before tick others → events ≡ others
-news_one pod max_restart_delay evicted before tick events others one two =
+one_list_of_live_pod : (pod : PodSpec) (max_restart_delay : ℕ) (evicted : Option ℕ) (before : List PodTick)
+    (tick : PodTick)
+    (events others : List PodEvent) → AreEventsOfLivePod pod max_restart_delay evicted before tick events
+    → AreEventsOfLivePod pod max_restart_delay evicted before tick others → events ≡ others
+one_list_of_live_pod pod max_restart_delay evicted before tick events others one two =
     let made : one.made ≡ two.made = same_items one.made two.made (one.are_made.as_many ∙ sym two.are_made.as_many)
     (λ n d lt. made_one pod max_restart_delay before tick n _ _
     (one.are_made.each n d (omega (arith, one.are_made.as_many)))
     (two.are_made.each n d (omega (arith, one.are_made.as_many)))) in
     let phase : one.phase ≡ two.phase = raw_unique pod (before ++ tick ∷ []) one.phase two.phase one.is_phase
     two.is_phase in
-    let change : one.change ≡ two.change = event_one (ChangesPhase pod evicted before tick) one.change two.change
+    let change : one.change ≡ two.change = IsTheOne-unique (ChangesPhase pod evicted before tick) one.change two.change
     one.changes two.changes in
     one.in_order ∙ ap (λ (p : Phase). events_from p 0 one.made ++ events_at None (one.change ∷ [])) phase
     ∙ ap (λ (ms : List ContainerEvents). events_from two.phase 0 ms ++ events_at None (one.change ∷ [])) made
@@ -105,6 +107,6 @@ one_list_of_pod_events pod max_restart_delay evicted before tick events others i
   ]
   | inr v ↦ elim was [
     | inl never ↦ absurd (v.0 never.0)
-    | inr w ↦ news_one pod max_restart_delay evicted before tick events others v.1 w.1
+    | inr w ↦ one_list_of_live_pod pod max_restart_delay evicted before tick events others v.1 w.1
   ]
 ]

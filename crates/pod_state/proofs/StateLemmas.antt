@@ -22,7 +22,7 @@ use Rattle.pod_state.specs.Events.{AreMade, AreEventsOf, events_at, events_from}
 use Rattle.pod_state.specs.declared.events.PodEvent.{PodEvent}
 use Rattle.pod_state.specs.declared.lifecycle.Lifecycle.{Lifecycle}
 use Rattle.containers.specs.declared.pod_event_kind.PodEventKind.{PodEventKind}
-use Rattle.containers.specs.declared.pod_event_kind.PodEventKind.TheVariants as whats
+use Rattle.containers.specs.declared.pod_event_kind.PodEventKind.TheVariants as kinds
 use Rattle.containers.specs.declared.events.ContainerEvents.{ContainerEvents}
 use Rattle.pod_state.proofs.EndLemmas.{IsPhase-unique, raw_unique, ended_is, phase_ended, phase_raw, end_evicted}
 use Rattle.pod_state.proofs.EndLemmas.{kept_all, kept_ended, kept_lives}
@@ -117,8 +117,8 @@ pub events_lives : (pod : PodSpec) (max_restart_delay : ℕ) (evicted : Option �
     → (evicted ≡ Some (length h) → ⊥)
     → (AreContainersOf pod max_restart_delay h state.containers.items → AreMade pod max_restart_delay h x made)
     → (AreContainersOf pod max_restart_delay h state.containers.items → IsPhase pod evicted (h ++ x ∷ []) next.phase)
-    → ((what : PodEventKind) → ((change ≡ Some what)
-    ↔ ((what ≡ whats.Phase next.phase) × (state.lifecycle.phase ≢ next.phase))))
+    → ((kind : PodEventKind) → ((change ≡ Some kind)
+    ↔ ((kind ≡ kinds.Phase next.phase) × (state.lifecycle.phase ≢ next.phase))))
     → events ≡ events_from next.phase 0 made ++ events_at None (change ∷ [])
     → AreEventsOf pod max_restart_delay evicted h x events
 events_lives pod max_restart_delay evicted h x state next made change events is lives stays made_by phase_by changes
@@ -135,11 +135,11 @@ events_lives pod max_restart_delay evicted h x state next made change events is 
         phase = next.phase;
         is_phase = raw;
         change = change;
-        changes = λ what. (
-          (λ e. let w = (changes what).0 e in
+        changes = λ kind. (
+          (λ e. let w = (changes kind).0 e in
               (next.phase, w.0, raw, (λ same. w.1 (IsPhase-unique pod evicted h old next.phase phase same)))),
-          (λ w. (changes what).1 (
-            w.1 ∙ ap whats.Phase (raw_unique pod (h ++ x ∷ []) w.0 next.phase w.2 raw),
+          (λ w. (changes kind).1 (
+            w.1 ∙ ap kinds.Phase (raw_unique pod (h ++ x ∷ []) w.0 next.phase w.2 raw),
             (λ same. w.3 (subst (IsPhase pod evicted h) (same ∙ raw_unique pod (h ++ x ∷ []) next.phase w.0 raw w.2)
                 phase)),
           )),

@@ -12,7 +12,7 @@ abbrev pub IsShownOf : PodSpec → Type 0 → List PodTick → ℕ → Container
 IsShownOf pod is_evicted h number status =
     OfSpec pod number (λ spec. IsShown spec is_evicted (ticks_of h number) status)
 
--- and of each
+-- what is shown of each container
 pub record AreShown (pod : PodSpec) (is_evicted : Type 0) (h : List PodTick)
     (statuses : List ContainerStatus) : Type 0 where
   pub as_many : length statuses ≡ length pod.containers
@@ -33,13 +33,13 @@ pub record AreStatusesOf (pod : PodSpec) (evicted : Option ℕ) (h : List PodTic
   pub each : (number : ℕ) (d : ContainerStatus) → number < length pod.containers
       → IsContainerStatus pod evicted h number (slice_index_or statuses number d)
 
--- the container with the number, as these ticks of its pod leave it, on a node with a greatest
--- restart delay
+-- the container with the number, as these ticks of its pod leave it, on a node with a maximum restart
+-- delay
 abbrev pub IsContainerOf : PodSpec → ℕ → List PodTick → ℕ → Container → Type 0
 IsContainerOf pod max_restart_delay h number container =
     OfSpec pod number (λ spec. IsStateOf spec max_restart_delay (ticks_of h number) container)
 
--- all of them
+-- all containers, as these ticks leave them
 pub record AreContainersOf (pod : PodSpec) (max_restart_delay : ℕ) (h : List PodTick)
     (containers : List Container) : Type 0 where
   pub as_many : length containers ≡ length pod.containers

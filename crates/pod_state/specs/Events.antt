@@ -4,13 +4,14 @@
 use Rattle.std.specs.Prelude.{◌≡◌, ◌⊎◌, ℕ, ◌+◌, ◌<◌, List, [], ◌∷◌, ◌++◌, length, Option, Some, None, option_map}
 use Rattle.std.specs.Prelude.{slice_index_or}
 use Rattle.std.specs.List.{filter_map}
+use Rattle.histories.specs.TheOne.{IsTheOne}
 use Rattle.manifest.specs.declared.pod.PodSpec.{PodSpec}
 use Rattle.phase.specs.declared.phase.Phase.{Phase}
 use Rattle.phase.specs.declared.phase.Phase.TheVariants.{Pending, Running, Succeeded, Failed}
 use Rattle.containers.specs.declared.pod_event_kind.PodEventKind.{PodEventKind}
-use Rattle.containers.specs.declared.pod_event_kind.PodEventKind.TheVariants as whats
+use Rattle.containers.specs.declared.pod_event_kind.PodEventKind.TheVariants as kinds
 use Rattle.containers.specs.declared.events.ContainerEvents.{ContainerEvents}
-use Rattle.containers.specs.Events.{Gives, AreEvents}
+use Rattle.containers.specs.Events.{AreEvents}
 use Rattle.pod_state.specs.declared.events.PodEvent.{PodEvent}
 use Rattle.pod_state.specs.Pods.{PodTick, ticks_of, OfSpec, HasEnded, IsRawPhaseAfter, IsPhase}
 
@@ -20,7 +21,7 @@ IsMadeOf pod max_restart_delay before tick number made =
     OfSpec pod number (λ spec. AreEvents pod.policy max_restart_delay spec (ticks_of (before ++ tick ∷ []) number)
     (length before) made)
 
--- and of each container
+-- what the tick makes of each container, by itself
 pub record AreMade (pod : PodSpec) (max_restart_delay : ℕ) (before : List PodTick) (tick : PodTick)
     (made : List ContainerEvents) : Type 0 where
   pub as_many : length made ≡ length pod.containers
@@ -29,8 +30,8 @@ pub record AreMade (pod : PodSpec) (max_restart_delay : ℕ) (before : List PodT
 
 -- the pod's phase is another than before the tick
 abbrev pub ChangesPhase : PodSpec → Option ℕ → List PodTick → PodTick → PodEventKind → Type 0
-ChangesPhase pod evicted before tick what =
-    (phase : Phase) × (what ≡ whats.Phase phase) × IsRawPhaseAfter pod (before ++ tick ∷ []) phase
+ChangesPhase pod evicted before tick kind =
+    (phase : Phase) × (kind ≡ kinds.Phase phase) × IsRawPhaseAfter pod (before ++ tick ∷ []) phase
     × (IsPhase pod evicted before phase → ⊥)
 
 -- nothing is restarted in a pod that has succeeded or failed
@@ -48,26 +49,27 @@ places_in phase made =
 
 -- the events of these places: of a container with a number, or of the pod
 abbrev pub events_at : Option ℕ → List (Option PodEventKind) → List PodEvent
-events_at container places = filter_map (option_map (λ what. record { container = container; what = what })) places
+events_at container places = filter_map (option_map (λ kind. record { container = container; kind = kind })) places
 
--- those of all containers, numbered from n on
+-- the events of all containers, numbered from n on
 abbrev pub events_from : Phase → ℕ → List ContainerEvents → List PodEvent
 events_from phase n [] = []
 events_from phase n (made ∷ rest) = events_at (Some n) (places_in phase made) ++ events_from phase (n + 1) rest
 
 -- the events of a tick of a pod that has not ended before it
-pub record AreNews (pod : PodSpec) (max_restart_delay : ℕ) (evicted : Option ℕ) (before : List PodTick) (tick : PodTick)
+pub record AreEventsOfLivePod (pod : PodSpec) (max_restart_delay : ℕ) (evicted : Option ℕ) (before : List PodTick)
+    (tick : PodTick)
     (events : List PodEvent) : Type 0 where
   pub made : List ContainerEvents
   pub are_made : AreMade pod max_restart_delay before tick made
   pub phase : Phase
   pub is_phase : IsRawPhaseAfter pod (before ++ tick ∷ []) phase
   pub change : Option PodEventKind
-  pub changes : Gives (ChangesPhase pod evicted before tick) change
+  pub changes : IsTheOne (ChangesPhase pod evicted before tick) change
   pub in_order : events ≡ events_from phase 0 made ++ events_at None (change ∷ [])
 
 -- the events of the tick; a pod that has ended makes none
 abbrev pub AreEventsOf : PodSpec → ℕ → Option ℕ → List PodTick → PodTick → List PodEvent → Type 0
 AreEventsOf pod max_restart_delay evicted before tick events =
     (HasEnded pod evicted before × (events ≡ []))
-    ⊎ ((HasEnded pod evicted before → ⊥) × AreNews pod max_restart_delay evicted before tick events)
+    ⊎ ((HasEnded pod evicted before → ⊥) × AreEventsOfLivePod pod max_restart_delay evicted before tick events)

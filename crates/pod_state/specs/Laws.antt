@@ -1,6 +1,6 @@
 -- Laws of phases, conditions and container states, over the definitions alone.
 use Rattle.std.specs.Prelude.{◌≡◌, ◌⊎◌, ◌↔◌, ◌-◌, ◌≤◌, ℕ, suc, List, [], ◌++◌, length, All, Option, Some}
-use Rattle.histories.specs.Histories.{IsSo, IsRising, moment_at}
+use Rattle.histories.specs.Histories.{HoldsAt, IsRising, moment_at}
 use Rattle.manifest.specs.declared.pod.PodSpec.{PodSpec}
 use Rattle.probes.specs.Container.{AreInRange}
 use Rattle.phase.specs.declared.phase.Phase.{Phase}
@@ -15,7 +15,7 @@ use Rattle.pod_state.specs.Pods.{AreContainersReady}
 use Rattle.pod_state.specs.Lifecycles.{IsLifecycleOf}
 use Rattle.pod_state.specs.Containers.{IsContainerStatus, AreStatusesOf}
 
--- of the listings of which each container has a view there is one raw phase, and no other
+-- a pod has exactly one raw phase after ticks of which each container has a view
 pub record OneRawPhase : Type 0 where
   pub some : (pod : PodSpec) (h : List PodTick) (views : List ContainerView) → AreViewsOf pod h views
       → (p : Phase) × IsRawPhaseAfter pod h p
@@ -34,12 +34,12 @@ pub record EndedStaysEnded : Type 0 where
   pub no_other : (pod : PodSpec) (evicted : Option ℕ) (h later : List PodTick) (p q : Phase)
       → IsPhase pod evicted h p → IsTerminal p → IsPhase pod evicted (h ++ later) q → q ≡ p
 
--- m is the moment of a tick, which is the first, or C was otherwise one tick before; and where
--- moments rise it isn't later than the last tick's
+-- m is the moment of a tick that is the first, or with which C changed; and where moments rise it is
+-- not later than the last tick's
 pub record ChangesAt (h : List PodTick) (C : List PodTick → Type 0) (m : ℕ) : Type 0 where
   pub place : ℕ
   pub moment : moment_at h place ≡ Some m
-  pub change : (place ≡ 0) ⊎ ((u : ℕ) × (place ≡ suc u) × ((IsSo C h u ↔ IsSo C h place) → ⊥))
+  pub change : (place ≡ 0) ⊎ ((u : ℕ) × (place ≡ suc u) × ((HoldsAt C h u ↔ HoldsAt C h place) → ⊥))
   pub not_later : (last : ℕ) → IsRising h → moment_at h (length h - 1) ≡ Some last → m ≤ last
 
 -- a transition moment is that of a tick that changed the condition, or of the first
@@ -54,8 +54,8 @@ pub record TransitionsAreChanges : Type 0 where
       → IsLifecycleOf pod evicted h status
       → status.conditions.containers_ready.since ≡ Some m → ChangesAt h (AreContainersReady pod evicted) m
 
--- of every pod, whenever it is evicted and whatever its ticks are, there are a phase by its containers
--- alone, an end or none, a phase, the phase with its conditions, and the statuses of its containers
+-- every pod, whenever it is evicted and whatever its ticks are, has a raw phase, an end or none, a phase,
+-- a lifecycle, and statuses of its containers
 pub record SomeStatus : Type 0 where
   pub raw_phase : (pod : PodSpec) (h : List PodTick) → (p : Phase) × IsRawPhaseAfter pod h p
   pub end : (pod : PodSpec) (evicted : Option ℕ) (h : List PodTick) → (end : Option ℕ) × IsEnd pod evicted h end
@@ -64,7 +64,7 @@ pub record SomeStatus : Type 0 where
   pub of_containers : (pod : PodSpec) (evicted : Option ℕ) (h : List PodTick)
       → (statuses : List ContainerStatus) × AreStatusesOf pod evicted h statuses
 
--- there is at most one phase with conditions of a pod, and one status of each of its containers
+-- a pod has at most one lifecycle, and each of its containers at most one status
 pub record OneStatus : Type 0 where
   pub of_pod : (pod : PodSpec) (evicted : Option ℕ) (h : List PodTick) (s t : Lifecycle)
       → IsLifecycleOf pod evicted h s → IsLifecycleOf pod evicted h t → s ≡ t

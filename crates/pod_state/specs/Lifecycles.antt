@@ -2,7 +2,7 @@
 -- Lifecycle", "Pod phase" and "Pod conditions").
 use Rattle.std.specs.Prelude.{◌≡◌, ◌↔◌, ℕ, ◌<◌, List, [], ◌∷◌, ◌++◌, length, Option, Some, Bool, true, IsSomeAnd}
 use Rattle.std.specs.Prelude.{IsTrue}
-use Rattle.histories.specs.Histories.{Recorded, recorded, project, entry_at, moment_at, IsSo, IsTransition}
+use Rattle.histories.specs.Histories.{Recorded, recorded, project, entry_at, moment_at, HoldsAt, IsTransition}
 use Rattle.phase.specs.declared.conditions.Condition.{Condition}
 use Rattle.phase.specs.declared.conditions.Values.{Values}
 use Rattle.manifest.specs.declared.policy.Policy.{Policy}
@@ -14,11 +14,11 @@ use Rattle.phase.specs.RawPhase.{IsTerminal}
 use Rattle.phase.specs.Conditions.{IsStateOf}
 use Rattle.pod_state.specs.Pods.{PodEntry, PodTick, AreViewsOf, AllReady, IsPhase, IsInitialized, AreContainersReady}
 
--- the condition is true where C holds after the ticks, and its moment is that of C's last
+-- the condition is true exactly where C holds after these ticks, and its moment is that of C's last
 -- transition
 pub record IsConditionAfter (C : List PodTick → Type 0) (h : List PodTick) (c : Condition) : Type 0 where
   pub value : IsTrue c.value ↔ C h
-  pub since : IsTransition h (IsSo C h) c.since
+  pub since : IsTransition h (HoldsAt C h) c.since
 
 -- the phase and the conditions of the pod after these ticks
 pub record IsLifecycleOf (pod : PodSpec) (evicted : Option ℕ) (h : List PodTick) (status : Lifecycle) : Type 0 where
@@ -27,13 +27,13 @@ pub record IsLifecycleOf (pod : PodSpec) (evicted : Option ℕ) (h : List PodTic
   pub initialized : IsConditionAfter (IsInitialized pod evicted) h status.conditions.initialized
   pub containers_ready : IsConditionAfter (AreContainersReady pod evicted) h status.conditions.containers_ready
 
--- the values have the ticks' moments, and say of each tick whether C holds after it
+-- one value for each tick, at the tick's moment: whether C holds after it
 pub record AreValuesOf (C : List PodTick → Type 0) (h : List PodTick) (values : List (Recorded Bool)) : Type 0 where
   pub count : length values ≡ length h
   pub moments : (t : ℕ) → moment_at values t ≡ moment_at h t
-  pub same : (t : ℕ) → t < length values → (IsSomeAnd (entry_at values t) IsTrue ↔ IsSo C h t)
+  pub same : (t : ℕ) → t < length values → (IsSomeAnd (entry_at values t) IsTrue ↔ HoldsAt C h t)
 
--- the same, and what each tick says of the three conditions
+-- the lifecycle after these ticks, as made of the values that each tick gives to the conditions
 pub record IsProgressOf (pod : PodSpec) (evicted : Option ℕ) (h : List PodTick) (status : Lifecycle) : Type 0 where
   pub so_far : IsLifecycleOf pod evicted h status
   pub values : List (Recorded Values)
@@ -43,9 +43,8 @@ pub record IsProgressOf (pod : PodSpec) (evicted : Option ℕ) (h : List PodTick
   pub initialized : AreValuesOf (IsInitialized pod evicted) h (project (λ v. v.initialized) values)
   pub containers_ready : AreValuesOf (AreContainersReady pod evicted) h (project (λ v. v.containers_ready) values)
 
--- a pod of this policy was in phase p, whatever its history; one tick more comes, after which its containers are as
--- these views show them (unless the pod had ended), and which evicts the pod exactly if the flag says so: then its
--- phase is q
+-- A pod of this policy in phase p, whatever its history, is in phase q after one more tick. The views show its
+-- containers after that tick, unless the pod had ended before; the flag says whether the tick evicts the pod.
 abbrev pub IsNextPhase : Policy → List ContainerView → Bool → Phase → Phase → Type 0
 IsNextPhase policy views is_evicted p q =
     (pod : PodSpec) (evicted : Option ℕ) (h : List PodTick) (at : ℕ) (entry : PodEntry)
@@ -55,8 +54,9 @@ IsNextPhase policy views is_evicted p q =
     → IsPhase pod evicted h p
     → IsPhase pod evicted (h ++ recorded at entry ∷ []) q
 
--- the same of the lifecycle, with a tick of this moment, and a flag that says whether all containers
--- are ready after it
+-- A pod of this policy and lifecycle, whatever its history, has the new lifecycle after one more tick, at this moment.
+-- The views show its containers after that tick, and the first flag says whether all its app containers and sidecars
+-- are ready then, unless the pod had ended before; the second flag says whether the tick evicts the pod.
 abbrev pub IsNext : Policy → ℕ → List ContainerView → Bool → Bool → Lifecycle → Lifecycle → Type 0
 IsNext policy at views ready is_evicted old new =
     (pod : PodSpec) (evicted : Option ℕ) (h : List PodTick) (entry : PodEntry)

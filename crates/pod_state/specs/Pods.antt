@@ -4,7 +4,7 @@
 use Rattle.std.specs.Prelude.{◌≡◌, ◌≢◌, ◌⊎◌, ℕ, suc, ◌<◌, List, [], ◌∷◌, length, Option, Some, None, IsSomeAnd}
 use Rattle.std.specs.Prelude.{unwrap_or, slice_get, slice_index_or}
 use Rattle.std.specs.List.{range_with_len}
-use Rattle.histories.specs.Histories.{Recorded, recorded, project, up_to, IsSo, IsFirstPlace}
+use Rattle.histories.specs.Histories.{Recorded, recorded, project, up_to, HoldsAt, IsFirstPlace}
 use Rattle.observations.specs.declared.container.ContainerObs.{ContainerObs}
 use Rattle.observations.specs.Pods.{PodObs}
 use Rattle.observations.specs.declared.usage.Usage.{Usage}
@@ -28,7 +28,7 @@ pub record PodEntry : Type 0 where
   pub containers : List ContainerObs
   pub usage : Option Usage
 
--- one tick of a pod
+-- one tick of a pod: its moment, and what it shows
 abbrev pub PodTick : Type 0
 PodTick = Recorded PodEntry
 
@@ -36,7 +36,7 @@ PodTick = Recorded PodEntry
 abbrev pub pod_tick : PodObs → PodTick
 pod_tick observed = recorded observed.at (record { containers = observed.containers; usage = observed.usage })
 
--- of a container without an entry nothing is seen
+-- what a tick shows of a container of which it has no entry: nothing listed, and no results
 abbrev pub unseen : ContainerObs
 unseen = record { seen = None; results = None ∷ None ∷ None ∷ [] }
 
@@ -44,23 +44,23 @@ unseen = record { seen = None; results = None ∷ None ∷ None ∷ [] }
 abbrev pub ticks_of : List PodTick → ℕ → List ContainerTick
 ticks_of h container = project (λ (entry : PodEntry). unwrap_or (slice_get entry.containers container) unseen) h
 
--- the specification of a container says so
+-- P holds of the specification of the container with the number
 abbrev pub OfSpec : PodSpec → ℕ → (ContainerSpec → Type 0) → Type 0
 OfSpec pod container P = IsSomeAnd (slice_get pod.containers container) P
 
--- what the container is to its pod
+-- the container with the number has this role
 abbrev pub HasRole : PodSpec → ℕ → Role → Type 0
 HasRole pod container role = OfSpec pod container (λ spec. spec.role ≡ role)
 
--- it is one that serves: an app container or a sidecar
+-- the container with the number is an app container or a sidecar
 abbrev pub Serves : PodSpec → ℕ → Type 0
 Serves pod container = HasRole pod container Sidecar ⊎ HasRole pod container App
 
--- it is ready
+-- the container with the number is ready
 abbrev pub IsReadyInPod : PodSpec → List PodTick → ℕ → Type 0
 IsReadyInPod pod h container = OfSpec pod container (λ spec. probed.IsContainerReady spec (ticks_of h container))
 
--- what the rules ask of the pod's containers, after these ticks
+-- the facts of the pod's containers after these ticks
 abbrev pub facts : PodSpec → List PodTick → Facts ℕ
 facts pod h = record {
   is = HasRole pod;
@@ -77,12 +77,13 @@ numbers pod = range_with_len 0 (length pod.containers)
 abbrev pub IsViewOf : PodSpec → List PodTick → ℕ → ContainerView → Type 0
 IsViewOf pod h container view = OfSpec pod container (λ spec. shown.IsViewOf spec (ticks_of h container) view)
 
+-- one view for each container
 pub record AreViewsOf (pod : PodSpec) (h : List PodTick) (views : List ContainerView) : Type 0 where
   pub as_many : length views ≡ length pod.containers
   pub each : (container : ℕ) (d : ContainerView) → container < length pod.containers
       → IsViewOf pod h container (slice_index_or views container d)
 
--- the phase by the containers as the ticks leave them
+-- the raw phase of the pod after these ticks
 abbrev pub IsRawPhaseAfter : PodSpec → List PodTick → Phase → Type 0
 IsRawPhaseAfter pod h phase = IsRawPhase (facts pod h) pod.policy (numbers pod) phase
 
@@ -94,7 +95,7 @@ EndsPod pod evicted h =
 
 -- the end of the pod: the first tick that ends it, if one does
 abbrev pub IsEnd : PodSpec → Option ℕ → List PodTick → Option ℕ → Type 0
-IsEnd pod evicted h end = IsFirstPlace (IsSo (EndsPod pod evicted) h) end
+IsEnd pod evicted h end = IsFirstPlace (HoldsAt (EndsPod pod evicted) h) end
 
 -- some tick has ended the pod
 abbrev pub HasEnded : PodSpec → Option ℕ → List PodTick → Type 0
@@ -120,12 +121,12 @@ IsPhaseBy pod evicted h end phase =
 abbrev pub IsPhase : PodSpec → Option ℕ → List PodTick → Phase → Type 0
 IsPhase pod evicted h phase = (end : Option ℕ) × IsEnd pod evicted h end × IsPhaseBy pod evicted h end phase
 
--- every init container has completed, and every sidecar was started
+-- the pod is initialized after the ticks that count: every init container has completed, every sidecar was started
 abbrev pub IsInitialized : PodSpec → Option ℕ → List PodTick → Type 0
 IsInitialized pod evicted h = (end : Option ℕ) × IsEnd pod evicted h end
     × AreInitialized (facts pod (counted h end)) (numbers pod)
 
--- every app container and sidecar is ready
+-- every app container and sidecar of the pod is ready
 abbrev pub AllReady : PodSpec → List PodTick → Type 0
 AllReady pod h = (container : ℕ) → Serves pod container → IsReadyInPod pod h container
 

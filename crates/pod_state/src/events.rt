@@ -1,8 +1,8 @@
-//! The events of a tick, one pod's containers after the other.
+//! The events of a pod in a tick: container by container, and then the pod's own.
 
 ghost use Rattle.std.specs.Prelude.{◌≡◌, ◌≢◌, ◌↔◌, ◌++◌, ◌∷◌, [], Some, None, OnOk, IfOk};
 ghost use Rattle.containers.specs.declared.pod_event_kind.PodEventKind.{PodEventKind};
-ghost use Rattle.containers.specs.declared.pod_event_kind.PodEventKind.TheVariants as whats;
+ghost use Rattle.containers.specs.declared.pod_event_kind.PodEventKind.TheVariants as kinds;
 ghost use Rattle.pod_state.specs.Events.{restart_in, places_in, events_at, events_from};
 
 use containers::{ContainerEvents, PodEventKind};
@@ -15,10 +15,10 @@ pub struct PodEvent {
     /// The container's number; none where it happened to the pod.
     pub container: Option<usize>,
     /// What happened.
-    pub what: PodEventKind,
+    pub kind: PodEventKind,
 }
 
-/// A restart, in a pod that a tick leaves in this phase.
+/// The restart event, in a pod that the tick leaves in this phase: none once the pod has ended.
 fn restart_in(phase: Phase, restart: Option<PodEventKind>) -> Option<PodEventKind>
     ensures { result ≡ restart_in phase restart }
 {
@@ -36,8 +36,8 @@ fn add_event(
 ) -> Result<(), AllocError>
     ensures { OnOk result (events.new.items ≡ events.old.items ++ events_at container (place ∷ [])) }
 {
-    if let Some(what) = place {
-        events.push(PodEvent { container, what })?;
+    if let Some(kind) = place {
+        events.push(PodEvent { container, kind })?;
     }
     Ok(())
 }
@@ -66,7 +66,7 @@ fn add_events(
 
 /// The pod's new phase, if it is another than the old one.
 pub(crate) fn phase_event(old: Phase, new: Phase) -> Option<PodEventKind>
-    ensures { (what : PodEventKind) → ((result ≡ Some what) ↔ ((what ≡ whats.Phase new) × (old ≢ new))) }
+    ensures { (kind : PodEventKind) → ((result ≡ Some kind) ↔ ((kind ≡ kinds.Phase new) × (old ≢ new))) }
 {
     if old == new {
         None

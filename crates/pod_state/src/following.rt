@@ -137,7 +137,7 @@ pub(crate) fn show(containers: &[Container], is_evicted: bool, statuses: &mut Ve
     }
 }
 
-/// Whether it is ready, or an init container.
+/// Whether the container is ready, or an init container.
 fn is_ready_or_init(container: &Container) -> bool
     ensures { (spec : ContainerSpec) (max_restart_delay : ℕ) (h : List ContainerTick)
         → IsStateOf spec max_restart_delay h container.now

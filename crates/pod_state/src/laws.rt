@@ -1,8 +1,8 @@
-//! What the definitions of phases, conditions, container states and events imply. The functions do nothing;
+//! What the definitions of phases, conditions, container statuses and events imply. The functions do nothing;
 //! their contracts are the laws.
 ghost use Rattle.pod_state.specs.Laws as laws;
 
-/// Of the listings of a pod there is one raw phase, and no other.
+/// A pod has exactly one raw phase after ticks of which each container has a view.
 pub fn one_raw_phase()
     ensures { laws.OneRawPhase }
 {}
@@ -17,7 +17,7 @@ pub fn ended_stays_ended()
     ensures { laws.EndedStaysEnded }
 {}
 
-/// A transition moment is that of a change, or of the first tick.
+/// The moment of a condition's last transition is that of a tick that changed it, or of the first tick.
 pub fn transitions_are_changes()
     ensures { laws.TransitionsAreChanges }
 {}

@@ -1,3 +1,5 @@
+//! The phase and the conditions of a pod, tick by tick.
+
 ghost use Rattle.std.specs.Prelude.{◌≡◌, ◌↔◌, ℕ, List, [], ◌∷◌, ◌++◌, length, Option, Some, None, IsTrue};
 ghost use Rattle.histories.specs.Histories.{recorded};
 ghost use Rattle.manifest.specs.declared.pod.PodSpec.{PodSpec};
@@ -21,7 +23,7 @@ pub struct Lifecycle {
 }
 
 impl Lifecycle {
-    /// That of a pod that no tick has shown yet, with these containers.
+    /// The lifecycle of a pod that no tick has shown yet, with these containers.
     pub fn new(containers: &[ContainerView]) -> Self
         ensures { (pod : PodSpec) (evicted : Option ℕ) → AreViewsOf pod [] containers.now
             → IsProgressOf pod evicted [] result }
@@ -92,9 +94,9 @@ impl Lifecycle {
 }
 
 impl Lifecycle {
-    /// The lifecycle of a pod that the last tick, at the moment, evicts. This one is from before that
-    /// tick, and `updated` from after it where it doesn't evict: what only that made true, and the
-    /// eviction false again, was never true.
+    /// The lifecycle after the last tick, at the moment, if that evicts the pod. `self` is the one before
+    /// that tick, and `updated` the one after it without an eviction. A condition that only this tick made
+    /// true, and its eviction false again, was never true: so its last transition is that of `self`.
     pub(crate) fn evicted(&self, at: u64, updated: &Lifecycle) -> Lifecycle
         requires { IsTerminal updated.now.phase → ⊥ }
         ensures { (pod : PodSpec) (h : List PodTick) (entry : PodEntry)

@@ -1,3 +1,5 @@
+//! A pod, tick by tick.
+
 ghost use Rattle.std.specs.Prelude.{◌≡◌, ◌↔◌, ◌<◌, ℕ, List, [], ◌∷◌, ◌++◌, length, Option, Some, None, IsTrue};
 ghost use Rattle.std.specs.Prelude.{IfOk, OnOk, OnErr, vec_len};
 ghost use Rattle.quantity.specs.Duration.{end_of_time};
@@ -25,12 +27,12 @@ use std::alloc::{AllocError, Global};
 pub struct PodState {
     containers: Vec<Container>,
     lifecycle: Lifecycle,
-    /// From before the last tick.
+    /// The phase and the conditions before the last tick, which its eviction starts from.
     before: Lifecycle,
 }
 
 impl PodState {
-    /// A pod that no tick has shown yet, on a node with this greatest restart delay.
+    /// A pod that no tick has shown yet, on a node with this maximum restart delay.
     pub fn new(
         alloc: Global,
         spec: &PodSpec,
@@ -58,9 +60,9 @@ impl PodState {
         self.lifecycle
     }
 
-    /// A tick comes, which doesn't evict the pod and shows this of it, at a moment below 2^40: the
-    /// events of the tick. Once the pod has ended, only the tick's moment is looked at. An `Err`
-    /// changes nothing.
+    /// Takes a tick that doesn't evict the pod and shows this of it, at a moment before `END_OF_TIME`,
+    /// and gives the events of the tick. Once the pod has ended, only the tick's moment is looked at.
+    /// An `Err` changes nothing.
     pub fn take(
         &mut self,
         alloc: Global,
@@ -81,7 +83,7 @@ impl PodState {
             self.lifecycle = lifecycle;
             return Ok(Vec::new(alloc));
         }
-        // Most pods have one container or two: these are stepped on the stack, and the events alone take memory.
+        // Most pods have one or two containers: these take their steps on the stack, and only events take memory.
         if self.containers.len() == 1 {
             let mut next = [self.containers[0]];
             let made = [step(&mut next[0], policy, observed, 0)];
@@ -103,8 +105,8 @@ impl PodState {
         self.settle(alloc, policy, observed, next, made, &views)
     }
 
-    /// The tick leaves the containers so, as these views show them, and has made this of them: the events of the tick.
-    /// An `Err` changes nothing.
+    /// Ends a tick that leaves the containers so, as these views show them, and has made this of them, and gives the
+    /// events of the tick. An `Err` changes nothing.
     fn settle(
         &mut self,
         alloc: Global,

@@ -3,7 +3,7 @@ use Rattle.std.proofs.Common.{◌≡◌, ◌⊎◌, inl, inr, ℕ, ◌-◌, ◌<
 use Rattle.std.proofs.Common.{Option, Some, None, refl, subst, sym, ◌∙◌, append_assoc, append-nil, arith}
 use Rattle.std.specs.Option.{unwrap_or}
 use Rattle.std.proofs.lemmas.Bool.{cases_lt, cases_order}
-use Rattle.histories.specs.Histories.{IsSo, IsTransition, moment_at}
+use Rattle.histories.specs.Histories.{HoldsAt, IsTransition, moment_at}
 use Rattle.pressure.specs.Pressures.{Observation, IsMetAt, IsUnderPressure}
 use Rattle.pressure.specs.State.{IsLatestMet, later_of}
 use Rattle.pressure.specs.Laws.{NoPeriodIsMetNow, TrueForThePeriod, OneSince}
@@ -61,7 +61,7 @@ record Led (period : ℕ) (h : List Observation) : Type 0 where
   is_latest : IsLatestMet h latest
   value : IsUnderPressure period h ⊎ (IsUnderPressure period h → ⊥)
   since : Option ℕ
-  is_since : IsTransition h (IsSo (IsUnderPressure period) h) since
+  is_since : IsTransition h (HoldsAt (IsUnderPressure period) h) since
 
 value_after : (period : ℕ) (h : List Observation) (x : Observation) (latest : Option ℕ) (met : Bool) → x.entry ≡ met
     → IsLatestMet h latest
@@ -87,10 +87,10 @@ latest_after h x latest true e is = (Some (later_of latest x.moment), latest_mov
 latest_after h x latest false e is = (latest, latest_kept h x latest (λ t. let y : x.entry ≡ true = t in cc) is)
 
 since_after : (period : ℕ) (h : List Observation) (x : Observation) (since : Option ℕ)
-    → IsTransition h (IsSo (IsUnderPressure period) h) since
+    → IsTransition h (HoldsAt (IsUnderPressure period) h) since
     → IsUnderPressure period h ⊎ (IsUnderPressure period h → ⊥) → IsUnderPressure period (h ++ x ∷ []) ⊎
     (IsUnderPressure period (h ++ x ∷ []) → ⊥)
-    → (o : Option ℕ) × IsTransition (h ++ x ∷ []) (IsSo (IsUnderPressure period) (h ++ x ∷ [])) o
+    → (o : Option ℕ) × IsTransition (h ++ x ∷ []) (HoldsAt (IsUnderPressure period) (h ++ x ∷ [])) o
 since_after period h x None tr was is =
     (Some x.moment, since_new (IsUnderPressure period) h x (inl (none_recorded (IsUnderPressure period) h tr)))
 since_after period h x (Some m) tr (inl was) (inl is) =

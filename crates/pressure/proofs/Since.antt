@@ -4,7 +4,7 @@ use Rattle.std.proofs.Common.{Some, None, refl, subst, sym, ◌∙◌, arith}
 use Rattle.std.specs.Prelude.{◌↔◌, IsTrue}
 use Rattle.std.specs.Option.{unwrap_or}
 use Rattle.std.proofs.lemmas.List.{take_all}
-use Rattle.histories.specs.Histories.{Recorded, up_to, IsSo, IsSteady, IsTransition}
+use Rattle.histories.specs.Histories.{Recorded, up_to, HoldsAt, IsSteady, IsTransition}
 use Rattle.histories.proofs.First.{IsFirstMoment-unique}
 use Rattle.histories.proofs.Decide.{same_bool}
 use Rattle.histories.proofs.Growth.{grows_so}
@@ -13,7 +13,7 @@ use Rattle.pressure.specs.Pressures.{Observation, IsUnderPressure, IsSince}
 
 -- what holds of a history up to a place, over one more record
 extends : {A : Type 0} (P : List (Recorded A) → Type 0) (h : List (Recorded A)) (x : Recorded A)
-    → Extends (length h) (IsSo P h) (IsSo P (h ++ x ∷ []))
+    → Extends (length h) (HoldsAt P h) (HoldsAt P (h ++ x ∷ []))
 extends P h x = record {
   old = λ t lt. (
     (grows_so P h x).old t,
@@ -27,7 +27,7 @@ extends P h x = record {
 
 -- at the last place it holds of the whole history
 at_last : {A : Type 0} (P : List (Recorded A) → Type 0) (y : Recorded A) (h : List (Recorded A))
-    → (IsSo P (y ∷ h) (length h) ↔ P (y ∷ h))
+    → (HoldsAt P (y ∷ h) (length h) ↔ P (y ∷ h))
 at_last P y h =
     let e : up_to (y ∷ h) (length h) ≡ y ∷ h = take_all (suc (length h)) (y ∷ h) (omega arith) in (
       (λ s. subst P e s.so),
@@ -35,7 +35,7 @@ at_last P y h =
     )
 
 at_new : {A : Type 0} (P : List (Recorded A) → Type 0) (h : List (Recorded A)) (x : Recorded A)
-    → (IsSo P (h ++ x ∷ []) (length h) ↔ P (h ++ x ∷ []))
+    → (HoldsAt P (h ++ x ∷ []) (length h) ↔ P (h ++ x ∷ []))
 at_new P h x = (
   (λ s. elim ((grows_so P h x).split (length h) s) [
     | inl old ↦ let lt : length h < length h = old.within in absurd (omega arith)
@@ -46,7 +46,7 @@ at_new P h x = (
 
 -- the values at the last two places are alike exactly if those of the two histories are
 same_at : {A : Type 0} (P : List (Recorded A) → Type 0) (y : Recorded A) (h : List (Recorded A)) (x : Recorded A)
-    → ((IsSo P ((y ∷ h) ++ x ∷ []) (length h) ↔ IsSo P ((y ∷ h) ++ x ∷ []) (suc (length h)))
+    → ((HoldsAt P ((y ∷ h) ++ x ∷ []) (length h) ↔ HoldsAt P ((y ∷ h) ++ x ∷ []) (suc (length h)))
     ↔ (P (y ∷ h) ↔ P ((y ∷ h) ++ x ∷ [])))
 same_at P y h x =
     let e = (extends P (y ∷ h) x).old (length h) (omega arith) in
@@ -59,36 +59,37 @@ same_at P y h x =
 -- a value that is another than before is a transition, and so is the first
 pub since_new : {A : Type 0} (P : List (Recorded A) → Type 0) (h : List (Recorded A)) (x : Recorded A)
     → (h ≡ []) ⊎ ((P h ↔ P (h ++ x ∷ [])) → ⊥)
-    → IsTransition (h ++ x ∷ []) (IsSo P (h ++ x ∷ [])) (Some x.moment)
-since_new P [] x why = transition_first x (IsSo P (x ∷ []))
+    → IsTransition (h ++ x ∷ []) (HoldsAt P (h ++ x ∷ [])) (Some x.moment)
+since_new P [] x why = transition_first x (HoldsAt P (x ∷ []))
 since_new P (y ∷ h) x (inl none) = absurd (cc)
 since_new P (y ∷ h) x (inr other) =
-    transition_new (y ∷ h) x (IsSo P (y ∷ h)) (IsSo P ((y ∷ h) ++ x ∷ [])) (length h) refl (extends P (y ∷ h) x)
+    transition_new (y ∷ h) x (HoldsAt P (y ∷ h)) (HoldsAt P ((y ∷ h) ++ x ∷ [])) (length h) refl (extends P (y ∷ h) x)
     (λ s. other ((same_at P y h x).0 s))
 
 -- the same value again leaves the moment
 pub since_stays : {A : Type 0} (P : List (Recorded A) → Type 0) (h : List (Recorded A)) (x : Recorded A) (m : ℕ)
     → (P h ↔ P (h ++ x ∷ []))
-    → IsTransition h (IsSo P h) (Some m) → IsTransition (h ++ x ∷ []) (IsSo P (h ++ x ∷ [])) (Some m)
+    → IsTransition h (HoldsAt P h) (Some m) → IsTransition (h ++ x ∷ []) (HoldsAt P (h ++ x ∷ [])) (Some m)
 since_stays P [] x m same tr = let lt : tr.0 < 0 = tr.1.holds.within in absurd (omega arith)
 since_stays P (y ∷ h) x m same tr =
-    transition_stays (y ∷ h) x (IsSo P (y ∷ h)) (IsSo P ((y ∷ h) ++ x ∷ [])) (length h) m refl (extends P (y ∷ h) x)
+    transition_stays (y ∷ h) x (HoldsAt P (y ∷ h)) (HoldsAt P ((y ∷ h) ++ x ∷ [])) (length h) m refl
+    (extends P (y ∷ h) x)
     ((same_at P y h x).1 same) tr
 
 -- there is no such moment only where nothing is recorded
 pub none_recorded : {A : Type 0} (P : List (Recorded A) → Type 0) (h : List (Recorded A))
-    → IsTransition h (IsSo P h) None → h ≡ []
+    → IsTransition h (HoldsAt P h) None → h ≡ []
 none_recorded P [] none = refl
-none_recorded P (y ∷ h) none = absurd (none (length h) (IsSteady-last (length h) (IsSo P (y ∷ h))))
+none_recorded P (y ∷ h) none = absurd (none (length h) (IsSteady-last (length h) (HoldsAt P (y ∷ h))))
 
 -- the same of two tests
 pub since_changed : {A : Type 0} (P : List (Recorded A) → Type 0) (h : List (Recorded A)) (x : Recorded A)
     (was is : Bool) (since : Option ℕ)
-    → (IsTrue was ↔ P h) → (IsTrue is ↔ P (h ++ x ∷ [])) → IsTransition h (IsSo P h) since
+    → (IsTrue was ↔ P h) → (IsTrue is ↔ P (h ++ x ∷ [])) → IsTransition h (HoldsAt P h) since
     → (since ≡ None) ⊎ (was ≡ is → ⊥)
-    → IsTransition (h ++ x ∷ []) (IsSo P (h ++ x ∷ [])) (Some x.moment)
+    → IsTransition (h ++ x ∷ []) (HoldsAt P (h ++ x ∷ [])) (Some x.moment)
 since_changed P h x was is since old new tr (inl none) =
-    let Q : Option ℕ → Type 0 = λ o. IsTransition h (IsSo P h) o in
+    let Q : Option ℕ → Type 0 = λ o. IsTransition h (HoldsAt P h) o in
     since_new P h x (inl (none_recorded P h (subst Q none tr)))
 since_changed P h x was is since old new tr (inr other) =
     since_new P h x (inr (λ same. other
@@ -96,9 +97,9 @@ since_changed P h x was is since old new tr (inr other) =
 
 pub since_unchanged : {A : Type 0} (P : List (Recorded A) → Type 0) (h : List (Recorded A)) (x : Recorded A)
     (was is : Bool) (since : Option ℕ)
-    → (IsTrue was ↔ P h) → (IsTrue is ↔ P (h ++ x ∷ [])) → IsTransition h (IsSo P h) since
+    → (IsTrue was ↔ P h) → (IsTrue is ↔ P (h ++ x ∷ [])) → IsTransition h (HoldsAt P h) since
     → ((since ≡ None) ⊎ (was ≡ is → ⊥) → ⊥)
-    → IsTransition (h ++ x ∷ []) (IsSo P (h ++ x ∷ [])) since
+    → IsTransition (h ++ x ∷ []) (HoldsAt P (h ++ x ∷ [])) since
 since_unchanged P h x was is None old new tr not = absurd (not (inl refl))
 since_unchanged P h x was is (Some m) old new tr not =
     let e : was ≡ is = alike was is (λ ne. not (inr ne)) in
@@ -111,14 +112,15 @@ since_unchanged P h x was is (Some m) old new tr not =
     alike false true nn = absurd (nn (λ e. cc))
 
 -- the moment that is answered
-pub since_is : (period : ℕ) (h : List Observation) (o : Option ℕ) → IsTransition h (IsSo (IsUnderPressure period) h) o
+pub since_is : (period : ℕ) (h : List Observation) (o : Option ℕ)
+    → IsTransition h (HoldsAt (IsUnderPressure period) h) o
     → IsSince period h (unwrap_or o 0)
 since_is period h None none = inl (none_recorded (IsUnderPressure period) h none, refl)
 since_is period h (Some m) tr = inr tr
 
 -- there is one
 none_steady : (period : ℕ) (h : List Observation) (t : ℕ) → h ≡ []
-    → IsSteady (length h) (IsSo (IsUnderPressure period) h) t → ⊥
+    → IsSteady (length h) (HoldsAt (IsUnderPressure period) h) t → ⊥
 none_steady period [] t e s = let lt : t < 0 = s.within in absurd (omega arith)
 none_steady period (y ∷ h) t e s = absurd (cc)
 
@@ -128,6 +130,6 @@ since_unique period h one other (inl p) (inl q) = p.1 ∙ sym q.1
 since_unique period h one other (inl p) (inr q) = absurd (none_steady period h q.0 p.0 q.1.holds)
 since_unique period h one other (inr p) (inl q) = absurd (none_steady period h p.0 q.0 p.1.holds)
 since_unique period h one other (inr p) (inr q) =
-    let e : Some one ≡ Some other = IsFirstMoment-unique h (IsSteady (length h) (IsSo (IsUnderPressure period) h))
+    let e : Some one ≡ Some other = IsFirstMoment-unique h (IsSteady (length h) (HoldsAt (IsUnderPressure period) h))
     (Some one) (Some other) p q in
     cc

@@ -8,8 +8,8 @@ pub fn no_period_is_met_now()
     ensures { laws.NoPeriodIsMetNow }
 {}
 
-/// Once it is no longer met a condition is true for less than the period after it was last met, and
-/// then is not.
+/// A condition that is no longer met stays true until the period has passed since it was last met, and
+/// is then false.
 pub fn true_for_the_period()
     ensures { laws.TrueForThePeriod }
 {}

@@ -2,11 +2,11 @@
 
 ghost use Rattle.std.specs.Prelude.{◌≡◌, ◌≢◌, ◌⊎◌, ◌↔◌, ◌<◌, ◌-◌, ℕ, List, [], ◌∷◌, ◌++◌, Option, Some, None, Bool};
 ghost use Rattle.std.specs.Prelude.{IsTrue, IsSomeAnd};
-ghost use Rattle.histories.specs.Histories.{recorded, IsSo, IsTransition};
+ghost use Rattle.histories.specs.Histories.{recorded, HoldsAt, IsTransition};
 ghost use Rattle.pressure.specs.Pressures.{Observation, IsUnderPressure, IsSince};
 ghost use Rattle.pressure.specs.State.{IsLatestMet, later_of, IsStateOf};
 
-/// Follows one node condition, as MemoryPressure, over its observations: whether the condition is
+/// Follows one node condition, such as MemoryPressure, over its observations: whether the condition is
 /// met, which it is while one of its thresholds is active. It stays true until it has not been met
 /// for the transition period. It keeps the latest moment at which it was met and the moment of its
 /// last transition, and none of the observations.
@@ -24,7 +24,7 @@ pub struct Pressure {
 
 impl Pressure {
     /// A condition without any observation so far, with its transition period in seconds. With a
-    /// period of 0 the condition is what is met now.
+    /// period of 0 the condition is true exactly while it is met.
     pub fn new(period: u64) -> Pressure
         ensures { IsStateOf period [] result }
     {
@@ -101,7 +101,7 @@ impl Pressure {
             → IsStateOf period h self.now
             → (IsTrue is_true ↔ IsUnderPressure period (h ++ recorded at met ∷ []))
             → IsTransition (h ++ recorded at met ∷ [])
-            (IsSo (IsUnderPressure period) (h ++ recorded at met ∷ [])) result }
+            (HoldsAt (IsUnderPressure period) (h ++ recorded at met ∷ [])) result }
     {
         if self.changes(is_true) {
             Some(at)

@@ -8,8 +8,8 @@ use Rattle.std.proofs.lemmas.Option.{slice_get_within}
 use Rattle.manifest.specs.declared.outcome.Outcome.{Outcome}
 use Rattle.manifest.specs.declared.outcome.Outcome.TheVariants.{Success, Failure}
 use Rattle.manifest.specs.Probe.{Probe}
-use Rattle.probes.specs.declared.startup.Progress.{Progress}
-use Rattle.probes.specs.declared.startup.Progress.TheVariants.{Waiting, Passed, Failed}
+use Rattle.probes.specs.declared.startup.StartupProgress.{StartupProgress}
+use Rattle.probes.specs.declared.startup.StartupProgress.TheVariants.{Waiting, Passed, Failed}
 use Rattle.probes.specs.Outcomes.{PassesWithin, FailsWithin}
 use Rattle.probes.specs.Ticks.{Tick, belonging, startup_results, HasPassed, IsStarted}
 use Rattle.probes.specs.Startup.{IsProgressOf, IsProgressWith}
@@ -47,7 +47,7 @@ pub passed_by : (p : Probe) (start : ℕ) (ticks : List Tick) (t : ℕ) → IsPa
 passed_by p start ticks t f = Lasts-all (HasPassed p start) ticks t (passed_lasts p start) f.holds
 
 -- it has passed or not, by the progress
-pub passed_or_not : (f : ℕ) (xs : List Outcome) (progress : Progress) → IsProgressOf f xs progress
+pub passed_or_not : (f : ℕ) (xs : List Outcome) (progress : StartupProgress) → IsProgressOf f xs progress
     → PassesWithin f xs ⊎ (PassesWithin f xs → ⊥)
 passed_or_not f xs Passed st = inl st
 passed_or_not f xs Failed st = inr (λ passes. not_both f xs passes st)
@@ -88,7 +88,8 @@ AreCounted-more (Some p) start ticks later c started (inl (t, f, is)) =
     )
 
 -- before that none counts, nor does the tick in which it passes
-pub AreCounted-none : (startup : Option Probe) (start : ℕ) (ticks c : List Tick) (next : Tick) (progress : Progress)
+pub AreCounted-none : (startup : Option Probe) (start : ℕ) (ticks c : List Tick) (next : Tick)
+    (progress : StartupProgress)
     → (IsStarted startup start ticks → ⊥)
     → IsProgressWith startup start (ticks ++ next ∷ []) progress → AreCounted startup start ticks c
     → AreCounted startup start (ticks ++ next ∷ []) c

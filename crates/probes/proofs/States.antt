@@ -14,7 +14,7 @@ use Rattle.probes.specs.Ticks.{Tick, IsStarted, HasPassed, HasStartupFailed, Has
 use Rattle.probes.specs.Startup.{IsStartupOf, IsProgressWith}
 use Rattle.probes.specs.Liveness.{IsLivenessOf}
 use Rattle.probes.specs.Readiness.{IsReadinessOf}
-use Rattle.probes.specs.Container.{AreInRange, AreCounted, IsKillOrdered, IsOrdered, IsPassTick, IsKillTick}
+use Rattle.probes.specs.Container.{AreInRange, AreCounted, IsKillOrdered, IsSomeKillOrdered, IsPassTick, IsKillTick}
 use Rattle.probes.specs.Container.{IsInstanceReady}
 use Rattle.probes.specs.ProbeSet.{Follows, IsStateOf}
 use Rattle.histories.proofs.Lasting.{ComesTrue-now}
@@ -66,7 +66,7 @@ ready_is probes start ticks set ready st started reads =
 -- there is an order where it has a cause
 pub ordered_is : (probes : Probes) (start : ℕ) (ticks : List Tick) (found : Option Cause)
     → ((cause : Cause) → ((found ≡ Some cause) ↔ IsKillOrdered probes start cause ticks))
-    → (IsTrue (is_some found) ↔ IsOrdered probes start ticks)
+    → (IsTrue (is_some found) ↔ IsSomeKillOrdered probes start ticks)
 ordered_is probes start ticks (Some cause) is = ((λ _. (cause, (is cause).0 refl)), (λ _. refl))
 ordered_is probes start ticks None is =
     ((λ t. absurd (cc)), (λ (cause, order). let e : None ≡ Some cause = (is cause).1 order in absurd (cc)))
@@ -189,7 +189,7 @@ pass_comes (Some p) start ticks next passed now before is was became_true = (
 pub kill_comes : (probes : Probes) (start : ℕ) (ticks : List Tick) (next : Tick) (kill now : Option Cause)
     (ordered : Bool) → AreInRange probes
     → ((of : Cause) → ((kill ≡ Some of) ↔ ((now ≡ Some of) × (IsTrue ordered → ⊥))))
-    → (IsTrue ordered ↔ IsOrdered probes start ticks)
+    → (IsTrue ordered ↔ IsSomeKillOrdered probes start ticks)
     → ((of : Cause) → ((now ≡ Some of) ↔ IsKillOrdered probes start of (ticks ++ next ∷ [])))
     → (cause : Cause) → ((kill ≡ Some cause) ↔ IsKillTick probes start cause (ticks ++ next ∷ []) (length ticks))
 kill_comes probes start ticks next kill now ordered range is was causes_now cause = (

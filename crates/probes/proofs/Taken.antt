@@ -11,7 +11,7 @@ use Rattle.manifest.specs.declared.outcome.Outcome.{Outcome}
 use Rattle.manifest.specs.declared.outcome.Outcome.TheVariants.{Success, Failure}
 use Rattle.manifest.specs.Probe.{Probe}
 use Rattle.probes.specs.declared.configured.ProbeResult.{ProbeResult}
-use Rattle.probes.specs.declared.startup.Progress.{Progress}
+use Rattle.probes.specs.declared.startup.StartupProgress.{StartupProgress}
 use Rattle.probes.specs.Outcomes.{EndsRun, FailsInARow, HoldsAfter, IsRunLength}
 use Rattle.probes.specs.Ticks.{Tick, belonging, with_probe, result_of}
 use Rattle.probes.specs.Startup.{IsProgressOf, IsProgressWith}
@@ -57,7 +57,7 @@ one_belongs (Some p) age given found e = one_of (belonging p age given) refl e
         )
 
 -- startup: the tick has no result that belongs, or one
-pub startup_skips : (probe : Option Probe) (start : ℕ) (ticks : List Tick) (next : Tick) (progress : Progress)
+pub startup_skips : (probe : Option Probe) (start : ℕ) (ticks : List Tick) (next : Tick) (progress : StartupProgress)
     (age : ℕ) (given : Option Outcome) → next.moment - start ≡ age → next.entry.startup ≡ given
     → result_of probe age given ≡ None
     → IsProgressWith probe start ticks progress → IsProgressWith probe start (ticks ++ next ∷ []) progress
@@ -67,7 +67,7 @@ startup_skips (Some p) start ticks next progress age given at is none st =
     (rw (at, is) (none_belongs p age given none))) st
 
 pub startup_takes : (p : Probe) (start : ℕ) (ticks : List Tick) (next : Tick) (o : Outcome) (limit : ℕ)
-    (progress progress' : Progress)
+    (progress progress' : StartupProgress)
     → belonging p (next.moment - start) next.entry.startup ≡ Some o → limit ≡ p.failure_threshold
     → ((results : List Outcome) → IsProgressOf limit results progress → IsProgressOf limit (results ++ o ∷ [])
     progress')

@@ -25,11 +25,12 @@ StartupPassesOnce =
     (probe : Probe) (start : ℕ) (ticks later : List Tick) (t u : ℕ)
     → IsPassTick probe start ticks t → IsPassTick probe start (ticks ++ later) u → t ≡ u
 
--- there is a list of the ticks that count, and no other
+-- there is a list of the ticks that count
 abbrev pub SomeCounted : Type 0
 SomeCounted = (startup : Option Probe) (start : ℕ) (ticks : List Tick) → (counted : List Tick)
     × AreCounted startup start ticks counted
 
+-- there is at most one list of the ticks that count
 abbrev pub OneCounted : Type 0
 OneCounted =
     (startup : Option Probe) (start : ℕ) (ticks counted others : List Tick)

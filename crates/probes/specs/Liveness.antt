@@ -1,4 +1,4 @@
--- Where the results of a liveness probe lead.
+-- The state of a liveness probe after some ticks.
 use Rattle.std.specs.Prelude.{◌≡◌, ◌↔◌, ℕ, Bool, false, IsTrue, List, Option, Some, None}
 use Rattle.manifest.specs.declared.outcome.Outcome.TheVariants.{Failure}
 use Rattle.manifest.specs.Probe.{Probe}
@@ -6,7 +6,8 @@ use Rattle.probes.specs.declared.liveness.Liveness.{Liveness}
 use Rattle.probes.specs.Outcomes.{IsRunLength, FailsInARow}
 use Rattle.probes.specs.Ticks.{Tick, liveness_results}
 
--- the failures at the end, and whether there were ever enough of them in a row
+-- how many failures there are in a row at the end, and whether there ever were as many as the failure
+-- threshold says
 abbrev pub CountsLiveness : Option Probe → ℕ → List Tick → ℕ → Bool → Type 0
 CountsLiveness None start ticks failures failed = failed ≡ false
 CountsLiveness (Some probe) start ticks failures failed =
@@ -14,6 +15,6 @@ CountsLiveness (Some probe) start ticks failures failed =
     IsRunLength Failure probe.failure_threshold results failures
     × (IsTrue failed ↔ FailsInARow probe.failure_threshold results)
 
--- the value after these ticks, which all count, of an instance with this start
+-- the state after these ticks, which all count, of an instance with this start
 abbrev pub IsLivenessOf : ℕ → List Tick → Liveness → Type 0
 IsLivenessOf start ticks liveness = CountsLiveness liveness.probe start ticks liveness.failures liveness.failed

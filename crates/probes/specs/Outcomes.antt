@@ -1,4 +1,4 @@
--- What a list of results says, oldest first. A place is counted from 0; the e-th result is counted
+-- Runs of results in a list, oldest first. A place is counted from 0; the e-th result is counted
 -- from 1. (Kubernetes, "Configure Liveness, Readiness and Startup Probes", "Configure Probes":
 -- successThreshold, failureThreshold.)
 use Rattle.std.specs.Prelude.{◌≡◌, ◌↔◌, ℕ, ◌+◌, ◌<◌, ◌≤◌, Bool, true, false, List, length, slice_get, Some}
@@ -18,11 +18,11 @@ pub record EndsRun (outcome : Outcome) (n : ℕ) (results : List Outcome) (e : �
   pub enough : n ≤ e
   pub all : (k : ℕ) → k < e → e ≤ k + n → slice_get results k ≡ Some outcome
 
--- somewhere n failures stand next to each other
+-- n failures come in a row
 abbrev pub FailsInARow : ℕ → List Outcome → Type 0
 FailsInARow n results = (e : ℕ) × EndsRun Failure n results e
 
--- somewhere s successes stand next to each other, and no f failures do so later
+-- s successes come in a row, and no f failures in a row later
 abbrev pub HoldsAfter : ℕ → ℕ → List Outcome → Type 0
 HoldsAfter s f results = (e : ℕ) × EndsRun Success s results e
     × ((later : ℕ) → e < later → EndsRun Failure f results later → ⊥)

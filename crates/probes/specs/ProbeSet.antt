@@ -1,4 +1,4 @@
--- Where the results of one instance after the other lead, and what a tick's verdicts say.
+-- The state of a container's probes after the ticks of an instance, and the verdicts of a tick.
 use Rattle.std.specs.Prelude.{◌≡◌, ◌↔◌, ℕ, List, Some, None, IsTrue, IsSome, IsSomeAnd}
 use Rattle.manifest.specs.Probe.{Probes}
 use Rattle.probes.specs.declared.probe_set.Cause.{Cause}
@@ -30,7 +30,7 @@ pub record IsCountOf (start : ℕ) (counted : List Tick) (set : ProbeSet) : Type
   pub liveness : IsLivenessOf start counted set.liveness
   pub readiness : IsReadinessOf start counted set.readiness
 
--- the set's value after these ticks of the instance with this start
+-- the set's state after these ticks of the instance with this start
 pub record IsStateOf (probes : Probes) (start : ℕ) (ticks : List Tick) (set : ProbeSet) : Type 0 where
   pub follows : Follows set probes
   pub begun : HasBegun set

@@ -1,4 +1,4 @@
--- Where the results of a readiness probe lead.
+-- The state of a readiness probe after some ticks.
 use Rattle.std.specs.Prelude.{◌≡◌, ◌↔◌, ℕ, Bool, true, IsTrue, List, Option, Some, None}
 use Rattle.manifest.specs.declared.outcome.Outcome.TheVariants.{Success, Failure}
 use Rattle.manifest.specs.declared.outcome.Outcome.{Outcome}
@@ -13,12 +13,13 @@ pub record CountsResults (probe : Probe) (results : List Outcome) (successes fai
   pub fails : IsRunLength Failure probe.failure_threshold results failures
   pub holds : IsTrue ready ↔ HoldsAfter probe.success_threshold probe.failure_threshold results
 
+-- the state of a readiness probe after these ticks, and ready where there is no probe
 abbrev pub CountsReadiness : Option Probe → ℕ → List Tick → ℕ → ℕ → Bool → Type 0
 CountsReadiness None start ticks successes failures ready = ready ≡ true
 CountsReadiness (Some probe) start ticks successes failures ready =
     CountsResults probe (readiness_results probe start ticks) successes failures ready
 
--- the value after these ticks, which all count, of an instance with this start
+-- the state after these ticks, which all count, of an instance with this start
 abbrev pub IsReadinessOf : ℕ → List Tick → Readiness → Type 0
 IsReadinessOf start ticks readiness =
     CountsReadiness readiness.probe start ticks readiness.successes readiness.failures readiness.ready

@@ -28,7 +28,8 @@ tick at results = recorded at (record {
   readiness = slice_index_or results 2 None;
 })
 
--- the result, if it belongs to an instance of this age: it is known, and the initial delay is over
+-- the result of a probe in a tick, if it belongs to an instance of this age in seconds: it is known, and the
+-- initial delay is over
 abbrev pub belonging : Probe → ℕ → Option Outcome → Option Outcome
 belonging probe age None = None
 belonging probe age (Some outcome) =
@@ -44,13 +45,15 @@ abbrev pub result_of : Option Probe → ℕ → Option Outcome → Option ProbeR
 result_of None age given = None
 result_of (Some probe) age given = with_probe probe (belonging probe age given)
 
--- the results that belong to the instance with this start, in order
+-- the results of the startup probe that belong to the instance with this start, in order
 abbrev pub startup_results : Probe → ℕ → List Tick → List Outcome
 startup_results probe start ticks = filter_map (λ t. belonging probe (t.moment - start) t.entry.startup) ticks
 
+-- the results of the liveness probe that belong to the instance with this start, in order
 abbrev pub liveness_results : Probe → ℕ → List Tick → List Outcome
 liveness_results probe start ticks = filter_map (λ t. belonging probe (t.moment - start) t.entry.liveness) ticks
 
+-- the results of the readiness probe that belong to the instance with this start, in order
 abbrev pub readiness_results : Probe → ℕ → List Tick → List Outcome
 readiness_results probe start ticks = filter_map (λ t. belonging probe (t.moment - start) t.entry.readiness) ticks
 
@@ -59,7 +62,7 @@ readiness_results probe start ticks = filter_map (λ t. belonging probe (t.momen
 abbrev pub HasPassed : Probe → ℕ → List Tick → Type 0
 HasPassed probe start ticks = PassesWithin probe.failure_threshold (startup_results probe start ticks)
 
--- startup has passed: with a startup probe where that has passed, and else from the start on
+-- startup has passed: with a startup probe once that has passed, without one from the start on
 abbrev pub IsStarted : Option Probe → ℕ → List Tick → Type 0
 IsStarted startup start ticks = MatchOption startup (Unit {0}) (λ probe. HasPassed probe start ticks)
 
@@ -68,19 +71,20 @@ abbrev pub HasStartupFailed : Option Probe → ℕ → List Tick → Type 0
 HasStartupFailed startup start ticks =
     IsSomeAnd startup (λ probe. FailsWithin probe.failure_threshold (startup_results probe start ticks))
 
--- liveness has failed over these ticks: as many failures as its threshold says stand next to each
--- other
+-- liveness has failed over these ticks: as many failures as its failure threshold says came in a row
 abbrev pub HasLivenessFailed : Option Probe → ℕ → List Tick → Type 0
 HasLivenessFailed liveness start ticks =
     IsSomeAnd liveness (λ probe. FailsInARow probe.failure_threshold (liveness_results probe start ticks))
 
--- readiness holds over these ticks: somewhere its successes came, and later no failures undid them
+-- readiness holds over these ticks: as many successes as its success threshold says came in a row, and
+-- later never as many failures as its failure threshold says; without a readiness probe it always holds
 abbrev pub HoldsReady : Option Probe → ℕ → List Tick → Type 0
 HoldsReady readiness start ticks =
     MatchOption readiness (Unit {0}) (λ probe. HoldsAfter probe.success_threshold probe.failure_threshold
     (readiness_results probe start ticks))
 
--- from the value after some ticks to that after one more, in which an instance of this age has this result of the probe
+-- one more tick, at this age of the instance and with this result of the probe, leads from the old state
+-- to the new one
 abbrev pub TakesOne : {S : Type 0} → (ℕ → List Tick → S → Type 0) → (Results → Option Outcome) → ℕ → Option Outcome
     → S → S → Type 0
 TakesOne IsOf of age outcome old new = (start : ℕ) (ticks : List Tick) (next : Tick) → next.moment - start ≡ age

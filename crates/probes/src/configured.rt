@@ -1,3 +1,5 @@
+//! A probe that may not be configured.
+
 ghost use Rattle.std.specs.Prelude.{◌≡◌};
 ghost use Rattle.probes.specs.Ticks.{result_of};
 

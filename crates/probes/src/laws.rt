@@ -17,13 +17,13 @@ pub fn startup_passes_once()
     ensures { laws.StartupPassesOnce }
 {}
 
-/// The ticks that count are there, and are the only ones.
+/// There is exactly one list of the ticks that count.
 pub fn counted_ticks()
     ensures some { laws.SomeCounted }
     ensures one { laws.OneCounted }
 {}
 
-/// A container with no readiness probe is ready once startup has passed.
+/// An instance without a readiness probe is ready exactly where startup has passed.
 pub fn ready_without_probe()
     ensures { laws.ReadyWithoutProbe }
 {}

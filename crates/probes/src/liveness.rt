@@ -1,3 +1,5 @@
+//! The liveness probe of an instance, result by result.
+
 ghost use Rattle.std.specs.Prelude.{◌≡◌, ◌↔◌, ℕ, List, [], IsTrue};
 ghost use Rattle.probes.specs.Ticks.{Tick, TakesOne, HasLivenessFailed};
 ghost use Rattle.probes.specs.Liveness.{IsLivenessOf};

@@ -1,7 +1,9 @@
+//! The three probes of a container, over all of its instances.
+
 ghost use Rattle.std.specs.Prelude.{◌≡◌, ◌↔◌, ◌-◌, ℕ, List, [], ◌∷◌, ◌++◌, length, Option, Some, None, IsTrue, false};
 ghost use Rattle.manifest.specs.Probe.{Probes};
 ghost use Rattle.probes.specs.Ticks.{Tick, tick, IsStarted};
-ghost use Rattle.probes.specs.Container.{IsInstanceReady, IsKillOrdered, IsOrdered};
+ghost use Rattle.probes.specs.Container.{IsInstanceReady, IsKillOrdered, IsSomeKillOrdered};
 ghost use Rattle.probes.specs.ProbeSet.{Follows, HasBegun, HasNotBegun, IsStateOf, AreVerdicts};
 
 use crate::configured::Configured;
@@ -20,7 +22,7 @@ pub enum Cause {
     Liveness,
 }
 
-/// What a tick's results make of an instance.
+/// What the results of a tick say of an instance.
 #[derive(Clone, Copy, Debug, PartialEq, Eq)]
 pub struct Verdicts {
     /// Whether the startup probe passes in this tick.
@@ -120,7 +122,7 @@ impl ProbeSet {
     pub fn kill_ordered(&self) -> bool
         ensures before { HasNotBegun self.now → result ≡ false }
         ensures state { (probes : Probes) (start : ℕ) (ticks : List Tick) → IsStateOf probes start ticks self.now
-            → (IsTrue result ↔ IsOrdered probes start ticks) }
+            → (IsTrue result ↔ IsSomeKillOrdered probes start ticks) }
     {
         self.cause().is_some()
     }
@@ -174,7 +176,7 @@ fn became_true(before: bool, now: bool) -> bool
     now && !before
 }
 
-/// The cause of a kill order that comes now: of one that was there before there is none.
+/// The cause of a kill that is ordered now; none if one was ordered before.
 fn first_order(ordered: bool, cause: Option<Cause>) -> Option<Cause>
     ensures { (of : Cause) → ((result ≡ Some of) ↔ ((cause ≡ Some of) × (IsTrue ordered → ⊥))) }
 {

@@ -1,3 +1,5 @@
+//! The readiness probe of an instance, result by result.
+
 ghost use Rattle.std.specs.Prelude.{◌≡◌, ◌↔◌, ◌⊎◌, ℕ, List, [], IsTrue};
 ghost use Rattle.probes.specs.Ticks.{Tick, TakesOne, HoldsReady};
 ghost use Rattle.probes.specs.Readiness.{IsReadinessOf};

@@ -1,3 +1,5 @@
+//! How many results in a row have one outcome.
+
 ghost use Rattle.std.specs.Prelude.{◌≡◌, ◌↔◌, List, ◌∷◌, [], ◌++◌, IsTrue};
 ghost use Rattle.manifest.specs.declared.outcome.Outcome.{Outcome};
 ghost use Rattle.probes.specs.Outcomes.{IsRunLength};

@@ -1,3 +1,5 @@
+//! The startup probe of an instance, result by result.
+
 ghost use Rattle.std.specs.Prelude.{◌≡◌, ◌≢◌, ◌≤◌, ◌↔◌, ℕ, List, ◌∷◌, [], ◌++◌, IsTrue};
 ghost use Rattle.manifest.specs.declared.outcome.Outcome.{Outcome};
 ghost use Rattle.probes.specs.Ticks.{Tick, TakesOne, IsStarted, HasStartupFailed};
@@ -9,33 +11,33 @@ use manifest::Outcome;
 
 /// How far the startup of an instance has come.
 #[derive(Clone, Copy, Debug, PartialEq, Eq)]
-pub enum Progress {
+pub enum StartupProgress {
     /// Neither passed nor failed yet, after this many failures.
     Waiting(u32),
     Passed,
     Failed,
 }
 
-impl Progress {
+impl StartupProgress {
     /// The progress after one more result that belongs.
-    fn after(self, outcome: Outcome, limit: u32) -> Progress
+    fn after(self, outcome: Outcome, limit: u32) -> StartupProgress
         requires known { outcome ≢ Outcome.Unknown }
         requires limited { 1 ≤ limit }
         ensures { (results : List Outcome) → IsProgressOf limit results self
             → IsProgressOf limit (results ++ outcome ∷ []) result }
     {
         match self {
-            Progress::Waiting(failures) => {
+            StartupProgress::Waiting(failures) => {
                 if is_success(outcome) {
-                    Progress::Passed
+                    StartupProgress::Passed
                 } else if failures < limit - 1 {
-                    Progress::Waiting(failures + 1)
+                    StartupProgress::Waiting(failures + 1)
                 } else {
-                    Progress::Failed
+                    StartupProgress::Failed
                 }
             }
-            Progress::Passed => Progress::Passed,
-            Progress::Failed => Progress::Failed,
+            StartupProgress::Passed => StartupProgress::Passed,
+            StartupProgress::Failed => StartupProgress::Failed,
         }
     }
 }
@@ -44,7 +46,7 @@ impl Progress {
 #[derive(Clone, Copy, Debug, PartialEq, Eq)]
 pub struct Startup {
     pub probe: Configured,
-    progress: Progress,
+    progress: StartupProgress,
 }
 
 impl Startup {
@@ -55,11 +57,11 @@ impl Startup {
         match probe.get() {
             Some(_) => Startup {
                 probe,
-                progress: Progress::Waiting(0),
+                progress: StartupProgress::Waiting(0),
             },
             None => Startup {
                 probe,
-                progress: Progress::Passed,
+                progress: StartupProgress::Passed,
             },
         }
     }
@@ -68,14 +70,14 @@ impl Startup {
         ensures { (start : ℕ) (ticks : List Tick) → IsStartupOf start ticks self.now
             → (IsTrue result ↔ IsStarted self.now.probe start ticks) }
     {
-        matches!(self.progress, Progress::Passed)
+        matches!(self.progress, StartupProgress::Passed)
     }
 
     pub fn has_failed(&self) -> bool
         ensures { (start : ℕ) (ticks : List Tick) → IsStartupOf start ticks self.now
             → (IsTrue result ↔ HasStartupFailed self.now.probe start ticks) }
     {
-        matches!(self.progress, Progress::Failed)
+        matches!(self.progress, StartupProgress::Failed)
     }
 
     /// Takes the startup probe's result in a tick, at this age of the instance.

@@ -8,11 +8,12 @@ use Rattle.manifest.specs.declared.resources.Resource.{Resource}
 use Rattle.manifest.specs.declared.resources.Resource.TheVariants.{Cpu, Memory}
 use Rattle.qos.specs.declared.class.Qos.{Qos}
 use Rattle.qos.specs.declared.class.Qos.TheVariants.{Guaranteed, Burstable, BestEffort}
-use Rattle.qos.specs.Container.{own_request_of, limit_of, request_of, IsHeldTo, IsGuaranteed, AsksFor, AsksForSome}
+use Rattle.qos.specs.Container.{own_request_of, limit_of, request_of, RequestEqualsLimit, IsGuaranteed}
+use Rattle.qos.specs.Container.{HasRequestOrLimit, HasSomeRequestOrLimit}
 use Rattle.qos.specs.Class.{IsOfClass}
 
-held_or_not : (resource : Resource) (container : ContainerSpec) → OrNot (IsHeldTo resource container)
-held_or_not resource container = there (limit_of container resource) (request_of container resource)
+equals_or_not : (resource : Resource) (container : ContainerSpec) → OrNot (RequestEqualsLimit resource container)
+equals_or_not resource container = there (limit_of container resource) (request_of container resource)
   where
     there : (o p : Option ℕ) → OrNot ((limit : ℕ) × (o ≡ Some limit) × (p ≡ Some limit))
     there None p = inr (λ w. let e : None ≡ Some w.0 = w.1 in cc)
@@ -25,23 +26,23 @@ held_or_not resource container = there (limit_of container resource) (request_of
 
 guaranteed_or_not : (container : ContainerSpec) → OrNot (IsGuaranteed container)
 unfolding IsGuaranteed
-guaranteed_or_not container = both (held_or_not Cpu container) (held_or_not Memory container)
+guaranteed_or_not container = both (equals_or_not Cpu container) (equals_or_not Memory container)
 
 some_or_not : (o : Option ℕ) → OrNot (IsSome o)
 some_or_not None = inr (λ w. let e : IsSome {T = ℕ} None = w in cc)
 some_or_not (Some n) = inl refl
 
-asks_or_not : (resource : Resource) (container : ContainerSpec) → OrNot (AsksFor resource container)
-asks_or_not resource container = either (some_or_not (own_request_of container resource))
+has_or_not : (resource : Resource) (container : ContainerSpec) → OrNot (HasRequestOrLimit resource container)
+has_or_not resource container = either (some_or_not (own_request_of container resource))
     (some_or_not (limit_of container resource))
 
-some_asked_or_not : (container : ContainerSpec) → OrNot (AsksForSome container)
-some_asked_or_not container = either (asks_or_not Cpu container) (asks_or_not Memory container)
+has_some_or_not : (container : ContainerSpec) → OrNot (HasSomeRequestOrLimit container)
+has_some_or_not container = either (has_or_not Cpu container) (has_or_not Memory container)
 
 pub some_class : (containers : List ContainerSpec) → (class : Qos) × IsOfClass containers class
 some_class containers = elim (all_or_not IsGuaranteed guaranteed_or_not containers) [
   | inl all ↦ (Guaranteed, all)
-  | inr not_all ↦ elim (any_or_not AsksForSome some_asked_or_not containers) [
+  | inr not_all ↦ elim (any_or_not HasSomeRequestOrLimit has_some_or_not containers) [
     | inl some ↦ (Burstable, (not_all, some))
     | inr none ↦ (BestEffort, (not_all, none))
   ]
@@ -60,17 +61,17 @@ one_class containers BestEffort Burstable p q = absurd (p.1 q.1)
 one_class containers BestEffort BestEffort p q = refl
 
 -- what is guaranteed asks for something
-guaranteed_asks : (container : ContainerSpec) → IsGuaranteed container → AsksForSome container
+guaranteed_has_some : (container : ContainerSpec) → IsGuaranteed container → HasSomeRequestOrLimit container
 unfolding IsGuaranteed
-guaranteed_asks container g = inl (inr (there (limit_of container Cpu) g.0.0 g.0.1))
+guaranteed_has_some container g = inl (inr (there (limit_of container Cpu) g.0.0 g.0.1))
   where
     there : (o : Option ℕ) (n : ℕ) → o ≡ Some n → IsSome o
     there None n e = cc
     there (Some m) n e = refl
 
 pub nothing_asked : (container : ContainerSpec) (others : List ContainerSpec)
-    → All (λ c. AsksForSome c → ⊥) (container ∷ others) → IsOfClass (container ∷ others) BestEffort
+    → All (λ c. HasSomeRequestOrLimit c → ⊥) (container ∷ others) → IsOfClass (container ∷ others) BestEffort
 nothing_asked container others none = (
-  (λ all. none 0 container (omega arith) (guaranteed_asks container (all 0 container (omega arith)))),
-  (λ any. none any.0 any.1 any.2 (subst AsksForSome (sym any.3) any.4)),
+  (λ all. none 0 container (omega arith) (guaranteed_has_some container (all 0 container (omega arith)))),
+  (λ any. none any.0 any.1 any.2 (subst HasSomeRequestOrLimit (sym any.3) any.4)),
 )

@@ -1,6 +1,5 @@
--- What one container asks for, and what it is held to (Kubernetes, "Resource Management for Pods
--- and Containers"; "Pod Quality of Service Classes"; that a zero counts as unset is this profile's
--- rule).
+-- The requests and limits of one container (Kubernetes, "Resource Management for Pods and Containers";
+-- "Pod Quality of Service Classes"; that a zero counts as unset is this profile's rule).
 use Rattle.std.specs.Prelude.{◌≡◌, ◌⊎◌, ◌==◌, ℕ, if◌then◌else◌, Option, Some, None, unwrap_or, IsSome}
 use Rattle.std.specs.Option.{option_or}
 use Rattle.manifest.specs.declared.pod.ContainerSpec.{ContainerSpec}
@@ -31,18 +30,18 @@ abbrev pub requested : Resource → ContainerSpec → ℕ
 requested resource container = unwrap_or (request_of container resource) 0
 
 -- the container has a limit of the resource, and its request equals it
-abbrev pub IsHeldTo : Resource → ContainerSpec → Type 0
-IsHeldTo resource container = (limit : ℕ) × (limit_of container resource ≡ Some limit)
+abbrev pub RequestEqualsLimit : Resource → ContainerSpec → Type 0
+RequestEqualsLimit resource container = (limit : ℕ) × (limit_of container resource ≡ Some limit)
     × (request_of container resource ≡ Some limit)
 
--- so for cpu and for memory
+-- the container has limits of cpu and of memory, and its requests equal them
 unfoldable pub IsGuaranteed : ContainerSpec → Type 0
-IsGuaranteed container = IsHeldTo Cpu container × IsHeldTo Memory container
+IsGuaranteed container = RequestEqualsLimit Cpu container × RequestEqualsLimit Memory container
 
 -- a request or a limit of the resource is written for the container
-abbrev pub AsksFor : Resource → ContainerSpec → Type 0
-AsksFor resource container = IsSome (own_request_of container resource) ⊎ IsSome (limit_of container resource)
+abbrev pub HasRequestOrLimit : Resource → ContainerSpec → Type 0
+HasRequestOrLimit resource container = IsSome (own_request_of container resource) ⊎ IsSome (limit_of container resource)
 
--- so for cpu or for memory
-abbrev pub AsksForSome : ContainerSpec → Type 0
-AsksForSome container = AsksFor Cpu container ⊎ AsksFor Memory container
+-- a request or a limit of cpu or of memory is written for the container
+abbrev pub HasSomeRequestOrLimit : ContainerSpec → Type 0
+HasSomeRequestOrLimit container = HasRequestOrLimit Cpu container ⊎ HasRequestOrLimit Memory container

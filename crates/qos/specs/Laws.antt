@@ -4,23 +4,24 @@ use Rattle.manifest.specs.declared.pod.ContainerSpec.{ContainerSpec}
 use Rattle.manifest.specs.declared.resources.Resource.{Resource}
 use Rattle.qos.specs.declared.class.Qos.{Qos}
 use Rattle.qos.specs.declared.class.Qos.TheVariants.{BestEffort}
-use Rattle.qos.specs.Container.{requested, AsksForSome}
+use Rattle.qos.specs.Container.{requested, HasSomeRequestOrLimit}
 use Rattle.qos.specs.Class.{IsOfClass}
 use Rattle.qos.specs.Requests.{effective_request_of}
 
--- every pod is of a class, and of one alone
+-- every pod is of a class
 abbrev pub SomeClass : Type 0
 SomeClass = (containers : List ContainerSpec) → (class : Qos) × IsOfClass containers class
 
+-- no pod is of two classes
 abbrev pub OneClass : Type 0
 OneClass = (containers : List ContainerSpec) (class other : Qos) → IsOfClass containers class
     → IsOfClass containers other → class ≡ other
 
--- a pod with a container, and none that has anything of cpu and memory, is BestEffort
+-- a pod that has containers, none of them with a request or a limit of cpu or memory, is BestEffort
 abbrev pub NothingAskedFor : Type 0
 NothingAskedFor =
     (container : ContainerSpec) (others : List ContainerSpec)
-    → All (λ c. AsksForSome c → ⊥) (container ∷ others) → IsOfClass (container ∷ others) BestEffort
+    → All (λ c. HasSomeRequestOrLimit c → ⊥) (container ∷ others) → IsOfClass (container ∷ others) BestEffort
 
 -- an effective request is at least that of each container, whatever its role is
 abbrev pub EffectiveRequestCovers : Type 0

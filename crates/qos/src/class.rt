@@ -1,10 +1,10 @@
 //! QoS classes.
 
 ghost use Rattle.std.specs.Prelude.{◌↔◌, All, Any, IsTrue};
-ghost use Rattle.qos.specs.Container.{IsGuaranteed, AsksForSome};
+ghost use Rattle.qos.specs.Container.{IsGuaranteed, HasSomeRequestOrLimit};
 ghost use Rattle.qos.specs.Class.{IsOfClass};
 
-use crate::container::{asks_for_some, is_guaranteed};
+use crate::container::{has_some_request_or_limit, is_guaranteed};
 use manifest::{ContainerSpec, PodSpec};
 
 /// The QoS class of a pod (Kubernetes, "Pod Quality of Service Classes").
@@ -14,7 +14,7 @@ pub enum Qos {
     Guaranteed,
     /// The pod is not Guaranteed, and some container has a request or a limit of cpu or memory.
     Burstable,
-    /// No container has any.
+    /// No container has a request or a limit of cpu or memory.
     BestEffort,
 }
 
@@ -24,10 +24,12 @@ fn all_guaranteed(containers: &[ContainerSpec]) -> bool
     containers.iter().all(|container| is_guaranteed(container))
 }
 
-fn some_asks(containers: &[ContainerSpec]) -> bool
-    ensures { IsTrue result ↔ Any AsksForSome containers.now }
+fn some_has_request_or_limit(containers: &[ContainerSpec]) -> bool
+    ensures { IsTrue result ↔ Any HasSomeRequestOrLimit containers.now }
 {
-    containers.iter().any(|container| asks_for_some(container))
+    containers
+        .iter()
+        .any(|container| has_some_request_or_limit(container))
 }
 
 fn class_of(containers: &[ContainerSpec]) -> Qos
@@ -35,7 +37,7 @@ fn class_of(containers: &[ContainerSpec]) -> Qos
 {
     if all_guaranteed(containers) {
         Qos::Guaranteed
-    } else if some_asks(containers) {
+    } else if some_has_request_or_limit(containers) {
         Qos::Burstable
     } else {
         Qos::BestEffort

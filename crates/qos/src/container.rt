@@ -1,10 +1,10 @@
-//! What one container asks for, and what it is held to.
+//! The requests and limits of one container.
 
 ghost use Rattle.std.specs.Prelude.{◌≡◌, ◌≤◌, ◌↔◌, IfSome, IsTrue};
 ghost use Rattle.manifest.specs.declared.resources.Resource.TheVariants.{Cpu, Memory};
-ghost use Rattle.quantity.specs.Quantity.{greatest};
-ghost use Rattle.qos.specs.Container.{set_amount, limit_of, request_of, requested, IsHeldTo, IsGuaranteed, AsksFor};
-ghost use Rattle.qos.specs.Container.{AsksForSome};
+ghost use Rattle.quantity.specs.Quantity.{greatest_quantity};
+ghost use Rattle.qos.specs.Container.{set_amount, limit_of, request_of, requested, RequestEqualsLimit, IsGuaranteed};
+ghost use Rattle.qos.specs.Container.{HasRequestOrLimit, HasSomeRequestOrLimit};
 
 use manifest::{ContainerSpec, Resource};
 use quantity::Quantity;
@@ -12,7 +12,7 @@ use quantity::Quantity;
 /// An amount in thousandths, where it is set: a zero counts as unset.
 fn set_amount(amount: Option<Quantity>) -> Option<u128>
     ensures value { result ≡ set_amount amount }
-    ensures bound { IfSome result (λ n. n ≤ greatest) }
+    ensures bound { IfSome result (λ n. n ≤ greatest_quantity) }
 {
     match amount {
         Some(amount) if amount.milli() != 0 => Some(amount.milli()),
@@ -23,7 +23,7 @@ fn set_amount(amount: Option<Quantity>) -> Option<u128>
 /// The container's limit of the resource, in thousandths.
 fn limit_of(container: &ContainerSpec, resource: Resource) -> Option<u128>
     ensures value { result ≡ limit_of container.now resource }
-    ensures bound { IfSome result (λ n. n ≤ greatest) }
+    ensures bound { IfSome result (λ n. n ≤ greatest_quantity) }
 {
     set_amount(container.resources.limits().of(resource))
 }
@@ -31,7 +31,7 @@ fn limit_of(container: &ContainerSpec, resource: Resource) -> Option<u128>
 /// The container's request of the resource, in thousandths: its limit where it has no request.
 fn request_of(container: &ContainerSpec, resource: Resource) -> Option<u128>
     ensures value { result ≡ request_of container.now resource }
-    ensures bound { IfSome result (λ n. n ≤ greatest) }
+    ensures bound { IfSome result (λ n. n ≤ greatest_quantity) }
 {
     match set_amount(container.resources.requests().of(resource)) {
         Some(request) => Some(request),
@@ -42,14 +42,14 @@ fn request_of(container: &ContainerSpec, resource: Resource) -> Option<u128>
 /// What the container requests of the resource, in thousandths; 0 where it requests none.
 pub(crate) fn requested(container: &ContainerSpec, resource: Resource) -> u128
     ensures value { result ≡ requested resource container.now }
-    ensures bound { result ≤ greatest }
+    ensures bound { result ≤ greatest_quantity }
 {
     request_of(container, resource).unwrap_or(0)
 }
 
 /// Whether the container has a limit of the resource, and its request equals it.
-fn is_held_to(container: &ContainerSpec, resource: Resource) -> bool
-    ensures { IsTrue result ↔ IsHeldTo resource container.now }
+fn request_equals_limit(container: &ContainerSpec, resource: Resource) -> bool
+    ensures { IsTrue result ↔ RequestEqualsLimit resource container.now }
 {
     match limit_of(container, resource) {
         Some(limit) => request_of(container, resource) == Some(limit),
@@ -57,25 +57,27 @@ fn is_held_to(container: &ContainerSpec, resource: Resource) -> bool
     }
 }
 
-/// Whether that is so for cpu and for memory.
+/// Whether that is so of cpu and of memory.
 #[tactic(auto, unfolding(crate::specs::Container::IsGuaranteed))]
 pub(crate) fn is_guaranteed(container: &ContainerSpec) -> bool
     ensures { IsTrue result ↔ IsGuaranteed container.now }
 {
-    is_held_to(container, Resource::Cpu) && is_held_to(container, Resource::Memory)
+    request_equals_limit(container, Resource::Cpu)
+        && request_equals_limit(container, Resource::Memory)
 }
 
 /// Whether a request or a limit of the resource is written for the container: a limit gives a
 /// request too.
-fn asks_for(container: &ContainerSpec, resource: Resource) -> bool
-    ensures { IsTrue result ↔ AsksFor resource container.now }
+fn has_request_or_limit(container: &ContainerSpec, resource: Resource) -> bool
+    ensures { IsTrue result ↔ HasRequestOrLimit resource container.now }
 {
     request_of(container, resource).is_some()
 }
 
-/// Whether that is so for cpu or for memory.
-pub(crate) fn asks_for_some(container: &ContainerSpec) -> bool
-    ensures { IsTrue result ↔ AsksForSome container.now }
+/// Whether that is so of cpu or of memory.
+pub(crate) fn has_some_request_or_limit(container: &ContainerSpec) -> bool
+    ensures { IsTrue result ↔ HasSomeRequestOrLimit container.now }
 {
-    asks_for(container, Resource::Cpu) || asks_for(container, Resource::Memory)
+    has_request_or_limit(container, Resource::Cpu)
+        || has_request_or_limit(container, Resource::Memory)
 }

@@ -8,8 +8,8 @@ pub fn one_class()
     ensures one { laws.OneClass }
 {}
 
-/// A pod none of whose containers has anything of cpu and memory is BestEffort, if it has a
-/// container.
+/// A pod that has containers, none of them with a request or a limit of cpu or memory, is
+/// BestEffort.
 pub fn nothing_asked_for()
     ensures { laws.NothingAskedFor }
 {}

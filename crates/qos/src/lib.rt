@@ -1,4 +1,4 @@
-//! The QoS class of a pod, and what it asks for of a resource in effect.
+//! The QoS class of a pod, and its effective request of a resource.
 #![tactic(auto)]
 
 mod class;

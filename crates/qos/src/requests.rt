@@ -1,7 +1,8 @@
 //! Effective requests.
 
 ghost use Rattle.std.specs.Prelude.{◌≡◌, ◌≤◌, ◌*◌, length};
-ghost use Rattle.quantity.specs.Quantity.{greatest};
+ghost use Rattle.manifest.specs.Containers.{most_containers};
+ghost use Rattle.quantity.specs.Quantity.{greatest_quantity};
 ghost use Rattle.qos.specs.Requests.{requested_by_app_or_sidecar, requested_by_init, sum_of_apps_and_sidecars};
 ghost use Rattle.qos.specs.Requests.{greatest_of_inits, effective_request_of};
 
@@ -11,7 +12,7 @@ use manifest::{ContainerSpec, PodSpec, Resource, Role};
 /// What the container requests, if it is an app container or a sidecar.
 fn requested_by_app_or_sidecar(container: &ContainerSpec, resource: Resource) -> u128
     ensures value { result ≡ requested_by_app_or_sidecar resource container.now }
-    ensures bound { result ≤ greatest }
+    ensures bound { result ≤ greatest_quantity }
 {
     match container.role() {
         Role::Init => 0,
@@ -31,7 +32,7 @@ fn requested_by_init(container: &ContainerSpec, resource: Resource) -> u128
 
 /// What the app containers and sidecars request together.
 fn sum_of_apps_and_sidecars(containers: &[ContainerSpec], resource: Resource) -> u128
-    requires { length containers.now ≤ 16 }
+    requires { length containers.now ≤ most_containers }
     ensures { result ≡ sum_of_apps_and_sidecars resource containers.now }
 {
     let mut sum = 0;
@@ -52,8 +53,8 @@ fn greatest_of_inits(containers: &[ContainerSpec], resource: Resource) -> u128
     greatest
 }
 
-/// What the pod asks for of a resource in effect, in thousandths: the greater of what its app
-/// containers and sidecars request together and of the greatest request of an init container.
+/// The pod's effective request of a resource, in thousandths: the greater of what its app containers
+/// and sidecars request together and the greatest request of an init container.
 /// (Kubernetes, "Init Containers" and "Sidecar Containers", "Resource sharing within containers".)
 /// A zero amount counts as unset, and a limit without a request gives the request the limit's
 /// value.

@@ -15,8 +15,8 @@ newest sample = unwrap_or sample 0
 abbrev pub local_storage : Usage → ℕ
 local_storage usage = newest usage.volumes + newest usage.logs + newest usage.writable
 
--- where images and containers have a file system of their own, the writable layers lie there, and
--- volumes and logs on the node's
+-- what a pod uses of what the signal measures: where images have a file system of their own, the writable
+-- layers lie there, and volumes and logs on the node's
 abbrev pub used : Signal → Bool → Usage → ℕ
 used MemoryAvailable has_dedicated_imagefs usage = newest usage.memory
 used NodefsAvailable has_dedicated_imagefs usage =
@@ -34,7 +34,7 @@ has_requests NodefsAvailable = true
 has_requests ImagefsAvailable = true
 has_requests signal = false
 
--- of inodes and processes nothing is requested
+-- what a pod requests of what the signal measures; of inodes and processes nothing
 abbrev pub requested : Signal → EffectiveRequests → ℕ
 requested MemoryAvailable requests = requests.memory
 requested NodefsAvailable requests = requests.ephemeral_storage

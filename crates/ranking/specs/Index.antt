@@ -15,10 +15,12 @@ pub record Ranks : Type 0 where
   pub has_dedicated_imagefs : Bool
   pub keys : List (ℕ × RankKey)
 
+-- the ranks by a signal, with these keys
 abbrev pub ranks : Signal → Bool → List (ℕ × RankKey) → Ranks
 ranks signal has_dedicated_imagefs keys =
     record { signal = signal; has_dedicated_imagefs = has_dedicated_imagefs; keys = keys }
 
+-- the key under a number, if there is one
 abbrev pub key_at : List (ℕ × RankKey) → ℕ → Option RankKey
 key_at keys number = lookup (is_at (nat_cmp number)) keys
 
@@ -33,12 +35,12 @@ pub record IsIndexOf (held : ℕ → Option PodStatus) (ranks : Ranks) : Type 0 
   pub numbered : (n : ℕ) (p : PodStatus) → held n ≡ Some p → p.number ≡ n
   pub keyed : (n : ℕ) → key_at ranks.keys n ≡ option_map (key_of ranks.signal ranks.has_dedicated_imagefs) (held n)
 
--- the same pods are held, but for the one with this number
+-- after this the same pods are held, but for the one with this number
 pub record AreHeldWithout (held : ℕ → Option PodStatus) (number : ℕ) (after : ℕ → Option PodStatus) : Type 0 where
   pub gone : after number ≡ None
   pub others : (n : ℕ) → n ≢ number → after n ≡ held n
 
--- the same pods are held, and the one of this status by it; if it has ended, it isn't held
+-- after this the same pods are held, and the pod of this status with it; if that has ended, it isn't held
 pub record AreHeldAfter (held : ℕ → Option PodStatus) (status : PodStatus)
     (after : ℕ → Option PodStatus) : Type 0 where
   pub ended : IsTerminal status.phase → after status.number ≡ None

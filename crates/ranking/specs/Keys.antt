@@ -7,6 +7,7 @@ use Rattle.pod_piece.specs.declared.status.PodStatus.{PodStatus}
 use Rattle.ranking.specs.declared.key.RankKey.{RankKey}
 use Rattle.ranking.specs.Amounts.{used, has_requests, requested}
 
+-- the key of the pod with this status
 abbrev pub key_of : Signal → Bool → PodStatus → RankKey
 key_of signal has_dedicated_imagefs p = record {
   within_request =
@@ -17,7 +18,7 @@ key_of signal has_dedicated_imagefs p = record {
   number = p.number;
 }
 
--- by the fields as they stand; of the excess the greater comes first
+-- field by field, in their order; of the excess the greater comes first
 abbrev pub rank_cmp : RankKey → RankKey → Ordering
 rank_cmp j k =
     ordering_then (bool_cmp j.within_request k.within_request)

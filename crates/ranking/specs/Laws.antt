@@ -13,8 +13,8 @@ LesserKeyIsBefore = (signal : Signal) (has_dedicated_imagefs : Bool) (p q : PodS
     → ((rank_cmp (key_of signal has_dedicated_imagefs p) (key_of signal has_dedicated_imagefs q) ≡ Less)
     ↔ IsBefore signal has_dedicated_imagefs p q)
 
--- of two pods with different numbers one is ranked before the other, and not the other before it; and a
--- pod is ranked before all those before which a pod behind it is
+-- of two pods with different numbers one is ranked before the other, and not the other before it; and the
+-- order is transitive
 pub record OrderIsTotal : Type 0 where
   pub some : (signal : Signal) (has_dedicated_imagefs : Bool) (p q : PodStatus) → p.number ≢ q.number
       → IsBefore signal has_dedicated_imagefs p q ⊎ IsBefore signal has_dedicated_imagefs q p
@@ -30,20 +30,20 @@ SomeVictim = (signal : Signal) (has_dedicated_imagefs : Bool) (held : ℕ → Op
     → ((n : ℕ) (p : PodStatus) → held n ≡ Some p → (n < count) × (p.number ≡ n))
     → (victim : Option ℕ) × IsVictim signal has_dedicated_imagefs (λ n p. held n ≡ Some p) victim
 
--- and only that one
+-- of the pods that are held at most one is ranked before all others
 abbrev pub OneVictim : Type 0
 OneVictim = (signal : Signal) (has_dedicated_imagefs : Bool) (held : ℕ → Option PodStatus) (one other : Option ℕ)
     → IsVictim signal has_dedicated_imagefs (λ n p. held n ≡ Some p) one
     → IsVictim signal has_dedicated_imagefs (λ n p. held n ≡ Some p) other → one ≡ other
 
--- something is held after an update, and that is determined
+-- what is held after an update exists, and is determined
 pub record OneIsHeldAfter : Type 0 where
   pub exists : (held : ℕ → Option PodStatus) (status : PodStatus)
       → (after : ℕ → Option PodStatus) × AreHeldAfter held status after
   pub unique : (held : ℕ → Option PodStatus) (status : PodStatus) (one other : ℕ → Option PodStatus)
       → AreHeldAfter held status one → AreHeldAfter held status other → (n : ℕ) → one n ≡ other n
 
--- and so it is after a removal
+-- what is held after a removal exists, and is determined
 pub record OneIsHeldWithout : Type 0 where
   pub exists : (held : ℕ → Option PodStatus) (number : ℕ)
       → (after : ℕ → Option PodStatus) × AreHeldWithout held number after

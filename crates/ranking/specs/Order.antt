@@ -11,7 +11,7 @@ use Rattle.ranking.specs.Amounts.{used, has_requests, requested}
 abbrev pub First : (PodStatus → PodStatus → Type 0) → (PodStatus → PodStatus → Type 0) → PodStatus → PodStatus → Type 0
 First criterion next p q = criterion p q ⊎ ((criterion p q → ⊥) × (criterion q p → ⊥) × next p q)
 
--- its usage is above its request
+-- the pod's usage is above its request
 abbrev pub Exceeds : Signal → Bool → PodStatus → Type 0
 Exceeds signal has_dedicated_imagefs p = requested signal p.requests < used signal has_dedicated_imagefs p.usage
 
@@ -21,6 +21,7 @@ ExceedsAlone signal has_dedicated_imagefs p q =
     IsTrue (has_requests signal) × Exceeds signal has_dedicated_imagefs p
     × (Exceeds signal has_dedicated_imagefs q → ⊥)
 
+-- p has a lower priority than q
 abbrev pub HasLowerPriority : PodStatus → PodStatus → Type 0
 HasLowerPriority p q = p.priority <ℤ q.priority
 
@@ -30,6 +31,7 @@ UsesMore signal has_dedicated_imagefs p q =
     used signal has_dedicated_imagefs q.usage + requested signal p.requests
     < used signal has_dedicated_imagefs p.usage + requested signal q.requests
 
+-- p has a lower number than q
 abbrev pub HasLowerNumber : PodStatus → PodStatus → Type 0
 HasLowerNumber p q = p.number < q.number
 

@@ -1,7 +1,7 @@
 //! What a pod uses and requests of what a signal measures.
 
 ghost use Rattle.std.specs.Prelude.{◌≡◌, ◌≤◌, ◌*◌};
-ghost use Rattle.quantity.specs.Quantity.{greatest};
+ghost use Rattle.quantity.specs.Quantity.{greatest_quantity};
 ghost use Rattle.ranking.specs.Amounts.{newest, local_storage, used, requested, has_requests};
 
 use observations::Usage;
@@ -12,7 +12,7 @@ use signals::Signal;
 /// The newest sample in thousandths, and 0 where there is none.
 fn newest(sample: Option<Quantity>) -> u128
     ensures value { result ≡ newest sample }
-    ensures bound { result ≤ greatest }
+    ensures bound { result ≤ greatest_quantity }
 {
     match sample {
         Some(amount) => amount.milli(),

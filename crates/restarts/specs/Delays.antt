@@ -1,12 +1,12 @@
--- How long a restart is backed off, on a node with a greatest delay (Kubernetes, "Pod Lifecycle",
--- "Container restart policy"; that the first exit has no delay and that a run of 600 s begins the
--- count anew is this profile's reading).
+-- How long a restart is backed off, on a node with a maximum delay (Kubernetes, "Pod Lifecycle",
+-- "Container restart policy"; that the first exit has no delay and that a run of 600 s resets the
+-- count is this profile's reading).
 use Rattle.std.specs.Prelude.{◌≡◌, ℕ, zero, suc, ◌+◌, ◌*◌, ◌^◌, List, [], Option, Some, None, min}
 use Rattle.histories.specs.Histories.{last_moment}
 use Rattle.restarts.specs.Exits.{Exit, IsNumber}
 
 -- the delay in seconds of the exit with this number: none for the first, then 10, 20, 40 and so on,
--- up to the greatest
+-- up to the maximum
 abbrev pub delay_of : ℕ → ℕ → ℕ
 delay_of max_restart_delay zero = 0
 delay_of max_restart_delay (suc zero) = 0

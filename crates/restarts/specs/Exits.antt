@@ -6,7 +6,7 @@ use Rattle.histories.specs.Histories.{Recorded, entry_at, IsLast}
 abbrev pub Exit : Type 0
 Exit = Recorded ℕ
 
--- a run of this many seconds or more begins the count anew
+-- a run of this many seconds or more resets the count
 abbrev pub long_run : ℕ
 long_run = 600
 
@@ -14,12 +14,12 @@ long_run = 600
 abbrev pub IsLong : List Exit → ℕ → Type 0
 IsLong exits t = IsSomeAnd (entry_at exits t) (λ run. long_run ≤ run)
 
--- the place from which the exits count: the last one after a long run, or the first if there is
--- none
+-- the place from which exits are counted: that of the last exit after a long run, or the first place if
+-- there is none
 abbrev pub IsBeginning : List Exit → ℕ → Type 0
 IsBeginning exits start = IsLast (IsLong exits) start ⊎ ((start ≡ 0) × ((t : ℕ) → IsLong exits t → ⊥))
 
--- the number of the last exit: how many there are from that place on, itself included
+-- the number of the last exit: how many exits there are, from the place on from which they are counted
 pub record IsNumber (exits : List Exit) (number : ℕ) : Type 0 where
   pub start : ℕ
   pub beginning : IsBeginning exits start

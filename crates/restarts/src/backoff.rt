@@ -6,38 +6,37 @@ ghost use Rattle.histories.specs.Histories.{recorded};
 ghost use Rattle.manifest.specs.RestartDelay.{most_max_delay};
 ghost use Rattle.restarts.specs.Exits.{Exit, long_run};
 ghost use Rattle.restarts.specs.Delays.{delay_of};
-ghost use Rattle.restarts.specs.Counts.{IsCountOf};
+ghost use Rattle.restarts.specs.Counts.{last_count, IsCountOf};
 
 use manifest::MaxRestartDelay;
 
-/// A run of this many seconds or more begins the count anew.
+/// A run of this many seconds or more resets the count.
 const LONG_RUN: u64 = 600;
 
 /// The delay of the second exit, in seconds, which each further one doubles.
 const FIRST_DELAY: u64 = 10;
 
-/// From this number on each delay is the greatest, whatever that is, so the count stops there.
+/// From this number on each delay is the maximum, whatever that is, so the count stops there.
 const LAST_COUNT: u32 = 7;
 
 /// The back-off of one container: how long its restarts are backed off, by the exits so far.
 ///
 /// (Kubernetes, "Pod Lifecycle", "Container restart policy": a delay of 10 s, 20 s, 40 s and so on,
-/// up to a greatest of the node's. The first exit has none, and a run of 600 s begins the count
-/// anew.)
+/// up to a maximum of the node's. The first exit has none, and a run of 600 s resets the count.)
 #[derive(Clone, Copy, Debug, PartialEq, Eq)]
 pub struct Backoff {
     max_restart_delay: u64,
     count: u32,
     due: Option<u64>,
     ghost within: { max_restart_delay ≤ most_max_delay },
-    ghost counted: { count ≤ 7 },
+    ghost counted: { count ≤ last_count },
 }
 
 impl Backoff {
     ghost use Rattle.restarts.specs.Delays.{IsDelay, IsRestartDue};
     ghost use Rattle.restarts.specs.Backoff.{IsStateOf};
 
-    /// No exit yet, on a node with this greatest delay.
+    /// No exit yet, on a node with this maximum delay.
     pub fn new(max_restart_delay: MaxRestartDelay) -> Backoff
         ensures { IsStateOf max_restart_delay [] result }
     {
@@ -78,8 +77,8 @@ impl Backoff {
 
 /// The count after one more exit.
 fn count_after(count: u32, run_seconds: u64) -> u32
-    requires { count ≤ 7 }
-    ensures within { result ≤ 7 }
+    requires { count ≤ last_count }
+    ensures within { result ≤ last_count }
     ensures counts { (exits : List Exit) (at : ℕ) → IsCountOf exits count
         → IsCountOf (exits ++ recorded at run_seconds ∷ []) result }
 {
@@ -92,7 +91,7 @@ fn count_after(count: u32, run_seconds: u64) -> u32
     }
 }
 
-/// Whether a run begins the count anew.
+/// Whether a run resets the count.
 fn is_long(run_seconds: u64) -> bool
     ensures { IsTrue result ↔ (long_run ≤ run_seconds) }
 {
@@ -101,7 +100,7 @@ fn is_long(run_seconds: u64) -> bool
 
 /// The delay of an exit with this number.
 fn delay_after(number: u32, max_restart_delay: u64) -> u64
-    requires { number ≤ 7 }
+    requires { number ≤ last_count }
     ensures { result ≡ delay_of max_restart_delay number }
 {
     if number < 2 {

@@ -7,7 +7,7 @@ pub fn every_list_has_one_delay()
     ensures { laws.EveryListHasOneDelay }
 {}
 
-/// A delay is 0, or one of 10, 20, 40, 80, 160 and 300 s, or the greatest where that is less.
+/// A delay is 0, or one of 10, 20, 40, 80, 160 and 300 s, or the maximum where that is less.
 pub fn delay_is_one_of_seven()
     ensures { laws.DelayIsOneOfSeven }
 {}
@@ -22,13 +22,13 @@ pub fn delay_does_not_fall()
     ensures { laws.DelayDoesNotFall }
 {}
 
-/// A delay that is not 0 doubles at the next exit, up to the greatest, unless the run between was
+/// A delay that is not 0 doubles at the next exit, up to the maximum, unless the run between was
 /// at least 600 s.
 pub fn delay_doubles()
     ensures { laws.DelayDoubles }
 {}
 
-/// What is kept of the exits depends on those from the last run of at least 600 s on alone.
+/// The back-off's state depends only on the exits from the last run of at least 600 s on.
 pub fn long_run_forgets()
     ensures { laws.LongRunForgets }
 {}

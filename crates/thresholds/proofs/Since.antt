@@ -5,7 +5,7 @@ use Rattle.std.specs.Prelude.{◌↔◌, IsTrue, IsSome, IsSomeAnd}
 use Rattle.std.specs.Option.{option_or}
 use Rattle.std.proofs.lemmas.Bool.{cases_lt}
 use Rattle.std.proofs.lemmas.List.{take_all}
-use Rattle.histories.specs.Histories.{IsSo, up_to}
+use Rattle.histories.specs.Histories.{HoldsAt, up_to}
 use Rattle.histories.proofs.Moments.{last_moment-more}
 use Rattle.histories.proofs.Places.{length-more}
 use Rattle.histories.proofs.First.{Grows, IsFirstMoment-more, IsFirstMoment-unique}
@@ -29,7 +29,7 @@ from_grows limit reclaim h x on =
           | inl old ↦ g.old v (f.unbroken v le old)
           | inr ge ↦
               let e : length h ≡ v = let within : v < length (h ++ x ∷ []) = lt in omega arith in
-              let P : ℕ → Type 0 = λ k. IsSo (IsActive limit reclaim) (h ++ x ∷ []) k in
+              let P : ℕ → Type 0 = λ k. HoldsAt (IsActive limit reclaim) (h ++ x ∷ []) k in
               subst P e (g.new on)
         ];
       };
@@ -37,7 +37,7 @@ from_grows limit reclaim h x on =
         within = omega arith;
         unbroken = λ v le lt.
             let e : length h ≡ v = let within : v < length (h ++ x ∷ []) = lt in omega arith in
-            let P : ℕ → Type 0 = λ k. IsSo (IsActive limit reclaim) (h ++ x ∷ []) k in
+            let P : ℕ → Type 0 = λ k. HoldsAt (IsActive limit reclaim) (h ++ x ∷ []) k in
             subst P e (g.new on);
       };
       split = λ t f. elim (cases_lt t (length h)) [
@@ -54,7 +54,7 @@ from_grows limit reclaim h x on =
 
 -- the place of the last sample
 at_last : (limit reclaim : ℕ) (y : Sample) (h : List Sample)
-    → (IsSo (IsActive limit reclaim) (y ∷ h) (length h) ↔ IsActive limit reclaim (y ∷ h))
+    → (HoldsAt (IsActive limit reclaim) (y ∷ h) (length h) ↔ IsActive limit reclaim (y ∷ h))
 at_last limit reclaim y h =
     let e : up_to (y ∷ h) (length h) ≡ y ∷ h = take_all (suc (length h)) (y ∷ h) (omega arith) in (
       (λ s. subst (IsActive limit reclaim) e s.so),
@@ -77,7 +77,7 @@ some_from limit reclaim (y ∷ h) a = (
     within = omega arith;
     unbroken = λ v le lt.
         let e : length h ≡ v = let within : v < length (y ∷ h) = lt in omega arith in
-        let P : ℕ → Type 0 = λ k. IsSo (IsActive limit reclaim) (y ∷ h) k in
+        let P : ℕ → Type 0 = λ k. HoldsAt (IsActive limit reclaim) (y ∷ h) k in
         subst P e ((at_last limit reclaim y h).1 a);
   },
 )

@@ -7,6 +7,7 @@ use Rattle.histories.specs.Histories.{Recorded, recorded, entry_at}
 abbrev pub Sample : Type 0
 Sample = Recorded (Option ℕ)
 
+-- the sample of a moment and a value
 abbrev pub sample : ℕ → Option ℕ → Sample
 sample at value = recorded at value
 
@@ -14,6 +15,6 @@ sample at value = recorded at value
 abbrev pub IsBelow : ℕ → Option ℕ → Type 0
 IsBelow limit value = IsSomeAnd value (λ v. v < limit)
 
--- the value at a place is
+-- the value at place t is below the limit
 abbrev pub IsBelowAt : List Sample → ℕ → ℕ → Type 0
 IsBelowAt h limit t = IsSomeAnd (entry_at h t) (IsBelow limit)

@@ -8,7 +8,7 @@ pub fn due_is_active()
     ensures { laws.DueIsActive }
 {}
 
-/// A hard threshold, of which the grace is 0, is due exactly when it is active.
+/// A hard threshold, whose grace period is 0, is due exactly when it is active.
 pub fn hard_is_due_when_active()
     ensures { laws.HardIsDueWhenActive }
 {}
@@ -24,7 +24,7 @@ pub fn active_goes_on()
     ensures { laws.ActiveGoesOn }
 {}
 
-/// A threshold is active since one moment, if it is active, and since none otherwise.
+/// An active threshold has been active since exactly one moment, and one that is not active since none.
 pub fn one_active_since()
     ensures { laws.OneActiveSince }
 {}

@@ -1,14 +1,14 @@
-//! A threshold beside the samples of its signal.
+//! A threshold over the samples of its signal.
 
 ghost use Rattle.std.specs.Prelude.{◌≡◌, ◌↔◌, ◌≤◌, ◌-◌, ℕ, List, [], ◌∷◌, ◌++◌, Option, Some, None, IsTrue, IsSome};
 ghost use Rattle.std.specs.Prelude.{IsSomeAnd, IfSome};
 ghost use Rattle.std.specs.Option.{option_or};
-ghost use Rattle.quantity.specs.Quantity.{greatest};
+ghost use Rattle.quantity.specs.Quantity.{greatest_quantity};
 ghost use Rattle.signals.specs.declared.threshold.Threshold.{Threshold};
 ghost use Rattle.quantity.specs.Limit.{HasItsCapacity};
 ghost use Rattle.thresholds.specs.Samples.{Sample, sample as sample_of, IsBelow};
 ghost use Rattle.thresholds.specs.Thresholds.{IsThresholdActive, IsThresholdDue};
-ghost use Rattle.thresholds.specs.Watch.{LeavesActive, IsStateOf};
+ghost use Rattle.thresholds.specs.Watch.{IsActiveAfter, IsStateOf};
 
 use signals::Threshold;
 
@@ -16,7 +16,7 @@ use signals::Threshold;
 /// is active, and none of the samples.
 ///
 /// None of its answers needs moments that rise, so it asks for no order: where a sample's moment is
-/// not later than the beginning of the active stretch, no second of the grace has passed.
+/// not later than the beginning of the active stretch, no second of the grace period has passed.
 #[derive(Clone, Copy, Debug, PartialEq, Eq)]
 pub struct Watch {
     limit: u128,
@@ -32,7 +32,7 @@ impl Watch {
     pub fn new(threshold: Threshold, capacity: Option<u128>) -> Watch
         requires limit { HasItsCapacity capacity threshold.limit }
         requires reclaim { HasItsCapacity capacity threshold.reclaim }
-        requires capacity { IfSome capacity (λ c. c ≤ greatest) }
+        requires capacity { IfSome capacity (λ c. c ≤ greatest_quantity) }
         ensures { IsStateOf threshold capacity [] result }
     {
         let limit = threshold.limit.amount(capacity);
@@ -68,8 +68,8 @@ impl Watch {
     }
 
     /// Whether the threshold is due: it is active, and at the last sample has been for at least its
-    /// grace. (Kubernetes, "Node-pressure Eviction", "Soft eviction thresholds" and "Hard eviction
-    /// thresholds".)
+    /// grace period. (Kubernetes, "Node-pressure Eviction", "Soft eviction thresholds" and "Hard
+    /// eviction thresholds".)
     pub fn due(&self) -> bool
         ensures { (threshold : Threshold) (capacity : Option ℕ) (h : List Sample)
             → IsStateOf threshold capacity h self.now
@@ -87,15 +87,15 @@ impl Watch {
 
     /// Whether the threshold is active once this value has come.
     fn is_active_after(&self, value: Option<u128>) -> bool
-        ensures { IsTrue result ↔ LeavesActive self.now value }
+        ensures { IsTrue result ↔ IsActiveAfter self.now value }
     {
         is_below(value, self.limit) || self.is_active_so_far() && is_below(value, self.clears_from)
     }
 
     /// Since when the threshold is active, once this sample has come.
     fn active_since_after(&self, at: u64, value: Option<u128>) -> Option<u64>
-        ensures active { LeavesActive self.now value → result ≡ option_or self.now.active_since (Some at) }
-        ensures cleared { ¬ LeavesActive self.now value → result ≡ None }
+        ensures active { IsActiveAfter self.now value → result ≡ option_or self.now.active_since (Some at) }
+        ensures cleared { ¬ IsActiveAfter self.now value → result ≡ None }
     {
         if self.is_active_after(value) {
             self.active_since.or(Some(at))
@@ -115,7 +115,7 @@ fn is_below(value: Option<u128>, limit: u128) -> bool
     }
 }
 
-/// Whether at least the grace has passed at the moment `at` since the beginning, if there is one.
+/// Whether at least the grace period has passed from the beginning, if there is one, to the moment `at`.
 fn has_lasted(grace: u64, since: Option<u64>, at: u64) -> bool
     ensures { IsTrue result ↔ IsSomeAnd since (λ moment. grace ≤ at - moment) }
 {

@@ -1,13 +1,14 @@
 use Rattle.std.proofs.Common.{◌++◌, ◌∷◌, []}
 use Rattle.node_signals.specs.declared.event.NodeEvent.TheVariants.{Threshold}
-use Rattle.node_signals.specs.Thresholds.{IsActive}
+use Rattle.node_signals.specs.Thresholds.{IsActiveOnNode}
 use Rattle.node_signals.proofs.ServedLemmas.{one_key}
 use Rattle.node_signals.proofs.EventLemmas.{change_given}
 use Rattle.node_signals.proofs.events.threshold_event.Goals as goal
 
 pub returns : goal.returns
 returns c = λ eviction before tick key at old new.
-    change_given (Threshold key) (IsActive eviction (before ++ tick ∷ []) key) (IsActive eviction before key)
+    change_given (Threshold key) (IsActiveOnNode eviction (before ++ tick ∷ []) key)
+    (IsActiveOnNode eviction before key)
     c.is_active-active.result c.is_active.result c.then_some.result
     (c.is_active-active.ensures eviction (before ++ tick ∷ []) key at new)
     (c.is_active.ensures eviction before key at old)
