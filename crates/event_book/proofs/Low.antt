@@ -4,12 +4,13 @@ use Rattle.std.proofs.Common.{◌∙◌, sym, length-append, arith}
 use Rattle.std.specs.Prelude.{MatchOption}
 use Rattle.std.proofs.lemmas.List.Sums.{length-filter, count_by-le-length}
 use Rattle.manifest.specs.declared.pod.PodSpec.{PodSpec}
+use Rattle.manifest.specs.Containers.{most_containers}
 use Rattle.phase.specs.declared.phase.Phase.{Phase}
 use Rattle.containers.specs.declared.pod_event_kind.PodEventKind.{PodEventKind}
 use Rattle.containers.specs.declared.events.ContainerEvents.{ContainerEvents}
 use Rattle.pod_state.specs.declared.events.PodEvent.{PodEvent}
 use Rattle.pod_state.specs.Pods.{PodTick}
-use Rattle.pod_state.specs.Events.{places_in, events_at, events_from, AreNews, AreEventsOf}
+use Rattle.pod_state.specs.Events.{places_in, events_at, events_from, AreEventsOfLivePod, AreEventsOf}
 use Rattle.pod_state.proofs.PodEventLemmas.{one_list_of_pod_events}
 use Rattle.pod_piece.specs.Piece.{Piece, before_last, last_of, ticks, evicted_at, evicted_before}
 use Rattle.pod_piece.specs.Status.{AreLastEvents}
@@ -21,7 +22,7 @@ few_at : (container : Option ℕ) (places : List (Option PodEventKind))
     → length (events_at container places) ≤ length places
 few_at container [] = omega arith
 few_at container (None ∷ places) = let rest = few_at container places in omega arith
-few_at container (Some what ∷ places) = let rest = few_at container places in omega arith
+few_at container (Some kind ∷ places) = let rest = few_at container places in omega arith
 
 few_from : (phase : Phase) (n : ℕ) (made : List ContainerEvents) → length (events_from phase n made) ≤ 8 * length made
 few_from phase n [] = omega arith
@@ -31,26 +32,28 @@ few_from phase n (made ∷ rest) =
     let both = length-append (events_at (Some n) (places_in phase made)) (events_from phase (n + 1) rest) in
     omega arith
 
-few_news : (pod : PodSpec) (max_restart_delay : ℕ) (evicted : Option ℕ) (before : List PodTick) (tick : PodTick)
-    (events : List PodEvent) → length pod.containers ≤ 16 → AreNews pod max_restart_delay evicted before tick events
+few_of_live_pod : (pod : PodSpec) (max_restart_delay : ℕ) (evicted : Option ℕ) (before : List PodTick) (tick : PodTick)
+    (events : List PodEvent) → length pod.containers ≤ most_containers
+    → AreEventsOfLivePod pod max_restart_delay evicted before tick events
     → length events ≤ most_events
-few_news pod max_restart_delay evicted before tick events few news =
-    let all = ap length news.in_order in
-    let both = length-append (events_from news.phase 0 news.made) (events_at None (news.change ∷ [])) in
-    let of_containers = few_from news.phase 0 news.made in
-    let of_pod = few_at None (news.change ∷ []) in
-    let as_many = news.are_made.as_many in
+few_of_live_pod pod max_restart_delay evicted before tick events few live =
+    let all = ap length live.in_order in
+    let both = length-append (events_from live.phase 0 live.made) (events_at None (live.change ∷ [])) in
+    let of_containers = few_from live.phase 0 live.made in
+    let of_pod = few_at None (live.change ∷ []) in
+    let as_many = live.are_made.as_many in
     omega arith
 
 few_events : (pod : PodSpec) (max_restart_delay : ℕ) (evicted : Option ℕ) (before : List PodTick) (tick : PodTick)
-    (events : List PodEvent) → length pod.containers ≤ 16 → AreEventsOf pod max_restart_delay evicted before tick events
+    (events : List PodEvent) → length pod.containers ≤ most_containers
+    → AreEventsOf pod max_restart_delay evicted before tick events
     → length events ≤ most_events
 few_events pod max_restart_delay evicted before tick events few (inl ended) = let none =
     ap length ended.1 in omega arith
 few_events pod max_restart_delay evicted before tick events few (inr lives) =
-    few_news pod max_restart_delay evicted before tick events few lives.1
+    few_of_live_pod pod max_restart_delay evicted before tick events few lives.1
 
-few_last : (p : Piece) (events : List PodEvent) (last : Option PodTick) → length p.pod.containers ≤ 16
+few_last : (p : Piece) (events : List PodEvent) (last : Option PodTick) → length p.pod.containers ≤ most_containers
     → MatchOption last (events ≡ [])
     (λ tick. AreEventsOf p.pod p.max_restart_delay (evicted_before (evicted_at p) (length (before_last (ticks p))))
     (before_last (ticks p)) tick events)
@@ -61,7 +64,7 @@ few_last p events (Some tick) few are =
     (before_last (ticks p)) tick events few are
 
 -- the entry of a pod's last update is low
-pub low : (p : Piece) (entry : Entry) → length p.pod.containers ≤ 16 → IsEntryOf p entry → IsLow entry
+pub low : (p : Piece) (entry : Entry) → length p.pod.containers ≤ most_containers → IsEntryOf p entry → IsLow entry
 low p entry few (events, are, is) =
     let some = few_last p events (last_of (ticks p)) few are in
     let orders = count_by-le-length is_order events in

@@ -1,4 +1,4 @@
--- Totals by their numbers.
+-- Totals by their fields.
 use Rattle.std.proofs.Common.{◌≡◌}
 use Rattle.event_book.specs.declared.totals.Totals.{Totals}
 

@@ -11,13 +11,13 @@ most_parts = 65
 abbrev pub greatest_total : ℕ
 greatest_total = 2 ^ 63
 
--- what a share holds: its parts, and what was entered with it
-pub record Part : Type 0 where
+-- a share: its parts, and what was entered with it
+pub record ShareState : Type 0 where
   pub parts : ℕ
-  pub numbers : Totals
+  pub totals : Totals
 
-abbrev pub part : ℕ → Totals → Part
-part parts numbers = record { parts = parts; numbers = numbers }
+abbrev pub share_with : ℕ → Totals → ShareState
+share_with parts totals = record { parts = parts; totals = totals }
 
 -- one update with this entry
 abbrev pub one_update : Entry → Totals

@@ -2,27 +2,27 @@
 use Rattle.std.specs.Prelude.{◌≡◌, ℕ, ◌+◌, Bool, true, false, List, length, slice_get, Some}
 use Rattle.std.specs.List.{filter, sum_by}
 use Rattle.containers.specs.declared.pod_event_kind.PodEventKind.{PodEventKind}
-use Rattle.containers.specs.declared.pod_event_kind.PodEventKind.TheVariants as whats
+use Rattle.containers.specs.declared.pod_event_kind.PodEventKind.TheVariants as kinds
 use Rattle.pod_state.specs.declared.events.PodEvent.{PodEvent}
 use Rattle.pod_piece.specs.Piece.{Piece}
 use Rattle.pod_piece.specs.Status.{AreLastEvents}
 use Rattle.event_book.specs.declared.totals.Totals.{Totals}
 use Rattle.event_book.specs.declared.totals.Entry.{Entry}
 
--- it orders a kubelet to kill or to restart a container
+-- an event of this kind orders a kubelet to kill or to restart a container
 abbrev pub orders : PodEventKind → Bool
-orders (whats.Died attempt code) = false
-orders (whats.Started attempt) = false
-orders (whats.StartupPassed attempt) = false
-orders (whats.Kill attempt cause) = true
-orders whats.Ready = false
-orders whats.Unready = false
-orders (whats.Backoff delay) = false
-orders (whats.Restart attempt) = true
-orders (whats.Phase phase) = false
+orders (kinds.Died attempt code) = false
+orders (kinds.Started attempt) = false
+orders (kinds.StartupPassed attempt) = false
+orders (kinds.Kill attempt cause) = true
+orders kinds.Ready = false
+orders kinds.Unready = false
+orders (kinds.Backoff delay) = false
+orders (kinds.Restart attempt) = true
+orders (kinds.Phase phase) = false
 
 abbrev pub is_order : PodEvent → Bool
-is_order event = orders event.what
+is_order event = orders event.kind
 
 -- what a tick of a pod with these events adds to the totals, beside one update
 abbrev pub entry_of : List PodEvent → Entry

@@ -1,8 +1,8 @@
 //! The book that counts what happens.
 
-ghost use Rattle.std.specs.Prelude.{◌≡◌, ◌<◌, ◌≤◌, ◌^◌, OnOk, OnErr};
+ghost use Rattle.std.specs.Prelude.{◌≡◌, ◌<◌, ◌^◌, OnOk, OnErr};
 ghost use Rattle.event_book.specs.Totals.{plus, nothing};
-ghost use Rattle.event_book.specs.Shares.{most_parts, part, one_update, AreWithin, ArePast};
+ghost use Rattle.event_book.specs.Shares.{most_parts, share_with, one_update, AreWithin, ArePast};
 
 use crate::blanks::Blanks;
 use crate::shares::Shares;
@@ -48,7 +48,7 @@ impl<U: Ledger, E: Ledger, O: Ledger> EventBook<U, E, O> {
         requires parts { (blanks.updates.parts ≡ U.parts) × (blanks.events.parts ≡ E.parts)
             × (blanks.orders.parts ≡ O.parts) }
         ensures book { result.0 ≡ nothing }
-        ensures whole { result.1 ≡ part most_parts nothing }
+        ensures whole { result.1 ≡ share_with most_parts nothing }
     {
         let Blanks {
             updates,
@@ -82,7 +82,8 @@ impl<U: Ledger, E: Ledger, O: Ledger> EventBook<U, E, O> {
     pub fn enter(&mut self, entry: Entry, share: &mut Shares<U, E, O>) -> Result<(), Full>
         requires { 0 < share.old.parts }
         ensures book { OnOk result (self.new ≡ plus self.old (one_update entry)) }
-        ensures share { OnOk result (share.new ≡ part share.old.parts (plus share.old.numbers (one_update entry))) }
+        ensures share { OnOk result
+            (share.new ≡ share_with share.old.parts (plus share.old.totals (one_update entry))) }
         ensures full { OnErr result (ArePast (plus self.old (one_update entry))) }
         ensures kept { OnErr result ((self.new ≡ self.old) × (share.new ≡ share.old)) }
     {
@@ -109,30 +110,40 @@ impl<U: Ledger, E: Ledger, O: Ledger> EventBook<U, E, O> {
         self.totals
     }
 
-    /// Changes nothing, and says that the whole share's numbers are the totals.
+    /// Changes nothing, and says that the totals of the whole share are those of the book.
     pub fn audit(&mut self, share: &mut Shares<U, E, O>)
         requires whole { share.old.parts ≡ U.parts }
         requires level { (E.parts ≡ U.parts) × (O.parts ≡ U.parts) }
         ensures book { self.new ≡ self.old }
         ensures share { share.new ≡ share.old }
-        ensures totals { self.new ≡ share.new.numbers }
+        ensures totals { self.new ≡ share.new.totals }
     {
         self.updates.audit(&mut share.updates);
         self.events.audit(&mut share.events);
         self.orders.audit(&mut share.orders);
     }
 
-    /// Enters one update with this entry with the whole share, whose numbers show that the book has room.
+    /// Enters one update of a pod with this entry, where no total passes 2^63 by it.
+    pub fn enter_within(&mut self, entry: Entry, share: &mut Shares<U, E, O>)
+        requires some { 0 < share.old.parts }
+        requires room { AreWithin (plus self.old (one_update entry)) }
+        ensures book { self.new ≡ plus self.old (one_update entry) }
+        ensures share { share.new ≡ share_with share.old.parts (plus share.old.totals (one_update entry)) }
+    {
+        match self.enter(entry, share) {
+            Ok(()) => {}
+            Err(Full) => unreachable!(),
+        }
+    }
+
+    /// Enters one update with this entry with the whole share, whose totals show that the book has room.
     pub fn enter_whole(&mut self, entry: Entry, share: &mut Shares<U, E, O>)
         requires whole { share.old.parts ≡ most_parts }
         requires level { (U.parts ≡ most_parts) × (E.parts ≡ most_parts) × (O.parts ≡ most_parts) }
-        requires room { AreWithin (plus share.old.numbers (one_update entry)) }
-        ensures { share.new ≡ part most_parts (plus share.old.numbers (one_update entry)) }
+        requires room { AreWithin (plus share.old.totals (one_update entry)) }
+        ensures { share.new ≡ share_with most_parts (plus share.old.totals (one_update entry)) }
     {
         self.audit(share);
-        match self.enter(entry, share) {
-            Ok(()) => {}
-            Err(_) => unreachable!(),
-        }
+        self.enter_within(entry, share);
     }
 }

@@ -2,7 +2,7 @@
 
 ghost use Rattle.std.specs.Prelude.{◌≡◌, ◌<◌, ◌+◌};
 ghost use Rattle.event_book.specs.Totals.{plus, nothing};
-ghost use Rattle.event_book.specs.Shares.{part};
+ghost use Rattle.event_book.specs.Shares.{share_with};
 
 use std::marker::Model;
 use std::sync::ledger::{Ledger, Share};
@@ -18,11 +18,11 @@ pub struct Shares<U: Ledger, E: Ledger, O: Ledger> {
 
 impl<U: Ledger, E: Ledger, O: Ledger> Model for Shares<U, E, O> {
     ghost use Rattle.std.specs.Prelude.{◌≡◌};
-    ghost use Rattle.event_book.specs.Shares.{Part, part};
+    ghost use Rattle.event_book.specs.Shares.{ShareState, share_with};
 
-    ghost Value = { Part };
+    ghost Value = { ShareState };
 
-    ghost view = { λ s. part s.updates.parts
+    ghost view = { λ s. share_with s.updates.parts
         (record { updates = s.updates.amount; events = s.events.amount; orders = s.orders.amount }) };
 
     ghost invariant = { λ s. (s.events.parts ≡ s.updates.parts) × (s.orders.parts ≡ s.updates.parts) };
@@ -33,8 +33,8 @@ impl<U: Ledger, E: Ledger, O: Ledger> Shares<U, E, O> {
     pub fn split(&mut self) -> Shares<U, E, O>
         requires { 1 < self.old.parts }
         ensures parts { self.new.parts + 1 ≡ self.old.parts }
-        ensures numbers { self.new.numbers ≡ self.old.numbers }
-        ensures cut { result ≡ part 1 nothing }
+        ensures totals { self.new.totals ≡ self.old.totals }
+        ensures cut { result ≡ share_with 1 nothing }
     {
         Shares {
             updates: self.updates.split_off(1, 0),
@@ -43,9 +43,9 @@ impl<U: Ledger, E: Ledger, O: Ledger> Shares<U, E, O> {
         }
     }
 
-    /// Takes another share of the same book in, with its parts and its numbers.
+    /// Takes another share of the same book in, with its parts and its totals.
     pub fn join(&mut self, other: Shares<U, E, O>)
-        ensures { self.new ≡ part (self.old.parts + other.parts) (plus self.old.numbers other.numbers) }
+        ensures { self.new ≡ share_with (self.old.parts + other.parts) (plus self.old.totals other.totals) }
     {
         self.updates.merge(other.updates);
         self.events.merge(other.events);

@@ -34,7 +34,7 @@ fn is_order(event: &PodEvent) -> bool
     ensures { result ≡ is_order event.now }
 {
     matches!(
-        event.what,
+        event.kind,
         PodEventKind::Kill { .. } | PodEventKind::Restart { .. }
     )
 }
@@ -62,6 +62,7 @@ impl Entry {
             orders: count_orders(events),
         }
     }
+
     /// The entry of a pod's last update.
     pub fn last_of(piece: &PodPiece) -> Entry
         ensures entry { IsEntryOf piece.now result }

@@ -2,7 +2,7 @@
 
 ghost use Rattle.std.specs.Prelude.{◌≡◌};
 ghost use Rattle.event_book.specs.Totals.{plus, nothing};
-ghost use Rattle.event_book.specs.Shares.{most_parts, part, one_update, AreWithin};
+ghost use Rattle.event_book.specs.Shares.{most_parts, share_with, one_update, AreWithin};
 
 use crate::blanks::Blanks;
 use crate::book::EventBook;
@@ -22,13 +22,13 @@ pub struct WholeBook<U: Ledger, E: Ledger, O: Ledger> {
 impl<U: Ledger, E: Ledger, O: Ledger> Model for WholeBook<U, E, O> {
     ghost use Rattle.std.specs.Prelude.{◌≡◌};
     ghost use Rattle.event_book.specs.declared.totals.Totals.{Totals};
-    ghost use Rattle.event_book.specs.Shares.{most_parts, part};
+    ghost use Rattle.event_book.specs.Shares.{most_parts, share_with};
 
     ghost Value = { Totals };
 
     ghost view = { λ w. w.book };
 
-    ghost invariant = { λ w. (w.share ≡ part most_parts w.book)
+    ghost invariant = { λ w. (w.share ≡ share_with most_parts w.book)
         × (U.parts ≡ most_parts) × (E.parts ≡ most_parts) × (O.parts ≡ most_parts) };
 }
 
@@ -50,10 +50,7 @@ impl<U: Ledger, E: Ledger, O: Ledger> WholeBook<U, E, O> {
         requires { AreWithin (plus self.old (one_update entry)) }
         ensures { self.new ≡ plus self.old (one_update entry) }
     {
-        match self.book.enter(entry, &mut self.share) {
-            Ok(()) => {}
-            Err(_) => unreachable!(),
-        }
+        self.book.enter_within(entry, &mut self.share);
     }
 
     /// The totals.
@@ -66,7 +63,7 @@ impl<U: Ledger, E: Ledger, O: Ledger> WholeBook<U, E, O> {
     /// The book and its whole share.
     pub fn into_parts(self) -> (EventBook<U, E, O>, Shares<U, E, O>)
         ensures book { result.0 ≡ self }
-        ensures share { result.1 ≡ part most_parts self }
+        ensures share { result.1 ≡ share_with most_parts self }
         ensures level { (U.parts ≡ most_parts) × (E.parts ≡ most_parts) × (O.parts ≡ most_parts) }
     {
         let WholeBook { book, share } = self;
@@ -77,7 +74,7 @@ impl<U: Ledger, E: Ledger, O: Ledger> WholeBook<U, E, O> {
     pub fn of_parts(book: EventBook<U, E, O>, share: Shares<U, E, O>) -> WholeBook<U, E, O>
         requires whole { share.parts ≡ most_parts }
         requires level { (U.parts ≡ most_parts) × (E.parts ≡ most_parts) × (O.parts ≡ most_parts) }
-        ensures { result ≡ share.numbers }
+        ensures { result ≡ share.totals }
     {
         let mut book = book;
         let mut share = share;

@@ -46,7 +46,7 @@ placed_arrived pieces max_restart_delay dedicated pod placed n piece at = elim (
       let x = new_piece (length pieces) pod max_restart_delay in
       let new = subst (λ (k : ℕ). slice_get (pieces ++ x ∷ []) k ≡ Some x) (sym same) (slice_get-new pieces x) in
       subst (λ (p : Piece). IsPlaced max_restart_delay n p) (same_piece (pieces ++ x ∷ []) n x piece new at)
-      (record { number_is = sym same; greatest_is = refl; free = refl })
+      (record { number_is = sym same; max_restart_delay_is = refl; free = refl })
   | inr apart ↦
       placed n piece (sym (others_arrived pieces (new_piece (length pieces) pod max_restart_delay) n apart) ∙ at)
 ]
@@ -71,7 +71,7 @@ placed_after old max_restart_delay dedicated shown new placed next are n piece a
         let before = placed n p was in
         subst (λ (q : Piece). IsPlaced max_restart_delay n q)
         (same_piece new n (updated (with_tick p (pod_tick o))) piece (are.each n p o was there) at)
-        (record { number_is = before.number_is; greatest_is = before.greatest_is; free = refl })
+        (record { number_is = before.number_is; max_restart_delay_is = before.max_restart_delay_is; free = refl })
 
 -- once the pieces that went out have come back
 pub placed_joined : (old : List Piece) (max_restart_delay : ℕ) (dedicated : Bool) (shown : List (Option PodObs))
@@ -107,7 +107,7 @@ placed_evicted old max_restart_delay dedicated number order new placed are n pie
       let there = subst (λ (k : ℕ). slice_get old k ≡ Some p.0) same p.1 in
       let here = subst (λ (k : ℕ). slice_get new k ≡ Some (with_eviction p.0 order)) (sym same) (are.here p.0 there) in
       subst (λ (q : Piece). IsPlaced max_restart_delay n q) (same_piece new n (with_eviction p.0 order) piece here at)
-      (record { number_is = was.number_is; greatest_is = was.greatest_is; free = was.free })
+      (record { number_is = was.number_is; max_restart_delay_is = was.max_restart_delay_is; free = was.free })
   | inr apart ↦ placed n piece (sym (are.others n apart) ∙ at)
 ]
 

@@ -2,7 +2,7 @@
 use Rattle.std.proofs.Common.{◌≡◌, ◌∙◌, inr, ℕ, suc, ◌-◌, ◌<◌, false, List, [], length, Option}
 use Rattle.std.proofs.Common.{Some, None, sym, subst, arith}
 use Rattle.std.proofs.lemmas.List.{take_all}
-use Rattle.histories.specs.Histories.{last_moment, up_to, IsSo}
+use Rattle.histories.specs.Histories.{last_moment, up_to, HoldsAt}
 use Rattle.histories.proofs.Places.{moment_at-below}
 use Rattle.manifest.specs.declared.pod.PodSpec.{PodSpec}
 use Rattle.observations.specs.declared.usage.Usage.{Usage}
@@ -54,7 +54,7 @@ new_lives n pod max_restart_delay p is ended =
 
 -- the last of some ticks is one at which the pod is evicted
 ends_last : (pod : PodSpec) (h : List PodTick) → 0 < length h
-    → IsSo (EndsPod pod (Some (length h - 1))) h (length h - 1)
+    → HoldsAt (EndsPod pod (Some (length h - 1))) h (length h - 1)
 ends_last pod h some =
     let n = length h - 1 in
     let whole : up_to h n ≡ h = take_all (suc n) h (omega (arith, some)) in
@@ -63,7 +63,7 @@ ends_last pod h some =
     record { within = omega (arith, some); so = subst P (sym whole) (inr long) }
 
 phase_of_ended : (pod : PodSpec) (evicted : Option ℕ) (h : List PodTick) (p : PodStatus) (t : ℕ)
-    → IsSo (EndsPod pod evicted) h t → IsPhase pod evicted h p.phase → IsTerminal p.phase
+    → HoldsAt (EndsPod pod evicted) h t → IsPhase pod evicted h p.phase → IsTerminal p.phase
 phase_of_ended pod evicted h p t ends (None, none, by) = absurd (none t ends)
 phase_of_ended pod evicted h p t ends (Some u, end, by) =
     end_terminal pod evicted h p.phase u (Some u, end, by) end

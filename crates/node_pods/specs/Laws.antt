@@ -19,6 +19,7 @@ pub record AreAlike (p q : PodStatus) : Type 0 where
   pub usage : p.usage ≡ q.usage
   pub priority : p.priority ≡ q.priority
 
+-- all statuses of a candidate are alike
 abbrev pub CandidatesAreAlike : Type 0
 CandidatesAreAlike = (pieces : List Piece) (moment n : ℕ) (p q : PodStatus)
     → IsCandidate pieces moment n p → IsCandidate pieces moment n q → AreAlike p q
@@ -47,7 +48,7 @@ pub record OneIsAfter : Type 0 where
   pub unique : (old : List Piece) (shown : List (Option PodObs)) (one other : List Piece) → AreNext old shown
       → AreAfter old shown one → AreAfter old shown other → one ≡ other
 
--- and so there are after an eviction
+-- there are pieces after an eviction, and only these
 pub record OneIsEvicted : Type 0 where
   pub exists : (old : List Piece) (number : ℕ) (order : EvictOrder)
       → (new : List Piece) × AreEvicted old number order new

@@ -17,10 +17,11 @@ use Rattle.pod_piece.specs.Status.{IsStatusOf}
 -- the pods that have arrived on a node, by their numbers
 pub record Pods : Type 0 where
   pub pieces : List Piece
-  -- the node's greatest restart delay, in seconds
+  -- the node's maximum restart delay, in seconds
   pub max_restart_delay : ℕ
   pub has_dedicated_imagefs : Bool
 
+-- the pods with these pieces
 abbrev pub pods_of : List Piece → ℕ → Bool → Pods
 pods_of pieces max_restart_delay has_dedicated_imagefs =
     record { pieces = pieces; max_restart_delay = max_restart_delay; has_dedicated_imagefs = has_dedicated_imagefs }
@@ -34,9 +35,10 @@ with_pod pods pod =
 -- a pod of a node: its number is its place, and all that was handed to it has come into its status
 pub record IsPlaced (max_restart_delay : ℕ) (n : ℕ) (piece : Piece) : Type 0 where
   pub number_is : piece.number ≡ n
-  pub greatest_is : piece.max_restart_delay ≡ max_restart_delay
+  pub max_restart_delay_is : piece.max_restart_delay ≡ max_restart_delay
   pub free : piece.is_pending ≡ false
 
+-- each pod has its place as its number, and nothing pending
 abbrev pub ArePlaced : Pods → Type 0
 ArePlaced pods = (n : ℕ) (piece : Piece) → slice_get pods.pieces n ≡ Some piece
     → IsPlaced pods.max_restart_delay n piece
@@ -102,6 +104,7 @@ pub record Awaited : Type 0 where
   pub max_restart_delay : ℕ
   pub has_dedicated_imagefs : Bool
 
+-- a node that keeps these pieces
 abbrev pub awaited : List (Option Piece) → ℕ → Bool → Awaited
 awaited kept max_restart_delay has_dedicated_imagefs =
     record { kept = kept; max_restart_delay = max_restart_delay; has_dedicated_imagefs = has_dedicated_imagefs }

@@ -21,7 +21,8 @@ pub record IsNextAt (at : ℕ) (piece : Piece) (observed : Option PodObs) : Type
   pub later : EndsBefore piece.handed at
   pub shown : IfSome observed (IsShownNext at piece)
 
--- the same of the pods below a number
+-- the moment is later than all that was handed to the pods below a number, and what is shown of them may be handed to
+-- them
 abbrev pub AreNextBelow : ℕ → List Piece → List (Option PodObs) → ℕ → Type 0
 AreNextBelow at pieces shown i =
     (n : ℕ) (piece : Piece) (observed : Option PodObs) → n < i → slice_get pieces n ≡ Some piece
@@ -32,11 +33,12 @@ abbrev pub MayTake : Piece → Option PodObs → Type 0
 MayTake p None = Unit {0}
 MayTake p (Some observed) = (p.is_pending ≡ false) × IsNextTick p.pod p.handed (pod_tick observed)
 
--- it goes out once it was handed to it, with this number, or stays
+-- the piece that goes out, if its pod is shown: once it was handed what is shown, with this number
 abbrev pub going : ℕ → Piece → Option PodObs → List Piece
 going k p None = []
 going k p (Some observed) = with_number (with_tick p (pod_tick observed)) k ∷ []
 
+-- the piece that stays, if its pod is not shown
 abbrev pub staying : Piece → Option PodObs → Option Piece
 staying p None = Some p
 staying p (Some observed) = None

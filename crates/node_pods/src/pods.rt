@@ -36,8 +36,8 @@ impl Model for NodePods {
 }
 
 impl NodePods {
-    /// No pods, on a node with this greatest restart delay. Whether images and containers have a file
-    /// system of their own decides how pods are ranked. It takes no memory.
+    /// No pods, on a node with this maximum restart delay. Whether images have a file system of their own
+    /// decides how pods are ranked. It takes no memory.
     pub fn new(
         alloc: Global,
         max_restart_delay: MaxRestartDelay,
@@ -73,9 +73,9 @@ impl NodePods {
         Ok(())
     }
 
-    /// Whether the tick says of each pod what it shows, at its own moment, or that it is not present; the moment is
-    /// later than that of each pod's last tick, and each may be handed what is shown of it: the moment is below 2^40,
-    /// and each container's listing may come after its earlier ones. It takes no memory.
+    /// Whether the tick may come next: it says of each pod what it shows of it, at the tick's moment, or that the pod
+    /// is not present; its moment is later than that of each pod's last tick, and before `END_OF_TIME` where a pod is
+    /// present; and each container's listing may come after its earlier ones. It takes no memory.
     pub fn fits(&self, tick: &TickObs) -> bool
         ensures { IsTrue result ↔ Fits self.now tick.now }
     {

@@ -12,6 +12,7 @@ use mathlib.Core.Option.{some, some-injective, some-ne-none}
 use lib.ListN.{get_elem?}
 use lib.Seq.{take-append_seam, drop-append_seam}
 use Rattle.histories.proofs.Lists.{map_more}
+use Rattle.piece_deques.specs.Rule.{all_parts}
 
 pub ones : {X : Type 0} (xs : List X) → sum_by (λ _. 1) xs ≡ length xs
 ones [] = refl
@@ -99,26 +100,26 @@ module _ {X : Type 0} where
   place_within (y ∷ ys) zero x e = omega arith
   place_within (y ∷ ys) (suc i) x e = let rest = place_within ys i x e in omega arith
 
-  -- numbers that are at most 65 and come to 65 each are 65
-  most_sum : (f : X → ℕ) (xs : List X) → ((x : X) → f x ≤ 65) → sum_by f xs ≤ length xs * 65
+  -- numbers of parts that are at most all of them, and come to all of them each, are all of them
+  most_sum : (f : X → ℕ) (xs : List X) → ((x : X) → f x ≤ all_parts) → sum_by f xs ≤ length xs * all_parts
   most_sum f [] most = omega arith
   most_sum f (x ∷ xs) most =
       let rest = most_sum f xs most in let mine = most x in omega (arith, sum_by-cons f x xs)
 
-  pub all_full : (f : X → ℕ) (xs : List X) → ((x : X) → f x ≤ 65) → sum_by f xs ≡ length xs * 65
-      → All (λ x. f x ≡ 65) xs
+  pub all_full : (f : X → ℕ) (xs : List X) → ((x : X) → f x ≤ all_parts) → sum_by f xs ≡ length xs * all_parts
+      → All (λ x. f x ≡ all_parts) xs
   all_full f [] most sum k d in' = absurd (omega arith)
   all_full f (x ∷ xs) most sum zero d in' =
       let rest = most_sum f xs most in let mine = most x in omega (arith, sum_by-cons f x xs)
   all_full f (x ∷ xs) most sum (suc k) d in' =
       let few = most_sum f xs most in
       let mine = most x in
-      let rest : sum_by f xs ≡ length xs * 65 = omega (arith, sum_by-cons f x xs) in
+      let rest : sum_by f xs ≡ length xs * all_parts = omega (arith, sum_by-cons f x xs) in
       all_full f xs most rest k d (omega arith)
 
-  -- numbers that come to 65 with n each
-  pub all_less : (f : X → ℕ) (n : ℕ) (xs : List X) → All (λ x. f x + n ≡ 65) xs
-      → sum_by f xs + length xs * n ≡ length xs * 65
+  -- numbers of parts that come to all of them with n each
+  pub all_less : (f : X → ℕ) (n : ℕ) (xs : List X) → All (λ x. f x + n ≡ all_parts) xs
+      → sum_by f xs + length xs * n ≡ length xs * all_parts
   all_less f n [] each = omega arith
   all_less f n (x ∷ xs) each =
       let rest = all_less f n xs (λ k d in'. each (suc k) d (omega arith)) in

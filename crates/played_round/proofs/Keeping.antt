@@ -291,9 +291,9 @@ hand_read workers w read within stands =
     ap (λ (worker : WorkerState). worker.hand) (sym (stands ∙ get_or_default workers w read idle within))
 
 -- this many pieces wait in a deque that was read in place
-pub waiting_read : (workers : List WorkerState) (w : ℕ) (read : WorkerState) → w < length workers
+pub deque_len_read : (workers : List WorkerState) (w : ℕ) (read : WorkerState) → w < length workers
     → read ≡ get_or workers w read → length read.deque ≡ length (get_or workers w idle).deque
-waiting_read workers w read within stands =
+deque_len_read workers w read within stands =
     ap (λ (worker : WorkerState). length worker.deque) (stands ∙ get_or_default workers w read idle within)
 
 pub plays_after : (r : RoundState) (s named : Step) → s ≡ named → Stands r → updated_by r.pool named ≡ []

@@ -5,7 +5,7 @@ ghost use Rattle.observations.specs.Limits.{most_pods};
 ghost use Rattle.pod_piece.specs.Piece.{updated};
 ghost use Rattle.event_book.specs.declared.totals.Entry.{Entry};
 ghost use Rattle.event_book.specs.Totals.{plus, sums_of, AreEntriesOf};
-ghost use Rattle.event_book.specs.Shares.{most_parts, part};
+ghost use Rattle.event_book.specs.Shares.{most_parts};
 ghost use Rattle.event_book.specs.Limits.{most_workers, AreLow};
 ghost use Rattle.round_core.specs.Pool.{idle, after_drain, finished_lists};
 ghost use Rattle.round_core.specs.Places.{sum_of_shares};
@@ -40,7 +40,7 @@ fn idle_workers<U: Ledger, E: Ledger, O: Ledger>(
     requires { count < share.old.parts }
     ensures workers { IfOk result (λ workers. workers.items ≡ replicate count idle) }
     ensures parts { OnOk result (share.new.parts + count ≡ share.old.parts) }
-    ensures numbers { OnOk result (share.new.numbers ≡ share.old.numbers) }
+    ensures totals { OnOk result (share.new.totals ≡ share.old.totals) }
 {
     let mut workers = Vec::new(alloc);
     for _count in 0..count {
@@ -90,7 +90,7 @@ fn gather<U: Ledger, E: Ledger, O: Ledger>(
     ensures finished { IfOk result (λ lists.
         map (λ list. list.items) lists.items ≡ map (λ worker. worker.finished) workers.items) }
     ensures parts { OnOk result (share.new.parts ≡ share.old.parts + length workers.items) }
-    ensures numbers { OnOk result (share.new.numbers ≡ plus share.old.numbers (sum_of_shares workers.items)) }
+    ensures totals { OnOk result (share.new.totals ≡ plus share.old.totals (sum_of_shares workers.items)) }
 {
     let mut finished = Vec::new(alloc);
     for worker in workers {
@@ -110,7 +110,7 @@ fn close<U: Ledger, E: Ledger, O: Ledger>(
     requires parts { share.parts + length round.pool.workers ≡ most_parts }
     requires level { (U.parts ≡ most_parts) × (E.parts ≡ most_parts) × (O.parts ≡ most_parts) }
     ensures pieces { IfOk result (λ played. played.pieces.items ≡ round.table.pieces) }
-    ensures book { IfOk result (λ played. played.book ≡ plus share.numbers (sum_of_shares round.pool.workers)) }
+    ensures book { IfOk result (λ played. played.book ≡ plus share.totals (sum_of_shares round.pool.workers)) }
     ensures finished { IfOk result (λ played.
         map (λ list. list.items) played.finished.items ≡ finished_lists round.pool) }
 {

@@ -1,6 +1,6 @@
 //! A round whose steps are taken one by one.
 
-ghost use Rattle.std.specs.Prelude.{◌≡◌, ◌<◌, ◌∷◌, [], length, OnOk, IfOk};
+ghost use Rattle.std.specs.Prelude.{◌≡◌, ◌<◌, ◌∷◌, [], length, OnOk};
 ghost use Rattle.round_core.specs.Pool.{give, pop, steal, update, enter, worker_at, finishing_steps, drain_steps};
 ghost use Rattle.round_steps.specs.declared.step.Step.TheVariants.{Pop, Update, Enter};
 ghost use Rattle.played_round.specs.Round.{with_pool};
@@ -132,10 +132,10 @@ impl<U: Ledger, E: Ledger, O: Ledger> Round<U, E, O> {
         requires in_range { w < length self.old.pool.workers }
         ensures { OnOk result (Plays self.old (finishing_steps w (worker_at self.old.pool w).deque) self.new) }
     {
-        let waiting = self.workers[w].waiting();
+        let pieces = self.workers[w].deque_len();
         self.step(Step::Update(w))?;
         self.step(Step::Enter(w))?;
-        for _turn in 0..waiting {
+        for _turn in 0..pieces {
             self.turn(w)?;
         }
         Ok(())

@@ -1,8 +1,8 @@
 //! A worker of a played round.
 
-ghost use Rattle.std.specs.Prelude.{◌≡◌, ◌∷◌, [], length, OnOk, IfOk, MatchOption};
+ghost use Rattle.std.specs.Prelude.{◌≡◌, ◌∷◌, [], length, OnOk, MatchOption};
 ghost use Rattle.event_book.specs.Totals.{plus, nothing};
-ghost use Rattle.event_book.specs.Shares.{part, one_update, AreWithin};
+ghost use Rattle.event_book.specs.Shares.{share_with, one_update, AreWithin};
 ghost use Rattle.round_core.specs.Pool.{idle, with_piece, with_deque, holding, popped, is_empty, with_hand, marked};
 ghost use Rattle.round_core.specs.Pool.{finished_with};
 
@@ -12,23 +12,6 @@ use std::alloc::{AllocError, Global};
 use std::collections::VecDeque;
 use std::marker::Model;
 use std::sync::ledger::Ledger;
-
-/// Enters one update with this entry, which the totals have room for.
-fn book<U: Ledger, E: Ledger, O: Ledger>(
-    book: &mut EventBook<U, E, O>,
-    share: &mut Shares<U, E, O>,
-    entry: Entry,
-)
-    requires part { share.old.parts ≡ 1 }
-    requires room { AreWithin (plus book.old (one_update entry)) }
-    ensures book { book.new ≡ plus book.old (one_update entry) }
-    ensures share { share.new ≡ part share.old.parts (plus share.old.numbers (one_update entry)) }
-{
-    match book.enter(entry, share) {
-        Ok(()) => {}
-        Err(_) => unreachable!(),
-    }
-}
 
 /// A worker: the numbers of the pieces in its deque, its hand, the numbers of those that it has finished, and its share
 /// of the book, which is one part.
@@ -50,7 +33,7 @@ impl<U: Ledger, E: Ledger, O: Ledger> Model for Worker<U, E, O> {
       deque = worker.deque.items;
       hand = worker.hand;
       finished = worker.finished.items;
-      share = worker.share.numbers;
+      share = worker.share.totals;
     } };
 
     ghost invariant = { λ worker. worker.share.parts ≡ 1 };
@@ -59,7 +42,7 @@ impl<U: Ledger, E: Ledger, O: Ledger> Model for Worker<U, E, O> {
 impl<U: Ledger, E: Ledger, O: Ledger> Worker<U, E, O> {
     /// A worker with nothing to do and nothing done.
     pub(crate) fn idle(alloc: Global, share: Shares<U, E, O>) -> Self
-        requires { share ≡ part 1 nothing }
+        requires { share ≡ share_with 1 nothing }
         ensures { result ≡ idle }
     {
         Worker {
@@ -78,7 +61,7 @@ impl<U: Ledger, E: Ledger, O: Ledger> Worker<U, E, O> {
     }
 
     /// How many pieces stand in the worker's deque.
-    pub(crate) fn waiting(&self) -> usize
+    pub(crate) fn deque_len(&self) -> usize
         ensures { result ≡ length self.now.deque }
     {
         self.deque.len()
@@ -140,14 +123,14 @@ impl<U: Ledger, E: Ledger, O: Ledger> Worker<U, E, O> {
     {
         self.finished.push(number)?;
         self.hand = Hand::Empty;
-        book(events, &mut self.share, entry);
+        events.enter_within(entry, &mut self.share);
         Ok(())
     }
 
     /// What the worker has finished, and its share.
     pub(crate) fn into_parts(self) -> (Vec<usize>, Shares<U, E, O>)
         ensures finished { result.0.items ≡ self.finished }
-        ensures share { result.1 ≡ part 1 self.share }
+        ensures share { result.1 ≡ share_with 1 self.share }
     {
         (self.finished, self.share)
     }

@@ -12,13 +12,13 @@ use Rattle.pod_piece.specs.Piece.{Piece, updated}
 use Rattle.event_book.specs.declared.totals.Entry.{Entry}
 use Rattle.event_book.specs.declared.totals.Totals.{Totals}
 use Rattle.event_book.specs.Totals.{IsEntryOf, AreEntriesOf, plus, sums_of}
-use Rattle.event_book.specs.Shares.{Part, part, greatest_total}
+use Rattle.event_book.specs.Shares.{ShareState, share_with, greatest_total}
 use Rattle.event_book.specs.Limits.{most_events}
 use Rattle.event_book.proofs.Numbers.{totals_same}
 use Rattle.piece_deques.proofs.Lists.{sum_map}
 use Rattle.piece_deques.specs.Rule.{AreNumbered}
-use Rattle.pool_worker.specs.Done.{HaveEntries, AreSumsOf}
-use Rattle.pool_worker.proofs.Sums.{sums_permuted}
+use Rattle.pod_pool.specs.Done.{HaveEntries, AreSumsOf}
+use Rattle.pod_pool.proofs.Sums.{sums_permuted}
 use Rattle.pod_pool.specs.Order.{AreAdded}
 
 pub no_entries : (pieces : List Piece) → pieces ≡ [] → AreEntriesOf pieces []
@@ -99,14 +99,14 @@ numbered_map (x ∷ xs) at numbered zero p e =
 numbered_map (x ∷ xs) at numbered (suc n) p e =
     numbered_map xs (λ k. at (suc k)) (λ k q there. numbered (suc k) q there) n p e
 
-share_same : (share : Part) (parts : ℕ) (numbers : Totals) → share.parts ≡ parts → share.numbers ≡ numbers
-    → share ≡ part parts numbers
-share_same share parts numbers same_parts same_numbers = λ k. part (same_parts k) (same_numbers k)
+share_same : (share : ShareState) (parts : ℕ) (totals : Totals) → share.parts ≡ parts → share.totals ≡ totals
+    → share ≡ share_with parts totals
+share_same share parts totals same_parts same_totals = λ k. share_with (same_parts k) (same_totals k)
 
 -- the share with which the pieces were entered that are in order now
-pub settled : (all done pieces : List Piece) (es : List Entry) (base : Totals) (share : Part) (parts : ℕ)
+pub settled : (all done pieces : List Piece) (es : List Entry) (base : Totals) (share : ShareState) (parts : ℕ)
     → AreNumbered all → pieces ≡ map updated all → IsPermutation done pieces → AreEntriesOf pieces es
-    → AreAdded done base share.numbers → share.parts ≡ parts → share ≡ part parts (plus base (sums_of es))
+    → AreAdded done base share.totals → share.parts ≡ parts → share ≡ share_with parts (plus base (sums_of es))
 settled all done pieces es base share parts numbered are_updated perm are added whole =
     let in_place : AreNumbered pieces = subst AreNumbered (sym are_updated) (numbered_map all (λ n. n) numbered) in
     let sums =

@@ -8,31 +8,32 @@ use lib.ListN.{get_elem?}
 use Rattle.crossbeam_deque.specs.Handles.{worker_view}
 use Rattle.crossbeam_deque.proofs.Lists.{at_last, at_longer, at_map}
 use Rattle.piece_deques.proofs.Lists.{ones, place_within}
-use Rattle.pool_worker.specs.declared.handle.StealHandle.{StealHandle}
-use Rattle.pool_worker.specs.WorkerResults.{HasRoomForOne}
-use Rattle.pool_worker.specs.Permits.{Place, permit_place, places_len, places_weigh}
+use Rattle.pod_pool.specs.declared.handle.StealHandle.{StealHandle}
+use Rattle.pod_pool.specs.WorkerResults.{HasRoomForOne}
+use Rattle.pod_pool.specs.Permits.{FilledDeque, permit_deque, pushed_count, pushed_sum}
 use Rattle.pod_pool.specs.declared.finished_worker.FinishedWorker.{FinishedWorker}
-use Rattle.pod_pool.specs.FinishedWorkers.{StandAt, finished_place, finished_pushed, finished_taken}
+use Rattle.pod_pool.specs.FinishedWorkers.{StandAt, finished_deque, finished_pushed, finished_taken}
 
-pub places_ones : (places : List Place) → places_len places ≡ places_weigh (λ _. 1) places
-places_ones [] = refl
-places_ones (p ∷ ps) =
-    let ended = places_ones ps in
+pub filled_ones : (filled : List FilledDeque) → pushed_count filled ≡ pushed_sum (λ _. 1) filled
+filled_ones [] = refl
+filled_ones (p ∷ ps) =
+    let ended = filled_ones ps in
     let o = ones p.pushed in
-    let a = sum_by-cons (λ (p : Place). length p.pushed) p ps in
-    let b = sum_by-cons (λ (p : Place). sum_by (λ _. 1) p.pushed) p ps in
+    let a = sum_by-cons (λ (p : FilledDeque). length p.pushed) p ps in
+    let b = sum_by-cons (λ (p : FilledDeque). sum_by (λ _. 1) p.pushed) p ps in
     omega arith
 
 module _ {D : Type 0} where
-  pub stands : (row : List (StealHandle D)) (places : List Place) → map permit_place row ≡ places → StandAt row places
-  stands row places e k r at =
-      subst (λ (l : List Place). get_elem? l k ≡ some (permit_place r)) e (at_map permit_place row k r at)
+  pub stands : (row : List (StealHandle D)) (filled : List FilledDeque) → map permit_deque row ≡ filled
+      → StandAt row filled
+  stands row filled e k r at =
+      subst (λ (l : List FilledDeque). get_elem? l k ≡ some (permit_deque r)) e (at_map permit_deque row k r at)
 
-  pub others_stand : (row ended : List (StealHandle D)) (r : StealHandle D) (places now : List Place)
+  pub others_stand : (row ended : List (StealHandle D)) (r : StealHandle D) (filled now : List FilledDeque)
       → row ≡ ended ++ r ∷ []
-      → now ≡ places → StandAt row places → StandAt ended now
-  others_stand row ended r places now e same stand k s at =
-      subst (λ (l : List Place). get_elem? l k ≡ some (permit_place s)) (sym same)
+      → now ≡ filled → StandAt row filled → StandAt ended now
+  others_stand row ended r filled now e same stand k s at =
+      subst (λ (l : List FilledDeque). get_elem? l k ≡ some (permit_deque s)) (sym same)
       (stand k s
       (subst (λ (l : List (StealHandle D)). get_elem? l k ≡ some s) (sym e) (at_longer ended (r ∷ []) k s at)))
 
@@ -50,15 +51,15 @@ module _ {D U E O : Type 0} {g : _} where
 
   -- the last permit of a row stands at the place of a worker, the last one
   pub last_place : (row left : List (StealHandle D)) (r : StealHandle D) (finished : List (FinishedWorker D U E O g))
-      (n : ℕ) → row ≡ left ++ r ∷ [] → length left ≡ n → StandAt row (map finished_place finished)
-      → (n < length finished) × (get_elem? (map finished_place finished) n ≡ some (permit_place r))
+      (n : ℕ) → row ≡ left ++ r ∷ [] → length left ≡ n → StandAt row (map finished_deque finished)
+      → (n < length finished) × (get_elem? (map finished_deque finished) n ≡ some (permit_deque r))
   last_place row left r finished n e len stand =
       let there =
       stand n r (subst (λ (l : List (StealHandle D)). get_elem? l n ≡ some r) (sym e) (at_last left r n len)) in (
         omega (
           arith,
-          place_within (map finished_place finished) n _ there,
-          length-map finished finished_place,
+          place_within (map finished_deque finished) n _ there,
+          length-map finished finished_deque,
         ),
         there,
       )

@@ -1,3 +1,10 @@
+pub mod Sums
+pub mod Numbers
+pub mod InOrder
+pub mod Room
+pub mod Laid
+pub mod FilledDeques
+pub mod Dealing
 pub mod FinishedWorkers
 pub mod Entries
 pub mod Due

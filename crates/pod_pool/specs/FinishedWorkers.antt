@@ -5,23 +5,23 @@ use mathlib.Core.Option.{some}
 use lib.ListN.{get_elem?}
 use Rattle.crossbeam_deque.specs.Handles.{worker_view}
 use Rattle.piece_deques.specs.Rule.{all_parts}
-use Rattle.pool_worker.specs.declared.handle.StealHandle.{StealHandle}
-use Rattle.pool_worker.specs.WorkerResults.{kept}
-use Rattle.pool_worker.specs.Permits.{Place, permit_place, owner_place}
+use Rattle.pod_pool.specs.declared.handle.StealHandle.{StealHandle}
+use Rattle.pod_pool.specs.WorkerResults.{kept}
+use Rattle.pod_pool.specs.Permits.{FilledDeque, permit_deque, owner_deque}
 use Rattle.pod_pool.specs.declared.finished_worker.FinishedWorker.{FinishedWorker}
 
 -- the permits of a worker are one of each place, in their order
-abbrev pub IsRow : {D A : Type 0} → List Place → Vec (StealHandle D) A → Type 0
-IsRow places row = map permit_place row.items ≡ places
+abbrev pub IsRow : {D A : Type 0} → List FilledDeque → Vec (StealHandle D) A → Type 0
+IsRow filled row = map permit_deque row.items ≡ filled
 
 -- each permit is one of the deque that stands at its place in the list
-abbrev pub StandAt : {D : Type 0} → List (StealHandle D) → List Place → Type 0
-StandAt {D} row places =
-    (k : ℕ) (handle : StealHandle D) → get_elem? row k ≡ some handle → get_elem? places k ≡ some (permit_place handle)
+abbrev pub StandAt : {D : Type 0} → List (StealHandle D) → List FilledDeque → Type 0
+StandAt {D} row filled =
+    (k : ℕ) (handle : StealHandle D) → get_elem? row k ≡ some handle → get_elem? filled k ≡ some (permit_deque handle)
 
 module _ {D U E O : Type 0} {g : _} where
-  abbrev pub finished_place : FinishedWorker D U E O g → Place
-  finished_place ended = owner_place ended.owner
+  abbrev pub finished_deque : FinishedWorker D U E O g → FilledDeque
+  finished_deque ended = owner_deque ended.owner
 
   abbrev pub finished_parts : FinishedWorker D U E O g → ℕ
   finished_parts ended = (worker_view ended.owner).parts

@@ -4,8 +4,8 @@ use Rattle.pod_piece.specs.Piece.{Piece, updated}
 use Rattle.event_book.specs.declared.totals.Entry.{Entry}
 use Rattle.event_book.specs.declared.totals.Totals.{Totals}
 use Rattle.event_book.specs.Totals.{AreEntriesOf, plus, sums_of}
-use Rattle.event_book.specs.Shares.{Part, most_parts, part}
-use Rattle.pool_worker.specs.Done.{AreSumsOf}
+use Rattle.event_book.specs.Shares.{ShareState, most_parts, share_with}
+use Rattle.pod_pool.specs.Done.{AreSumsOf}
 
 -- the entries of these pieces were added
 pub record AreAdded (pieces : List Piece) (old new : Totals) : Type 0 where
@@ -13,12 +13,13 @@ pub record AreAdded (pieces : List Piece) (old new : Totals) : Type 0 where
   pub are_sums : AreSumsOf pieces added
   pub is : new ≡ plus old added
 
--- the share is a whole one, with the numbers of this one and the entries of these pieces
-abbrev pub HasEntered : List Piece → Part → Part → Type 0
+-- the share is a whole one, with the totals of this one and the entries of these pieces
+abbrev pub HasEntered : List Piece → ShareState → ShareState → Type 0
 HasEntered pieces old new =
-    (entries : List Entry) × AreEntriesOf pieces entries × (new ≡ part most_parts (plus old.numbers (sums_of entries)))
+    (entries : List Entry) × AreEntriesOf pieces entries
+    × (new ≡ share_with most_parts (plus old.totals (sums_of entries)))
 
 -- the pieces of a round are back, updated and in their order, and the share has their entries
-pub record IsRoundDone (all : List Piece) (old : Part) (pieces : List Piece) (new : Part) : Type 0 where
+pub record IsRoundDone (all : List Piece) (old : ShareState) (pieces : List Piece) (new : ShareState) : Type 0 where
   pub are_updated : pieces ≡ map updated all
   pub entered : HasEntered pieces old new

@@ -2,12 +2,12 @@
 
 ghost use Rattle.std.specs.Prelude.{◌≡◌, ◌+◌, ◌*◌, ℕ, All, length, map, vec_len};
 ghost use Rattle.std.specs.List.{sum_by};
-ghost use Rattle.pool_worker.specs.Permits.{taken_by};
-ghost use Rattle.pod_pool.specs.FinishedWorkers.{finished_place, finished_parts, finished_taken, IsRow, StandAt};
+ghost use Rattle.pod_pool.specs.Permits.{taken_by};
+ghost use Rattle.pod_pool.specs.FinishedWorkers.{finished_deque, finished_parts, finished_taken, IsRow, StandAt};
 
 use crate::finished_worker::FinishedWorker;
+use crate::handle::StealHandle;
 use piece_deques::Deal;
-use pool_worker::StealHandle;
 use std::sync::ledger::Ledger;
 
 /// Takes the permits of one row back.
@@ -15,8 +15,8 @@ fn absorb<D: Deal, U: Ledger, E: Ledger, O: Ledger>(
     finished: &mut Vec<FinishedWorker<D, U, E, O>>,
     row: Vec<StealHandle<D>>,
 )
-    requires { StandAt row.items (map finished_place finished.old.items) }
-    ensures places { map finished_place finished.new.items ≡ map finished_place finished.old.items }
+    requires { StandAt row.items (map finished_deque finished.old.items) }
+    ensures filled { map finished_deque finished.new.items ≡ map finished_deque finished.old.items }
     ensures worker_results { map (λ r. r.worker_result) finished.new.items
         ≡ map (λ r. r.worker_result) finished.old.items }
     ensures parts { sum_by finished_parts finished.new.items
@@ -36,8 +36,8 @@ pub(crate) fn absorb_all<D: Deal, U: Ledger, E: Ledger, O: Ledger>(
     finished: &mut Vec<FinishedWorker<D, U, E, O>>,
     rows: Vec<Vec<StealHandle<D>>>,
 )
-    requires { All (IsRow (map finished_place finished.old.items)) rows.items }
-    ensures places { map finished_place finished.new.items ≡ map finished_place finished.old.items }
+    requires { All (IsRow (map finished_deque finished.old.items)) rows.items }
+    ensures filled { map finished_deque finished.new.items ≡ map finished_deque finished.old.items }
     ensures worker_results { map (λ r. r.worker_result) finished.new.items
         ≡ map (λ r. r.worker_result) finished.old.items }
     ensures parts { sum_by finished_parts finished.new.items

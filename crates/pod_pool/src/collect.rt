@@ -3,15 +3,16 @@
 ghost use Rattle.std.specs.Prelude.{◌≡◌, ◌<◌, ◌≤◌, ◌+◌, ℕ, None, All, IfOk, IfErr, length, vec_len, vec_capacity};
 ghost use Rattle.std.specs.List.{sum_by};
 ghost use Rattle.piece_deques.specs.Rule.{IsPieceDue};
-ghost use Rattle.pool_worker.specs.Done.{weigh};
-ghost use Rattle.pool_worker.specs.WorkerResults.{kept};
+ghost use Rattle.pod_pool.specs.Done.{weigh};
+ghost use Rattle.pod_pool.specs.WorkerResults.{kept};
 ghost use Rattle.pod_pool.specs.FinishedWorkers.{finished_kept, finished_pushed, finished_taken, IsAway};
 
 use crate::finished_worker::FinishedWorker;
+use crate::gate::Gate;
+use crate::worker_result::WorkerResult;
 use event_book::EventBook;
 use piece_deques::Deal;
 use pod_piece::PodPiece;
-use pool_worker::{Gate, WorkerResult};
 use std::sync::ledger::Ledger;
 use std::sync::{Mutex, Wait};
 

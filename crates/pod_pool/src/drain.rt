@@ -4,13 +4,15 @@ ghost use Rattle.std.specs.Prelude.{◌≡◌, ◌+◌, ◌++◌, ℕ, None, IfO
 ghost use Rattle.std.specs.List.{sum_by};
 ghost use Rattle.crossbeam_deque.specs.Handles.{view, worker_deque, worker_view, stealer_deque};
 ghost use Rattle.piece_deques.specs.Rule.{all_parts, IsPieceDue};
-ghost use Rattle.pool_worker.specs.WorkerResults.{kept};
+ghost use Rattle.pod_pool.specs.WorkerResults.{kept};
 
 use crate::finished_worker::FinishedWorker;
+use crate::gate::Gate;
+use crate::handle::StealHandle;
+use crate::worker_result::WorkerResult;
 use event_book::EventBook;
 use piece_deques::{Deal, pop, return_permit};
 use pod_piece::PodPiece;
-use pool_worker::{Gate, StealHandle, WorkerResult};
 use std::sync::ledger::Ledger;
 use std::sync::{Mutex, Wait};
 

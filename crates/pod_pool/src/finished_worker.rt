@@ -4,10 +4,10 @@ ghost use Rattle.std.specs.Prelude.{◌≡◌, ◌≤◌, ◌+◌, length, vec_c
 ghost use Rattle.crossbeam_deque.specs.Handles.{worker_view};
 ghost use Rattle.piece_deques.specs.Rule.{all_parts};
 ghost use Rattle.piece_deques.specs.Ends.{IsOwner};
-ghost use Rattle.pool_worker.specs.WorkerResults.{kept};
+ghost use Rattle.pod_pool.specs.WorkerResults.{kept};
 
+use crate::worker_result::WorkerResult;
 use piece_deques::{Deal, Owner};
-use pool_worker::WorkerResult;
 use std::sync::ledger::Ledger;
 
 /// The owner's end of a deque, and what its worker keeps.

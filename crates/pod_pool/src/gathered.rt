@@ -5,26 +5,28 @@ ghost use Rattle.observations.specs.Limits.{most_pods};
 ghost use Rattle.event_book.specs.Shares.{most_parts};
 ghost use Rattle.event_book.specs.Limits.{AreLow};
 ghost use Rattle.piece_deques.specs.Rule.{IsPieceDue, AreNumbered};
-ghost use Rattle.pool_worker.specs.Contexts.{context_tag, AreLaid};
+ghost use Rattle.pod_pool.specs.Contexts.{context_tag, AreLaid};
 ghost use Rattle.pod_pool.specs.Order.{IsRoundDone};
 ghost use Rattle.pod_pool.specs.Rooms.{HasRoom};
 
 use crate::absorb::absorb_all;
 use crate::collect::collect;
+use crate::context::WorkerContext;
 use crate::finished_worker::FinishedWorker;
-use crate::part::part_all;
+use crate::gate::Gate;
+use crate::handle::StealHandle;
 use crate::settle::settle;
+use crate::take_apart::take_all_apart;
 use event_book::{EventBook, Shares};
 use piece_deques::Deal;
 use pod_piece::PodPiece;
-use pool_worker::{Gate, StealHandle, WorkerContext};
 use std::alloc::{AllocError, Global};
 use std::sync::ledger::Ledger;
 use std::sync::{Mutex, Wait};
 
 /// The memory that gathering takes.
 #[derive(Drop)]
-pub struct ResultBuffers<D: Deal, U: Ledger, E: Ledger, O: Ledger> {
+pub(crate) struct ResultBuffers<D: Deal, U: Ledger, E: Ledger, O: Ledger> {
     finished: Vec<FinishedWorker<D, U, E, O>>,
     rows: Vec<Vec<StealHandle<D>>>,
 }
@@ -43,7 +45,7 @@ impl<D: Deal, U: Ledger, E: Ledger, O: Ledger> ResultBuffers<D, U, E, O> {
 /// Takes the contexts of workers that have ended apart, finishes what is left in their deques, and gives the pieces of
 /// the round in order, each updated once, with the whole share, with which each was entered. An `Err` is a piece whose
 /// update was refused, as it was dealt.
-pub fn gather<D: Deal, U: Ledger, E: Ledger, O: Ledger, R: Wait, G: Gate>(
+pub(crate) fn gather<D: Deal, U: Ledger, E: Ledger, O: Ledger, R: Wait, G: Gate>(
     rt: &R,
     book: &Mutex<EventBook<U, E, O>>,
     gate: &G,
@@ -58,14 +60,14 @@ pub fn gather<D: Deal, U: Ledger, E: Ledger, O: Ledger, R: Wait, G: Gate>(
     requires room { HasRoom (vec_len contexts) room }
     requires parts { share.parts + vec_len contexts ≡ most_parts }
     requires level { (U.parts ≡ most_parts) × (E.parts ≡ most_parts) × (O.parts ≡ most_parts) }
-    requires low { AreLow share.numbers }
+    requires low { AreLow share.totals }
     ensures done { IfOk result (λ r. IsRoundDone D.all share r.0.items r.1) }
     ensures due { IfErr result (IsPieceDue D.all) }
 {
     let ResultBuffers { finished, rows } = room;
     let mut finished = finished;
     let mut rows = rows;
-    match part_all(contexts, &mut finished, &mut rows) {
+    match take_all_apart(contexts, &mut finished, &mut rows) {
         Ok(()) => absorb_all(&mut finished, rows),
         Err(piece) => {
             drop((finished, rows, share));

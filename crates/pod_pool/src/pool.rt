@@ -9,14 +9,16 @@ ghost use Rattle.piece_deques.specs.Rule.{AreNumbered};
 ghost use Rattle.pod_pool.specs.Faults.{GivesBack};
 ghost use Rattle.pod_pool.specs.Order.{HasEntered};
 
+use crate::buffers::make_buffers;
+use crate::contexts::lay_out;
 use crate::fault::PoolFault;
+use crate::gate::Gate;
 use crate::gathered::{ResultBuffers, gather};
 use crate::run::run;
-use crate::runtime::Runtime;
+use crate::runtime::ThreadRuntime;
 use event_book::{EventBook, Shares};
 use piece_deques::Deal;
 use pod_piece::PodPiece;
-use pool_worker::{Gate, lay_out, make_buffers};
 use std::alloc::Global;
 use std::marker::Brand;
 use std::sync::Mutex;
@@ -32,7 +34,15 @@ fn busy(workers: usize, pieces: usize) -> usize
     workers.min(pieces.max(1))
 }
 
-fn pool<D: Deal + Send, U: Ledger + Send, E: Ledger + Send, O: Ledger + Send, R: Runtime, G: Gate>(
+/// [`update_all`] with a deal of these pieces, where each of the workers has something to do.
+fn pool<
+    D: Deal + Send,
+    U: Ledger + Send,
+    E: Ledger + Send,
+    O: Ledger + Send,
+    R: ThreadRuntime,
+    G: Gate,
+>(
     rt: &R,
     alloc: Global,
     pieces: Vec<PodPiece>,
@@ -49,7 +59,7 @@ fn pool<D: Deal + Send, U: Ledger + Send, E: Ledger + Send, O: Ledger + Send, R:
     requires most { workers ≤ most_workers }
     requires whole { share.parts ≡ most_parts }
     requires level { (U.parts ≡ most_parts) × (E.parts ≡ most_parts) × (O.parts ≡ most_parts) }
-    requires low { AreLow share.numbers }
+    requires low { AreLow share.totals }
     ensures pieces { IfOk result (λ r. r.0.items ≡ map updated pieces.items) }
     ensures share { IfOk result (λ r. HasEntered r.0.items share r.1) }
     ensures fault { IfErr result (GivesBack pieces share) }
@@ -73,7 +83,7 @@ fn pool<D: Deal + Send, U: Ledger + Send, E: Ledger + Send, O: Ledger + Send, R:
 /// workers, 1 to 64, do it in threads of their own, no more than there are pieces, and take what is left in the deques
 /// of others once their own are empty. It gives the pieces in the order of their numbers, whatever the threads do, and
 /// the share. An `Err` says that memory was refused.
-pub fn update_all<U: Ledger + Send, E: Ledger + Send, O: Ledger + Send, R: Runtime, G: Gate>(
+pub fn update_all<U: Ledger + Send, E: Ledger + Send, O: Ledger + Send, R: ThreadRuntime, G: Gate>(
     rt: &R,
     alloc: Global,
     pieces: Vec<PodPiece>,
@@ -89,7 +99,7 @@ pub fn update_all<U: Ledger + Send, E: Ledger + Send, O: Ledger + Send, R: Runti
     requires most { workers ≤ most_workers }
     requires whole { share.parts ≡ most_parts }
     requires level { (U.parts ≡ most_parts) × (E.parts ≡ most_parts) × (O.parts ≡ most_parts) }
-    requires low { AreLow share.numbers }
+    requires low { AreLow share.totals }
     ensures pieces { IfOk result (λ r. r.0.items ≡ map updated pieces.items) }
     ensures share { IfOk result (λ r. HasEntered r.0.items share r.1) }
     ensures fault { IfErr result (GivesBack pieces share) }

@@ -1,12 +1,13 @@
 //! The workers' threads.
 
 ghost use Rattle.std.specs.Prelude.{◌≡◌, ◌<◌, None, All, length, map};
-ghost use Rattle.pool_worker.specs.Contexts.{context_tag, HasEmptied};
+ghost use Rattle.pod_pool.specs.Contexts.{context_tag, HasEmptied};
 
-use crate::runtime::Runtime;
+use crate::context::WorkerContext;
+use crate::gate::Gate;
+use crate::runtime::ThreadRuntime;
 use event_book::EventBook;
 use piece_deques::Deal;
-use pool_worker::{Gate, WorkerContext};
 use std::sync::Mutex;
 use std::sync::ledger::Ledger;
 use std::thread;
@@ -19,7 +20,7 @@ pub(crate) fn run<
     U: Ledger + Send,
     E: Ledger + Send,
     O: Ledger + Send,
-    R: Runtime,
+    R: ThreadRuntime,
     G: Gate,
 >(rt: &R, book: &Mutex<EventBook<U, E, O>>, gate: &G, contexts: &mut [WorkerContext<D, U, E, O>])
     requires { 0 < length contexts.old }

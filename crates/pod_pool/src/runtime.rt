@@ -4,6 +4,6 @@ use std::sync::Wait;
 use std::thread::Threads;
 
 /// Starts threads that may wait, and is shared by them.
-pub trait Runtime: Threads + Wait + Sync {}
+pub trait ThreadRuntime: Threads + Wait + Sync {}
 
-impl<R: Threads + Wait + Sync> Runtime for R {}
+impl<R: Threads + Wait + Sync> ThreadRuntime for R {}

@@ -7,14 +7,15 @@ ghost use Rattle.event_book.specs.Totals.{AreEntriesOf};
 ghost use Rattle.event_book.specs.Shares.{most_parts};
 ghost use Rattle.event_book.specs.Limits.{AreLow};
 ghost use Rattle.piece_deques.specs.Rule.{AreNumbered};
-ghost use Rattle.pool_worker.specs.Done.{weigh};
-ghost use Rattle.pool_worker.specs.WorkerResults.{kept};
+ghost use Rattle.pod_pool.specs.Done.{weigh};
+ghost use Rattle.pod_pool.specs.WorkerResults.{kept};
 ghost use Rattle.pod_pool.specs.Order.{IsRoundDone};
 
+use crate::order::in_order;
+use crate::worker_result::WorkerResult;
 use event_book::{Entry, EventBook, Shares};
 use piece_deques::Deal;
 use pod_piece::PodPiece;
-use pool_worker::{WorkerResult, in_order};
 use std::sync::ledger::Ledger;
 use std::sync::{Mutex, Wait};
 
@@ -41,7 +42,7 @@ pub(crate) fn settle<D: Deal, U: Ledger, E: Ledger, O: Ledger, R: Wait>(
     requires room { length D.all ≤ vec_capacity total.done }
     requires level { (U.parts ≡ most_parts) × (E.parts ≡ most_parts) × (O.parts ≡ most_parts) }
     requires whole { share.parts + total.share.parts ≡ most_parts }
-    requires low { AreLow share.numbers }
+    requires low { AreLow share.totals }
     ensures { IsRoundDone D.all share result.0.items result.1 }
 {
     let WorkerResult {

@@ -18,7 +18,7 @@ use Rattle.round_core.specs.Places.{held, held_updated, worker_weight, waiting}
 use Rattle.round_core.proofs.Sums.{sum_set_gain, sum_set_moved, steal_cases}
 
 -- what an update and an entry add to a worker's amount; a piece that changes hands takes its own amount along
-pub record Account (round : List Entry) (amount : WorkerState → ℕ) (carried : ℕ → ℕ)
+pub record Account (entries : List Entry) (amount : WorkerState → ℕ) (carried : ℕ → ℕ)
     (on_update on_enter : Hand → ℕ) : Type 0 where
   pub gives : (worker : WorkerState) (piece : ℕ) (pieces : List ℕ) → worker.deque ≡ piece ∷ pieces
       → amount (with_deque worker pieces) + carried piece ≡ amount worker
@@ -27,7 +27,7 @@ pub record Account (round : List Entry) (amount : WorkerState → ℕ) (carried 
   pub updates : (worker : WorkerState)
       → amount (with_hand worker (marked worker.hand)) ≡ amount worker + on_update worker.hand
   pub enters : (worker : WorkerState)
-      → amount (finishing round worker worker.hand) ≡ amount worker + on_enter worker.hand
+      → amount (finishing entries worker worker.hand) ≡ amount worker + on_enter worker.hand
   pub update_none : on_update Empty ≡ 0
   pub enter_none : on_enter Empty ≡ 0
 
@@ -44,8 +44,8 @@ no_hand : (amount : Hand → ℕ) → amount Empty ≡ 0 → (pool : PoolState) 
 no_hand amount none pool w past =
     ap (λ (worker : WorkerState). amount worker.hand) (get_or_past pool.workers w idle past) ∙ none
 
-module _ {round : List Entry} {amount : WorkerState → ℕ} {carried : ℕ → ℕ} {on_update on_enter : Hand → ℕ}
-    (account : Account round amount carried on_update on_enter) where
+module _ {entries : List Entry} {amount : WorkerState → ℕ} {carried : ℕ → ℕ} {on_update on_enter : Hand → ℕ}
+    (account : Account entries amount carried on_update on_enter) where
   popped_same : (worker : WorkerState) (deque : List ℕ) (hand : Hand) → worker.deque ≡ deque → worker.hand ≡ hand
       → amount (popped worker deque (is_empty hand)) ≡ amount worker
   popped_same worker [] hand stands holds = refl
@@ -78,7 +78,7 @@ module _ {round : List Entry} {amount : WorkerState → ℕ} {carried : ℕ → 
       (account.gets (worker_at pool w) piece free))
 
   pub step_gain : (pool : PoolState) (s : Step)
-      → sum_by amount (step round pool s).workers ≡ sum_by amount pool.workers + gain on_update on_enter pool s
+      → sum_by amount (step entries pool s).workers ≡ sum_by amount pool.workers + gain on_update on_enter pool s
   step_gain pool (Pop w) =
       let worker = worker_at pool w in
       sum_set_gain amount pool.workers w (popped worker worker.deque (is_empty worker.hand)) 0
@@ -90,17 +90,17 @@ module _ {round : List Entry} {amount : WorkerState → ℕ} {carried : ℕ → 
       (account.updates worker) (no_hand on_update account.update_none pool w)
   step_gain pool (Enter w) =
       let worker = worker_at pool w in
-      sum_set_gain amount pool.workers w (finishing round worker worker.hand) (on_enter worker.hand)
+      sum_set_gain amount pool.workers w (finishing entries worker worker.hand) (on_enter worker.hand)
       (account.enters worker) (no_hand on_enter account.enter_none pool w)
 
 -- Every piece keeps its weight, wherever it stands.
 
 -- what a worker has in its hand goes to its finished pieces, however a hand is counted that counts what is updated
 
-module _ (round : List Entry) (weight : ℕ → ℕ) (of_hand : Hand → ℕ) (none : of_hand Empty ≡ 0)
+module _ (entries : List Entry) (weight : ℕ → ℕ) (of_hand : Hand → ℕ) (none : of_hand Empty ≡ 0)
     (updated : (piece : ℕ) → of_hand (Updated piece) ≡ weight piece) where
   finishing_sum : (worker : WorkerState) (hand : Hand) → worker.hand ≡ hand
-      → of_hand (finishing round worker hand).hand + sum_by weight (finishing round worker hand).finished
+      → of_hand (finishing entries worker hand).hand + sum_by weight (finishing entries worker hand).finished
       ≡ of_hand worker.hand + sum_by weight worker.finished
   finishing_sum worker Empty holds = refl
   finishing_sum worker (Taken piece) holds = refl
@@ -110,17 +110,17 @@ module _ (round : List Entry) (weight : ℕ → ℕ) (of_hand : Hand → ℕ) (n
       let count = updated piece in
       omega (arith, none)
 
-finishing_deque : (round : List Entry) (worker : WorkerState) (hand : Hand)
-    → (finishing round worker hand).deque ≡ worker.deque
-finishing_deque round worker Empty = refl
-finishing_deque round worker (Taken piece) = refl
-finishing_deque round worker (Updated piece) = refl
+finishing_deque : (entries : List Entry) (worker : WorkerState) (hand : Hand)
+    → (finishing entries worker hand).deque ≡ worker.deque
+finishing_deque entries worker Empty = refl
+finishing_deque entries worker (Taken piece) = refl
+finishing_deque entries worker (Updated piece) = refl
 
-finishing_weight : (round : List Entry) (weight : ℕ → ℕ) (worker : WorkerState) (hand : Hand) → worker.hand ≡ hand
-    → worker_weight weight (finishing round worker hand) ≡ worker_weight weight worker
-finishing_weight round weight worker hand holds =
-    let sum = finishing_sum round weight (held weight) refl (λ _. refl) worker hand holds in
-    let deque = ap (sum_by weight) (finishing_deque round worker hand) in
+finishing_weight : (entries : List Entry) (weight : ℕ → ℕ) (worker : WorkerState) (hand : Hand) → worker.hand ≡ hand
+    → worker_weight weight (finishing entries worker hand) ≡ worker_weight weight worker
+finishing_weight entries weight worker hand holds =
+    let sum = finishing_sum entries weight (held weight) refl (λ _. refl) worker hand holds in
+    let deque = ap (sum_by weight) (finishing_deque entries worker hand) in
     omega arith
 
 marked_weight : (weight : ℕ → ℕ) (hand : Hand) → held weight (marked hand) ≡ held weight hand
@@ -128,15 +128,15 @@ marked_weight weight Empty = refl
 marked_weight weight (Taken piece) = refl
 marked_weight weight (Updated piece) = refl
 
-pub weight_account : (round : List Entry) (weight : ℕ → ℕ)
-    → Account round (worker_weight weight) weight (λ _. 0) (λ _. 0)
-weight_account round weight = record {
+pub weight_account : (entries : List Entry) (weight : ℕ → ℕ)
+    → Account entries (worker_weight weight) weight (λ _. 0) (λ _. 0)
+weight_account entries weight = record {
   gives =
       λ worker piece pieces stands. let deque =
       ap (sum_by weight) stands in let split = sum_by-cons weight piece pieces in omega arith;
   gets = λ worker piece free. let none = ap (held weight) free in omega arith;
   updates = λ worker. let same = marked_weight weight worker.hand in omega arith;
-  enters = λ worker. let same = finishing_weight round weight worker worker.hand refl in omega arith;
+  enters = λ worker. let same = finishing_weight entries weight worker worker.hand refl in omega arith;
   update_none = refl;
   enter_none = refl;
 }
@@ -147,9 +147,9 @@ weight_account round weight = record {
 abbrev pub marked_of : (ℕ → ℕ) → WorkerState → ℕ
 marked_of weight worker = held_updated weight worker.hand + sum_by weight worker.finished
 
-finishing_marks : (round : List Entry) (weight : ℕ → ℕ) (worker : WorkerState) (hand : Hand) → worker.hand ≡ hand
-    → marked_of weight (finishing round worker hand) ≡ marked_of weight worker
-finishing_marks round weight = finishing_sum round weight (held_updated weight) refl (λ _. refl)
+finishing_marks : (entries : List Entry) (weight : ℕ → ℕ) (worker : WorkerState) (hand : Hand) → worker.hand ≡ hand
+    → marked_of weight (finishing entries worker hand) ≡ marked_of weight worker
+finishing_marks entries weight = finishing_sum entries weight (held_updated weight) refl (λ _. refl)
 
 marked_marks : (weight : ℕ → ℕ) (hand : Hand)
     → held_updated weight (marked hand) ≡ held_updated weight hand + sum_by weight (waiting hand)
@@ -157,55 +157,55 @@ marked_marks weight Empty = refl
 marked_marks weight (Taken piece) = omega arith
 marked_marks weight (Updated piece) = omega arith
 
-pub marks_account : (round : List Entry) (weight : ℕ → ℕ)
-    → Account round (marked_of weight) (λ _. 0) (λ hand. sum_by weight (waiting hand)) (λ _. 0)
-marks_account round weight = record {
+pub marks_account : (entries : List Entry) (weight : ℕ → ℕ)
+    → Account entries (marked_of weight) (λ _. 0) (λ hand. sum_by weight (waiting hand)) (λ _. 0)
+marks_account entries weight = record {
   gives = λ worker piece pieces stands. omega arith;
   gets = λ worker piece free. let none = ap (held_updated weight) free in omega arith;
   updates = λ worker. let more = marked_marks weight worker.hand in omega arith;
-  enters = λ worker. let same = finishing_marks round weight worker worker.hand refl in omega arith;
+  enters = λ worker. let same = finishing_marks entries weight worker worker.hand refl in omega arith;
   update_none = refl;
   enter_none = refl;
 }
 
 -- What is finished was entered, in the book and in a share.
 
-finishing_finished : (round : List Entry) (weight : ℕ → ℕ) (worker : WorkerState) (hand : Hand)
-    → sum_by weight (finishing round worker hand).finished ≡ sum_by weight worker.finished + held_updated weight hand
-finishing_finished round weight worker Empty = omega arith
-finishing_finished round weight worker (Taken piece) = omega arith
-finishing_finished round weight worker (Updated piece) = sum_by_push weight worker.finished piece
+finishing_finished : (entries : List Entry) (weight : ℕ → ℕ) (worker : WorkerState) (hand : Hand)
+    → sum_by weight (finishing entries worker hand).finished ≡ sum_by weight worker.finished + held_updated weight hand
+finishing_finished entries weight worker Empty = omega arith
+finishing_finished entries weight worker (Taken piece) = omega arith
+finishing_finished entries weight worker (Updated piece) = sum_by_push weight worker.finished piece
 
-pub finished_account : (round : List Entry) (weight : ℕ → ℕ)
-    → Account round (λ worker. sum_by weight worker.finished) (λ _. 0) (λ _. 0) (held_updated weight)
-finished_account round weight = record {
+pub finished_account : (entries : List Entry) (weight : ℕ → ℕ)
+    → Account entries (λ worker. sum_by weight worker.finished) (λ _. 0) (λ _. 0) (held_updated weight)
+finished_account entries weight = record {
   gives = λ worker piece pieces stands. omega arith;
   gets = λ worker piece free. omega arith;
   updates = λ worker. omega arith;
-  enters = λ worker. finishing_finished round weight worker worker.hand;
+  enters = λ worker. finishing_finished entries weight worker worker.hand;
   update_none = refl;
   enter_none = refl;
 }
 
 -- one of the three totals, and what each entry adds to it
-pub record IsTotal (round : List Entry) (total : Totals → ℕ) (added : ℕ → ℕ) : Type 0 where
+pub record IsTotal (entries : List Entry) (total : Totals → ℕ) (added : ℕ → ℕ) : Type 0 where
   pub adds : (totals : Totals) (piece : ℕ)
-      → total (plus totals (one_update (entry_at round piece))) ≡ total totals + added piece
+      → total (plus totals (one_update (entry_at entries piece))) ≡ total totals + added piece
 
-module _ {round : List Entry} {total : Totals → ℕ} {added : ℕ → ℕ} (is_total : IsTotal round total added) where
+module _ {entries : List Entry} {total : Totals → ℕ} {added : ℕ → ℕ} (is_total : IsTotal entries total added) where
   entered_total : (hand : Hand) (totals : Totals)
-      → total (entered round hand totals) ≡ total totals + held_updated added hand
+      → total (entered entries hand totals) ≡ total totals + held_updated added hand
   entered_total Empty totals = omega arith
   entered_total (Taken piece) totals = omega arith
   entered_total (Updated piece) totals = is_total.adds totals piece
 
   finishing_share : (worker : WorkerState) (hand : Hand)
-      → total (finishing round worker hand).share ≡ total worker.share + held_updated added hand
+      → total (finishing entries worker hand).share ≡ total worker.share + held_updated added hand
   finishing_share worker Empty = omega arith
   finishing_share worker (Taken piece) = omega arith
   finishing_share worker (Updated piece) = is_total.adds worker.share piece
 
-  pub share_account : Account round (λ worker. total worker.share) (λ _. 0) (λ _. 0) (held_updated added)
+  pub share_account : Account entries (λ worker. total worker.share) (λ _. 0) (λ _. 0) (held_updated added)
   share_account = record {
     gives = λ worker piece pieces stands. omega arith;
     gets = λ worker piece free. omega arith;
@@ -217,7 +217,7 @@ module _ {round : List Entry} {total : Totals → ℕ} {added : ℕ → ℕ} (is
 
   -- the book gains what the shares gain
   pub book_gain : (pool : PoolState) (s : Step)
-      → total (step round pool s).book ≡ total pool.book + gain (λ _. 0) (held_updated added) pool s
+      → total (step entries pool s).book ≡ total pool.book + gain (λ _. 0) (held_updated added) pool s
   book_gain pool (Pop w) = omega arith
   book_gain pool (Steal thief owner) =
       steal_cases (λ (after : PoolState). total after.book ≡ total pool.book + 0) pool thief owner (omega arith)

@@ -29,11 +29,11 @@ bare_popped worker [] free = refl
 bare_popped worker (piece ∷ pieces) true = refl
 bare_popped worker (piece ∷ pieces) false = refl
 
-bare_finishing : (round other : List Entry) (worker : WorkerState) (hand : Hand)
-    → bare (finishing round worker hand) ≡ bare (finishing other (bare worker) hand)
-bare_finishing round other worker Empty = refl
-bare_finishing round other worker (Taken piece) = refl
-bare_finishing round other worker (Updated piece) = refl
+bare_finishing : (entries other : List Entry) (worker : WorkerState) (hand : Hand)
+    → bare (finishing entries worker hand) ≡ bare (finishing other (bare worker) hand)
+bare_finishing entries other worker Empty = refl
+bare_finishing entries other worker (Taken piece) = refl
+bare_finishing entries other worker (Updated piece) = refl
 
 module _ (one other : PoolState) (same : AreSame one other) where
   bare_at : (w : ℕ) → bare (worker_at one w) ≡ bare (worker_at other w)
@@ -146,24 +146,24 @@ alike one other same = record {
   same_finished = same_part (λ worker. worker.finished) (λ worker. refl) one other same;
 }
 
-same_after_steps : (round other : List Entry) (workers : ℕ) (steps : List Step) → length round ≡ length other
-    → AreSame (after_steps round workers steps) (after_steps other workers steps)
-same_after_steps round other workers steps long =
-    same_run round other (deal workers (length round)) (deal workers (length other))
+same_after_steps : (entries other : List Entry) (workers : ℕ) (steps : List Step) → length entries ≡ length other
+    → AreSame (after_steps entries workers steps) (after_steps other workers steps)
+same_after_steps entries other workers steps long =
+    same_run entries other (deal workers (length entries)) (deal workers (length other))
     (ap (λ (pieces : ℕ). map bare (deal workers pieces).workers) long) steps
 
-pub alike_after_steps : (round other : List Entry) (workers : ℕ) (steps : List Step) → length round ≡ length other
-    → AreAlike (after_steps round workers steps) (after_steps other workers steps)
-alike_after_steps round other workers steps long =
-    alike (after_steps round workers steps) (after_steps other workers steps)
-    (same_after_steps round other workers steps long)
+pub alike_after_steps : (entries other : List Entry) (workers : ℕ) (steps : List Step) → length entries ≡ length other
+    → AreAlike (after_steps entries workers steps) (after_steps other workers steps)
+alike_after_steps entries other workers steps long =
+    alike (after_steps entries workers steps) (after_steps other workers steps)
+    (same_after_steps entries other workers steps long)
 
-pub alike_after_drain : (round other : List Entry) (workers : ℕ) (steps : List Step) → length round ≡ length other
-    → AreAlike (after_drain round workers steps) (after_drain other workers steps)
-alike_after_drain round other workers steps long =
-    let mine = after_steps round workers steps in
+pub alike_after_drain : (entries other : List Entry) (workers : ℕ) (steps : List Step) → length entries ≡ length other
+    → AreAlike (after_drain entries workers steps) (after_drain other workers steps)
+alike_after_drain entries other workers steps long =
+    let mine = after_steps entries workers steps in
     let theirs = after_steps other workers steps in
-    let same = same_after_steps round other workers steps long in
-    alike (after_drain round workers steps) (after_drain other workers steps)
-    (same_run round other mine theirs same (drain_steps 0 mine.workers)
+    let same = same_after_steps entries other workers steps long in
+    alike (after_drain entries workers steps) (after_drain other workers steps)
+    (same_run entries other mine theirs same (drain_steps 0 mine.workers)
     ∙ ap (λ (last : List Step). map bare (run other theirs last).workers) (same_drain_steps mine theirs same))

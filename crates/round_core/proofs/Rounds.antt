@@ -25,68 +25,68 @@ use Rattle.round_core.proofs.Drains.{drain_quiet}
 
 -- The three totals
 
-pub updates_total : (round : List Entry) → IsTotal round (λ totals. totals.updates) (λ _. 1)
-updates_total round = record { adds = λ totals piece. refl }
+pub updates_total : (entries : List Entry) → IsTotal entries (λ totals. totals.updates) (λ _. 1)
+updates_total entries = record { adds = λ totals piece. refl }
 
-pub events_total : (round : List Entry)
-    → IsTotal round (λ totals. totals.events) (λ piece. (entry_at round piece).events)
-events_total round = record { adds = λ totals piece. refl }
+pub events_total : (entries : List Entry)
+    → IsTotal entries (λ totals. totals.events) (λ piece. (entry_at entries piece).events)
+events_total entries = record { adds = λ totals piece. refl }
 
-pub orders_total : (round : List Entry)
-    → IsTotal round (λ totals. totals.orders) (λ piece. (entry_at round piece).orders)
-orders_total round = record { adds = λ totals piece. refl }
+pub orders_total : (entries : List Entry)
+    → IsTotal entries (λ totals. totals.orders) (λ piece. (entry_at entries piece).orders)
+orders_total entries = record { adds = λ totals piece. refl }
 
 -- Each piece is at one place
 
-pub weight_after : (round : List Entry) (weight : ℕ → ℕ) (workers : ℕ) (steps : List Step) → 0 < workers
-    → pool_weight weight (after_steps round workers steps) ≡ sum_below weight (length round)
-weight_after round weight workers steps some =
-    weight_run round weight (deal workers (length round)) steps ∙ weight_deal weight workers (length round) some
+pub weight_after : (entries : List Entry) (weight : ℕ → ℕ) (workers : ℕ) (steps : List Step) → 0 < workers
+    → pool_weight weight (after_steps entries workers steps) ≡ sum_below weight (length entries)
+weight_after entries weight workers steps some =
+    weight_run entries weight (deal workers (length entries)) steps ∙ weight_deal weight workers (length entries) some
 
-pub one_place : (round : List Entry) (workers : ℕ) (steps : List Step) (piece : ℕ) → 0 < workers
-    → piece < length round → places piece (after_steps round workers steps) ≡ 1
-one_place round workers steps piece some within =
-    weight_after round (one_at piece) workers steps some ∙ sum_below-one_at piece (length round) within
+pub one_place : (entries : List Entry) (workers : ℕ) (steps : List Step) (piece : ℕ) → 0 < workers
+    → piece < length entries → places piece (after_steps entries workers steps) ≡ 1
+one_place entries workers steps piece some within =
+    weight_after entries (one_at piece) workers steps some ∙ sum_below-one_at piece (length entries) within
 
-pub no_place : (round : List Entry) (workers : ℕ) (steps : List Step) (piece : ℕ) → 0 < workers → length round ≤ piece
-    → places piece (after_steps round workers steps) ≡ 0
-no_place round workers steps piece some past =
-    weight_after round (one_at piece) workers steps some ∙ sum_below-one_past piece (length round) past
+pub no_place : (entries : List Entry) (workers : ℕ) (steps : List Step) (piece : ℕ) → 0 < workers
+    → length entries ≤ piece → places piece (after_steps entries workers steps) ≡ 0
+no_place entries workers steps piece some past =
+    weight_after entries (one_at piece) workers steps some ∙ sum_below-one_past piece (length entries) past
 
 -- The book has what the shares have
 
-module _ (round : List Entry) {total : Totals → ℕ} {added : ℕ → ℕ} (is_total : IsTotal round total added)
+module _ (entries : List Entry) {total : Totals → ℕ} {added : ℕ → ℕ} (is_total : IsTotal entries total added)
     (none : total idle.share ≡ 0) where
   pub share_after : (workers : ℕ) (steps : List Step) → 0 < workers
-      → total (after_steps round workers steps).book ≡ sum_by (λ worker. total worker.share)
-      (after_steps round workers steps).workers
+      → total (after_steps entries workers steps).book ≡ sum_by (λ worker. total worker.share)
+      (after_steps entries workers steps).workers
   share_after workers steps some =
       let dealt =
       sum_deal (λ worker. total worker.share) (λ _. 0) none (λ worker piece. omega arith) workers
-      (length round) some in
-      let nothing = sum_below-zero (length round) in
-      let book = book_deal total workers (length round) in
-      shares_run is_total (deal workers (length round)) steps (omega arith)
+      (length entries) some in
+      let nothing = sum_below-zero (length entries) in
+      let book = book_deal total workers (length entries) in
+      shares_run is_total (deal workers (length entries)) steps (omega arith)
 
   pub finished_after : (workers : ℕ) (steps : List Step) → 0 < workers
-      → total (after_steps round workers steps).book ≡ finished_weight added (after_steps round workers steps)
+      → total (after_steps entries workers steps).book ≡ finished_weight added (after_steps entries workers steps)
   finished_after workers steps some =
       let dealt =
       sum_deal (λ worker. sum_by added worker.finished) (λ _. 0) refl (λ worker piece. omega arith) workers
-      (length round) some in
-      let nothing = sum_below-zero (length round) in
-      let book = book_deal total workers (length round) in
-      finished_run is_total (deal workers (length round)) steps (omega arith)
+      (length entries) some in
+      let nothing = sum_below-zero (length entries) in
+      let book = book_deal total workers (length entries) in
+      finished_run is_total (deal workers (length entries)) steps (omega arith)
 
-pub book_is_shares : (round : List Entry) (workers : ℕ) (steps : List Step) → 0 < workers
-    → (after_steps round workers steps).book ≡ sum_of_shares (after_steps round workers steps).workers
-book_is_shares round workers steps some =
+pub book_is_shares : (entries : List Entry) (workers : ℕ) (steps : List Step) → 0 < workers
+    → (after_steps entries workers steps).book ≡ sum_of_shares (after_steps entries workers steps).workers
+book_is_shares entries workers steps some =
     totals_same
-    (after_steps round workers steps).book
-    (sum_of_shares (after_steps round workers steps).workers)
-    (share_after round (updates_total round) refl workers steps some)
-    (share_after round (events_total round) refl workers steps some)
-    (share_after round (orders_total round) refl workers steps some)
+    (after_steps entries workers steps).book
+    (sum_of_shares (after_steps entries workers steps).workers)
+    (share_after entries (updates_total entries) refl workers steps some)
+    (share_after entries (events_total entries) refl workers steps some)
+    (share_after entries (orders_total entries) refl workers steps some)
 
 -- A quiet round is whole
 
@@ -106,77 +106,79 @@ quiet_finished : (weight : ℕ → ℕ) (pool : PoolState) → IsQuiet pool
 quiet_finished weight pool quiet =
     quiet_weight weight pool.workers (recursion_from_All IsQuietWorker pool.workers quiet)
 
-pub finished_once : (round : List Entry) (workers : ℕ) (steps : List Step) (piece : ℕ) → 0 < workers
-    → IsQuiet (after_steps round workers steps) → piece < length round
-    → times_finished piece (after_steps round workers steps) ≡ 1
-finished_once round workers steps piece some quiet within =
-    sym (quiet_finished (one_at piece) (after_steps round workers steps) quiet)
-    ∙ one_place round workers steps piece some within
+pub finished_once : (entries : List Entry) (workers : ℕ) (steps : List Step) (piece : ℕ) → 0 < workers
+    → IsQuiet (after_steps entries workers steps) → piece < length entries
+    → times_finished piece (after_steps entries workers steps) ≡ 1
+finished_once entries workers steps piece some quiet within =
+    sym (quiet_finished (one_at piece) (after_steps entries workers steps) quiet)
+    ∙ one_place entries workers steps piece some within
 
-quiet_total : (round : List Entry) {total : Totals → ℕ} {added : ℕ → ℕ} → IsTotal round total added
+quiet_total : (entries : List Entry) {total : Totals → ℕ} {added : ℕ → ℕ} → IsTotal entries total added
     → total idle.share ≡ 0 → (workers : ℕ) (steps : List Step) → 0 < workers
-    → IsQuiet (after_steps round workers steps)
-    → total (after_steps round workers steps).book ≡ sum_below added (length round)
-quiet_total round {added = added} is_total none workers steps some quiet =
-    finished_after round is_total none workers steps some
-    ∙ sym (quiet_finished added (after_steps round workers steps) quiet)
-    ∙ weight_after round added workers steps some
+    → IsQuiet (after_steps entries workers steps)
+    → total (after_steps entries workers steps).book ≡ sum_below added (length entries)
+quiet_total entries {added = added} is_total none workers steps some quiet =
+    finished_after entries is_total none workers steps some
+    ∙ sym (quiet_finished added (after_steps entries workers steps) quiet)
+    ∙ weight_after entries added workers steps some
 
-pub entries_total : (field : Entry → ℕ) (round : List Entry)
-    → sum_below (λ piece. field (entry_at round piece)) (length round) ≡ sum_by field round
-entries_total field round =
-    let all : length round ≤ length round = omega arith in
-    sum_below-entries field round (length round) all ∙ ap (sum_by field) (take_all (length round) round all)
+pub entries_total : (field : Entry → ℕ) (entries : List Entry)
+    → sum_below (λ piece. field (entry_at entries piece)) (length entries) ≡ sum_by field entries
+entries_total field entries =
+    let all : length entries ≤ length entries = omega arith in
+    sum_below-entries field entries (length entries) all ∙ ap (sum_by field) (take_all (length entries) entries all)
 
-pub quiet_totals : (round : List Entry) (workers : ℕ) (steps : List Step) → 0 < workers
-    → IsQuiet (after_steps round workers steps) → (after_steps round workers steps).book ≡ sums_of round
-quiet_totals round workers steps some quiet =
+pub quiet_totals : (entries : List Entry) (workers : ℕ) (steps : List Step) → 0 < workers
+    → IsQuiet (after_steps entries workers steps) → (after_steps entries workers steps).book ≡ sums_of entries
+quiet_totals entries workers steps some quiet =
     totals_same
-    (after_steps round workers steps).book
-    (sums_of round)
-    (quiet_total round (updates_total round) refl workers steps some quiet ∙ sum_below-one (length round))
-    (quiet_total round (events_total round) refl workers steps some quiet ∙ entries_total (λ entry. entry.events) round)
-    (quiet_total round (orders_total round) refl workers steps some quiet ∙ entries_total (λ entry. entry.orders) round)
+    (after_steps entries workers steps).book
+    (sums_of entries)
+    (quiet_total entries (updates_total entries) refl workers steps some quiet ∙ sum_below-one (length entries))
+    (quiet_total entries (events_total entries) refl workers steps some quiet
+    ∙ entries_total (λ entry. entry.events) entries)
+    (quiet_total entries (orders_total entries) refl workers steps some quiet
+    ∙ entries_total (λ entry. entry.orders) entries)
 
 -- The drain is a run too
 
-pub drained_is_run : (round : List Entry) (workers : ℕ) (steps : List Step)
-    → after_steps round workers (with_drain round workers steps) ≡ after_drain round workers steps
-drained_is_run round workers steps =
-    run-append round (deal workers (length round)) steps (drain_steps 0 (after_steps round workers steps).workers)
+pub drained_is_run : (entries : List Entry) (workers : ℕ) (steps : List Step)
+    → after_steps entries workers (with_drain entries workers steps) ≡ after_drain entries workers steps
+drained_is_run entries workers steps =
+    run-append entries (deal workers (length entries)) steps (drain_steps 0 (after_steps entries workers steps).workers)
 
-pub quiet_after_drain : (round : List Entry) (workers : ℕ) (steps : List Step)
-    → IsQuiet (after_drain round workers steps)
-quiet_after_drain round workers steps = drain_quiet round (after_steps round workers steps)
+pub quiet_after_drain : (entries : List Entry) (workers : ℕ) (steps : List Step)
+    → IsQuiet (after_drain entries workers steps)
+quiet_after_drain entries workers steps = drain_quiet entries (after_steps entries workers steps)
 
-quiet_with_drain : (round : List Entry) (workers : ℕ) (steps : List Step)
-    → IsQuiet (after_steps round workers (with_drain round workers steps))
-quiet_with_drain round workers steps =
-    subst IsQuiet (sym (drained_is_run round workers steps)) (quiet_after_drain round workers steps)
+quiet_with_drain : (entries : List Entry) (workers : ℕ) (steps : List Step)
+    → IsQuiet (after_steps entries workers (with_drain entries workers steps))
+quiet_with_drain entries workers steps =
+    subst IsQuiet (sym (drained_is_run entries workers steps)) (quiet_after_drain entries workers steps)
 
-pub drained_once : (round : List Entry) (workers : ℕ) (steps : List Step) (piece : ℕ) → 0 < workers
-    → piece < length round → times_finished piece (after_drain round workers steps) ≡ 1
-drained_once round workers steps piece some within =
-    ap (times_finished piece) (sym (drained_is_run round workers steps))
-    ∙ finished_once round workers (with_drain round workers steps) piece some
-    (quiet_with_drain round workers steps) within
+pub drained_once : (entries : List Entry) (workers : ℕ) (steps : List Step) (piece : ℕ) → 0 < workers
+    → piece < length entries → times_finished piece (after_drain entries workers steps) ≡ 1
+drained_once entries workers steps piece some within =
+    ap (times_finished piece) (sym (drained_is_run entries workers steps))
+    ∙ finished_once entries workers (with_drain entries workers steps) piece some
+    (quiet_with_drain entries workers steps) within
 
-pub drained_totals : (round : List Entry) (workers : ℕ) (steps : List Step) → 0 < workers
-    → (after_drain round workers steps).book ≡ sums_of round
-drained_totals round workers steps some =
-    ap (λ (pool : PoolState). pool.book) (sym (drained_is_run round workers steps))
-    ∙ quiet_totals round workers (with_drain round workers steps) some (quiet_with_drain round workers steps)
+pub drained_totals : (entries : List Entry) (workers : ℕ) (steps : List Step) → 0 < workers
+    → (after_drain entries workers steps).book ≡ sums_of entries
+drained_totals entries workers steps some =
+    ap (λ (pool : PoolState). pool.book) (sym (drained_is_run entries workers steps))
+    ∙ quiet_totals entries workers (with_drain entries workers steps) some (quiet_with_drain entries workers steps)
 
 -- Each mark is an update
 
-pub marks_are_updates : (round : List Entry) (workers : ℕ) (steps : List Step) (piece : ℕ) → 0 < workers
-    → times_marked piece (after_steps round workers steps) ≡ times_updated piece round
-    (deal workers (length round)) steps
-marks_are_updates round workers steps piece some =
-    let ran = marks_run round (one_at piece) (deal workers (length round)) steps in
+pub marks_are_updates : (entries : List Entry) (workers : ℕ) (steps : List Step) (piece : ℕ) → 0 < workers
+    → times_marked piece (after_steps entries workers steps) ≡ times_updated piece entries
+    (deal workers (length entries)) steps
+marks_are_updates entries workers steps piece some =
+    let ran = marks_run entries (one_at piece) (deal workers (length entries)) steps in
     let dealt =
-    sum_deal (marked_of (one_at piece)) (λ _. 0) refl (λ worker number. omega arith) workers (length round) some in
-    let nothing = sum_below-zero (length round) in
+    sum_deal (marked_of (one_at piece)) (λ _. 0) refl (λ worker number. omega arith) workers (length entries) some in
+    let nothing = sum_below-zero (length entries) in
     omega arith
 
 hand_marked : (weight : ℕ → ℕ) (hand : Hand) → held_updated weight hand ≤ held weight hand
@@ -194,30 +196,30 @@ finished_at_most piece pool =
     sum_by-le-sum_by (λ worker. sum_by (one_at piece) worker.finished) (marked_of (one_at piece)) pool.workers
     (λ worker. omega arith)
 
-places_at_most : (round : List Entry) (workers : ℕ) (steps : List Step) (piece : ℕ) → 0 < workers
-    → places piece (after_steps round workers steps) ≤ 1
-places_at_most round workers steps piece some =
+places_at_most : (entries : List Entry) (workers : ℕ) (steps : List Step) (piece : ℕ) → 0 < workers
+    → places piece (after_steps entries workers steps) ≤ 1
+places_at_most entries workers steps piece some =
     ⊎_elim
-    (λ (within : piece < length round). let one = one_place round workers steps piece some within in omega arith)
-    (λ (past : length round ≤ piece). let none = no_place round workers steps piece some past in omega arith)
-    (cases_lt piece (length round))
+    (λ (within : piece < length entries). let one = one_place entries workers steps piece some within in omega arith)
+    (λ (past : length entries ≤ piece). let none = no_place entries workers steps piece some past in omega arith)
+    (cases_lt piece (length entries))
 
-pub finished_was_updated : (round : List Entry) (workers : ℕ) (steps : List Step) (piece : ℕ) → 0 < workers
-    → 0 < times_finished piece (after_steps round workers steps)
-    → times_updated piece round (deal workers (length round)) steps ≡ 1
-finished_was_updated round workers steps piece some finished =
-    let pool = after_steps round workers steps in
-    let updates = marks_are_updates round workers steps piece some in
+pub finished_was_updated : (entries : List Entry) (workers : ℕ) (steps : List Step) (piece : ℕ) → 0 < workers
+    → 0 < times_finished piece (after_steps entries workers steps)
+    → times_updated piece entries (deal workers (length entries)) steps ≡ 1
+finished_was_updated entries workers steps piece some finished =
+    let pool = after_steps entries workers steps in
+    let updates = marks_are_updates entries workers steps piece some in
     let above = finished_at_most piece pool in
     let below = marked_at_most piece pool in
-    let most = places_at_most round workers steps piece some in
+    let most = places_at_most entries workers steps piece some in
     omega arith
 
-pub updated_once : (round : List Entry) (workers : ℕ) (steps : List Step) (piece : ℕ) → 0 < workers
-    → piece < length round
-    → times_updated piece round (deal workers (length round)) (with_drain round workers steps) ≡ 1
-updated_once round workers steps piece some within =
+pub updated_once : (entries : List Entry) (workers : ℕ) (steps : List Step) (piece : ℕ) → 0 < workers
+    → piece < length entries
+    → times_updated piece entries (deal workers (length entries)) (with_drain entries workers steps) ≡ 1
+updated_once entries workers steps piece some within =
     let once =
-    finished_once round workers (with_drain round workers steps) piece some
-    (quiet_with_drain round workers steps) within in
-    finished_was_updated round workers (with_drain round workers steps) piece some (omega arith)
+    finished_once entries workers (with_drain entries workers steps) piece some
+    (quiet_with_drain entries workers steps) within in
+    finished_was_updated entries workers (with_drain entries workers steps) piece some (omega arith)

@@ -47,12 +47,12 @@ sum_below-one_at piece (suc n) lt =
     (cases_eq n piece)
 
 -- what the entries have, added up by number, is what the round has
-pub sum_below-entries : (field : Entry → ℕ) (round : List Entry) (n : ℕ) → n ≤ length round
-    → sum_below (λ piece. field (entry_at round piece)) n ≡ sum_by field (take n round)
-sum_below-entries field round zero within = refl
-sum_below-entries field round (suc n) within =
-    let rest = sum_below-entries field round n (omega arith) in
-    let more = sum_by_more field round n no_entry (omega arith) in
+pub sum_below-entries : (field : Entry → ℕ) (entries : List Entry) (n : ℕ) → n ≤ length entries
+    → sum_below (λ piece. field (entry_at entries piece)) n ≡ sum_by field (take n entries)
+sum_below-entries field entries zero within = refl
+sum_below-entries field entries (suc n) within =
+    let rest = sum_below-entries field entries n (omega arith) in
+    let more = sum_by_more field entries n no_entry (omega arith) in
     rw (← add-one n) (omega arith)
 
 pub sum_below-one : (n : ℕ) → sum_below (λ _. 1) n ≡ n
@@ -100,10 +100,10 @@ weight_deal weight workers pieces some =
 
 -- Any steps
 
-pub run-append : (round : List Entry) (pool : PoolState) (first second : List Step)
-    → run round pool (first ++ second) ≡ run round (run round pool first) second
-run-append round pool [] second = refl
-run-append round pool (s ∷ first) second = run-append round (step round pool s) first second
+pub run-append : (entries : List Entry) (pool : PoolState) (first second : List Step)
+    → run entries pool (first ++ second) ≡ run entries (run entries pool first) second
+run-append entries pool [] second = refl
+run-append entries pool (s ∷ first) second = run-append entries (step entries pool s) first second
 
 no_gain : (pool : PoolState) (s : Step) → gain (λ _. 0) (λ _. 0) pool s ≡ 0
 no_gain pool (Pop w) = refl
@@ -112,12 +112,12 @@ no_gain pool (Update w) = refl
 no_gain pool (Enter w) = refl
 
 -- no step changes what all the pieces weigh
-pub weight_run : (round : List Entry) (weight : ℕ → ℕ) (pool : PoolState) (steps : List Step)
-    → pool_weight weight (run round pool steps) ≡ pool_weight weight pool
-weight_run round weight pool [] = refl
-weight_run round weight pool (s ∷ steps) =
-    let rest = weight_run round weight (step round pool s) steps in
-    let first = step_gain (weight_account round weight) pool s in
+pub weight_run : (entries : List Entry) (weight : ℕ → ℕ) (pool : PoolState) (steps : List Step)
+    → pool_weight weight (run entries pool steps) ≡ pool_weight weight pool
+weight_run entries weight pool [] = refl
+weight_run entries weight pool (s ∷ steps) =
+    let rest = weight_run entries weight (step entries pool s) steps in
+    let first = step_gain (weight_account entries weight) pool s in
     let none = no_gain pool s in
     omega arith
 
@@ -129,38 +129,38 @@ update_gain weight pool (Update w) = refl
 update_gain weight pool (Enter w) = refl
 
 -- what is marked after a run is what was marked before it and what the run updated
-pub marks_run : (round : List Entry) (weight : ℕ → ℕ) (pool : PoolState) (steps : List Step)
-    → sum_by (marked_of weight) (run round pool steps).workers ≡ sum_by (marked_of weight) pool.workers + sum_by
-    weight (updates_of round pool steps)
-marks_run round weight pool [] = omega arith
-marks_run round weight pool (s ∷ steps) =
-    let rest = marks_run round weight (step round pool s) steps in
-    let first = step_gain (marks_account round weight) pool s in
+pub marks_run : (entries : List Entry) (weight : ℕ → ℕ) (pool : PoolState) (steps : List Step)
+    → sum_by (marked_of weight) (run entries pool steps).workers ≡ sum_by (marked_of weight) pool.workers + sum_by
+    weight (updates_of entries pool steps)
+marks_run entries weight pool [] = omega arith
+marks_run entries weight pool (s ∷ steps) =
+    let rest = marks_run entries weight (step entries pool s) steps in
+    let first = step_gain (marks_account entries weight) pool s in
     let more = update_gain weight pool s in
-    let both = sum_by-append weight (updated_by pool s) (updates_of round (step round pool s) steps) in
+    let both = sum_by-append weight (updated_by pool s) (updates_of entries (step entries pool s) steps) in
     omega arith
 
-module _ {round : List Entry} {total : Totals → ℕ} {added : ℕ → ℕ} (is_total : IsTotal round total added) where
+module _ {entries : List Entry} {total : Totals → ℕ} {added : ℕ → ℕ} (is_total : IsTotal entries total added) where
   -- the book has what the shares have, if it had before
   pub shares_run : (pool : PoolState) (steps : List Step)
       → total pool.book ≡ sum_by (λ worker. total worker.share) pool.workers
-      → total (run round pool steps).book ≡ sum_by (λ worker. total worker.share) (run round pool steps).workers
+      → total (run entries pool steps).book ≡ sum_by (λ worker. total worker.share) (run entries pool steps).workers
   shares_run pool [] before = before
   shares_run pool (s ∷ steps) before =
       shares_run
-      (step round pool s)
+      (step entries pool s)
       steps
       (let first = step_gain (share_account is_total) pool s in let booked = book_gain is_total pool s in omega arith)
 
   -- the book has what the finished pieces add, if it had before
   pub finished_run : (pool : PoolState) (steps : List Step)
       → total pool.book ≡ sum_by (λ worker. sum_by added worker.finished) pool.workers
-      → total (run round pool steps).book ≡ sum_by (λ worker. sum_by added worker.finished)
-      (run round pool steps).workers
+      → total (run entries pool steps).book ≡ sum_by (λ worker. sum_by added worker.finished)
+      (run entries pool steps).workers
   finished_run pool [] before = before
   finished_run pool (s ∷ steps) before =
       finished_run
-      (step round pool s)
+      (step entries pool s)
       steps
-      (let first = step_gain (finished_account round added) pool s in let booked = book_gain is_total pool s in
+      (let first = step_gain (finished_account entries added) pool s in let booked = book_gain is_total pool s in
       omega arith)

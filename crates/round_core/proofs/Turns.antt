@@ -13,52 +13,52 @@ use Rattle.round_core.proofs.Sums.{steal_cases}
 use Rattle.round_core.proofs.Runs.{run-append}
 
 -- no step changes how many workers there are
-length-step : (round : List Entry) (pool : PoolState) (s : Step)
-    → length (step round pool s).workers ≡ length pool.workers
-length-step round pool (Pop w) = length-set pool.workers w _
-length-step round pool (Steal thief owner) =
+length-step : (entries : List Entry) (pool : PoolState) (s : Step)
+    → length (step entries pool s).workers ≡ length pool.workers
+length-step entries pool (Pop w) = length-set pool.workers w _
+length-step entries pool (Steal thief owner) =
     steal_cases (λ (after : PoolState). length after.workers ≡ length pool.workers) pool thief owner refl
     (λ piece pieces differ thief_in owner_in free stands.
     length-set (set pool.workers owner _) thief _ ∙ length-set pool.workers owner _)
-length-step round pool (Update w) = length-set pool.workers w _
-length-step round pool (Enter w) = length-set pool.workers w _
+length-step entries pool (Update w) = length-set pool.workers w _
+length-step entries pool (Enter w) = length-set pool.workers w _
 
-pub length-run : (round : List Entry) (pool : PoolState) (steps : List Step)
-    → length (run round pool steps).workers ≡ length pool.workers
-length-run round pool [] = refl
-length-run round pool (s ∷ steps) = length-run round (step round pool s) steps ∙ length-step round pool s
+pub length-run : (entries : List Entry) (pool : PoolState) (steps : List Step)
+    → length (run entries pool steps).workers ≡ length pool.workers
+length-run entries pool [] = refl
+length-run entries pool (s ∷ steps) = length-run entries (step entries pool s) steps ∙ length-step entries pool s
 
 -- a worker's own steps leave the others alone
-module _ (round : List Entry) (w k : ℕ) (other : k ≢ w) where
+module _ (entries : List Entry) (w k : ℕ) (other : k ≢ w) where
   other_emptying : (pieces : List ℕ) (pool : PoolState)
-      → worker_at (run round pool (emptying_steps w pieces)) k ≡ worker_at pool k
+      → worker_at (run entries pool (emptying_steps w pieces)) k ≡ worker_at pool k
   other_emptying [] pool = refl
   other_emptying (piece ∷ pieces) pool =
-      let took = step round pool (Pop w) in
-      let updated = step round took (Update w) in
-      other_emptying pieces (step round updated (Enter w))
+      let took = step entries pool (Pop w) in
+      let updated = step entries took (Update w) in
+      other_emptying pieces (step entries updated (Enter w))
       ∙ get_or-set_other updated.workers w k _ idle other
       ∙ get_or-set_other took.workers w k _ idle other
       ∙ get_or-set_other pool.workers w k _ idle other
 
   other_finishing : (pieces : List ℕ) (pool : PoolState)
-      → worker_at (run round pool (finishing_steps w pieces)) k ≡ worker_at pool k
+      → worker_at (run entries pool (finishing_steps w pieces)) k ≡ worker_at pool k
   other_finishing pieces pool =
-      let updated = step round pool (Update w) in
-      other_emptying pieces (step round updated (Enter w))
+      let updated = step entries pool (Update w) in
+      other_emptying pieces (step entries updated (Enter w))
       ∙ get_or-set_other updated.workers w k _ idle other
       ∙ get_or-set_other pool.workers w k _ idle other
 
 -- nor does a drain change those that come after its workers
-pub after_drained : (round : List Entry) (w : ℕ) (workers : List WorkerState) (pool : PoolState) (k : ℕ)
-    → w + length workers ≤ k → worker_at (run round pool (drain_steps w workers)) k ≡ worker_at pool k
-after_drained round w [] pool k later = refl
-after_drained round w (worker ∷ workers) pool k later =
-    let finished = run round pool (finishing_steps w worker.deque) in
+pub after_drained : (entries : List Entry) (w : ℕ) (workers : List WorkerState) (pool : PoolState) (k : ℕ)
+    → w + length workers ≤ k → worker_at (run entries pool (drain_steps w workers)) k ≡ worker_at pool k
+after_drained entries w [] pool k later = refl
+after_drained entries w (worker ∷ workers) pool k later =
+    let finished = run entries pool (finishing_steps w worker.deque) in
     ap (λ (after : PoolState). worker_at after k)
-    (run-append round pool (finishing_steps w worker.deque) (drain_steps (w + 1) workers))
-    ∙ after_drained round (w + 1) workers finished k (omega arith)
-    ∙ other_finishing round w k (omega arith) worker.deque pool
+    (run-append entries pool (finishing_steps w worker.deque) (drain_steps (w + 1) workers))
+    ∙ after_drained entries (w + 1) workers finished k (omega arith)
+    ∙ other_finishing entries w k (omega arith) worker.deque pool
 
 emptying_last : (w : ℕ) (pieces : List ℕ) (piece : ℕ)
     → emptying_steps w (pieces ++ piece ∷ []) ≡ emptying_steps w pieces ++ (Pop w ∷ Update w ∷ Enter w ∷ [])
@@ -111,19 +111,19 @@ workers_stolen workers one other thief owner false deque = refl
 workers_stolen workers one other thief owner true [] = refl
 workers_stolen workers one other thief owner true (piece ∷ pieces) = refl
 
-workers_step : (round : List Entry) (workers : List WorkerState) (one other : Totals) (s : Step)
-    → (step round (with_book workers one) s).workers ≡ (step round (with_book workers other) s).workers
-workers_step round workers one other (Pop w) = refl
-workers_step round workers one other (Steal thief owner) =
+workers_step : (entries : List Entry) (workers : List WorkerState) (one other : Totals) (s : Step)
+    → (step entries (with_book workers one) s).workers ≡ (step entries (with_book workers other) s).workers
+workers_step entries workers one other (Pop w) = refl
+workers_step entries workers one other (Steal thief owner) =
     workers_stolen workers one other thief owner (can_steal (with_book workers one) thief owner)
     (worker_at (with_book workers one) owner).deque
-workers_step round workers one other (Update w) = refl
-workers_step round workers one other (Enter w) = refl
+workers_step entries workers one other (Update w) = refl
+workers_step entries workers one other (Enter w) = refl
 
-pub workers_run : (round : List Entry) (one other : PoolState) (steps : List Step) → one.workers ≡ other.workers
-    → (run round one steps).workers ≡ (run round other steps).workers
-workers_run round one other [] same = same
-workers_run round one other (s ∷ steps) same =
-    workers_run round (step round one s) (step round other s) steps
-    (workers_step round one.workers one.book other.book s
-    ∙ ap (λ (workers : List WorkerState). (step round (with_book workers other.book) s).workers) same)
+pub workers_run : (entries : List Entry) (one other : PoolState) (steps : List Step) → one.workers ≡ other.workers
+    → (run entries one steps).workers ≡ (run entries other steps).workers
+workers_run entries one other [] same = same
+workers_run entries one other (s ∷ steps) same =
+    workers_run entries (step entries one s) (step entries other s) steps
+    (workers_step entries one.workers one.book other.book s
+    ∙ ap (λ (workers : List WorkerState). (step entries (with_book workers other.book) s).workers) same)

@@ -80,12 +80,12 @@ updated_by pool (Enter w) = []
 
 -- the pieces that a run updates, in order
 abbrev pub updates_of : List Entry → PoolState → List Step → List ℕ
-updates_of round pool [] = []
-updates_of round pool (first ∷ steps) = updated_by pool first ++ updates_of round (step round pool first) steps
+updates_of entries pool [] = []
+updates_of entries pool (first ∷ steps) = updated_by pool first ++ updates_of entries (step entries pool first) steps
 
 -- how often these steps update a piece
 abbrev pub times_updated : ℕ → List Entry → PoolState → List Step → ℕ
-times_updated piece round pool steps = sum_by (one_at piece) (updates_of round pool steps)
+times_updated piece entries pool steps = sum_by (one_at piece) (updates_of entries pool steps)
 
 -- how often a piece is in a hand, updated, or on a finished list
 abbrev pub times_marked : ℕ → PoolState → ℕ
@@ -94,7 +94,7 @@ times_marked piece pool =
 
 -- these steps and then those of the drain
 abbrev pub with_drain : List Entry → ℕ → List Step → List Step
-with_drain round workers steps = steps ++ drain_steps 0 (after_steps round workers steps).workers
+with_drain entries workers steps = steps ++ drain_steps 0 (after_steps entries workers steps).workers
 
 -- the workers of both have the same deques, hands and finished lists
 pub record AreAlike (one other : PoolState) : Type 0 where

@@ -114,13 +114,13 @@ update pool w = let worker = worker_at pool w in set_worker pool w (with_hand wo
 
 -- the entry of a piece
 abbrev pub entry_at : List Entry → ℕ → Entry
-entry_at round piece = slice_index_or round piece no_entry
+entry_at entries piece = slice_index_or entries piece no_entry
 
 -- the totals once what is in hand has been entered, which needs the mark
 abbrev pub entered : List Entry → Hand → Totals → Totals
-entered round Empty totals = totals
-entered round (Taken piece) totals = totals
-entered round (Updated piece) totals = plus totals (one_update (entry_at round piece))
+entered entries Empty totals = totals
+entered entries (Taken piece) totals = totals
+entered entries (Updated piece) totals = plus totals (one_update (entry_at entries piece))
 
 -- a piece goes from the hand to the end of the finished list, and its entry to the share
 abbrev pub finished_with : WorkerState → ℕ → Entry → WorkerState
@@ -134,29 +134,29 @@ finished_with worker piece entry =
 
 -- the worker once what is in hand has been entered, which needs the mark
 abbrev pub finishing : List Entry → WorkerState → Hand → WorkerState
-finishing round worker Empty = worker
-finishing round worker (Taken piece) = worker
-finishing round worker (Updated piece) = finished_with worker piece (entry_at round piece)
+finishing entries worker Empty = worker
+finishing entries worker (Taken piece) = worker
+finishing entries worker (Updated piece) = finished_with worker piece (entry_at entries piece)
 
 abbrev pub enter : List Entry → PoolState → ℕ → PoolState
-enter round pool w =
+enter entries pool w =
     let worker = worker_at pool w in
     record {
-      workers = slice_set pool.workers w (finishing round worker worker.hand);
-      book = entered round worker.hand pool.book;
+      workers = slice_set pool.workers w (finishing entries worker worker.hand);
+      book = entered entries worker.hand pool.book;
     }
 
 -- one step; one that is not possible, or names no worker, changes nothing
 abbrev pub step : List Entry → PoolState → Step → PoolState
-step round pool (Pop w) = pop pool w
-step round pool (Steal thief owner) = steal pool thief owner
-step round pool (Update w) = update pool w
-step round pool (Enter w) = enter round pool w
+step entries pool (Pop w) = pop pool w
+step entries pool (Steal thief owner) = steal pool thief owner
+step entries pool (Update w) = update pool w
+step entries pool (Enter w) = enter entries pool w
 
 -- one step after another
 abbrev pub run : List Entry → PoolState → List Step → PoolState
-run round pool [] = pool
-run round pool (first ∷ steps) = run round (step round pool first) steps
+run entries pool [] = pool
+run entries pool (first ∷ steps) = run entries (step entries pool first) steps
 
 -- The drain
 
@@ -176,17 +176,17 @@ drain_steps w (worker ∷ workers) = finishing_steps w worker.deque ++ drain_ste
 
 -- each worker in ascending order finishes its hand, and then its deque
 abbrev pub drain : List Entry → PoolState → PoolState
-drain round pool = run round pool (drain_steps 0 pool.workers)
+drain entries pool = run entries pool (drain_steps 0 pool.workers)
 
 -- The round
 
 -- the deal and these steps
 abbrev pub after_steps : List Entry → ℕ → List Step → PoolState
-after_steps round workers steps = run round (deal workers (length round)) steps
+after_steps entries workers steps = run entries (deal workers (length entries)) steps
 
 -- the deal, these steps and the drain
 abbrev pub after_drain : List Entry → ℕ → List Step → PoolState
-after_drain round workers steps = drain round (after_steps round workers steps)
+after_drain entries workers steps = drain entries (after_steps entries workers steps)
 
 -- what each worker has in its deque
 abbrev pub deques : PoolState → List (List ℕ)

@@ -8,7 +8,8 @@ use Rattle.std.proofs.lemmas.List.Sums.{count_by-le-length}
 use Rattle.round_steps.specs.declared.step.Step.{Step}
 use Rattle.round_steps.specs.declared.fault.StepsFault.{StepsFault}
 use Rattle.round_steps.specs.declared.fault.StepsFault.TheVariants.{TooLong, Line, OutOfMemory}
-use Rattle.round_steps.specs.Steps.{lines_of, longest_text, AreSteps, IsFirstFault, IsFirstFaultBy, IsFaultyBehind}
+use Rattle.round_steps.specs.Steps.{lines_of, longest_steps_file, AreSteps, IsFirstFault, IsFirstFaultBy}
+use Rattle.round_steps.specs.Steps.{IsFaultyBehind}
 use Rattle.round_steps.specs.Steps.{IsFaultOf}
 
 -- the lines before the rest say the steps
@@ -78,7 +79,7 @@ line_refused text rest line number steps behind (Line n) has cut of =
 line_refused text rest line number steps behind OutOfMemory has cut of = tt
 
 -- a text has few lines
-pub number_fits : (text rest : List ℕ) (number : ℕ) (steps : List Step) → length text ≤ longest_text
+pub number_fits : (text rest : List ℕ) (number : ℕ) (steps : List Step) → length text ≤ longest_steps_file
     → HasRead text rest number steps → number + 1 < 2 ^ 64
 number_fits text rest number steps short has =
     omega (

@@ -7,11 +7,11 @@ use Rattle.round_steps.specs.declared.fault.StepsFault.{StepsFault}
 use Rattle.round_steps.specs.declared.fault.StepsFault.TheVariants.{TooLong, Line, OutOfMemory}
 use Rattle.round_steps.specs.Spelling.{Spells}
 
--- the most bytes of a text, 1 MiB
-abbrev pub longest_text : ℕ
-longest_text = 1048576
+-- the most bytes of a steps file, 1 MiB
+abbrev pub longest_steps_file : ℕ
+longest_steps_file = 1048576
 
--- the most steps of a text
+-- the most steps of a steps file
 abbrev pub most_steps : ℕ
 most_steps = 100000
 
@@ -60,8 +60,8 @@ SaysBehind count number line (Err fault) = (fault ≡ Line number) × IsFaultyBe
 
 -- whether a text is short enough to be looked at
 abbrev pub IsWithin : List ℕ → Result ⊤ StepsFault → Type 0
-IsWithin text (Ok v) = length text ≤ longest_text
-IsWithin text (Err fault) = (fault ≡ TooLong) × (longest_text < length text)
+IsWithin text (Ok v) = length text ≤ longest_steps_file
+IsWithin text (Err fault) = (fault ≡ TooLong) × (longest_steps_file < length text)
 
 -- why a line of the number is refused behind the steps: it is faulty, or memory lacks
 abbrev pub IsFaultOf : ℕ → List ℕ → List Step → StepsFault → Type 0
@@ -77,6 +77,6 @@ IsFirstFaultBy lines OutOfMemory = Unit {0}
 
 -- when a text is refused
 abbrev pub Refuses : List ℕ → StepsFault → Type 0
-Refuses text TooLong = longest_text < length text
-Refuses text (Line number) = (length text ≤ longest_text) × IsFirstFault (lines_of text) number
-Refuses text OutOfMemory = length text ≤ longest_text
+Refuses text TooLong = longest_steps_file < length text
+Refuses text (Line number) = (length text ≤ longest_steps_file) × IsFirstFault (lines_of text) number
+Refuses text OutOfMemory = length text ≤ longest_steps_file

@@ -1,5 +1,4 @@
-//! What the definitions of a steps file imply. The functions do nothing; their contracts are the
-//! laws.
+//! What the definitions of a steps file imply. The functions do nothing; their contracts are the laws.
 
 ghost use Rattle.round_steps.specs.Laws as laws;
 

@@ -9,5 +9,5 @@ mod spelling;
 mod step;
 
 pub use fault::{StepsFault, steps_fault_line, steps_status_of};
-pub use reading::read_steps;
+pub use reading::{LONGEST_STEPS_FILE, read_steps};
 pub use step::Step;

@@ -1,7 +1,7 @@
 //! Reading a steps file.
 
 ghost use Rattle.std.specs.Prelude.{◌<◌, ◌≤◌, ◌↔◌, ◌∷◌, ◌++◌, [], ℕ, List, IsTrue, IfOk, IfErr, OnOk, length};
-ghost use Rattle.round_steps.specs.Steps.{lines_of, longest_text, most_steps, AreSteps, SaysBehind, IsWithin};
+ghost use Rattle.round_steps.specs.Steps.{lines_of, longest_steps_file, most_steps, AreSteps, SaysBehind, IsWithin};
 ghost use Rattle.round_steps.specs.Steps.{IsFaultOf, IsFirstFaultBy, Refuses};
 
 use crate::fault::StepsFault;
@@ -11,10 +11,10 @@ use crate::step::Step;
 use lists::Sequence;
 use std::alloc::Global;
 
-/// The most bytes of a text, 1 MiB.
-const LONGEST_TEXT: usize = 1_048_576;
+/// The most bytes of a steps file, 1 MiB.
+pub const LONGEST_STEPS_FILE: usize = 1_048_576;
 
-/// The most steps of a text.
+/// The most steps of a steps file.
 const MOST_STEPS: usize = 100_000;
 
 /// Whether a step may follow this many.
@@ -54,7 +54,7 @@ fn take_line(steps: &mut Sequence<Step>, number: u64, line: &[u8]) -> Result<(),
 }
 
 fn read_lines(alloc: Global, text: &[u8]) -> Result<Sequence<Step>, StepsFault>
-    requires { length text.now ≤ longest_text }
+    requires { length text.now ≤ longest_steps_file }
     ensures ok { IfOk result (λ steps. AreSteps (lines_of text.now) steps) }
     ensures err { IfErr result (IsFirstFaultBy (lines_of text.now)) }
 {
@@ -76,7 +76,7 @@ fn read_lines(alloc: Global, text: &[u8]) -> Result<Sequence<Step>, StepsFault>
 fn within(text: &[u8]) -> Result<(), StepsFault>
     ensures { IsWithin text.now result }
 {
-    if text.len() > LONGEST_TEXT {
+    if text.len() > LONGEST_STEPS_FILE {
         return Err(StepsFault::TooLong);
     }
     Ok(())
@@ -87,7 +87,7 @@ fn within(text: &[u8]) -> Result<(), StepsFault>
 /// `TooLong` comes where the text has more than 1 MiB, before any line is looked at, and `Line`
 /// names the first faulty line. Where a growth of memory is refused the answer is `OutOfMemory`.
 pub fn read_steps(alloc: Global, text: &[u8]) -> Result<Sequence<Step>, StepsFault>
-    ensures ok { IfOk result (λ steps. (length text.now ≤ longest_text) × AreSteps (lines_of text.now) steps) }
+    ensures ok { IfOk result (λ steps. (length text.now ≤ longest_steps_file) × AreSteps (lines_of text.now) steps) }
     ensures err { IfErr result (Refuses text.now) }
 {
     within(text)?;

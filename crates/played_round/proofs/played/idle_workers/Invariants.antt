@@ -6,5 +6,5 @@ abbrev pub invariant-loop-count : goal.invariant-loop-count
 invariant-loop-count g l = record {
   idle : l.workers.items ≡ replicate l._count idle;
   parts : l.share.parts + l._count ≡ l.fn.share.parts;
-  numbers : l.share.numbers ≡ l.fn.share.numbers;
+  totals : l.share.totals ≡ l.fn.share.totals;
 }

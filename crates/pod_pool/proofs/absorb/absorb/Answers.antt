@@ -4,10 +4,10 @@ use Rattle.std.proofs.lemmas.List.Sums.{sum_by_push, sum_by-append}
 use mathlib.Core.Option.{some-injective}
 use Rattle.crossbeam_deque.specs.Handles.{view, worker_deque, worker_view}
 use Rattle.piece_deques.proofs.Lists.{map_here, map_set, sum_set}
-use Rattle.pool_worker.specs.declared.handle.StealHandle.{StealHandle}
-use Rattle.pool_worker.specs.Permits.{Place, permit_place, taken_by}
-use Rattle.pool_worker.proofs.Room.{place_same}
-use Rattle.pod_pool.specs.FinishedWorkers.{finished_place, finished_parts, finished_taken}
+use Rattle.pod_pool.specs.declared.handle.StealHandle.{StealHandle}
+use Rattle.pod_pool.specs.Permits.{FilledDeque, permit_deque, taken_by}
+use Rattle.pod_pool.proofs.Room.{filled_same}
+use Rattle.pod_pool.specs.FinishedWorkers.{finished_deque, finished_parts, finished_taken}
 use Rattle.pod_pool.proofs.FinishedWorkers.{last_place, others_stand}
 use Rattle.pod_pool.proofs.absorb.absorb.Goals as goal
 
@@ -23,10 +23,10 @@ absorb-requires g c =
     let l = c.loop-handle in
     let there = last_place l.row.items c.pop.new.self.items c.in-Some.handle l.finished.items c.len-at.result
     c.in-Some.ensures.items (omega (arith, c.pop.new.self.ok.0)) l.invariant.stand in
-    let h = map_here finished_place l.finished.items c.len-at.result c.index_mut.result.now there.0
+    let h = map_here finished_deque l.finished.items c.len-at.result c.index_mut.result.now there.0
     c.index_mut.ensures.value in
-    ap (λ (p : Place). p.deque)
-    (some-injective (permit_place c.in-Some.handle) (finished_place c.index_mut.result.now) (sym there.1 ∙ h))
+    ap (λ (p : FilledDeque). p.deque)
+    (some-injective (permit_deque c.in-Some.handle) (finished_deque c.index_mut.result.now) (sym there.1 ∙ h))
 
 pub loop-handle-preserved : goal.loop-handle-preserved
 loop-handle-preserved g c =
@@ -39,16 +39,16 @@ loop-handle-preserved g c =
     let row = c.in-Some.ensures.items in
     let ended = c.pop.new.self.items in
     let handle = c.in-Some.handle in
-    let all = map finished_place l.finished.items in
+    let all = map finished_deque l.finished.items in
     let there = last_place l.row.items ended handle l.finished.items n row (omega (arith, c.pop.new.self.ok.0)) i.stand
     in
     let at = c.index_mut.ensures.value in
-    let same : finished_place new ≡ finished_place old = place_same (worker_deque new.owner) (worker_deque old.owner)
+    let same : finished_deque new ≡ finished_deque old = filled_same (worker_deque new.owner) (worker_deque old.owner)
     (worker_view new.owner).pushed (worker_view old.owner).pushed u.deque u.pushed in
-    let places = map_set finished_place l.finished.items n old new at same in
+    let filled = map_set finished_deque l.finished.items n old new at same in
     record {
-      stand = others_stand l.row.items ended handle all _ row places i.stand;
-      places = places ∙ i.places;
+      stand = others_stand l.row.items ended handle all _ row filled i.stand;
+      filled = filled ∙ i.filled;
       worker_results = map_set (λ r. r.worker_result) l.finished.items n old new at u.worker_result ∙ i.worker_results;
       parts = (
           let t = sum_set finished_parts l.finished.items n old new there.0 at in

@@ -1,13 +1,13 @@
 use Rattle.std.proofs.Common.{◌≡◌, ◌+◌, ℕ, length, map, vec_len}
 use Rattle.std.specs.List.{sum_by}
-use Rattle.pool_worker.specs.Permits.{taken_by}
-use Rattle.pod_pool.specs.FinishedWorkers.{StandAt, finished_place, finished_parts, finished_taken}
+use Rattle.pod_pool.specs.Permits.{taken_by}
+use Rattle.pod_pool.specs.FinishedWorkers.{StandAt, finished_deque, finished_parts, finished_taken}
 use Rattle.pod_pool.proofs.absorb.absorb.Given as goal
 
 abbrev pub invariant-loop-handle : goal.invariant-loop-handle
 invariant-loop-handle g l = record {
-  stand : StandAt l.row.items (map finished_place l.finished.items);
-  places : map finished_place l.finished.items ≡ map finished_place l.initial.finished.items;
+  stand : StandAt l.row.items (map finished_deque l.finished.items);
+  filled : map finished_deque l.finished.items ≡ map finished_deque l.initial.finished.items;
   worker_results : map (λ r. r.worker_result) l.finished.items ≡ map (λ r. r.worker_result) l.initial.finished.items;
   parts : sum_by finished_parts l.finished.items + length l.row.items
       ≡ sum_by finished_parts l.initial.finished.items + length l.initial.row.items;

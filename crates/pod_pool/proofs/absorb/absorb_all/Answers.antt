@@ -1,8 +1,8 @@
 use Rattle.std.proofs.Common.{◌≡◌, ◌+◌, ◌*◌, map, length, vec_len, sym, ap, ◌∙◌, arith}
 use Rattle.std.proofs.lemmas.List.{length-map}
 use Rattle.piece_deques.proofs.Lists.{front, last, more_rows, sum_grown}
-use Rattle.pool_worker.specs.Permits.{permit_place, taken_by}
-use Rattle.pod_pool.specs.FinishedWorkers.{IsRow, finished_place}
+use Rattle.pod_pool.specs.Permits.{permit_deque, taken_by}
+use Rattle.pod_pool.specs.FinishedWorkers.{IsRow, finished_deque}
 use Rattle.pod_pool.proofs.FinishedWorkers.{stands}
 use Rattle.pod_pool.proofs.absorb.absorb_all.Goals as goal
 
@@ -10,29 +10,29 @@ pub absorb-requires : goal.absorb-requires
 absorb-requires g c =
     let l = c.loop-row in
     let mine =
-    last (IsRow (map finished_place c.args.finished.now.items)) l.rows.items c.pop.new.self.items c.in-Some.row
+    last (IsRow (map finished_deque c.args.finished.now.items)) l.rows.items c.pop.new.self.items c.in-Some.row
     c.in-Some.ensures.items l.invariant.rows in
-    stands c.in-Some.row.items (map finished_place l.finished.items) (mine ∙ sym l.invariant.places)
+    stands c.in-Some.row.items (map finished_deque l.finished.items) (mine ∙ sym l.invariant.filled)
 
 pub loop-row-preserved : goal.loop-row-preserved
 loop-row-preserved g c =
     let l = c.loop-row in
     let i = l.invariant in
     let first = c.args.finished.now in
-    let places = map finished_place first.items in
+    let filled = map finished_deque first.items in
     let row = c.in-Some.row in
     let ended = c.pop.new.self in
     let pop = c.in-Some.ensures.items in
     let e = c.absorb.ensures in
-    let mine = last (IsRow places) l.rows.items ended.items row pop i.rows in
+    let mine = last (IsRow filled) l.rows.items ended.items row pop i.rows in
     record {
-      rows = front (IsRow places) l.rows.items ended.items row pop i.rows;
-      places = e.places ∙ i.places;
+      rows = front (IsRow filled) l.rows.items ended.items row pop i.rows;
+      filled = e.filled ∙ i.filled;
       worker_results = e.worker_results ∙ i.worker_results;
       parts = (
           let n : length row.items ≡ vec_len first =
-          sym (length-map row.items permit_place)
-          ∙ (ap (λ l. length l) mine ∙ (length-map first.items finished_place ∙ sym first.ok.0)) in
+          sym (length-map row.items permit_deque)
+          ∙ (ap (λ l. length l) mine ∙ (length-map first.items finished_deque ∙ sym first.ok.0)) in
           let m : vec_len l.rows * vec_len first ≡ vec_len ended * vec_len first + vec_len first =
           ap (λ k. k * vec_len first) (sym c.in-Some.ensures.cases) ∙ more_rows (vec_len ended) (vec_len first) in
           omega (arith, e.parts, i.parts));

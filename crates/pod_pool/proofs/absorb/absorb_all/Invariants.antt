@@ -1,13 +1,13 @@
 use Rattle.std.proofs.Common.{◌≡◌, ◌+◌, ◌*◌, ℕ, All, map, vec_len}
 use Rattle.std.specs.List.{sum_by}
-use Rattle.pool_worker.specs.Permits.{taken_by}
-use Rattle.pod_pool.specs.FinishedWorkers.{IsRow, finished_place, finished_parts, finished_taken}
+use Rattle.pod_pool.specs.Permits.{taken_by}
+use Rattle.pod_pool.specs.FinishedWorkers.{IsRow, finished_deque, finished_parts, finished_taken}
 use Rattle.pod_pool.proofs.absorb.absorb_all.Given as goal
 
 abbrev pub invariant-loop-row : goal.invariant-loop-row
 invariant-loop-row g l = record {
-  rows : All (IsRow (map finished_place l.initial.finished.items)) l.rows.items;
-  places : map finished_place l.finished.items ≡ map finished_place l.initial.finished.items;
+  rows : All (IsRow (map finished_deque l.initial.finished.items)) l.rows.items;
+  filled : map finished_deque l.finished.items ≡ map finished_deque l.initial.finished.items;
   worker_results : map (λ r. r.worker_result) l.finished.items ≡ map (λ r. r.worker_result) l.initial.finished.items;
   parts : sum_by finished_parts l.finished.items + vec_len l.rows * vec_len l.initial.finished
       ≡ sum_by finished_parts l.initial.finished.items + vec_len l.initial.rows * vec_len l.initial.finished;

@@ -1,7 +1,7 @@
 use Rattle.std.proofs.Common.{◌≡◌, ◌+◌, ◌≤◌, ℕ, None, All, length, vec_len, vec_capacity}
 use Rattle.std.specs.List.{sum_by}
-use Rattle.pool_worker.specs.Done.{weigh}
-use Rattle.pool_worker.specs.WorkerResults.{kept}
+use Rattle.pod_pool.specs.Done.{weigh}
+use Rattle.pod_pool.specs.WorkerResults.{kept}
 use Rattle.pod_pool.specs.FinishedWorkers.{IsAway, finished_kept, finished_pushed, finished_taken}
 use Rattle.pod_pool.proofs.collect.collect.Given as goal
 

@@ -1,19 +1,20 @@
 use Rattle.std.proofs.Common.{◌≤◌, Option, List, length, refl, ap, ◌∙◌, subst, arith}
 use Rattle.std.specs.Option.{option_to_list}
+use Rattle.observations.specs.Limits.{most_pods}
 use Rattle.pod_piece.specs.Piece.{Piece}
 use Rattle.event_book.specs.Totals.{AreEntriesOf, plus}
 use Rattle.event_book.specs.Shares.{one_update}
 use Rattle.piece_deques.proofs.Lists.{front, last, grown, ones}
-use Rattle.pool_worker.specs.Done.{IsDone, weigh}
-use Rattle.pool_worker.proofs.Numbers.{weigh_more}
-use Rattle.pool_worker.proofs.Sums.{plus_assoc, sums_more}
+use Rattle.pod_pool.specs.Done.{IsDone, weigh}
+use Rattle.pod_pool.proofs.Numbers.{weigh_more}
+use Rattle.pod_pool.proofs.Sums.{plus_assoc, sums_more}
 use Rattle.pod_pool.proofs.Entries.{settled, within_round}
 use Rattle.pod_pool.proofs.settle.settle.Goals as goal
 
 pub entered-init : goal.entered-init
 entered-init g c =
     let total = c.args.total in
-    let join = ap (λ s. s.numbers) c.join.ensures in
+    let join = ap (λ s. s.totals) c.join.ensures in
     record {
       right = total.right;
       right_uncounted = total.right_uncounted;
@@ -22,7 +23,7 @@ entered-init g c =
           omega (arith, c.requires.each weight));
       room = c.requires.room;
       whole = ap (λ s. s.parts) c.join.ensures ∙ c.requires.whole;
-      added = record { added = total.share.numbers; are_sums = total.counts; is = join };
+      added = record { added = total.share.totals; are_sums = total.counts; is = join };
     }
 
 pub enter_whole-requires-clause-room : goal.enter_whole-requires-clause-room
@@ -34,7 +35,7 @@ enter_whole-requires-clause-room g c =
     let b = ones l.uncounted.items in
     let d = ones g.D.Deal.all in
     let few = c.requires.few in
-    let few_done : length l.done.items ≤ 256 = omega arith in
+    let few_done : length l.done.items ≤ most_pods = omega arith in
     let low = c.requires.low in
     let mine = c.last_of-entry.ensures.low in
     let sums = i.added.are_sums in
@@ -67,7 +68,7 @@ entered-preserved g c =
     let put = c.push_reserved.ensures in
     let entry = c.last_of-entry.result in
     let e = c.enter_whole.ensures in
-    let base = c.args.share.numbers in
+    let base = c.args.share.totals in
     let old = i.added.added in
     record {
       right = grown done' l.done.items new.items piece put.items i.right
@@ -85,7 +86,7 @@ entered-preserved g c =
             refl c.last_of-entry.ensures.entry c.last_of-entry.ensures.low
             i.added.are_sums;
         is =
-            ap (λ s. s.numbers) e
+            ap (λ s. s.totals) e
             ∙ (ap (λ t. plus t (one_update entry)) i.added.is ∙ plus_assoc base old (one_update entry));
       };
     }
@@ -104,7 +105,7 @@ returns g c =
       entered = (
         found.0,
         are,
-        settled g.D.Deal.all l.done.items pieces found.0 c.args.share.numbers l.share _ c.requires.numbered
+        settled g.D.Deal.all l.done.items pieces found.0 c.args.share.totals l.share _ c.requires.numbered
             order.placed order.same are i.added i.whole,
       );
     }

@@ -1,6 +1,6 @@
 use Rattle.std.proofs.Common.{◌≡◌, ◌+◌, ◌≤◌, ℕ, All, length, vec_len, vec_capacity}
 use Rattle.event_book.specs.Shares.{most_parts}
-use Rattle.pool_worker.specs.Done.{IsDone, weigh}
+use Rattle.pod_pool.specs.Done.{IsDone, weigh}
 use Rattle.pod_pool.specs.Order.{AreAdded}
 use Rattle.pod_pool.proofs.settle.settle.Given as goal
 
@@ -11,7 +11,7 @@ invariant-entered g l = record {
   each : (weight : ℕ → ℕ) → weigh weight l.done.items + weigh weight l.uncounted.items ≡ weigh weight g.D.Deal.all;
   room : length g.D.Deal.all ≤ vec_capacity l.done;
   whole : l.share.parts ≡ most_parts;
-  added : AreAdded l.done.items l.fn.share.numbers l.share.numbers;
+  added : AreAdded l.done.items l.fn.share.totals l.share.totals;
 }
 
 abbrev pub decreases-entered : goal.decreases-entered

@@ -5,6 +5,6 @@ pub returns : goal.returns
 returns c =
     record {
       one = one_place;
-      weights = λ round workers steps weight. weight_after round weight workers steps;
+      weights = λ entries workers steps weight. weight_after entries weight workers steps;
       no_stranger = no_place;
     }

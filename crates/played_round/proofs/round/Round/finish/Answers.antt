@@ -2,7 +2,7 @@ use Rattle.std.proofs.Common.{◌<◌, ◌∷◌, [], length, ap, arith}
 use Rattle.round_steps.specs.declared.step.Step.TheVariants.{Update, Enter}
 use Rattle.round_core.specs.Pool.{worker_at}
 use Rattle.played_round.specs.Round.{RoundState}
-use Rattle.played_round.proofs.Keeping.{waiting_read}
+use Rattle.played_round.proofs.Keeping.{deque_len_read}
 use Rattle.played_round.proofs.Playing.{plays_then, plays_turn}
 use Rattle.played_round.proofs.round.Round.finish.Goals as goal
 
@@ -19,7 +19,7 @@ pub loop-turn-preserved : goal.loop-turn-preserved
 loop-turn-preserved g c =
     let there = ap (λ (round : RoundState). length round.pool.workers) c.self.view_is in
     let in_range : c.args.w < length c.self.inside.workers.items = omega (arith, c.requires.in_range) in
-    let read = waiting_read c.self.inside.workers.items c.args.w c.index.result.now in_range c.index.ensures in
+    let read = deque_len_read c.self.inside.workers.items c.args.w c.index.result.now in_range c.index.ensures in
     let same = ap (λ (round : RoundState). length (worker_at round.pool c.args.w).deque) c.self.view_is in
     let deque = (worker_at c.args.self.now.pool c.args.w).deque in
     let within : c.loop-turn._turn < length deque = omega arith in

@@ -2,7 +2,7 @@ use Rattle.std.proofs.Common.{arith, rules, ◌∷◌, [], length, ap, ◌∙◌
 use Rattle.std.specs.List.{sum_by}
 use Rattle.std.proofs.lemmas.List.Sums.{sum_by_push}
 use Rattle.crossbeam_deque.specs.Handles.{worker_view}
-use Rattle.pool_worker.proofs.Room.{more_left, still_owner}
+use Rattle.pod_pool.proofs.Room.{more_left, still_owner}
 use Rattle.pod_pool.proofs.FinishedWorkers.{room_left}
 use Rattle.pod_pool.proofs.finished_worker.FinishedWorker.drain.Goals as goal
 

@@ -1,0 +1,14 @@
+use Rattle.std.proofs.Common.{◌≤◌, ◌-◌, All, map, vec_len, vec_capacity}
+use Rattle.crossbeam_deque.specs.Handles.{worker_deque}
+use Rattle.pod_pool.specs.Slots.{IsSlot}
+use Rattle.pod_pool.proofs.buffers.make_slots.Given as goal
+
+abbrev pub invariant-made : goal.invariant-made
+invariant-made g l = record {
+  room : vec_len l.owners ≤ vec_capacity l.slots;
+  within : vec_len l.slots ≤ vec_len l.owners;
+  slots : All (IsSlot l.room (map worker_deque l.owners.items)) l.slots.items;
+}
+
+abbrev pub decreases-made : goal.decreases-made
+decreases-made g l = vec_len l.owners - vec_len l.slots

@@ -1,0 +1,23 @@
+use Rattle.std.proofs.Common.{◌≡◌, ◌+◌, ◌≤◌, ℕ, All, map, vec_len, vec_capacity}
+use Rattle.crossbeam_deque.specs.Handles.{worker_deque, stealer_deque}
+use Rattle.event_book.specs.Limits.{most_workers}
+use Rattle.pod_pool.specs.Permits.{owner_deque}
+use Rattle.pod_pool.specs.Slots.{IsHost, IsDealtSlot}
+use Rattle.pod_pool.proofs.permits.permit_all.Given as goal
+
+abbrev pub invariant-loop-slot : goal.invariant-loop-slot
+invariant-loop-slot g l = record {
+  owners : vec_len l.owners ≡ vec_len l.initial.owners;
+  filled : map owner_deque l.owners.items ≡ map owner_deque l.initial.owners.items;
+  hosts : All (IsHost (vec_len l.dealt_slots)) l.owners.items;
+  len : vec_len l.dealt_slots + vec_len l.slots ≡ vec_len l.initial.slots;
+  few : vec_len l.initial.slots ≤ most_workers;
+  room : vec_len l.dealt_slots + vec_len l.slots ≤ vec_capacity l.dealt_slots;
+  slots : All (λ slot. map stealer_deque slot.thieves.items ≡ map worker_deque l.owners.items) l.slots.items;
+  dealt_slots : (room : ℕ) → All (λ slot. room ≤ vec_capacity slot.done) l.initial.slots.items
+      → All (IsDealtSlot room (map owner_deque l.owners.items)) l.dealt_slots.items
+      × All (λ slot. room ≤ vec_capacity slot.done) l.slots.items;
+}
+
+abbrev pub decreases-loop-slot : goal.decreases-loop-slot
+decreases-loop-slot g l = vec_len l.slots

@@ -1,0 +1,28 @@
+//! The pieces that a worker has updated.
+
+ghost use Rattle.std.specs.Prelude.{◌<◌, All};
+ghost use Rattle.std.specs.Option.{option_to_list};
+ghost use Rattle.piece_deques.specs.Rule.{IsPieceDue};
+ghost use Rattle.pod_pool.specs.Done.{IsDone, AreSumsOf};
+
+use event_book::Shares;
+use piece_deques::Deal;
+use pod_piece::PodPiece;
+use std::marker::PhantomData;
+use std::sync::ledger::Ledger;
+
+/// What a worker keeps: updated pieces that are entered in the book, those that are not counted yet, since the book had
+/// no room for them, the piece whose update was refused, and the share with which it enters.
+#[derive(Drop)]
+pub(crate) struct WorkerResult<D: Deal, U: Ledger, E: Ledger, O: Ledger> {
+    pub done: Vec<PodPiece>,
+    pub uncounted: Vec<PodPiece>,
+    pub refused: Option<PodPiece>,
+    pub share: Shares<U, E, O>,
+    pub of: PhantomData<D>,
+    pub ghost right: { All (IsDone D.all) done.items },
+    pub ghost right_uncounted: { All (IsDone D.all) uncounted.items },
+    pub ghost due: { All (IsPieceDue D.all) (option_to_list refused) },
+    pub ghost counts: { AreSumsOf done.items share.totals },
+    pub ghost take_apart: { 0 < share.parts },
+}
