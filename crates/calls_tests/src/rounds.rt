@@ -2,7 +2,7 @@
 
 ghost use Rattle.std.specs.Prelude.{◌≡◌};
 ghost use Rattle.event_book.specs.Totals.{nothing};
-ghost use Rattle.event_book.specs.Shares.{most_parts, part};
+ghost use Rattle.event_book.specs.Shares.{most_parts, share_with};
 
 use crate::book_tests::fill;
 use crate::pods::first_pieces;
@@ -88,7 +88,7 @@ fn update<U: Ledger + Send, E: Ledger + Send, O: Ledger + Send, R: Threads + Wai
     share: Shares<U, E, O>,
     scenario: &Scenario<'_, G>,
 ) -> Result<(), Fail>
-    requires whole { share ≡ part most_parts nothing }
+    requires whole { share ≡ share_with most_parts nothing }
     requires level { (U.parts ≡ most_parts) × (E.parts ≡ most_parts) × (O.parts ≡ most_parts) }
 {
     let pieces = first_pieces(alloc, scenario)?;

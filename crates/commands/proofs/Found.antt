@@ -8,6 +8,7 @@ use Rattle.clap.specs.declared.parser.matches.Found.{Found}
 use Rattle.clap.proofs.WalkLemmas.{first_value-rows, one_text-rows}
 use Rattle.commands.specs.declared.job.Job.{Job}
 use Rattle.commands.specs.declared.job.Job.TheVariants.{Run, Check, Play}
+use Rattle.commands.specs.Program.{most_workers}
 use Rattle.commands.specs.Jobs.{Has, HasWorkers, IsJobFor}
 
 pub has_text : (f : Found) (id text : List ℕ) → Some text ≡ first_value f id → Has (rows_of f) id text
@@ -71,7 +72,7 @@ pub no_steps : (name : List ℕ) (f : Found) → None ≡ first_value f (codes "
 no_steps name f none named job is =
     let steps = play_steps name (rows_of f) job named is in has_no_text f (codes "STEPS") none steps.0 steps.1
 
--- ---- the number of workers, as `get_one` reads it
+-- The number of workers, as `get_one` reads it
 
 pub unread_workers : {E : Type 0} (G : List ℕ → Result ℕ E → Type 0)
     → ((t : List ℕ) (x : Result ℕ E) → G t x → ParsesUnsigned 64 10 t x) → (f : Found)
@@ -92,7 +93,7 @@ read_workers G only f n read workers has =
 pub has_workers : {E : Type 0} (G : List ℕ → Result ℕ E → Type 0)
     → ((t : List ℕ) (x : Result ℕ E) → G t x → ParsesUnsigned 64 10 t x) → (f : Found) (n : ℕ)
     → (one_text f (codes "workers") ≡ None → Some n ≡ None)
-    → ((t : List ℕ) → one_text f (codes "workers") ≡ Some t → ReadsOne G t (Some n)) → 1 ≤ n → n ≤ 64
+    → ((t : List ℕ) → one_text f (codes "workers") ≡ Some t → ReadsOne G t (Some n)) → 1 ≤ n → n ≤ most_workers
     → HasWorkers (rows_of f) n
 has_workers G only f n some read least most = go (one_text f (codes "workers")) refl
   where

@@ -11,20 +11,20 @@ use Rattle.commands.specs.declared.job.Job.{Job}
 use Rattle.commands.specs.declared.job.Job.TheVariants.{Run, Check, Play}
 use Rattle.commands.specs.declared.fault.UsageFault.{UsageFault}
 use Rattle.commands.specs.declared.fault.UsageFault.TheVariants.{Refused, OutOfMemory}
-use Rattle.commands.specs.Program.{program}
+use Rattle.commands.specs.Program.{most_workers, program}
 
 -- the text is the number in decimal digits
 pub record IsNumber (text : List ℕ) (n : ℕ) : Type 0 where
   pub numeral : IsNumeral 10 (without_leading_plus text)
   pub value : n ≡ digits_value 10 (without_leading_plus text)
 
--- `--workers` has this number, from 1 to 64; clap gives it its default where it isn't written
+-- `--workers` has this number, one that may be asked for; clap gives it its default where it isn't written
 pub record HasWorkers (rows : List Row) (workers : ℕ) : Type 0 where
   pub text : List ℕ
   pub given : one_of (codes "workers") rows ≡ Some text
   pub number : IsNumber text workers
   pub some : 1 ≤ workers
-  pub few : workers ≤ 64
+  pub few : workers ≤ most_workers
 
 -- the argument has this value
 abbrev pub Has : List Row → List ℕ → List ℕ → Type 0

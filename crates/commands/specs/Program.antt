@@ -12,12 +12,16 @@ trace_rule = record (new_rule (codes "TRACE")) { required = true }
 abbrev pub steps_rule : Rule
 steps_rule = record (new_rule (codes "STEPS")) { required = true }
 
--- a number from 1 to 64, and else 4
+-- the most workers that may be asked for
+abbrev pub most_workers : ℕ
+most_workers = 64
+
+-- a number from 1 to the most workers, and else 4
 abbrev pub workers_rule : Rule
 workers_rule = record (new_rule (codes "workers")) {
   long = Some (codes "workers");
   value_names = 1;
-  parser = Some (Unsigned 1 64);
+  parser = Some (Unsigned 1 most_workers);
   defaults = codes "4" ∷ [];
 }
 

@@ -3,19 +3,17 @@
 ghost use Rattle.std.specs.Prelude.{◌≡◌, ◌≤◌, ◌↔◌, ℕ, IsTrue, IfOk, IfErr, MatchOption, map, option_map};
 ghost use Rattle.clap.specs.Words.{found_of, rows_of, subcommand_rows_of};
 ghost use Rattle.commands.specs.declared.job.Job.{Job};
+ghost use Rattle.commands.specs.Program.{most_workers};
 ghost use Rattle.commands.specs.Jobs.{HasWorkers, format_asked, format_of, IsJobFor, IsJobOf, IsAskedBy};
 ghost use Rattle.commands.specs.Jobs.{IsRefusal, IsJobAs, Refutes, Refuses};
 
 use crate::fault::UsageFault;
-use crate::program::program;
+use crate::program::{MOST_WORKERS, program};
 use clap::error::ErrorKind;
 use clap::{ArgMatches, Error};
 use node_config::Format;
 use std::alloc::Global;
 use std::convert::AsStr;
-
-/// The most workers.
-const MOST_WORKERS: usize = 64;
 
 /// What the program is asked to do.
 #[derive(Clone, Copy, Debug, PartialEq, Eq)]
@@ -42,7 +40,7 @@ pub enum Job<'a> {
 
 /// Whether there may be this many workers.
 fn may_share(workers: usize) -> bool
-    ensures { IsTrue result ↔ ((1 ≤ workers) × (workers ≤ 64)) }
+    ensures { IsTrue result ↔ ((1 ≤ workers) × (workers ≤ most_workers)) }
 {
     workers >= 1 && workers <= MOST_WORKERS
 }

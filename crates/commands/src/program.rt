@@ -11,6 +11,9 @@ use std::alloc::{AllocError, Global};
 /// The program's version: the file VERSION at the top of the repository has the same.
 const VERSION: &str = "0.9.0";
 
+/// The most workers that may be asked for.
+pub(crate) const MOST_WORKERS: usize = 64;
+
 const ABOUT: &str =
     "Replays what a kubelet would have decided on a node, from the node's recorded trace.";
 
@@ -58,7 +61,7 @@ fn workers_arg<'a>(alloc: Global) -> Arg<'a>
     Arg::new(alloc, "workers")
         .long("workers")
         .value_name("N")
-        .value_parser(clap::value_parser!(usize).range(1..=64))
+        .value_parser(clap::value_parser!(usize).range(1..=MOST_WORKERS as i64))
         .default_value("4")
         .help(WORKERS_HELP)
 }

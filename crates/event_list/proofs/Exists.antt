@@ -97,10 +97,16 @@ some_tick_events : (config : NodeConfig) (pods : List PodSpec) (before : List Ti
     → (events : List Event) × AreTickEvents config pods before tick es e events
 some_tick_events config pods before tick es e range known =
     let made = some_pod_events config pods before tick es range known in
-    let news =
+    let node_events =
     some_list_of_node_events config.eviction config.eviction_pressure_transition_period before tick in (
-      of_pods tick.at 0 made.0 ++ (of_node tick.at news.0 ++ of_eviction tick.at e),
-      record { made = made.0; are_made = made.1; news = news.0; are_news = news.1; in_order = refl },
+      of_pods tick.at 0 made.0 ++ (of_node tick.at node_events.0 ++ of_eviction tick.at e),
+      record {
+        made = made.0;
+        are_made = made.1;
+        node_events = node_events.0;
+        are_node_events = node_events.1;
+        in_order = refl;
+      },
     )
 
 -- of the ticks that follow

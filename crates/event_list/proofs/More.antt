@@ -127,8 +127,8 @@ events_arrived config pods pod ticks es evs are = record {
                 | inr v ↦ let same : n ≡ length pods = v.0 in absurd (omega arith)
               ];
         };
-        news = now.news;
-        are_news = now.are_news;
+        node_events = now.node_events;
+        are_node_events = now.are_node_events;
         in_order = now.in_order;
       };
   whole = are.whole;
@@ -152,24 +152,25 @@ of_all at n (events ∷ made) =
     ∙ ap (λ (es : List PodEvent). events ++ es) (of_all at (n + 1) made))
 
 -- those of the node are not of pods
-none_of_node : (at : ℕ) (news : List NodeEvent) → pod_events (of_node at news) ≡ []
+none_of_node : (at : ℕ) (node_events : List NodeEvent) → pod_events (of_node at node_events) ≡ []
 none_of_node at [] = refl
-none_of_node at (e ∷ news) = none_of_node at news
+none_of_node at (e ∷ node_events) = none_of_node at node_events
 
 none_of_eviction : (at : ℕ) (e : Option Eviction) → pod_events (of_eviction at e) ≡ []
 none_of_eviction at None = refl
 none_of_eviction at (Some e) = refl
 
 -- the events of pods in a tick
-pub pods_alone : (at : ℕ) (made : List (List PodEvent)) (news : List NodeEvent) (e : Option Eviction)
-    → pod_events (of_pods at 0 made ++ (of_node at news ++ of_eviction at e))
+pub pods_alone : (at : ℕ) (made : List (List PodEvent)) (node_events : List NodeEvent) (e : Option Eviction)
+    → pod_events (of_pods at 0 made ++ (of_node at node_events ++ of_eviction at e))
     ≡ flat_map (λ (events : List PodEvent). events) made
-pods_alone at made news e =
-    let rest : pod_events (of_node at news ++ of_eviction at e) ≡ [] =
-    pod_events-append (of_node at news) (of_eviction at e)
-    ∙ (ap (λ (es : List PodEvent). es ++ pod_events (of_eviction at e)) (none_of_node at news) ∙ none_of_eviction at
+pods_alone at made node_events e =
+    let rest : pod_events (of_node at node_events ++ of_eviction at e) ≡ [] =
+    pod_events-append (of_node at node_events) (of_eviction at e)
+    ∙ (ap (λ (es : List PodEvent). es ++ pod_events (of_eviction at e)) (none_of_node at node_events)
+    ∙ none_of_eviction at
     e) in
-    pod_events-append (of_pods at 0 made) (of_node at news ++ of_eviction at e)
+    pod_events-append (of_pods at 0 made) (of_node at node_events ++ of_eviction at e)
     ∙ (ap (λ (es : List PodEvent). pod_events (of_pods at 0 made) ++ es) rest
     ∙ (append-nil (pod_events (of_pods at 0 made)) ∙ of_all at 0 made))
 
@@ -236,16 +237,16 @@ same_totals a b c d e f ab be cf = cc
 
 -- the totals after one more tick, whose pods made these events
 pub totals_more : (ticks : List TickObs) (x : TickObs) (evs : List Event) (at : ℕ) (made : List (List PodEvent))
-    (news : List NodeEvent) (e : Option Eviction) (entries : List Entry)
+    (node_events : List NodeEvent) (e : Option Eviction) (entries : List Entry)
     → AreEnteredFor x.pods made entries
-    → totals_of (ticks ++ x ∷ []) (evs ++ (of_pods at 0 made ++ (of_node at news ++ of_eviction at e)))
+    → totals_of (ticks ++ x ∷ []) (evs ++ (of_pods at 0 made ++ (of_node at node_events ++ of_eviction at e)))
     ≡ plus (totals_of ticks evs) (sums_of entries)
-totals_more ticks x evs at made news e entries are =
+totals_more ticks x evs at made node_events e entries are =
     let f : TickObs → ℕ = λ (tick : TickObs). length (all_shown tick) in
-    let part = of_pods at 0 made ++ (of_node at news ++ of_eviction at e) in
+    let part = of_pods at 0 made ++ (of_node at node_events ++ of_eviction at e) in
     let flat = flat_map (λ (es : List PodEvent). es) made in
     let split : pod_events (evs ++ part) ≡ pod_events evs ++ flat =
-    pod_events-append evs part ∙ ap (λ (es : List PodEvent). pod_events evs ++ es) (pods_alone at made news e) in
+    pod_events-append evs part ∙ ap (λ (es : List PodEvent). pod_events evs ++ es) (pods_alone at made node_events e) in
     let count = counts x.pods made entries are in
     let one : sum_by f (x ∷ []) ≡ f x + 0 = sum_by-cons f x [] in
     let many : length entries ≡ f x = count.updates in

@@ -49,13 +49,15 @@ tick_one : (config : NodeConfig) (pods : List PodSpec) (before : List TickObs) (
 tick_one config pods before tick es e events others are were =
     let made : are.made ≡ were.made =
     pods_one config pods before tick es are.made were.made are.are_made were.are_made in
-    let news : are.news ≡ were.news =
+    let node_events : are.node_events ≡ were.node_events =
     one_list_of_node_events config.eviction config.eviction_pressure_transition_period before tick
-    are.news were.news are.are_news were.are_news in
+    are.node_events were.node_events are.are_node_events were.are_node_events in
     are.in_order
-    ∙ (ap (λ (m : List (List PodEvent)). of_pods tick.at 0 m ++ (of_node tick.at are.news ++ of_eviction tick.at e))
+    ∙ (ap (λ (m : List (List PodEvent)). of_pods tick.at 0 m
+    ++ (of_node tick.at are.node_events ++ of_eviction tick.at e))
     made
-    ∙ (ap (λ (n : List NodeEvent). of_pods tick.at 0 were.made ++ (of_node tick.at n ++ of_eviction tick.at e)) news
+    ∙ (ap (λ (n : List NodeEvent). of_pods tick.at 0 were.made
+    ++ (of_node tick.at n ++ of_eviction tick.at e)) node_events
     ∙ sym were.in_order))
 
 -- of all ticks

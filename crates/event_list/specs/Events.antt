@@ -34,18 +34,18 @@ pub record ArePodEvents (config : NodeConfig) (pods : List PodSpec) (before : Li
 
 -- an event at a moment
 abbrev pub event : ℕ → EventKind → Event
-event at what = record { at = at; what = what }
+event at kind = record { at = at; kind = kind }
 
 -- the events at a moment of the pods that are numbered from n on
 abbrev pub of_pods : ℕ → ℕ → List (List PodEvent) → List Event
 of_pods at n [] = []
 of_pods at n (events ∷ made) = map (λ (e : PodEvent). event at (Pod n e)) events ++ of_pods at (n + 1) made
 
--- those of the node
+-- the events of the node at a moment
 abbrev pub of_node : ℕ → List NodeEvent → List Event
 of_node at events = map (λ (e : NodeEvent). event at (Node e)) events
 
--- that of the eviction, if there is one
+-- the event of the eviction at a moment, if there is one
 abbrev pub of_eviction : ℕ → Option Eviction → List Event
 of_eviction at None = []
 of_eviction at (Some eviction) = event at (Evicted eviction) ∷ []
@@ -56,9 +56,9 @@ pub record AreTickEvents (config : NodeConfig) (pods : List PodSpec) (before : L
     (evictions : List (Option Eviction)) (eviction : Option Eviction) (events : List Event) : Type 0 where
   pub made : List (List PodEvent)
   pub are_made : ArePodEvents config pods before tick evictions made
-  pub news : List NodeEvent
-  pub are_news : AreNodeEvents config.eviction config.eviction_pressure_transition_period before tick news
-  pub in_order : events ≡ of_pods tick.at 0 made ++ (of_node tick.at news ++ of_eviction tick.at eviction)
+  pub node_events : List NodeEvent
+  pub are_node_events : AreNodeEvents config.eviction config.eviction_pressure_transition_period before tick node_events
+  pub in_order : events ≡ of_pods tick.at 0 made ++ (of_node tick.at node_events ++ of_eviction tick.at eviction)
 
 -- all events of these ticks with their evictions, tick after tick
 pub record AreEvents (config : NodeConfig) (pods : List PodSpec) (ticks : List TickObs)

@@ -12,10 +12,11 @@ use Rattle.event_list.specs.Events.{AreEvents}
 abbrev pub ShowsKnownPods : List PodSpec → TickObs → Type 0
 ShowsKnownPods pods tick = length tick.pods ≤ length pods
 
--- the numbers of the probes of each container are in their ranges: of a pod, and of all these
+-- the numbers of the probes of each of the pod's containers are in their ranges
 abbrev pub HasProbesInRange : PodSpec → Type 0
 HasProbesInRange pod = All (λ spec. AreInRange spec.probes) pod.containers
 
+-- each of these pods has the numbers of its probes in their ranges
 abbrev pub HaveProbesInRange : List PodSpec → Type 0
 HaveProbesInRange pods = All HasProbesInRange pods
 

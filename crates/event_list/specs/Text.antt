@@ -14,7 +14,7 @@ use Rattle.node_signals.specs.Conditions.{name_of as condition_name}
 use Rattle.phase.specs.declared.phase.Phase.{Phase}
 use Rattle.phase.specs.declared.phase.Phase.TheVariants.{Pending, Running, Succeeded, Failed}
 use Rattle.containers.specs.declared.pod_event_kind.PodEventKind.{PodEventKind}
-use Rattle.containers.specs.declared.pod_event_kind.PodEventKind.TheVariants as whats
+use Rattle.containers.specs.declared.pod_event_kind.PodEventKind.TheVariants as kinds
 use Rattle.pod_state.specs.declared.events.PodEvent.{PodEvent}
 use Rattle.pod_piece.specs.declared.order.EvictOrder.{EvictOrder}
 use Rattle.eviction.specs.declared.eviction.Eviction.{Eviction}
@@ -32,15 +32,18 @@ joined [] = []
 joined (part ∷ []) = part
 joined (part ∷ next ∷ parts) = part ++ joined (next ∷ parts)
 
+-- the name of a phase
 abbrev pub phase_word : Phase → List ℕ
 phase_word Pending = codes "Pending"
 phase_word Running = codes "Running"
 phase_word Succeeded = codes "Succeeded"
 phase_word Failed = codes "Failed"
 
+-- the value of a condition
 abbrev pub truth : Bool → List ℕ
 truth b = if b then codes "True" else codes "False"
 
+-- the probe that ordered a kill
 abbrev pub cause_word : Cause → List ℕ
 cause_word Startup = codes "startup"
 cause_word Liveness = codes "liveness"
@@ -50,11 +53,12 @@ abbrev pub key_of : Option PodSpec → List ℕ
 key_of None = []
 key_of (Some pod) = joined (pod.namespace ∷ codes "/" ∷ pod.name ∷ [])
 
+-- the name of a container; without a container there is none
 abbrev pub name_in : Option ContainerSpec → List ℕ
 name_in None = []
 name_in (Some container) = container.name
 
--- the name of one of its containers, and a dash for the pod itself
+-- the name of a container of the pod, and a dash for the pod itself
 abbrev pub container_of : Option PodSpec → Option ℕ → List ℕ
 container_of pod None = codes "-"
 container_of None (Some container) = []
@@ -64,31 +68,34 @@ container_of (Some pod) (Some container) = name_in (slice_get pod.containers con
 abbrev pub of_attempt : List ℕ → ℕ → List ℕ
 of_attempt word attempt = joined (word ∷ codes " " ∷ decimal attempt ∷ [])
 
-unfoldable pub what_words : PodEventKind → List ℕ
-what_words (whats.Died attempt code) =
+-- what happened to a container or to a pod
+unfoldable pub kind_words : PodEventKind → List ℕ
+kind_words (kinds.Died attempt code) =
     joined (codes "died " ∷ decimal attempt ∷ codes " " ∷ signed_decimal code ∷ [])
-what_words (whats.Started attempt) = of_attempt (codes "started") attempt
-what_words (whats.StartupPassed attempt) = of_attempt (codes "startup-passed") attempt
-what_words (whats.Kill attempt cause) =
+kind_words (kinds.Started attempt) = of_attempt (codes "started") attempt
+kind_words (kinds.StartupPassed attempt) = of_attempt (codes "startup-passed") attempt
+kind_words (kinds.Kill attempt cause) =
     joined (codes "kill " ∷ decimal attempt ∷ codes " " ∷ cause_word cause ∷ [])
-what_words whats.Ready = codes "ready"
-what_words whats.Unready = codes "unready"
-what_words (whats.Backoff delay) = joined (codes "backoff " ∷ decimal delay ∷ [])
-what_words (whats.Restart attempt) = of_attempt (codes "restart") attempt
-what_words (whats.Phase phase) = joined (codes "phase " ∷ phase_word phase ∷ [])
+kind_words kinds.Ready = codes "ready"
+kind_words kinds.Unready = codes "unready"
+kind_words (kinds.Backoff delay) = joined (codes "backoff " ∷ decimal delay ∷ [])
+kind_words (kinds.Restart attempt) = of_attempt (codes "restart") attempt
+kind_words (kinds.Phase phase) = joined (codes "phase " ∷ phase_word phase ∷ [])
 
--- whose event, and what happened
+-- the words of an event of a pod: whose it is, and what happened
 unfoldable pub pod_event_words : Option PodSpec → PodEvent → List ℕ
 pod_event_words pod event =
-    joined (key_of pod ∷ codes " " ∷ container_of pod event.container ∷ codes " " ∷ what_words event.what ∷ [])
+    joined (key_of pod ∷ codes " " ∷ container_of pod event.container ∷ codes " " ∷ kind_words event.kind ∷ [])
 
 -- a threshold by its signal and its kind
 abbrev pub threshold_words : ThresholdKey → List ℕ
 threshold_words key = joined (name_of key.signal ∷ codes " " ∷ kind_name key.kind ∷ [])
 
+-- whether a threshold became active or was cleared
 abbrev pub activity : Bool → List ℕ
 activity active = if active then codes "active" else codes "cleared"
 
+-- what happened to the node
 unfoldable pub node_event_words : NodeEvent → List ℕ
 node_event_words (Threshold key active) =
     joined (codes "node threshold " ∷ threshold_words key ∷ codes " " ∷ activity active ∷ [])
@@ -102,7 +109,7 @@ eviction_words key order =
     joined (key ∷ codes " " ∷ threshold_words (record { signal = order.signal; kind = order.kind })
     ∷ codes " " ∷ decimal order.grace ∷ [])
 
--- the same on a node with these pods
+-- the words of an eviction on a node with these pods
 abbrev pub words_among : List PodSpec → Eviction → List ℕ
 words_among pods eviction = eviction_words (key_of (slice_get pods eviction.pod)) eviction.order
 
@@ -113,7 +120,7 @@ event_words pods (Node event) = node_event_words event
 event_words pods (Evicted eviction) =
     joined (codes "node evicted " ∷ words_among pods eviction ∷ [])
 
--- its line
+-- the line of an event
 unfoldable pub event_line : List PodSpec → Event → List ℕ
 event_line pods event =
-    joined (codes "event " ∷ decimal event.at ∷ codes " " ∷ event_words pods event.what ∷ codes "\n" ∷ [])
+    joined (codes "event " ∷ decimal event.at ∷ codes " " ∷ event_words pods event.kind ∷ codes "\n" ∷ [])

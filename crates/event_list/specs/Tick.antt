@@ -14,15 +14,15 @@ pub record IsMadeAt (at : ℕ) (piece : Piece) (events : List PodEvent) : Type 0
   pub present : last_moment (ticks piece) ≡ Some at → AreLastEvents piece events
   pub absent : (last_moment (ticks piece) ≡ Some at → ⊥) → events ≡ []
 
--- of all these pods, by number
+-- the events at a moment of all these pods, by number
 pub record AreMadeBy (at : ℕ) (pieces : List Piece) (made : List (List PodEvent)) : Type 0 where
   pub as_many : length made ≡ length pieces
   pub each : (n : ℕ) (piece : Piece) (events : List PodEvent) → slice_get pieces n ≡ Some piece
       → slice_get made n ≡ Some events → IsMadeAt at piece events
 
 -- the events of a tick are added to those there were
-pub record AddsEvents (at : ℕ) (pieces : List Piece) (news : List NodeEvent) (eviction : Option Eviction)
+pub record AddsEvents (at : ℕ) (pieces : List Piece) (node_events : List NodeEvent) (eviction : Option Eviction)
     (old new : List Event) : Type 0 where
   pub made : List (List PodEvent)
   pub are_made : AreMadeBy at pieces made
-  pub added : new ≡ old ++ (of_pods at 0 made ++ (of_node at news ++ of_eviction at eviction))
+  pub added : new ≡ old ++ (of_pods at 0 made ++ (of_node at node_events ++ of_eviction at eviction))

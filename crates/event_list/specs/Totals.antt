@@ -18,7 +18,7 @@ pod_event_in (Evicted eviction) = None
 
 -- the events of pods and containers among these
 abbrev pub pod_events : List Event → List PodEvent
-pod_events events = filter_map (λ (e : Event). pod_event_in e.what) events
+pod_events events = filter_map (λ (e : Event). pod_event_in e.kind) events
 
 -- the totals of ticks with these events: an update for each pod that a tick shows, the events of pods,
 -- and the orders among them

@@ -10,14 +10,14 @@ pub struct Event {
     /// The moment of the tick, in seconds.
     pub at: u64,
     /// What happened.
-    pub what: EventKind,
+    pub kind: EventKind,
 }
 
 /// To whom it happened, and what.
 #[derive(Clone, Copy, Debug, PartialEq, Eq)]
 pub enum EventKind {
     /// To the pod with this number, or to one of its containers. (Kubernetes, "Pod Lifecycle".)
-    Pod(usize, PodEvent),
+    Pod { number: usize, event: PodEvent },
     /// To the node. (Kubernetes, "Node-pressure Eviction".)
     Node(NodeEvent),
     /// A pod was evicted. (Kubernetes, "Node-pressure Eviction".)

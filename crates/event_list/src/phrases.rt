@@ -1,4 +1,4 @@
-//! Phrases that are appended to a text, with no text of their own.
+//! Words and numbers, appended to a text.
 
 ghost use Rattle.std.specs.Prelude.{◌≡◌, ◌++◌, OnOk, OnErr, string_bytes, take};
 ghost use Rattle.std.specs.String.Boundary.{IsSplitPoint};

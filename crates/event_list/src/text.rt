@@ -1,7 +1,7 @@
 //! The line of an event.
 
 ghost use Rattle.std.specs.Prelude.{◌≡◌, ◌++◌, IfOk, OnOk, OnErr, string_bytes, Option, codes};
-ghost use Rattle.event_list.specs.Text.{container_of, what_words, pod_event_words, node_event_words};
+ghost use Rattle.event_list.specs.Text.{container_of, kind_words, pod_event_words, node_event_words};
 ghost use Rattle.event_list.specs.Text.{event_words, event_line, Extends};
 ghost use Rattle.event_list.specs.declared.event.EventKind.TheVariants.{Evicted};
 ghost use Rattle.node_signals.specs.declared.event.NodeEvent.TheVariants.{Reclaim};
@@ -35,12 +35,12 @@ fn container_text(names: Names<'_>, number: usize, container: Option<usize>) -> 
 }
 
 /// Appends a space, and what happened to a container or to a pod.
-#[tactic(auto, unfolding(crate::specs::Text::what_words))]
-fn add_what(text: &mut String, what: PodEventKind) -> Result<(), AllocError>
-    ensures ok { OnOk result (string_bytes text.new ≡ string_bytes text.old ++ (codes " " ++ what_words what)) }
+#[tactic(auto, unfolding(crate::specs::Text::kind_words))]
+fn add_kind(text: &mut String, kind: PodEventKind) -> Result<(), AllocError>
+    ensures ok { OnOk result (string_bytes text.new ≡ string_bytes text.old ++ (codes " " ++ kind_words kind)) }
     ensures more { Extends (string_bytes text.old) (string_bytes text.new) }
 {
-    match what {
+    match kind {
         PodEventKind::Died { attempt, exit_code } => {
             add_with_number(text, " died ", attempt)?;
             add_with_number(text, " ", exit_code)
@@ -79,7 +79,7 @@ fn add_pod_event(
     names.add_key(text, number)?;
     add(text, " ")?;
     add(text, container_text(names, number, event.container))?;
-    add_what(text, event.what)
+    add_kind(text, event.kind)
 }
 
 #[tactic(auto, unfolding(crate::specs::Text::node_event_words))]
@@ -109,7 +109,7 @@ fn add_node_event(text: &mut String, event: NodeEvent) -> Result<(), AllocError>
             add(text, " ")?;
             add(text, truth_word(value))
         }
-        NodeEvent::Reclaim(key) => add_reclaim(text, key),
+        NodeEvent::Reclaim { key } => add_reclaim(text, key),
     }
 }
 
@@ -159,7 +159,7 @@ fn add_words(text: &mut String, event: EventKind, names: Names<'_>) -> Result<()
     ensures more { Extends (string_bytes text.old) (string_bytes text.new) }
 {
     match event {
-        EventKind::Pod(number, event) => add_pod_event(text, names, number, event),
+        EventKind::Pod { number, event } => add_pod_event(text, names, number, event),
         EventKind::Node(event) => add_node_event(text, event),
         EventKind::Evicted(eviction) => add_evicted(text, eviction, names),
     }
@@ -173,7 +173,7 @@ fn add_line(text: &mut String, event: &Event, names: Names<'_>) -> Result<(), Al
 {
     add_with_number(text, "event ", event.at)?;
     add(text, " ")?;
-    add_words(text, event.what, names)?;
+    add_words(text, event.kind, names)?;
     add(text, "\n")
 }
 

@@ -25,7 +25,10 @@ fn add_events_of_pod(
     for event in made {
         events.push(Event {
             at,
-            what: EventKind::Pod(number, *event),
+            kind: EventKind::Pod {
+                number,
+                event: *event,
+            },
         })?;
     }
     Ok(())
@@ -70,14 +73,14 @@ fn add_events_of_pods(
 fn add_events_of_node(
     events: &mut Vec<Event>,
     at: u64,
-    news: &[NodeEvent],
+    node_events: &[NodeEvent],
 ) -> Result<(), AllocError>
-    ensures { OnOk result (events.new.items ≡ events.old.items ++ of_node at news.now) }
+    ensures { OnOk result (events.new.items ≡ events.old.items ++ of_node at node_events.now) }
 {
-    for event in news {
+    for event in node_events {
         events.push(Event {
             at,
-            what: EventKind::Node(*event),
+            kind: EventKind::Node(*event),
         })?;
     }
     Ok(())
@@ -94,7 +97,7 @@ fn add_event_of_eviction(
     if let Some(eviction) = eviction {
         events.push(Event {
             at,
-            what: EventKind::Evicted(eviction),
+            kind: EventKind::Evicted(eviction),
         })?;
     }
     Ok(())
@@ -106,13 +109,13 @@ pub fn add_events(
     events: &mut Vec<Event>,
     at: u64,
     pieces: &[PodPiece],
-    news: &[NodeEvent],
+    node_events: &[NodeEvent],
     eviction: Option<Eviction>,
 ) -> Result<(), AllocError>
-    ensures { OnOk result (AddsEvents at pieces.now news.now eviction events.old.items events.new.items) }
+    ensures { OnOk result (AddsEvents at pieces.now node_events.now eviction events.old.items events.new.items) }
 {
     add_events_of_pods(events, at, pieces)?;
-    add_events_of_node(events, at, news)?;
+    add_events_of_node(events, at, node_events)?;
     add_event_of_eviction(events, at, eviction)?;
     Ok(())
 }

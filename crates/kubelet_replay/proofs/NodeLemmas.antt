@@ -5,7 +5,7 @@ use Rattle.std.proofs.Common.{sym, subst, arith}
 use Rattle.std.specs.Prelude.{slice_get, MatchOption, IfSome}
 use Rattle.std.specs.Option.{option_flatten}
 use Rattle.histories.specs.Histories.{EndsBefore}
-use Rattle.std.proofs.lemmas.List.{length-take-le, take_all, length-append}
+use Rattle.std.proofs.lemmas.List.{length-take-le, length-drop, take_all, length-append}
 use Rattle.std.proofs.Math.Seq.{take-append_seam}
 use Rattle.histories.proofs.Lists.{rest_more, slice_get-kept}
 use Rattle.manifest.specs.declared.pod.PodSpec.{PodSpec}
@@ -98,9 +98,10 @@ fits_next pods ticks before tick rest s may whole taken =
       };
     }
 
--- a node that has taken the ticks so far, and the pods that the last of them shows
-pub record IsSoFar (config : NodeConfig) (pods : List PodSpec) (ticks before rest : List TickObs) (arrived : ℕ)
+-- a node that has taken the ticks so far, and on which the pods have arrived that the last of them shows
+pub record IsSoFar (config : NodeConfig) (pods : List PodSpec) (ticks before rest : List TickObs)
     (left : List PodSpec) (node : Option State) : Type 0 where
+  pub arrived : ℕ
   pub whole : ticks ≡ before ++ rest
   pub left_is : left ≡ drop arrived pods
   pub few : arrived ≤ length pods
@@ -131,8 +132,9 @@ cut_twice (suc n) (suc k) (p ∷ pods) le =
 
 -- no tick and no pod yet
 none_yet : (config : NodeConfig) (pods : List PodSpec) (ticks : List TickObs) (new : Option State)
-    → IsAfter config [] [] new → IsSoFar config pods ticks [] ticks 0 pods new
+    → IsAfter config [] [] new → IsSoFar config pods ticks [] ticks pods new
 none_yet config pods ticks new after = record {
+  arrived = 0;
   whole = refl;
   left_is = refl;
   few = omega arith;
@@ -142,25 +144,39 @@ none_yet config pods ticks new after = record {
 
 -- the same with what the code has of the ticks and of the pods
 pub none_taken : (config : NodeConfig) (pods left : List PodSpec) (ticks rest : List TickObs) (new : Option State)
-    → rest ≡ ticks → left ≡ pods → IsAfter config [] [] new → IsSoFar config pods ticks [] rest 0 left new
+    → rest ≡ ticks → left ≡ pods → IsAfter config [] [] new → IsSoFar config pods ticks [] rest left new
 none_taken config pods left ticks rest new all these after =
-    subst (λ (ts : List TickObs). IsSoFar config pods ticks [] ts 0 left new) (sym all)
-    (subst (λ (ps : List PodSpec). IsSoFar config pods ticks [] ticks 0 ps new) (sym these)
+    subst (λ (ts : List TickObs). IsSoFar config pods ticks [] ts left new) (sym all)
+    (subst (λ (ps : List PodSpec). IsSoFar config pods ticks [] ticks ps new) (sym these)
     (none_yet config pods ticks new after))
 
+left_over : (pods left : List PodSpec) (arrived : ℕ) → left ≡ drop arrived pods → length left ≡ length pods - arrived
+left_over pods left arrived is = ap length is ∙ length-drop arrived pods
+
+-- the place of the next tick, and that it shows no more pods than there are
+next_place : (config : NodeConfig) (pods : List PodSpec) (ticks before : List TickObs) (tick : TickObs)
+    (rest : List TickObs) (left : List PodSpec) (old : Option State)
+    → AreReplayable pods ticks → IsSoFar config pods ticks before (tick ∷ rest) left old
+    → (slice_get ticks (length before) ≡ Some tick) × (length tick.pods ≤ length pods)
+next_place config pods ticks before tick rest left old may s =
+    let at : slice_get ticks (length before) ≡ Some tick =
+    ap (λ (xs : List TickObs). slice_get xs (length before)) s.whole ∙ middle before tick rest in
+    (at, may.within (length before) tick at)
+
 -- the pods that the next tick shows have arrived
-pub arrived_next : (config : NodeConfig) (pods : List PodSpec) (ticks before : List TickObs) (tick : TickObs)
-    (rest : List TickObs) (arrived : ℕ) (left : List PodSpec) (old new : Option State)
-    → IsSoFar config pods ticks before (tick ∷ rest) arrived left old
-    → ((ps : List PodSpec) (ts : List TickObs) → IsAfter config ps ts old
-    → IsAfter config (ps ++ take (length tick.pods - arrived) left) ts new)
-    → IsAfter config (take (length tick.pods) pods) before new
-arrived_next config pods ticks before tick rest arrived left old new s arrives =
-    let le : arrived ≤ length tick.pods = s.shown 0 tick refl in
-    let now = arrives (take arrived pods) before s.after in
-    subst (λ (ps : List PodSpec). IsAfter config ps before new)
-    (ap (λ (ps : List PodSpec). take arrived pods ++ take (length tick.pods - arrived) ps) s.left_is
-    ∙ (cut_twice arrived (length tick.pods) pods le).0) now
+arrived_next : (config : NodeConfig) (pods : List PodSpec) (ticks before : List TickObs) (tick : TickObs)
+    (rest : List TickObs) (left left' : List PodSpec) (old new : Option State)
+    → (s : IsSoFar config pods ticks before (tick ∷ rest) left old)
+    → HaveArrived left (length tick.pods - s.arrived) old new left'
+    → IsAfter config (take (length tick.pods) pods) before new × (left' ≡ drop (length tick.pods) pods)
+arrived_next config pods ticks before tick rest left left' old new s have =
+    let le : s.arrived ≤ length tick.pods = s.shown 0 tick refl in
+    let both = cut_twice s.arrived (length tick.pods) pods le in (
+      subst (λ (ps : List PodSpec). IsAfter config ps before new)
+          (ap (λ (ps : List PodSpec). take s.arrived pods ++ take (length tick.pods - s.arrived) ps) s.left_is ∙ both.0)
+          (have.arrived config (take s.arrived pods) before s.after),
+      have.left_is ∙ ap (drop (length tick.pods - s.arrived)) s.left_is ∙ both.1,
+    )
 
 may_take : (config : NodeConfig) (pods : List PodSpec) (ticks before : List TickObs) (tick : TickObs)
     (rest : List TickObs) (node : Option State)
@@ -170,58 +186,44 @@ may_take config pods ticks before tick rest None may whole after = absurd after
 may_take config pods ticks before tick rest (Some s) may whole after = fits_next pods ticks before tick rest s may
     whole after.1
 
--- so it may be taken
-pub may_take_next : (config : NodeConfig) (pods : List PodSpec) (ticks before : List TickObs) (tick : TickObs)
-    (rest : List TickObs) (arrived : ℕ) (left : List PodSpec) (old new : Option State)
-    → AreReplayable pods ticks → IsSoFar config pods ticks before (tick ∷ rest) arrived left old
-    → ((ps : List PodSpec) (ts : List TickObs) → IsAfter config ps ts old
-    → IsAfter config (ps ++ take (length tick.pods - arrived) left) ts new) → MayTake new tick
-may_take_next config pods ticks before tick rest arrived left old new may s arrives =
-    may_take config pods ticks before tick rest new may s.whole
-    (arrived_next config pods ticks before tick rest arrived left old new s arrives)
-
--- and once it was
-pub one_more : (config : NodeConfig) (pods : List PodSpec) (ticks before : List TickObs) (tick : TickObs)
-    (rest : List TickObs) (arrived : ℕ) (left left' : List PodSpec) (old mid new : Option State)
-    → AreReplayable pods ticks → IsSoFar config pods ticks before (tick ∷ rest) arrived left old
-    → ((ps : List PodSpec) (ts : List TickObs) → IsAfter config ps ts old
-    → IsAfter config (ps ++ take (length tick.pods - arrived) left) ts mid)
-    → left' ≡ drop (length tick.pods - arrived) left
+-- once the tick was taken
+one_more : (config : NodeConfig) (pods : List PodSpec) (ticks before : List TickObs) (tick : TickObs)
+    (rest : List TickObs) (left left' : List PodSpec) (old mid new : Option State)
+    → AreReplayable pods ticks → (s : IsSoFar config pods ticks before (tick ∷ rest) left old)
+    → HaveArrived left (length tick.pods - s.arrived) old mid left'
     → ((ps : List PodSpec) (ts : List TickObs) → IsAfter config ps ts mid → IsAfter config ps (ts ++ tick ∷ []) new)
-    → IsSoFar config pods ticks (before ++ tick ∷ []) rest (length tick.pods) left' new
-one_more config pods ticks before tick rest arrived left left' old mid new may s arrives left_is takes =
-    let le : arrived ≤ length tick.pods = s.shown 0 tick refl in
-    let at : slice_get ticks (length before) ≡ Some tick = ap (λ (xs : List TickObs). slice_get xs (length before))
-    s.whole ∙ middle before tick rest in
+    → IsSoFar config pods ticks (before ++ tick ∷ []) rest left' new
+one_more config pods ticks before tick rest left left' old mid new may s have takes =
+    let here = next_place config pods ticks before tick rest left old may s in
+    let next = arrived_next config pods ticks before tick rest left left' old mid s have in
     record {
+      arrived = length tick.pods;
       whole = rest_more ticks before tick rest s.whole;
-      left_is = left_is ∙ ap (drop (length tick.pods - arrived)) s.left_is
-          ∙ (cut_twice arrived (length tick.pods) pods le).1;
-      few = may.within (length before) tick at;
+      left_is = next.1;
+      few = here.1;
       shown = λ t later there.
           let place : slice_get ticks (length before + suc t) ≡ Some later =
           ap (λ (xs : List TickObs). slice_get xs (length before + suc t)) s.whole ∙ get_behind before tick rest t
           later there in
-          may.growing (length before) (length before + suc t) tick later (omega arith) at place;
-      after = takes (take (length tick.pods) pods) before
-          (arrived_next config pods ticks before tick rest arrived left old mid s arrives);
+          may.growing (length before) (length before + suc t) tick later (omega arith) here.0 place;
+      after = takes (take (length tick.pods) pods) before next.0;
     }
 
 -- all ticks taken, and the other pods arrived
-pub all_taken : (config : NodeConfig) (pods : List PodSpec) (ticks before : List TickObs) (arrived count : ℕ)
-    (left : List PodSpec) (old new : Option State)
-    → IsSoFar config pods ticks before [] arrived left old → count ≡ length pods
-    → ((ps : List PodSpec) (ts : List TickObs) → IsAfter config ps ts old
-    → IsAfter config (ps ++ take (count - arrived) left) ts new)
+pub all_taken : (config : NodeConfig) (pods : List PodSpec) (ticks before : List TickObs)
+    (left left' : List PodSpec) (old new : Option State)
+    → IsSoFar config pods ticks before [] left old → HaveArrived left (length left - 0) old new left'
     → IsAfter config pods ticks new
-all_taken config pods ticks before arrived count left old new s many arrives =
-    let few : arrived ≤ length pods = s.few in
-    let now = arrives (take arrived pods) before s.after in
-    let all : take arrived pods ++ take (count - arrived) left ≡ pods =
-    ap (λ (ps : List PodSpec). take arrived pods ++ take (count - arrived) ps) s.left_is
-    ∙ (cut_twice arrived count pods (omega arith)).0 ∙ take_all count pods (omega arith) in
+all_taken config pods ticks before left left' old new s have =
+    let few : s.arrived ≤ length pods = s.few in
+    let count : length left - 0 ≡ length pods - s.arrived = omega (arith, left_over pods left s.arrived s.left_is) in
+    let all : take s.arrived pods ++ take (length left - 0) left ≡ pods =
+    ap (λ (k : ℕ). take s.arrived pods ++ take k left) count
+    ∙ ap (λ (ps : List PodSpec). take s.arrived pods ++ take (length pods - s.arrived) ps) s.left_is
+    ∙ (cut_twice s.arrived (length pods) pods few).0 ∙ take_all (length pods) pods (omega arith) in
     subst (λ (ts : List TickObs). IsAfter config pods ts new) (sym (s.whole ∙ append-nil before))
-    (subst (λ (ps : List PodSpec). IsAfter config ps before new) all now)
+    (subst (λ (ps : List PodSpec). IsAfter config ps before new) all
+    (have.arrived config (take s.arrived pods) before s.after))
 
 -- some pods arrive one after the other
 pub took_more : (config : NodeConfig) (arrived : List PodSpec) (ticks : List TickObs) (taken : List PodSpec)
@@ -301,68 +303,76 @@ pub halted : (config : NodeConfig) (pods : List PodSpec) (ticks : List TickObs) 
 halted config pods ticks None is after = after
 halted config pods ticks (Some s) is after = absurd (cc)
 
--- the same with what the code has of the tick
-pub so_far_next : (config : NodeConfig) (pods : List PodSpec) (ticks before rest next : List TickObs) (arrived : ℕ)
+-- the same with what the code has of the ticks
+pub so_far_next : (config : NodeConfig) (pods : List PodSpec) (ticks before rest next : List TickObs)
     (left : List PodSpec) (old : Option State)
-    → rest ≡ next → IsSoFar config pods ticks before rest arrived left old
-    → IsSoFar config pods ticks before next arrived left old
-so_far_next config pods ticks before rest next arrived left old is s =
-    subst (λ (ts : List TickObs). IsSoFar config pods ticks before ts arrived left old) is s
+    → rest ≡ next → IsSoFar config pods ticks before rest left old → IsSoFar config pods ticks before next left old
+so_far_next config pods ticks before rest next left old is s =
+    subst (λ (ts : List TickObs). IsSoFar config pods ticks before ts left old) is s
 
-abbrev pub Arrive : NodeConfig → Option State → Option State → List PodSpec → Type 0
-Arrive config old new arriving = (ps : List PodSpec) (ts : List TickObs) → IsAfter config ps ts old
-    → IsAfter config (ps ++ arriving) ts new
-
-pub may_take_shown : (config : NodeConfig) (pods : List PodSpec) (ticks before : List TickObs) (tick : TickObs)
-    (rest : List TickObs) (shown : List (Option PodObs)) (arrived : ℕ) (left : List PodSpec) (old new : Option State)
-    → AreReplayable pods ticks → IsSoFar config pods ticks before (tick ∷ rest) arrived left old → shown ≡ tick.pods
-    → Arrive config old new (take (length shown - arrived) left) → MayTake new tick
-may_take_shown config pods ticks before tick rest shown arrived left old new may s is arrives =
-    may_take_next config pods ticks before tick rest arrived left old new may s
-    (subst (λ (os : List (Option PodObs)). Arrive config old new (take (length os - arrived) left)) is arrives)
-
-pub one_more_shown : (config : NodeConfig) (pods : List PodSpec) (ticks before : List TickObs) (tick : TickObs)
-    (rest : List TickObs) (shown : List (Option PodObs)) (arrived : ℕ) (left left' : List PodSpec)
-    (old mid new : Option State)
-    → AreReplayable pods ticks → IsSoFar config pods ticks before (tick ∷ rest) arrived left old → shown ≡ tick.pods
-    → Arrive config old mid (take (length shown - arrived) left) → left' ≡ drop (length shown - arrived) left
-    → ((ps : List PodSpec) (ts : List TickObs) → IsAfter config ps ts mid → IsAfter config ps (ts ++ tick ∷ []) new)
-    → IsSoFar config pods ticks (before ++ tick ∷ []) rest (length shown) left' new
-one_more_shown config pods ticks before tick rest shown arrived left left' old mid new may s is arrives left_is takes =
-    subst (λ (os : List (Option PodObs)). IsSoFar config pods ticks (before ++ tick ∷ []) rest (length os) left' new)
-    (sym is)
-    (one_more config pods ticks before tick rest arrived left left' old mid new may s
-    (subst (λ (os : List (Option PodObs)). Arrive config old mid (take (length os - arrived) left)) is arrives)
-    (subst (λ (os : List (Option PodObs)). left' ≡ drop (length os - arrived) left) is left_is) takes)
-
--- the pods that the next tick shows may arrive
-pub may_arrive : (config : NodeConfig) (pods : List PodSpec) (ticks before rest : List TickObs) (arrived more : ℕ)
-    (left : List PodSpec) (node : Option State)
-    → AreReplayable pods ticks → IsSoFar config pods ticks before rest arrived left node
-    → arrived + more ≤ length pods → MayArrive more node
-may_arrive config pods ticks before rest arrived more left node may s le = record {
+-- no more than are left may arrive
+pub may_arrive : (config : NodeConfig) (pods : List PodSpec) (ticks before rest : List TickObs) (more : ℕ)
+    (left : List PodSpec) (old : Option State)
+    → AreReplayable pods ticks → IsSoFar config pods ticks before rest left old
+    → more ≤ length left → MayArrive more old
+may_arrive config pods ticks before rest more left old may s le = record {
   config = config;
-  arrived = take arrived pods;
+  arrived = take s.arrived pods;
   taken = before;
   after = s.after;
   room =
       let few : length pods ≤ most_pods = may.few_pods in
-      omega (arith, few, le, length-take-le arrived pods s.few);
+      let some : s.arrived ≤ length pods = s.few in
+      omega (arith, few, le, some, left_over pods left s.arrived s.left_is, length-take-le s.arrived pods s.few);
 }
 
--- those that the next tick shows
-pub may_arrive_shown : (config : NodeConfig) (pods : List PodSpec) (ticks before : List TickObs) (tick : TickObs)
-    (rest : List TickObs) (shown : List (Option PodObs)) (arrived : ℕ) (left : List PodSpec) (old : Option State)
-    → AreReplayable pods ticks → IsSoFar config pods ticks before (tick ∷ rest) arrived left old → shown ≡ tick.pods
-    → MayArrive (length shown - arrived) old
-may_arrive_shown config pods ticks before tick rest shown arrived left old may s is =
-    let le : arrived ≤ length tick.pods = s.shown 0 tick refl in
-    let at : slice_get ticks (length before) ≡ Some tick =
-    ap (λ (xs : List TickObs). slice_get xs (length before)) s.whole ∙ middle before tick rest in
-    let within : length tick.pods ≤ length pods = may.within (length before) tick at in
+-- until as many pods are left as the next tick leaves out, those arrive that it shows first
+arriving : (config : NodeConfig) (pods : List PodSpec) (ticks before : List TickObs) (tick : TickObs)
+    (rest : List TickObs) (shown : List (Option PodObs)) (count : ℕ) (left : List PodSpec) (old : Option State)
+    → AreReplayable pods ticks → (s : IsSoFar config pods ticks before (tick ∷ rest) left old)
+    → shown ≡ tick.pods → count ≡ length pods
+    → length left - (count - length shown) ≡ length tick.pods - s.arrived
+arriving config pods ticks before tick rest shown count left old may s is all =
     let same : length shown ≡ length tick.pods = ap length is in
-    may_arrive config pods ticks before (tick ∷ rest) arrived (length shown - arrived) left old may s
-    (omega (arith, le, within, same))
+    let here = next_place config pods ticks before tick rest left old may s in
+    let le : s.arrived ≤ length tick.pods = s.shown 0 tick refl in
+    omega (arith, same, all, le, here.1, left_over pods left s.arrived s.left_is)
+
+-- the next tick shows no more pods than there are
+pub shows_few : (config : NodeConfig) (pods : List PodSpec) (ticks before : List TickObs) (tick : TickObs)
+    (rest : List TickObs) (shown : List (Option PodObs)) (count : ℕ) (left : List PodSpec) (old : Option State)
+    → AreReplayable pods ticks → IsSoFar config pods ticks before (tick ∷ rest) left old
+    → shown ≡ tick.pods → count ≡ length pods → length shown ≤ count
+shows_few config pods ticks before tick rest shown count left old may s is all =
+    let same : length shown ≡ length tick.pods = ap length is in
+    let here = next_place config pods ticks before tick rest left old may s in omega (arith, same, all, here.1)
+
+-- it may be taken once those that it shows have arrived
+pub may_take_shown : (config : NodeConfig) (pods : List PodSpec) (ticks before : List TickObs) (tick : TickObs)
+    (rest : List TickObs) (shown : List (Option PodObs)) (count : ℕ) (left left' : List PodSpec)
+    (old new : Option State)
+    → AreReplayable pods ticks → IsSoFar config pods ticks before (tick ∷ rest) left old
+    → shown ≡ tick.pods → count ≡ length pods
+    → HaveArrived left (length left - (count - length shown)) old new left' → MayTake new tick
+may_take_shown config pods ticks before tick rest shown count left left' old new may s is all have =
+    let more = arriving config pods ticks before tick rest shown count left old may s is all in
+    may_take config pods ticks before tick rest new may s.whole
+    (arrived_next config pods ticks before tick rest left left' old new s
+    (subst (λ (k : ℕ). HaveArrived left k old new left') more have)).0
+
+-- and when it was
+pub one_more_shown : (config : NodeConfig) (pods : List PodSpec) (ticks before : List TickObs) (tick : TickObs)
+    (rest : List TickObs) (shown : List (Option PodObs)) (count : ℕ) (left left' : List PodSpec)
+    (old mid new : Option State)
+    → AreReplayable pods ticks → IsSoFar config pods ticks before (tick ∷ rest) left old
+    → shown ≡ tick.pods → count ≡ length pods
+    → HaveArrived left (length left - (count - length shown)) old mid left'
+    → ((ps : List PodSpec) (ts : List TickObs) → IsAfter config ps ts mid → IsAfter config ps (ts ++ tick ∷ []) new)
+    → IsSoFar config pods ticks (before ++ tick ∷ []) rest left' new
+one_more_shown config pods ticks before tick rest shown count left left' old mid new may s is all have takes =
+    let more = arriving config pods ticks before tick rest shown count left old may s is all in
+    one_more config pods ticks before tick rest left left' old mid new may s
+    (subst (λ (k : ℕ). HaveArrived left k old mid left') more have) takes
 
 at_most : (k : ℕ) (xs : List PodSpec) → length (take k xs) ≤ k
 at_most zero xs = omega arith

@@ -1,11 +1,13 @@
 -- What a trace keeps lets every tick be handed on.
-use Rattle.std.proofs.Common.{◌≡◌, inl, inr, ◌∙◌, ℕ, suc, zero, ◌-◌, ◌<◌, ◌≤◌, ◌^◌, List, [], ◌∷◌}
+use Rattle.std.proofs.Common.{◌≡◌, inl, inr, ◌∙◌, ℕ, suc, zero, ◌-◌, ◌<◌, ◌≤◌, List, [], ◌∷◌}
 use Rattle.std.proofs.Common.{length, map, take, Option, Some, None, refl, ap}
 use Rattle.std.proofs.Common.{sym, subst, arith}
 use Rattle.std.specs.Prelude.{slice_get, IfSome, IsSomeAnd, option_and_then, unwrap_or}
 use Rattle.std.proofs.lemmas.Bool.{cases_lt}
+use Rattle.quantity.specs.Duration.{end_of_time}
 use Rattle.histories.specs.Histories.{recorded, last_moment, moment_at, EndsBefore}
 use Rattle.histories.proofs.Places.{length-project, moment_at-project}
+use Rattle.quantity.specs.Duration.{end_of_time}
 use Rattle.manifest.specs.declared.pod.PodSpec.{PodSpec}
 use Rattle.state_diff.specs.declared.seen.Seen.{Seen}
 use Rattle.state_diff.specs.Instances.{Tick, IsAcceptable}
@@ -134,5 +136,5 @@ are_replayable pods arrivals departures ticks acceptable shape = record {
                 (acceptable_at ticks t n c tick observed here shown (acceptable n c)));
           };
           later = subst (λ (m : ℕ). EndsBefore (pod_ticks (take t ticks) n) m) (sym moment) (ends t n tick here);
-          bounded = subst (λ (m : ℕ). m < 2 ^ 40) (sym moment) (shape.below t tick here);
+          bounded = subst (λ (m : ℕ). m < end_of_time) (sym moment) (shape.below t tick here);
         }

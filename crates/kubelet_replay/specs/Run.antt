@@ -50,13 +50,13 @@ abbrev pub check_line : ℕ → ℕ → List ℕ
 check_line pods ticks =
     joined (codes "ok pods=" ∷ decimal pods ∷ codes " ticks=" ∷ decimal ticks ∷ codes "\n" ∷ [])
 
--- these bytes are the line of the text's trace in a format
+-- these bytes are the line that `check` writes of the text's trace, in a format
 pub record IsCheckIn (format : Format) (text bytes : List ℕ) : Type 0 where
   pub trace : Trace
   pub is_trace : trace_of format text ≡ Ok trace
   pub line : bytes ≡ check_line (length trace.pods) (length trace.ticks)
 
--- and in the standard one
+-- these bytes are the line that `check` writes of the text's trace, in the standard format
 abbrev pub IsCheckOfText : List ℕ → List ℕ → Type 0
 IsCheckOfText = IsCheckIn Standard
 
@@ -66,7 +66,7 @@ pub record IsReportIn (format : Format) (text bytes : List ℕ) : Type 0 where
   pub is_trace : trace_of format text ≡ Ok trace
   pub report : IsReportOf trace bytes
 
--- and in the standard one
+-- these bytes are the report of the text's trace in the standard format
 abbrev pub IsReportOfText : List ℕ → List ℕ → Type 0
 IsReportOfText = IsReportIn Standard
 
@@ -147,7 +147,7 @@ pub record WritesPart (IsAnswer : List ℕ → List ℕ → Type 0) (left old ne
   pub part : count < length bytes
   pub written : Appends old new (take count bytes)
 
--- what each refusal of a format says of the input and of what is written
+-- what each refusal says of the input and of what is written, in a format
 abbrev pub IsRefusalIn : Format → (List ℕ → List ℕ → Type 0) → Option (List ℕ) → Option (List ℕ) → Option (List ℕ)
     → RunFault → Type 0
 IsRefusalIn format IsAnswer left old new Read = new ≡ old
@@ -156,7 +156,7 @@ IsRefusalIn format IsAnswer left old new (Line fault) = IsFaulty format left fau
 IsRefusalIn format IsAnswer left old new OutOfMemory = new ≡ old
 IsRefusalIn format IsAnswer left old new Write = WritesPart IsAnswer left old new
 
--- and of the standard one
+-- what each refusal says of the input and of what is written, in the standard format
 abbrev pub IsRefusal : (List ℕ → List ℕ → Type 0) → Option (List ℕ) → Option (List ℕ) → Option (List ℕ) → RunFault
     → Type 0
 IsRefusal = IsRefusalIn Standard

@@ -12,7 +12,11 @@ pub use fault::{RunFault, fault_line, status_of};
 pub use node_report::report_text;
 pub use replay_stream::{Counted, MemSink, MemSource, ReadFailed, Sink, Source, Stop, WriteFailed};
 pub use report::{report_by_steps, report_by_workers};
-pub use round_steps::{StepsFault, read_steps, steps_fault_line, steps_status_of};
+pub use round_steps::{
+    LONGEST_STEPS_FILE, StepsFault, read_steps, steps_fault_line, steps_status_of,
+};
 pub use run::{check, check_in, replay, replay_in, replay_play, replay_play_in};
-pub use tick_round::{Gate, NoGate, Node, Step, Summary, TickFault, laws as round_laws};
+pub use tick_round::{
+    Gate, NoGate, Node, Step, Summary, ThreadRuntime, TickFault, laws as round_laws,
+};
 pub use trace::Format;

@@ -1,6 +1,6 @@
 //! The node of a trace, as its ticks leave it.
 
-ghost use Rattle.std.specs.Prelude.{◌<◌, ◌≤◌, [], OnOk};
+ghost use Rattle.std.specs.Prelude.{◌-◌, ◌<◌, ◌≤◌, [], length, OnOk};
 ghost use Rattle.node_config.specs.declared.node.NodeConfig.{NodeConfig};
 ghost use Rattle.event_book.specs.Limits.{most_workers};
 ghost use Rattle.tick_round.specs.Node.{IsAfter};
@@ -11,18 +11,19 @@ use node_config::NodeConfig;
 use observations::TickObs;
 use std::sync::ledger::Ledger;
 use std::vec::IntoIter;
-use tick_round::{Gate, Node, Runtime, Step, TickFault};
+use tick_round::{Gate, Node, Step, ThreadRuntime, TickFault};
 
-/// The next pods arrive, this many of them.
+/// Pods arrive one after the other, until this many are left.
 fn arrive<U: Ledger, E: Ledger, O: Ledger>(
     node: &mut Node<U, E, O>,
     arriving: &mut IntoIter<PodSpec>,
-    count: usize,
+    left: usize,
 ) -> Result<(), TickFault>
-    requires { MayArrive count node.old }
-    ensures { OnOk result
-        (HaveArrived arriving.old.rest.items count node.old node.new arriving.new.rest.items) }
+    requires { MayArrive (length arriving.old.rest.items - left) node.old }
+    ensures { OnOk result (HaveArrived arriving.old.rest.items (length arriving.old.rest.items - left)
+        node.old node.new arriving.new.rest.items) }
 {
+    let count = arriving.len().saturating_sub(left);
     for _ in 0..count {
         let Some(pod) = arriving.next() else {
             return Ok(());
@@ -50,14 +51,11 @@ pub(crate) fn take_by_steps<U: Ledger, E: Ledger, O: Ledger>(
 {
     let count = pods.len();
     let mut arriving = pods.into_iter();
-    let mut arrived = 0;
     for tick in ticks {
-        let present = tick.pods.as_slice().len();
-        arrive(node, &mut arriving, present - arrived)?;
-        arrived = present;
+        arrive(node, &mut arriving, count - tick.pods.as_slice().len())?;
         node.tick_play(tick, workers, steps)?;
     }
-    arrive(node, &mut arriving, count - arrived)?;
+    arrive(node, &mut arriving, 0)?;
     Ok(())
 }
 
@@ -66,7 +64,7 @@ pub(crate) fn take_by_workers<
     U: Ledger + Send,
     E: Ledger + Send,
     O: Ledger + Send,
-    R: Runtime,
+    R: ThreadRuntime,
     G: Gate,
 >(
     rt: &R,
@@ -85,13 +83,10 @@ pub(crate) fn take_by_workers<
 {
     let count = pods.len();
     let mut arriving = pods.into_iter();
-    let mut arrived = 0;
     for tick in ticks {
-        let present = tick.pods.as_slice().len();
-        arrive(node, &mut arriving, present - arrived)?;
-        arrived = present;
+        arrive(node, &mut arriving, count - tick.pods.as_slice().len())?;
         node.tick(rt, tick, workers, gate)?;
     }
-    arrive(node, &mut arriving, count - arrived)?;
+    arrive(node, &mut arriving, 0)?;
     Ok(())
 }

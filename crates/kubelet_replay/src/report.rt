@@ -1,6 +1,6 @@
 //! The report of a trace.
 
-ghost use Rattle.std.specs.Prelude.{◌≡◌, ◌≢◌, ◌<◌, ◌≤◌, List, None, IfOk, OnOk, string_bytes};
+ghost use Rattle.std.specs.Prelude.{◌≡◌, ◌≢◌, ◌<◌, ◌≤◌, [], List, None, IfOk, OnOk, string_bytes};
 ghost use Rattle.manifest.specs.declared.pod.PodSpec.{PodSpec};
 ghost use Rattle.node_config.specs.declared.node.NodeConfig.{NodeConfig};
 ghost use Rattle.observations.specs.declared.tick.TickObs.{TickObs};
@@ -9,15 +9,51 @@ ghost use Rattle.event_book.specs.Limits.{most_workers};
 ghost use Rattle.tick_round.specs.Node.{IsAfter};
 ghost use Rattle.node_report.specs.Report.{IsReport};
 ghost use Rattle.kubelet_replay.specs.Report.{IsReportOf};
+ghost use Rattle.kubelet_replay.specs.Ticks.{AreReplayable};
 
 use crate::replayed::{take_by_steps, take_by_workers};
 use event_book::{Blanks, WholeBook};
+use manifest::PodSpec;
 use node_report::report_text;
+use observations::TickObs;
 use std::alloc::{AllocError, Global};
 use std::marker::Brand;
 use std::sync::ledger::Ledger;
-use tick_round::{Gate, Node, Runtime, Step, TickFault};
+use tick_round::{Gate, Node, Step, ThreadRuntime, TickFault};
 use trace::Trace;
+
+/// A node of the trace's configuration, with a book over these ledgers and no pods yet, beside the trace's pods and
+/// ticks.
+fn begin<U: Ledger, E: Ledger, O: Ledger>(
+    alloc: Global,
+    trace: Trace,
+    blanks: Blanks,
+) -> Result<(Node<U, E, O>, Vec<PodSpec>, Vec<TickObs>), AllocError>
+    requires acceptable { AreAcceptable trace.ticks }
+    requires shape { HasShape trace.pods trace.arrivals trace.departures trace.ticks }
+    requires names { (blanks.updates.name ≡ U.name) × (blanks.events.name ≡ E.name) × (blanks.orders.name ≡ O.name) }
+    requires parts { (blanks.updates.parts ≡ U.parts) × (blanks.events.parts ≡ E.parts)
+        × (blanks.orders.parts ≡ O.parts) }
+    ensures new { IfOk result (λ r. IsAfter trace.node [] [] r.0) }
+    ensures pods { IfOk result (λ r. r.1.items ≡ trace.pods) }
+    ensures ticks { IfOk result (λ r. r.2.items ≡ trace.ticks) }
+    ensures replayable { IfOk result (λ r. AreReplayable r.1.items r.2.items) }
+{
+    let Trace {
+        node,
+        pods,
+        ticks,
+        ..
+    } = trace;
+    let book = WholeBook::<U, E, O>::new(blanks);
+    match Node::new(alloc, node, Vec::new(alloc), book) {
+        Ok(node) => Ok((node, pods.into_vec(), ticks.into_vec())),
+        Err(fault) => {
+            drop((pods, ticks));
+            Err(fault)
+        }
+    }
+}
 
 /// The report of a node that is not halted. An `Err` says that memory was refused.
 fn report_of<U: Ledger, E: Ledger, O: Ledger>(
@@ -54,7 +90,7 @@ fn report_after<U: Ledger, E: Ledger, O: Ledger>(
 
 /// The report of a trace, on a node with a book over these ledgers, each of whose ticks is a round that this
 /// many workers play by these steps.
-fn played<U: Ledger, E: Ledger, O: Ledger>(
+fn by_steps<U: Ledger, E: Ledger, O: Ledger>(
     alloc: Global,
     trace: Trace,
     blanks: Blanks,
@@ -70,21 +106,7 @@ fn played<U: Ledger, E: Ledger, O: Ledger>(
     requires most { workers ≤ most_workers }
     ensures { IfOk result (λ s. IsReportOf trace (string_bytes s)) }
 {
-    let Trace {
-        node,
-        pods,
-        ticks,
-        ..
-    } = trace;
-    let book = WholeBook::<U, E, O>::new(blanks);
-    let (pods, ticks) = (pods.into_vec(), ticks.into_vec());
-    let mut node = match Node::new(alloc, node, Vec::new(alloc), book) {
-        Ok(node) => node,
-        Err(fault) => {
-            drop((pods, ticks));
-            return Err(fault);
-        }
-    };
+    let (mut node, pods, ticks) = begin::<U, E, O>(alloc, trace, blanks)?;
     let taken = take_by_steps(&mut node, pods, ticks, workers, steps);
     let report = report_after(alloc, taken, &node);
     drop(node);
@@ -92,7 +114,7 @@ fn played<U: Ledger, E: Ledger, O: Ledger>(
 }
 
 /// The same, where this many workers update the pods of each tick in threads of their own.
-fn shared<U: Ledger + Send, E: Ledger + Send, O: Ledger + Send, R: Runtime, G: Gate>(
+fn by_workers<U: Ledger + Send, E: Ledger + Send, O: Ledger + Send, R: ThreadRuntime, G: Gate>(
     rt: &R,
     alloc: Global,
     trace: Trace,
@@ -109,21 +131,7 @@ fn shared<U: Ledger + Send, E: Ledger + Send, O: Ledger + Send, R: Runtime, G: G
     requires most { workers ≤ most_workers }
     ensures { IfOk result (λ s. IsReportOf trace (string_bytes s)) }
 {
-    let Trace {
-        node,
-        pods,
-        ticks,
-        ..
-    } = trace;
-    let book = WholeBook::<U, E, O>::new(blanks);
-    let (pods, ticks) = (pods.into_vec(), ticks.into_vec());
-    let mut node = match Node::new(alloc, node, Vec::new(alloc), book) {
-        Ok(node) => node,
-        Err(fault) => {
-            drop((pods, ticks));
-            return Err(fault);
-        }
-    };
+    let (mut node, pods, ticks) = begin::<U, E, O>(alloc, trace, blanks)?;
     let taken = take_by_workers(rt, &mut node, pods, ticks, workers, gate);
     let report = report_after(alloc, taken, &node);
     drop(node);
@@ -143,11 +151,11 @@ pub fn report_by_steps(
     requires most { workers ≤ most_workers }
     ensures { IfOk result (λ s. IsReportOf trace (string_bytes s)) }
 {
-    played::<Brand, Brand, Brand>(alloc, trace, Blanks::new(), workers, steps)
+    by_steps::<Brand, Brand, Brand>(alloc, trace, Blanks::new(), workers, steps)
 }
 
 /// The report of a trace, the pods of each of whose ticks this many workers update in threads of their own.
-pub fn report_by_workers<R: Runtime, G: Gate>(
+pub fn report_by_workers<R: ThreadRuntime, G: Gate>(
     rt: &R,
     alloc: Global,
     trace: Trace,
@@ -160,5 +168,5 @@ pub fn report_by_workers<R: Runtime, G: Gate>(
     requires most { workers ≤ most_workers }
     ensures { IfOk result (λ s. IsReportOf trace (string_bytes s)) }
 {
-    shared::<Brand, Brand, Brand, R, G>(rt, alloc, trace, Blanks::new(), workers, gate)
+    by_workers::<Brand, Brand, Brand, R, G>(rt, alloc, trace, Blanks::new(), workers, gate)
 }

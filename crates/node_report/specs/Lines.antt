@@ -21,11 +21,13 @@ use Rattle.event_list.specs.declared.event.Event.{Event}
 use Rattle.event_list.specs.Text.{joined, phase_word, truth, words_among, event_line}
 use Rattle.tick_round.specs.declared.summary.ConditionStatus.{ConditionStatus}
 
+-- the name of a container's state
 abbrev pub state_word : ContainerState → List ℕ
 state_word states.Waiting = codes "Waiting"
 state_word states.Running = codes "Running"
 state_word states.Terminated = codes "Terminated"
 
+-- a truth value, in lowercase
 abbrev pub bool_text : Bool → List ℕ
 bool_text b = if b then codes "true" else codes "false"
 
@@ -34,6 +36,7 @@ abbrev pub code_text : Option ℤ → List ℕ
 code_text None = codes "-"
 code_text (Some code) = signed_decimal code
 
+-- the name of a QoS class
 abbrev pub qos_word : Qos → List ℕ
 qos_word Guaranteed = codes "Guaranteed"
 qos_word Burstable = codes "Burstable"
@@ -44,37 +47,43 @@ abbrev pub reason_word : Option EvictOrder → List ℕ
 reason_word None = codes "-"
 reason_word (Some order) = codes "Evicted"
 
+-- the beginning of a pod's line: its number, its key and its phase
 abbrev pub pod_words : ℕ → List ℕ → List ℕ → List ℕ → List ℕ
 pod_words n namespace name phase =
     joined (codes "pod " ∷ decimal n ∷ codes " " ∷ namespace ∷ codes "/" ∷ name ∷ codes " phase=" ∷ phase ∷ [])
 
+-- the end of a pod's line: its reason and its QoS class
 abbrev pub class_words : List ℕ → List ℕ → List ℕ → List ℕ
 class_words words reason qos = joined (words ∷ codes " reason=" ∷ reason ∷ codes " qos=" ∷ qos ∷ codes "\n" ∷ [])
 
+-- the line of a pod
 unfoldable pub pod_line : ℕ → PodSpec → Qos → Phase → Option EvictOrder → List ℕ
 pod_line n pod qos phase order =
     class_words (pod_words n pod.namespace pod.name (phase_word phase)) (reason_word order) (qos_word qos)
 
--- without ticks the moment is 0
+-- the line of a condition of a pod; without ticks its moment is 0
 unfoldable pub condition_line : ℕ → List ℕ → Condition → List ℕ
 condition_line n kind c =
     joined (codes "condition " ∷ decimal n ∷ codes " " ∷ kind ∷ codes " " ∷ truth c.value
     ∷ codes " " ∷ decimal (unwrap_or c.since 0) ∷ codes "\n" ∷ [])
 
+-- the beginning of a container's line: its name, its state and its exit code
 abbrev pub container_words : ℕ → List ℕ → List ℕ → List ℕ → List ℕ
 container_words n name state code =
     joined (codes "container " ∷ decimal n ∷ codes " " ∷ name ∷ codes " state=" ∷ state ∷ codes " code=" ∷ code ∷ [])
 
+-- the end of a container's line: its restarts, and whether it is ready and started
 abbrev pub flag_words : List ℕ → ℕ → Bool → Bool → List ℕ
 flag_words words restarts ready started =
     joined (words ∷ codes " restarts=" ∷ decimal restarts ∷ codes " ready=" ∷ bool_text ready
     ∷ codes " started=" ∷ bool_text started ∷ codes "\n" ∷ [])
 
+-- the line of a container
 unfoldable pub container_line : ℕ → List ℕ → ContainerStatus → List ℕ
 container_line n name s =
     flag_words (container_words n name (state_word s.state) (code_text s.code)) s.restarts s.ready s.started
 
--- Ready is the same as ContainersReady
+-- the four condition lines of a pod; Ready is the same as ContainersReady
 abbrev pub conditions_text : ℕ → Conditions → List ℕ
 conditions_text n c =
     condition_line n (codes "PodScheduled") c.pod_scheduled
@@ -82,7 +91,7 @@ conditions_text n c =
     ++ (condition_line n (codes "ContainersReady") c.containers_ready
     ++ condition_line n (codes "Ready") c.containers_ready))
 
--- after an eviction alone
+-- the line of the condition that only an evicted pod has
 abbrev pub disruption_text : ℕ → Option EvictOrder → List ℕ
 disruption_text n None = []
 disruption_text n (Some order) =
@@ -106,23 +115,23 @@ unfoldable pub header_line : List ℕ → ℕ → ℕ → List ℕ
 header_line name pods ticks =
     joined (codes "node " ∷ name ∷ codes " pods=" ∷ decimal pods ∷ codes " ticks=" ∷ decimal ticks ∷ codes "\n" ∷ [])
 
--- a condition of the node, and since when it has been so, in seconds
+-- the line of a condition of the node, with since when it has been so, in seconds
 unfoldable pub node_condition_line : ConditionStatus → List ℕ
 node_condition_line c =
     joined (codes "nodecondition " ∷ name_of c.condition ∷ codes " " ∷ truth c.value ∷ codes " " ∷ decimal c.since
     ∷ codes "\n" ∷ [])
 
--- an eviction on a node with these pods, at its moment in seconds
+-- the line of an eviction on a node with these pods, at its moment in seconds
 unfoldable pub eviction_line : List PodSpec → Eviction → List ℕ
 eviction_line pods eviction =
     joined (codes "eviction " ∷ decimal eviction.order.at ∷ codes " " ∷ words_among pods eviction ∷ codes "\n" ∷ [])
 
--- that of a tick, if it evicts a pod
+-- the line of a tick's eviction, if it has one
 abbrev pub eviction_text : List PodSpec → Option Eviction → List ℕ
 eviction_text pods None = []
 eviction_text pods (Some eviction) = eviction_line pods eviction
 
--- the last line
+-- the last line: the totals
 unfoldable pub totals_line : Totals → List ℕ
 totals_line totals =
     joined (codes "totals updates=" ∷ decimal totals.updates ∷ codes " events=" ∷ decimal totals.events

@@ -26,7 +26,7 @@ use Rattle.node_report.specs.Lines.{pod_text, report_lines}
 abbrev pub evicting_tick : ℕ → List TickObs → List (Option Eviction) → Option ℕ
 evicting_tick n ticks evictions = place_of (own_eviction n ticks evictions)
 
--- the order by which
+-- the order to evict the pod, if it is evicted
 abbrev pub evicting_order : ℕ → List TickObs → List (Option Eviction) → Option EvictOrder
 evicting_order n ticks evictions = option_map (λ (e : EvictionRecord). e.order) (own_eviction n ticks evictions)
 

@@ -1,7 +1,7 @@
 -- The pieces of a round.
 use Rattle.std.specs.Prelude.{◌≡◌, ℕ, List, length}
 use Rattle.pod_piece.specs.Piece.{Piece}
-use Rattle.event_book.specs.Shares.{Part, most_parts}
+use Rattle.event_book.specs.Shares.{ShareState, most_parts}
 use Rattle.event_book.specs.Limits.{AreLow}
 use Rattle.test_pods.specs.Pods.{ArePending}
 
@@ -11,9 +11,9 @@ pub record AreFirst (count : ℕ) (pieces : List Piece) : Type 0 where
   pub are_pending : ArePending pieces
 
 -- the whole share of a book, with room for a round
-pub record IsWholeShare (share : Part) : Type 0 where
+pub record IsWholeShare (share : ShareState) : Type 0 where
   pub whole : share.parts ≡ most_parts
-  pub low : AreLow share.numbers
+  pub low : AreLow share.totals
 
 -- ledgers of which each share can be cut into that many parts
 pub record AreLevel (updates events orders : ℕ) : Type 0 where

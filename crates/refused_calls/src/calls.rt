@@ -12,10 +12,8 @@ use crate::ticks::{Way, tick};
 use event_book::{Blanks, EventBook};
 use std::alloc::Global;
 use std::marker::Brand;
-use std::sync::Wait;
 use std::sync::ledger::Ledger;
-use std::thread::Threads;
-use tick_round::Node;
+use tick_round::{Node, ThreadRuntime};
 
 /// A call of a node, or of its summary.
 #[derive(Clone, Copy)]
@@ -50,7 +48,7 @@ impl NodeCall {
 }
 
 /// The call, on a node with room for a pod.
-fn on<U: Ledger + Send, E: Ledger + Send, O: Ledger + Send, R: Threads + Wait + Sync>(
+fn on<U: Ledger + Send, E: Ledger + Send, O: Ledger + Send, R: ThreadRuntime>(
     rt: &R,
     alloc: Global,
     node: &mut Node<U, E, O>,
@@ -66,7 +64,7 @@ fn on<U: Ledger + Send, E: Ledger + Send, O: Ledger + Send, R: Threads + Wait + 
 }
 
 /// The call, on this node with room for a pod.
-fn on_node<U: Ledger + Send, E: Ledger + Send, O: Ledger + Send, R: Threads + Wait + Sync>(
+fn on_node<U: Ledger + Send, E: Ledger + Send, O: Ledger + Send, R: ThreadRuntime>(
     rt: &R,
     alloc: Global,
     node: Node<U, E, O>,
@@ -84,7 +82,7 @@ fn on_node<U: Ledger + Send, E: Ledger + Send, O: Ledger + Send, R: Threads + Wa
 }
 
 /// The call, over a book with these ledgers.
-fn over_book<U: Ledger + Send, E: Ledger + Send, O: Ledger + Send, R: Threads + Wait + Sync>(
+fn over_book<U: Ledger + Send, E: Ledger + Send, O: Ledger + Send, R: ThreadRuntime>(
     rt: &R,
     alloc: Global,
     blanks: Blanks,
@@ -107,7 +105,7 @@ fn over_book<U: Ledger + Send, E: Ledger + Send, O: Ledger + Send, R: Threads + 
 }
 
 /// The call, over a book of its own.
-pub(crate) fn on_book<R: Threads + Wait + Sync>(
+pub(crate) fn on_book<R: ThreadRuntime>(
     rt: &R,
     alloc: Global,
     call: BookCall,

@@ -17,8 +17,7 @@ use calls::{BookCall, NodeCall, on_book};
 use pieces::{PieceCall, on_piece};
 use seen::{Line, Unprepared};
 use std::process::ExitCode;
-use std::sync::Wait;
-use std::thread::Threads;
+use tick_round::ThreadRuntime;
 use ticks::Way;
 
 /// A call of the library.
@@ -42,7 +41,7 @@ const CALLS: [Call; 9] = [
 ];
 
 /// What was seen of a call.
-fn line_of<R: AllocGlobal + Threads + Wait + Sync>(rt: &R, call: Call) -> Result<Line, Unprepared> {
+fn line_of<R: AllocGlobal + ThreadRuntime>(rt: &R, call: Call) -> Result<Line, Unprepared> {
     match call {
         Call::Piece(call) => on_piece(rt.alloc(), call),
         Call::Book(call) => on_book(rt, rt.alloc(), call),
@@ -50,7 +49,7 @@ fn line_of<R: AllocGlobal + Threads + Wait + Sync>(rt: &R, call: Call) -> Result
 }
 
 /// The lines of all calls.
-fn text_of<R: AllocGlobal + Threads + Wait + Sync>(rt: &R) -> Result<String, Unprepared> {
+fn text_of<R: AllocGlobal + ThreadRuntime>(rt: &R) -> Result<String, Unprepared> {
     let mut text = String::new(rt.alloc());
     for call in CALLS {
         let line = line_of(rt, call)?;

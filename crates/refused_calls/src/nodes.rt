@@ -1,6 +1,6 @@
 //! A node with its pods: how it is made for a call, and what it tells.
 
-ghost use Rattle.std.specs.Prelude.{◌≡◌, ◌<◌, ◌≤◌, length, None, IfOk, IsTrue};
+ghost use Rattle.std.specs.Prelude.{◌≡◌, ◌<◌, length, None, IfOk, IsTrue};
 ghost use Rattle.observations.specs.Limits.{most_pods};
 ghost use Rattle.tick_round.specs.Node.{HasRoom};
 

@@ -1,6 +1,6 @@
 //! A round of a pool over a book of its own.
 
-ghost use Rattle.std.specs.Prelude.{◌≡◌, ◌+◌, IfOk, IfErr, OnOk};
+ghost use Rattle.std.specs.Prelude.{◌+◌, IfOk, IfErr, OnOk};
 ghost use Rattle.pod_pool.specs.Faults.{GivesBack};
 ghost use Rattle.refused_calls.specs.Round.{AreFirst, AreLevel, IsWholeShare};
 
@@ -8,11 +8,10 @@ use crate::pieces::{Stage, pending, shows};
 use crate::seen::{Line, Saw, Unprepared};
 use event_book::{EventBook, Shares, Totals};
 use pod_piece::PodPiece;
-use pod_pool::{NoGate, PoolFault, update_all};
+use pod_pool::{NoGate, PoolFault, ThreadRuntime, update_all};
 use std::alloc::Global;
+use std::sync::Mutex;
 use std::sync::ledger::Ledger;
-use std::sync::{Mutex, Wait};
-use std::thread::Threads;
 
 /// This many workers share the two pods.
 const WORKERS: usize = 2;
@@ -138,13 +137,7 @@ struct Pool<'a, U: Ledger, E: Ledger, O: Ledger, R> {
     book: &'a Mutex<EventBook<U, E, O>>,
 }
 
-impl<U: Ledger + Send, E: Ledger + Send, O: Ledger + Send, R: Threads + Wait + Sync> Pool<
-    '_,
-    U,
-    E,
-    O,
-    R,
-> {
+impl<U: Ledger + Send, E: Ledger + Send, O: Ledger + Send, R: ThreadRuntime> Pool<'_, U, E, O, R> {
     /// `update_all`.
     fn update(
         &self,
@@ -221,7 +214,7 @@ impl<U: Ledger + Send, E: Ledger + Send, O: Ledger + Send, R: Threads + Wait + S
 }
 
 /// `update_all`, over this book and its whole share.
-pub(crate) fn round<U: Ledger + Send, E: Ledger + Send, O: Ledger + Send, R: Threads + Wait + Sync>(
+pub(crate) fn round<U: Ledger + Send, E: Ledger + Send, O: Ledger + Send, R: ThreadRuntime>(
     rt: &R,
     alloc: Global,
     book: EventBook<U, E, O>,

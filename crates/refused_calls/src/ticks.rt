@@ -8,10 +8,8 @@ use crate::seen::{Saw, Unprepared};
 use manifest::PodSpec;
 use observations::TickObs;
 use std::alloc::Global;
-use std::sync::Wait;
 use std::sync::ledger::Ledger;
-use std::thread::Threads;
-use tick_round::{NoGate, Node, TickFault};
+use tick_round::{NoGate, Node, ThreadRuntime, TickFault};
 
 /// This many workers share the pods of a tick.
 const WORKERS: usize = 2;
@@ -40,7 +38,7 @@ fn play<U: Ledger, E: Ledger, O: Ledger>(
 }
 
 /// The node takes a tick in this way.
-fn take<U: Ledger + Send, E: Ledger + Send, O: Ledger + Send, R: Threads + Wait + Sync>(
+fn take<U: Ledger + Send, E: Ledger + Send, O: Ledger + Send, R: ThreadRuntime>(
     rt: &R,
     node: &mut Node<U, E, O>,
     tick: TickObs,
@@ -86,7 +84,7 @@ fn halted<U: Ledger, E: Ledger, O: Ledger>(
 }
 
 /// The first tick of the trace, which the node takes in this way.
-pub(crate) fn tick<U: Ledger + Send, E: Ledger + Send, O: Ledger + Send, R: Threads + Wait + Sync>(
+pub(crate) fn tick<U: Ledger + Send, E: Ledger + Send, O: Ledger + Send, R: ThreadRuntime>(
     rt: &R,
     alloc: Global,
     node: &mut Node<U, E, O>,

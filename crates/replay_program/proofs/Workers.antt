@@ -4,10 +4,10 @@ use Rattle.clap.specs.Words.{Row, Text, subcommand_of}
 use Rattle.commands.specs.declared.job.Job.{Job}
 use Rattle.commands.specs.declared.job.Job.TheVariants.{Run, Check, Play}
 use Rattle.commands.specs.Jobs.{HasWorkers, IsJobOf, IsJobFor, IsAskedBy}
-use Rattle.commands.specs.Program.{program}
+use Rattle.commands.specs.Program.{most_workers, program}
 use Rattle.replay_program.specs.Jobs.{HasFewWorkers}
 
-few : (rows : List Row) (workers : ℕ) → HasWorkers rows workers → (0 < workers) × (workers ≤ 64)
+few : (rows : List Row) (workers : ℕ) → HasWorkers rows workers → (0 < workers) × (workers ≤ most_workers)
 few rows workers has = (omega (arith, has.some), has.few)
 
 of_found : (name : Text) (rows : List Row) (job : Job) → IsJobFor name rows job → HasFewWorkers job

@@ -2,9 +2,10 @@
 use Rattle.std.specs.Prelude.{◌<◌, ◌≤◌}
 use Rattle.commands.specs.declared.job.Job.{Job}
 use Rattle.commands.specs.declared.job.Job.TheVariants.{Run, Check, Play}
+use Rattle.commands.specs.Program.{most_workers}
 
 -- where the job is for workers, there are as many as can share a tick
 abbrev pub HasFewWorkers : Job → Type 0
-HasFewWorkers (Run trace workers format) = (0 < workers) × (workers ≤ 64)
+HasFewWorkers (Run trace workers format) = (0 < workers) × (workers ≤ most_workers)
 HasFewWorkers (Check trace format) = Unit {0}
-HasFewWorkers (Play trace steps workers format) = (0 < workers) × (workers ≤ 64)
+HasFewWorkers (Play trace steps workers format) = (0 < workers) × (workers ≤ most_workers)

@@ -6,12 +6,13 @@ mod fault;
 mod progress;
 
 ghost use Rattle.std.specs.Prelude.{◌<◌, ◌≤◌, ◌^◌};
+ghost use Rattle.commands.specs.Program.{most_workers};
 ghost use Rattle.replay_program.specs.Jobs.{HasFewWorkers};
 
 use fault::Fault;
 use kubelet_replay::{
-    Counted, Format, Job, Sink, Source, Step, check_in, job_of, read_steps, replay, replay_in,
-    replay_play_in,
+    Counted, Format, Job, LONGEST_STEPS_FILE, Sink, Source, Step, ThreadRuntime, check_in, job_of,
+    read_steps, replay, replay_in, replay_play_in,
 };
 use progress::{Input, Output, Progress};
 use replay_stream::read_all;
@@ -21,14 +22,9 @@ use std::env::Env;
 use std::fs::File;
 use std::process::ExitCode;
 use std::rt::Files;
-use std::sync::Wait;
-use std::thread::Threads;
 
-/// This many workers share the pods where no word says how many.
-const WORKERS: usize = 4;
-
-/// The most bytes of a steps file, 1 MiB.
-const LONGEST_STEPS: usize = 1_048_576;
+/// The number of workers where no word says how many, as `--workers` has it.
+const DEFAULT_WORKERS: usize = 4;
 
 /// The program's words, the program's own name first.
 fn words_of(rt: &(impl Env + AllocGlobal)) -> Result<Vec<String>, Fault> {
@@ -40,7 +36,7 @@ fn words_of(rt: &(impl Env + AllocGlobal)) -> Result<Vec<String>, Fault> {
 }
 
 /// Replays the file of this path by this many workers.
-fn run<H: Files + Eprint + AllocGlobal + Threads + Wait + Sync, W: Sink>(
+fn run<H: Files + Eprint + AllocGlobal + ThreadRuntime, W: Sink>(
     rt: &H,
     progress: &Progress<'_, H>,
     format: Format,
@@ -49,7 +45,7 @@ fn run<H: Files + Eprint + AllocGlobal + Threads + Wait + Sync, W: Sink>(
     output: &mut W,
 ) -> Result<(), Fault>
     requires some { 0 < workers }
-    requires most { workers ≤ 64 }
+    requires most { workers ≤ most_workers }
     requires writes { W.failures output.old < 2 ^ 63 }
 {
     let mut input = Counted::new(Input::new(progress, File::open(rt, path)?));
@@ -59,7 +55,7 @@ fn run<H: Files + Eprint + AllocGlobal + Threads + Wait + Sync, W: Sink>(
 }
 
 /// Says whether the file of this path is a trace.
-fn look<H: Files + Eprint + AllocGlobal, W: Sink>(
+fn check<H: Files + Eprint + AllocGlobal, W: Sink>(
     rt: &H,
     progress: &Progress<'_, H>,
     format: Format,
@@ -77,7 +73,7 @@ fn look<H: Files + Eprint + AllocGlobal, W: Sink>(
 /// The text of a steps file.
 fn steps_text<H: Files + AllocGlobal>(rt: &H, path: &str) -> Result<Vec<u8>, Fault> {
     let mut input = Counted::new(File::open(rt, path)?);
-    let text = read_all(rt.alloc(), &mut input, LONGEST_STEPS);
+    let text = read_all(rt.alloc(), &mut input, LONGEST_STEPS_FILE);
     drop(input);
     Ok(text?)
 }
@@ -92,7 +88,7 @@ fn play<H: Files + AllocGlobal, W: Sink>(
     output: &mut W,
 ) -> Result<(), Fault>
     requires some { 0 < workers }
-    requires most { workers ≤ 64 }
+    requires most { workers ≤ most_workers }
     requires writes { W.failures output.old < 2 ^ 63 }
 {
     let mut input = Counted::new(File::open(rt, path)?);
@@ -101,8 +97,8 @@ fn play<H: Files + AllocGlobal, W: Sink>(
     done.map_err(Fault::from)
 }
 
-/// Does what the words ask for, and writes the answer.
-fn work<H: Files + Eprint + AllocGlobal + Threads + Wait + Sync, W: Sink>(
+/// Does this job, and writes the answer.
+fn work<H: Files + Eprint + AllocGlobal + ThreadRuntime, W: Sink>(
     rt: &H,
     progress: &Progress<'_, H>,
     job: Job<'_>,
@@ -117,7 +113,7 @@ fn work<H: Files + Eprint + AllocGlobal + Threads + Wait + Sync, W: Sink>(
             workers,
             format,
         } => run(rt, progress, format, trace, workers, output),
-        Job::Check { trace, format } => look(rt, progress, format, trace, output),
+        Job::Check { trace, format } => check(rt, progress, format, trace, output),
         Job::Play {
             trace,
             steps,
@@ -134,7 +130,7 @@ fn work<H: Files + Eprint + AllocGlobal + Threads + Wait + Sync, W: Sink>(
 }
 
 /// Does what the words ask for, and writes the answer.
-fn do_asked<H: Files + Eprint + AllocGlobal + Threads + Wait + Sync, W: Sink>(
+fn do_asked<H: Files + Eprint + AllocGlobal + ThreadRuntime, W: Sink>(
     rt: &H,
     progress: &Progress<'_, H>,
     words: &[String],
@@ -147,7 +143,7 @@ fn do_asked<H: Files + Eprint + AllocGlobal + Threads + Wait + Sync, W: Sink>(
 }
 
 /// Does what the program's words ask for. Without any it replays what the input has.
-fn answer<H: Files + Env + Eprint + AllocGlobal + Threads + Wait + Sync, R: Source, W: Sink>(
+fn answer<H: Files + Env + Eprint + AllocGlobal + ThreadRuntime, R: Source, W: Sink>(
     rt: &H,
     progress: &Progress<'_, H>,
     input: &mut R,
@@ -160,7 +156,7 @@ fn answer<H: Files + Env + Eprint + AllocGlobal + Threads + Wait + Sync, R: Sour
     if words.len() > 1 {
         do_asked(rt, progress, &words, output)
     } else {
-        replay(rt, input, output, WORKERS, progress).map_err(Fault::from)
+        replay(rt, input, output, DEFAULT_WORKERS, progress).map_err(Fault::from)
     }
 }
 

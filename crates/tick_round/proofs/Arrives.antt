@@ -8,6 +8,7 @@ use Rattle.std.proofs.lemmas.Option.{slice_get_within, slice_get_past}
 use Rattle.histories.proofs.Places.{length-more}
 use Rattle.histories.proofs.Lists.{place_split, given_at, slice_get-new}
 use Rattle.manifest.specs.declared.pod.PodSpec.{PodSpec}
+use Rattle.manifest.specs.Containers.{most_containers}
 use Rattle.node_config.specs.declared.node.NodeConfig.{NodeConfig}
 use Rattle.observations.specs.Observations.{own_ticks}
 use Rattle.observations.specs.Pods.{PodObs}
@@ -21,7 +22,7 @@ use Rattle.pod_piece.specs.Piece.{Piece, new_piece, pods_in}
 use Rattle.ranking.proofs.LawLemmas.{same_victim}
 use Rattle.eviction.specs.declared.eviction.Eviction.{Eviction}
 use Rattle.eviction.specs.Replay.{EvictedAt, pod_ticks, own_eviction, IsCandidate}
-use Rattle.eviction.specs.Replay.{IsOfVictim, IsEvictionFor, is_paused, unless_paused, IsRound}
+use Rattle.eviction.specs.Replay.{IsOfVictim, IsEvictionFor, is_paused, unless_paused, IsEvictionOfTick}
 use Rattle.eviction.proofs.Own.{evicted_none}
 use Rattle.node_pods.specs.Pods.{Pods, with_pod}
 use Rattle.event_list.proofs.More.{events_arrived}
@@ -53,8 +54,8 @@ unshown (x ∷ ticks) n none =
 -- the round of an earlier tick does not see the pod
 same_round : (config : NodeConfig) (pods : List PodSpec) (pod : PodSpec) (before : List TickObs) (tick : TickObs)
     (es : List (Option Eviction)) (eviction : Option Eviction)
-    → length tick.pods ≤ length pods → IsRound config pods before tick es eviction
-    → IsRound config (pods ++ pod ∷ []) before tick es eviction
+    → length tick.pods ≤ length pods → IsEvictionOfTick config pods before tick es eviction
+    → IsEvictionOfTick config (pods ++ pod ∷ []) before tick es eviction
 same_round config pods pod before tick es eviction fewer r =
     record {
       served = r.served;
@@ -106,7 +107,7 @@ same_round config pods pod before tick es eviction fewer r =
 -- who is evicted is one of the pods
 evicted_below : (config : NodeConfig) (pods : List PodSpec) (before : List TickObs) (tick : TickObs)
     (es : List (Option Eviction)) (e : Eviction)
-    → IsRound config pods before tick es (Some e) → e.pod < length pods
+    → IsEvictionOfTick config pods before tick es (Some e) → e.pod < length pods
 evicted_below config pods before tick es e r = by (unless_paused (is_paused config tick.at es) r.served) r.is_for
   where
     by : (served : Option ThresholdKey) → IsEvictionFor config pods before tick es served (Some e)
@@ -198,7 +199,7 @@ arrives pods ticks s pod taken room = record {
   shown = λ t tick at. let le : length tick.pods ≤ length pods = taken.shown t tick at in omega (arith, le, more);
   last_is = taken.last_is;
   few_ticks = taken.few_ticks;
-  few_pods = let most : length s.pods.pieces < 256 = room in omega (arith, many, more, most);
+  few_pods = let most : length s.pods.pieces < most_pods = room in omega (arith, many, more, most);
 }
   where
     many : length s.pods.pieces ≡ length pods
@@ -218,14 +219,15 @@ arrives_as pods ticks now s pod new is more room taken =
     (arrives pods ticks s pod (subst (λ (t : State). HasTaken pods ticks t) is taken)
     (subst (λ (t : State). length t.pods.pieces < most_pods) is room))
 
-few_more : (pods : List PodSpec) (pod : PodSpec) → AreFew pods → length pod.containers ≤ 16 → AreFew (pods ++ pod ∷ [])
+few_more : (pods : List PodSpec) (pod : PodSpec) → AreFew pods → length pod.containers ≤ most_containers
+    → AreFew (pods ++ pod ∷ [])
 few_more pods pod few one n p at = elim (place_split pods pod p n at) [
   | inl old ↦ few n p old
-  | inr w ↦ subst (λ (q : PodSpec). length q.containers ≤ 16) w.1 one
+  | inr w ↦ subst (λ (q : PodSpec). length q.containers ≤ most_containers) w.1 one
 ]
 
 pub arrived_kept : (now s : State) (pod : PodSpec) (new : Pods) → now ≡ s → new ≡ with_pod s.pods pod
-    → length now.pods.pieces < most_pods → length pod.containers ≤ 16 → IsKept s
+    → length now.pods.pieces < most_pods → length pod.containers ≤ most_containers → IsKept s
     → IsKept (state s.config s.signals new s.evictions s.events s.totals s.last)
 arrived_kept now s pod new is more room small kept =
     kept_by (pods_in s.pods.pieces ++ pod ∷ []) kept.ticks

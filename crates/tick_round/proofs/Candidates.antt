@@ -21,7 +21,7 @@ use Rattle.pod_piece.specs.Status.{IsStatusOf}
 use Rattle.ranking.proofs.LawLemmas.{same_victim}
 use Rattle.eviction.specs.declared.eviction.Eviction.{Eviction}
 use Rattle.eviction.specs.Replay.{IsCandidate as IsCandidateIn, IsOfVictim, IsEvictionFor, is_paused, unless_paused}
-use Rattle.eviction.specs.Replay.{IsRound}
+use Rattle.eviction.specs.Replay.{IsEvictionOfTick}
 use Rattle.node_pods.specs.Pods.{IsCandidate, AreAfter}
 use Rattle.node_pods.proofs.Steps.{shown_at}
 use Rattle.node_pods.proofs.Kept.{present_shown, shown_present}
@@ -88,7 +88,7 @@ pub round_of : (config : NodeConfig) (pods : List PodSpec) (before : List TickOb
     → ArePresent pieces tick → ArePieces config pods (before ++ tick ∷ []) es pieces
     → IsServed config.eviction before tick served
     → IsEvictionAt config pieces tick.at (unless_paused (is_paused config tick.at es) served) eviction
-    → IsRound config pods before tick es eviction
+    → IsEvictionOfTick config pods before tick es eviction
 round_of config pods before tick es pieces served eviction present are is by =
     record { served = served; is_served = is; is_for = for (unless_paused (is_paused config tick.at es) served) by }
   where

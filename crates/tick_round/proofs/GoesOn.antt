@@ -7,11 +7,12 @@ use Rattle.std.proofs.lemmas.Option.{slice_get_within, slice_get-map}
 use Rattle.histories.proofs.Places.{length-more}
 use Rattle.histories.proofs.Lists.{place_split, given_at, some_given}
 use Rattle.manifest.specs.declared.pod.PodSpec.{PodSpec}
+use Rattle.manifest.specs.Containers.{most_containers}
 use Rattle.node_config.specs.declared.node.NodeConfig.{NodeConfig}
 use Rattle.observations.specs.Pods.{PodObs}
 use Rattle.observations.specs.declared.tick.TickObs.{TickObs}
 use Rattle.observations.specs.Observations.{shown_of}
-use Rattle.observations.specs.Limits.{most_pods}
+use Rattle.observations.specs.Limits.{most_ticks, most_pods}
 use Rattle.node_signals.specs.declared.node.NodeSignals.{NodeSignals}
 use Rattle.node_signals.specs.declared.event.NodeEvent.{NodeEvent}
 use Rattle.node_signals.specs.declared.key.ThresholdKey.{ThresholdKey}
@@ -24,7 +25,7 @@ use Rattle.eviction.specs.Replay.{is_paused, unless_paused}
 use Rattle.eviction.proofs.More.{no_replay, replay_more}
 use Rattle.event_book.specs.declared.totals.Totals.{Totals}
 use Rattle.event_book.specs.declared.totals.Entry.{Entry}
-use Rattle.event_book.specs.Limits.{IsLow}
+use Rattle.event_book.specs.Limits.{most_events, IsLow}
 use Rattle.event_book.proofs.Low.{low}
 use Rattle.event_book.specs.Totals.{sums_of, plus, nothing}
 use Rattle.node_pods.specs.Pods.{Pods, pods_of, ArePlaced, IsCandidate, Awaited, awaited, handed_from, kept_of}
@@ -41,7 +42,7 @@ use Rattle.tick_round.specs.Update.{AreUpTo, MayUpdate, AreEntered}
 use Rattle.tick_round.proofs.Evicts.{get_pod}
 use Rattle.tick_round.proofs.Updates.{sums_low}
 use Rattle.tick_round.specs.declared.tick_in_progress.TickInProgress.{TickInProgress}
-use Rattle.tick_round.specs.Node.{State, state, ArePieces, HasTaken, Fits}
+use Rattle.tick_round.specs.Node.{State, state, ArePieces, HasTaken, Fits, IsNextBy}
 use Rattle.tick_round.specs.Node.{last_of, IsAfter}
 use Rattle.tick_round.specs.Round.{most_of_tick, AreFew, IsKept, IsSampled, HasBegun, MayEnd, CanEnd}
 use Rattle.tick_round.proofs.Pieces.{pod_at, pieces_updated, pieces_evicted, pieces_spared}
@@ -133,7 +134,7 @@ pub goes_on : (pods : List PodSpec) (ticks : List TickObs) (s : State) (x : Tick
     (back : List Piece) (totals : Totals) (mid : List Piece) (new : Pods) (eviction : Option Eviction)
     (evs : List Event) → HasTaken pods ticks s → MayEnd s x begun back totals → AreAfter s.pods.pieces x.pods mid
     → IsEvictionAt s.config mid x.at (unless_paused (is_paused s.config x.at s.evictions) begun.served) eviction
-    → AddsEvents x.at mid begun.news.items eviction s.events evs → AreWithout mid eviction new.pieces
+    → AddsEvents x.at mid begun.node_events.items eviction s.events evs → AreWithout mid eviction new.pieces
     → new.max_restart_delay ≡ s.pods.max_restart_delay → new.has_dedicated_imagefs ≡ s.pods.has_dedicated_imagefs
     → HasTaken pods (ticks ++ x ∷ [])
     (state s.config begun.signals new (s.evictions ++ eviction ∷ []) evs totals (Some x.at))
@@ -151,12 +152,12 @@ goes_on pods ticks s x begun back totals mid new eviction evs taken may after by
             made = adds.made;
             are_made = made_by s.config pods ticks s.evictions x mid adds.made taken.replay shown present now_pieces
                 adds.are_made;
-            news = begun.news.items;
-            are_news = may.has_begun.sampled.news_are ticks taken.signals;
+            node_events = begun.node_events.items;
+            are_node_events = may.has_begun.sampled.node_events_are ticks taken.signals;
             in_order = refl;
           }));
       totals = may.updated.entered.totals ∙ ap (λ (t : Totals). plus t (sums_of entries)) taken.totals
-          ∙ sym (totals_more ticks x s.events x.at adds.made begun.news.items eviction entries
+          ∙ sym (totals_more ticks x s.events x.at adds.made begun.node_events.items eviction entries
           (entries_by pods ticks s x mid back adds.made entries may.fits after now_pieces present adds.are_made
           may.updated.back_are may.updated.entered.are_entries))
           ∙ ap (λ (es : List Event). totals_of (ticks ++ x ∷ []) es) (sym adds.added);
@@ -171,7 +172,7 @@ goes_on pods ticks s x begun back totals mid new eviction evs taken may after by
       ];
       last_is = sym (last_more ticks x);
       few_ticks =
-          let few : length s.evictions < 20000 = may.fits.few in
+          let few : length s.evictions < most_ticks = may.fits.few in
           omega (arith, few, len, length-more ticks x);
       few_pods = taken.few_pods;
     }
@@ -198,7 +199,7 @@ goes_on pods ticks s x begun back totals mid new eviction evs taken may after by
     entries = may.updated.entered.entries
 
     part : List (List PodEvent) → List Event
-    part made = of_pods x.at 0 made ++ (of_node x.at begun.news.items ++ of_eviction x.at eviction)
+    part made = of_pods x.at 0 made ++ (of_node x.at begun.node_events.items ++ of_eviction x.at eviction)
 
 -- the pieces once those that went out are back
 pub after_back : (pods : List PodSpec) (ticks : List TickObs) (s : State) (x : TickObs) (begun : TickInProgress)
@@ -223,7 +224,7 @@ pub ends : (pods : List PodSpec) (ticks : List TickObs) (s : State) (x : TickObs
     → HasTaken pods ticks s → MayEnd s x begun back totals → between ≡ joined begun.pods back
     → key ≡ unless_paused (is_paused begun.config begun.at begun.evictions.items) begun.served
     → IsEvictionAt begun.config between.pieces begun.at key eviction
-    → AddsEvents begun.at between.pieces begun.news.items eviction begun.events.items evs
+    → AddsEvents begun.at between.pieces begun.node_events.items eviction begun.events.items evs
     → AreWithout between.pieces eviction new.pieces → new.max_restart_delay ≡ between.max_restart_delay
     → new.has_dedicated_imagefs ≡ between.has_dedicated_imagefs → es ≡ begun.evictions.items ++ eviction ∷ []
     → HasTaken pods (ticks ++ x ∷ []) (state begun.config begun.signals new es evs totals (Some begun.at))
@@ -266,16 +267,19 @@ ends pods ticks s x begun back totals between new key eviction evs es taken may 
         (subst (λ (c : NodeConfig). IsEvictionAt c between.pieces x.at key eviction) b.config
         (subst (λ (k : ℕ). IsEvictionAt begun.config between.pieces k key eviction) b.at by))
 
-    adds' : AddsEvents x.at between.pieces begun.news.items eviction s.events evs
+    adds' : AddsEvents x.at between.pieces begun.node_events.items eviction s.events evs
     adds' =
-        subst (λ (l : List Event). AddsEvents x.at between.pieces begun.news.items eviction l evs) b.events
-        (subst (λ (k : ℕ). AddsEvents k between.pieces begun.news.items eviction begun.events.items evs) b.at adds)
+        subst (λ (l : List Event). AddsEvents x.at between.pieces begun.node_events.items eviction l evs) b.events
+        (subst (λ (k : ℕ). AddsEvents k between.pieces begun.node_events.items eviction begun.events.items evs)
+        b.at adds)
 
-pub adds_as : (at : ℕ) (pieces others : List Piece) (news same_news : List NodeEvent) (eviction : Option Eviction)
-    (old new : List Event) → pieces ≡ others → news ≡ same_news → AddsEvents at pieces news eviction old new
-    → AddsEvents at others same_news eviction old new
-adds_as at pieces others news same_news eviction old new is is' adds =
-    subst (λ (ps : List Piece). AddsEvents at ps same_news eviction old new) is
+pub adds_as : (at : ℕ) (pieces others : List Piece) (node_events same_events : List NodeEvent)
+    (eviction : Option Eviction)
+    (old new : List Event) → pieces ≡ others → node_events ≡ same_events
+    → AddsEvents at pieces node_events eviction old new
+    → AddsEvents at others same_events eviction old new
+adds_as at pieces others node_events same_events eviction old new is is' adds =
+    subst (λ (ps : List Piece). AddsEvents at ps same_events eviction old new) is
     (subst (λ (l : List NodeEvent). AddsEvents at pieces l eviction old new) is' adds)
 
 -- the threshold that is heeded, by the same evictions
@@ -287,7 +291,7 @@ heeds_as config at es others served key same is =
 
 -- a node that has begun a tick, as its type keeps it
 pub begun_as : (s t : State) (x : TickObs) (b : TickInProgress) → s ≡ t → b.config ≡ s.config
-    → IsSampled s.config s.signals x b.signals b.news.items b.served
+    → IsSampled s.config s.signals x b.signals b.node_events.items b.served
     → b.pods ≡ awaited (kept_of s.pods.pieces x.pods) s.pods.max_restart_delay s.pods.has_dedicated_imagefs
     → b.evictions.items ≡ s.evictions → b.events.items ≡ s.events → b.at ≡ x.at → HasBegun t x b
 begun_as s t x b same config sampled pods evictions events at =
@@ -297,7 +301,7 @@ begun_as s t x b same config sampled pods evictions events at =
 -- the pods that go out have few containers
 few_handed : (s : State) (x : TickObs) (back : List Piece) → back ≡ map updated (handed_from 0 s.pods.pieces x.pods)
     → AreFew (pods_in s.pods.pieces) → (n : ℕ) (piece : Piece) → slice_get back n ≡ Some piece
-    → length piece.pod.containers ≤ 16
+    → length piece.pod.containers ≤ most_containers
 few_handed s x back is few n piece at =
     let out = handed_from 0 s.pods.pieces x.pods in
     let here : option_map updated (slice_get out n) ≡ Some piece =
@@ -305,20 +309,20 @@ few_handed s x back is few n piece at =
     by (slice_get out n) refl here
   where
     by : (o : Option Piece) → slice_get (handed_from 0 s.pods.pieces x.pods) n ≡ o → option_map updated o ≡ Some piece
-        → length piece.pod.containers ≤ 16
+        → length piece.pod.containers ≤ most_containers
     by None there none = absurd (cc)
     by (Some q) there same =
         let w = handed_at 0 s.pods.pieces x.pods n q there in
         let pod : piece.pod ≡ w.piece.pod =
         sym (let both : updated q ≡ piece = cc in ap (λ (p : Piece). p.pod) both)
         ∙ ap (λ (p : Piece). p.pod) w.is in
-        subst (λ (p : PodSpec). length p.containers ≤ 16) (sym pod)
+        subst (λ (p : PodSpec). length p.containers ≤ most_containers) (sym pod)
         (few w.n w.piece.pod (get_pod s.pods.pieces w.n w.piece w.at))
 
 -- what the updates of a tick add to the totals
 room_more : (n : ℕ) (pieces : List Piece) (old new : Totals) → AreUpTo (n * most_of_tick) old
     → AreEntered pieces old new
-    → ((k : ℕ) (piece : Piece) → slice_get pieces k ≡ Some piece → length piece.pod.containers ≤ 16)
+    → ((k : ℕ) (piece : Piece) → slice_get pieces k ≡ Some piece → length piece.pod.containers ≤ most_containers)
     → length pieces ≤ most_pods → AreUpTo ((n + 1) * most_of_tick) new
 room_more n pieces old new room entered few many =
     let entries = entered.entries in
@@ -329,8 +333,8 @@ room_more n pieces old new room entered few many =
     let is = entered.are_entries.each k piece.0 entry piece.1 at in
     low piece.0 entry (few k piece.0 piece.1) is in
     let sums = sums_low entries are_low in
-    let events : (sums_of entries).events ≤ length entries * 129 = sums.events in
-    let orders : (sums_of entries).orders ≤ length entries * 129 = sums.orders in
+    let events : (sums_of entries).events ≤ length entries * most_events = sums.events in
+    let orders : (sums_of entries).orders ≤ length entries * most_events = sums.orders in
     let u : new.updates ≡ old.updates + length entries = ap (λ (t : Totals). t.updates) entered.totals in
     let e : new.events ≡ old.events + (sums_of entries).events = ap (λ (t : Totals). t.events) entered.totals in
     let o : new.orders ≡ old.orders + (sums_of entries).orders = ap (λ (t : Totals). t.orders) entered.totals in
@@ -349,7 +353,7 @@ ends_kept s x begun back totals next kept may taken same =
     let many : length back ≡ length out = ap length may.updated.back_are ∙ length-map out updated in
     let few : length out ≤ length s.pods.pieces = handed_few 0 s.pods.pieces x.pods in
     let specs : length s.pods.pieces ≡ length pods = kept.taken.pieces.as_many in
-    let most : length pods ≤ 256 = kept.taken.few_pods in
+    let most : length pods ≤ most_pods = kept.taken.few_pods in
     let long : length (kept.ticks ++ x ∷ []) ≡ length kept.ticks + 1 = omega (arith, length-more kept.ticks x) in
     let room = room_more (length kept.ticks) back s.totals totals kept.room may.updated.entered
     (few_handed s x back may.updated.back_are kept.few) (omega (arith, many, few, specs, most)) in
@@ -365,8 +369,8 @@ may_update s shown pending kept is =
     let fewer : length (handed_from 0 s.pods.pieces shown) ≤ length s.pods.pieces =
     handed_few 0 s.pods.pieces shown in
     let specs : length s.pods.pieces ≡ length (pods_in s.pods.pieces) = kept.taken.pieces.as_many in
-    let most : length (pods_in s.pods.pieces) ≤ 256 = kept.taken.few_pods in
-    let ticks : length kept.ticks ≤ 20000 = kept.taken.few_ticks in
+    let most : length (pods_in s.pods.pieces) ≤ most_pods = kept.taken.few_pods in
+    let ticks : length kept.ticks ≤ most_ticks = kept.taken.few_ticks in
     let room = kept.room in
     record {
       few = omega (arith, many, fewer, specs, most);
@@ -424,13 +428,12 @@ to_some config pods ticks after s is same taken =
 
 -- a node has taken a tick where what it keeps becomes what has
 pub takes_tick : (tick : TickObs) {before after : Option State} {s next : State} → before ≡ Some s → after ≡ Some next
-    → next.config ≡ s.config
-    → ((pods : List PodSpec) (ticks : List TickObs) → HasTaken pods ticks s → HasTaken pods (ticks ++ tick ∷ []) next)
+    → IsNextBy tick s next
     → (config : NodeConfig) (pods : List PodSpec) (ticks : List TickObs) → IsAfter config pods ticks before
     → IsAfter config pods (ticks ++ tick ∷ []) after
-takes_tick tick {before} {after} {s} {next} was now same taken config pods ticks old =
+takes_tick tick {before} {after} {s} {next} was now by config pods ticks old =
     let had = of_some config pods ticks before s was old in
-    to_some config pods (ticks ++ tick ∷ []) after next now (same ∙ had.0) (taken pods ticks had.1)
+    to_some config pods (ticks ++ tick ∷ []) after next now (by.config ∙ had.0) (by.taken pods ticks had.1)
 
 pub rest_next : {A : Type 0} (all front : List A) (rest : List A) (x : A) (behind : List A) → all ≡ front ++ rest
     → rest ≡ x ∷ behind → all ≡ front ++ x ∷ behind
@@ -443,5 +446,5 @@ pub room_left : (pods front : List PodSpec) (pod : PodSpec) (rest : List PodSpec
 room_left pods front pod rest s taken is few =
     let many : length s.pods.pieces ≡ length front = taken.pieces.as_many in
     let all : length pods ≡ length front + suc (length rest) = ap length is ∙ length-append front (pod ∷ rest) in
-    let most : length pods ≤ 256 = few in
+    let most : length pods ≤ most_pods = few in
     omega (arith, many, all, most)

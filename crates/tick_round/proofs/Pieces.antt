@@ -7,7 +7,7 @@ use Rattle.std.specs.Option.{option_flatten}
 use Rattle.std.proofs.lemmas.Bool.{cases_eq}
 use Rattle.std.proofs.lemmas.List.{length-take-le}
 use Rattle.std.proofs.lemmas.Option.{slice_get_within}
-use Rattle.histories.specs.Histories.{up_to, IsSo}
+use Rattle.histories.specs.Histories.{up_to, HoldsAt}
 use Rattle.histories.proofs.Places.{length-more}
 use Rattle.histories.proofs.Lists.{given_at}
 use Rattle.manifest.specs.declared.pod.PodSpec.{PodSpec}
@@ -97,7 +97,7 @@ evicted_ends pod place h p is lt = elim (terminal_cases p) [
   | inr still ↦
       let none = lives pod (Some place) h p is still in
       let cut : length (up_to h place) ≡ suc place = length-take-le (suc place) h (omega arith) in
-      let so : IsSo (EndsPod pod (Some place)) h place = record { within = lt; so = inr cut } in
+      let so : HoldsAt (EndsPod pod (Some place)) h place = record { within = lt; so = inr cut } in
       absurd (none place so)
 ]
 

@@ -1,5 +1,5 @@
 -- The pods of a node take a tick into their statuses, one after the other.
-use Rattle.std.proofs.Common.{◌≡◌, ◌∙◌, inl, inr, ℕ, suc, ◌+◌, ◌-◌, ◌*◌, ◌^◌, ◌<◌, ◌≤◌, true, List, [], ◌∷◌, ◌++◌}
+use Rattle.std.proofs.Common.{◌≡◌, ◌∙◌, inl, inr, ℕ, suc, ◌+◌, ◌-◌, ◌*◌, ◌<◌, ◌≤◌, true, List, [], ◌∷◌, ◌++◌}
 use Rattle.std.proofs.Common.{length, map, Some, refl, sym, ap, subst, arith}
 use Rattle.std.specs.Prelude.{slice_get, option_map}
 use Rattle.std.specs.List.{sum_by}
@@ -9,12 +9,13 @@ use Rattle.std.proofs.lemmas.List.Sums.{sum_by-cons, sum_by-append}
 use Rattle.std.proofs.lemmas.Option.{slice_get-map, slice_get_within}
 use Rattle.histories.proofs.Places.{length-more}
 use Rattle.histories.proofs.Lists.{place_split, given_at, same_at, set_length, set_here, set_others}
+use Rattle.observations.specs.Limits.{most_pods}
 use Rattle.pod_piece.specs.Piece.{Piece, updated}
 use Rattle.event_book.specs.declared.totals.Totals.{Totals}
 use Rattle.event_book.specs.declared.totals.Entry.{Entry}
 use Rattle.event_book.specs.Totals.{IsEntryOf, sums_of, plus}
-use Rattle.event_book.specs.Shares.{one_update, AreWithin}
-use Rattle.event_book.specs.Limits.{IsLow}
+use Rattle.event_book.specs.Shares.{greatest_total, one_update, AreWithin}
+use Rattle.event_book.specs.Limits.{most_events, IsLow}
 use Rattle.node_pods.proofs.Candidates.{same_piece}
 use Rattle.tick_round.specs.Update.{AreUpTo, MayUpdate, AreEntered, UpdatesAt}
 
@@ -54,17 +55,17 @@ one_entered before now after entries x is more =
 
 -- low entries
 pub sums_low : (entries : List Entry) → ((n : ℕ) (x : Entry) → slice_get entries n ≡ Some x → IsLow x)
-    → AreUpTo (length entries * 129) (sums_of entries)
+    → AreUpTo (length entries * most_events) (sums_of entries)
 sums_low [] low = record { updates = omega arith; events = omega arith; orders = omega arith }
 sums_low (x ∷ entries) low =
     let first = low 0 x refl in
     let rest = sums_low entries (λ n y at. low (suc n) y at) in
     let events = λ (e : Entry). e.events in
     let orders = λ (e : Entry). e.orders in
-    let here : x.events ≤ 129 = first.events in
-    let ordered : x.orders ≤ 129 = first.orders in
-    let most : sum_by events entries ≤ length entries * 129 = rest.events in
-    let most_orders : sum_by orders entries ≤ length entries * 129 = rest.orders in
+    let here : x.events ≤ most_events = first.events in
+    let ordered : x.orders ≤ most_events = first.orders in
+    let most : sum_by events entries ≤ length entries * most_events = rest.events in
+    let most_orders : sum_by orders entries ≤ length entries * most_events = rest.orders in
     let e : sum_by events (x ∷ entries) ≡ x.events + sum_by events entries = sum_by-cons events x entries in
     let o : sum_by orders (x ∷ entries) ≡ x.orders + sum_by orders entries = sum_by-cons orders x entries in
     record {
@@ -165,10 +166,11 @@ all_entered old before i now after are end = record {
 
 -- the book has room for the next
 pub room_at : (old : List Piece) (before : Totals) (i : ℕ) (now : List Piece) (after : Totals)
-    → MayUpdate old before → AreUpdatedBelow old before i now after → i < length old → AreUpTo (2 ^ 63 - 129) after
+    → MayUpdate old before → AreUpdatedBelow old before i now after → i < length old
+    → AreUpTo (greatest_total - most_events) after
 room_at old before i now after may are lt =
     let sums = sums_low are.entries are.low in
-    let few : length old ≤ 256 = may.few in
+    let few : length old ≤ most_pods = may.few in
     let many : length are.entries ≡ i = are.made in
     let u : after.updates ≡ before.updates + length are.entries = ap (λ (t : Totals). t.updates) are.totals_are in
     let e : after.events ≡ before.events + (sums_of are.entries).events =
@@ -176,8 +178,8 @@ room_at old before i now after may are lt =
     let o : after.orders ≡ before.orders + (sums_of are.entries).orders =
     ap (λ (t : Totals). t.orders) are.totals_are in
     let room = may.room in
-    let events : (sums_of are.entries).events ≤ length are.entries * 129 = sums.events in
-    let orders : (sums_of are.entries).orders ≤ length are.entries * 129 = sums.orders in
+    let events : (sums_of are.entries).events ≤ length are.entries * most_events = sums.events in
+    let orders : (sums_of are.entries).orders ≤ length are.entries * most_events = sums.orders in
     record {
       updates = omega (arith, u, room.updates, few, many);
       events = omega (arith, e, room.events, few, many, events);
@@ -190,7 +192,7 @@ pub pending_at : (old : List Piece) (before : Totals) (i : ℕ) (now : List Piec
 pending_at old before i now after may are piece at =
     may.pending i piece (sym (are.rest i (omega arith)) ∙ at)
 
-pub room_for : (t : Totals) (entry : Entry) → AreUpTo (2 ^ 63 - 129) t → IsLow entry
+pub room_for : (t : Totals) (entry : Entry) → AreUpTo (greatest_total - most_events) t → IsLow entry
     → AreWithin (plus t (one_update entry))
 room_for t entry room low = record {
   updates = omega (arith, room.updates);

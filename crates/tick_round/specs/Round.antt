@@ -1,8 +1,10 @@
 -- A tick of a node: what comes before the update of its pods, and what comes after it.
 use Rattle.std.specs.Prelude.{◌≡◌, ℕ, ◌*◌, ◌≤◌, List, [], ◌∷◌, ◌++◌, length, map, slice_get, Option, Some}
 use Rattle.manifest.specs.declared.pod.PodSpec.{PodSpec}
+use Rattle.manifest.specs.Containers.{most_containers}
 use Rattle.node_config.specs.declared.node.NodeConfig.{NodeConfig}
 use Rattle.observations.specs.declared.tick.TickObs.{TickObs}
+use Rattle.observations.specs.Limits.{most_pods}
 use Rattle.node_signals.specs.declared.node.NodeSignals.{NodeSignals}
 use Rattle.node_signals.specs.declared.event.NodeEvent.{NodeEvent}
 use Rattle.node_signals.specs.declared.key.ThresholdKey.{ThresholdKey}
@@ -11,18 +13,19 @@ use Rattle.node_signals.specs.Node.{IsStateOf}
 use Rattle.node_signals.specs.Thresholds.{IsServed}
 use Rattle.pod_piece.specs.Piece.{Piece, updated, pods_in}
 use Rattle.event_book.specs.declared.totals.Totals.{Totals}
+use Rattle.event_book.specs.Limits.{most_events}
 use Rattle.node_pods.specs.Pods.{ArePlaced, handed_from, joined, kept_of, awaited}
 use Rattle.tick_round.specs.Update.{AreUpTo, AreEntered}
 use Rattle.tick_round.specs.declared.tick_in_progress.TickInProgress.{TickInProgress}
 use Rattle.tick_round.specs.Node.{State, HasTaken, Fits}
 
--- a tick adds so much to each total at most: 129 events of each of 256 pods
+-- a tick adds so much to each total at most
 abbrev pub most_of_tick : ℕ
-most_of_tick = 33024
+most_of_tick = most_events * most_pods
 
--- no pod has more than 16 containers
+-- no pod has more containers than a pod may have
 abbrev pub AreFew : List PodSpec → Type 0
-AreFew pods = (n : ℕ) (pod : PodSpec) → slice_get pods n ≡ Some pod → length pod.containers ≤ 16
+AreFew pods = (n : ℕ) (pod : PodSpec) → slice_get pods n ≡ Some pod → length pod.containers ≤ most_containers
 
 -- what a node keeps: it is the state of the ticks that it took, and its totals are what this many ticks may
 -- have added
@@ -34,13 +37,13 @@ pub record IsKept (s : State) : Type 0 where
 
 -- what the samples of a tick make of the node
 pub record IsSampled (config : NodeConfig) (old : NodeSignals) (tick : TickObs) (new : NodeSignals)
-    (news : List NodeEvent) (served : Option ThresholdKey) : Type 0 where
+    (node_events : List NodeEvent) (served : Option ThresholdKey) : Type 0 where
   pub signals : (before : List TickObs)
       → IsStateOf config.eviction config.eviction_pressure_transition_period before old
       → IsStateOf config.eviction config.eviction_pressure_transition_period (before ++ tick ∷ []) new
-  pub news_are : (before : List TickObs)
+  pub node_events_are : (before : List TickObs)
       → IsStateOf config.eviction config.eviction_pressure_transition_period before old
-      → AreNodeEvents config.eviction config.eviction_pressure_transition_period before tick news
+      → AreNodeEvents config.eviction config.eviction_pressure_transition_period before tick node_events
   pub serves : (before : List TickObs)
       → IsStateOf config.eviction config.eviction_pressure_transition_period (before ++ tick ∷ []) new
       → IsServed config.eviction before tick served
@@ -48,7 +51,7 @@ pub record IsSampled (config : NodeConfig) (old : NodeSignals) (tick : TickObs) 
 -- a node in this state has begun the tick: its samples are taken, and its pods are out for their updates
 pub record HasBegun (s : State) (tick : TickObs) (begun : TickInProgress) : Type 0 where
   pub config : begun.config ≡ s.config
-  pub sampled : IsSampled s.config s.signals tick begun.signals begun.news.items begun.served
+  pub sampled : IsSampled s.config s.signals tick begun.signals begun.node_events.items begun.served
   pub pods : begun.pods
       ≡ awaited (kept_of s.pods.pieces tick.pods) s.pods.max_restart_delay s.pods.has_dedicated_imagefs
   pub evictions : begun.evictions.items ≡ s.evictions

@@ -20,7 +20,7 @@ pub record IsConditionAfter (config : NodeConfig) (ticks : List TickObs) (condit
       ↔ IsTrueAfter config.eviction config.eviction_pressure_transition_period condition ticks
   pub since : IsSinceMoment config.eviction config.eviction_pressure_transition_period condition ticks status.since
 
--- all of them, in their order
+-- the statuses of all conditions, in their order
 pub record AreConditionsAfter (config : NodeConfig) (ticks : List TickObs)
     (statuses : List ConditionStatus) : Type 0 where
   pub as_many : length statuses ≡ length conditions

@@ -15,7 +15,7 @@ ghost use Rattle.event_book.specs.Totals.{nothing};
 ghost use Rattle.event_book.specs.Limits.{most_workers};
 ghost use Rattle.node_pods.specs.Pods.{handed_from, ArePlaced, joined};
 ghost use Rattle.tick_round.specs.Update.{MayUpdate};
-ghost use Rattle.tick_round.specs.Node.{HasTaken, Fits};
+ghost use Rattle.tick_round.specs.Node.{HasTaken, Fits, IsNextBy};
 ghost use Rattle.tick_round.specs.Played.{AreFinished};
 ghost use Rattle.tick_round.specs.Round.{IsKept, HasBegun};
 ghost use Rattle.tick_round.specs.Summary.{IsSummary};
@@ -34,7 +34,7 @@ use node_pods::NodePods;
 use node_signals::NodeSignals;
 use observations::{MOST_TICKS, TickObs};
 use pod_piece::PodPiece;
-use pod_pool::{Gate, NoGate, Runtime};
+use pod_pool::{Gate, NoGate, ThreadRuntime};
 use quantity::END_OF_TIME;
 use round_steps::Step;
 use std::alloc::{AllocError, Global};
@@ -159,8 +159,8 @@ impl<U: Ledger, E: Ledger, O: Ledger> Running<U, E, O> {
             book,
             last: _,
         } = self;
-        let news = match signals.take(alloc, &config.eviction, &tick) {
-            Ok(news) => news,
+        let node_events = match signals.take(alloc, &config.eviction, &tick) {
+            Ok(node_events) => node_events,
             Err(fault) => {
                 drop((config, signals, pods, evictions, events, book, tick));
                 return Err(fault);
@@ -174,7 +174,7 @@ impl<U: Ledger, E: Ledger, O: Ledger> Running<U, E, O> {
                     alloc,
                     config,
                     signals,
-                    news,
+                    node_events,
                     served,
                     pods,
                     evictions,
@@ -184,7 +184,7 @@ impl<U: Ledger, E: Ledger, O: Ledger> Running<U, E, O> {
                 Ok((pieces, book, begun))
             }
             Err(fault) => {
-                drop((config, signals, news, evictions, events, book));
+                drop((config, signals, node_events, evictions, events, book));
                 Err(fault)
             }
         }
@@ -193,9 +193,7 @@ impl<U: Ledger, E: Ledger, O: Ledger> Running<U, E, O> {
     /// The node after one more tick, on one thread. A refused growth of memory drops the node.
     pub(crate) fn after_alone(self, tick: TickObs) -> Result<Running<U, E, O>, AllocError>
         requires { Fits self tick }
-        ensures config { IfOk result (λ next. next.config ≡ self.config) }
-        ensures taken { (pods : List PodSpec) (ticks : List TickObs) → HasTaken pods ticks self
-            → IfOk result (HasTaken pods (ticks ++ tick ∷ [])) }
+        ensures { IfOk result (IsNextBy tick self) }
     {
         let (pieces, book, begun) = self.begin(tick)?;
         match update_alone(pieces, book, &NoGate) {
@@ -218,9 +216,7 @@ impl<U: Ledger, E: Ledger, O: Ledger> Running<U, E, O> {
         requires fits { Fits self tick }
         requires some { 0 < workers }
         requires most { workers ≤ most_workers }
-        ensures config { IfOk result (λ r. r.0.config ≡ self.config) }
-        ensures taken { (pods : List PodSpec) (ticks : List TickObs) → HasTaken pods ticks self
-            → IfOk result (λ r. HasTaken pods (ticks ++ tick ∷ []) r.0) }
+        ensures next { IfOk result (λ r. IsNextBy tick self r.0) }
         ensures finished { IfOk result (λ r.
             AreFinished (length (all_shown tick)) workers steps.now (map (λ list. list.items) r.1.items)) }
     {
@@ -258,7 +254,7 @@ impl<U: Ledger, E: Ledger, O: Ledger> Running<U, E, O> {
 impl<U: Ledger + Send, E: Ledger + Send, O: Ledger + Send> Running<U, E, O> {
     /// The node after one more tick, whose pods this many workers update. A refused growth of memory drops the
     /// node.
-    pub(crate) fn after<R: Runtime, G: Gate>(
+    pub(crate) fn after<R: ThreadRuntime, G: Gate>(
         self,
         rt: &R,
         tick: TickObs,
@@ -268,9 +264,7 @@ impl<U: Ledger + Send, E: Ledger + Send, O: Ledger + Send> Running<U, E, O> {
         requires fits { Fits self tick }
         requires some { 0 < workers }
         requires most { workers ≤ most_workers }
-        ensures config { IfOk result (λ next. next.config ≡ self.config) }
-        ensures taken { (pods : List PodSpec) (ticks : List TickObs) → HasTaken pods ticks self
-            → IfOk result (HasTaken pods (ticks ++ tick ∷ [])) }
+        ensures { IfOk result (IsNextBy tick self) }
     {
         let alloc = self.alloc;
         let (pieces, book, begun) = self.begin(tick)?;

@@ -1,10 +1,9 @@
 //! A node in the midst of a tick.
 
-ghost use Rattle.std.specs.Prelude.{◌≡◌, ◌++◌, ◌∷◌, [], List, IfOk, OnOk};
-ghost use Rattle.manifest.specs.declared.pod.PodSpec.{PodSpec};
+ghost use Rattle.std.specs.Prelude.{◌≡◌, ◌++◌, ◌∷◌, [], IfOk, OnOk};
 ghost use Rattle.observations.specs.declared.tick.TickObs.{TickObs};
 ghost use Rattle.event_list.specs.Tick.{AddsEvents};
-ghost use Rattle.tick_round.specs.Node.{State, HasTaken};
+ghost use Rattle.tick_round.specs.Node.{State, IsNextBy};
 ghost use Rattle.tick_round.specs.Round.{CanEnd, MayEnd};
 
 use crate::evict::{carry_out, eviction_for};
@@ -26,7 +25,7 @@ pub(crate) struct TickInProgress {
     pub(crate) alloc: Global,
     pub(crate) config: NodeConfig,
     pub(crate) signals: NodeSignals,
-    pub(crate) news: Vec<NodeEvent>,
+    pub(crate) node_events: Vec<NodeEvent>,
     pub(crate) served: Option<ThresholdKey>,
     pub(crate) pods: AwaitedPods,
     pub(crate) evictions: Vec<Option<Eviction>>,
@@ -40,13 +39,13 @@ fn add_tick(
     evictions: &mut Vec<Option<Eviction>>,
     at: u64,
     pieces: &[PodPiece],
-    news: &[NodeEvent],
+    node_events: &[NodeEvent],
     eviction: Option<Eviction>,
 ) -> Result<(), AllocError>
-    ensures events { OnOk result (AddsEvents at pieces.now news.now eviction events.old.items events.new.items) }
+    ensures events { OnOk result (AddsEvents at pieces.now node_events.now eviction events.old.items events.new.items) }
     ensures evictions { OnOk result (evictions.new.items ≡ evictions.old.items ++ eviction ∷ []) }
 {
-    add_events(events, at, pieces, news, eviction)?;
+    add_events(events, at, pieces, node_events, eviction)?;
     evictions.push(eviction)?;
     Ok(())
 }
@@ -61,16 +60,13 @@ impl TickInProgress {
         book: WholeBook<U, E, O>,
     ) -> Result<Running<U, E, O>, AllocError>
         requires { CanEnd self back.items book }
-        ensures config { IfOk result (λ next. next.config ≡ self.config) }
-        ensures taken { (s : State) (tick : TickObs) (pods : List PodSpec) (ticks : List TickObs)
-            → MayEnd s tick self back.items book → HasTaken pods ticks s
-            → IfOk result (HasTaken pods (ticks ++ tick ∷ [])) }
+        ensures { (s : State) (tick : TickObs) → MayEnd s tick self back.items book → IfOk result (IsNextBy tick s) }
     {
         let TickInProgress {
             alloc,
             config,
             signals,
-            news,
+            node_events,
             served,
             pods,
             mut evictions,
@@ -80,7 +76,7 @@ impl TickInProgress {
         let mut pods = match pods.with(back) {
             Ok(pods) => pods,
             Err(fault) => {
-                drop((config, signals, news, evictions, events, book));
+                drop((config, signals, node_events, evictions, events, book));
                 return Err(fault);
             }
         };
@@ -88,7 +84,7 @@ impl TickInProgress {
         let eviction = match eviction_for(&config, &pods, at, heeded) {
             Ok(eviction) => eviction,
             Err(fault) => {
-                drop((config, signals, pods, news, evictions, events, book));
+                drop((config, signals, pods, node_events, evictions, events, book));
                 return Err(fault);
             }
         };
@@ -97,10 +93,10 @@ impl TickInProgress {
             &mut evictions,
             at,
             pods.pieces(),
-            &news,
+            &node_events,
             eviction,
         );
-        drop(news);
+        drop(node_events);
         carry_out(&mut pods, eviction);
         match added {
             Ok(()) => Ok(Running {

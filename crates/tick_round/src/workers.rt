@@ -10,7 +10,7 @@ ghost use Rattle.tick_round.specs.Workers.{worth_their_start};
 use crate::alone::update_alone;
 use event_book::WholeBook;
 use pod_piece::PodPiece;
-use pod_pool::{Gate, Runtime, update_all};
+use pod_pool::{Gate, ThreadRuntime, update_all};
 use std::alloc::{AllocError, Global};
 use std::sync::Mutex;
 use std::sync::ledger::Ledger;
@@ -30,7 +30,7 @@ fn worth_their_start(workers: usize, pods: usize) -> usize
 }
 
 /// This many workers run: all where an update may wait for others, else those that are worth their start.
-fn running<G: Gate>(workers: usize, pods: usize, gate: &G) -> usize
+fn workers_to_run<G: Gate>(workers: usize, pods: usize, gate: &G) -> usize
     requires { 0 < workers }
     ensures either { (result ≡ workers) ⊎ (result ≡ worth_their_start workers pods) }
     ensures some { 0 < result }
@@ -47,7 +47,13 @@ fn running<G: Gate>(workers: usize, pods: usize, gate: &G) -> usize
 /// many workers, 1 to 64; where no update waits in the gate, by no more than are worth their start. The book is theirs
 /// under a lock until they have ended. One worker needs no thread, no deque and no lock. An `Err` says that memory was
 /// refused.
-pub fn update_by_workers<U: Ledger + Send, E: Ledger + Send, O: Ledger + Send, R: Runtime, G: Gate>(
+pub fn update_by_workers<
+    U: Ledger + Send,
+    E: Ledger + Send,
+    O: Ledger + Send,
+    R: ThreadRuntime,
+    G: Gate,
+>(
     rt: &R,
     alloc: Global,
     pieces: Vec<PodPiece>,
@@ -62,7 +68,7 @@ pub fn update_by_workers<U: Ledger + Send, E: Ledger + Send, O: Ledger + Send, R
     ensures pieces { IfOk result (λ r. r.0.items ≡ map updated pieces.items) }
     ensures book { IfOk result (λ r. AreEntered r.0.items book r.1) }
 {
-    let workers = running(workers, pieces.len(), gate);
+    let workers = workers_to_run(workers, pieces.len(), gate);
     if workers == 1 {
         return update_alone(pieces, book, gate);
     }

@@ -2,6 +2,7 @@ use Rattle.std.proofs.Common.{◌≡◌, ◌≤◌, ℕ, false, true, List, Resu
 use Rattle.std.specs.Str.Parse.{ParsesUnsigned, ExplainsUnsignedError, HasUnsignedDigitsIfOk}
 use Rattle.std.specs.declared.num.ParseIntError.{ParseIntError}
 use Rattle.clap.specs.Words.{found_of}
+use Rattle.commands.specs.Program.{most_workers}
 use Rattle.commands.proofs.Found.{unread_workers, read_workers, has_workers}
 use Rattle.commands.proofs.job.workers_in.Goals as goal
 
@@ -16,7 +17,7 @@ returns-in_err-workers c =
 
 pub returns-then-may_share : goal.returns-then-may_share
 returns-then-may_share c =
-    let bounds : (1 ≤ c.in_ok-workers.workers) × (c.in_ok-workers.workers ≤ 64) = search rules in
+    let bounds : (1 ≤ c.in_ok-workers.workers) × (c.in_ok-workers.workers ≤ most_workers) = search rules in
     has_workers Reads (λ t x h. h.0) (found_of c.args.given.now) c.in_ok-workers.workers c.in_ok-workers.ensures.none
     c.in_ok-workers.ensures.value bounds.0 bounds.1
 
@@ -24,7 +25,7 @@ pub returns-else-may_share : goal.returns-else-may_share
 returns-else-may_share c = λ workers has.
     let same = read_workers Reads (λ t x h. h.0) (found_of c.args.given.now) c.in_ok-workers.workers
     c.in_ok-workers.ensures.value workers has in
-    let bounds : (1 ≤ c.in_ok-workers.workers) × (c.in_ok-workers.workers ≤ 64) =
-    (subst (λ n. 1 ≤ n) same has.some, subst (λ n. n ≤ 64) same has.few) in
+    let bounds : (1 ≤ c.in_ok-workers.workers) × (c.in_ok-workers.workers ≤ most_workers) =
+    (subst (λ n. 1 ≤ n) same has.some, subst (λ n. n ≤ most_workers) same has.few) in
     let no : false ≡ true = c.if-may_share.ensures.1 bounds in
     cc

@@ -3,4 +3,4 @@ use Rattle.event_list.specs.Events.{of_node}
 use Rattle.event_list.proofs.tick.add_events_of_node.Given as goal
 
 abbrev pub invariant-loop-event : goal.invariant-loop-event
-invariant-loop-event l = l.events.items ≡ l.fn.events.items ++ of_node l.at (take l.event-index l.news)
+invariant-loop-event l = l.events.items ≡ l.fn.events.items ++ of_node l.at (take l.event-index l.node_events)

@@ -1,5 +1,5 @@
-use Rattle.std.proofs.Common.{rules}
-use Rattle.kubelet_replay.proofs.NodeLemmas.{so_far_next, may_take_shown, one_more_shown, may_arrive_shown, none_taken}
+use Rattle.std.proofs.Common.{◌-◌, ◌∷◌, length, rules, arith}
+use Rattle.kubelet_replay.proofs.NodeLemmas.{so_far_next, may_arrive, may_take_shown, one_more_shown, none_taken}
 use Rattle.kubelet_replay.proofs.replayed.take_by_steps.Goals as goal
 
 pub loop-tick-init : goal.loop-tick-init
@@ -13,31 +13,29 @@ pub tick_play-requires-clause-fits : goal.tick_play-requires-clause-fits
 tick_play-requires-clause-fits g c =
     let new = c.requires.new in
     may_take_shown new.config c.args.pods.items c.args.ticks.items c.loop-tick.yielded c.in-Some.tick
-    c.next.new.self.rest.items c.as_slice-present.result.now c.loop-tick.arrived
-    c.loop-tick.arriving.rest.items c.loop-tick.node c.arrive.new.node c.requires.replayable
-    (so_far_next new.config c.args.pods.items c.args.ticks.items c.loop-tick.yielded _ _ c.loop-tick.arrived _
+    c.next.new.self.rest.items c.as_slice.result.now c.len-count.result c.loop-tick.arriving.rest.items
+    c.arrive.new.arriving.rest.items c.loop-tick.node c.arrive.new.node c.requires.replayable
+    (so_far_next new.config c.args.pods.items c.args.ticks.items c.loop-tick.yielded _ _ c.loop-tick.arriving.rest.items
     c.loop-tick.node c.in-Some.ensures.steps.0 (c.loop-tick.invariant.so_far new.config new.after))
-    c.as_slice-present.ensures (c.in_ok-arrive.ensures.arrived new.config)
+    c.as_slice.ensures c.loop-tick.invariant.count c.in_ok-arrive.ensures
 
 pub loop-tick-preserved : goal.loop-tick-preserved
 loop-tick-preserved g c = record {
   so_far = λ config is. one_more_shown config c.args.pods.items c.args.ticks.items c.loop-tick.yielded c.in-Some.tick
-      c.next.new.self.rest.items c.as_slice-present.result.now c.loop-tick.arrived
-      c.loop-tick.arriving.rest.items c.arrive.new.arriving.rest.items c.loop-tick.node c.arrive.new.node
-      c.tick_play.new.self c.requires.replayable
-      (so_far_next config c.args.pods.items c.args.ticks.items c.loop-tick.yielded _ _ c.loop-tick.arrived _
+      c.next.new.self.rest.items c.as_slice.result.now c.len-count.result c.loop-tick.arriving.rest.items
+      c.arrive.new.arriving.rest.items c.loop-tick.node c.arrive.new.node c.tick_play.new.self c.requires.replayable
+      (so_far_next config c.args.pods.items c.args.ticks.items c.loop-tick.yielded _ _ c.loop-tick.arriving.rest.items
       c.loop-tick.node c.in-Some.ensures.steps.0 (c.loop-tick.invariant.so_far config is))
-      c.as_slice-present.ensures (c.in_ok-arrive.ensures.arrived config) c.in_ok-arrive.ensures.left_is
-      (c.in_ok-tick_play.ensures.taken config);
+      c.as_slice.ensures c.loop-tick.invariant.count c.in_ok-arrive.ensures (c.in_ok-tick_play.ensures.taken config);
   count = c.loop-tick.invariant.count;
 }
 
 pub arrive-requires : goal.arrive-requires
 arrive-requires g c =
     let new = c.requires.new in
-    may_arrive_shown new.config c.args.pods.items c.args.ticks.items c.loop-tick.yielded c.in-Some.tick
-    c.next.new.self.rest.items c.as_slice-present.result.now c.loop-tick.arrived c.loop-tick.arriving.rest.items
-    c.loop-tick.node c.requires.replayable
-    (so_far_next new.config c.args.pods.items c.args.ticks.items c.loop-tick.yielded _ _ c.loop-tick.arrived _
-    c.loop-tick.node c.in-Some.ensures.steps.0 (c.loop-tick.invariant.so_far new.config new.after))
-    c.as_slice-present.ensures
+    may_arrive new.config c.args.pods.items c.args.ticks.items c.loop-tick.yielded
+    (c.in-Some.tick ∷ c.next.new.self.rest.items)
+    (length c.loop-tick.arriving.rest.items - (c.len-count.result - length c.as_slice.result.now))
+    c.loop-tick.arriving.rest.items c.loop-tick.node c.requires.replayable
+    (so_far_next new.config c.args.pods.items c.args.ticks.items c.loop-tick.yielded _ _ c.loop-tick.arriving.rest.items
+    c.loop-tick.node c.in-Some.ensures.steps.0 (c.loop-tick.invariant.so_far new.config new.after)) (omega arith)

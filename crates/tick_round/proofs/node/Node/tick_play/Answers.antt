@@ -5,7 +5,7 @@ use Rattle.tick_round.proofs.node.Node.tick_play.Goals as goal
 pub returns-in-Ok-clause-taken : goal.returns-in-Ok-clause-taken
 returns-in-Ok-clause-taken g c =
     takes_tick c.args.tick (sym c.self.view_is ∙ sym c.take.ensures.value ∙ c.in-Some.is) c.replace.ensures.after
-    c.in-Ok.ensures.config c.in-Ok.ensures.taken
+    c.in-Ok.ensures.next
 
 pub returns-in-Ok-clause-finished : goal.returns-in-Ok-clause-finished
 returns-in-Ok-clause-finished g c = c.in-Ok.ensures.finished

@@ -13,10 +13,10 @@ end-requires g c =
     begun.ensures.kept begun.ensures.begun begun.ensures.handed c.in-Ok.ensures.pieces begun.ensures.book
     c.in-Ok.ensures.book begun.ensures.placed c.requires.fits
 
-pub returns-in-Ok-clause-taken : goal.returns-in-Ok-clause-taken
-returns-in-Ok-clause-taken g c = λ pods ticks taken.
+pub returns-in-Ok : goal.returns-in-Ok
+returns-in-Ok g c =
     let begun = c.in_ok-pieces in
-    c.end.ensures.taken c.args.self c.args.tick pods ticks
+    c.end.ensures c.args.self c.args.tick
     (may_end c.args.self c.args.tick begun.begun begun.pieces.items c.in-Ok.pieces.items begun.book c.in-Ok.book
     c.requires.fits begun.ensures.begun begun.ensures.handed c.in-Ok.ensures.pieces begun.ensures.book
-    c.in-Ok.ensures.book) taken
+    c.in-Ok.ensures.book)

@@ -11,14 +11,14 @@ end-requires g c =
     begun.ensures.kept begun.ensures.begun begun.ensures.handed c.in-Ok.ensures.pieces begun.ensures.book
     c.in-Ok.ensures.book begun.ensures.placed c.requires.fits
 
-pub returns-in_ok-next-in-Ok-clause-taken : goal.returns-in_ok-next-in-Ok-clause-taken
-returns-in_ok-next-in-Ok-clause-taken g c = λ pods ticks taken.
+pub returns-in_ok-next-in-Ok-clause-next : goal.returns-in_ok-next-in-Ok-clause-next
+returns-in_ok-next-in-Ok-clause-next g c =
     let begun = c.in_ok-pieces in
     let back = c.in-Ok.played in
-    c.in_ok-next-in-Ok.ensures.taken c.args.self c.args.tick pods ticks
+    c.in_ok-next-in-Ok.ensures c.args.self c.args.tick
     (may_end c.args.self c.args.tick begun.begun begun.pieces.items back.pieces.items begun.book back.book
     c.requires.fits begun.ensures.begun begun.ensures.handed c.in-Ok.ensures.pieces begun.ensures.book
-    c.in-Ok.ensures.book) taken
+    c.in-Ok.ensures.book)
 
 pub returns-in_ok-next-in-Ok-clause-finished : goal.returns-in_ok-next-in-Ok-clause-finished
 returns-in_ok-next-in-Ok-clause-finished g c = λ entries many.

@@ -22,7 +22,7 @@ returns-in-Ok-hand-clause-begun g c =
     begun_as (state i.config i.signals i.pods i.evictions.items i.events.items i.book i.last) c.args.self c.args.tick _
     c.self.view_is refl (record {
       signals = λ before is. c.in-Ok.ensures.state period before is;
-      news_are = λ before is. c.in-Ok.ensures.events period before is;
+      node_events_are = λ before is. c.in-Ok.ensures.events period before is;
       serves = λ before is. c.served-served.ensures period before is;
     })
     (c.in-Ok-hand.ensures.awaited

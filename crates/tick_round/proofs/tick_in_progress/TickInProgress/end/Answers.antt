@@ -28,7 +28,7 @@ has_taken g c s tick pods ticks may taken =
     c.unless_paused-heeded.result c.in-Ok-eviction_for.eviction evs es taken may c.in-Ok.ensures
     (heeds_as b.config b.at c.deref.result.now b.evictions.items b.served c.unless_paused-heeded.result
     c.deref.ensures.value c.unless_paused-heeded.ensures) c.in-Ok-eviction_for.ensures
-    (adds_as b.at c.pieces.result.now c.in-Ok.pods.pieces c.deref-2.result.now b.news.items
+    (adds_as b.at c.pieces.result.now c.in-Ok.pods.pieces c.deref-2.result.now b.node_events.items
     c.in-Ok-eviction_for.eviction b.events.items evs c.pieces.ensures.same c.deref-2.ensures.value
     c.in-Ok-added.ensures.events)
     c.carry_out.ensures.pieces c.carry_out.ensures.max_restart_delay c.carry_out.ensures.dedicated
@@ -45,5 +45,8 @@ invariant_of-result g c =
     (has_taken g (goal.at.invariant_of-result g c).In-Ok-added s by.tick (pods_in s.pods.pieces) by.kept.ticks by.may
     by.kept.taken) refl
 
-pub returns-in-Ok-added-clause-taken : goal.returns-in-Ok-added-clause-taken
-returns-in-Ok-added-clause-taken g c = has_taken g (goal.at.returns-in-Ok-added-clause-taken g c).In-Ok-added
+pub returns-in-Ok-added : goal.returns-in-Ok-added
+returns-in-Ok-added g c s tick may = record {
+  config = may.has_begun.config;
+  taken = λ pods ticks. has_taken g (goal.at.returns-in-Ok-added g c).In-Ok-added s tick pods ticks may;
+}
