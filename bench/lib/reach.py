@@ -96,9 +96,13 @@ class Repository:
         if rest_of_path[0] == "declared":
             return self.type_key(crate, next(part for part in rest_of_path[1:] if part[0].isupper()))
         module = ".".join(rest_of_path)
-        for definition in (self.module(crate, module) or antt.Module("", {}, [])).definitions:
+        said = self.module(crate, module) or antt.Module("", {}, [])
+        for definition in said.definitions:
             if name in (definition.name, *definition.constructors):
                 return crate, module, definition.name
+        handed_on = antt.parts_of(name)[0]
+        if handed_on in said.scope:
+            return self.meaning(said.scope, handed_on)
         raise ValueError(f"crates/{crate}/specs/{module}.antt defines no {name}")
 
     def keys(self, scope, words):
