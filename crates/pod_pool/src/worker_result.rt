@@ -24,5 +24,5 @@ pub(crate) struct WorkerResult<D: Deal, U: Ledger, E: Ledger, O: Ledger> {
     pub ghost right_uncounted: { All (IsDone D.all) uncounted.items },
     pub ghost due: { All (IsPieceDue D.all) (option_to_list refused) },
     pub ghost counts: { AreSumsOf done.items share.totals },
-    pub ghost take_apart: { 0 < share.parts },
+    pub ghost part: { 0 < share.parts },
 }

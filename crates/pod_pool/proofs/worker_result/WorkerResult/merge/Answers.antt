@@ -29,5 +29,5 @@ invariant_of-self-clause-counts g c =
 pub invariant_of-self-clause-part : goal.invariant_of-self-clause-part
 invariant_of-self-clause-part g c =
     let parts = ap (λ s. s.parts) c.join.ensures in
-    let mine = c.args.self.now.take_apart in
+    let mine = c.args.self.now.part in
     omega arith
