@@ -26,19 +26,19 @@ pub(crate) const MISTAKEN: &[Step] = &[
 
 /// The last of 64 workers are the first that take a pod.
 pub(crate) const LAST_FIRST: &[Step] = &[
-    Step::Pop(63),
     Step::Steal {
         thief: 62,
         owner: 1,
     },
+    Step::Pop(63),
     Step::Pop(3),
     Step::Update(62),
     Step::Update(3),
+    Step::Enter(3),
+    Step::Enter(62),
     Step::Steal {
         thief: 61,
         owner: 0,
     },
-    Step::Enter(3),
     Step::Update(61),
-    Step::Enter(62),
 ];

@@ -16,7 +16,5 @@ pub use round_steps::{
     LONGEST_STEPS_FILE, StepsFault, read_steps, steps_fault_line, steps_status_of,
 };
 pub use run::{check, check_in, replay, replay_in, replay_play, replay_play_in};
-pub use tick_round::{
-    Gate, NoGate, Node, Step, Summary, ThreadRuntime, TickFault, laws as round_laws,
-};
+pub use tick_round::{Gate, NoGate, Node, Spawner, Step, Summary, TickFault, laws as round_laws};
 pub use trace::Format;

@@ -11,7 +11,7 @@ use node_config::NodeConfig;
 use observations::TickObs;
 use std::sync::ledger::Ledger;
 use std::vec::IntoIter;
-use tick_round::{Gate, Node, Step, ThreadRuntime, TickFault};
+use tick_round::{Gate, Node, Spawner, Step, TickFault};
 
 /// Pods arrive one after the other, until this many are left.
 fn arrive<U: Ledger, E: Ledger, O: Ledger>(
@@ -64,7 +64,7 @@ pub(crate) fn take_by_workers<
     U: Ledger + Send,
     E: Ledger + Send,
     O: Ledger + Send,
-    R: ThreadRuntime,
+    R: Spawner,
     G: Gate,
 >(
     rt: &R,

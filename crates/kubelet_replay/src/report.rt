@@ -19,7 +19,7 @@ use observations::TickObs;
 use std::alloc::{AllocError, Global};
 use std::marker::Brand;
 use std::sync::ledger::Ledger;
-use tick_round::{Gate, Node, Step, ThreadRuntime, TickFault};
+use tick_round::{Gate, Node, Spawner, Step, TickFault};
 use trace::Trace;
 
 /// A node of the trace's configuration, with a book over these ledgers and no pods yet, beside the trace's pods and
@@ -114,7 +114,7 @@ fn by_steps<U: Ledger, E: Ledger, O: Ledger>(
 }
 
 /// The same, where this many workers update the pods of each tick in threads of their own.
-fn by_workers<U: Ledger + Send, E: Ledger + Send, O: Ledger + Send, R: ThreadRuntime, G: Gate>(
+fn by_workers<U: Ledger + Send, E: Ledger + Send, O: Ledger + Send, R: Spawner, G: Gate>(
     rt: &R,
     alloc: Global,
     trace: Trace,
@@ -155,7 +155,7 @@ pub fn report_by_steps(
 }
 
 /// The report of a trace, the pods of each of whose ticks this many workers update in threads of their own.
-pub fn report_by_workers<R: ThreadRuntime, G: Gate>(
+pub fn report_by_workers<R: Spawner, G: Gate>(
     rt: &R,
     alloc: Global,
     trace: Trace,

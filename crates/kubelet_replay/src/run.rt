@@ -12,7 +12,7 @@ use crate::fault::RunFault;
 use crate::report::{report_by_steps, report_by_workers};
 use replay_stream::{ReadAllFault, Sink, Source, read_all, write_all};
 use std::alloc::{AllocError, Global};
-use tick_round::{Gate, Step, ThreadRuntime};
+use tick_round::{Gate, Spawner, Step};
 use trace::{FaultKind, Format, LineFault, Trace, read_trace, read_trace_by_workers};
 
 /// The greatest length of an input: 64 MiB.
@@ -88,7 +88,7 @@ fn report_of_text_by_steps(
     }
 }
 
-fn report_of_text_by_workers<R: ThreadRuntime, G: Gate>(
+fn report_of_text_by_workers<R: Spawner, G: Gate>(
     rt: &R,
     alloc: Global,
     format: Format,
@@ -149,7 +149,7 @@ fn write_text<W: Sink>(output: &mut W, text: &str) -> Result<(), RunFault>
 /// is no trace (`Line`, with its first faulty line), or a growth of memory was refused
 /// (`OutOfMemory`). Where the writer failed or took nothing (`Write`), a part of the report from
 /// its beginning is written.
-pub fn replay<H: AllocGlobal + ThreadRuntime, R: Source, W: Sink, G: Gate>(
+pub fn replay<H: AllocGlobal + Spawner, R: Source, W: Sink, G: Gate>(
     rt: &H,
     input: &mut R,
     output: &mut W,
@@ -171,7 +171,7 @@ pub fn replay<H: AllocGlobal + ThreadRuntime, R: Source, W: Sink, G: Gate>(
 }
 
 /// The same of a trace in a format.
-pub fn replay_in<H: AllocGlobal + ThreadRuntime, R: Source, W: Sink, G: Gate>(
+pub fn replay_in<H: AllocGlobal + Spawner, R: Source, W: Sink, G: Gate>(
     rt: &H,
     format: Format,
     input: &mut R,

@@ -15,7 +15,7 @@ use crate::fault::PoolFault;
 use crate::gate::Gate;
 use crate::gathered::{ResultBuffers, gather};
 use crate::run::run;
-use crate::runtime::ThreadRuntime;
+use crate::spawner::Spawner;
 use event_book::{EventBook, Shares};
 use piece_deques::Deal;
 use pod_piece::PodPiece;
@@ -35,14 +35,7 @@ fn busy(workers: usize, pieces: usize) -> usize
 }
 
 /// [`update_all`] with a deal of these pieces, where each of the workers has something to do.
-fn pool<
-    D: Deal + Send,
-    U: Ledger + Send,
-    E: Ledger + Send,
-    O: Ledger + Send,
-    R: ThreadRuntime,
-    G: Gate,
->(
+fn pool<D: Deal + Send, U: Ledger + Send, E: Ledger + Send, O: Ledger + Send, R: Spawner, G: Gate>(
     rt: &R,
     alloc: Global,
     pieces: Vec<PodPiece>,
@@ -83,7 +76,7 @@ fn pool<
 /// workers, 1 to 64, do it in threads of their own, no more than there are pieces, and take what is left in the deques
 /// of others once their own are empty. It gives the pieces in the order of their numbers, whatever the threads do, and
 /// the share. An `Err` says that memory was refused.
-pub fn update_all<U: Ledger + Send, E: Ledger + Send, O: Ledger + Send, R: ThreadRuntime, G: Gate>(
+pub fn update_all<U: Ledger + Send, E: Ledger + Send, O: Ledger + Send, R: Spawner, G: Gate>(
     rt: &R,
     alloc: Global,
     pieces: Vec<PodPiece>,

@@ -5,7 +5,7 @@ ghost use Rattle.pod_pool.specs.Contexts.{context_tag, HasEmptied};
 
 use crate::context::WorkerContext;
 use crate::gate::Gate;
-use crate::runtime::ThreadRuntime;
+use crate::spawner::Spawner;
 use event_book::EventBook;
 use piece_deques::Deal;
 use std::sync::Mutex;
@@ -20,7 +20,7 @@ pub(crate) fn run<
     U: Ledger + Send,
     E: Ledger + Send,
     O: Ledger + Send,
-    R: ThreadRuntime,
+    R: Spawner,
     G: Gate,
 >(rt: &R, book: &Mutex<EventBook<U, E, O>>, gate: &G, contexts: &mut [WorkerContext<D, U, E, O>])
     requires { 0 < length contexts.old }

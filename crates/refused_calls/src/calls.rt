@@ -13,7 +13,7 @@ use event_book::{Blanks, EventBook};
 use std::alloc::Global;
 use std::marker::Brand;
 use std::sync::ledger::Ledger;
-use tick_round::{Node, ThreadRuntime};
+use tick_round::{Node, Spawner};
 
 /// A call of a node, or of its summary.
 #[derive(Clone, Copy)]
@@ -48,7 +48,7 @@ impl NodeCall {
 }
 
 /// The call, on a node with room for a pod.
-fn on<U: Ledger + Send, E: Ledger + Send, O: Ledger + Send, R: ThreadRuntime>(
+fn on<U: Ledger + Send, E: Ledger + Send, O: Ledger + Send, R: Spawner>(
     rt: &R,
     alloc: Global,
     node: &mut Node<U, E, O>,
@@ -64,7 +64,7 @@ fn on<U: Ledger + Send, E: Ledger + Send, O: Ledger + Send, R: ThreadRuntime>(
 }
 
 /// The call, on this node with room for a pod.
-fn on_node<U: Ledger + Send, E: Ledger + Send, O: Ledger + Send, R: ThreadRuntime>(
+fn on_node<U: Ledger + Send, E: Ledger + Send, O: Ledger + Send, R: Spawner>(
     rt: &R,
     alloc: Global,
     node: Node<U, E, O>,
@@ -82,7 +82,7 @@ fn on_node<U: Ledger + Send, E: Ledger + Send, O: Ledger + Send, R: ThreadRuntim
 }
 
 /// The call, over a book with these ledgers.
-fn over_book<U: Ledger + Send, E: Ledger + Send, O: Ledger + Send, R: ThreadRuntime>(
+fn over_book<U: Ledger + Send, E: Ledger + Send, O: Ledger + Send, R: Spawner>(
     rt: &R,
     alloc: Global,
     blanks: Blanks,
@@ -105,7 +105,7 @@ fn over_book<U: Ledger + Send, E: Ledger + Send, O: Ledger + Send, R: ThreadRunt
 }
 
 /// The call, over a book of its own.
-pub(crate) fn on_book<R: ThreadRuntime>(
+pub(crate) fn on_book<R: Spawner>(
     rt: &R,
     alloc: Global,
     call: BookCall,

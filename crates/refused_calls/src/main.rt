@@ -17,7 +17,7 @@ use calls::{BookCall, NodeCall, on_book};
 use pieces::{PieceCall, on_piece};
 use seen::{Line, Unprepared};
 use std::process::ExitCode;
-use tick_round::ThreadRuntime;
+use tick_round::Spawner;
 use ticks::Way;
 
 /// A call of the library.
@@ -41,7 +41,7 @@ const CALLS: [Call; 9] = [
 ];
 
 /// What was seen of a call.
-fn line_of<R: AllocGlobal + ThreadRuntime>(rt: &R, call: Call) -> Result<Line, Unprepared> {
+fn line_of<R: AllocGlobal + Spawner>(rt: &R, call: Call) -> Result<Line, Unprepared> {
     match call {
         Call::Piece(call) => on_piece(rt.alloc(), call),
         Call::Book(call) => on_book(rt, rt.alloc(), call),
@@ -49,7 +49,7 @@ fn line_of<R: AllocGlobal + ThreadRuntime>(rt: &R, call: Call) -> Result<Line, U
 }
 
 /// The lines of all calls.
-fn text_of<R: AllocGlobal + ThreadRuntime>(rt: &R) -> Result<String, Unprepared> {
+fn text_of<R: AllocGlobal + Spawner>(rt: &R) -> Result<String, Unprepared> {
     let mut text = String::new(rt.alloc());
     for call in CALLS {
         let line = line_of(rt, call)?;

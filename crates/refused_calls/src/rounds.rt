@@ -8,7 +8,7 @@ use crate::pieces::{Stage, pending, shows};
 use crate::seen::{Line, Saw, Unprepared};
 use event_book::{EventBook, Shares, Totals};
 use pod_piece::PodPiece;
-use pod_pool::{NoGate, PoolFault, ThreadRuntime, update_all};
+use pod_pool::{NoGate, PoolFault, Spawner, update_all};
 use std::alloc::Global;
 use std::sync::Mutex;
 use std::sync::ledger::Ledger;
@@ -137,7 +137,7 @@ struct Pool<'a, U: Ledger, E: Ledger, O: Ledger, R> {
     book: &'a Mutex<EventBook<U, E, O>>,
 }
 
-impl<U: Ledger + Send, E: Ledger + Send, O: Ledger + Send, R: ThreadRuntime> Pool<'_, U, E, O, R> {
+impl<U: Ledger + Send, E: Ledger + Send, O: Ledger + Send, R: Spawner> Pool<'_, U, E, O, R> {
     /// `update_all`.
     fn update(
         &self,
@@ -214,7 +214,7 @@ impl<U: Ledger + Send, E: Ledger + Send, O: Ledger + Send, R: ThreadRuntime> Poo
 }
 
 /// `update_all`, over this book and its whole share.
-pub(crate) fn round<U: Ledger + Send, E: Ledger + Send, O: Ledger + Send, R: ThreadRuntime>(
+pub(crate) fn round<U: Ledger + Send, E: Ledger + Send, O: Ledger + Send, R: Spawner>(
     rt: &R,
     alloc: Global,
     book: EventBook<U, E, O>,

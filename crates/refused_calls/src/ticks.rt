@@ -9,7 +9,7 @@ use manifest::PodSpec;
 use observations::TickObs;
 use std::alloc::Global;
 use std::sync::ledger::Ledger;
-use tick_round::{NoGate, Node, ThreadRuntime, TickFault};
+use tick_round::{NoGate, Node, Spawner, TickFault};
 
 /// This many workers share the pods of a tick.
 const WORKERS: usize = 2;
@@ -38,7 +38,7 @@ fn play<U: Ledger, E: Ledger, O: Ledger>(
 }
 
 /// The node takes a tick in this way.
-fn take<U: Ledger + Send, E: Ledger + Send, O: Ledger + Send, R: ThreadRuntime>(
+fn take<U: Ledger + Send, E: Ledger + Send, O: Ledger + Send, R: Spawner>(
     rt: &R,
     node: &mut Node<U, E, O>,
     tick: TickObs,
@@ -84,7 +84,7 @@ fn halted<U: Ledger, E: Ledger, O: Ledger>(
 }
 
 /// The first tick of the trace, which the node takes in this way.
-pub(crate) fn tick<U: Ledger + Send, E: Ledger + Send, O: Ledger + Send, R: ThreadRuntime>(
+pub(crate) fn tick<U: Ledger + Send, E: Ledger + Send, O: Ledger + Send, R: Spawner>(
     rt: &R,
     alloc: Global,
     node: &mut Node<U, E, O>,

@@ -11,7 +11,7 @@ ghost use Rattle.replay_program.specs.Jobs.{HasFewWorkers};
 
 use fault::Fault;
 use kubelet_replay::{
-    Counted, Format, Job, LONGEST_STEPS_FILE, Sink, Source, Step, ThreadRuntime, check_in, job_of,
+    Counted, Format, Job, LONGEST_STEPS_FILE, Sink, Source, Spawner, Step, check_in, job_of,
     read_steps, replay, replay_in, replay_play_in,
 };
 use progress::{Input, Output, Progress};
@@ -36,7 +36,7 @@ fn words_of(rt: &(impl Env + AllocGlobal)) -> Result<Vec<String>, Fault> {
 }
 
 /// Replays the file of this path by this many workers.
-fn run<H: Files + Eprint + AllocGlobal + ThreadRuntime, W: Sink>(
+fn run<H: Files + Eprint + AllocGlobal + Spawner, W: Sink>(
     rt: &H,
     progress: &Progress<'_, H>,
     format: Format,
@@ -98,7 +98,7 @@ fn play<H: Files + AllocGlobal, W: Sink>(
 }
 
 /// Does this job, and writes the answer.
-fn work<H: Files + Eprint + AllocGlobal + ThreadRuntime, W: Sink>(
+fn work<H: Files + Eprint + AllocGlobal + Spawner, W: Sink>(
     rt: &H,
     progress: &Progress<'_, H>,
     job: Job<'_>,
@@ -130,7 +130,7 @@ fn work<H: Files + Eprint + AllocGlobal + ThreadRuntime, W: Sink>(
 }
 
 /// Does what the words ask for, and writes the answer.
-fn do_asked<H: Files + Eprint + AllocGlobal + ThreadRuntime, W: Sink>(
+fn do_asked<H: Files + Eprint + AllocGlobal + Spawner, W: Sink>(
     rt: &H,
     progress: &Progress<'_, H>,
     words: &[String],
@@ -143,7 +143,7 @@ fn do_asked<H: Files + Eprint + AllocGlobal + ThreadRuntime, W: Sink>(
 }
 
 /// Does what the program's words ask for. Without any it replays what the input has.
-fn answer<H: Files + Env + Eprint + AllocGlobal + ThreadRuntime, R: Source, W: Sink>(
+fn answer<H: Files + Env + Eprint + AllocGlobal + Spawner, R: Source, W: Sink>(
     rt: &H,
     progress: &Progress<'_, H>,
     input: &mut R,

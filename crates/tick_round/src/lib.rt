@@ -22,7 +22,7 @@ pub use evict::{carry_out, eviction_for};
 pub use fault::TickFault;
 pub use node::Node;
 pub use played_round::Played;
-pub use pod_pool::{Gate, NoGate, ThreadRuntime};
+pub use pod_pool::{Gate, NoGate, Spawner};
 pub use round_core::laws;
 pub use round_steps::Step;
 pub use steps::update_by_steps;

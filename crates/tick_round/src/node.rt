@@ -21,7 +21,7 @@ use event_book::WholeBook;
 use manifest::PodSpec;
 use node_config::NodeConfig;
 use observations::TickObs;
-use pod_pool::{Gate, ThreadRuntime};
+use pod_pool::{Gate, Spawner};
 use round_steps::Step;
 use std::alloc::{AllocError, Global};
 use std::marker::Model;
@@ -172,7 +172,7 @@ impl<U: Ledger + Send, E: Ledger + Send, O: Ledger + Send> Node<U, E, O> {
     /// takes what the tick shows of it, then one of them at most is evicted. The gate is told of each update. The node
     /// is as after `tick_alone`, whatever the threads do. An `Err` says that memory was refused, or that the node was
     /// halted; it is halted then.
-    pub fn tick<R: ThreadRuntime, G: Gate>(
+    pub fn tick<R: Spawner, G: Gate>(
         &mut self,
         rt: &R,
         tick: TickObs,

@@ -34,7 +34,7 @@ use node_pods::NodePods;
 use node_signals::NodeSignals;
 use observations::{MOST_TICKS, TickObs};
 use pod_piece::PodPiece;
-use pod_pool::{Gate, NoGate, ThreadRuntime};
+use pod_pool::{Gate, NoGate, Spawner};
 use quantity::END_OF_TIME;
 use round_steps::Step;
 use std::alloc::{AllocError, Global};
@@ -254,7 +254,7 @@ impl<U: Ledger, E: Ledger, O: Ledger> Running<U, E, O> {
 impl<U: Ledger + Send, E: Ledger + Send, O: Ledger + Send> Running<U, E, O> {
     /// The node after one more tick, whose pods this many workers update. A refused growth of memory drops the
     /// node.
-    pub(crate) fn after<R: ThreadRuntime, G: Gate>(
+    pub(crate) fn after<R: Spawner, G: Gate>(
         self,
         rt: &R,
         tick: TickObs,

@@ -10,7 +10,7 @@ ghost use Rattle.tick_round.specs.Workers.{worth_their_start};
 use crate::alone::update_alone;
 use event_book::WholeBook;
 use pod_piece::PodPiece;
-use pod_pool::{Gate, ThreadRuntime, update_all};
+use pod_pool::{Gate, Spawner, update_all};
 use std::alloc::{AllocError, Global};
 use std::sync::Mutex;
 use std::sync::ledger::Ledger;
@@ -47,13 +47,7 @@ fn workers_to_run<G: Gate>(workers: usize, pods: usize, gate: &G) -> usize
 /// many workers, 1 to 64; where no update waits in the gate, by no more than are worth their start. The book is theirs
 /// under a lock until they have ended. One worker needs no thread, no deque and no lock. An `Err` says that memory was
 /// refused.
-pub fn update_by_workers<
-    U: Ledger + Send,
-    E: Ledger + Send,
-    O: Ledger + Send,
-    R: ThreadRuntime,
-    G: Gate,
->(
+pub fn update_by_workers<U: Ledger + Send, E: Ledger + Send, O: Ledger + Send, R: Spawner, G: Gate>(
     rt: &R,
     alloc: Global,
     pieces: Vec<PodPiece>,
