@@ -3,6 +3,7 @@
 
 mod line;
 mod lines;
+mod model;
 mod parts;
 mod plain;
 mod tape;
@@ -11,6 +12,7 @@ mod window;
 
 pub use line::{TextLine, other_line, text_line};
 pub use lines::skip_blank_lines;
+pub use model::{Window, window_alone, window_by_workers};
 pub use parts::joined;
 pub use plain::LineBuffers;
 pub use tape::{tape_moment, tick_tape};

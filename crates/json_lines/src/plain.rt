@@ -15,8 +15,8 @@ use std::alloc::{AllocError, Global};
 /// A writer of which this many lines in a row are not plain is taken for one whose lines are not.
 const MISSES: u32 = 4;
 
-/// Of such a writer one line in this many is still tried.
-const MISSES_A_TRY: u32 = 32;
+/// Of such a writer no more lines in a row are left untried than these.
+const MOST_UNTRIED: u32 = 32;
 
 /// Goes on where the text is no JSON; `Err` where memory was refused, and nowhere else.
 pub(crate) fn refused_memory(error: Error) -> Result<(), AllocError>
@@ -29,14 +29,58 @@ pub(crate) fn refused_memory(error: Error) -> Result<(), AllocError>
     }
 }
 
-/// What is kept from line to line: where texts are unescaped, and the memory of a line's values, which is freed at
-/// once.
+/// Which lines are worth a try to read them as plain ones: all but behind several that were not. Then one line is left
+/// untried before the next try, and behind each try in vain twice as many: a few lines that are not plain leave few
+/// others untried.
+#[derive(Clone, Copy)]
+pub(crate) struct Tries {
+    /// This many lines in a row that were tried were not plain ones.
+    missed: u32,
+    /// This many lines are left untried before the next try.
+    untried: u32,
+    /// This many lines were left untried before the last try.
+    pause: u32,
+}
+
+impl Tries {
+    fn new() -> Tries {
+        Tries {
+            missed: 0,
+            untried: 0,
+            pause: 0,
+        }
+    }
+
+    /// Whether the next line is tried; if not, it is left untried.
+    pub(crate) fn tries_next(&mut self) -> bool {
+        if self.untried == 0 {
+            return true;
+        }
+        self.untried -= 1;
+        false
+    }
+
+    /// A line was tried, and was a plain one or not.
+    pub(crate) fn note(&mut self, is_plain: bool) {
+        if is_plain {
+            *self = Tries::new();
+            return;
+        }
+        self.missed = self.missed.saturating_add(1);
+        if self.missed >= MISSES {
+            self.pause = self.pause.saturating_mul(2).clamp(1, MOST_UNTRIED);
+            self.untried = self.pause;
+        }
+    }
+}
+
+/// What is kept from line to line: where texts are unescaped, the memory of a line's values, which is freed at once,
+/// and which lines are worth a try.
 #[derive(Drop)]
 pub struct LineBuffers {
     pub(crate) scratch: Scratch,
     values: Bump,
-    /// This many lines in a row were not read as plain ones.
-    pub(crate) missed: u32,
+    pub(crate) tries: Tries,
 }
 
 impl LineBuffers {
@@ -45,20 +89,9 @@ impl LineBuffers {
         LineBuffers {
             scratch: Scratch::new(alloc),
             values: Bump::new(alloc),
-            missed: 0,
+            tries: Tries::new(),
         }
     }
-
-    /// Whether it is worth a try to read the next line as a plain one: always but behind several that were not, where
-    /// a line now and then shows whether they still are not.
-    pub(crate) fn is_worth_a_try(&self) -> bool {
-        self.missed < MISSES || self.missed % MISSES_A_TRY == 0
-    }
-}
-
-/// This many lines in a row were not read as plain ones, behind one more that was or was not.
-pub(crate) fn missed_after(missed: u32, is_plain: bool) -> u32 {
-    if is_plain { 0 } else { missed.wrapping_add(1) }
 }
 
 /// The one value of the text, if it has one that nests no deeper than [`MAX_DEPTH`].
@@ -115,13 +148,12 @@ pub(crate) fn plain_tick(
 ) -> Result<Option<TickRecord>, AllocError>
     ensures { IfOk result (λ found. IfSome found (λ tick. said_in line.now ≡ Tick tick.at tick.written)) }
 {
-    if !buffers.is_worth_a_try() {
-        buffers.missed = missed_after(buffers.missed, false);
+    if !buffers.tries.tries_next() {
         return Ok(None);
     }
     let found = tick_in(alloc, line, &mut buffers.scratch, &buffers.values);
     // no value is left; where it refused all the same, the next line's would come beside this one's
     let _given_up = buffers.values.reset();
-    buffers.missed = missed_after(buffers.missed, matches!(found, Ok(Some(_))));
+    buffers.tries.note(matches!(found, Ok(Some(_))));
     found
 }

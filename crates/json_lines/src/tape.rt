@@ -1,14 +1,14 @@
 //! Tick lines of the common shape, as the tape of their tokens.
 
-ghost use Rattle.std.specs.Prelude.{◌≡◌, Some, IfOk, IfSome};
+ghost use Rattle.std.specs.Prelude.{◌≡◌, false, Some, IfOk, IfSome};
 ghost use Rattle.json_fields.specs.Tape.{data_at};
-ghost use Rattle.json_lines.specs.Lines.{line_data, said_in, SaysTickOn};
+ghost use Rattle.json_lines.specs.Lines.{is_blank, line_data, said_in, SaysTickOn};
 ghost use Rattle.json_lines.specs.Ticks.{is_tick, moment_at};
 
 use crate::line::LONGEST_LINE;
-use crate::lines::is_blank;
-use crate::plain::{LineBuffers, missed_after, refused_memory};
+use crate::plain::{LineBuffers, refused_memory};
 use crate::tick::moment_written;
+use crate::window::names_ticks;
 use json::{Scratch, Tape, Value};
 use json_fields::{TapeValue, is_plain_tape};
 use simdutf8::compat::from_utf8;
@@ -16,13 +16,14 @@ use std::alloc::{AllocError, Global};
 
 /// The tape of a text, if it is a tick line, each of its numbers is one that digits alone write, below 2^64, and
 /// nothing in it nests deeper than 127.
-#[tactic(auto, using(crate::proofs::OnTape::tape_said))]
+#[tactic(auto, using(crate::proofs::OnTape::tape_said, crate::proofs::Blanks::some_not_blank))]
 fn tape_in<'a>(
     alloc: Global,
     line: &'a [u8],
     scratch: &'a mut Scratch,
 ) -> Result<Option<Tape<'a>>, AllocError>
-    ensures { IfOk result (λ found. IfSome found (SaysTickOn (said_in line.now))) }
+    ensures says { IfOk result (λ found. IfSome found (SaysTickOn (said_in line.now))) }
+    ensures not_blank { IfOk result (λ found. IfSome found (λ _. is_blank line.now ≡ false)) }
 {
     let Ok(text) = from_utf8(line) else {
         return Ok(None);
@@ -45,7 +46,7 @@ fn is_tick_tape(tape: &Tape<'_>) -> bool
 }
 
 /// The tape of a line, if it is a tick line of the common shape. So almost every tick line is read; the other lines are
-/// read by `other_line`.
+/// read by `other_line`. Of a line without the word of ticks no tape is begun: a pod's would be long, and of no use.
 pub fn tick_tape<'a>(
     alloc: Global,
     line: &'a [u8],
@@ -53,15 +54,11 @@ pub fn tick_tape<'a>(
 ) -> Result<Option<Tape<'a>>, AllocError>
     ensures { IfOk result (λ found. IfSome found (SaysTickOn (line_data line.now))) }
 {
-    if is_blank(line) || line.len() > LONGEST_LINE {
-        return Ok(None);
-    }
-    if !buffers.is_worth_a_try() {
-        buffers.missed = missed_after(buffers.missed, false);
+    if line.len() > LONGEST_LINE || !names_ticks(line) || !buffers.tries.tries_next() {
         return Ok(None);
     }
     let found = tape_in(alloc, line, &mut buffers.scratch)?;
-    buffers.missed = missed_after(buffers.missed, found.is_some());
+    buffers.tries.note(found.is_some());
     Ok(found)
 }
 

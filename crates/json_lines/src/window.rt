@@ -7,32 +7,64 @@ use crate::lines::{first_line, is_blank};
 use memchr::memmem::find;
 use std::alloc::{AllocError, Global};
 
-/// Lines that tell of a pod itself have one of these words near their beginning.
+/// Lines that tell of a pod itself mostly have one of these words near their beginning.
 const WORDS_OF_PODS: [&[u8]; 2] = [b"\"metadata\"", b"\"gone\""];
 
-/// Tick lines have this word near their beginning.
+/// Tick lines have this word, mostly near their beginning.
 const WORD_OF_TICKS: &[u8] = b"\"tick\"";
 
 /// This many bytes are near the beginning of a line.
 const BEGINNING: usize = 128;
 
 /// Lines are read together up to this many blank ones in a row: those behind them can be skipped unread.
-const MOST_BLANKS: usize = 16;
+const MOST_BLANKS: usize = 1024;
 
-/// Whether a line seems to tell of a pod itself. Nothing rests on it but how many lines are read together.
-fn seems_of_pod(line: &[u8]) -> bool {
+/// Lines that seem to tell of pods are read together up to this many bytes, 1 MiB, and the end of the last one: a tree
+/// of each stays until its turn has come.
+const MOST_OF_PODS: usize = 1_048_576;
+
+/// What a line seems to be. Nothing rests on it but how many lines are read together.
+#[derive(Clone, Copy)]
+enum Looks {
+    /// Blank, and short: a long line is looked through where it is read, and nowhere else.
+    Blank,
+    /// As a line does that tells of a pod itself, or that stands among no ticks.
+    OfPod,
+    Other,
+}
+
+/// Whether the word of ticks stands in a line.
+pub(crate) fn names_ticks(line: &[u8]) -> bool {
+    find(line, WORD_OF_TICKS).is_some()
+}
+
+/// Whether a line that is not blank looks as one that tells of a pod itself, or as one of no kind.
+fn looks_of_pod(line: &[u8]) -> bool {
     let beginning = &line[..line.len().min(BEGINNING)];
+    if names_ticks(beginning) {
+        return false;
+    }
     for word in WORDS_OF_PODS {
         if find(beginning, word).is_some() {
-            return find(beginning, WORD_OF_TICKS).is_none();
+            return true;
         }
     }
-    false
+    !names_ticks(line)
+}
+
+fn looks_of(line: &[u8]) -> Looks {
+    if line.len() <= BEGINNING && is_blank(line) {
+        Looks::Blank
+    } else if looks_of_pod(line) {
+        Looks::OfPod
+    } else {
+        Looks::Other
+    }
 }
 
 /// The next lines, of at least this many bytes with their newlines where there are this many, and the text after them;
-/// or fewer: this many lines at most, and none behind lines that seem to tell of pods themselves or behind many blank
-/// ones.
+/// or fewer: this many lines at most, and none behind lines that seem to tell of pods themselves, behind 1 MiB of
+/// these, or behind many blank ones.
 pub fn next_tick_lines(
     alloc: Global,
     text: &[u8],
@@ -48,18 +80,25 @@ pub fn next_tick_lines(
 {
     let mut found = Vec::new(alloc);
     let mut rest = text;
-    let mut is_of_pod = false;
     let mut blanks = 0;
-    while text.len() - rest.len() < bytes && found.len() < most && blanks < MOST_BLANKS {
+    let mut of_pods = 0;
+    while text.len() - rest.len() < bytes
+        && found.len() < most
+        && blanks < MOST_BLANKS
+        && of_pods < MOST_OF_PODS
+    {
         let Some((line, after)) = first_line(rest) else {
             return Ok((found, rest));
         };
-        let was_of_pod = is_of_pod;
-        is_of_pod = seems_of_pod(line);
-        if was_of_pod && !is_of_pod {
-            return Ok((found, rest));
+        match looks_of(line) {
+            Looks::Blank => blanks += 1,
+            Looks::OfPod => {
+                blanks = 0;
+                of_pods += rest.len() - after.len();
+            }
+            Looks::Other if of_pods > 0 => return Ok((found, rest)),
+            Looks::Other => blanks = 0,
         }
-        blanks = if is_blank(line) { blanks + 1 } else { 0 };
         found.push(line)?;
         rest = after;
     }

@@ -17,7 +17,7 @@ use Rattle.tick_lines.specs.declared.listing.Listing.{Listing}
 use Rattle.tick_lines.specs.declared.probing.ProbeResult.{ProbeResult}
 use Rattle.tick_lines.specs.declared.tape.EntryMembers.{EntryMembers}
 use Rattle.tick_lines.specs.declared.tape.EntryText.{EntryText}
-use Rattle.tick_lines.specs.declared.tape.LineText.{LineText}
+use Rattle.tick_lines.specs.declared.tape.LineSamples.{LineSamples}
 use Rattle.tick_lines.specs.declared.tape.ListingMembers.{ListingMembers}
 use Rattle.tick_lines.specs.declared.tape.ListingText.{ListingText}
 use Rattle.tick_lines.specs.declared.tape.ResultMembers.{ResultMembers}
@@ -46,9 +46,8 @@ pub record IsEntry (d : Data) (e : EntryText) : Type 0 where
   pub results : items_of (field_at (codes "probes") d) ≡ Ok (left_in e.results)
   pub usage : usage_of (field_at (codes "usage") d) ≡ Ok e.usage
 
--- what is read of a line before its entries
-pub record IsLine (d : Data) (l : LineText) : Type 0 where
-  pub entries : items_of (field_at (codes "pods") d) ≡ Ok (left_in l.entries)
+-- what is read of a line behind its entries
+pub record HasSamples (d : Data) (l : LineSamples) : Type 0 where
   pub signals : samples_of Node (field_at (codes "signals") d) ≡ Ok l.signals
   pub after_reclaim : samples_of FileSystems (field_at (codes "afterReclaim") d) ≡ Ok l.after_reclaim
 

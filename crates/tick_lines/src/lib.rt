@@ -19,5 +19,6 @@ pub use line::{TickLine, tick_line_of};
 pub use listing::{ListedInstance, Listing};
 pub use probing::ProbeResult;
 pub use tape::{
-    EntryText, LineText, ListingText, ResultText, entry_text, line_text, listing_text, result_text,
+    EntryText, LineSamples, ListingText, ResultText, entries_text, entry_text, listing_text,
+    result_text, samples_text,
 };

@@ -1,7 +1,7 @@
 //! What a tick line says, read from the tape of its tokens without a copy of its texts. Where one of these answers
 //! none, the line has a fault, or a shape that is left to `tick_line_of`.
 
-ghost use Rattle.std.specs.Prelude.{◌≡◌, List, Some, option_map, Ok, IfOk, IfSome};
+ghost use Rattle.std.specs.Prelude.{◌≡◌, List, Some, option_map, Ok, IfOk, IfSome, codes};
 ghost use Rattle.json.specs.Token.{Token};
 ghost use Rattle.json.specs.Value.{value_view};
 ghost use Rattle.serde_json.specs.Data.{Data};
@@ -13,7 +13,7 @@ ghost use Rattle.tick_lines.specs.Listings.{attempt_of, state_of, listing_of};
 ghost use Rattle.tick_lines.specs.Results.{result_of};
 ghost use Rattle.tick_lines.specs.Samples.{samples_of};
 ghost use Rattle.tick_lines.specs.Tape.{text_in, code_in, probe_in, outcome_in, left_in, listing_as, result_as};
-ghost use Rattle.tick_lines.specs.Tape.{ListingRead, ResultRead, UsageRead, EntryRead, IsEntry, IsLine};
+ghost use Rattle.tick_lines.specs.Tape.{ListingRead, ResultRead, UsageRead, EntryRead, IsEntry, HasSamples};
 ghost use Rattle.tick_lines.specs.Usages.{usage_in, usage_of};
 
 use crate::fields::quantity_at;
@@ -21,7 +21,7 @@ use crate::listing::{ListedInstance, attempt_of, code_of, state_of};
 use crate::probing::{outcome_named, probe_named};
 use crate::samples::samples_of;
 use json::Value;
-use json_fields::{Scope, TapeItems, TapeValue};
+use json_fields::{MemberNames, Scope, TapeItems, TapeValue};
 use manifest::{Outcome, ProbeKind};
 use observations::Usage;
 use quantity::Quantity;
@@ -62,18 +62,17 @@ pub struct EntryText<'t, 'a> {
     pub usage: Option<Usage>,
 }
 
-/// A tick line, whose entries are still to be read.
+/// The samples of a tick line.
 #[derive(Drop)]
-pub struct LineText<'t, 'a> {
-    /// The pods' entries, if the line has some.
-    pub entries: Option<TapeItems<'t, 'a>>,
+pub struct LineSamples {
     /// What the node has left of each resource, as in `TickLine`.
     pub signals: BySignal<Option<Quantity>>,
     /// The same after images and dead containers were deleted, as in `TickLine`.
     pub after_reclaim: BySignal<Option<Quantity>>,
 }
 
-/// What was read of a listing's members.
+/// What was read of a listing's members: of one that has to be there nothing, where it is missing, null or at fault. A
+/// later one of the same name may still be good.
 #[derive(Clone, Copy)]
 struct ListingMembers<'a> {
     name: Option<&'a str>,
@@ -82,7 +81,7 @@ struct ListingMembers<'a> {
     code: Option<i32>,
 }
 
-/// What was read of a result's members.
+/// What was read of a result's members, as in `ListingMembers`.
 #[derive(Clone, Copy)]
 struct ResultMembers<'a> {
     container: Option<&'a str>,
@@ -90,7 +89,7 @@ struct ResultMembers<'a> {
     outcome: Option<Outcome>,
 }
 
-/// What was read of an entry's members.
+/// What was read of an entry's members, as in `ListingMembers`.
 #[derive(Drop)]
 struct EntryMembers<'t, 'a> {
     key: Option<&'a str>,
@@ -108,17 +107,6 @@ const NOTHING_READ: Usage = Usage {
     inodes: None,
     pids: None,
 };
-
-/// The items of an array that may be left out.
-fn items_at<'t, 'a>(value: &TapeValue<'t, 'a>, name: &str) -> Option<Option<TapeItems<'t, 'a>>>
-    ensures { IfSome result (λ items. items_of (field_at name.now (data_at value.now)) ≡ Ok (left_in items)) }
-{
-    let Some(found) = value.field(name) else {
-        return Some(None);
-    };
-    let items = found.items()?;
-    Some(Some(items))
-}
 
 /// What a member holds, where null counts as absent; none where it is an array or an object.
 fn scalar_here<'a>(value: &TapeValue<'_, 'a>) -> Option<Option<Value<'a>>>
@@ -206,7 +194,7 @@ fn listing_with<'a>(
 {
     match name {
         "name" => Some(ListingMembers {
-            name: Some(text_here(value)?),
+            name: text_here(value),
             ..listing
         }),
         "attempt" => Some(ListingMembers {
@@ -214,7 +202,7 @@ fn listing_with<'a>(
             ..listing
         }),
         "state" => Some(ListingMembers {
-            state: Some(state_here(value)?),
+            state: state_here(value),
             ..listing
         }),
         "exitCode" => Some(ListingMembers {
@@ -259,15 +247,15 @@ fn result_with<'a>(
 {
     match name {
         "container" => Some(ResultMembers {
-            container: Some(text_here(value)?),
+            container: text_here(value),
             ..read
         }),
         "probe" => Some(ResultMembers {
-            probe: Some(probe_here(value)?),
+            probe: probe_here(value),
             ..read
         }),
         "result" => Some(ResultMembers {
-            outcome: Some(outcome_here(value)?),
+            outcome: outcome_here(value),
             ..read
         }),
         _ => Some(read),
@@ -361,7 +349,7 @@ fn entry_with<'t, 'a>(
 {
     match name {
         "pod" => Some(EntryMembers {
-            key: Some(text_here(value)?),
+            key: text_here(value),
             ..entry
         }),
         "containers" => Some(EntryMembers {
@@ -402,6 +390,31 @@ pub fn entry_text<'t, 'a>(value: &TapeValue<'t, 'a>) -> Option<EntryText<'t, 'a>
     })
 }
 
+/// The pods' entries of a tick line, if it has some; they are still to be read.
+pub fn entries_text<'t, 'a>(value: &TapeValue<'t, 'a>) -> Option<Option<TapeItems<'t, 'a>>>
+    ensures { IfSome result (λ items. items_of (field_at (codes "pods") (data_at value.now)) ≡ Ok (left_in items)) }
+{
+    let Some(found) = value.field("pods") else {
+        return Some(None);
+    };
+    let items = found.items()?;
+    Some(Some(items))
+}
+
+/// Whether an object has members of the scope's names alone. One of another name may be null at its last place, for
+/// which the members are looked through: that is left to the other reader, so that it is done once.
+fn names_only_signals(scope: Scope, object: &TapeValue<'_, '_>) -> bool {
+    let Some(mut members) = object.members() else {
+        return true;
+    };
+    while let Some((name, _)) = members.next() {
+        if !scope.includes(name) {
+            return false;
+        }
+    }
+    true
+}
+
 /// The samples in an object that may be left out.
 fn samples_at(
     alloc: Global,
@@ -416,30 +429,29 @@ fn samples_at(
         let none: Option<&Value<'_>> = None;
         return Ok(samples_of(scope, none).ok());
     };
+    if !names_only_signals(scope, &found) {
+        return Ok(None);
+    }
     match found.flat(alloc)? {
         Some(object) => Ok(samples_of(scope, Some(&object)).ok()),
         None => Ok(None),
     }
 }
 
-/// What a tick line says, all but its moment and its entries.
-pub fn line_text<'t, 'a>(
+/// The samples of a tick line. Its entries are read first, since a fault of theirs comes before one of a sample.
+pub fn samples_text(
     alloc: Global,
-    value: &TapeValue<'t, 'a>,
-) -> Result<Option<LineText<'t, 'a>>, AllocError>
-    ensures { IfOk result (λ found. IfSome found (IsLine (data_at value.now))) }
+    value: &TapeValue<'_, '_>,
+) -> Result<Option<LineSamples>, AllocError>
+    ensures { IfOk result (λ found. IfSome found (HasSamples (data_at value.now))) }
 {
-    let Some(entries) = items_at(value, "pods") else {
-        return Ok(None);
-    };
     let Some(signals) = samples_at(alloc, Scope::Node, value, "signals")? else {
         return Ok(None);
     };
     let Some(after_reclaim) = samples_at(alloc, Scope::FileSystems, value, "afterReclaim")? else {
         return Ok(None);
     };
-    Ok(Some(LineText {
-        entries,
+    Ok(Some(LineSamples {
         signals,
         after_reclaim,
     }))

@@ -25,12 +25,13 @@ use Rattle.tick_lines.specs.declared.line.TickLine.{TickLine}
 use Rattle.tick_lines.specs.declared.listing.Listing.{Listing}
 use Rattle.tick_lines.specs.declared.probing.ProbeResult.{ProbeResult}
 use Rattle.tick_lines.specs.declared.tape.EntryText.{EntryText}
-use Rattle.tick_lines.specs.declared.tape.LineText.{LineText}
+use Rattle.tick_lines.specs.declared.tape.LineSamples.{LineSamples}
 use Rattle.tick_lines.specs.Entries.{entry_of, entries_of}
 use Rattle.tick_lines.specs.Line.{tick_line_of}
 use Rattle.tick_lines.specs.Listings.{listing_of, listings_of}
 use Rattle.tick_lines.specs.Results.{result_of, results_of}
-use Rattle.tick_lines.specs.Tape.{left_in, IsEntry, IsLine}
+use Rattle.tick_lines.specs.Fields.{items_of}
+use Rattle.tick_lines.specs.Tape.{left_in, IsEntry, HasSamples}
 use Rattle.trace.specs.Ahead.{IsShown}
 use Rattle.trace.specs.declared.fault.FaultKind.{FaultKind}
 use Rattle.trace.specs.declared.placing.PlacedEntry.{PlacedEntry}
@@ -126,11 +127,11 @@ all_placed roll es placed e =
     let numbers = numbers_known roll es placed e in
     then_ok (each (number_in roll) es) (λ ns. each (placed_entry roll) es) numbers.0 numbers.1 ∙ e
 
-line_spoken : (d : Data) (es : List TickEntry) (line : LineText) → entries_of (field_at (codes "pods") d) ≡ Ok es
-    → IsLine d line
-    → tick_line_of d ≡ Ok (record { entries = es; signals = line.signals; after_reclaim = line.after_reclaim })
+line_spoken : (d : Data) (es : List TickEntry) (samples : LineSamples)
+    → entries_of (field_at (codes "pods") d) ≡ Ok es → HasSamples d samples
+    → tick_line_of d ≡ Ok (record { entries = es; signals = samples.signals; after_reclaim = samples.after_reclaim })
 unfolding tick_line_of
-line_spoken d es line entries is = rw (entries, is.signals, is.after_reclaim) refl
+line_spoken d es samples entries has = rw (entries, has.signals, has.after_reclaim) refl
 
 -- ---- entries that are noted as they come
 
@@ -219,23 +220,24 @@ noted_length roll at ds slots is = ap (λ (os : List (Option PodObs)). length os
     ∙ slots_length at is.entries 0 roll.pods
 
 -- a line whose entries are noted shows what they show, and nothing of the containers of the other pods
-pub line_shown : (roll : Roll) (d : Data) (moment : Option ℕ) (line : LineText) (at : ℕ) (slots : List (Option PodObs))
-    (tick : TickObs) (noted : EntriesNoted roll at (left_in line.entries) slots) → moment ≡ Some at → IsLine d line
+pub line_shown : (roll : Roll) (d : Data) (moment : Option ℕ) (items : List Data) (samples : LineSamples) (at : ℕ)
+    (slots : List (Option PodObs)) (tick : TickObs) (noted : EntriesNoted roll at items slots) → moment ≡ Some at
+    → items_of (field_at (codes "pods") d) ≡ Ok items → HasSamples d samples
     → tick ≡ record {
       at = at;
       pods = pods_from at noted.entries roll.departures 0 roll.pods;
-      signals = line.signals;
-      after_reclaim = line.after_reclaim;
+      signals = samples.signals;
+      after_reclaim = samples.after_reclaim;
     }
     → IsShown roll (Tick moment (tick_line_of d)) tick
-line_shown roll d moment line at slots tick noted early is shows =
-    let entries = read_then_placed entry_of (placed_entry roll) (left_in line.entries) noted.entries noted.read in
-    let listed : entries_of (field_at (codes "pods") d) ≡ Ok entries.0 = rw is.entries entries.1 in
+line_shown roll d moment items samples at slots tick noted early has_items has shows =
+    let entries = read_then_placed entry_of (placed_entry roll) items noted.entries noted.read in
+    let listed : entries_of (field_at (codes "pods") d) ≡ Ok entries.0 = rw has_items entries.1 in
     let written : TickLine = record {
       entries = entries.0;
-      signals = line.signals;
-      after_reclaim = line.after_reclaim;
+      signals = samples.signals;
+      after_reclaim = samples.after_reclaim;
     } in
     shown_record roll moment (tick_line_of d) at written noted.entries tick early
-    (line_spoken d entries.0 line listed is) (all_placed roll entries.0 noted.entries entries.2) noted.once noted.apart
-    noted.coded shows
+    (line_spoken d entries.0 samples listed has) (all_placed roll entries.0 noted.entries entries.2) noted.once
+    noted.apart noted.coded shows

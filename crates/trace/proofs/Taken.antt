@@ -1,5 +1,5 @@
 -- A text whose lines are taken by what each says by itself.
-use Rattle.std.proofs.Common.{◌≡◌, ◌∙◌, ℕ, suc, ◌+◌, false, List, [], ◌∷◌, ◌++◌, drop, length, map, nat_lt}
+use Rattle.std.proofs.Common.{◌≡◌, ◌∙◌, ℕ, zero, suc, ◌+◌, ◌≤◌, false, List, [], ◌∷◌, ◌++◌, drop, length, map, nat_lt}
 use Rattle.std.proofs.Common.{Option, Some, None, Result, Ok, Err, refl, ap, sym, subst, inl, inr, true, arith}
 use Rattle.std.proofs.lemmas.List.{length-map}
 use Rattle.std.specs.List.{prefix_len}
@@ -128,21 +128,20 @@ read_taken n past (line ∷ lines) = elim (cases_Bool (is_blank line)) [
 ]
 
 -- blank lines at the beginning say nothing
-blank_skipped : (n : ℕ) (past : TraceSoFar) (lines : List (List ℕ))
-    → read_data (n + prefix_len is_blank lines) past (map line_data (drop (prefix_len is_blank lines) lines))
-    ≡ read_data n past (map line_data lines)
-blank_skipped n past [] =
+blank_skipped : (count n : ℕ) (past : TraceSoFar) (lines : List (List ℕ)) → count ≤ prefix_len is_blank lines
+    → read_data (n + count) past (map line_data (drop count lines)) ≡ read_data n past (map line_data lines)
+blank_skipped zero n past lines blank =
     let here : n + 0 ≡ n = omega arith in
     rw here refl
-blank_skipped n past (line ∷ lines) = elim (cases_Bool (is_blank line)) [
-  | inl blank ↦
-      let one : 1 + prefix_len is_blank lines ≡ suc (prefix_len is_blank lines) = omega arith in
-      let moved : n + suc (prefix_len is_blank lines) ≡ n + 1 + prefix_len is_blank lines = omega arith in
-      rw (blank, one, moved) (blank_skipped (n + 1) past lines)
+blank_skipped (suc count) n past [] blank = absurd (omega (arith, blank))
+blank_skipped (suc count) n past (line ∷ lines) blank = elim (cases_Bool (is_blank line)) [
+  | inl is ↦
+      let all : prefix_len is_blank (line ∷ lines) ≡ 1 + prefix_len is_blank lines = rw is refl in
+      let moved : n + suc count ≡ n + 1 + count = omega arith in
+      rw (is, moved) (blank_skipped count (n + 1) past lines (omega (arith, all, blank)))
   | inr counts ↦
       let none : prefix_len is_blank (line ∷ lines) ≡ 0 = rw counts refl in
-      let here : n + 0 ≡ n = omega arith in
-      rw (none, here) refl
+      absurd (omega (arith, none, blank))
 ]
 
 -- lines, and those behind them
@@ -170,10 +169,10 @@ unfolding trace_of
 leads_from_start format text = sym (read_taken 1 (nothing format) (lines_of text))
 
 pub leads_behind_blanks : (format : Format) (text : List ℕ) (n : ℕ) (past : TraceSoFar) (rest later : List ℕ)
-    (blanks : ℕ) → LeadsOn format text n past rest → blanks ≡ prefix_len is_blank (lines_of rest)
+    (blanks : ℕ) → LeadsOn format text n past rest → blanks ≤ prefix_len is_blank (lines_of rest)
     → lines_of later ≡ drop blanks (lines_of rest) → LeadsOn format text (n + blanks) past later
 leads_behind_blanks format text n past rest later blanks leads counted cut =
-    rw (cut, counted) (blank_skipped n past (lines_of rest) ∙ leads)
+    rw cut (blank_skipped blanks n past (lines_of rest) counted ∙ leads)
 
 pub leads_on : {A : Type 0} (view : A → LineData) (format : Format) (text : List ℕ) (n : ℕ) (past : TraceSoFar)
     (rest later : List ℕ)

@@ -20,7 +20,7 @@ use lists::Sequence;
 use observations::{ContainerObs, PodObs, TickObs};
 use roster::Roster;
 use std::alloc::{AllocError, Global};
-use tick_lines::{entry_text, line_text};
+use tick_lines::{entries_text, entry_text, samples_text};
 
 /// Notes what an entry shows of its pod, and says whether it could: not where the pod is not known, has an earlier
 /// entry, or something in the entry is at fault.
@@ -103,18 +103,21 @@ fn shown_by_value(
     let Some(at) = tape_moment(value) else {
         return Ok(None);
     };
-    let Some(line) = line_text(alloc, value)? else {
+    let Some(entries) = entries_text(value) else {
         return Ok(None);
     };
-    let Some(slots) = entries_noted(alloc, roster, at, line.entries)? else {
+    let Some(slots) = entries_noted(alloc, roster, at, entries)? else {
+        return Ok(None);
+    };
+    let Some(samples) = samples_text(alloc, value)? else {
         return Ok(None);
     };
     let pods = with_others(alloc, at, slots, roster)?;
     Ok(Some(TickObs {
         at,
         pods: Sequence::from_vec(pods),
-        signals: line.signals,
-        after_reclaim: line.after_reclaim,
+        signals: samples.signals,
+        after_reclaim: samples.after_reclaim,
     }))
 }
 

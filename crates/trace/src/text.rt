@@ -1,9 +1,10 @@
 //! Reading a whole trace, window by window.
 
-ghost use Rattle.std.specs.Prelude.{◌≡◌, ◌<◌, ◌+◌, ◌^◌, ◌∷◌, [], length, map, IfNone, IfOk, IfSome, IsTrue};
+ghost use Rattle.std.specs.Prelude.{◌≡◌, ◌<◌, ◌≤◌, ◌+◌, ◌^◌, ◌∷◌, [], drop, length, map, IfNone, IfOk, IfSome, IsTrue};
+ghost use Rattle.std.specs.List.{prefix_len};
 ghost use Rattle.std.specs.Vec.Iter.{into_iter_items};
 ghost use Rattle.json_fields.specs.Reading.{GivesExactly};
-ghost use Rattle.json_lines.specs.Lines.{LineData, line_data};
+ghost use Rattle.json_lines.specs.Lines.{LineData, is_blank, line_data, lines_of};
 ghost use Rattle.roster.specs.Roll.{Roll};
 ghost use Rattle.trace.specs.Ahead.{AreAhead, IsAhead, KeepsPods};
 ghost use Rattle.trace.specs.GivesUnlessMemory.{is_memory, GivesUnlessMemory, GivesAt};
@@ -16,7 +17,7 @@ use crate::fault::{FaultKind, LineFault};
 use crate::reading::{take_line, take_shown};
 use crate::trace_so_far::{Trace, TraceSoFar};
 use crate::windows::{
-    OneThread, SMALLEST_WINDOW, WindowAhead, WindowReader, Workers, bytes_behind,
+    OneThread, SMALLEST_WINDOW, WindowAhead, WindowReader, Workers, window_behind,
 };
 use following::ListingOrder;
 use json_lines::{LineBuffers, TextLine, skip_blank_lines};
@@ -119,9 +120,14 @@ fn next_read(reads: &mut IntoIter<LineAhead>) -> Option<LineAhead>
     reads.next()
 }
 
-/// Whether what was read is of no use, since the pods are no longer those beside which it was read.
+/// Whether a tick line was read in vain, since the pods are no longer those beside which it was read: what it shows of
+/// them, or that it shows nothing.
 fn is_in_vain(is_fresh: bool, read: &LineAhead) -> bool {
-    !is_fresh && matches!(read, LineAhead::Shown(_))
+    !is_fresh
+        && matches!(
+            read,
+            LineAhead::Shown(_) | LineAhead::Said(TextLine::Tick(_))
+        )
 }
 
 /// Takes lines that were read ahead, the first of which has this number, and says whether one was read in vain.
@@ -194,6 +200,24 @@ fn finished(line: u64, so_far: TraceSoFar) -> Result<Trace, LineFault>
     }
 }
 
+/// Whether the last of the lines was blank: more of them may follow.
+fn ends_blank(reads: &[LineAhead]) -> bool {
+    matches!(reads.last(), Some(LineAhead::Said(TextLine::Blank)))
+}
+
+/// How many blank lines are skipped at the beginning of a text, and the text after them: all, where it is worth a look.
+fn blanks_before(text: &[u8], is_likely: bool) -> (u64, &[u8])
+    ensures count { result.0 ≤ prefix_len is_blank (lines_of text.now) }
+    ensures rest { lines_of result.1.now ≡ drop result.0 (lines_of text.now) }
+    ensures short { result.0 + length result.1.now ≤ length text.now }
+{
+    if is_likely {
+        skip_blank_lines(text)
+    } else {
+        (0, text)
+    }
+}
+
 /// The trace of a text, whose windows this reader reads.
 fn read_windows<W: WindowReader>(
     reader: &W,
@@ -208,11 +232,13 @@ fn read_windows<W: WindowReader>(
     let mut rest = text;
     let mut number = 1u64;
     let mut bytes = SMALLEST_WINDOW;
+    let mut ends_blank_line = false;
     while !rest.is_empty() {
         // a text may be blank lines by the million: they are counted before anything is made of each
-        let (blanks, read) = skip_blank_lines(rest);
+        let (blanks, read) = blanks_before(rest, ends_blank_line);
         number += blanks;
-        let Ok(window) = reader.window(alloc, &so_far.roster, read, bytes) else {
+        let ticks = so_far.ticks.as_slice().len();
+        let Ok(window) = reader.window(alloc, &so_far.roster, read, bytes, ticks) else {
             drop(so_far);
             return Err(no_memory(number));
         };
@@ -221,11 +247,12 @@ fn read_windows<W: WindowReader>(
             reads,
             rest: after,
         } = window;
+        ends_blank_line = ends_blank(&reads);
         let (next, some_in_vain) = take_lines(alloc, so_far, number, &lines, reads)?;
         so_far = next;
         rest = after;
         number += lines.len() as u64;
-        bytes = bytes_behind(bytes, some_in_vain);
+        bytes = window_behind(read.len() - after.len(), some_in_vain);
     }
     finished(number, so_far)
 }

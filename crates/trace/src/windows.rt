@@ -1,10 +1,10 @@
 //! Windows of a text, whose lines are read ahead.
 
-ghost use Rattle.std.specs.Prelude.{◌≡◌, ◌<◌, ◌≤◌, ◌+◌, ◌++◌, ⊤, false, IfOk, IsTrue, length, map};
+ghost use Rattle.std.specs.Prelude.{◌≡◌, ◌<◌, ◌≤◌, ◌+◌, ◌++◌, ⊤, IfOk, length, map};
 ghost use Rattle.std.specs.Thread.{IsSync};
 ghost use Rattle.json_lines.specs.Lines.{lines_of};
 ghost use Rattle.trace.specs.Ahead.{AreAhead};
-ghost use Rattle.trace.specs.Windows.{AreFew, smallest_window, greatest_window};
+ghost use Rattle.trace.specs.Windows.{AreEarly, AreFew, window_behind};
 
 use crate::ahead::{LineAhead, read_each};
 use json_lines::{joined, next_tick_lines};
@@ -23,34 +23,36 @@ const GREATEST_WINDOW: usize = 4_194_304;
 /// The lines of a window show no more pods together, where each line shows each pod.
 const MOST_SHOWN: usize = 262_144;
 
+/// They show no more pods than these where there were fewer ticks before them: a fault in an early tick is found before
+/// much is made of those behind it.
+const FIRST_SHOWN: usize = 1024;
+
 /// What is read of a line takes as much memory as this many pods, beside those that it shows.
 const WEIGHT_OF_LINE: usize = 8;
 
-/// The most lines that a window has.
-fn most_lines(roster: &Roster) -> usize
+/// The most lines that a window has behind this many ticks.
+fn most_lines(roster: &Roster, ticks: usize) -> usize
     ensures some { 0 < result }
     ensures few { AreFew roster.now result }
+    ensures early { AreEarly roster.now ticks result }
 {
-    (MOST_SHOWN / roster.pods().len().saturating_add(WEIGHT_OF_LINE)).max(1)
+    let weight = roster.pods().len().saturating_add(WEIGHT_OF_LINE);
+    ticks
+        .max(FIRST_SHOWN / weight)
+        .min(MOST_SHOWN / weight)
+        .max(1)
 }
 
-/// A window has this many times the bytes of the one before it, until it has 4 MiB: behind 64 KiB it has 1 MiB.
-const GROWTH: usize = 16;
-
-/// How many bytes the window behind one of this many has: as many as the first one where a line was read in vain,
-/// beside pods that changed meanwhile.
-pub(crate) fn bytes_behind(bytes: usize, some_in_vain: bool) -> usize
-    ensures least { smallest_window ≤ result }
-    ensures most { result ≤ greatest_window }
-    ensures anew { IsTrue some_in_vain → result ≡ smallest_window }
-    ensures grows { some_in_vain ≡ false → bytes ≤ greatest_window → bytes ≤ result }
+/// How many bytes the window behind one has that had this many.
+pub(crate) fn window_behind(had: usize, some_in_vain: bool) -> usize
+    ensures { result ≡ window_behind had some_in_vain }
 {
     if some_in_vain {
         SMALLEST_WINDOW
     } else {
-        bytes
-            .saturating_mul(GROWTH)
-            .clamp(SMALLEST_WINDOW, GREATEST_WINDOW)
+        had.saturating_mul(2)
+            .min(GREATEST_WINDOW)
+            .max(SMALLEST_WINDOW)
     }
 }
 
@@ -85,14 +87,15 @@ pub(crate) trait WindowReader {
     // What holds of a reader that can read.
     ghost can_read: { Self → Type 0 };
 
-    /// The next window, of this many bytes or fewer and the end of its last line, read beside these pods. It is never
-    /// without a line where the text isn't empty.
+    /// The next window, of this many bytes or fewer and the end of its last line, behind this many ticks, read beside
+    /// these pods. It is never without a line where the text isn't empty.
     fn window<'t>(
         &self,
         alloc: Global,
         roster: &Roster,
         text: &'t [u8],
         bytes: usize,
+        ticks: usize,
     ) -> Result<WindowAhead<'t>, AllocError>
         requires reader { can_read self.now }
         requires bytes { 0 < bytes }
@@ -102,6 +105,7 @@ pub(crate) trait WindowReader {
         ensures short { IfOk result (λ window.
             length window.lines.items + length window.rest.now ≤ length text.now) }
         ensures few { IfOk result (λ window. AreFew roster.now (length window.lines.items)) }
+        ensures early { IfOk result (λ window. AreEarly roster.now ticks (length window.lines.items)) }
         ensures ahead { IfOk result (λ window. AreAhead roster.now window.lines.items window.reads.items) };
 }
 
@@ -117,8 +121,14 @@ impl WindowReader for OneThread {
         roster: &Roster,
         text: &'t [u8],
         _bytes: usize,
+        ticks: usize,
     ) -> Result<WindowAhead<'t>, AllocError> {
-        let (lines, rest) = next_tick_lines(alloc, text, SMALLEST_WINDOW, most_lines(roster))?;
+        let (lines, rest) = next_tick_lines(
+            alloc,
+            text,
+            SMALLEST_WINDOW,
+            most_lines(roster, ticks),
+        )?;
         let reads = read_each(alloc, roster, &lines)?;
         Ok(WindowAhead { lines, reads, rest })
     }
@@ -140,8 +150,9 @@ impl<R: Threads + Sync> WindowReader for Workers<'_, R> {
         roster: &Roster,
         text: &'t [u8],
         bytes: usize,
+        ticks: usize,
     ) -> Result<WindowAhead<'t>, AllocError> {
-        let (lines, rest) = next_tick_lines(alloc, text, bytes, most_lines(roster))?;
+        let (lines, rest) = next_tick_lines(alloc, text, bytes, most_lines(roster, ticks))?;
         let reads = if bytes <= SMALLEST_WINDOW || text.len() - rest.len() < SMALLEST_WINDOW {
             read_each(alloc, roster, &lines)?
         } else {

@@ -12,28 +12,28 @@ loop-rest-init g c =
 pub returns-in_err-next : goal.returns-in_err-next
 returns-in_err-next g c =
     let p = err_from_is_err_and c.from_residual.result c.from_residual.ensures.1 in
-    let blanks = c.skip_blank_lines-blanks.result in
+    let blanks = c.blanks_before-blanks.result in
     let leads = leads_behind_blanks c.args.format c.args.text.now c.loop-rest.number c.loop-rest.so_far
-    c.loop-rest.rest.now blanks.1.now blanks.0 c.loop-rest.invariant.0 c.skip_blank_lines-blanks.ensures.count
-    c.skip_blank_lines-blanks.ensures.rest in
+    c.loop-rest.rest.now blanks.1.now blanks.0 c.loop-rest.invariant.0 c.blanks_before-blanks.ensures.count
+    c.blanks_before-blanks.ensures.rest in
     rw (p.1, p.2)
     (stops c.args.format c.args.text.now (c.loop-rest.number + blanks.0) c.loop-rest.so_far blanks.1.now
     c.in-Ok.window.rest.now _
     c.in_err-next.field-0.0 leads
     (window_cut blanks.1.now c.in-Ok.window.rest.now c.in-Ok.window.lines.items c.in-Ok.ensures.lines)
-    (rw c.deref.ensures.value at c.in_err-next.ensures))
+    (rw c.deref-in-loop-rest.ensures.value at c.in_err-next.ensures))
 
 pub loop-rest-preserved : goal.loop-rest-preserved
 loop-rest-preserved g c =
-    let blanks = c.skip_blank_lines-blanks.result in
+    let blanks = c.blanks_before-blanks.result in
     let leads = leads_behind_blanks c.args.format c.args.text.now c.loop-rest.number c.loop-rest.so_far
-    c.loop-rest.rest.now blanks.1.now blanks.0 c.loop-rest.invariant.0 c.skip_blank_lines-blanks.ensures.count
-    c.skip_blank_lines-blanks.ensures.rest in (
+    c.loop-rest.rest.now blanks.1.now blanks.0 c.loop-rest.invariant.0 c.blanks_before-blanks.ensures.count
+    c.blanks_before-blanks.ensures.rest in (
       leads_on (λ line. line_data line.now) c.args.format c.args.text.now (c.loop-rest.number + blanks.0)
           c.loop-rest.so_far blanks.1.now c.in-Ok.window.rest.now c.in-Ok.window.lines.items c.len.result
           c.in_ok-next.next leads
           (window_cut blanks.1.now c.in-Ok.window.rest.now c.in-Ok.window.lines.items c.in-Ok.ensures.lines)
-          (rw c.deref.ensures.value at c.in_ok-next.ensures) (search rules),
+          (rw c.deref-in-loop-rest.ensures.value at c.in_ok-next.ensures) (search rules),
       search rules,
       search rules,
     )

@@ -1,0 +1,10 @@
+use Rattle.std.proofs.Common.{◌≡◌, ◌+◌, ◌++◌, ◌≤◌, length, map}
+use Rattle.json_lines.specs.Lines.{lines_of}
+use Rattle.json_lines.proofs.model.next_lines.Given as goal
+
+abbrev pub invariant-loop-rest : goal.invariant-loop-rest
+invariant-loop-rest l = (lines_of l.fn.text ≡ map (λ line. line.now) l.found.items ++ lines_of l.rest)
+    × (length l.found.items + length l.rest ≤ length l.fn.text)
+
+abbrev pub decreases-loop-rest : goal.decreases-loop-rest
+decreases-loop-rest l = length l.rest
