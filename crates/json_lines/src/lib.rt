@@ -15,6 +15,6 @@ pub use lines::skip_blank_lines;
 pub use model::{Window, window_alone, window_by_workers};
 pub use parts::joined;
 pub use plain::LineBuffers;
-pub use tape::{tape_moment, tick_tape};
+pub use tape::{LONGEST_TAPE, tape_moment, tick_tape};
 pub use tick::{TickRecord, tick_record};
 pub use window::next_tick_lines;

@@ -12,7 +12,7 @@ use serde_json::{Error, Value};
 use std::alloc::{AllocError, Global};
 
 /// The most bytes of a line, 1 MiB.
-pub(crate) const LONGEST_LINE: usize = 1_048_576;
+const LONGEST_LINE: usize = 1_048_576;
 
 /// What a line of a text says by itself.
 #[derive(Drop)]

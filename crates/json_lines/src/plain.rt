@@ -6,6 +6,7 @@ ghost use Rattle.json.specs.declared.error.Error.TheVariants.{OutOfMemory};
 ghost use Rattle.json_lines.specs.Lines.{line_value, said_in, Tick};
 
 use crate::tick::{TickRecord, is_tick, tick_record};
+use crate::window::names_ticks;
 use bumpalo::Bump;
 use json::{Error, Reader, Scratch, Value};
 use json_fields::{MAX_DEPTH, is_plain_in};
@@ -148,7 +149,7 @@ pub(crate) fn plain_tick(
 ) -> Result<Option<TickRecord>, AllocError>
     ensures { IfOk result (λ found. IfSome found (λ tick. said_in line.now ≡ Tick tick.at tick.written)) }
 {
-    if !buffers.tries.tries_next() {
+    if !names_ticks(line) || !buffers.tries.tries_next() {
         return Ok(None);
     }
     let found = tick_in(alloc, line, &mut buffers.scratch, &buffers.values);

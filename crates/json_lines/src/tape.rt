@@ -5,7 +5,6 @@ ghost use Rattle.json_fields.specs.Tape.{data_at};
 ghost use Rattle.json_lines.specs.Lines.{is_blank, line_data, said_in, SaysTickOn};
 ghost use Rattle.json_lines.specs.Ticks.{is_tick, moment_at};
 
-use crate::line::LONGEST_LINE;
 use crate::plain::{LineBuffers, refused_memory};
 use crate::tick::moment_written;
 use crate::window::names_ticks;
@@ -13,6 +12,10 @@ use json::{Scratch, Tape, Value};
 use json_fields::{TapeValue, is_plain_tape};
 use simdutf8::compat::from_utf8;
 use std::alloc::{AllocError, Global};
+
+/// No tape is made of a line of more bytes than these, 256 KiB: it takes up to 28 times as many, for each worker. Such a
+/// line is read through a tree, by `text_line`.
+pub const LONGEST_TAPE: usize = 262_144;
 
 /// The tape of a text, if it is a tick line, each of its numbers is one that digits alone write, below 2^64, and
 /// nothing in it nests deeper than 127.
@@ -54,7 +57,7 @@ pub fn tick_tape<'a>(
 ) -> Result<Option<Tape<'a>>, AllocError>
     ensures { IfOk result (λ found. IfSome found (SaysTickOn (line_data line.now))) }
 {
-    if line.len() > LONGEST_LINE || !names_ticks(line) || !buffers.tries.tries_next() {
+    if line.len() > LONGEST_TAPE || !names_ticks(line) || !buffers.tries.tries_next() {
         return Ok(None);
     }
     let found = tape_in(alloc, line, &mut buffers.scratch)?;

@@ -12,7 +12,7 @@ use crate::fault::FaultKind;
 use crate::placing::{PlacedEntry, some_entry_repeats};
 use crate::tape::shown_on_tape;
 use crate::tick::{observed, placed_by, some_code_missing};
-use json_lines::{LineBuffers, TextLine, TickRecord, other_line, text_line};
+use json_lines::{LONGEST_TAPE, LineBuffers, TextLine, TickRecord, other_line, text_line};
 use observations::TickObs;
 use roster::Roster;
 use std::alloc::{AllocError, Global};
@@ -115,12 +115,12 @@ pub(crate) fn line_ahead(
 {
     match shown_on_tape(alloc, roster, line, buffers)? {
         Some(Some(tick)) => Ok(LineAhead::Shown(tick)),
-        Some(None) => {
-            let said = text_line(alloc, line, buffers)?;
-            said_ahead(alloc, roster, said)
-        }
-        None => {
-            let said = other_line(alloc, line)?;
+        found => {
+            let said = if found.is_some() || line.len() > LONGEST_TAPE {
+                text_line(alloc, line, buffers)?
+            } else {
+                other_line(alloc, line)?
+            };
             said_ahead(alloc, roster, said)
         }
     }
