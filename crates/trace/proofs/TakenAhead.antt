@@ -215,6 +215,18 @@ turn_taken roll start lines i n d past next before after read fresh stays lt fro
       (λ e. (stay e).1 ∙ kept (stay e).0),
     )
 
+-- a blank line says nothing, and the others are behind it
+pub blank_passed : (roll : Roll) (start : Result TraceSoFar LineFault) (lines : List (Bor (List ℕ))) (i n : ℕ)
+    (d : Bor (List ℕ)) (past : TraceSoFar) (before after : List LineAhead) (read : LineAhead) → i < length lines
+    → lines_at n past (said_in_turn (drop i lines)) ≡ start → AreAhead roll (drop i lines) before
+    → before ≡ read ∷ after → line_data (get_or lines i d).now ≡ Blank
+    → (lines_at (n + 1) past (said_in_turn (drop (i + 1) lines)) ≡ start) × AreAhead roll (drop (i + 1) lines) after
+blank_passed roll start lines i n d past before after read lt from ahead same blank =
+    let taken : at_line n (any_line_at past (line_data (get_or lines i d).now)) ≡ Ok past = rw blank refl in
+    let turn = turn_taken roll start lines i n d past past before after read false false lt from ahead same
+    (λ e. absurd (cc)) taken (λ e. absurd (cc)) in
+    (turn.0, turn.1)
+
 pub first_ahead : (roll : Roll) (lines : List (Bor (List ℕ))) (i : ℕ) (d : Bor (List ℕ))
     (before after : List LineAhead) (read : LineAhead) → i < length lines
     → AreAhead roll (drop i lines) before → before ≡ read ∷ after → IsAhead roll (line_data (get_or lines i d).now) read

@@ -104,7 +104,7 @@ fn said_ahead(alloc: Global, roster: &Roster, said: TextLine) -> Result<LineAhea
     }
 }
 
-/// Reads a line ahead.
+/// Reads a line ahead. An empty one, of which there may be many, is not looked at.
 pub(crate) fn line_ahead(
     alloc: Global,
     roster: &Roster,
@@ -113,6 +113,9 @@ pub(crate) fn line_ahead(
 ) -> Result<LineAhead, AllocError>
     ensures { IfOk result (IsAhead roster.now (line_data line.now)) }
 {
+    if line.is_empty() {
+        return Ok(LineAhead::Said(TextLine::Blank));
+    }
     match shown_on_tape(alloc, roster, line, buffers)? {
         Some(Some(tick)) => Ok(LineAhead::Shown(tick)),
         found => {

@@ -4,7 +4,7 @@ ghost use Rattle.std.specs.Prelude.{◌≡◌, ◌<◌, ◌≤◌, ◌+◌, ◌^
 ghost use Rattle.std.specs.List.{prefix_len};
 ghost use Rattle.std.specs.Vec.Iter.{into_iter_items};
 ghost use Rattle.json_fields.specs.Reading.{GivesExactly};
-ghost use Rattle.json_lines.specs.Lines.{LineData, is_blank, line_data, lines_of};
+ghost use Rattle.json_lines.specs.Lines.{Blank, LineData, is_blank, line_data, lines_of};
 ghost use Rattle.roster.specs.Roll.{Roll};
 ghost use Rattle.trace.specs.Ahead.{AreAhead, IsAhead, KeepsPods};
 ghost use Rattle.trace.specs.GivesUnlessMemory.{is_memory, GivesUnlessMemory, GivesAt};
@@ -120,6 +120,13 @@ fn next_read(reads: &mut IntoIter<LineAhead>) -> Option<LineAhead>
     reads.next()
 }
 
+/// Whether a line was blank.
+fn was_blank(read: &LineAhead) -> bool
+    ensures { IsTrue result → (roll : Roll) (said : LineData) → IsAhead roll said read.now → said ≡ Blank }
+{
+    matches!(read, LineAhead::Said(TextLine::Blank))
+}
+
 /// Whether a tick line was read in vain, since the pods are no longer those beside which it was read: what it shows of
 /// them, or that it shows nothing.
 fn is_in_vain(is_fresh: bool, read: &LineAhead) -> bool {
@@ -151,6 +158,11 @@ fn take_lines(
         let Some(read) = next_read(&mut reads) else {
             unreachable!()
         };
+        // blank lines may come by the thousand: what the lines so far say is not moved for them
+        if was_blank(&read) {
+            number += 1;
+            continue;
+        }
         some_in_vain |= is_in_vain(is_fresh, &read);
         let (next, stays_fresh) = take_next(alloc, so_far, number, line, read, is_fresh)?;
         so_far = next;
@@ -202,7 +214,10 @@ fn finished(line: u64, so_far: TraceSoFar) -> Result<Trace, LineFault>
 
 /// Whether the last of the lines was blank: more of them may follow.
 fn ends_blank(reads: &[LineAhead]) -> bool {
-    matches!(reads.last(), Some(LineAhead::Said(TextLine::Blank)))
+    match reads.last() {
+        Some(read) => was_blank(read),
+        None => false,
+    }
 }
 
 /// How many blank lines are skipped at the beginning of a text, and the text after them: all, where it is worth a look.
