@@ -5,13 +5,14 @@ ghost use Rattle.json.specs.Value.{value_view};
 ghost use Rattle.json.specs.declared.error.Error.TheVariants.{OutOfMemory};
 ghost use Rattle.json_lines.specs.Lines.{line_value, said_in, Tick};
 
+use crate::tape::LONGEST_TAPE;
 use crate::tick::{TickRecord, is_tick, tick_record};
 use crate::window::names_ticks;
 use bumpalo::Bump;
 use json::{Error, Reader, Scratch, Value};
 use json_fields::{MAX_DEPTH, is_plain_in};
 use simdutf8::compat::from_utf8;
-use std::alloc::{AllocError, Global};
+use std::alloc::{AllocError, Allocator, Global};
 
 /// A writer of which this many lines in a row are not plain is taken for one whose lines are not.
 const MISSES: u32 = 4;
@@ -96,11 +97,11 @@ impl LineBuffers {
 }
 
 /// The one value of the text, if it has one that nests no deeper than [`MAX_DEPTH`].
-fn only_value<'a>(
+fn only_value<'a, A: Allocator + Copy>(
     text: &'a str,
     scratch: &'a mut Scratch,
-    values: &'a Bump,
-) -> Result<Option<Value<'a, &'a Bump>>, AllocError>
+    values: A,
+) -> Result<Option<Value<'a, A>>, AllocError>
     ensures { IfOk result (λ found. IfSome found (λ v. line_value text.now ≡ Some (value_view v))) }
 {
     let Ok(mut reader) = Reader::new(text, scratch) else {
@@ -122,11 +123,11 @@ fn only_value<'a>(
 /// What the text says, if it is a tick line and each of its numbers is one that digits alone write, below 2^64: so a
 /// line is read some four times as fast as by `serde_json`, which reads the others.
 #[tactic(auto, using(crate::proofs::Said::plain_said))]
-fn tick_in(
+fn tick_in<A: Allocator + Copy>(
     alloc: Global,
     line: &[u8],
     scratch: &mut Scratch,
-    values: &Bump,
+    values: A,
 ) -> Result<Option<TickRecord>, AllocError>
     ensures { IfOk result (λ found. IfSome found (λ tick. said_in line.now ≡ Tick tick.at tick.written)) }
 {
@@ -152,7 +153,12 @@ pub(crate) fn plain_tick(
     if !names_ticks(line) || !buffers.tries.tries_next() {
         return Ok(None);
     }
-    let found = tick_in(alloc, line, &mut buffers.scratch, &buffers.values);
+    let found = if line.len() > LONGEST_TAPE {
+        // lists that grow leave what they were in the arena, which is much for a long line
+        tick_in(alloc, line, &mut buffers.scratch, alloc)
+    } else {
+        tick_in(alloc, line, &mut buffers.scratch, &buffers.values)
+    };
     // no value is left; where it refused all the same, the next line's would come beside this one's
     let _given_up = buffers.values.reset();
     buffers.tries.note(matches!(found, Ok(Some(_))));
