@@ -1,12 +1,15 @@
 //! Tests of calls that no text of a case reaches: quantities made of numbers, readers and writers over memory, inputs
-//! that are cut, large or stop, writers that stop, a full book, and what the workers of a replay, of a tick and of a
-//! pool do in threads: how many updates stand side by side, between which calls of the gate, and that pods are stolen.
+//! that are cut, large or stop, writers that stop, a full book, the lines of events, the windows of a text, whose lines
+//! are compared with those that `serde_json` reads, and what the workers of a replay, of a tick and of a pool do in
+//! threads: how many updates stand side by side, between which calls of the gate, and that pods are stolen.
 #![tactic(auto)]
 
 #[cfg(test)]
 mod book_tests;
 #[cfg(test)]
 mod calls;
+#[cfg(test)]
+mod event_tests;
 #[cfg(test)]
 mod gates;
 #[cfg(test)]
