@@ -5,6 +5,8 @@
 #![tactic(auto)]
 
 #[cfg(test)]
+mod ahead;
+#[cfg(test)]
 mod book_tests;
 #[cfg(test)]
 mod calls;
@@ -14,6 +16,10 @@ mod event_tests;
 mod gates;
 #[cfg(test)]
 mod halting;
+#[cfg(test)]
+mod line_tests;
+#[cfg(test)]
+mod line_texts;
 #[cfg(test)]
 mod overlap_tests;
 #[cfg(test)]
@@ -29,6 +35,8 @@ mod replays;
 #[cfg(test)]
 mod rounds;
 #[cfg(test)]
+mod said;
+#[cfg(test)]
 mod scenario;
 #[cfg(test)]
 mod size_tests;
@@ -38,3 +46,5 @@ mod steal_tests;
 mod stopwatch;
 #[cfg(test)]
 mod traces;
+#[cfg(test)]
+mod windows;
