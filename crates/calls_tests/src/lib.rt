@@ -47,4 +47,6 @@ mod stopwatch;
 #[cfg(test)]
 mod traces;
 #[cfg(test)]
+mod window_tests;
+#[cfg(test)]
 mod windows;
