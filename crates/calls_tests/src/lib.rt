@@ -45,6 +45,8 @@ mod steal_tests;
 #[cfg(test)]
 mod stopwatch;
 #[cfg(test)]
+mod trace_tests;
+#[cfg(test)]
 mod traces;
 #[cfg(test)]
 mod window_tests;
