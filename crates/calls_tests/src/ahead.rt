@@ -5,7 +5,9 @@ use crate::said::{
     add_key, add_listing, add_moment, add_result, add_samples, add_usage, line_said,
 };
 use json_fields::{TapeItems, TapeValue};
-use json_lines::{LineBuffers, joined, other_line, tape_moment, text_line, tick_tape};
+use json_lines::{
+    LONGEST_TAPE, LineBuffers, joined, other_line, tape_moment, text_line, tick_tape,
+};
 use std::alloc::{AllocError, Global};
 use std::thread::{Threads, map_chunks};
 use tick_lines::{entries_text, entry_text, listing_text, result_text, samples_text};
@@ -17,7 +19,7 @@ pub(crate) enum Reader {
     Tape,
     /// `text_line`, since the tape's readers left the line to it.
     AfterTape,
-    /// `other_line`, since the line has no tape.
+    /// `other_line`, since the line has no tape; or `text_line`, since it is too long for one.
     NoTape,
 }
 
@@ -137,6 +139,10 @@ fn read_ahead(
         Some(None) => {
             let read = text_line(alloc, line, buffers)?;
             Ok((Reader::AfterTape, line_said(alloc, &read)?))
+        }
+        None if line.len() > LONGEST_TAPE => {
+            let read = text_line(alloc, line, buffers)?;
+            Ok((Reader::NoTape, line_said(alloc, &read)?))
         }
         None => {
             let read = other_line(alloc, line)?;

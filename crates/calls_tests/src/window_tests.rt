@@ -51,7 +51,7 @@ fn windows_double(rt: HostRuntime) -> Result<(), Fail> {
 }
 
 #[test]
-fn lines_of_one_mebibyte_say_the_same(rt: HostRuntime) -> Result<(), Fail> {
+fn long_lines_say_the_same(rt: HostRuntime) -> Result<(), Fail> {
     let mut text = String::new(rt.alloc());
     for (before, behind) in [
         (TICK, "\"}\n"),
@@ -60,7 +60,8 @@ fn lines_of_one_mebibyte_say_the_same(rt: HostRuntime) -> Result<(), Fail> {
         ("{", "\n"),
         ("", "\n"),
     ] {
-        for bytes in [1_048_577, 1_048_578] {
+        // 256 KiB and 1 MiB, and a byte more
+        for bytes in [262_145, 262_146, 1_048_577, 1_048_578] {
             add_line_of(rt.alloc(), &mut text, before, bytes, behind)?;
             text.push_str(PLAIN)?;
         }
