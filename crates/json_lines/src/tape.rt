@@ -13,8 +13,8 @@ use json_fields::{TapeValue, is_plain_tape};
 use simdutf8::compat::from_utf8;
 use std::alloc::{AllocError, Global};
 
-/// No tape is made of a line of more bytes than these, 256 KiB: it takes up to 28 times as many, for each worker. Such a
-/// line is read through a tree, by `text_line`.
+/// No tape is made of a line of more bytes than these, 256 KiB: it takes up to 28 times as many, for each worker. Such
+/// a line is read through a tree, by `text_line`.
 pub const LONGEST_TAPE: usize = 262_144;
 
 /// The tape of a text, if it is a tick line, each of its numbers is one that digits alone write, below 2^64, and

@@ -4,6 +4,7 @@ ghost use Rattle.std.specs.Prelude.{◌≡◌, ◌<◌, ◌≤◌, ◌+◌, ◌+
 ghost use Rattle.json_lines.specs.Lines.{lines_of};
 
 use crate::lines::{first_line, is_blank};
+use crate::tape::LONGEST_TAPE;
 use memchr::memmem::find;
 use std::alloc::{AllocError, Global};
 
@@ -19,17 +20,17 @@ const BEGINNING: usize = 128;
 /// Lines are read together up to this many blank ones in a row: those behind them can be skipped unread.
 const MOST_BLANKS: usize = 1024;
 
-/// Lines that seem to tell of pods are read together up to this many bytes, 1 MiB, and the end of the last one: a tree
-/// of each stays until its turn has come.
-const MOST_OF_PODS: usize = 1_048_576;
+/// Lines of trees are read together up to this many bytes, 1 MiB, and the end of the last one.
+const MOST_OF_TREES: usize = 1_048_576;
 
 /// What a line seems to be. Nothing rests on it but how many lines are read together.
 #[derive(Clone, Copy)]
 enum Looks {
     /// Blank, and short: a long line is looked through where it is read, and nowhere else.
     Blank,
-    /// As a line does that tells of a pod itself, or that stands among no ticks.
-    OfPod,
+    /// A line of which a tree stays until its turn has come: one that tells of a pod itself or stands among no ticks,
+    /// or one that is too long for a tape.
+    OfTree,
     Other,
 }
 
@@ -55,16 +56,16 @@ fn looks_of_pod(line: &[u8]) -> bool {
 fn looks_of(line: &[u8]) -> Looks {
     if line.len() <= BEGINNING && is_blank(line) {
         Looks::Blank
-    } else if looks_of_pod(line) {
-        Looks::OfPod
+    } else if line.len() > LONGEST_TAPE || looks_of_pod(line) {
+        Looks::OfTree
     } else {
         Looks::Other
     }
 }
 
 /// The next lines, of at least this many bytes with their newlines where there are this many, and the text after them;
-/// or fewer: this many lines at most, and none behind lines that seem to tell of pods themselves, behind 1 MiB of
-/// these, or behind many blank ones.
+/// or fewer: this many lines at most, and none behind lines of trees, which are those of pods and very long ones,
+/// behind 1 MiB of these, or behind many blank ones.
 pub fn next_tick_lines(
     alloc: Global,
     text: &[u8],
@@ -81,22 +82,22 @@ pub fn next_tick_lines(
     let mut found = Vec::new(alloc);
     let mut rest = text;
     let mut blanks = 0;
-    let mut of_pods = 0;
+    let mut of_trees = 0;
     while text.len() - rest.len() < bytes
         && found.len() < most
         && blanks < MOST_BLANKS
-        && of_pods < MOST_OF_PODS
+        && of_trees < MOST_OF_TREES
     {
         let Some((line, after)) = first_line(rest) else {
             return Ok((found, rest));
         };
         match looks_of(line) {
             Looks::Blank => blanks += 1,
-            Looks::OfPod => {
+            Looks::OfTree => {
                 blanks = 0;
-                of_pods += rest.len() - after.len();
+                of_trees += rest.len() - after.len();
             }
-            Looks::Other if of_pods > 0 => return Ok((found, rest)),
+            Looks::Other if of_trees > 0 => return Ok((found, rest)),
             Looks::Other => blanks = 0,
         }
         found.push(line)?;

@@ -1,6 +1,7 @@
 -- What a loop over the items of an entry has noted of the pod's containers.
-use Rattle.std.proofs.Common.{◌≡◌, ◌∙◌, ℕ, suc, ◌+◌, ◌<◌, Bool, false, List, [], ◌∷◌, ◌++◌, length}
-use Rattle.std.proofs.Common.{Result, Ok, refl, ap, sym, subst, arith}
+use Rattle.std.proofs.Common.{◌≡◌, ◌∙◌, ℕ, zero, suc, ◌+◌, ◌-◌, ◌<◌, Bool, false, List, [], ◌∷◌, ◌++◌, length}
+use Rattle.std.proofs.Common.{replicate, take}
+use Rattle.std.proofs.Common.{Result, Ok, Err, OnOk, is_ok, cond, refl, ap, sym, subst, arith}
 use Rattle.std.proofs.lemmas.List.{append_assoc, append-nil}
 use Rattle.json_fields.specs.Reading.{◌>>=◌, each}
 use Rattle.json_fields.proofs.Only.{same_value}
@@ -17,7 +18,7 @@ use Rattle.trace.specs.declared.fault.FaultKind.{FaultKind}
 use Rattle.trace.specs.declared.fault.FaultKind.TheVariants.{StrangerContainer}
 use Rattle.trace.specs.declared.placing.PlacedListing.{PlacedListing}
 use Rattle.trace.specs.declared.placing.PlacedResult.{PlacedResult}
-use Rattle.trace.specs.Noted.{NotesListing, NotesResult, ListingsNoted, ResultsNoted}
+use Rattle.trace.specs.Noted.{NotesListing, NotesResult, ListingsNoted, ResultsNoted, AreUnknown, unknown}
 use Rattle.trace.specs.Observed.{containers_from, lacks_code}
 use Rattle.trace.specs.Placing.{container_number, placed_listing, placed_result}
 use Rattle.trace.specs.Tape.{of_item, listing_read, result_read}
@@ -56,6 +57,40 @@ pub as_many_shown : (ls : List PlacedListing) (rs : List PlacedResult) (n : ℕ)
     → length (containers_from ls rs n cs) ≡ length cs
 as_many_shown ls rs n [] = refl
 as_many_shown ls rs n (c ∷ cs) = ap suc (as_many_shown ls rs (n + 1) cs)
+
+-- ---- nothing is known yet
+
+-- of as many containers nothing is known
+pub all_unknown : (n : ℕ) (cs : List ContainerSpec) → replicate (length cs) unknown ≡ containers_from [] [] n cs
+all_unknown n [] = refl
+all_unknown n (c ∷ cs) = ap (λ (os : List ContainerObs). unknown ∷ os) (all_unknown (n + 1) cs)
+
+-- and so they are unknown
+pub are_unknown : (os : List ContainerObs) (cs : List ContainerSpec) → os ≡ containers_from [] [] 0 cs → AreUnknown os
+are_unknown os cs is =
+    is ∙ sym (all_unknown 0 cs) ∙ ap (λ (k : ℕ). replicate k unknown)
+    (sym (as_many_shown [] [] 0 cs) ∙ ap (λ (xs : List ContainerObs). length xs) (sym is))
+
+-- a list of such, cut or filled up
+resized : (n k : ℕ) → take n (replicate k unknown) ++ replicate (n - k) unknown ≡ replicate n unknown
+resized zero zero = refl
+resized zero (suc k) = let none : 0 - suc k ≡ 0 = omega arith in ap (λ (m : ℕ). replicate m unknown) none
+resized (suc n) zero = let all : suc n - 0 ≡ suc n = omega arith in ap (λ (m : ℕ). replicate m unknown) all
+resized (suc n) (suc k) =
+    let same : suc n - suc k ≡ n - k = omega arith in
+    ap (λ (os : List ContainerObs). unknown ∷ os)
+    (ap (λ (m : ℕ). take n (replicate k unknown) ++ replicate m unknown) same ∙ resized n k)
+
+-- once such a list is cut or filled up
+pub unknown_resized : {V E : Type 0} (r : Result V E) (os new : List ContainerObs) (cs : List ContainerSpec) (many : ℕ)
+    → AreUnknown os → length os ≡ many
+    → new ≡ cond (is_ok r) (take (length cs) os ++ replicate (length cs - many) unknown) os
+    → OnOk r (new ≡ containers_from [] [] 0 cs)
+unknown_resized (Ok v) os new cs many are long is =
+    is ∙ ap (λ (k : ℕ). take (length cs) os ++ replicate (length cs - k) unknown) (sym long)
+    ∙ ap (λ (xs : List ContainerObs). take (length cs) xs ++ replicate (length cs - length os) unknown) are
+    ∙ resized (length cs) (length os) ∙ all_unknown 0 cs
+unknown_resized (Err e) os new cs many are long is = tt
 
 -- ---- one item more
 

@@ -1,5 +1,5 @@
 -- What an entry shows of its pod's containers, noted as its listings and results come.
-use Rattle.std.specs.Prelude.{◌≡◌, ℕ, ◌==◌, Bool, false, List, [], ◌∷◌, ◌++◌, Ok}
+use Rattle.std.specs.Prelude.{◌≡◌, ℕ, ◌==◌, Bool, false, List, [], ◌∷◌, ◌++◌, length, replicate, Ok, None}
 use Rattle.std.specs.List.{list_any}
 use Rattle.json_fields.specs.Reading.{each}
 use Rattle.manifest.specs.declared.pod.ContainerSpec.{ContainerSpec}
@@ -11,6 +11,14 @@ use Rattle.trace.specs.declared.placing.PlacedResult.{PlacedResult}
 use Rattle.trace.specs.Observed.{containers_from, lacks_code}
 use Rattle.trace.specs.Placing.{has_twice, are_of_one_container, are_of_one_probe}
 use Rattle.trace.specs.Tape.{listing_read, result_read}
+
+-- a container of which nothing is known
+abbrev pub unknown : ContainerObs
+unknown = record { seen = None; results = None ∷ None ∷ None ∷ [] }
+
+-- each of them is one of which nothing is known
+abbrev pub AreUnknown : List ContainerObs → Type 0
+AreUnknown containers = containers ≡ replicate (length containers) unknown
 
 -- some of the listings is of the container with the number
 abbrev pub is_listed : List PlacedListing → ℕ → Bool

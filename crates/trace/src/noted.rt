@@ -6,7 +6,7 @@ ghost use Rattle.manifest.specs.Containers.{names_of};
 ghost use Rattle.lists.specs.Names.{place_of};
 ghost use Rattle.tick_lines.specs.Tape.{left_in};
 ghost use Rattle.trace.specs.declared.placing.PlacedListing.{PlacedListing};
-ghost use Rattle.trace.specs.Noted.{NotesListing, NotesResult, ListingsNoted, ResultsNoted};
+ghost use Rattle.trace.specs.Noted.{AreUnknown, NotesListing, NotesResult, ListingsNoted, ResultsNoted, unknown};
 ghost use Rattle.trace.specs.Observed.{containers_from};
 ghost use Rattle.trace.specs.Tape.{listing_read, result_read};
 
@@ -18,6 +18,27 @@ use observations::ContainerObs;
 use std::alloc::AllocError;
 use tick_lines::{listing_text, result_text};
 
+/// A container of which nothing is known.
+fn unknown() -> ContainerObs
+    ensures { result ≡ unknown }
+{
+    ContainerObs {
+        seen: None,
+        results: [None; 3],
+    }
+}
+
+/// Makes a list of containers of which nothing is known one of these containers: where it has as many, it stays.
+pub(crate) fn keep_unknown(
+    all: &mut Vec<ContainerObs>,
+    containers: &[ContainerSpec],
+) -> Result<(), AllocError>
+    requires { AreUnknown all.old.items }
+    ensures { OnOk result (all.new.items ≡ containers_from [] [] 0 containers.now) }
+{
+    all.resize(containers.len(), unknown())
+}
+
 /// Begins anew: of each container nothing is known.
 pub(crate) fn clear(
     all: &mut Vec<ContainerObs>,
@@ -26,13 +47,7 @@ pub(crate) fn clear(
     ensures { OnOk result (all.new.items ≡ containers_from [] [] 0 containers.now) }
 {
     all.clear();
-    for _container in containers {
-        all.push(ContainerObs {
-            seen: None,
-            results: [None; 3],
-        })?;
-    }
-    Ok(())
+    keep_unknown(all, containers)
 }
 
 /// Notes a listing, unless its container has an earlier one, and says whether it has.

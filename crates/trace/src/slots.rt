@@ -5,10 +5,11 @@ ghost use Rattle.std.specs.Prelude.{slice_get, if◌then◌else◌};
 ghost use Rattle.manifest.specs.declared.pod.PodSpec.{PodSpec};
 ghost use Rattle.roster.specs.Roll.{is_present};
 ghost use Rattle.trace.specs.declared.placing.PlacedEntry.{PlacedEntry};
+ghost use Rattle.trace.specs.Noted.{AreUnknown};
 ghost use Rattle.trace.specs.Observed.{pod_observed, pods_from};
 ghost use Rattle.trace.specs.Slots.{has_entry, slots_from};
 
-use crate::noted::clear;
+use crate::noted::keep_unknown;
 use manifest::PodSpec;
 use observations::{ContainerObs, PodObs};
 use roster::Roster;
@@ -43,7 +44,8 @@ pub(crate) fn note_pod(slots: &mut [Option<PodObs>], number: usize, shown: PodOb
     false
 }
 
-/// What is shown of a pod that has no entry, if it is present. The containers are no more than a place to work in.
+/// What is shown of a pod that has no entry, if it is present. The containers are no more than a place to work in, and
+/// stay some of which nothing is known.
 fn without_entry(
     alloc: Global,
     at: u64,
@@ -51,12 +53,14 @@ fn without_entry(
     is_present: bool,
     containers: &mut Vec<ContainerObs>,
 ) -> Result<Option<PodObs>, AllocError>
-    ensures { IfOk result (λ o. o ≡ (if is_present then Some (pod_observed at None pod.now) else None)) }
+    requires { AreUnknown containers.old.items }
+    ensures shown { IfOk result (λ o. o ≡ (if is_present then Some (pod_observed at None pod.now) else None)) }
+    ensures unknown { IfOk result (λ _. AreUnknown containers.new.items) }
 {
     if !is_present {
         return Ok(None);
     }
-    clear(containers, pod.containers.as_slice())?;
+    keep_unknown(containers, pod.containers.as_slice())?;
     let observed = PodObs::new(alloc, at, containers, None)?;
     Ok(Some(observed))
 }

@@ -7,7 +7,7 @@ invariant-loop-rest l = (lines_of l.fn.text ≡ map (λ line. line.now) l.found.
     × (length l.found.items + length l.rest ≤ length l.fn.text)
     × (length l.found.items ≤ l.fn.most)
     × (l.blanks ≤ length l.found.items)
-    × (l.of_pods + length l.rest ≤ length l.fn.text)
+    × (l.of_trees + length l.rest ≤ length l.fn.text)
 
 abbrev pub decreases-loop-rest : goal.decreases-loop-rest
 decreases-loop-rest l = length l.rest
