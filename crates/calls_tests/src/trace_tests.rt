@@ -304,3 +304,33 @@ fn ticks_name_the_pods_that_there_are(rt: HostRuntime) -> Result<(), Fail> {
     }
     Ok(())
 }
+
+/// Names of no signal, this many, each with a number and then with null.
+fn strangers(alloc: Global, names: usize) -> Result<String, AllocError> {
+    let mut members = String::new(alloc);
+    for value in ["1", "null"] {
+        for name in 0..names {
+            let member = format!(in alloc; "\"a{name}\":{value},")?;
+            members.push_str(member.as_str())?;
+        }
+    }
+    Ok(members)
+}
+
+#[test]
+fn names_of_no_signal_are_walked_once(rt: HostRuntime) -> Result<(), Fail> {
+    // where each was looked for among those behind it, such a line took seconds
+    let members = strangers(rt.alloc(), 36_000)?;
+    let mut text = String::from_str(rt.alloc(), HEAD)?;
+    for at in 0..20 {
+        let head = format!(in rt.alloc(); r#"{{"kind":"tick","at":{at},"signals":{{"#)?;
+        for part in [head.as_str(), members.as_str(), "\"pid.available\":9}}\n"] {
+            text.push_str(part)?;
+        }
+    }
+    for workers in [0, 2] {
+        let trace = read_by(&rt, text.as_bytes(), workers)?;
+        assert_eq!(rt; trace.ticks.as_slice().len(), 20);
+    }
+    Ok(())
+}

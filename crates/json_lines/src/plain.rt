@@ -20,6 +20,10 @@ const MISSES: u32 = 4;
 /// Of such a writer no more lines in a row are left untried than these.
 const MOST_UNTRIED: u32 = 32;
 
+/// A map of samples in a plain line has at most this many members: beside those of the signals there may be others, and
+/// whether the last one of such a name is null is looked for once for each. `serde_json` keeps each name once.
+const MOST_SAMPLES: usize = 64;
+
 /// Goes on where the text is no JSON; `Err` where memory was refused, and nowhere else.
 pub(crate) fn refused_memory(error: Error) -> Result<(), AllocError>
     ensures refused { OnErr result (error ≡ OutOfMemory) }
@@ -120,8 +124,21 @@ fn only_value<'a, A: Allocator + Copy>(
     }
 }
 
-/// What the text says, if it is a tick line and each of its numbers is one that digits alone write, below 2^64: so a
-/// line is read some four times as fast as by `serde_json`, which reads the others.
+/// Whether a member of the line is an object of many members.
+fn has_many<A: Allocator>(line: &Value<'_, A>, name: &str) -> bool {
+    match line.get(name) {
+        Some(Value::Object(members)) => members.len() > MOST_SAMPLES,
+        _ => false,
+    }
+}
+
+/// Whether one of the line's maps of samples has many members.
+fn has_many_samples<A: Allocator>(line: &Value<'_, A>) -> bool {
+    has_many(line, "signals") || has_many(line, "afterReclaim")
+}
+
+/// What the text says, if it is a tick line, each of its numbers is one that digits alone write, below 2^64, and its
+/// maps of samples are short: so a line is read some four times as fast as by `serde_json`, which reads the others.
 #[tactic(auto, using(crate::proofs::Said::plain_said))]
 fn tick_in<A: Allocator + Copy>(
     alloc: Global,
@@ -135,7 +152,7 @@ fn tick_in<A: Allocator + Copy>(
         return Ok(None);
     };
     match only_value(text, scratch, values)? {
-        Some(value) if is_plain_in(&value) && is_tick(&value) => {
+        Some(value) if is_plain_in(&value) && is_tick(&value) && !has_many_samples(&value) => {
             Ok(Some(tick_record(alloc, &value)?))
         }
         _ => Ok(None),
