@@ -1,5 +1,5 @@
-"""The figures of the gate, of each crate and each part of its gate: how they are kept in bench/gate.tsv, and what
-follows from them."""
+"""The figures of the gate, by whole commands: of `rt ci NAME` for each crate, and of `./test`. How bench/gate.tsv keeps
+them, and what follows from them."""
 import csv
 import os
 import re
@@ -8,36 +8,34 @@ from typing import NamedTuple
 import script
 from edits import paths_of
 
-KINDS = ("proof", "tests", "edits")
-COLUMNS = ("crate", "part", "seconds", "peak bytes", "dearest edit")
+WHOLE = "./test"
+COLUMNS = ("crate", "seconds", "processor seconds", "peak bytes", "last line", "commit", "kit", "machine")
 FIGURES = "bench/gate.tsv"
 
 
 class Figure(NamedTuple):
-    seconds: float  # of processors
+    """Of a command that has ended."""
+    seconds: float
+    spent: float    # processor seconds, of the command and of all below it that was waited for
     peak: float     # bytes of the largest process
-    dearest: float  # of edits the processor seconds of the dearest after the first
+    last: str       # its last line
+    commit: str
+    kit: str
+    machine: str
 
 
-def figures_of(spent, peaks):
-    """The figures of each crate and part, from the processor seconds of each of its processes in their order."""
-    seconds, dearest = {}, {}
-    for (task, _), used in spent.items():
-        if task[1] == "edits" and task in seconds:
-            dearest[task] = max(dearest.get(task, 0.0), used)
-        seconds[task] = seconds.get(task, 0.0) + used
-    return {task: Figure(used, peaks[task], dearest.get(task, 0.0)) for task, used in seconds.items()}
+def last_line(log):
+    return log.rstrip("\n").rpartition("\n")[2]
 
 
-def made_anew(log):
-    """The parts that the run did not keep from an earlier one, by the gate's log: a proof, the proof of tests, and
-    edits of which it kept none."""
+def proved_in(log):
+    """By the log of a run of the gate: the crates of which it proved or tried something, and those of them of which it
+    kept nothing. What it keeps is the kit's, from runs that passed on this machine."""
     proofs = set(re.findall(r"(?m)^rt: (\w+) proved$", log))
     tests = set(re.findall(r"(?m)^rt: (\w+): its tests are proved$", log))
+    tried = set(re.findall(r"(?m)^rt: must-fail (\w+)/", log))
     kept = set(re.findall(r"(?m)^rt: (\w+): \d+ of its \d+ must-fail edits were tried by an earlier run", log))
-    tried = set(re.findall(r"(?m)^rt: must-fail (\w+)/", log)) - kept
-    return {*((name, "proof") for name in proofs), *((name, "tests") for name in tests),
-            *((name, "edits") for name in tried)}
+    return proofs | tests | tried, proofs - kept
 
 
 def edits_of(top, name):
@@ -45,43 +43,33 @@ def edits_of(top, name):
     return len(paths_of(top, name, "must-fail"))
 
 
-def kept_with(top, measured, anew):
-    """The figures that are kept, with those measured of what the run made anew in their place; none of edits of a
-    crate that has none any more."""
-    found = {**read_figures(top), **{task: figure for task, figure in measured.items() if task in anew}}
-    return {(name, part): figure for (name, part), figure in found.items() if part != "edits" or edits_of(top, name)}
-
-
 def read_figures(top):
-    """The figures of each part by the run that made it last."""
+    """The figures of each crate by the run that proved it last, and those of ./test."""
     path = os.path.join(top, FIGURES)
     if not os.path.isfile(path):
         return {}
     with open(path, newline="", encoding="utf-8") as file:
         rows = list(csv.DictReader(file, delimiter="\t"))
-    return {(row["crate"], row["part"]): Figure(*(float(row[column]) for column in COLUMNS[2:])) for row in rows}
+    return {row["crate"]: Figure(*(float(row[column]) for column in COLUMNS[1:4]),
+                                 *(row[column] for column in COLUMNS[4:])) for row in rows}
 
 
-def write_figures(top, found, crates):
-    """Keeps the figures of the parts that there are, crate by crate."""
+def keep(top, crates, name, figure):
+    """Puts a figure in the place of the one before; those of crates that there are not any more go."""
+    found = {**read_figures(top), name: figure}
     rows = [COLUMNS]
-    for name in crates:
-        for part in KINDS:
-            if (name, part) in found:
-                seconds, peak, dearest = found[name, part]
-                rows.append((name, part, f"{seconds:.1f}", f"{peak:.0f}", f"{dearest:.1f}"))
+    for it in (*crates, WHOLE):
+        if it in found:
+            seconds, spent, peak, *words = found[it]
+            rows.append((it, f"{seconds:.1f}", f"{spent:.1f}", f"{peak:.0f}", *words))
     script.write(os.path.join(top, FIGURES), "".join("\t".join(row) + "\n" for row in rows))
 
 
-def longest_chain(seconds, below):
-    """The proofs that wait for one another longest, and the tests behind them, by their processor seconds. The edits
-    fill what these leave free."""
-    def proofs(name):
-        under = max((proofs(dep) for dep in below[name]), default=(0, []))
-        return under[0] + seconds.get((name, "proof"), 0), [*under[1], (name, "proof")]
-
-    def ends(name):
-        under = max((proofs(dep) for dep in below[name]), default=(0, []))
-        yield proofs(name)
-        yield under[0] + seconds.get((name, "tests"), 0), [*under[1], (name, "tests")]
-    return max(end for name in below for end in ends(name))
+def longest_chain(found, below):
+    """The crates that wait for one another longest, by the processor seconds of each. The crates stand in the order of
+    crates.txt."""
+    chains = {}
+    for name in below:
+        spent, names = max((chains[it] for it in below[name]), default=(0, []))
+        chains[name] = spent + (found[name].spent if name in found else 0), [*names, name]
+    return max(chains.values())

@@ -1,33 +1,31 @@
 """The page on what the gate costs, docs/gate.md, from given figures."""
 import os
 import textwrap
-from typing import NamedTuple
 
-from gate_figures import KINDS, edits_of, longest_chain
+from gate_figures import WHOLE, edits_of, longest_chain
 from shelf import COLUMNS, read_found
 
 PAGE = "docs/gate.md"
 HEAD = """\
 # What the gate costs
 
-`bench/gate` writes this page from its runs of `./test`; no figure is by hand.
+`bench/gate` writes this page; no figure is by hand. In a new clone of the commit, which no run has touched, it runs
+`rt ci NAME` for each crate, one after the other in the order of `crates.txt`, and then `./test`. It times each of these
+commands as a whole, and looks at nothing while it runs. Its seconds go by the clock. What it cost is what the
+operating system says of a child that has ended (`wait4`): the processor seconds, user and system, are those of the
+command and of all processes below it that were waited for; the peak of memory is that of the largest process alone.
 {machine}
 
-From nothing the gate takes {whole} processor minutes: the proofs of the crates {proofs}, the tests
-{tests} and the edits {edits}. The last run ended in `{last}`. It proved {proved} of {crates} crates anew and
-took {wall} minutes and {spent} processor minutes; other processes of the machine meanwhile took
-{others}. What a run keeps has the figures of the run that proved it; beside these, too, other work may
-have gone on, which makes processors slower.
+{whole}
+
+What passed on the machine is kept there by the kit, so each command proves its own crate alone, with its tests and its
+edits; the tests and the programs of the crates below run again. A crate that was kept has the figures of the run that
+proved it last, and `bench/gate.tsv` the commit of each. Other work may have gone on beside a command, which makes
+processors slower.
 
 {chain}
 
 Lines are those of `src/`, `specs/` and `proofs/`; edits are the mutants in `must-fail/`.
-Seconds are processor seconds, looked at five times a second.
-The proof is that of the crate from nothing, with the two builds of a program.
-The tests are their proof and their run; refused memory stands under the tests of `replay_program`.
-The edits begin with a check of the crate from nothing, and end with one over what they kept.
-The dearest edit is that of those after the first, which stand on what the first one's check kept.
-The memory is that of the largest process.
 
 """
 OUTSIDE = "## Mutants outside of the gate"
@@ -39,15 +37,7 @@ Seconds are the processor seconds of all edits of the crate.
 
 | Crate | edits | by a clause | by a proof file only | still proved | seconds |
 |---|---|---|---|---|---|"""
-
-
-class Run(NamedTuple):
-    """A run of the whole gate."""
-    last: str       # its last line
-    proved: int     # how many crates it proved anew
-    wall: float     # seconds
-    spent: float    # processor seconds
-    others: float   # those of all other processes of the machine
+REPLAYS = "## What a replay costs"
 
 
 def lines_of(top, name, part):
@@ -60,35 +50,37 @@ def lines_of(top, name, part):
     return total
 
 
+def row(name, numbers, peak):
+    return f"| {name} | {' | '.join(f'{it:,}' for it in numbers)} | {peak / 1e9:.1f} GB |"
+
+
 def table(top, crates, found):
-    """A row for each crate, and one for their sum; then the sums of the seconds of each kind."""
-    seconds, peaks = ({task: figure[at] for task, figure in found.items()} for at in (0, 1))
-    dearest = {name: figure.dearest for (name, part), figure in found.items() if part == "edits"}
-    rows = ["| Crate | code | specs | proofs | edits | proof s | tests s | edits s | dearest edit s | peak memory |",
-            "|---|---|---|---|---|---|---|---|---|---|"]
-    sums = [0] * 7
+    """A row for each crate, and one for their sum."""
+    rows = ["| Crate | code | specs | proofs | edits | seconds | processor s | peak memory |",
+            "|---|---|---|---|---|---|---|---|"]
+    sums, most = [0] * 6, 0
     for name in crates:
-        lines = [lines_of(top, name, part) for part in ("src", "specs", "proofs")]
-        figures = [*lines, edits_of(top, name), *(round(seconds.get((name, kind), 0)) for kind in KINDS)]
-        sums = [a + b for a, b in zip(sums, figures)]
-        peak = max(peaks.get((name, kind), 0) for kind in KINDS) / 1e9
-        most = round(dearest.get(name, 0))
-        rows.append(f"| {name} | {' | '.join(f'{it:,}' for it in figures)} | {most} | {peak:.1f} GB |")
-    most = round(max(dearest.values(), default=0))
-    rows.append(f"| all | {' | '.join(f'{it:,}' for it in sums)} | {most} | {max(peaks.values()) / 1e9:.1f} GB |")
-    return rows, sums[4:]
+        counts = [*(lines_of(top, name, part) for part in ("src", "specs", "proofs")), edits_of(top, name)]
+        if name not in found:
+            rows.append(f"| {name} | {' | '.join(f'{it:,}' for it in counts)} | - | - | - |")
+            sums = [a + b for a, b in zip(sums, [*counts, 0, 0])]
+            continue
+        numbers = [*counts, round(found[name].seconds), round(found[name].spent)]
+        sums, most = [a + b for a, b in zip(sums, numbers)], max(most, found[name].peak)
+        rows.append(row(name, numbers, found[name].peak))
+    return [*rows, row("all", sums, most)]
 
 
 def shelf(top):
     """What bench/wrong_bodies found last, where it was run."""
-    rows = ["| " + " | ".join(row[column] for column in COLUMNS) + " |" for row in read_found(top)]
-    return rows and [SHELF, *rows, ""]
+    rows = ["| " + " | ".join(it[column] for column in COLUMNS) + " |" for it in read_found(top)]
+    return [SHELF, *rows, ""] if rows else []
 
 
 def replays(ticks):
     """What bench/ticks printed."""
     return [
-        "## What a replay costs", "",
+        REPLAYS, "",
         "`bench/ticks`, one pod with one container:", "",
         *(f"    {line}" for line in ticks.splitlines()), "",
         "Reading and following a pod grow linearly with the ticks: nothing scans earlier ticks.",
@@ -99,32 +91,57 @@ def minutes(seconds):
     return f"{seconds / 60:.1f}"
 
 
-def chain_text(length, steps):
+def filled(text):
+    return textwrap.fill(text, 120, break_long_words=False, break_on_hyphens=False)
+
+
+def whole_text(below, found):
+    """What the gate takes from nothing, and what ./test took."""
+    measured = [found[name] for name in below if name in found]
+    missing = [name for name in below if name not in found]
+    said = [f"From nothing the gate takes {minutes(sum(it.spent for it in measured))} processor minutes, the sum over "
+            f"the crates; one after the other the commands took {minutes(sum(it.seconds for it in measured))} minutes."]
+    if missing:
+        said.append(f"{len(missing)} of {len(below)} crates have not been measured, and are not in the sums: "
+                    f"{', '.join(missing)}.")
+    if WHOLE in found:
+        run = found[WHOLE]
+        anew = sum(it.commit == run.commit for it in measured)
+        said.append(f"Of {len(below)} crates {anew} were proved anew at the commit `{run.commit}`. `./test` behind them "
+                    f"ended in `{run.last}`, and took {minutes(run.seconds)} minutes, {minutes(run.spent)} processor "
+                    f"minutes and {run.peak / 1e9:.1f} GB.")
+    else:
+        said.append("`./test` has not been measured behind them.")
+    return filled(" ".join(said))
+
+
+def chain_text(below, found):
     """The sentence on the longest chain."""
-    return textwrap.fill(f"The longest chain of parts that wait for one another takes {length} processor minutes: "
-                         f"{', '.join(steps)}.", 118, break_long_words=False, break_on_hyphens=False)
+    length, chain = longest_chain(found, below)
+    steps = [f"{name} ({minutes(found[name].spent)})" for name in chain if name in found]
+    return filled(f"A crate waits for those that `crates.txt` lists below it. The longest chain takes {minutes(length)} "
+                  f"processor minutes: {', '.join(steps)}.")
 
 
-def text_of(top, below, found, run, machine, ticks):
-    """The whole page."""
-    rows, sums = table(top, below, found)
-    seconds = {task: figure.seconds for task, figure in found.items()}
-    length, chain = longest_chain(seconds, below)
-    steps = [f"the {kind} of {name} ({minutes(seconds[name, kind])})" for name, kind in chain
-             if (name, kind) in seconds]
-    proofs, tests, edits = map(minutes, sums)
-    head = HEAD.format(
-        machine=machine, whole=minutes(sum(sums)), proofs=proofs, tests=tests, edits=edits, last=run.last,
-        proved=run.proved, crates=len(below), wall=minutes(run.wall), spent=minutes(run.spent),
-        others=minutes(run.others), chain=chain_text(minutes(length), steps))
-    return head + "\n".join([*rows, "", *costs(top, ticks)]) + "\n"
+def machines(found):
+    """On what the figures were made."""
+    pairs = dict.fromkeys((it.machine, it.kit) for it in found.values())
+    return "\n".join(f"The machine: {machine}; the kit: `{kit}`." for machine, kit in pairs)
 
 
-def costs(top, ticks):
-    """What the page says of mutants outside of the gate, and of a replay's costs."""
-    return [*shelf(top), *replays(ticks)]
+def text_of(top, below, found, told):
+    """The whole page, with what is told of a replay's costs."""
+    head = HEAD.format(machine=machines(found), whole=whole_text(below, found), chain=chain_text(below, found))
+    return head + "\n".join([*table(top, below, found), "", *shelf(top), *told]) + "\n"
+
+
+def replays_in(page):
+    """What a page tells of a replay's costs."""
+    _, begin, rest = page.partition(REPLAYS)
+    return (begin + rest).splitlines()
 
 
 def with_costs(page, top, ticks):
-    """The page with these parts anew."""
-    return page.partition(OUTSIDE)[0] + "\n".join(costs(top, ticks)) + "\n"
+    """The page with what it says of mutants outside of the gate, and of a replay's costs, anew."""
+    begin = OUTSIDE if OUTSIDE in page else REPLAYS
+    return page.partition(begin)[0] + "\n".join([*shelf(top), *replays(ticks)]) + "\n"

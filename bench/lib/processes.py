@@ -1,16 +1,18 @@
-"""What processes cost: the processor seconds and the peak memory of one that this one ran, of those that there are,
-and of the machine. Nothing else in bench/ measures memory."""
+"""What processes cost: the processor seconds and the peak memory of one that this one ran, and of those that there are.
+Nothing else in bench/ measures memory."""
 import contextlib
 import os
-import re
 import resource
 import signal
 import subprocess
 import threading
+import time
 from typing import NamedTuple
 
 TICK = os.sysconf("SC_CLK_TCK")
 PAGE = os.sysconf("SC_PAGE_SIZE")
+GRACE = 20
+"""seconds in which a command that is asked to end may do so"""
 
 
 class Cost(NamedTuple):
@@ -18,6 +20,14 @@ class Cost(NamedTuple):
     status: int  # negative by a signal
     peak: int    # bytes; never below what this process had when it began the run
     late: bool   # it was ended after the seconds that it might take
+
+
+class Whole(NamedTuple):
+    """Of a command from its begin to its end."""
+    status: int     # negative by a signal
+    seconds: float
+    spent: float    # processor seconds, of the command and of all below it that was waited for
+    peak: int       # bytes of the largest process
 
 
 class Process(NamedTuple):
@@ -57,6 +67,32 @@ def run(words, given=subprocess.DEVNULL, written=subprocess.DEVNULL, said=None, 
     return Cost(child.returncode, peak, bool(late))
 
 
+def run_whole(words, folder, said):
+    """Runs a command in a folder to its end, and looks at nothing of it before. What it says goes into a file. Where
+    this is interrupted, the command is asked to end too, and has some seconds for it."""
+    began = time.monotonic()
+    child = subprocess.Popen(words, cwd=folder, stdin=subprocess.DEVNULL, stdout=said, stderr=subprocess.STDOUT,
+                             process_group=0)
+    try:
+        _, status, used = os.wait4(child.pid, 0)
+    except BaseException:
+        ask_to_end(child)
+        raise
+    child.returncode = os.waitstatus_to_exitcode(status)
+    return Whole(child.returncode, time.monotonic() - began, used.ru_utime + used.ru_stime, used.ru_maxrss * 1024)
+
+
+def ask_to_end(child):
+    """Ends the group of a child by a signal that it hears, and after some seconds by one that it does not."""
+    with contextlib.suppress(ProcessLookupError):
+        os.killpg(child.pid, signal.SIGTERM)
+    try:
+        child.wait(GRACE)
+    except subprocess.TimeoutExpired:
+        end_group(child.pid)
+        child.wait()
+
+
 def end_group(pid):
     """Ends the group of a process by a signal, if it is still there."""
     with contextlib.suppress(ProcessLookupError):
@@ -67,19 +103,6 @@ def children_seconds():
     """The processor seconds of all processes below this one that have ended and were waited for."""
     used = resource.getrusage(resource.RUSAGE_CHILDREN)
     return used.ru_utime + used.ru_stime
-
-
-def own_seconds():
-    """The processor seconds of this process."""
-    used = resource.getrusage(resource.RUSAGE_SELF)
-    return used.ru_utime + used.ru_stime
-
-
-def machine_seconds():
-    """The processor seconds that the whole machine has worked."""
-    with open("/proc/stat", encoding="ascii") as file:
-        words = file.readline().split()[1:]
-    return sum(int(words[at]) for at in (0, 1, 2, 5, 6)) / TICK
 
 
 def all_processes():
@@ -129,12 +152,6 @@ def read(pid, name):
             return file.read()
     except OSError:
         return ""
-
-
-def memory_of(pid):
-    """The most memory that a process has held, in bytes; 0 where it has ended."""
-    held = re.search(r"VmHWM:\s+(\d+)", read(pid, "status"))
-    return 1024 * int(held[1]) if held else 0
 
 
 def machine():

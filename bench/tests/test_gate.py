@@ -4,6 +4,7 @@ wrote them, with other names, those of edits and tests by the kit's words. gate/
 and gate/wrong_bodies.tsv."""
 import os
 import shutil
+import signal
 import subprocess
 import sys
 import tempfile
@@ -13,33 +14,52 @@ from common import SMALL, TESTS, TOP, Case, commands_in, lay_over, read, run, wr
 import crates
 import gate_figures
 import gate_page
-import gate_watch
+import processes
 from gate_figures import Figure
 
 HERE = os.path.join(TESTS, "gate")
 LOG = read(HERE, "log")
-ANEW = {("marks", "proof"), ("text", "proof"), ("marks", "edits"), ("kubelet_replay", "tests")}
-RUN = gate_page.Run("104 passed, 0 failed", 2, 474.3, 612.1, 1164.2)
-MACHINE = "The machine: 4 processors, 24 GB; the kit: `kit`."
+NAMES = ["marks", "text", "grading", "event_book", "kubelet_replay"]
 TICKS = " ticks  seconds\n  2000     0.04\n"
-# works for some tenths of a second, like a process of the gate's
-WORK = "import time\nwhile time.process_time() < 0.3: pass\ntime.sleep(0.4)"
-GATE = f"""\
+# works for some tenths of a second and holds 64 MiB
+WORK = "import time; held = bytearray(64 << 20)\nwhile time.process_time() < 0.3: pass"
+# the kit: of text it works, and of grading it has kept an edit
+KIT = f"""\
 #!/bin/sh
-if [ "${{GATE_ENDS-}}" = '' ]; then
-    {sys.executable} -S -c '{WORK}' --crate-name text &
-    {sys.executable} -S -c '{WORK}' --crate-name grading
-fi
-cat "${{0%/*}}/log"
-wait
-exit "${{GATE_ENDS:-0}}"
+[ "$1" != version ] || {{ echo kit; exit; }}
+top=${{0%/kit/*}}
+echo "$*" >>"$top/out/ran"
+[ -d crates ] && [ -d .git ] && [ "$PWD" != "$top" ] || exit 9
+case " ${{FAILS-}} " in *" $2 "*) echo 'rt: it is not proved'; echo '0 passed, 1 failed'; exit 1 ;; esac
+case " ${{WAITS-}} " in *" $2 "*) echo $$ >"$top/out/pid"; mv "$top/out/pid" "$top/out/waits"; exec sleep 50 ;; esac
+case " ${{KEPT-}} " in *" $2 "*) ;; *) echo "rt: $2 proved" ;; esac
+case " ${{BOTH-}} " in *" $2 "*) echo "rt: marks proved" ;; esac
+[ "$2" != text ] || {sys.executable} -S -c '{WORK}'
+[ "$2" != grading ] || grep grading: "$top/log"
+echo '1 passed, 0 failed'
 """
+GATE = """\
+#!/bin/sh
+[ -d .git ] || exit 9
+cat log
+exit "${GATE_ENDS:-0}"
+"""
+# shows of which program it is asked
+REPLAYS = f"#!/bin/sh\n[ $# = 0 ] || [ \"${{1##*/}}\" = replay_program ] || exit 9\nprintf '{TICKS}'\n"
+GIT = ["git", "-c", "user.name=tests", "-c", "user.email=tests@example.com", "-c", "commit.gpgsign=false"]
+
+
+def git(top, *words):
+    done = subprocess.run([*GIT, *words], cwd=top, stdin=subprocess.DEVNULL, stdout=subprocess.PIPE, text=True,
+                          check=True)
+    return done.stdout.strip()
 
 
 def small(top):
-    """A repository with figures, and with stand-ins for the kit, the gate and bench/ticks."""
+    """A checkout with figures, and with stand-ins for the kit, the gate and bench/ticks."""
     lay_over(SMALL, top)
-    shutil.copytree(os.path.join(TOP, "bench"), os.path.join(top, "bench"), ignore=shutil.ignore_patterns("tests"))
+    shutil.copytree(os.path.join(TOP, "bench"), os.path.join(top, "bench"),
+                    ignore=shutil.ignore_patterns("tests", "__pycache__"))
     for name in "gate.tsv", "wrong_bodies.tsv":
         shutil.copy(os.path.join(HERE, name), os.path.join(top, "bench"))
     shutil.copy(os.path.join(HERE, "log"), top)
@@ -47,17 +67,26 @@ def small(top):
         os.makedirs(f"{top}/crates/{name}/must-fail")
         for edit in range(edits):
             write("", f"{top}/crates/{name}/must-fail/{edit}.edit")
-    os.mkdir(f"{top}/kit")
-    for path, text in (("test", GATE), ("kit/rt", f"#!/bin/sh\n[ $1 = version ] && echo kit || exec {top}/test\n"),
-                       ("bench/ticks", f"#!/bin/sh\nprintf '{TICKS}'\n"), ("kit/hyperfine", "#!/bin/sh\n")):
+    for folder in "kit", "out", "docs":
+        os.makedirs(f"{top}/{folder}", exist_ok=True)
+    for path, text in (("test", GATE), ("kit/rt", KIT), ("bench/ticks", REPLAYS), ("kit/hyperfine", "#!/bin/sh\n")):
         write(text, top, path)
         os.chmod(os.path.join(top, path), 0o755)
+    write("out/\n", top, ".gitignore")
+    git(top, "init", "--quiet")
+    git(top, "add", ".")
+    git(top, "commit", "--quiet", "--message", "all")
+
+
+def settings_of(top, settings):
+    """The stand-ins of the kit come first; temporary folders stand in one that is looked at."""
+    os.makedirs(f"{top}/out/room", exist_ok=True)
+    return {**os.environ, "PATH": f"{top}/kit:{os.environ['PATH']}", "TMPDIR": f"{top}/out/room", **settings}
 
 
 def gate(top, *words, **settings):
-    path = f"{top}/kit:{os.environ['PATH']}"
     done = subprocess.run([f"{top}/bench/gate", *words], capture_output=True, text=True, check=False, timeout=60,
-                          env={**os.environ, "PATH": path, **settings})
+                          env=settings_of(top, settings))
     return done.returncode, done.stdout, done.stderr
 
 
@@ -65,81 +94,42 @@ class Words(Case):
     def test_what_is_missing_is_said(self):
         with tempfile.TemporaryDirectory() as room:
             path = commands_in(room, "python3", "env")
-            self.assertEqual(run("gate", PATH=path), (
-                127, "", "bench/gate: the Rattle kit is missing: put its command rt on the PATH\n"))
-            os.symlink("/bin/true", os.path.join(path, "rt"))
-            self.assertEqual(run("gate", PATH=path), (
-                127, "", "bench/gate: a C compiler (cc) is missing; the gate needs it\n"))
-            os.symlink("/bin/true", os.path.join(path, "cc"))
-            self.assertEqual(run("gate", "--costs", PATH=path), (
-                127, "", "bench/gate: hyperfine is missing: apt-get install hyperfine; it measures the seconds\n"))
+            for command, said in (("rt", "the Rattle kit is missing: put its command rt on the PATH"),
+                                  ("cc", "a C compiler (cc) is missing; the gate needs it"),
+                                  ("git", "git is missing; it makes the clone")):
+                self.assertEqual(run("gate", "marks", PATH=path), (127, "", f"bench/gate: {said}\n"))
+                os.symlink("/bin/true", os.path.join(path, command))
+            for words in ((), ("--costs",)):
+                self.assertEqual(run("gate", *words, PATH=path), (
+                    127, "", "bench/gate: hyperfine is missing: apt-get install hyperfine; it measures the seconds\n"))
 
-    def test_a_crate_that_is_none_is_refused(self):
+    def test_words_that_are_none(self):
         with tempfile.TemporaryDirectory() as top:
             small(top)
             self.assertEqual(gate(top, "marks", "nothing"), (2, "", "bench/gate: there is no crate nothing\n"))
-
-
-class Watched(Case):
-    """The crates of these tests are none of the repository's: bench/gate may be watching them."""
-
-    def start(self, *words, cwd="/"):
-        child = subprocess.Popen([sys.executable, "-c", "import sys\nprint(flush=True)\nsys.stdin.read()", *words],
-                                 stdin=subprocess.PIPE, stdout=subprocess.PIPE, cwd=cwd)
-        child.stdout.readline()
-        self.addCleanup(child.__exit__, None, None, None)
-        return child.pid
-
-    def test_what_a_process_works_for(self):
-        with tempfile.TemporaryDirectory(prefix="rt-edit-") as folder:
-            for words, cwd, task in (
-                (["--crate-name", "marks"], "/", ("marks", "proof")),
-                (["--test", "--crate-name", "marks"], "/", ("marks", "tests")),
-                (["--crate-name", "marks"], folder, ("marks", "edits")),
-                (["/tmp/rt-run-x1/bin/mark_tests"], "/", ("mark_tests", "tests")),
-                (["/tmp/rt-run-x1/bin/marks_tests"], "/", ("marks", "tests")),
-                (["bench/refused_memory"], "/", ("replay_program", "tests")),
-                (["--crates"], "/", None),
-            ):
-                pid = self.start(*words, cwd=cwd)
-                self.assertEqual(gate_watch.task_of(pid, ["marks", "mark_tests"]), task, words)
-
-    def test_processes_below_a_task_work_for_it(self):
-        child = f"import subprocess, sys\nsubprocess.run([sys.executable, '-c', '''{WORK}'''])\n"
-        with subprocess.Popen(["sh", "-c", f'{sys.executable} -c "$0" --crate-name marks; true', child]) as gate_:
-            measured = gate_watch.measure(gate_, ["marks"])
-        self.assertEqual(list(measured), [("marks", "proof")])
-        self.assertGreater(measured["marks", "proof"].seconds, 0.2)
-        self.assertGreater(measured["marks", "proof"].peak, 1 << 20)
+            self.assertEqual(gate(top, "--all"), (3, "", "usage: bench/gate [NAME.. | --page | --costs]\n"))
 
 
 class Figures(Case):
-    def test_edits_have_the_dearest_after_the_first(self):
-        spent = {(("a", "edits"), 1): 9.0, (("a", "edits"), 2): 2.0, (("a", "edits"), 3): 3.0, (("a", "proof"), 4): 1.0}
-        self.assertEqual(gate_figures.figures_of(spent, {("a", "edits"): 7, ("a", "proof"): 5}),
-                         {("a", "edits"): Figure(14.0, 7, 3.0), ("a", "proof"): Figure(1.0, 5, 0.0)})
-
-    def test_what_a_log_says_was_made_anew(self):
-        self.assertEqual(gate_figures.made_anew(LOG), ANEW)
-        self.assertEqual(gate_figures.made_anew("rt: no such thing\n== marks proved\n"), set())
+    def test_what_a_log_says_was_proved(self):
+        self.assertEqual(gate_figures.proved_in(LOG), (
+            {"marks", "text", "grading", "kubelet_replay"}, {"marks", "text"}))
+        self.assertEqual(gate_figures.proved_in("rt: a proved\nrt: a: 1 of its 2 must-fail edits were tried by an "
+                                                "earlier run on this machine\n"), ({"a"}, set()))
+        self.assertEqual(gate_figures.proved_in("rt: no such thing\n== marks proved\n"), (set(), set()))
 
     def test_figures_are_kept(self):
         with tempfile.TemporaryDirectory() as top:
             small(top)
-            found = gate_figures.read_figures(top)
-            self.assertEqual(found["marks", "edits"], Figure(75.5, 800000000, 18.5))
-            gate_figures.write_figures(top, dict(reversed(found.items())), crates.below_of(top))
+            below, found = crates.below_of(top), gate_figures.read_figures(top)
+            self.assertEqual(found["marks"], Figure(90.0, 175.5, 900000000, "3 passed, 0 failed", "0123456789", "kit",
+                                                    "4 processors, 24 GB"))
+            for name in ["./test", *NAMES]:
+                gate_figures.keep(top, below, name, found[name])
             self.assertEqual(read(top, "bench/gate.tsv"), read(HERE, "gate.tsv"))
-
-    def test_what_was_kept_from_an_earlier_run_keeps_its_figures(self):
-        new = Figure(1.0, 2.0, 3.0)
-        with tempfile.TemporaryDirectory() as top:
-            small(top)
-            os.remove(f"{top}/crates/grading/must-fail/0.edit")
-            measured = {("text", "proof"): new, ("grading", "proof"): new, ("grading", "edits"): new}
-            found = gate_figures.kept_with(top, measured, {("text", "proof"), ("grading", "edits")})
-        self.assertEqual((found["text", "proof"], found["grading", "proof"].seconds), (new, 60.0))
-        self.assertNotIn(("grading", "edits"), found)
+            # one that is not a crate any more has none
+            gate_figures.keep(top, [name for name in below if name != "marks"], "text", found["text"])
+            self.assertEqual([*gate_figures.read_figures(top)], [*NAMES[1:], "./test"])
 
     def test_no_figures_are_none(self):
         with tempfile.TemporaryDirectory() as top:
@@ -147,11 +137,10 @@ class Figures(Case):
 
     def test_the_longest_chain(self):
         below = {"a": [], "b": ["a"], "c": ["a"], "d": ["b", "c"]}
-        seconds = {("a", "proof"): 1, ("b", "proof"): 5, ("c", "proof"): 2, ("c", "tests"): 9, ("d", "proof"): 2}
-        self.assertEqual(gate_figures.longest_chain(seconds, below), (10, [("a", "proof"), ("c", "tests")]))
-        seconds["c", "tests"] = 1
-        self.assertEqual(gate_figures.longest_chain(seconds, below),
-                         (8, [("a", "proof"), ("b", "proof"), ("d", "proof")]))
+        found = {name: Figure(0, spent, 0, "", "", "", "") for name, spent in (("a", 1), ("b", 5), ("c", 9), ("d", 2))}
+        self.assertEqual(gate_figures.longest_chain(found, below), (12, ["a", "c", "d"]))
+        del found["c"]
+        self.assertEqual(gate_figures.longest_chain(found, below), (8, ["a", "b", "d"]))
 
 
 class Page(Case):
@@ -160,11 +149,21 @@ class Page(Case):
         small(self.top)
 
     def text(self):
-        return gate_page.text_of(self.top, crates.below_of(self.top), gate_figures.read_figures(self.top), RUN, MACHINE,
-                                 TICKS)
+        return gate_page.text_of(self.top, crates.below_of(self.top), gate_figures.read_figures(self.top),
+                                 gate_page.replays(TICKS))
 
     def test_the_page_of_given_figures(self):
         self.assertEqual(self.text(), read(HERE, "gate.md"))
+        self.assertLessEqual(max(map(len, self.text().splitlines())), 120)
+
+    def test_a_crate_without_figures(self):
+        rows = read(HERE, "gate.tsv").splitlines(keepends=True)
+        write("".join(row for row in rows if not row.startswith(("grading", "./test"))), self.top, "bench/gate.tsv")
+        text = " ".join(self.text().split())
+        self.assertIn("1 of 5 crates have not been measured, and are not in the sums: grading.", text)
+        self.assertIn("`./test` has not been measured behind them.", text)
+        self.assertIn("| grading | 0 | 14 | 0 | 1 | - | - | - |", text)
+        self.assertIn("The longest chain takes 9.6 processor minutes: marks (2.9), text (0.7), kubelet_replay (6.0).", text)
 
     def test_costs_alone_are_written_anew(self):
         page = read(HERE, "gate.md")
@@ -174,46 +173,160 @@ class Page(Case):
 
     def test_without_a_shelf_nothing_is_said_of_it(self):
         os.remove(f"{self.top}/bench/wrong_bodies.tsv")
-        self.assertNotIn("Mutants outside", self.text())
+        text = self.text()
+        self.assertNotIn("Mutants outside", text)
+        self.assertEqual(gate_page.with_costs(text.replace("0.04", "0.05"), self.top, TICKS), text)
 
 
 class Whole(Case):
     def setUp(self):
         self.top = self.enterContext(tempfile.TemporaryDirectory())
         small(self.top)
+        self.old = gate_figures.read_figures(self.top)
+
+    def new(self):
+        """The names of which the figures are others now."""
+        found = gate_figures.read_figures(self.top)
+        return [name for name in found if found[name] != self.old.get(name)]
+
+    def ran(self):
+        """The words that the kit was called with, each run of it in a clone that is gone now."""
+        self.assertEqual(os.listdir(f"{self.top}/out/room"), [])
+        path = f"{self.top}/out/ran"
+        return read(path).splitlines() if os.path.exists(path) else []
+
+    def page(self):
+        return os.path.exists(f"{self.top}/docs/gate.md")
+
+    def lines(self, told):
+        """What it said of each command, by name."""
+        return dict(line.split(": ", 1) for line in told.splitlines())
 
     def test_a_gate_that_passes(self):
-        old, began = gate_figures.read_figures(self.top), time.monotonic()
-        self.assertEqual(gate(self.top), (
-            0, "104 passed, 0 failed\nbench/gate.tsv is written\ndocs/gate.md is written\n", ""))
-        self.assertEqual(read(self.top, "out/gate.log"), LOG)
+        began = time.monotonic()
+        status, told, said = gate(self.top)
+        self.assertEqual((status, said), (0, ""))
+        self.assertTrue(told.endswith(": 104 passed, 0 failed\ndocs/gate.md is written\n"), told)
+        self.assertEqual(self.ran(), [f"ci {name}" for name in NAMES])
+        # of grading the kit had kept an edit
+        self.assertEqual(self.new(), ["marks", "text", "event_book", "kubelet_replay", "./test"])
+        self.assertIn("\ngrading: not measured, since the kit had kept it, or parts of it\n", told)
         new = gate_figures.read_figures(self.top)
-        # of text the run had a proof of its own, and of grading one that the log does not name
-        self.assertTrue(0.2 < new["text", "proof"].seconds < 2 * (time.monotonic() - began), new)
-        self.assertEqual({task for task in old if old[task] != new[task]}, {("text", "proof")})
+        self.assertTrue(0.2 < new["text"].spent < 2 * (time.monotonic() - began), new)
+        self.assertGreater(new["text"].seconds, 0.2)
+        self.assertGreater(new["text"].peak, 64 << 20)
+        self.assertEqual((new["text"].last, new["./test"].last), ("1 passed, 0 failed", "104 passed, 0 failed"))
+        self.assertEqual(new["text"][-3:], (git(self.top, "rev-parse", "--short=10", "HEAD"), "kit",
+                                            processes.machine()))
+        self.assertEqual((read(self.top, "out/gate.log"), read(self.top, "out/gate/marks.log")),
+                         (LOG, "rt: marks proved\n1 passed, 0 failed\n"))
         page = read(self.top, "docs/gate.md")
-        self.assertIn("The last run ended in `104 passed, 0 failed`. It proved 2 of 5 crates anew and\n", page)
-        self.assertIn("; the kit: `kit`.\n", page)
+        self.assertIn(f"Of 5 crates 4 were proved anew at the commit `{new['text'].commit}`.", " ".join(page.split()))
         self.assertIn("\n      2000     0.04\n", page)
 
-    def test_a_gate_that_fails(self):
-        self.assertEqual(gate(self.top, GATE_ENDS="1"), (
-            1, "104 passed, 0 failed\nbench/gate.tsv is written\n",
-            "bench/gate: the gate failed, so docs/gate.md stays as it was: out/gate.log says why\n"))
-        self.assertFalse(os.path.exists(f"{self.top}/docs/gate.md"))
+    def test_a_gate_goes_on_behind_what_it_measured(self):
+        gate(self.top, FAILS="event_book")
+        self.assertEqual(self.ran(), ["ci marks", "ci text", "ci grading", "ci event_book"])
+        os.remove(f"{self.top}/out/ran")
+        status, told, _ = gate(self.top)
+        self.assertEqual((status, self.ran()), (0, ["ci grading", "ci event_book", "ci kubelet_replay"]))
+        self.assertEqual(self.lines(told.rpartition("docs")[0])["text"], "measured at this commit")
+        # another commit may have changed them
+        git(self.top, "add", ".")
+        git(self.top, "commit", "--quiet", "--message", "more")
+        os.remove(f"{self.top}/out/ran")
+        gate(self.top)
+        self.assertEqual(self.ran(), [f"ci {name}" for name in NAMES])
 
-    def test_a_gate_of_some_crates(self):
-        self.assertEqual(gate(self.top, "text", GATE_ENDS="0"), (
-            0, "104 passed, 0 failed\nbench/gate.tsv is written\n", ""))
-        self.assertFalse(os.path.exists(f"{self.top}/docs/gate.md"))
+    def test_what_the_kit_has_kept_has_the_figures_of_before(self):
+        status, told, said = gate(self.top, KEPT=" ".join(NAMES))
+        self.assertEqual((status, said, self.new()), (0, "", ["./test"]))
+        self.assertEqual(self.lines(told.rpartition("docs")[0])["kubelet_replay"],
+                         "not measured, since the kit had kept it, or parts of it")
+        self.assertIn("Of 5 crates 0 were proved anew", " ".join(read(self.top, "docs/gate.md").split()))
+
+    def test_a_run_that_proves_others_too_is_no_figure_of_the_crate(self):
+        _, told, _ = gate(self.top, "text", BOTH="text", KEPT="marks")
+        self.assertEqual((self.lines(told)["text"], self.new()), (
+            "not measured, since others were proved with it: marks", []))
+
+    def test_a_crate_that_fails(self):
+        status, told, said = gate(self.top, FAILS="text")
+        self.assertEqual((status, [*self.lines(told)], said), (
+            1, ["marks"], "bench/gate: rt ci text ended with 1, so docs/gate.md stays as it was: out/gate/text.log "
+                          "says why\n"))
+        self.assertEqual((self.ran(), self.new(), self.page()), (["ci marks", "ci text"], ["marks"], False))
+        self.assertEqual(read(self.top, "out/gate/text.log"), "rt: it is not proved\n0 passed, 1 failed\n")
+
+    def test_a_whole_gate_that_fails(self):
+        status, _, said = gate(self.top, GATE_ENDS="1", KEPT=" ".join(NAMES))
+        self.assertEqual((status, said), (
+            1, "bench/gate: ./test ended with 1, so docs/gate.md stays as it was: out/gate.log says why\n"))
+        self.assertEqual((len(self.ran()), self.new(), self.page()), (5, [], False))
+
+    def test_a_run_that_is_ended(self):
+        for number, ends in ((signal.SIGTERM, 143), (signal.SIGINT, 130)):
+            with subprocess.Popen([f"{self.top}/bench/gate"], stdout=subprocess.PIPE, stderr=subprocess.PIPE,
+                                  # what a shell begins in the background ignores an interrupt
+                                  preexec_fn=lambda: signal.signal(signal.SIGINT, signal.default_int_handler),
+                                  env=settings_of(self.top, {"WAITS": "text"})) as gate_:
+                while not os.path.exists(f"{self.top}/out/waits") and gate_.poll() is None:
+                    time.sleep(0.01)
+                gate_.send_signal(number)
+                _, said = gate_.communicate(timeout=30)
+            self.assertEqual((gate_.returncode, said), (ends, b""))
+            self.assertEqual((self.ran()[-1], self.new(), self.page()), ("ci text", ["marks"], False))
+            with self.assertRaises(ProcessLookupError):
+                os.kill(int(read(self.top, "out/waits")), 0)
+            os.remove(f"{self.top}/out/waits")
+
+    def test_some_crates_and_those_below_them(self):
+        status, told, said = gate(self.top, "kubelet_replay", "text", GATE_ENDS="1")
+        below = crates.below_of(self.top)
+        wanted = [name for name in NAMES if name == "text" or name in crates.standing_below(below, "kubelet_replay")]
+        self.assertEqual((status, said, self.ran()), (0, "", [f"ci {name}" for name in wanted]))
+        self.assertEqual(([*self.lines(told)], self.page()), (wanted, False))
+
+    def test_changes_that_are_not_committed(self):
+        said = "bench/gate: the checkout has changes that are not committed, which a clone would not have\n"
+        write("text", self.top, "new")
+        self.assertEqual(gate(self.top), (2, "", said))
+        os.remove(f"{self.top}/new")
+        write("text", self.top, "crates.txt.part")
+        self.assertEqual(gate(self.top, "marks"), (2, "", said))
+        self.assertEqual((self.ran(), self.new()), ([], []))
+        # its own files may be others
+        os.remove(f"{self.top}/crates.txt.part")
+        write("page", self.top, "docs/gate.md")
+        write(read(HERE, "gate.tsv") + "\n", self.top, "bench/gate.tsv")
+        self.assertEqual(gate(self.top, "marks")[0], 0)
+
+    def test_no_checkout(self):
+        shutil.rmtree(f"{self.top}/.git")
+        status, told, said = gate(self.top, GIT_CEILING_DIRECTORIES=os.path.dirname(self.top))
+        self.assertEqual((status, told, said.splitlines()[-1]), (2, "", "bench/gate: this is no checkout of git"))
 
     def test_costs(self):
         page = read(HERE, "gate.md")
         write(page.replace("0.04", "0.05"), self.top, "docs/gate.md")
-        self.assertEqual((gate(self.top, "--costs"), read(self.top, "docs/gate.md")), ((0, "", ""), page))
+        self.assertEqual((gate(self.top, "--costs"), read(self.top, "docs/gate.md")), (
+            (0, "docs/gate.md is written\n", ""), page))
+        self.assertEqual(self.ran(), [])
 
     def test_costs_that_cannot_be_measured(self):
         write("page", self.top, "docs/gate.md")
         write("#!/bin/sh\nexit 1\n", self.top, "bench/ticks")
         self.assertEqual((gate(self.top, "--costs"), read(self.top, "docs/gate.md")), (
             (1, "", "bench/gate: bench/ticks failed, so docs/gate.md stays as it was\n"), "page"))
+
+    def test_the_page_alone(self):
+        page = read(HERE, "gate.md")
+        write(page.replace("2.9 GB", "3.3 GB"), self.top, "docs/gate.md")
+        os.remove(f"{self.top}/kit/rt")
+        write("#!/bin/sh\nexit 1\n", self.top, "bench/ticks")
+        self.assertEqual((gate(self.top, "--page"), read(self.top, "docs/gate.md")), (
+            (0, "docs/gate.md is written\n", ""), page))
+        os.remove(f"{self.top}/docs/gate.md")
+        gate(self.top, "--page")
+        self.assertEqual(read(self.top, "docs/gate.md"), page.partition(gate_page.REPLAYS)[0])
+        self.assertEqual(self.ran(), [])
