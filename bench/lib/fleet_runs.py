@@ -12,10 +12,10 @@ import processes
 
 
 class Run:
-    """A run of tools/fleet into a folder of its own; others are the processes beside it that work for it."""
+    """A run of tools/fleet into a folder of its own."""
 
-    def __init__(self, name, words, folder, others=()):
-        self.name, self.folder, self.others, self.peak = name, folder, list(others), 0
+    def __init__(self, name, words, folder):
+        self.name, self.folder, self.peak = name, folder, 0
         os.makedirs(folder, exist_ok=True)
         self.used, self.began, self.seconds = processes.children_seconds(), time.monotonic(), 0.0
         self.process = subprocess.Popen([*words, "--out", f"{folder}/fleet.db"], stdout=subprocess.DEVNULL,
@@ -28,14 +28,15 @@ class Run:
     def look_until(self, done=None):
         """Waits until this many traces are done, or until the end. Whoever ends this ends the run and its processes."""
         try:
-            while self.process.poll() is None and (done is None or self.done() < done):
-                self.peak = max(self.peak, processes.resident_of([self.process.pid, *self.others]))
+            while not processes.has_ended(self.process.pid) and (done is None or self.done() < done):
                 time.sleep(0.1)
         except BaseException:
             processes.end_group(self.process.pid)
             self.process.wait()
             raise
         self.seconds = time.monotonic() - self.began
+        if done is None:
+            self.process.returncode, self.peak = processes.wait(self.process.pid)
 
     def told(self):
         """The database; what the run cost is printed."""
@@ -47,10 +48,10 @@ class Run:
 
 
 class Cluster:
-    """A scheduler and its workers, each with one thread, on loopback."""
+    """A scheduler and its workers, each with one thread, on loopback; the peak is that of the largest that ended."""
 
     def __init__(self, python, count, folder):
-        self.file = f"{folder}/scheduler.json"
+        self.file, self.peak = f"{folder}/scheduler.json", 0
         self.processes = [self.start(python, "distributed.cli.dask_scheduler", "--host", "127.0.0.1", "--port", "0",
                                      "--no-dashboard", "--scheduler-file", self.file)]
         while not os.path.exists(self.file):
@@ -65,21 +66,20 @@ class Cluster:
         """A process of Dask, whose log nobody reads."""
         return subprocess.Popen([python, "-m", module, *words], stdout=subprocess.DEVNULL, stderr=subprocess.DEVNULL)
 
-    def pids(self):
-        return [process.pid for process in self.processes]
-
     def end_worker(self):
-        os.kill(self.processes[-1].pid, signal.SIGKILL)
-        self.processes.pop().wait()
+        self.end_one(self.processes.pop(), signal.SIGKILL)
 
     def end_scheduler(self):
-        os.kill(self.processes[0].pid, signal.SIGKILL)
-        self.processes.pop(0).wait()
+        self.end_one(self.processes.pop(0), signal.SIGKILL)
 
     def end(self):
-        for process in reversed(self.processes):
-            process.terminate()
-            process.wait()
+        while self.processes:
+            self.end_one(self.processes.pop(), signal.SIGTERM)
+
+    def end_one(self, process, number):
+        os.kill(process.pid, number)
+        process.returncode, peak = processes.wait(process.pid)
+        self.peak = max(self.peak, peak)
 
 
 def local_runs(fleet, traces, python, work):
@@ -98,13 +98,14 @@ def dask_run(fleet, traces, python, work, count, ends=False):
     os.makedirs(folder)
     cluster = Cluster(python, count, folder)
     try:
-        run = Run(name, [python, fleet, "run", traces, "--scheduler", cluster.address], folder, cluster.pids())
+        run = Run(name, [python, fleet, "run", traces, "--scheduler", cluster.address], folder)
         if ends:
             run.look_until(len(glob.glob(f"{traces}/*.trace")) // 4)
             cluster.end_worker()
         run.look_until()
     finally:
         cluster.end()
+    run.peak = max(run.peak, cluster.peak)
     return run.told()
 
 

@@ -1,5 +1,6 @@
-"""What processes cost: the processor seconds and the peak memory of one that this one ran, and of those that there are.
-Nothing else in bench/ measures memory."""
+"""What processes cost: the seconds, the processor seconds and the peak memory of one that this one ran, by what the
+system says of a child that has ended. Nothing else in bench/ measures memory, and nothing here looks at a process that
+this one did not start."""
 import contextlib
 import os
 import resource
@@ -9,8 +10,6 @@ import threading
 import time
 from typing import NamedTuple
 
-TICK = os.sysconf("SC_CLK_TCK")
-PAGE = os.sysconf("SC_PAGE_SIZE")
 GRACE = 20
 """seconds in which a command that is asked to end may do so"""
 
@@ -30,19 +29,16 @@ class Whole(NamedTuple):
     peak: int       # bytes of the largest process
 
 
-class Process(NamedTuple):
-    """Of a process that there is."""
-    parent: int
-    seconds: float  # of processors, with those of children that it waited for
-    start: str
-    resident: int   # bytes
-
-
 def wait(pid):
     """Waits for a child's end: its status, negative by a signal, and the bytes that it has held at most, or one that it
     waited for itself."""
     _, status, used = os.wait4(pid, 0)
     return os.waitstatus_to_exitcode(status), used.ru_maxrss * 1024
+
+
+def has_ended(pid):
+    """Whether a child has ended, which is still there to be waited for."""
+    return os.waitid(os.P_PID, pid, os.WEXITED | os.WNOHANG | os.WNOWAIT) is not None
 
 
 def run(words, given=subprocess.DEVNULL, written=subprocess.DEVNULL, said=None, longest=None):
@@ -103,55 +99,6 @@ def children_seconds():
     """The processor seconds of all processes below this one that have ended and were waited for."""
     used = resource.getrusage(resource.RUSAGE_CHILDREN)
     return used.ru_utime + used.ru_stime
-
-
-def all_processes():
-    """Every process by its number."""
-    found = {}
-    for pid in filter(str.isdigit, os.listdir("/proc")):
-        if text := read(pid, "stat"):
-            found[int(pid)] = process_of(text)
-    return found
-
-
-def process_of(text):
-    """A process by its file stat, in which a name with blanks and brackets may stand."""
-    words = text.rpartition(")")[2].split()
-    return Process(int(words[1]), sum(map(int, words[11:15])) / TICK, words[19], int(words[21]) * PAGE)
-
-
-def children_in(found):
-    """Of each process its children."""
-    children = {}
-    for pid, process in found.items():
-        children.setdefault(process.parent, []).append(pid)
-    return children
-
-
-def with_descendants(pids, found):
-    """Some processes, and all that descend from them."""
-    descendants, left, children = set(), list(pids), children_in(found)
-    while left:
-        pid = left.pop()
-        if pid not in descendants:
-            descendants.add(pid)
-            left += children.get(pid, [])
-    return descendants
-
-
-def resident_of(pids):
-    """The bytes that some processes and all below them hold now; what they share counts for each."""
-    found = all_processes()
-    return sum(found[pid].resident for pid in with_descendants(pids, found) if pid in found)
-
-
-def read(pid, name):
-    """A file of a process, empty where it has ended."""
-    try:
-        with open(f"/proc/{pid}/{name}", encoding="utf-8", errors="replace") as file:
-            return file.read()
-    except OSError:
-        return ""
 
 
 def machine():

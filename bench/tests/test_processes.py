@@ -1,17 +1,25 @@
 """Tests of what measures processes."""
 import os
+import signal
 import subprocess
 import sys
 import tempfile
 import time
 from unittest import mock
 
-from common import Case
+from common import Case, read
 import processes
 
-STAT = "77 (a) b (c) S 12 77 77 0 -1 4194304 90 5 0 0 150 50 25 75 20 0 1 0 4321 8192 100 0 0"
 # holds 64 MiB, and works for some tenths of a second
 WORK = "import time\nheld = bytearray(64 << 20)\nwhile time.process_time() < 0.2: pass"
+
+
+def is_there(pid):
+    """Whether a process that this one started is there and has not ended."""
+    try:
+        return read(f"/proc/{pid}/stat").rpartition(")")[2].split()[0] != "Z"
+    except OSError:
+        return False
 
 
 class Processes(Case):
@@ -43,7 +51,7 @@ class Processes(Case):
             written.seek(0)
             below = int(written.read())
         self.assertEqual((cost.status, cost.late), (-9, True))
-        while processes.read(below, "stat").rpartition(")")[2].split()[:1] not in ([], ["Z"]):
+        while is_there(below):
             self.assertLess(time.monotonic() - begun, 10)
             time.sleep(0.01)
 
@@ -63,37 +71,49 @@ class Processes(Case):
         self.assertEqual(ended, [0])
         self.assertLess(time.monotonic() - begun, 10)
 
-    def test_processes_that_there_are(self):
-        with subprocess.Popen([sys.executable, "-c", WORK + "\nprint(1, flush=True)\nopen(0).read()"],
-                              stdin=subprocess.PIPE, stdout=subprocess.PIPE) as child:
-            child.stdout.readline()
-            found = processes.all_processes()
-            held = processes.memory_of(child.pid)
+    def test_a_child_that_has_ended_is_still_there(self):
+        with subprocess.Popen(["cat"], stdin=subprocess.PIPE) as child:
+            self.assertFalse(processes.has_ended(child.pid))
             child.stdin.close()
-        self.assertEqual(found[child.pid].parent, os.getpid())
-        self.assertIn(child.pid, processes.children_in(found)[os.getpid()])
-        self.assertGreater(found[child.pid].seconds, 0.15)
-        self.assertGreater(held, 64 << 20)
-        self.assertEqual((processes.memory_of(child.pid), processes.read(child.pid, "stat")), (0, ""))
+            begun = time.monotonic()
+            while not processes.has_ended(child.pid):
+                self.assertLess(time.monotonic() - begun, 10)
+                time.sleep(0.01)
+            self.assertEqual(processes.wait(child.pid)[0], 0)
+            child.returncode = 0
 
-    def test_what_processes_hold_together(self):
-        words = ["sh", "-c", '"$0" -c "$1"; exit', sys.executable, WORK + "\nprint(1, flush=True)\nopen(0).read()"]
-        with subprocess.Popen(words, stdin=subprocess.PIPE, stdout=subprocess.PIPE) as shell:
-            shell.stdout.readline()
-            held, all_held = processes.resident_of([shell.pid]), processes.resident_of([os.getpid()])
-            # one that is named beside the one above it counts once
-            named_twice = processes.resident_of([os.getpid(), shell.pid])
-            shell.stdin.close()
-        self.assertTrue(64 << 20 < held < 128 << 20, held)
-        self.assertGreater(all_held, held + (1 << 20))
-        self.assertAlmostEqual(all_held, named_twice, delta=16 << 20)
-        self.assertEqual(processes.resident_of([shell.pid]), 0)
+    def test_a_whole_command(self):
+        with tempfile.TemporaryDirectory() as folder, tempfile.TemporaryFile() as said:
+            # the shell waits for what works, and so the system counts that too
+            ran = processes.run_whole(["sh", "-c", '"$0" -c "$1"; pwd; echo text >&2; exit 3', sys.executable, WORK],
+                                      folder, said)
+            said.seek(0)
+            self.assertEqual((ran.status, said.read()), (3, f"{os.path.realpath(folder)}\ntext\n".encode()))
+        self.assertTrue(0.15 < ran.spent, ran)
+        self.assertGreater(ran.seconds, 0.15)
+        self.assertGreater(ran.peak, 64 << 20)
 
-    def test_a_process_by_its_file(self):
-        self.assertEqual(processes.process_of(STAT), processes.Process(
-            12, 300 / processes.TICK, "4321", 100 * processes.PAGE))
+    def test_a_whole_command_is_interrupted(self):
+        for words, ended in ("exec cat", -signal.SIGTERM), ("trap 'exit 3' TERM; cat", 3), ("trap '' TERM; cat", -9):
+            # it ends by itself once nobody can write to it
+            read_end, write_end = os.pipe()
+            started, real = [], subprocess.Popen
+
+            def popen(*given, **more):
+                started.append(real(*given, **{**more, "stdin": read_end}))
+                return started[-1]
+
+            def wait4(*_):
+                time.sleep(0.3)
+                raise KeyboardInterrupt
+
+            with mock.patch.object(processes.subprocess, "Popen", popen), \
+                    mock.patch.object(processes.os, "wait4", wait4), mock.patch.object(processes, "GRACE", 1), \
+                    self.assertRaises(KeyboardInterrupt):
+                processes.run_whole(["sh", "-c", words], "/", subprocess.DEVNULL)
+            os.close(read_end)
+            os.close(write_end)
+            self.assertEqual(started[0].returncode, ended, words)
 
     def test_the_machine(self):
         self.assertRegex(processes.machine(), r"^\d+ processors, \d+ GB$")
-        self.assertGreater(processes.machine_seconds(), 0)
-        self.assertGreater(processes.own_seconds(), 0)

@@ -138,6 +138,16 @@ def test_mounts():
     expect("mounts of a run", ending.made_since(before, now, ["/work"]), ["/work/a b/c", "/work/old"])
 
 
+def test_children():
+    """The children of this process are found, and nothing else is."""
+    expect("ids in order", list(ending.numbers_since(5, 8, 20)), [6, 7, 8])
+    expect("ids behind the greatest", list(ending.numbers_since(18, 3, 20)), [19, 20, 2, 3])
+    with subprocess.Popen(["sh", "-c", "cat & wait"], stdin=subprocess.PIPE) as shell:
+        expect("a child", ending.children(), {shell.pid})
+        shell.kill()
+    expect("no child", ending.children(), set())
+
+
 def made_folder():
     """A folder in which all is built already, by stand-ins."""
     folder = tempfile.mkdtemp()

@@ -8,8 +8,6 @@ import subprocess
 import time
 from collections import Counter
 
-import processes
-
 INTERRUPTS = (signal.SIGINT, signal.SIGTERM, signal.SIGHUP)
 PR_SET_CHILD_SUBREAPER = 36
 MOUNTS = "/proc/self/mountinfo"
@@ -45,17 +43,37 @@ def adopt_orphans():
     ctypes.CDLL(None, use_errno=True).prctl(PR_SET_CHILD_SUBREAPER, 1, 0, 0, 0)
 
 
-def descendants(root):
-    """The ids of all that descends from a process."""
-    return processes.with_descendants([root], processes.all_processes()) - {root}
+def numbers_since(own, last, most):
+    """The ids that processes may have which began after the one with its own id. They are given out in order, and
+    behind the greatest from the least on."""
+    return range(own + 1, last + 1) if last >= own else (*range(own + 1, most + 1), *range(2, last + 1))
+
+
+def is_child(identity):
+    """Whether the id is a child's, which may have ended. The system says nothing of another process."""
+    try:
+        os.waitid(os.P_PID, identity, os.WEXITED | os.WNOHANG | os.WNOWAIT)
+    except ChildProcessError:
+        return False
+    return True
+
+
+def children():
+    """The ids of this process' children. Not each kernel lists them, so it is asked of each id that may be one's."""
+    with open("/proc/loadavg", encoding="ascii") as file:
+        last = int(file.read().split()[-1])
+    with open("/proc/sys/kernel/pid_max", encoding="ascii") as file:
+        most = int(file.read())
+    return set(filter(is_child, numbers_since(os.getpid(), last, most)))
 
 
 def end_descendants(seconds=20):
-    """Kills all that descends from this process; the ids of what is there after this many seconds."""
+    """Kills all that descends from this process, whose children come to it as their parents end; the ids of the
+    children that are there after this many seconds."""
     until = time.monotonic() + seconds
     while True:
         reap()
-        left = descendants(os.getpid())
+        left = children()
         if not left or time.monotonic() > until:
             return left
         for identity in left:
