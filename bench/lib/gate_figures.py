@@ -29,13 +29,13 @@ def last_line(log):
 
 
 def proved_in(log):
-    """By the log of a run of the gate: the crates of which it proved or tried something, and those of them of which it
-    kept nothing. What it keeps is the kit's, from runs that passed on this machine."""
+    """By the log of a run of the gate: the crates of which it proved something, and those of them that it proved
+    whole. What it kept is the kit's, from runs that passed on this machine."""
     proofs = set(re.findall(r"(?m)^rt: (\w+) proved$", log))
     tests = set(re.findall(r"(?m)^rt: (\w+): its tests are proved$", log))
     tried = set(re.findall(r"(?m)^rt: must-fail (\w+)/", log))
     kept = set(re.findall(r"(?m)^rt: (\w+): \d+ of its \d+ must-fail edits were tried by an earlier run", log))
-    return proofs | tests | tried, proofs - kept
+    return proofs | tests | tried - kept, proofs - kept
 
 
 def edits_of(top, name):

@@ -113,7 +113,7 @@ class Words(Case):
 class Figures(Case):
     def test_what_a_log_says_was_proved(self):
         self.assertEqual(gate_figures.proved_in(LOG), (
-            {"marks", "text", "grading", "kubelet_replay"}, {"marks", "text"}))
+            {"marks", "text", "kubelet_replay"}, {"marks", "text"}))
         self.assertEqual(gate_figures.proved_in("rt: a proved\nrt: a: 1 of its 2 must-fail edits were tried by an "
                                                 "earlier run on this machine\n"), ({"a"}, set()))
         self.assertEqual(gate_figures.proved_in("rt: no such thing\n== marks proved\n"), (set(), set()))
