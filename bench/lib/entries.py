@@ -2,6 +2,7 @@
 and links to what it names."""
 import os
 import re
+from collections import Counter
 
 from mentions import slug
 from paragraphs import prose, wrapped
@@ -23,11 +24,20 @@ def moved(text, path, page):
                   lambda link: f"]({way(link[1] or path, page)}{link[2] or ''})", text)
 
 
+def example_lines(repository):
+    return [line.partition("\t") for line in repository.text("docs/examples.tsv").split("\n")[1:]]
+
+
+def exampled_twice(repository):
+    """The definitions that have several examples, of which a page would show one."""
+    counts = Counter(name for name, _, _ in example_lines(repository))
+    return [name for name, count in counts.items() if count > 1]
+
+
 def examples_in(repository):
     """Of each definition by its whole name its example, with the cases that show it."""
     found = {}
-    for line in repository.text("docs/examples.tsv").split("\n")[1:]:
-        name, _, rest = line.partition("\t")
+    for name, _, rest in example_lines(repository):
         example, _, cases = rest.partition("\t")
         shown = ", ".join(f"`{case}`" for case in cases.split())
         parts = [f"Example: {example}"] * bool(example) + [f"Shown by {shown}"] * bool(shown)
