@@ -1,0 +1,54 @@
+"""Tests of the documents of a release: what it has beside its program, made of this repository."""
+import glob
+import os
+import subprocess
+import sys
+import tempfile
+
+from common import TOP, Case, read
+import links
+import release_files
+
+FILES = os.path.join(TOP, "bench/lib/release_files.py")
+THERE = {".", "README.md", "docs", "docs/a.md", "docs/theorem", "docs/theorem/b.md"}
+
+
+def plain(text, path="docs/a.md"):
+    return release_files.without_dead_links(text, path, THERE)
+
+
+class Links(Case):
+    def test_a_link_to_what_is_not_there_becomes_its_words(self):
+        self.assertEqual(plain("see [the\nsource](../crates/x/y.antt#L1), [`c`](../crates/z), [d `]` e](f)."),
+                         "see the\nsource, `c`, d `]` e.")
+        self.assertEqual(plain("[a](../../docs/a.md) [b](theorem/b.md)", "docs/theorem/b.md"), "[a](../../docs/a.md) b")
+
+    def test_other_links_stay(self):
+        text = "[a](#b) [c](theorem/b.md#d) [e](../README.md) [f](https://g.example/h) [i](theorem) [j]\n\n[j]: a.md\n"
+        self.assertEqual(plain(text), text)
+
+    def test_code_stays(self):
+        text = "`[a](gone)` ``[b](gone)``\n\n```text\n[c](gone) ` [d](gone)\n```\n"
+        self.assertEqual(plain(text + "[e](gone)"), text + "e")
+
+
+class Files(Case):
+    def test_each_link_leads_into_the_release(self):
+        with tempfile.TemporaryDirectory() as room:
+            subprocess.run([sys.executable, "-B", FILES, TOP, room], check=True)
+            documents = sorted(glob.glob("**/*.md", root_dir=room, recursive=True))
+            dead = [f"{path}:{number}: {target}" for path in documents
+                    for number, target, _ in links.links_in(read(room, path), path)
+                    if ":" not in target and not os.path.exists(os.path.join(room, target))]
+            self.assertEqual(dead, [])
+            self.assertIn("docs/theorem/trace.md", documents)
+            self.assertIn("](docs/theorem.md)", read(room, "README.md"))
+            self.assertFalse(os.path.exists(f"{room}/tools/tests") or os.path.exists(f"{room}/tools/test"))
+            self.assertTrue(os.access(f"{room}/tools/story", os.X_OK))
+            # but for links the documents are those of the repository
+            for path in "docs/report.md", "docs/speed.md", "examples/README.md":
+                self.assertEqual(read(room, path), read(TOP, path))
+
+    def test_words(self):
+        done = subprocess.run([sys.executable, "-B", FILES, TOP], capture_output=True, text=True, check=False)
+        self.assertEqual((done.returncode, done.stderr), (3, "usage: release_files.py TOP FOLDER\n"))
