@@ -13,7 +13,8 @@ HEAD = """\
 `rt ci NAME` for each crate, one after the other in the order of `crates.txt`, and then `./test`. It times each of these
 commands as a whole, and looks at nothing while it runs. Its seconds go by the clock. What it cost is what the
 operating system says of a child that has ended (`wait4`): the processor seconds, user and system, are those of the
-command and of all processes below it that were waited for; the peak of memory is that of the largest process alone.
+command and of all processes below it that were waited for; the peak of memory (`ru_maxrss`) is that of the largest
+process alone, and no sum.
 {machine}
 
 {whole}

@@ -46,7 +46,8 @@ exit "${GATE_ENDS:-0}"
 """
 # shows of which program it is asked
 REPLAYS = f"#!/bin/sh\n[ $# = 0 ] || [ \"${{1##*/}}\" = replay_program ] || exit 9\nprintf '{TICKS}'\n"
-GIT = ["git", "-c", "user.name=tests", "-c", "user.email=tests@example.com", "-c", "commit.gpgsign=false"]
+GIT = ["git", "-c", "user.name=tests", "-c", "user.email=tests@example.com", "-c", "commit.gpgsign=false",
+       "-c", "core.hooksPath=/dev/null"]
 
 
 def git(top, *words):
