@@ -331,3 +331,8 @@ class Whole(Case):
         gate(self.top, "--page")
         self.assertEqual(read(self.top, "docs/gate.md"), page.partition(gate_page.REPLAYS)[0])
         self.assertEqual(self.ran(), [])
+
+    def test_a_page_without_figures(self):
+        write(read(HERE, "gate.tsv").splitlines(keepends=True)[0], self.top, "bench/gate.tsv")
+        self.assertEqual((gate(self.top, "--page"), self.page()), (
+            (1, "", "bench/gate: bench/gate.tsv has no figures yet: bench/gate measures them\n"), False))
