@@ -9,6 +9,10 @@ THRESHOLDS = ('{"kind":"node","name":"n1","capacity":{"nodefs.available":"100Gi"
               '"evictionSoft":{"memory.available":"1Gi"},"evictionSoftGracePeriod":{"memory.available":"1h"}}')
 EXITS = ('{"kind":"tick","at":%d,"pods":[{"pod":"default/a","containers":'
          '[{"name":"c","attempt":%d,"state":%s}]}]}')
+# The pause is over at each tick.
+PAUSE = ('{"kind":"node","name":"n1","version":3,"evictionPauseSeconds":1,"capacity":{"memory.available":"8Gi"},'
+         '"evictionHard":{"memory.available":"1Gi"}}')
+PRESSED = '{"kind":"tick","at":%d,"signals":{"memory.available":"50Mi"}}'
 RANKS = '{"kind":"tick","at":%d,"signals":{"memory.available":"%dMi"},"pods":[%s]}'
 SHOWN = '{"pod":"default/p%d","containers":[{"name":"c","state":1}],"usage":{"memory":%d}}'
 
@@ -38,3 +42,9 @@ def ranked_pods(pods, ticks):
     for tick in range(ticks):
         shown = ",".join(SHOWN % (pod, 1 + (pod * 7919 + tick * 104729) % 1_000_003) for pod in range(pods))
         yield RANKS % (10 * tick, 50 if tick % 100 in (49, 99) else 2_000, shown)
+
+
+def paused_pod(ticks):
+    """One pod on a node whose evictions pause, with a threshold that is served in every tick."""
+    yield from (PAUSE, POD % ("a", ONE))
+    yield from (PRESSED % (10 * tick) for tick in range(ticks))

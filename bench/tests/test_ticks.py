@@ -80,7 +80,9 @@ class Ticks(Case):
             "    20   2000     0.25                         6.25",
             "    20  20000     0.25                         0.62",
             "   256    100     0.25                         9.77",
-            "   256   1000     0.25                         0.98"])
+            "   256   1000     0.25                         0.98",
+            "2000 ticks under pressure, with a pause: 125.00 microseconds a tick",
+            "20000 ticks under pressure, with a pause: 12.50 microseconds a tick"])
 
     def test_words(self):
         for words in (("--all",), ("/bin/true", "2000")):

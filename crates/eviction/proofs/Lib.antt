@@ -5,3 +5,4 @@ pub mod Evicted
 pub mod Statuses
 pub mod Exists
 pub mod Paused
+pub mod Latest

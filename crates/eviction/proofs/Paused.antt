@@ -11,7 +11,7 @@ use Rattle.observations.specs.declared.tick.TickObs.{TickObs}
 use Rattle.node_config.specs.declared.node.NodeConfig.{NodeConfig}
 use Rattle.node_signals.specs.declared.key.ThresholdKey.{ThresholdKey}
 use Rattle.eviction.specs.declared.eviction.Eviction.{Eviction}
-use Rattle.eviction.specs.Replay.{IsEvictionFor, is_recent, is_paused, unless_paused}
+use Rattle.eviction.specs.Replay.{IsEvictionFor, is_recent, is_paused, pause_in, unless_paused}
 use Rattle.eviction.specs.Laws.{PausedBetween}
 use Rattle.eviction.proofs.Evicted.{taken, moment_of}
 
@@ -29,22 +29,6 @@ none_passes test (y ∷ xs) (suc t) x none at = elim (cases_Bool (test y)) [
   | inl passes ↦ absurd (let f : true ≡ false = rw passes at none in cc)
   | inr fails ↦ none_passes test xs t x (rw fails at none) at
 ]
-
--- where the node has no pause, evictions never pause
-never_recent : (config : NodeConfig) (at : ℕ) (es : List (Option Eviction)) → config.eviction_pause ≡ 0
-    → list_any (is_recent config at) es ≡ false
-never_recent config at [] none = refl
-never_recent config at (None ∷ es) none = never_recent config at es none
-never_recent config at (Some e ∷ es) none =
-    let passed : config.eviction_pause ≤ at - e.order.at = omega (arith, none) in
-    let older : is_recent config at (Some e) ≡ false = le-ltb (at - e.order.at) config.eviction_pause passed in
-    ap (λ (b : Bool). b || list_any (is_recent config at) es) older ∙ never_recent config at es none
-
-pub pauseless : (config : NodeConfig) (at : ℕ) (es : List (Option Eviction)) → config.eviction_pause ≤ 0
-    → nat_lt 0 config.eviction_pause ≡ is_paused config at es
-pauseless config at es le =
-    let none : config.eviction_pause ≡ 0 = omega (arith, le) in
-    le-ltb 0 config.eviction_pause le ∙ sym (never_recent config at es none)
 
 -- while evictions pause nobody is evicted
 evicts_unpaused : (config : NodeConfig) (pods : List PodSpec) (before : List TickObs) (tick : TickObs)
@@ -65,7 +49,7 @@ paused_between config pods ticks evictions t u one other replay lt here there =
     round.is_for in
     let not = none_passes (is_recent config tick.0.at) es t (Some one) free
     (taken evictions t u (Some one) lt here) in
-    let passed : config.eviction_pause ≤ tick.0.at - one.order.at =
-    ltb-false (tick.0.at - one.order.at) config.eviction_pause not in
+    let passed : pause_in config ≤ tick.0.at - one.order.at =
+    ltb-false (tick.0.at - one.order.at) (pause_in config) not in
     let moment : other.order.at ≡ tick.0.at = moment_of config pods (take u ticks) tick.0 es other round in
-    subst (λ (m : ℕ). config.eviction_pause ≤ m - one.order.at) (sym moment) passed
+    subst (λ (m : ℕ). pause_in config ≤ m - one.order.at) (sym moment) passed

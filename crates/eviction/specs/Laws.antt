@@ -13,7 +13,7 @@ use Rattle.pod_piece.specs.declared.status.PodStatus.{PodStatus}
 use Rattle.pod_piece.specs.Piece.{place_of}
 use Rattle.pod_piece.specs.Status.{IsStatusAfter}
 use Rattle.eviction.specs.declared.eviction.Eviction.{Eviction}
-use Rattle.eviction.specs.Replay.{pod_ticks, own_eviction, IsReplay}
+use Rattle.eviction.specs.Replay.{pod_ticks, own_eviction, pause_in, IsReplay}
 
 -- a pod of as many containers as a status can show has a status, whenever it is evicted and whatever
 -- its ticks are
@@ -93,4 +93,4 @@ PausedBetween =
     (t u : ℕ) (one other : Eviction)
     → IsReplay config pods ticks evictions → t < u
     → slice_get evictions t ≡ Some (Some one) → slice_get evictions u ≡ Some (Some other)
-    → config.eviction_pause ≤ other.order.at - one.order.at
+    → pause_in config ≤ other.order.at - one.order.at

@@ -11,6 +11,8 @@ use Rattle.signals.specs.declared.threshold.ThresholdKind.TheVariants.{Hard, Sof
 use Rattle.observations.specs.declared.tick.TickObs.{TickObs}
 use Rattle.observations.specs.Observations.{shown_of, own_ticks}
 use Rattle.node_config.specs.declared.node.NodeConfig.{NodeConfig}
+use Rattle.node_config.specs.declared.node.Version.{Version}
+use Rattle.node_config.specs.declared.node.Version.TheVariants.{One, Two, Three}
 use Rattle.node_signals.specs.declared.key.ThresholdKey.{ThresholdKey}
 use Rattle.node_signals.specs.Thresholds.{IsServed}
 use Rattle.phase.specs.RawPhase.{IsTerminal}
@@ -97,10 +99,21 @@ IsEvictionFor config pods before tick evictions (Some key) eviction =
     × IsVictim key.signal config.has_dedicated_imagefs (IsCandidate pods before tick evictions) victim
     × IsOfVictim config pods tick.at key victim eviction
 
+-- a pause of this many seconds after an eviction, in which no pod is evicted: in versions 1 and 2 there is none (this
+-- project's extended format)
+abbrev pub pause_by : Version → ℕ → ℕ
+pause_by One pause = 0
+pause_by Two pause = 0
+pause_by Three pause = pause
+
+-- the node's pause after an eviction, in seconds
+abbrev pub pause_in : NodeConfig → ℕ
+pause_in config = pause_by config.version config.eviction_pause
+
 -- the eviction of an earlier tick, if it had one, is less than the node's pause ago
 abbrev pub is_recent : NodeConfig → ℕ → Option Eviction → Bool
 is_recent config at None = false
-is_recent config at (Some earlier) = nat_lt (at - earlier.order.at) config.eviction_pause
+is_recent config at (Some earlier) = nat_lt (at - earlier.order.at) (pause_in config)
 
 -- the eviction of some earlier tick is less than the node's pause ago, so that no pod is evicted (this project's
 -- extended format)

@@ -1,8 +1,7 @@
 //! One eviction.
 
 ghost use Rattle.std.specs.Prelude.{◌≡◌};
-ghost use Rattle.std.specs.List.{list_any};
-ghost use Rattle.eviction.specs.Replay.{order_of, is_recent, is_paused, unless_paused};
+ghost use Rattle.eviction.specs.Replay.{order_of};
 
 use manifest::PodSpec;
 use node_config::NodeConfig;
@@ -37,41 +36,5 @@ pub fn order_for(config: &NodeConfig, pod: &PodSpec, at: u64, key: ThresholdKey)
         signal: key.signal,
         kind: key.kind,
         grace,
-    }
-}
-
-/// Whether the eviction of an earlier tick, if it had one, is less than the node's pause ago.
-fn is_recent(config: &NodeConfig, at: u64, earlier: Option<Eviction>) -> bool
-    ensures { result ≡ is_recent config.now at earlier }
-{
-    match earlier {
-        None => false,
-        Some(earlier) => { at.saturating_sub(earlier.order.at) < u64::from(config.eviction_pause) }
-    }
-}
-
-/// Whether evictions pause at a moment, in seconds, after these. A node without a pause looks at none.
-fn is_paused(config: &NodeConfig, at: u64, evictions: &[Option<Eviction>]) -> bool
-    ensures { result ≡ is_paused config.now at evictions.now }
-{
-    config.eviction_pause > 0
-        && evictions
-            .iter()
-            .any(|earlier| is_recent(config, at, *earlier))
-}
-
-/// The threshold that is served at a moment, in seconds, or none while evictions pause after these.
-pub fn unless_paused(
-    config: &NodeConfig,
-    at: u64,
-    evictions: &[Option<Eviction>],
-    served: Option<ThresholdKey>,
-) -> Option<ThresholdKey>
-    ensures { result ≡ unless_paused (is_paused config.now at evictions.now) served }
-{
-    if served.is_some() && is_paused(config, at, evictions) {
-        None
-    } else {
-        served
     }
 }

@@ -4,6 +4,8 @@
 #![tactic(auto)]
 
 mod eviction;
+mod evictions;
 pub mod laws;
 
-pub use eviction::{Eviction, order_for, unless_paused};
+pub use eviction::{Eviction, order_for};
+pub use evictions::Evictions;

@@ -222,11 +222,11 @@ pub ends : (pods : List PodSpec) (ticks : List TickObs) (s : State) (x : TickObs
     (back : List Piece) (totals : Totals) (between new : Pods) (key : Option ThresholdKey)
     (eviction : Option Eviction) (evs : List Event) (es : List (Option Eviction))
     → HasTaken pods ticks s → MayEnd s x begun back totals → between ≡ joined begun.pods back
-    → key ≡ unless_paused (is_paused begun.config begun.at begun.evictions.items) begun.served
+    → key ≡ unless_paused (is_paused begun.config begun.at begun.evictions) begun.served
     → IsEvictionAt begun.config between.pieces begun.at key eviction
     → AddsEvents begun.at between.pieces begun.node_events.items eviction begun.events.items evs
     → AreWithout between.pieces eviction new.pieces → new.max_restart_delay ≡ between.max_restart_delay
-    → new.has_dedicated_imagefs ≡ between.has_dedicated_imagefs → es ≡ begun.evictions.items ++ eviction ∷ []
+    → new.has_dedicated_imagefs ≡ between.has_dedicated_imagefs → es ≡ begun.evictions ++ eviction ∷ []
     → HasTaken pods (ticks ++ x ∷ []) (state begun.config begun.signals new es evs totals (Some begun.at))
 ends pods ticks s x begun back totals between new key eviction evs es taken may is heeds by adds gone
     max_restart_delay dedicated
@@ -256,8 +256,8 @@ ends pods ticks s x begun back totals between new key eviction evs es taken may 
     heeds' : key ≡ unless_paused (is_paused s.config x.at s.evictions) begun.served
     heeds' =
         heeds
-        ∙ ap (λ (c : NodeConfig). unless_paused (is_paused c begun.at begun.evictions.items) begun.served) b.config
-        ∙ ap (λ (k : ℕ). unless_paused (is_paused s.config k begun.evictions.items) begun.served) b.at
+        ∙ ap (λ (c : NodeConfig). unless_paused (is_paused c begun.at begun.evictions) begun.served) b.config
+        ∙ ap (λ (k : ℕ). unless_paused (is_paused s.config k begun.evictions) begun.served) b.at
         ∙ ap (λ (l : List (Option Eviction)). unless_paused (is_paused s.config x.at l) begun.served) b.evictions
 
     by' : IsEvictionAt s.config between.pieces x.at (unless_paused (is_paused s.config x.at s.evictions) begun.served)
@@ -282,18 +282,11 @@ adds_as at pieces others node_events same_events eviction old new is is' adds =
     subst (λ (ps : List Piece). AddsEvents at ps same_events eviction old new) is
     (subst (λ (l : List NodeEvent). AddsEvents at pieces l eviction old new) is' adds)
 
--- the threshold that is heeded, by the same evictions
-pub heeds_as : (config : NodeConfig) (at : ℕ) (es others : List (Option Eviction)) (served key : Option ThresholdKey)
-    → es ≡ others → key ≡ unless_paused (is_paused config at es) served
-    → key ≡ unless_paused (is_paused config at others) served
-heeds_as config at es others served key same is =
-    is ∙ ap (λ (l : List (Option Eviction)). unless_paused (is_paused config at l) served) same
-
 -- a node that has begun a tick, as its type keeps it
 pub begun_as : (s t : State) (x : TickObs) (b : TickInProgress) → s ≡ t → b.config ≡ s.config
     → IsSampled s.config s.signals x b.signals b.node_events.items b.served
     → b.pods ≡ awaited (kept_of s.pods.pieces x.pods) s.pods.max_restart_delay s.pods.has_dedicated_imagefs
-    → b.evictions.items ≡ s.evictions → b.events.items ≡ s.events → b.at ≡ x.at → HasBegun t x b
+    → b.evictions ≡ s.evictions → b.events.items ≡ s.events → b.at ≡ x.at → HasBegun t x b
 begun_as s t x b same config sampled pods evictions events at =
     subst (λ (u : State). HasBegun u x b) same
     (record { config = config; sampled = sampled; pods = pods; evictions = evictions; events = events; at = at })

@@ -54,7 +54,7 @@ pub record HasBegun (s : State) (tick : TickObs) (begun : TickInProgress) : Type
   pub sampled : IsSampled s.config s.signals tick begun.signals begun.node_events.items begun.served
   pub pods : begun.pods
       ≡ awaited (kept_of s.pods.pieces tick.pods) s.pods.max_restart_delay s.pods.has_dedicated_imagefs
-  pub evictions : begun.evictions.items ≡ s.evictions
+  pub evictions : begun.evictions ≡ s.evictions
   pub events : begun.events.items ≡ s.events
   pub at : begun.at ≡ tick.at
 

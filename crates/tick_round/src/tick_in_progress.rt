@@ -10,7 +10,7 @@ use crate::evict::{carry_out, eviction_for};
 use crate::running::Running;
 use event_book::WholeBook;
 use event_list::{Event, add_events};
-use eviction::{Eviction, unless_paused};
+use eviction::{Eviction, Evictions};
 use node_config::NodeConfig;
 use node_pods::AwaitedPods;
 use node_signals::{NodeEvent, NodeSignals, ThresholdKey};
@@ -28,7 +28,7 @@ pub(crate) struct TickInProgress {
     pub(crate) node_events: Vec<NodeEvent>,
     pub(crate) served: Option<ThresholdKey>,
     pub(crate) pods: AwaitedPods,
-    pub(crate) evictions: Vec<Option<Eviction>>,
+    pub(crate) evictions: Evictions,
     pub(crate) events: Vec<Event>,
     pub(crate) at: u64,
 }
@@ -36,14 +36,14 @@ pub(crate) struct TickInProgress {
 /// Adds what happened in the tick, and its eviction.
 fn add_tick(
     events: &mut Vec<Event>,
-    evictions: &mut Vec<Option<Eviction>>,
+    evictions: &mut Evictions,
     at: u64,
     pieces: &[PodPiece],
     node_events: &[NodeEvent],
     eviction: Option<Eviction>,
 ) -> Result<(), AllocError>
     ensures events { OnOk result (AddsEvents at pieces.now node_events.now eviction events.old.items events.new.items) }
-    ensures evictions { OnOk result (evictions.new.items ≡ evictions.old.items ++ eviction ∷ []) }
+    ensures evictions { OnOk result (evictions.new ≡ evictions.old ++ eviction ∷ []) }
 {
     add_events(events, at, pieces, node_events, eviction)?;
     evictions.push(eviction)?;
@@ -80,7 +80,7 @@ impl TickInProgress {
                 return Err(fault);
             }
         };
-        let heeded = unless_paused(&config, at, &evictions, served);
+        let heeded = evictions.unless_paused(&config, at, served);
         let eviction = match eviction_for(&config, &pods, at, heeded) {
             Ok(eviction) => eviction,
             Err(fault) => {

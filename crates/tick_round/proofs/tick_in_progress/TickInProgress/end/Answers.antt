@@ -5,7 +5,7 @@ use Rattle.pod_piece.specs.Piece.{pods_in}
 use Rattle.tick_round.specs.Node.{State, state, HasTaken}
 use Rattle.tick_round.specs.Round.{MayEnd}
 use Rattle.tick_round.proofs.Candidates.{may_be_evicted}
-use Rattle.tick_round.proofs.GoesOn.{adds_as, ends, ends_kept, heeds_as}
+use Rattle.tick_round.proofs.GoesOn.{adds_as, ends, ends_kept}
 use Rattle.tick_round.proofs.tick_in_progress.TickInProgress.end.Goals.{In-Ok-added}
 use Rattle.tick_round.proofs.tick_in_progress.TickInProgress.end.Goals as goal
 
@@ -18,18 +18,17 @@ carry_out-requires g c =
 has_taken : (g : _) (c : In-Ok-added g) (s : State) (tick : TickObs) (pods : List PodSpec) (ticks : List TickObs)
     → MayEnd s tick c.args.self c.args.back.items c.args.book → HasTaken pods ticks s
     → HasTaken pods (ticks ++ tick ∷ [])
-    (state c.args.self.config c.args.self.signals c.carry_out.new.pods c.add_tick-added.new.evictions.items
+    (state c.args.self.config c.args.self.signals c.carry_out.new.pods c.add_tick-added.new.evictions
     c.add_tick-added.new.events.items c.args.book (Some c.args.self.at))
 has_taken g c s tick pods ticks may taken =
     let b = c.args.self in
     let evs = c.add_tick-added.new.events.items in
-    let es = c.add_tick-added.new.evictions.items in
+    let es = c.add_tick-added.new.evictions in
     ends pods ticks s tick b c.args.back.items c.args.book c.in-Ok.pods c.carry_out.new.pods
     c.unless_paused-heeded.result c.in-Ok-eviction_for.eviction evs es taken may c.in-Ok.ensures
-    (heeds_as b.config b.at c.deref.result.now b.evictions.items b.served c.unless_paused-heeded.result
-    c.deref.ensures.value c.unless_paused-heeded.ensures) c.in-Ok-eviction_for.ensures
-    (adds_as b.at c.pieces.result.now c.in-Ok.pods.pieces c.deref-2.result.now b.node_events.items
-    c.in-Ok-eviction_for.eviction b.events.items evs c.pieces.ensures.same c.deref-2.ensures.value
+    c.unless_paused-heeded.ensures c.in-Ok-eviction_for.ensures
+    (adds_as b.at c.pieces.result.now c.in-Ok.pods.pieces c.deref.result.now b.node_events.items
+    c.in-Ok-eviction_for.eviction b.events.items evs c.pieces.ensures.same c.deref.ensures.value
     c.in-Ok-added.ensures.events)
     c.carry_out.ensures.pieces c.carry_out.ensures.max_restart_delay c.carry_out.ensures.dedicated
     c.in-Ok-added.ensures.evictions
@@ -40,7 +39,7 @@ invariant_of-result g c =
     let s = by.node in
     let b = c.args.self in
     ends_kept s by.tick b c.args.back.items c.args.book
-    (state b.config b.signals c.carry_out.new.pods c.add_tick-added.new.evictions.items
+    (state b.config b.signals c.carry_out.new.pods c.add_tick-added.new.evictions
     c.add_tick-added.new.events.items c.args.book (Some b.at)) by.kept by.may
     (has_taken g (goal.at.invariant_of-result g c).In-Ok-added s by.tick (pods_in s.pods.pieces) by.kept.ticks by.may
     by.kept.taken) refl
