@@ -21,6 +21,8 @@ mod line_tests;
 #[cfg(test)]
 mod line_texts;
 #[cfg(test)]
+mod node_tests;
+#[cfg(test)]
 mod overlap_tests;
 #[cfg(test)]
 mod pods;

@@ -10,6 +10,7 @@ use crate::replays::replay_text;
 use crate::scenario::Scenario;
 use event_book::{Blanks, EventBook, Shares, WholeBook};
 use kubelet_replay::Gate;
+use lists::Sequence;
 use observations::{MOST_PODS, TickObs};
 use pod_pool::{PoolFault, update_all};
 use std::alloc::{AllocGlobal, Global};
@@ -20,6 +21,7 @@ use std::sync::{Mutex, Wait};
 use std::test::Fail;
 use std::thread::Threads;
 use tick_round::Node;
+use trace::{Format, read_trace};
 
 /// A call that updates pods under a gate.
 #[derive(Clone, Copy)]
@@ -43,6 +45,8 @@ pub(crate) enum BookCall<'a, G: Gate> {
     UpdateAll(&'a Scenario<'a, G>),
     /// `EventBook::enter`, until the book is full.
     Enter,
+    /// `Node::fits`, for the first tick of the trace that this text says, with its pods left out: whether it says so.
+    LeaveOut(&'a str, bool),
 }
 
 /// The node takes a tick, whose pods the scenario's workers update.
@@ -78,6 +82,37 @@ fn run<U: Ledger + Send, E: Ledger + Send, O: Ledger + Send, R: Threads + Wait +
         take(rt, &mut node, tick, scenario)?;
     }
     Ok(())
+}
+
+/// Whether a node with the pods of the trace that the text says may take its first tick, with all of them left out.
+fn leave_out<U: Ledger, E: Ledger, O: Ledger>(
+    alloc: Global,
+    book: WholeBook<U, E, O>,
+    text: &str,
+) -> Result<bool, Fail>
+    requires { book ≡ nothing }
+{
+    let trace = read_trace(alloc, Format::Extended, text.as_bytes())?;
+    let pods = trace.pods.into_vec();
+    if pods.len() > MOST_PODS {
+        return Err(Fail::new("the trace has too many pods"));
+    }
+    let mut left_out = Vec::new(alloc);
+    for _ in 0..pods.len() {
+        left_out.push(None)?;
+    }
+    let node = Node::new(alloc, trace.node, pods, book)?;
+    let Some(first) = trace.ticks.into_vec().into_iter().next() else {
+        return Err(Fail::new("the trace has no tick"));
+    };
+    if !node.fits(&first) {
+        return Err(Fail::new("the node does not take its tick"));
+    }
+    let tick = TickObs {
+        pods: Sequence::from_vec(left_out),
+        ..first
+    };
+    Ok(node.fits(&tick))
 }
 
 /// The pods of the scenario's trace take the first tick, as this round's pieces.
@@ -127,6 +162,11 @@ fn make<
         BookCall::UpdateAll(scenario) => {
             let (book, share) = EventBook::<U, E, O>::new(blanks);
             update(rt, alloc, &Mutex::new(book), share, scenario)
+        }
+        BookCall::LeaveOut(text, fits) => {
+            let answer = leave_out(alloc, WholeBook::<U, E, O>::new(blanks), text)?;
+            assert_eq!(rt; answer, fits);
+            Ok(())
         }
         BookCall::Enter => {
             let (book, share) = EventBook::<U, E, O>::new(blanks);

@@ -17,9 +17,9 @@ use Rattle.pod_state.specs.Pods.{pod_tick}
 use Rattle.pod_piece.specs.Listings.{IsNextTick}
 use Rattle.pod_piece.specs.Piece.{Piece}
 use Rattle.eviction.specs.Replay.{pod_ticks}
-use Rattle.tick_round.specs.Node.{State, HasTaken, Fits, IsAfter, MayTake, HasRoom, last_of}
+use Rattle.tick_round.specs.Node.{State, HasTaken, Fits, IsAfter, IsWhole, MayTake, HasRoom, last_of}
 use Rattle.tick_round.proofs.Pieces.{pod_at}
-use Rattle.kubelet_replay.specs.Ticks.{AreReplayable, HaveArrived, MayArrive}
+use Rattle.kubelet_replay.specs.Ticks.{AreReplayable, AreWhole, HaveArrived, MayArrive}
 
 middle : {A : Type 0} (xs : List A) (x : A) (ys : List A) → slice_get (xs ++ x ∷ ys) (length xs) ≡ Some x
 middle [] x ys = refl
@@ -52,9 +52,9 @@ if_some (Some m) P each = each m refl
 
 -- a node that has taken the ticks so far, and as many pods as the tick shows, may take it
 pub fits_next : (pods : List PodSpec) (ticks before : List TickObs) (tick : TickObs) (rest : List TickObs) (s : State)
-    → AreReplayable pods ticks → ticks ≡ before ++ tick ∷ rest
+    → AreReplayable pods ticks → IsWhole s.config.version tick → ticks ≡ before ++ tick ∷ rest
     → HasTaken (take (length tick.pods) pods) before s → Fits s tick
-fits_next pods ticks before tick rest s may whole taken =
+fits_next pods ticks before tick rest s may shows whole taken =
     let t = length before in
     let at : slice_get ticks t ≡ Some tick = ap (λ (xs : List TickObs). slice_get xs t) whole ∙ middle before tick
     rest in
@@ -76,6 +76,7 @@ fits_next pods ticks before tick rest s may whole taken =
           let rises : w.1.at < tick.at = may.rising w.0 t w.1 tick w.4 there at in
           let same : w.1.at ≡ m = w.3 in omega arith));
       bounded = may.below t tick at;
+      whole = shows;
       pods = record {
         next = record {
           as_many = let many : length s.pods.pieces ≡ length (take (length tick.pods) pods) = taken.pieces.as_many in
@@ -180,11 +181,12 @@ arrived_next config pods ticks before tick rest left left' old new s have =
 
 may_take : (config : NodeConfig) (pods : List PodSpec) (ticks before : List TickObs) (tick : TickObs)
     (rest : List TickObs) (node : Option State)
-    → AreReplayable pods ticks → ticks ≡ before ++ tick ∷ rest
+    → AreReplayable pods ticks → IsWhole config.version tick → ticks ≡ before ++ tick ∷ rest
     → IsAfter config (take (length tick.pods) pods) before node → MayTake node tick
-may_take config pods ticks before tick rest None may whole after = absurd after
-may_take config pods ticks before tick rest (Some s) may whole after = fits_next pods ticks before tick rest s may
-    whole after.1
+may_take config pods ticks before tick rest None may shows whole after = absurd after
+may_take config pods ticks before tick rest (Some s) may shows whole after =
+    fits_next pods ticks before tick rest s may
+    (subst (λ (c : NodeConfig). IsWhole c.version tick) (sym after.0) shows) whole after.1
 
 -- once the tick was taken
 one_more : (config : NodeConfig) (pods : List PodSpec) (ticks before : List TickObs) (tick : TickObs)
@@ -351,12 +353,13 @@ shows_few config pods ticks before tick rest shown count left old may s is all =
 pub may_take_shown : (config : NodeConfig) (pods : List PodSpec) (ticks before : List TickObs) (tick : TickObs)
     (rest : List TickObs) (shown : List (Option PodObs)) (count : ℕ) (left left' : List PodSpec)
     (old new : Option State)
-    → AreReplayable pods ticks → IsSoFar config pods ticks before (tick ∷ rest) left old
-    → shown ≡ tick.pods → count ≡ length pods
+    → AreReplayable pods ticks → AreWhole config.version ticks
+    → IsSoFar config pods ticks before (tick ∷ rest) left old → shown ≡ tick.pods → count ≡ length pods
     → HaveArrived left (length left - (count - length shown)) old new left' → MayTake new tick
-may_take_shown config pods ticks before tick rest shown count left left' old new may s is all have =
+may_take_shown config pods ticks before tick rest shown count left left' old new may shows s is all have =
     let more = arriving config pods ticks before tick rest shown count left old may s is all in
-    may_take config pods ticks before tick rest new may s.whole
+    let here = next_place config pods ticks before tick rest left old may s in
+    may_take config pods ticks before tick rest new may (shows (length before) tick here.0) s.whole
     (arrived_next config pods ticks before tick rest left left' old new s
     (subst (λ (k : ℕ). HaveArrived left k old new left') more have)).0
 

@@ -2,7 +2,12 @@
 use Rattle.std.proofs.Common.{◌≡◌, inl, inr, ◌∙◌, ℕ, suc, zero, ◌-◌, ◌<◌, ◌≤◌, List, [], ◌∷◌}
 use Rattle.std.proofs.Common.{length, map, take, Option, Some, None, refl, ap}
 use Rattle.std.proofs.Common.{sym, subst, arith}
-use Rattle.std.specs.Prelude.{slice_get, IfSome, IsSomeAnd, option_and_then, unwrap_or}
+use Rattle.std.specs.Prelude.{slice_get, true, false, is_some, IfSome, IsSome, IsSomeAnd, option_and_then, unwrap_or}
+use Rattle.std.specs.List.{list_all}
+use Rattle.std.specs.Option.{option_flatten}
+use Rattle.std.proofs.lemmas.Option.{slice_get_within}
+use Rattle.node_config.specs.declared.node.Version.{Version}
+use Rattle.node_config.specs.declared.node.Version.TheVariants.{One, Two, Three}
 use Rattle.std.proofs.lemmas.Bool.{cases_lt}
 use Rattle.quantity.specs.Duration.{end_of_time}
 use Rattle.histories.specs.Histories.{recorded, last_moment, moment_at, EndsBefore}
@@ -16,12 +21,12 @@ use Rattle.observations.specs.declared.tick.TickObs.{TickObs}
 use Rattle.observations.specs.declared.container.ContainerObs.{ContainerObs}
 use Rattle.observations.specs.Observations.{shown_of, listed_in, own_ticks, history}
 use Rattle.observations.proofs.OwnTicks.{AreBefore, acceptable_at, history_ends_before}
-use Rattle.trace.specs.Sound.{AreAcceptable, HasShape}
+use Rattle.trace.specs.Sound.{AreAcceptable, HasShape, LeaveInThree, ShowsEach}
 use Rattle.containers.specs.Ticks.{listings}
 use Rattle.pod_state.specs.Pods.{PodEntry, PodTick, pod_tick, ticks_of, unseen}
 use Rattle.pod_piece.specs.Listings.{IsNextTick}
 use Rattle.eviction.specs.Replay.{pod_ticks}
-use Rattle.kubelet_replay.specs.Ticks.{AreReplayable}
+use Rattle.kubelet_replay.specs.Ticks.{AreReplayable, AreWhole}
 
 -- what a trace keeps lets every tick be handed on
 listed : (o : Option ContainerObs)
@@ -92,6 +97,36 @@ no_more pods arrivals departures ticks shape t tick at = elim (cases_lt (length 
     some_below [] n p = absurd p
     some_below (x ∷ xs) zero p = omega arith
     some_below (x ∷ xs) (suc n) p = let lt : n < length xs = some_below xs n p in omega arith
+
+some_shown : (shown : List (Option PodObs)) → ((n : ℕ) → slice_get shown n ≡ Some None → ⊥)
+    → list_all is_some shown ≡ true
+some_shown [] none = refl
+some_shown (Some observed ∷ shown) none = some_shown shown (λ n is. none (suc n) is)
+some_shown (None ∷ shown) none = absurd (none 0 refl)
+
+-- a tick leaves out a pod only once the pod has left
+shows_all : (pods : List PodSpec) (arrivals : List ℕ) (departures : List (Option ℕ)) (t : ℕ) (tick : TickObs)
+    → ShowsEach pods arrivals departures t tick
+    → ((n departure : ℕ) → slice_get departures n ≡ Some (Some departure) → ⊥) → list_all is_some tick.pods ≡ true
+shows_all pods arrivals departures t tick each stay = some_shown tick.pods left_out
+  where
+    left_out : (n : ℕ) → slice_get tick.pods n ≡ Some None → ⊥
+    left_out n is =
+        let arrived = (each.told n).0 (slice_get_within tick.pods n None is) in
+        let shown = (each.present n).1 (arrived, λ departure left. absurd (stay n departure left)) in
+        let none : false ≡ true = subst (λ (o : Option (Option PodObs)). IsSome (option_flatten o)) is shown in
+        absurd (cc)
+
+pub are_whole : (version : Version) (pods : List PodSpec) (arrivals : List ℕ) (departures : List (Option ℕ))
+    (ticks : List TickObs) → HasShape pods arrivals departures ticks → LeaveInThree version departures
+    → AreWhole version ticks
+are_whole One pods arrivals departures ticks shape leave t tick at =
+    shows_all pods arrivals departures t tick (shape.shown t tick at) (λ n departure left. let no : One ≡ Three =
+    leave.is_three n departure left in absurd (cc))
+are_whole Two pods arrivals departures ticks shape leave t tick at =
+    shows_all pods arrivals departures t tick (shape.shown t tick at) (λ n departure left. let no : Two ≡ Three =
+    leave.is_three n departure left in absurd (cc))
+are_whole Three pods arrivals departures ticks shape leave t tick at = tt
 
 pub are_replayable : (pods : List PodSpec) (arrivals : List ℕ) (departures : List (Option ℕ)) (ticks : List TickObs)
     → AreAcceptable ticks → HasShape pods arrivals departures ticks → AreReplayable pods ticks

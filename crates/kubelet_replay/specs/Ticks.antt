@@ -5,6 +5,7 @@ use Rattle.quantity.specs.Duration.{end_of_time}
 use Rattle.histories.specs.Histories.{EndsBefore}
 use Rattle.manifest.specs.declared.pod.PodSpec.{PodSpec}
 use Rattle.node_config.specs.declared.node.NodeConfig.{NodeConfig}
+use Rattle.node_config.specs.declared.node.Version.{Version}
 use Rattle.observations.specs.Pods.{PodObs}
 use Rattle.observations.specs.declared.tick.TickObs.{TickObs}
 use Rattle.observations.specs.Limits.{most_ticks, most_pods}
@@ -12,7 +13,7 @@ use Rattle.observations.specs.Observations.{shown_of}
 use Rattle.pod_state.specs.Pods.{pod_tick}
 use Rattle.pod_piece.specs.Listings.{IsNextTick}
 use Rattle.eviction.specs.Replay.{pod_ticks}
-use Rattle.tick_round.specs.Node.{State, IsAfter}
+use Rattle.tick_round.specs.Node.{State, IsAfter, IsWhole}
 
 -- there are not too many of either; what each tick shows of a pod may come after the pod's own ticks before, at
 -- the tick's moment; the moments rise and are in range; and no tick tells of fewer pods than one before it, or of
@@ -36,6 +37,10 @@ pub record AreReplayable (pods : List PodSpec) (ticks : List TickObs) : Type 0 w
   pub few_ticks : length ticks ≤ most_ticks
   pub few_pods : length pods ≤ most_pods
   pub within : (t : ℕ) (tick : TickObs) → slice_get ticks t ≡ Some tick → length tick.pods ≤ length pods
+
+-- none leaves out a pod that the version does not let it leave out
+abbrev pub AreWhole : Version → List TickObs → Type 0
+AreWhole version ticks = (t : ℕ) (tick : TickObs) → slice_get ticks t ≡ Some tick → IsWhole version tick
 
 -- a node of some configuration that has taken some ticks, on which this many more pods may arrive
 pub record MayArrive (count : ℕ) (node : Option State) : Type 0 where

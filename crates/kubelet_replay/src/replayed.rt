@@ -4,7 +4,7 @@ ghost use Rattle.std.specs.Prelude.{◌-◌, ◌<◌, ◌≤◌, [], length, OnO
 ghost use Rattle.node_config.specs.declared.node.NodeConfig.{NodeConfig};
 ghost use Rattle.event_book.specs.Limits.{most_workers};
 ghost use Rattle.tick_round.specs.Node.{IsAfter};
-ghost use Rattle.kubelet_replay.specs.Ticks.{AreReplayable, HaveArrived, IsNew, MayArrive};
+ghost use Rattle.kubelet_replay.specs.Ticks.{AreReplayable, AreWhole, HaveArrived, IsNew, MayArrive};
 
 use manifest::PodSpec;
 use node_config::NodeConfig;
@@ -44,6 +44,7 @@ pub(crate) fn take_by_steps<U: Ledger, E: Ledger, O: Ledger>(
 ) -> Result<(), TickFault>
     requires new { IsNew node.old }
     requires replayable { AreReplayable pods.items ticks.items }
+    requires whole { (config : NodeConfig) → IsAfter config [] [] node.old → AreWhole config.version ticks.items }
     requires some { 0 < workers }
     requires most { workers ≤ most_workers }
     ensures { (config : NodeConfig) → IsAfter config [] [] node.old
@@ -76,6 +77,7 @@ pub(crate) fn take_by_workers<
 ) -> Result<(), TickFault>
     requires new { IsNew node.old }
     requires replayable { AreReplayable pods.items ticks.items }
+    requires whole { (config : NodeConfig) → IsAfter config [] [] node.old → AreWhole config.version ticks.items }
     requires some { 0 < workers }
     requires most { workers ≤ most_workers }
     ensures { (config : NodeConfig) → IsAfter config [] [] node.old

@@ -4,12 +4,12 @@ ghost use Rattle.std.specs.Prelude.{◌≡◌, ◌≢◌, ◌<◌, ◌≤◌, []
 ghost use Rattle.manifest.specs.declared.pod.PodSpec.{PodSpec};
 ghost use Rattle.node_config.specs.declared.node.NodeConfig.{NodeConfig};
 ghost use Rattle.observations.specs.declared.tick.TickObs.{TickObs};
-ghost use Rattle.trace.specs.Sound.{AreAcceptable, HasShape};
+ghost use Rattle.trace.specs.Sound.{AreAcceptable, HasShape, LeaveInThree};
 ghost use Rattle.event_book.specs.Limits.{most_workers};
 ghost use Rattle.tick_round.specs.Node.{IsAfter};
 ghost use Rattle.node_report.specs.Report.{IsReport};
 ghost use Rattle.kubelet_replay.specs.Report.{IsReportOf};
-ghost use Rattle.kubelet_replay.specs.Ticks.{AreReplayable};
+ghost use Rattle.kubelet_replay.specs.Ticks.{AreReplayable, AreWhole};
 
 use crate::replayed::{take_by_steps, take_by_workers};
 use event_book::{Blanks, WholeBook};
@@ -31,6 +31,7 @@ fn begin<U: Ledger, E: Ledger, O: Ledger>(
 ) -> Result<(Node<U, E, O>, Vec<PodSpec>, Vec<TickObs>), AllocError>
     requires acceptable { AreAcceptable trace.ticks }
     requires shape { HasShape trace.pods trace.arrivals trace.departures trace.ticks }
+    requires leaving { LeaveInThree trace.node.version trace.departures }
     requires names { (blanks.updates.name ≡ U.name) × (blanks.events.name ≡ E.name) × (blanks.orders.name ≡ O.name) }
     requires parts { (blanks.updates.parts ≡ U.parts) × (blanks.events.parts ≡ E.parts)
         × (blanks.orders.parts ≡ O.parts) }
@@ -38,6 +39,8 @@ fn begin<U: Ledger, E: Ledger, O: Ledger>(
     ensures pods { IfOk result (λ r. r.1.items ≡ trace.pods) }
     ensures ticks { IfOk result (λ r. r.2.items ≡ trace.ticks) }
     ensures replayable { IfOk result (λ r. AreReplayable r.1.items r.2.items) }
+    ensures whole { IfOk result (λ r. (config : NodeConfig) → IsAfter config [] [] r.0
+        → AreWhole config.version r.2.items) }
 {
     let Trace {
         node,
@@ -99,6 +102,7 @@ fn by_steps<U: Ledger, E: Ledger, O: Ledger>(
 ) -> Result<String, AllocError>
     requires acceptable { AreAcceptable trace.ticks }
     requires shape { HasShape trace.pods trace.arrivals trace.departures trace.ticks }
+    requires leaving { LeaveInThree trace.node.version trace.departures }
     requires names { (blanks.updates.name ≡ U.name) × (blanks.events.name ≡ E.name) × (blanks.orders.name ≡ O.name) }
     requires parts { (blanks.updates.parts ≡ U.parts) × (blanks.events.parts ≡ E.parts)
         × (blanks.orders.parts ≡ O.parts) }
@@ -124,6 +128,7 @@ fn by_workers<U: Ledger + Send, E: Ledger + Send, O: Ledger + Send, R: Spawner, 
 ) -> Result<String, AllocError>
     requires acceptable { AreAcceptable trace.ticks }
     requires shape { HasShape trace.pods trace.arrivals trace.departures trace.ticks }
+    requires leaving { LeaveInThree trace.node.version trace.departures }
     requires names { (blanks.updates.name ≡ U.name) × (blanks.events.name ≡ E.name) × (blanks.orders.name ≡ O.name) }
     requires parts { (blanks.updates.parts ≡ U.parts) × (blanks.events.parts ≡ E.parts)
         × (blanks.orders.parts ≡ O.parts) }
@@ -147,6 +152,7 @@ pub fn report_by_steps(
 ) -> Result<String, AllocError>
     requires acceptable { AreAcceptable trace.ticks }
     requires shape { HasShape trace.pods trace.arrivals trace.departures trace.ticks }
+    requires leaving { LeaveInThree trace.node.version trace.departures }
     requires some { 0 < workers }
     requires most { workers ≤ most_workers }
     ensures { IfOk result (λ s. IsReportOf trace (string_bytes s)) }
@@ -164,6 +170,7 @@ pub fn report_by_workers<R: Spawner, G: Gate>(
 ) -> Result<String, AllocError>
     requires acceptable { AreAcceptable trace.ticks }
     requires shape { HasShape trace.pods trace.arrivals trace.departures trace.ticks }
+    requires leaving { LeaveInThree trace.node.version trace.departures }
     requires some { 0 < workers }
     requires most { workers ≤ most_workers }
     ensures { IfOk result (λ s. IsReportOf trace (string_bytes s)) }

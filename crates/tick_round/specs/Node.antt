@@ -1,9 +1,12 @@
 -- Where the pods and the ticks of a node lead.
-use Rattle.std.specs.Prelude.{◌≡◌, ℕ, ◌<◌, ◌≤◌, false, List, [], ◌∷◌, ◌++◌, length, slice_get}
+use Rattle.std.specs.Prelude.{◌≡◌, ℕ, ◌<◌, ◌≤◌, true, false, List, [], ◌∷◌, ◌++◌, length, slice_get, is_some}
+use Rattle.std.specs.List.{list_all}
 use Rattle.std.specs.Prelude.{Option, Some, None, Result, IfSome, IsSomeAnd, OnOk}
 use Rattle.quantity.specs.Duration.{end_of_time}
 use Rattle.manifest.specs.declared.pod.PodSpec.{PodSpec}
 use Rattle.node_config.specs.declared.node.NodeConfig.{NodeConfig}
+use Rattle.node_config.specs.declared.node.Version.{Version}
+use Rattle.node_config.specs.declared.node.Version.TheVariants.{One, Two, Three}
 use Rattle.observations.specs.declared.tick.TickObs.{TickObs}
 use Rattle.observations.specs.Limits.{most_ticks, most_pods}
 use Rattle.node_signals.specs.declared.node.NodeSignals.{NodeSignals}
@@ -79,12 +82,19 @@ pub record HasTaken (pods : List PodSpec) (ticks : List TickObs) (s : State) : T
   pub few_ticks : length ticks ≤ most_ticks
   pub few_pods : length pods ≤ most_pods
 
--- the tick may come next: one more may be taken, it is later than the last, and it says of each pod that it is not
--- present, or shows it so that it may be handed to it
+-- each pod that has arrived is shown; in version 3 one may be left out, which is not present then
+abbrev pub IsWhole : Version → TickObs → Type 0
+IsWhole One tick = list_all is_some tick.pods ≡ true
+IsWhole Two tick = list_all is_some tick.pods ≡ true
+IsWhole Three tick = Unit {0}
+
+-- the tick may come next: one more may be taken, it is later than the last, it leaves out no pod that the version does
+-- not let it leave out, and it shows each other one so that it may be handed to it
 pub record Fits (s : State) (tick : TickObs) : Type 0 where
   pub few : length s.evictions < most_ticks
   pub later : IfSome s.last (λ last. last < tick.at)
   pub bounded : tick.at < end_of_time
+  pub whole : IsWhole s.config.version tick
   pub pods : PodsFit s.pods tick
 
 -- where the node is not halted, one more pod may arrive

@@ -88,8 +88,8 @@ impl<U: Ledger, E: Ledger, O: Ledger> Node<U, E, O> {
     }
 
     /// Whether the tick may come next: fewer than 20,000 were taken, it is later than the last and below 2^40, and it
-    /// says of each pod that it is not present, or shows it with a listing of each container that may come after all
-    /// earlier ones. Of a halted node it is true. It takes no memory.
+    /// shows each pod with a listing of each container that may come after all earlier ones; or says, in version 3,
+    /// that the pod is not present. Of a halted node it is true. It takes no memory.
     pub fn fits(&self, tick: &TickObs) -> bool
         ensures { IsTrue result ↔ MayTake self.now tick.now }
     {

@@ -4,7 +4,8 @@
 //! its proof several times as much.
 
 ghost use Rattle.std.specs.Prelude.{◌≡◌, ◌↔◌, ◌<◌, ◌≤◌, ◌++◌, ◌∷◌, []};
-ghost use Rattle.std.specs.Prelude.{List, length, map, IsTrue, IfSome, IfOk, OnOk, OnErr};
+ghost use Rattle.std.specs.Prelude.{List, length, map, is_some, IsTrue, IfSome, IfOk, OnOk, OnErr};
+ghost use Rattle.std.specs.List.{list_all};
 ghost use Rattle.manifest.specs.declared.pod.PodSpec.{PodSpec};
 ghost use Rattle.node_config.specs.declared.node.NodeConfig.{NodeConfig};
 ghost use Rattle.observations.specs.declared.tick.TickObs.{TickObs};
@@ -15,7 +16,7 @@ ghost use Rattle.event_book.specs.Totals.{nothing};
 ghost use Rattle.event_book.specs.Limits.{most_workers};
 ghost use Rattle.node_pods.specs.Pods.{handed_from, ArePlaced, joined};
 ghost use Rattle.tick_round.specs.Update.{MayUpdate};
-ghost use Rattle.tick_round.specs.Node.{HasTaken, Fits, IsNextBy};
+ghost use Rattle.tick_round.specs.Node.{HasTaken, Fits, IsNextBy, IsWhole};
 ghost use Rattle.tick_round.specs.Played.{AreFinished};
 ghost use Rattle.tick_round.specs.Round.{IsKept, HasBegun};
 ghost use Rattle.tick_round.specs.Summary.{IsSummary};
@@ -27,12 +28,12 @@ use crate::tick_in_progress::TickInProgress;
 use crate::workers::update_by_workers;
 use event_book::WholeBook;
 use event_list::Event;
-use eviction::Eviction;
+use eviction::Evictions;
 use manifest::PodSpec;
-use node_config::NodeConfig;
+use node_config::{NodeConfig, Version};
 use node_pods::NodePods;
 use node_signals::NodeSignals;
-use observations::{MOST_TICKS, TickObs};
+use observations::{MOST_TICKS, PodObs, TickObs};
 use pod_piece::PodPiece;
 use pod_pool::{Gate, NoGate, Spawner};
 use quantity::END_OF_TIME;
@@ -48,7 +49,7 @@ pub(crate) struct Running<U: Ledger, E: Ledger, O: Ledger> {
     pub(crate) config: NodeConfig,
     pub(crate) signals: NodeSignals,
     pub(crate) pods: NodePods,
-    pub(crate) evictions: Vec<Option<Eviction>>,
+    pub(crate) evictions: Evictions,
     pub(crate) events: Vec<Event>,
     pub(crate) book: WholeBook<U, E, O>,
     pub(crate) last: Option<u64>,
@@ -60,9 +61,9 @@ impl<U: Ledger, E: Ledger, O: Ledger> Model for Running<U, E, O> {
 
     ghost Value = { State };
 
-    ghost view = { λ r. state r.config r.signals r.pods r.evictions.items r.events.items r.book r.last };
+    ghost view = { λ r. state r.config r.signals r.pods r.evictions r.events.items r.book r.last };
 
-    ghost invariant = { λ r. IsKept (state r.config r.signals r.pods r.evictions.items r.events.items r.book r.last) };
+    ghost invariant = { λ r. IsKept (state r.config r.signals r.pods r.evictions r.events.items r.book r.last) };
 }
 
 impl<U: Ledger, E: Ledger, O: Ledger> Running<U, E, O> {
@@ -90,7 +91,7 @@ impl<U: Ledger, E: Ledger, O: Ledger> Running<U, E, O> {
             config,
             signals,
             pods,
-            evictions: Vec::new(alloc),
+            evictions: Evictions::new(alloc),
             events: Vec::new(alloc),
             book,
             last: None,
@@ -131,6 +132,7 @@ impl<U: Ledger, E: Ledger, O: Ledger> Running<U, E, O> {
         self.evictions.len() < MOST_TICKS
             && is_later(self.last, tick.at)
             && tick.at < END_OF_TIME
+            && is_whole(self.config.version, tick)
             && self.pods.fits(tick)
     }
 
@@ -244,7 +246,7 @@ impl<U: Ledger, E: Ledger, O: Ledger> Running<U, E, O> {
             pods: self.pods.pieces(),
             conditions: conditions_of(&self.signals),
             events: &self.events,
-            evictions: &self.evictions,
+            evictions: self.evictions.as_slice(),
             ticks: self.evictions.len(),
             totals: self.book.totals(),
         }
@@ -275,6 +277,23 @@ impl<U: Ledger + Send, E: Ledger + Send, O: Ledger + Send> Running<U, E, O> {
                 Err(fault)
             }
         }
+    }
+}
+
+/// Whether something is shown of each pod.
+fn shows_all(pods: &[Option<PodObs>]) -> bool
+    ensures { result ≡ list_all is_some pods.now }
+{
+    pods.iter().all(|pod| pod.is_some())
+}
+
+/// Whether each pod that has arrived is shown, or the version lets a tick leave one out.
+fn is_whole(version: Version, tick: &TickObs) -> bool
+    ensures { IsTrue result ↔ IsWhole version tick.now }
+{
+    match version {
+        Version::One | Version::Two => shows_all(tick.pods.as_slice()),
+        Version::Three => true,
     }
 }
 

@@ -2,6 +2,7 @@ pub mod TakenAhead
 pub mod ByPod
 pub mod InRange
 pub mod Keys
+pub mod Leaving
 pub mod Moments
 pub mod NotedPods
 pub mod Placed

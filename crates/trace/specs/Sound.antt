@@ -3,6 +3,8 @@ use Rattle.std.specs.Prelude.{◌≡◌, ◌↔◌, IsSome, IsSomeAnd, ℕ, ◌<
 use Rattle.quantity.specs.Duration.{end_of_time}
 use Rattle.state_diff.specs.Instances.{IsAcceptableHistory}
 use Rattle.manifest.specs.declared.pod.PodSpec.{PodSpec}
+use Rattle.node_config.specs.declared.node.Version.{Version}
+use Rattle.node_config.specs.declared.node.Version.TheVariants.{Three}
 use Rattle.observations.specs.Pods.{PodObs}
 use Rattle.observations.specs.declared.tick.TickObs.{TickObs}
 use Rattle.observations.specs.Observations.{shown_of, history}
@@ -73,3 +75,7 @@ pub record HasShape (pods : List PodSpec) (arrivals : List ℕ) (departures : Li
   pub few_ticks : length ticks ≤ most_ticks
   pub few_pods : length pods ≤ most_pods
   pub own_keys : HaveOwnKeys pods arrivals departures
+
+-- a pod leaves in version 3 alone
+pub record LeaveInThree (version : Version) (departures : List (Option ℕ)) : Type 0 where
+  pub is_three : (n departure : ℕ) → slice_get departures n ≡ Some (Some departure) → version ≡ Three

@@ -8,7 +8,7 @@ ghost use Rattle.json_lines.specs.Lines.{Blank, LineData, is_blank, line_data, l
 ghost use Rattle.roster.specs.Roll.{Roll};
 ghost use Rattle.trace.specs.Ahead.{AreAhead, IsAhead, KeepsPods};
 ghost use Rattle.trace.specs.GivesUnlessMemory.{is_memory, GivesUnlessMemory, GivesAt};
-ghost use Rattle.trace.specs.Sound.{AreAcceptable, AreRising, HasShape};
+ghost use Rattle.trace.specs.Sound.{AreAcceptable, AreRising, HasShape, LeaveInThree};
 ghost use Rattle.trace.specs.Taken.{any_line_at, lines_at};
 ghost use Rattle.trace.specs.Trace.{at_line, finished, nothing, trace_of};
 
@@ -279,6 +279,7 @@ pub fn read_trace(alloc: Global, format: Format, text: &[u8]) -> Result<Trace, L
     ensures acceptable { IfOk result (λ t. AreAcceptable t.ticks) }
     ensures rising { IfOk result (λ t. AreRising t.ticks) }
     ensures shape { IfOk result (λ t. HasShape t.pods t.arrivals t.departures t.ticks) }
+    ensures leaving { IfOk result (λ t. LeaveInThree t.node.version t.departures) }
 {
     read_windows(&OneThread, alloc, format, text)
 }
@@ -296,6 +297,7 @@ pub fn read_trace_by_workers<R: Threads + Sync>(
     ensures acceptable { IfOk result (λ t. AreAcceptable t.ticks) }
     ensures rising { IfOk result (λ t. AreRising t.ticks) }
     ensures shape { IfOk result (λ t. HasShape t.pods t.arrivals t.departures t.ticks) }
+    ensures leaving { IfOk result (λ t. LeaveInThree t.node.version t.departures) }
 {
     read_windows(&Workers { rt, workers }, alloc, format, text)
 }

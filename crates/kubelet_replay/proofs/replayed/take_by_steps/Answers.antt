@@ -15,6 +15,7 @@ tick_play-requires-clause-fits g c =
     may_take_shown new.config c.args.pods.items c.args.ticks.items c.loop-tick.yielded c.in-Some.tick
     c.next.new.self.rest.items c.as_slice.result.now c.len-count.result c.loop-tick.arriving.rest.items
     c.arrive.new.arriving.rest.items c.loop-tick.node c.arrive.new.node c.requires.replayable
+    (c.requires.whole new.config new.after)
     (so_far_next new.config c.args.pods.items c.args.ticks.items c.loop-tick.yielded _ _ c.loop-tick.arriving.rest.items
     c.loop-tick.node c.in-Some.ensures.steps.0 (c.loop-tick.invariant.so_far new.config new.after))
     c.as_slice.ensures c.loop-tick.invariant.count c.in_ok-arrive.ensures

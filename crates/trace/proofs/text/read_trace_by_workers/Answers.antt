@@ -1,3 +1,4 @@
+use Rattle.trace.proofs.Leaving.{given_leaving}
 use Rattle.trace.proofs.Shape.{given_shape}
 use Rattle.trace.proofs.Sound.{given_acceptable, given_rising}
 use Rattle.trace.proofs.text.read_trace_by_workers.Goals as goal
@@ -12,3 +13,7 @@ returns-clause-rising g c = given_rising c.args.format c.args.text.now c.read_wi
 
 pub returns-clause-shape : goal.returns-clause-shape
 returns-clause-shape g c = given_shape c.args.format c.args.text.now c.read_windows.result c.read_windows.ensures
+
+pub returns-clause-leaving : goal.returns-clause-leaving
+returns-clause-leaving g c =
+    given_leaving c.args.format c.args.text.now c.read_windows.result c.read_windows.ensures

@@ -1,4 +1,4 @@
-use Rattle.std.proofs.Common.{◌+◌, [], arith}
+use Rattle.std.proofs.Common.{[], arith}
 use Rattle.trace.proofs.TakenAhead.{blank_passed, first_ahead, none_missing}
 use Rattle.trace.proofs.text.take_lines.Goals as goal
 

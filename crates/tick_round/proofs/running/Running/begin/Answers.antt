@@ -12,14 +12,14 @@ returns-in-Ok-hand-clause-kept g c = subst (λ (s : State). IsKept s) c.self.vie
 pub returns-in-Ok-hand-clause-may_update : goal.returns-in-Ok-hand-clause-may_update
 returns-in-Ok-hand-clause-may_update g c =
     let i = c.self.inside in
-    may_update (state i.config i.signals i.pods i.evictions.items i.events.items i.book i.last) c.into_vec.result.items
+    may_update (state i.config i.signals i.pods i.evictions i.events.items i.book i.last) c.into_vec.result.items
     c.in-Ok-hand.pieces.items c.self.invariant c.in-Ok-hand.ensures.handed
 
 pub returns-in-Ok-hand-clause-begun : goal.returns-in-Ok-hand-clause-begun
 returns-in-Ok-hand-clause-begun g c =
     let i = c.self.inside in
     let period = i.config.eviction_pressure_transition_period in
-    begun_as (state i.config i.signals i.pods i.evictions.items i.events.items i.book i.last) c.args.self c.args.tick _
+    begun_as (state i.config i.signals i.pods i.evictions i.events.items i.book i.last) c.args.self c.args.tick _
     c.self.view_is refl (record {
       signals = λ before is. c.in-Ok.ensures.state period before is;
       node_events_are = λ before is. c.in-Ok.ensures.events period before is;

@@ -1,4 +1,3 @@
-use Rattle.std.proofs.Common.{arith}
 use Rattle.tick_round.specs.Node.{state}
 use Rattle.tick_round.proofs.Summaries.{shows_as, summarizes}
 use Rattle.tick_round.proofs.running.Running.summary.Goals as goal
@@ -7,13 +6,13 @@ pub returns : goal.returns
 returns g c = λ config pods ticks is taken.
     let i = c.self.inside in
     summarizes config pods ticks c.args.self.now _ is taken
-    (shows_as (state i.config i.signals i.pods i.evictions.items i.events.items i.book i.last) c.args.self.now _
+    (shows_as (state i.config i.signals i.pods i.evictions i.events.items i.book i.last) c.args.self.now _
     c.self.view_is (record {
       name = c.as_str.ensures;
       pods = c.pieces.ensures.same;
       conditions = c.conditions_of.ensures;
       events = c.deref.ensures.value;
-      evictions = c.deref-2.ensures.value;
-      ticks = omega (arith, c.len.ensures, i.evictions.ok);
+      evictions = c.as_slice.ensures;
+      ticks = c.len.ensures;
       totals = c.totals.ensures;
     }))
