@@ -1,5 +1,6 @@
 """Runs of tools/fleet, with what they cost, over processes of its own or workers of Dask distributed on loopback."""
 import glob
+import json
 import os
 import shutil
 import signal
@@ -51,26 +52,42 @@ class Cluster:
     """A scheduler and its workers, each with one thread, on loopback; the peak is that of the largest that ended."""
 
     def __init__(self, python, count, folder):
-        self.file, self.peak = f"{folder}/scheduler.json", 0
-        self.processes = [self.start(python, "distributed.cli.dask_scheduler", "--host", "127.0.0.1", "--port", "0",
+        self.python, self.folder, self.file, self.peak = python, folder, f"{folder}/scheduler.json", 0
+        self.processes = [self.start("distributed.cli.dask_scheduler", "--host", "127.0.0.1", "--port", "0",
                                      "--no-dashboard", "--scheduler-file", self.file)]
-        while not os.path.exists(self.file):
+        while (address := self.address_told()) is None:
             time.sleep(0.1)
-        self.processes += [self.start(python, "distributed.cli.dask_worker", "--scheduler-file", self.file,
-                                      "--nthreads", "1", "--no-nanny", "--no-dashboard", "--host", "127.0.0.1",
-                                      "--local-directory", folder) for _ in range(count)]
-        with open(self.file) as file:
-            self.address = file.read().split('"address": "')[1].split('"')[0]
+        self.address = address
+        for _ in range(count):
+            self.add_worker()
 
-    def start(self, python, module, *words):
+    def address_told(self):
+        """The address that the scheduler has written, once it has."""
+        try:
+            with open(self.file) as file:
+                return json.load(file)["address"]
+        except (FileNotFoundError, ValueError):
+            return None
+
+    def start(self, module, *words):
         """A process of Dask, whose log nobody reads."""
-        return subprocess.Popen([python, "-m", module, *words], stdout=subprocess.DEVNULL, stderr=subprocess.DEVNULL)
+        return subprocess.Popen([self.python, "-m", module, *words], stdout=subprocess.DEVNULL,
+                                stderr=subprocess.DEVNULL)
+
+    def add_worker(self):
+        self.processes.append(self.start("distributed.cli.dask_worker", self.address, "--nthreads", "1", "--no-nanny",
+                                         "--no-dashboard", "--host", "127.0.0.1", "--local-directory", self.folder))
 
     def end_worker(self):
-        self.end_one(self.processes.pop(), signal.SIGKILL)
+        """Ends the worker that began first."""
+        self.end_one(self.processes.pop(1), signal.SIGKILL)
 
     def end_scheduler(self):
         self.end_one(self.processes.pop(0), signal.SIGKILL)
+
+    def close_scheduler(self):
+        """Ends it as an operator does, so that it takes leave of all."""
+        self.processes[0].terminate()
 
     def end(self):
         while self.processes:

@@ -289,7 +289,7 @@ def test_fleet_parquet():
 
 
 def test_fleet_on_dask():
-    """Two workers, of which one is ended in the middle; then the scheduler."""
+    """Three workers; in each of ten runs one is ended at another moment, and a new one comes. Then the scheduler."""
     python = python_with("distributed")
     folder = make_traces()
     words = [FLEET, "run", f"{folder}/traces", "--out"]
@@ -299,16 +299,17 @@ def test_fleet_on_dask():
         expect_refused("fleet without distributed", answer, 127, "python3-distributed")
         shutil.rmtree(folder)
         return
-    settings = {**COUNTED, "RUNS": f"{folder}/runs", "WAIT": "0.2"}
-    run([*words, f"{folder}/one.db", "--processes", "1"], **{**settings, "WAIT": ""})
-    os.environ.update(settings)
-    cluster = fleet_runs.Cluster(python, 2, folder)
-    try:
-        check_dask(python, words, cluster, folder, settings)
-    finally:
-        cluster.end()
-        for name in settings:
-            del os.environ[name]
+    settings = {**COUNTED, "RUNS": f"{folder}/runs"}
+    run([*words, f"{folder}/one.db", "--processes", "1"], **settings)
+    for wait, check in (("0.03", check_workers_that_end), ("0.2", check_scheduler_that_closes)):
+        os.environ.update(settings, WAIT=wait)
+        cluster = fleet_runs.Cluster(python, 3, tempfile.mkdtemp(dir=folder))
+        try:
+            check(lambda database: [python, *words, database, "--scheduler", cluster.address], cluster, folder)
+        finally:
+            cluster.end()
+            for name in (*settings, "WAIT"):
+                del os.environ[name]
     os.environ["KUBELET_REPLAY"] = REPLAY
     answer = run([python, *words, f"{folder}/none.db", "--scheduler", cluster.address])
     expect_refused("fleet: a scheduler that does not answer", answer, 2, "does not answer")
@@ -316,22 +317,53 @@ def test_fleet_on_dask():
     shutil.rmtree(folder)
 
 
-def check_dask(python, words, cluster, folder, settings):
-    database = f"{folder}/dask.db"
-    started = subprocess.Popen([python, *words, database, "--scheduler", cluster.address], stdout=subprocess.PIPE,
-                               stderr=subprocess.PIPE, env={**os.environ, **settings})
-    wait_until(lambda: rows_kept(database) >= 4)
-    cluster.end_worker()
-    told, said = started.communicate()
-    expect("fleet on Dask", (started.returncode, said.decode()), (0, ""))
+def check_workers_that_end(words, cluster, folder):
+    """The database is that of one process, whether the worker had traces in hand or held answers that nobody fetched.
+    The scheduler ends last."""
+    one = content(f"{folder}/one.db")
+    for kept in range(1, 11):
+        database = f"{folder}/dask_{kept}.db"
+        started = begun(words(database))
+        wait_until(lambda: rows_kept(database) >= kept)
+        if kept % 2:
+            end_worker_with_answers(started, cluster, f"{folder}/runs")
+        else:
+            cluster.end_worker()
+        cluster.add_worker()
+        told, said = started.communicate()
+        expect(f"fleet on Dask, a worker ended after {kept}", (started.returncode, said), (0, b""))
+        expect(f"fleet on Dask, a worker ended after {kept}: the database",
+               os.path.exists(database) and content(database) == one, True)
     expect("fleet on Dask: what it prints", plain(told.decode(), folder), read(f"{KEPT}/printed"))
-    expect("fleet on Dask: the database", content(database) == content(f"{folder}/one.db"), True)
-    started = subprocess.Popen([python, *words, f"{folder}/lost.db", "--scheduler", cluster.address],
-                               stdout=subprocess.PIPE, stderr=subprocess.PIPE, env={**os.environ, **settings})
-    wait_until(lambda: rows_kept(f"{folder}/lost.db") >= 3)
-    cluster.end_scheduler()
+    check_lost(words, cluster.end_scheduler, f"{folder}/ended.db", "that is ended")
+
+
+def check_scheduler_that_closes(words, cluster, folder):
+    check_lost(words, cluster.close_scheduler, f"{folder}/closed.db", "that closes")
+
+
+def begun(words):
+    return subprocess.Popen(words, stdout=subprocess.PIPE, stderr=subprocess.PIPE)
+
+
+def end_worker_with_answers(started, cluster, runs):
+    """Ends it while the run that began stands still, and nothing is left that the workers could do."""
+    started.send_signal(signal.SIGSTOP)
+    counted = None
+    while counted != os.path.getsize(runs):
+        counted = os.path.getsize(runs)
+        time.sleep(0.4)
+    cluster.end_worker()
+    started.send_signal(signal.SIGCONT)
+
+
+def check_lost(words, end, database, how):
+    """A run whose scheduler goes away."""
+    started = begun(words(database))
+    wait_until(lambda: rows_kept(database) >= 3)
+    end()
     told, said = started.communicate()
-    expect_refused("fleet: a scheduler that goes away", (started.returncode, told.decode(), said.decode()), 2,
+    expect_refused(f"fleet: a scheduler {how}", (started.returncode, told.decode(), said.decode()), 2,
                    "the scheduler went away")
 
 
