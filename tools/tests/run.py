@@ -181,6 +181,20 @@ def test_edited_lines():
     expect("what-if drops lines", dropped, (0, '- {"kind":"tick", "at":1e2}\n', ""))
 
 
+def test_lost_edits():
+    """What standard output does not take is no success, also by kubectl; a reader that has gone knows of it."""
+    trace, edit = f"{TOP}/examples/liveness_kill.trace", "node(.version = 2)"
+    for words in (f"what-if '{edit}'", "what-if --help", f"kubectl-replay what-if '{edit}'",
+                  f"kubectl-replay what-if -f '{trace}' '{edit}'"):
+        for output, status, said in ((">/dev/full", 1, "what-if: standard output takes no more: No space left"),
+                                     (">&-", 1, "standard output is closed")):
+            answer = run(["sh", "-c", f"exec '{TOOLS}'/{words} <'{trace}' {output}"], KUBELET_REPLAY=f"{COMMANDS}/show")
+            expect_refused(f"{words} {output}", answer, status, said)
+        answer = run(["sh", "-c", f"{{ '{TOOLS}'/{words} <'{trace}'; echo $? >&2; }} | :"],
+                     KUBELET_REPLAY=f"{COMMANDS}/show")
+        expect(f"{words} whose reader has gone", answer, (0, "", "1\n"))
+
+
 def test_refused_edits():
     trace = read(f"{RECORDINGS}/crash_loop/trace")
     for name, edit, given, words in (

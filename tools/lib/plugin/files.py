@@ -4,6 +4,7 @@ from __future__ import annotations
 
 import json
 import os
+import signal
 import subprocess
 import sys
 import tempfile
@@ -101,6 +102,8 @@ def run_on(tool, words, report=None):
         os.lseek(report.fileno(), 0, os.SEEK_SET)
         os.dup2(report.fileno(), 0)
     sys.stdout.flush()
+    # Python ignores it, and a tool would begin so
+    signal.signal(signal.SIGPIPE, signal.SIG_DFL)
     try:
         os.execv(tool, [tool, *words])
     except OSError as fault:
