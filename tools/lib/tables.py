@@ -50,22 +50,41 @@ def add_records(connection, number, records):
         connection.executemany(f"INSERT INTO {TABLES[kind][0]} VALUES ({marks})", found)
 
 
-def write_database(path, fill, kinds=tuple(TABLES)):
-    """A new file with the tables of these kinds of records, which `fill` is given to fill. It stands under its name
-    once it is whole. Raises OSError or sqlite3.Error, and then whatever stood there is as it was."""
-    folder = os.path.dirname(os.path.abspath(path))
+def application_of(path):
+    """The number of the application that a database of SQLite says it is of, None of another file."""
+    with open(path, "rb") as file:
+        header = file.read(100)
+    is_database = len(header) == 100 and header.startswith(b"SQLite format 3\0")
+    return int.from_bytes(header[68:72], "big") if is_database else None
+
+
+def check_replaceable(path, application):
+    """Only a database of the same application is replaced by another. Raises OSError."""
     if os.path.isdir(path):
         raise IsADirectoryError("it is a folder")
     if os.path.exists(path) and not os.path.isfile(path):
         # a new file in its place would take a device away, /dev/null from all
         raise OSError("it is a device or a pipe")
+    if os.path.exists(path) and application_of(path) != application:
+        raise FileExistsError("what stands there is no database that this tool has written")
+
+
+def write_database(path, application, fill, kinds=tuple(TABLES)):
+    """A new file with the tables of these kinds of records, which `fill` is given to fill; it says of which application
+    it is. It stands under its name once it is whole. Raises OSError or sqlite3.Error, and then whatever stood there is
+    as it was."""
+    check_replaceable(path, application)
+    folder = os.path.dirname(os.path.abspath(path))
     with tempfile.TemporaryDirectory(dir=folder, prefix=".tables-") as work:
         made = os.path.join(work, "tables")
         connection = sqlite3.connect(made)
         try:
             with connection:
+                connection.execute(f"PRAGMA application_id = {application}")
                 create_tables(connection, kinds)
                 fill(connection)
         finally:
             connection.close()
+        # to fill it may have taken long
+        check_replaceable(path, application)
         os.replace(made, path)

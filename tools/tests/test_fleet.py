@@ -154,6 +154,21 @@ def test_fleet_is_stopped():
     shutil.rmtree(folder)
 
 
+def test_fleet_whose_place_is_taken():
+    """What came under the name of the database while a run went on is not replaced at its end."""
+    folder = make_traces()
+    database = f"{folder}/fleet.db"
+    started = subprocess.Popen([FLEET, "run", f"{folder}/traces", "--out", database], stderr=subprocess.PIPE,
+                               env={**os.environ, **COUNTED, "RUNS": f"{folder}/runs", "WAIT": "0.2"})
+    wait_until(lambda: rows_kept(database) >= 3)
+    with open(database, "w") as file:
+        file.write("something else\n")
+    said = started.communicate()[1].decode()
+    expect_refused("fleet: its place is taken", (started.returncode, "", said), 2, "can't be written")
+    expect("what took the place stays", read(database), "something else\n")
+    shutil.rmtree(folder)
+
+
 def wait_until(holds):
     for _ in range(1000):
         if holds():
@@ -285,6 +300,13 @@ def test_fleet_parquet():
         shown = run([python, "-c", show, f"{folder}/set/{table}.parquet"], **settings)[1]
         expect(f"fleet --parquet: {table}", shown, f"{rows}\n")
     connection.close()
+    expect("fleet --parquet over its tables", run([python, *words], **settings)[::2], (0, ""))
+    expect("fleet --parquet leaves nothing behind", len(os.listdir(f"{folder}/set")), 6)
+    with open(f"{folder}/set/pods.parquet", "w") as file:
+        file.write("something else\n")
+    expect_refused("fleet --parquet over another file", run([python, *words], **settings), 2,
+                   "set/pods.parquet is there and is no table of tools/fleet")
+    expect("the other file stays", read(f"{folder}/set/pods.parquet"), "something else\n")
     shutil.rmtree(folder)
 
 

@@ -77,10 +77,10 @@ def test_schema_and_tables_agree():
 def test_tables():
     folder = tempfile.mkdtemp()
     path = f"{folder}/node.db"
-    with open(path, "w") as file:
-        file.write("something else")
+    expect("json --sqlite", run([f"{TOOLS}/json", "--sqlite", path], read(f"{TOP}/examples/liveness_kill.report")),
+           (0, "", ""))
     answer = run([f"{TOOLS}/json", "--sqlite", path], read(f"{LINES}/came_again.report"))
-    expect("json --sqlite over a file", answer, (0, "", ""))
+    expect("json --sqlite over its database", answer, (0, "", ""))
     expect("json --sqlite leaves nothing behind", os.listdir(folder), ["node.db"])
     connection = sqlite3.connect(path)
     for query, wanted in QUERIES:
@@ -116,10 +116,37 @@ def test_unwritable_tables():
     expect("json --sqlite takes no pipe away", stat.S_ISFIFO(os.stat(pipe).st_mode), True)
     os.remove(pipe)
     kept = f"{folder}/kept.db"
-    with open(kept, "w") as file:
-        file.write("kept")
+    run([f"{TOOLS}/json", "--sqlite", kept], report)
+    tables = content(kept)
     expect_refused("json --sqlite of no report", run([f"{TOOLS}/json", "--sqlite", kept], "no report\n"), 2, "line 1 ")
-    expect("a file stays where the report is refused", (os.listdir(folder), read(kept)), (["kept.db"], "kept"))
+    expect("a file stays where the report is refused", (os.listdir(folder), content(kept) == tables),
+           (["kept.db"], True))
+    shutil.rmtree(folder)
+
+
+def content(path):
+    with open(path, "rb") as file:
+        return file.read()
+
+
+def test_files_of_others():
+    """A recording stays, and so does every file that is no database of json, that of a fleet too."""
+    folder = tempfile.mkdtemp()
+    report, trace = f"{TOP}/examples/liveness_kill.report", f"{TOP}/examples/liveness_kill.trace"
+    shutil.copy(trace, f"{folder}/node.trace")
+    shutil.copy(report, f"{folder}/node.report")
+    open(f"{folder}/empty", "w").close()
+    for name, number in (("fleet", b"fleT"), ("other", b"\0\0\0\0")):
+        connection = sqlite3.connect(f"{folder}/{name}.db")
+        connection.execute(f"PRAGMA application_id = {int.from_bytes(number, 'big')}")
+        connection.execute("CREATE TABLE nodes (report INTEGER)")
+        connection.close()
+    for name in sorted(os.listdir(folder)):
+        before = content(f"{folder}/{name}")
+        answer = run([f"{TOOLS}/json", "--sqlite", f"{folder}/{name}"], read(report))
+        expect_refused(f"json --sqlite over {name}", answer, 2, "no database that this tool has written")
+        expect(f"{name} stays", content(f"{folder}/{name}") == before, True)
+    expect("it leaves nothing behind", len(os.listdir(folder)), 5)
     shutil.rmtree(folder)
 
 

@@ -52,7 +52,6 @@ def write(path, paths, kept, failed):
     """The database of the traces of some paths, in their order, from what is kept; `failed` has the records of those
     that have nothing kept."""
     def fill(connection):
-        connection.execute(f"PRAGMA application_id = {APPLICATION}")
         connection.execute(f"CREATE TABLE traces (report INTEGER NOT NULL, {', '.join(COLUMNS)})")
         for number, trace_path in enumerate(paths, 1):
             rows = iter([failed[trace_path]]) if trace_path in failed else kept.rows(trace_path)
@@ -60,7 +59,7 @@ def write(path, paths, kept, failed):
             tables.add_records(connection, number, rows)
 
     try:
-        tables.write_database(path, fill, work.KINDS)
+        tables.write_database(path, APPLICATION, fill, work.KINDS)
     except (OSError, sqlite3.Error) as fault:
         raise entry.Fault(f"{path} can't be written: {getattr(fault, 'strerror', None) or fault}") from None
     except (EOFError, ValueError):

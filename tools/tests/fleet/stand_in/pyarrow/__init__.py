@@ -9,8 +9,16 @@ def string():
     return "string"
 
 
-def schema(fields):
-    return fields
+class Schema(list):
+    """Names and kinds, with what was said of them."""
+
+    def __init__(self, fields, metadata):
+        super().__init__(fields)
+        self.metadata = metadata
+
+
+def schema(fields, metadata=None):
+    return Schema(fields, metadata)
 
 
 def array(column, kind):
@@ -19,4 +27,4 @@ def array(column, kind):
 
 def table(arrays, schema):
     assert [column[0] for column in arrays] == [kind for _, kind in schema]
-    return {name: column[1:] for (name, _), column in zip(schema, arrays)}
+    return schema, {name: column[1:] for (name, _), column in zip(schema, arrays)}
