@@ -60,9 +60,27 @@ def test_kubectl_words():
         program = None if given[0] in ("run", "check") else REPLAY
         status, out, said = run([f"{folder}/tools/kubectl-replay", *given], report, **with_stand_ins(folder, program))
         expect(f"kubectl replay {words}", (status, out.replace(folder, "FOLDER").strip(), said), (0, called, ""))
+    answer = run([f"{folder}/tools/kubectl-replay", "check", "/dev/stdin"], read(f"{folder}/extended").strip(),
+                 **with_stand_ins(folder))[1]
+    expect("kubectl replay check of a pipe", answer,
+           'kubelet_replay [check] [/dev/stdin] [--extended] < {"kind":"node","name":"v\n')
     settings = with_stand_ins(folder, namespace="shop")
     answer = run([f"{folder}/tools/kubectl-replay", "story", "db"], report, **settings)[1]
     expect("kubectl replay in the namespace of its context", answer.split(" <")[0], "story [shop/db]")
+    shutil.rmtree(folder)
+
+
+def test_kubectl_runs_the_program():
+    """What the program says of a trace of each format, of a file and of a pipe, is what it says itself."""
+    folder = make_folder()
+    for name, own in (("trace", []), ("extended", ["--extended"]), ("refused", []), ("none", [])):
+        path = f"{folder}/{name}"
+        for command in ("run", "check"):
+            wanted = run([REPLAY, command, path, *own])
+            expect(f"kubectl replay {command} {name}", run([f"{TOOLS}/kubectl-replay", command, path]), wanted)
+            piped = ["sh", "-c", f"cat '{path}' 2>/dev/null | '{TOOLS}/kubectl-replay' {command} /dev/stdin"]
+            expect(f"kubectl replay {command} {name}, of a pipe", run(piped),
+                   run([REPLAY, command, "/dev/stdin", *own], read(path) if name != "none" else ""))
     shutil.rmtree(folder)
 
 

@@ -2,9 +2,11 @@
 
 from __future__ import annotations
 
+import io
 import json
 import os
 import signal
+import stat
 import subprocess
 import sys
 import tempfile
@@ -12,6 +14,7 @@ import tempfile
 import entry
 import program as programs
 import report as reports
+import trace as traces
 
 # a longer one is no line of a trace
 LONGEST_LINE = 1 << 21
@@ -60,9 +63,27 @@ def replayed(path):
 def format_words(path):
     try:
         with open(path, "rb") as file:
-            return programs.format_words(iter(lambda: file.readline(LONGEST_LINE), b""))
+            return format_words_of(file)
     except OSError as fault:
         raise entry.Fault(f"{path} can't be read: {fault.strerror}") from None
+
+
+def format_words_of(file):
+    return programs.format_words(iter(lambda: file.readline(LONGEST_LINE), b""))
+
+
+def with_format(path):
+    """The path of a trace, a copy of it that is to be standard input where it can be read but once, and the words for
+    its format. What can't be read the program has to say."""
+    try:
+        with open(path, "rb") as file:
+            if stat.S_ISREG(os.fstat(file.fileno()).st_mode):
+                return path, None, format_words_of(file)
+            text = file.read(traces.LONGEST_TRACE + 1)
+    except OSError:
+        return path, None, []
+    copy = whole(io.BytesIO(text))
+    return "/dev/stdin", copy, format_words_of(copy)
 
 
 def pods_in(report, namespace):
