@@ -257,12 +257,21 @@ def test_words():
 def test_closed_streams():
     report = f"{TOP}/examples/liveness_kill.report"
     asked = ["story shop/web-0", f"why shop/web-0 --trace {TOP}/examples/liveness_kill.trace", "timeline", "page",
-             "json", "kubectl-replay json"]
+             "json", "what-if .", "kubectl-replay json"]
     for words in asked:
         answer = run(["sh", "-c", f"exec '{TOOLS}'/{words} <&-"])
         expect_refused(f"{words}, with standard input closed", answer, 2, "standard input is closed")
         answer = run(["sh", "-c", f"exec '{TOOLS}'/{words} <'{report}' >&-"])
         expect_refused(f"{words}, with standard output closed", answer, 1, "standard output is closed")
+
+
+def test_a_folder_as_standard_input():
+    trace = f"{TOP}/examples/liveness_kill.trace"
+    for words in ("story shop/web-0", f"why shop/web-0 --trace {trace}", "timeline", "page", f"page {trace}", "json",
+                  "what-if .", "kubectl-replay json", "kubectl-replay what-if .", "kubectl-replay story shop/web-0",
+                  f"fleet run {trace} --out /nowhere/fleet.db", "record --check", "kubectl_complete-replay st"):
+        answer = run(["sh", "-c", f"exec '{TOOLS}'/{words} </"])
+        expect_refused(f"{words}, of a folder", answer, 2, ": standard input can't be read: Is a directory")
 
 
 def test_full_disks():
