@@ -107,6 +107,36 @@ def check_reports(database, folder):
     expect("fleet run: the reports", (len(rows) > 12, different), (True, []))
 
 
+def test_fleet_copies():
+    """A trace with the bytes of another one is a row that says so, and counts nothing."""
+    folder = tempfile.mkdtemp()
+    traces, database = f"{folder}/traces", f"{folder}/fleet.db"
+    shutil.copytree(f"{KEPT}/traces/n5", f"{traces}/n5")
+    shutil.copy(f"{KEPT}/traces/no_container.trace", traces)
+    words = [FLEET, "run", traces, "--out", database, "--by", "unready"]
+    alone = run(words)[1]
+    shutil.copy(f"{traces}/n5/hour_1.trace", f"{traces}/a_copy.trace")
+    shutil.copytree(f"{traces}/n5", f"{traces}/n6")
+    os.symlink("no_container.trace", f"{traces}/no_container_2.trace")
+    status, told, said = run(words)
+    counts = alone.split("\n")[0].replace("3 traces", "7 traces").replace("0 failed", "0 failed, 4 copies of others")
+    expect("fleet of copies", (status, said, told.split("\n")[0]), (0, "", counts))
+    expect("fleet of copies: what they count", plain(told, traces).split("\n")[1:],
+           plain(alone, traces).replace("FOLDER/n5/hour_1", "FOLDER/a_copy").split("\n")[1:])
+    connection = sqlite3.connect(database)
+    rows = connection.execute("SELECT path, status, copy_of, line, report_file IS NULL FROM traces").fetchall()
+    counted = {report for table in ("nodes", "pods", "containers", "conditions", "evictions")
+               for [report] in connection.execute(f"SELECT report FROM {table}")}
+    connection.close()
+    expect("fleet of copies: their rows", [(os.path.relpath(path, traces), *row) for path, *row in rows], [
+        ("a_copy.trace", "replayed", None, None, 0), ("n5/hour_1.trace", "copy", 1, None, 1),
+        ("n5/hour_2.trace", "replayed", None, None, 0), ("n6/hour_1.trace", "copy", 1, None, 1),
+        ("n6/hour_2.trace", "copy", 3, None, 1), ("no_container.trace", "refused", None, 2, 1),
+        ("no_container_2.trace", "copy", 6, None, 1)])
+    expect("fleet of copies: only the first have rows elsewhere", counted, {1, 3})
+    shutil.rmtree(folder)
+
+
 def test_fleet_begins_again():
     folder = make_traces()
     settings = {**COUNTED, "RUNS": f"{folder}/runs"}

@@ -11,8 +11,8 @@ from fleet import work
 
 # SQLite keeps it in the file; it says whose file it is
 APPLICATION = int.from_bytes(b"fleT", "big")
-COLUMNS = ("path TEXT NOT NULL", "sha256 TEXT", "bytes INTEGER", "status TEXT NOT NULL", "line INTEGER",
-           "code INTEGER", "fault TEXT", "report_file TEXT")
+COLUMNS = ("path TEXT NOT NULL", "sha256 TEXT", "bytes INTEGER", "status TEXT NOT NULL", "copy_of INTEGER",
+           "line INTEGER", "code INTEGER", "fault TEXT", "report_file TEXT")
 NAMES = tuple(column.split()[0] for column in COLUMNS)
 TABLES = ("traces", *(tables.TABLES[kind][0] for kind in work.KINDS))
 
@@ -53,9 +53,15 @@ def write(path, paths, kept, failed):
     that have nothing kept."""
     def fill(connection):
         connection.execute(f"CREATE TABLE traces (report INTEGER NOT NULL, {', '.join(COLUMNS)})")
+        numbers = {}
         for number, trace_path in enumerate(paths, 1):
             rows = iter([failed[trace_path]]) if trace_path in failed else kept.rows(trace_path)
-            add_trace(connection, number, next(rows), kept.file(trace_path, "report"))
+            trace = next(rows)
+            content = trace["sha256"], trace["bytes"]
+            first = number if trace["status"] == "failed" else numbers.setdefault(content, number)
+            if first != number:
+                trace, rows = copied(trace, first), ()
+            add_trace(connection, number, trace, kept.file(trace_path, "report"))
             tables.add_records(connection, number, rows)
 
     try:
@@ -64,6 +70,11 @@ def write(path, paths, kept, failed):
         raise entry.Fault(f"{path} can't be written: {getattr(fault, 'strerror', None) or fault}") from None
     except (EOFError, ValueError):
         raise entry.Fault(f"an answer in {kept.folder} is broken; --anew makes all of them again") from None
+
+
+def copied(trace, first):
+    """The record of a trace that has the bytes of another one before it, whose number is given, and counts nothing."""
+    return {**{name: trace[name] for name in ("path", "sha256", "bytes")}, "status": "copy", "copy_of": first}
 
 
 def add_trace(connection, number, trace, report):

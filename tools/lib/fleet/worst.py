@@ -24,12 +24,13 @@ SELECT signal, kind, COUNT(*), COUNT(DISTINCT node || ' ' || pod), COUNT(DISTINC
 GROUP BY signal, kind ORDER BY COUNT(*) DESC, signal, kind
 """
 FAULTS = """
-SELECT status, fault, COUNT(*), MIN(report), line, path FROM traces WHERE status <> 'replayed'
+SELECT status, fault, COUNT(*), MIN(report), line, path FROM traces WHERE status IN ('refused', 'failed')
 GROUP BY status, fault ORDER BY COUNT(*) DESC, status, fault
 """
 COUNTS = """
 SELECT (SELECT COUNT(*) FROM traces), (SELECT COUNT(*) FROM traces WHERE status = 'replayed'),
        (SELECT COUNT(*) FROM traces WHERE status = 'refused'), (SELECT COUNT(*) FROM traces WHERE status = 'failed'),
+       (SELECT COUNT(*) FROM traces WHERE status = 'copy'),
        (SELECT COUNT(DISTINCT node || ' ' || pod) FROM pods), (SELECT COUNT(DISTINCT node) FROM nodes)
 """
 
@@ -47,8 +48,7 @@ def text(path, by, top):
 
 def lines_of(connection, by, top):
     """What a database has: the worst pods by a measure, evictions by signal, and traces without a report."""
-    [counts] = connection.execute(COUNTS)
-    lines = ["{} traces: {} replayed, {} refused, {} failed; {} pods on {} nodes".format(*counts), ""]
+    lines = [counts_text(*next(connection.execute(COUNTS))), ""]
     order = [MEASURES[by], *(measure for name, measure in MEASURES.items() if name != by)]
     query = PODS.format(measure=order[0], order=", ".join(f"{measure} DESC" for measure in order))
     pods = [[node, pod, str(restarts), str(unready), str(evictions), distinct(signals), str(traces)]
@@ -63,6 +63,11 @@ def lines_of(connection, by, top):
         lines += telling.table("Traces without a report",
                                ["status", "fault", "traces", "line of the first", "the first"], faults)
     return lines
+
+
+def counts_text(traces, replayed, refused, failed, copies, pods, nodes):
+    return (f"{traces} traces: {replayed} replayed, {refused} refused, {failed} failed"
+            + (f", {copies} copies of others" if copies else "") + f"; {pods} pods on {nodes} nodes")
 
 
 def distinct(signals):
