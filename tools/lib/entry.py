@@ -72,8 +72,7 @@ def run(tool, main):
         sys.stdout.flush()
         return status
     except Fault as fault:
-        # a word that was given may have the end of a line in it
-        print(f"{tool}: {fault}".replace("\n", "\\n"), file=sys.stderr)
+        print(f"{tool}: {visible(str(fault))}", file=sys.stderr)
         return fault.status
     except BrokenPipeError:
         # what is still held must not be written once more as the interpreter ends
@@ -82,10 +81,16 @@ def run(tool, main):
     except OSError as fault:
         output = "standard output takes no more: " if isinstance(fault, OutputFault) else ""
         os.dup2(os.open(os.devnull, os.O_WRONLY), sys.stdout.fileno())
-        print(f"{tool}: {output}{fault.strerror or fault}", file=sys.stderr)
+        print(f"{tool}: {output}{visible(str(fault.strerror or fault))}", file=sys.stderr)
         return 1
     except KeyboardInterrupt:
         return 130
+
+
+def visible(text):
+    """A text as one line that a terminal only shows, whatever names are in it: what can't be printed, as an escape byte
+    or the end of a line, is written as Python writes it."""
+    return "".join(each if each.isprintable() else each.encode("unicode_escape").decode("ascii") for each in text)
 
 
 def words_with(words, flags=(), valued=()):

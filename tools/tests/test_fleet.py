@@ -137,6 +137,18 @@ def test_fleet_copies():
     shutil.rmtree(folder)
 
 
+def test_fleet_names_with_escapes():
+    """What a file's name has for a terminal to obey is shown, and not obeyed."""
+    folder = tempfile.mkdtemp()
+    shutil.copy(f"{KEPT}/traces/no_container.trace", f"{folder}/a\x1b[31m\a\u202eb.trace")
+    shown = f"{folder}/a\\x1b[31m\\x07\\u202eb.trace"
+    answer = run([FLEET, "run", folder, "--out", f"{folder}/fleet.db"])
+    expect("fleet: a name with escapes", (answer[::2], answer[1].split()[-1]), ((0, ""), shown))
+    answer = run([FLEET, "worst", f"{folder}/a\x1b[31m\n.db"])
+    expect_refused("fleet: a word with escapes", answer, 2, f"{folder}/a\\x1b[31m\\n.db can't be read")
+    shutil.rmtree(folder)
+
+
 def test_fleet_begins_again():
     folder = make_traces()
     settings = {**COUNTED, "RUNS": f"{folder}/runs"}

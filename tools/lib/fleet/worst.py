@@ -53,21 +53,26 @@ def lines_of(connection, by, top):
     query = PODS.format(measure=order[0], order=", ".join(f"{measure} DESC" for measure in order))
     pods = [[node, pod, str(restarts), str(unready), str(evictions), distinct(signals), str(traces)]
             for node, pod, restarts, unready, evictions, signals, traces in connection.execute(query, [top])]
-    lines += telling.table(f"Worst pods, by {by}",
-                           ["node", "pod", "restarts", "unready s", "evictions", "signals", "traces"], pods)
+    lines += table(f"Worst pods, by {by}",
+                   ["node", "pod", "restarts", "unready s", "evictions", "signals", "traces"], pods)
     signals = [[row[0], row[1], *map(str, row[2:])] for row in connection.execute(SIGNALS)]
-    lines += telling.table("Evictions by signal", ["signal", "kind", "evictions", "pods", "nodes"], signals)
+    lines += table("Evictions by signal", ["signal", "kind", "evictions", "pods", "nodes"], signals)
     faults = [[status, fault, str(count), str(line) if line else "-", path]
               for status, fault, count, _, line, path in connection.execute(FAULTS)]
     if faults:
-        lines += telling.table("Traces without a report",
-                               ["status", "fault", "traces", "line of the first", "the first"], faults)
+        lines += table("Traces without a report",
+                       ["status", "fault", "traces", "line of the first", "the first"], faults)
     return lines
 
 
 def counts_text(traces, replayed, refused, failed, copies, pods, nodes):
     return (f"{traces} traces: {replayed} replayed, {refused} refused, {failed} failed"
             + (f", {copies} copies of others" if copies else "") + f"; {pods} pods on {nodes} nodes")
+
+
+def table(title, heads, rows):
+    """A table of what a database has, in which a file's name may be anything."""
+    return telling.table(title, heads, [[entry.visible(cell) for cell in row] for row in rows])
 
 
 def distinct(signals):
