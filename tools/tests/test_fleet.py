@@ -144,6 +144,8 @@ def test_fleet_names_with_escapes():
     shown = f"{folder}/a\\x1b[31m\\x07\\u202eb.trace"
     answer = run([FLEET, "run", folder, "--out", f"{folder}/fleet.db"])
     expect("fleet: a name with escapes", (answer[::2], answer[1].split()[-1]), ((0, ""), shown))
+    words = [FLEET, "run", folder, "--out", f"{folder}/50%41?#.db"]
+    expect("fleet: a database with a name of signs", (run(words)[0], run(words)[0]), (0, 0))
     answer = run([FLEET, "worst", f"{folder}/a\x1b[31m\n.db"])
     expect_refused("fleet: a word with escapes", answer, 2, f"{folder}/a\\x1b[31m\\n.db can't be read")
     shutil.rmtree(folder)

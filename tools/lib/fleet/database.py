@@ -4,6 +4,7 @@ from __future__ import annotations
 
 import os
 import sqlite3
+import urllib.parse
 
 import entry
 import tables
@@ -35,8 +36,8 @@ def open_database(path):
     try:
         with open(path, "rb"):
             pass
-        connection = sqlite3.connect(f"file:{os.path.abspath(path).replace('?', '%3f').replace('#', '%23')}?mode=ro",
-                                     uri=True)
+        name = urllib.parse.quote(os.fsencode(os.path.abspath(path)))
+        connection = sqlite3.connect(f"file:{name}?mode=ro", uri=True)
         [[application]] = connection.execute("PRAGMA application_id")
         if application == APPLICATION:
             return connection
