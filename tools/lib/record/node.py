@@ -14,6 +14,8 @@ SIGNALS = ("memory.available", "nodefs.available", "imagefs.available", "nodefs.
            "pid.available")
 GRACES = "evictionSoftGracePeriod"
 RECLAIMS = "evictionMinimumReclaim"
+# what the formats don't read: the ticks say what the kubelet did, so where they say nothing it evicted none
+TELLS = {"recordsKubelet": True}
 PERCENT_NUMBER = re.compile(r"[0-9]+[.]?[0-9]*|[.][0-9]+")
 GO_DURATION = re.compile(r"[+]?(0|(([0-9]+[.]?[0-9]*|[.][0-9]+)(h|ms|m|s|us|µs|μs|ns))+)")
 GO_UNITS = {"h": Fraction(3600), "m": Fraction(60), "s": Fraction(1), "ms": Fraction(1, 10 ** 3),
@@ -143,7 +145,7 @@ def node_line_of(text, name, summary, node_format):
         raise Failed(f"{fault}; a node line of your own can be given with --node-line")
     line = {"kind": "node", "version": node_format.version, "name": name, "maxRestartDelay": delay,
             "capacity": summary.capacity, "dedicatedImagefs": summary.has_dedicated_image_fs, **fields,
-            "evictionPauseSeconds": node_format.eviction_pause}
+            "evictionPauseSeconds": node_format.eviction_pause, **TELLS}
     return NodeLine(without_nones(line), reader.notes)
 
 
@@ -151,4 +153,4 @@ def own_node_line(fields, node_format):
     """A node line that the operator gives, in the version that is recorded."""
     pause = fields.get("evictionPauseSeconds", node_format.eviction_pause)
     return NodeLine(without_nones({**fields, "kind": "node", "version": node_format.version,
-                                   "evictionPauseSeconds": pause}), [])
+                                   "evictionPauseSeconds": pause, **TELLS}), [])

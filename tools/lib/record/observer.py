@@ -12,6 +12,8 @@ from .summary import summary_of
 # the kubelet samples its node and its pods about as often
 SUMMARY_SECONDS = 10
 PODS_SECONDS = 10
+# how long the end of an instance that the runtime has removed is looked for in its pod's status, which may come later
+STATUS_SECONDS = 3
 # a list is asked for anew so often where a container has gone between it and `crictl inspect`
 MOST_LISTS = 3
 RUNTIME, PROBES, PODS, SUMMARY = "crictl ps", "/metrics/probes", "the list of pods", "/stats/summary"
@@ -34,6 +36,10 @@ class Observer:
         self.silent = {}
         self.details = {}
         self.states = {}
+        # the instances whose code is not known yet, and since when the runtime has them no more
+        self.unended = {}
+        self.missed_at = {}
+        self.listed_pods = {}
         self.known = set()
         self.strangers = set()
 
@@ -100,7 +106,8 @@ class Observer:
         self.asked_at[PODS] = moment
         pods = pods_of(self.sources.pods(), self.sources.pods_name())
         # a pod that is no longer listed stays known, since its containers may have yet to exit
-        self.known |= {pod.uid for pod in pods}
+        self.listed_pods = {pod.uid: pod for pod in pods}
+        self.known |= set(self.listed_pods)
         return pods
 
     def may_have_changed_pods(self, listed):
@@ -128,12 +135,39 @@ class Observer:
             listed = instances_of(self.sources.listed())
         else:
             self.say(f"{int(moment)}: {failures[0]}; it is asked again at each look", ("inspect", str(failures[0])))
+        listed = self.with_removed(listed, moment)
         there = {each.id for each in listed}
         self.details = {identity: detail for identity, detail in self.details.items() if identity in there}
         by_uid = {}
-        for instance in listed:
-            by_uid.setdefault(instance.uid, []).append(self.detailed(instance))
+        for instance in map(self.detailed, listed):
+            by_uid.setdefault(instance.uid, []).append(instance)
+            if instance.exit_code is None and instance.uid in self.known:
+                self.unended[instance.id] = instance
+            else:
+                self.unended.pop(instance.id, None)
         return by_uid
+
+    def with_removed(self, listed, moment):
+        """A list of the runtime with the instances that it removed before their codes were known: as ended where the
+        status of their pod says so, and for some seconds with no code where it may say so yet."""
+        there = {each.id for each in listed}
+        removed = [each for identity, each in self.unended.items() if identity not in there]
+        self.missed_at = {each.id: self.missed_at.get(each.id, moment) for each in removed}
+        found = [self.ended(each, moment) for each in removed]
+        return sorted([*listed, *filter(None, found)], key=lambda each: (each.created, each.attempt))
+
+    def ended(self, instance, moment):
+        """An instance that the runtime has no more, by its pod's status; None where that won't say how it ended."""
+        pod = self.listed_pods.get(instance.uid)
+        ends = None if pod is None else pod.ends
+        if ends is not None and instance.id in ends:
+            self.details[instance.id] = ends[instance.id].of(instance)
+        elif ends is None or moment - self.missed_at[instance.id] > STATUS_SECONDS:
+            del self.unended[instance.id]
+            return None
+        else:
+            self.asked_at.pop(PODS, None)
+        return replace(instance, state=EXITED)
 
     def wants_inspection(self, instance):
         if instance.uid not in self.known:

@@ -1,9 +1,12 @@
 """Pods, of `kubectl get pods -o json` or the kubelet's /pods. A manifest is written with the fields that the formats
 read and no others, so neither its status nor what a container is told in its environment."""
 
-from dataclasses import dataclass
+from dataclasses import dataclass, field
+from typing import Optional
 
+from .decisions import Decision, decision_of
 from .formats import (at_place, first_fault, label_fault, name_fault, quantity_fault, whole_fault, without_nones)
+from .runtime import End, code_fault, moment_of
 from .sources import Failed, read_json, reads
 
 PROBES = {"startup": "startupProbe", "liveness": "livenessProbe", "readiness": "readinessProbe"}
@@ -15,13 +18,17 @@ MOST_SECONDS = 2 ** 31 - 1
 
 @dataclass(frozen=True)
 class Pod:
-    """A pod as a source lists it; `fault` says why the formats do not take its manifest, or is None."""
+    """A pod as a source lists it; `fault` says why the formats do not take its manifest, or is None. `decision` is what
+    the kubelet did to it, `is_deleted` that it was told to go; `ends` has the instances that its status says have
+    ended, by their ids, and is None where its status has no container."""
     key: str
     uid: str
     manifest: dict
-    fault: str
+    fault: Optional[str]
     local_volumes: frozenset
-    is_evicted: bool
+    decision: Optional[Decision] = None
+    is_deleted: bool = False
+    ends: Optional[dict] = field(default=None, compare=False)
 
     def containers(self):
         """The names of its containers, init containers first."""
@@ -65,7 +72,18 @@ def pod_of(item):
     except (KeyError, TypeError, AttributeError):
         manifest, volumes, fault = {}, frozenset(), "no manifest"
     return Pod(f"{metadata.get('namespace') or 'default'}/{metadata.get('name')}", str(uid_of(metadata)), manifest,
-               fault, volumes, status.get("phase") == "Failed" and status.get("reason") == "Evicted")
+               fault, volumes, decision_of(status), metadata.get("deletionTimestamp") is not None, ends_in(status))
+
+
+def ends_in(status):
+    """The ends that a status has of its containers' instances: the newest and the one before."""
+    listed = [*(status.get("initContainerStatuses") or []), *(status.get("containerStatuses") or [])]
+    ended = [(container.get(state) or {}).get("terminated") for container in listed for state in ("lastState", "state")]
+    found = {end["containerID"].rpartition("//")[2]: End(moment_of(end.get("startedAt")),
+                                                         moment_of(end.get("finishedAt")), end["exitCode"],
+                                                         end.get("reason") == "OOMKilled")
+             for end in ended if end and end.get("containerID") and not code_fault(end.get("exitCode"))}
+    return found if listed else None
 
 
 def uid_of(metadata):

@@ -3,6 +3,7 @@
 from dataclasses import dataclass, field
 from typing import Optional
 
+from .decisions import EVICTED, REFUSED
 from .formats import MOST_PODS
 from .probes import PROBES, grown, results_of
 from .runtime import RUNNING, Container
@@ -13,9 +14,13 @@ from .trace import line_of
 PATIENCE = 30
 # how long signals stand as last sampled where the summary is silent
 SIGNAL_AGE = 60
+# how long the new pod of a name waits for the containers of the one before to exit
+GOING_SECONDS = 30
 # a tick is written once the second after it has passed, so that what is seen only then still finds its place
 HELD_SECONDS = 1
 ANEW = "was made anew under its name, and is left out from here on"
+LEFT_OUT = {EVICTED: "the kubelet had evicted it before it was seen",
+            REFUSED: "the kubelet refused it under pressure, so it never ran"}
 
 
 @dataclass
@@ -39,6 +44,7 @@ class Recorded:
     changes: dict = field(default_factory=dict)
     usage_times: Optional[tuple] = None
     is_followed: bool = True
+    going_since: Optional[float] = None
 
 
 class Recorder:
@@ -51,6 +57,8 @@ class Recorder:
         self.timeline = Timeline(trace_format)
         self.recorded = {}
         self.left_out = set()
+        self.decided = set()
+        self.listed = []
         # the second behind which the last pod of a name is no more
         self.gone_at = {}
         self.is_first = True
@@ -73,8 +81,8 @@ class Recorder:
             self.planned_counters = seen.counters
             self.timeline.place_look(seen.moment)
         self.counters = self.counters if seen.counters is None else seen.counters
-        if seen.pods is not None:
-            self.take_pods(seen)
+        self.listed = self.listed if seen.pods is None else seen.pods
+        self.take_pods(seen)
         if seen.instances is not None:
             self.take_instances(seen)
         self.take_summary(seen)
@@ -98,32 +106,35 @@ class Recorder:
         return [recorded for recorded in self.recorded.values() if recorded.is_followed]
 
     def take_pods(self, seen):
-        """Follows the pods that come, and no longer those that their source does not list any more."""
-        there = {pod.uid for pod in seen.pods} | {pod.key for pod in seen.pods}
+        """Follows the pods that come, and those that go until their containers have exited."""
+        listed = {pod.uid: pod for pod in self.listed}
         for recorded in self.followed():
-            if recorded.pod.uid not in there and recorded.pod.key not in there:
-                self.miss(recorded, seen)
-        for pod in seen.pods:
-            recorded = self.recorded.get(pod.uid)
-            if recorded is None and pod.uid not in self.left_out:
+            pod = listed.get(recorded.pod.uid)
+            if pod is not None and pod.decision is not None:
+                self.see_decision(pod, seen)
+            if pod is None or pod.is_deleted or pod.decision is not None:
+                self.see_going(recorded, pod is not None, seen)
+        for pod in self.listed:
+            if pod.uid not in self.recorded and pod.uid not in self.left_out:
                 self.arrive(pod, seen)
-            elif pod.is_evicted and recorded is not None and recorded.is_followed:
-                self.see_evicted(recorded, seen)
+            if pod.decision is not None:
+                self.see_decision(pod, seen)
 
     def arrive(self, pod, seen):
-        """A pod comes: it is recorded, or left out, which is said once."""
+        """A pod comes: it is recorded, or left out, which is said once. It waits for the one before it under its name
+        to go."""
         reason = self.reason_to_leave_out(pod)
         before = next((each for each in self.followed() if each.pod.key == pod.key), None)
-        if reason is None and before is not None:
+        if before is not None and not self.format.says_gone:
             self.depart(before, seen)
-            reason = None if self.format.says_gone else ANEW
+            reason = reason or ANEW
         if reason is not None:
             self.say(f"{pod.key} {reason}")
             self.left_out.add(pod.uid)
-            return
-        # its first container may have been made in the second in which the one before it went
-        moment = max(self.arrival_moment(pod, seen), self.gone_at.get(pod.key, -1) + 1)
-        self.recorded[pod.uid] = Recorded(pod, self.timeline.place_arrival(pod, moment))
+        elif before is None:
+            # its first container may have been made in the second in which the one before it went
+            moment = max(self.arrival_moment(pod, seen), self.gone_at.get(pod.key, -1) + 1)
+            self.recorded[pod.uid] = Recorded(pod, self.timeline.place_arrival(pod, moment))
 
     def reason_to_leave_out(self, pod):
         """Why a pod has no line, by what came before; None where it can have one."""
@@ -131,8 +142,10 @@ class Recorder:
             return f"is left out: {pod.fault}"
         if len(self.recorded) >= MOST_PODS:
             return f"is left out: a trace has at most {MOST_PODS} pods"
+        if pod.decision is not None:
+            return f"is left out: {LEFT_OUT[pod.decision.kind]}"
         if self.format.says_gone:
-            return "is left out: the kubelet had evicted it before it was seen" if pod.is_evicted else None
+            return None
         was_here = any(each.pod.key == pod.key and not each.is_followed for each in self.recorded.values())
         return ANEW if was_here else None
 
@@ -143,21 +156,46 @@ class Recorder:
         created = [each.created / 1e9 for each in (seen.instances or {}).get(pod.uid, []) if each.created]
         return min([seen.moment, *created])
 
-    def miss(self, recorded, seen):
-        """A pod is no longer listed. It is gone once each of its containers has exited with a code that is
-        known, or is no more."""
-        if not self.format.says_gone:
-            self.say(f"{recorded.pod.key} is gone, and the replay goes on with it: cut the trace where pods go")
-        elif seen.instances is not None:
-            instances = seen.instances.get(recorded.pod.uid, [])
-            if all(instance.exit_code is not None for instance in instances):
-                self.depart(recorded, seen)
+    def see_decision(self, pod, seen):
+        """The kubelet evicted or refused a pod, which is written once, unless that was before the recording. What an
+        evicted pod was running exits behind it."""
+        if pod.uid in self.decided:
+            return
+        self.decided.add(pod.uid)
+        recorded = self.recorded.get(pod.uid)
+        if recorded is not None:
+            self.say(f"{pod.key} was {pod.decision.kind} by the kubelet, seen at {int(seen.moment)}")
+        if recorded is not None or not self.is_first:
+            second = self.timeline.place_decision(pod, self.decided_at(pod, seen), recorded)
+        if recorded is not None:
+            recorded.arrived = second + 1
 
-    def see_evicted(self, recorded, seen):
-        self.say(f"{recorded.pod.key} was evicted by the kubelet, seen at {int(seen.moment)}",
-                 ("evicted", recorded.pod.uid))
-        if self.format.says_gone:
+    def decided_at(self, pod, seen):
+        """When the kubelet decided: as the pod's status says, else when that or an exit that it led to was seen."""
+        moments = [each.finished for each in (seen.instances or {}).get(pod.uid, [])
+                   if each.finished is not None and each.finished > self.planned_at]
+        return min([seen.moment, *moments] if pod.decision.moment is None else [seen.moment, pod.decision.moment])
+
+    def see_going(self, recorded, is_listed, seen):
+        """A pod is no longer listed, was told to go, or the kubelet ended it. It is gone once each of its containers has
+        exited with a code that is known, or is no more; where a new pod of its name waits for that, at the latest after
+        some seconds."""
+        if not self.format.says_gone:
+            if not is_listed and not any(pod.key == recorded.pod.key for pod in self.listed):
+                self.say(f"{recorded.pod.key} is gone, and the replay goes on with it: cut the trace where pods go")
+            return
+        if seen.instances is None:
+            return
+        recorded.going_since = seen.moment if recorded.going_since is None else recorded.going_since
+        instances = seen.instances.get(recorded.pod.uid, [])
+        is_late = seen.moment - recorded.going_since > GOING_SECONDS and self.has_next(recorded.pod)
+        if is_late or all(instance.exit_code is not None for instance in instances):
             self.depart(recorded, seen)
+
+    def has_next(self, pod):
+        """Whether a pod of its name waits for its line."""
+        waiting = (each for each in self.listed if each.uid not in self.recorded and each.uid not in self.left_out)
+        return any(each.key == pod.key for each in waiting)
 
     def depart(self, recorded, seen):
         """A pod goes from the trace, behind what the same look saw of its containers."""
@@ -166,7 +204,8 @@ class Recorder:
             recorded.changes = {name: self.last_changes(changes) for name, changes in recorded.changes.items()}
         self.plan_pod(recorded, seen.moment)
         recorded.is_followed = False
-        self.gone_at[recorded.pod.key] = self.timeline.place_departure(recorded.pod, seen.moment)
+        moment = max(seen.moment, recorded.arrived)
+        self.gone_at[recorded.pod.key] = self.timeline.place_departure(recorded.pod, moment)
 
     def last_changes(self, changes):
         """The changes of a container whose pod goes. That it is no longer listed is said by that its pod goes, but for

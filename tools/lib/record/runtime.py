@@ -27,6 +27,22 @@ class Instance:
     started: Optional[float] = None
     finished: Optional[float] = None
     exit_code: Optional[int] = None
+    is_out_of_memory: bool = False
+
+
+@dataclass(frozen=True)
+class End:
+    """How an instance ended, as its pod's status says it; moments as those of an instance."""
+    started: Optional[float]
+    finished: Optional[float]
+    exit_code: int
+    is_out_of_memory: bool
+
+    def of(self, instance):
+        """The instance as it ended, which the runtime may know no more."""
+        started = self.started if instance.started is None else instance.started
+        return replace(instance, state=EXITED, started=started, finished=self.finished, exit_code=self.exit_code,
+                       is_out_of_memory=self.is_out_of_memory)
 
 
 @dataclass(frozen=True)
@@ -39,10 +55,12 @@ class Listing:
 
 @dataclass(frozen=True)
 class Change:
-    """From a moment on a container is listed so. A quiet change is written with the next tick, and wants none."""
+    """From a moment on a container is listed so. A quiet change is written with the next tick, and wants none. What ran
+    out of memory was not ended by the kubelet, which sees it some time after."""
     moment: float
     listing: Optional[Listing]
     is_quiet: bool = False
+    is_out_of_memory: bool = False
 
 
 def moment_of(text):
@@ -55,6 +73,10 @@ def moment_of(text):
         shift = int(parts[10]) * 3600 + int(parts[11]) * 60
         seconds += -shift if parts[9] == "+" else shift
     return seconds + float(parts[7] or 0) if seconds > 0 else None
+
+
+def code_fault(code):
+    return whole_fault(code, -2 ** 31, 2 ** 31 - 1)
 
 
 def instance_of(item):
@@ -95,10 +117,10 @@ def inspected_of(text, instance):
     if status.get("state") != EXITED:
         return replace(instance, started=started)
     code = status.get("exitCode") or 0
-    if whole_fault(code, -2 ** 31, 2 ** 31 - 1):
+    if code_fault(code):
         raise Failed(f"crictl inspect {instance.id}: the exit code is {code}")
     return replace(instance, state=EXITED, started=started, finished=moment_of(status.get("finishedAt")),
-                   exit_code=code)
+                   exit_code=code, is_out_of_memory=status.get("reason") == "OOMKilled")
 
 
 class Container:
@@ -202,4 +224,5 @@ class Container:
         if instance.state != EXITED:
             return []
         return [Change(moment if instance.finished is None else instance.finished,
-                       Listing(self.attempt, EXITED, instance.exit_code))]
+                       Listing(self.attempt, EXITED, instance.exit_code),
+                       is_out_of_memory=instance.is_out_of_memory)]

@@ -11,7 +11,7 @@ from dataclasses import dataclass, field, replace
 from typing import Optional
 
 from .runtime import CREATED, EXITED, LOST_CODE, RUNNING, Change
-from .trace import entry_of, gone_line, pod_line, tick_line, unknown
+from .trace import entry_of, gone_line, pod_line, tick_line, told, unknown
 
 # a pod's sync that kills a container starts its successor; what the kubelet shows has nothing between the two
 SYNC_SECONDS = 1.0
@@ -28,13 +28,15 @@ class Tick:
     results: dict = field(default_factory=dict)
     usages: dict = field(default_factory=dict)
     signals: Optional[dict] = None
+    decisions: list = field(default_factory=list)
     departures: list = field(default_factory=list)
 
 
 def is_seamless(item, after):
     """An exit with the code 137 whose successor starts in the same sync: the start's tick says that exit and that code
-    too, since it no longer lists the one before, and shows no moment at which the container was not ready."""
-    return (isinstance(item, Change) and isinstance(after, Change) and item.listing is not None
+    too, since it no longer lists the one before, and shows no moment at which the container was not ready. What ran out
+    of memory exits by itself, and another sync starts its successor."""
+    return (isinstance(item, Change) and not item.is_out_of_memory and isinstance(after, Change) and item.listing is not None
             and after.listing is not None and item.listing.state == EXITED and item.listing.exit_code == LOST_CODE
             and after.listing.state == RUNNING and after.moment - item.moment < SYNC_SECONDS)
 
@@ -112,6 +114,12 @@ class Timeline:
         last = [second + behind for (uid, *_), second in self.last_placed.items() if uid == pod.uid]
         second = self.second_of(moment, *last)
         self.tick(second, True).departures.append(pod)
+        return second
+
+    def place_decision(self, pod, moment, recorded):
+        """What the kubelet did to a pod, which is recorded or left out; the second of its tick."""
+        second = self.second_of(moment, *([] if recorded is None else [recorded.arrived]))
+        self.tick(second, True).decisions.append((pod.key, pod.decision, recorded is None))
         return second
 
     def place_sample(self, moment, signals, usages, is_wanted):
@@ -198,7 +206,8 @@ class Timeline:
         if tick.is_wanted:
             changed = set(tick.listings) if is_silent else None
             entries = [self.entry(pod, changed) for pod in self.present]
-            lines.append(tick_line(second, [entry for entry in entries if entry is not None], self.signals))
+            entries = [entry for entry in entries if entry is not None]
+            lines.append(tick_line(second, entries, self.signals, told(second, tick.decisions)))
             self.results, self.usages = {}, {}
         if self.format.says_gone:
             lines += [gone_line(pod) for pod in tick.departures]

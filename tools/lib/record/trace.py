@@ -71,5 +71,14 @@ def entry_of(pod, listings, results, usage):
     return without_nones({"pod": pod.key, "containers": containers, "probes": probes or None, "usage": usage})
 
 
-def tick_line(second, entries, signals):
-    return line_of({"kind": "tick", "at": second, "pods": entries, "signals": signals})
+def told(second, decisions):
+    """What the kubelet did in a tick, which the formats don't read: {"evicted" or "refused": [..]}, or None."""
+    found = {}
+    for key, decision, is_left_out in decisions:
+        found.setdefault(decision.kind, []).append(decision.told(key, second, is_left_out))
+    return found or None
+
+
+def tick_line(second, entries, signals, kubelet=None):
+    return line_of(without_nones({"kind": "tick", "at": second, "pods": entries, "signals": signals,
+                                  "kubelet": kubelet}))
