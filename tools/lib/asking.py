@@ -5,15 +5,16 @@ from __future__ import annotations
 import difflib
 
 import entry
+import kubelet as kubelets
 import report as reports
 import trace as traces
 import why_text
 
 
-def pods_named(report, key):
-    """The pods of a key, more than one where a pod came again under its name."""
+def pods_named(report, key, others=""):
+    """The pods of a key, more than one where a pod came again under its name; none where something else is told."""
     found = [pod for pod in report.pods if pod.key == key]
-    if not found:
+    if not found and not others:
         raise entry.Fault(f"the report has no pod {key}; {nearest(report, key)}")
     return found
 
@@ -48,14 +49,25 @@ def tell_left(trace, report):
         pod.left = trace.ticks[ours.gone].at if ours.gone is not None and ours.gone < len(trace.ticks) else None
 
 
+def kubelet_beside(trace, report):
+    """What the kubelet did, beside the report; None without a trace that says so."""
+    return None if trace is None else of_whole_ticks(lambda: kubelets.beside(trace, report))
+
+
+def without_line(kubelet, key, show):
+    """What the kubelet did to pods of a key that have no line in the trace, as text."""
+    return kubelets.no_line_text(key, kubelet.of_no_line(key), show) if kubelet is not None else ""
+
+
 def why(trace, report, pods, show):
     """What the trace holds around the events of some pods, as text."""
+    kubelet = kubelet_beside(trace, report)
     return "\n".join(f"why {pod.key} on {report.node}{reports.number_words(report, pod)}\n\n"
-                     + why_of(trace, report, pod, show) for pod in pods)
+                     + why_of(trace, report, pod, show, kubelet) for pod in pods)
 
 
-def why_of(trace, report, pod, show):
-    return of_whole_ticks(lambda: why_text.whole_text(trace, report, pod, show))
+def why_of(trace, report, pod, show, kubelet=None):
+    return of_whole_ticks(lambda: why_text.whole_text(trace, report, pod, show, kubelet))
 
 
 def of_whole_ticks(gather):

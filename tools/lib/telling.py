@@ -19,9 +19,11 @@ def table(title, heads, rows):
     return [*lines, ""]
 
 
-def event_words(event):
-    """An event's attempt, if it has one, and what happened."""
+def event_words(event, is_beside=False):
+    """An event's attempt, if it has one, and what happened; an eviction in other words where it stands beside what the
+    kubelet did."""
     rest = event.rest
+    evicts = "the rules evict it: " if is_beside else "evicted by "
     said = {
         "started": lambda: (rest[0], "started"),
         "died": lambda: (rest[0], f"died with code {rest[1]}"),
@@ -32,6 +34,6 @@ def event_words(event):
         "backoff": lambda: ("", f"restart backed off by {rest[0]} s"),
         "restart": lambda: (rest[0], "restart"),
         "phase": lambda: ("", f"phase {rest[0]}"),
-        "evicted": lambda: ("", f"evicted by {rest[1]} {rest[2]}, grace {rest[3]} s"),
+        "evicted": lambda: ("", f"{evicts}{rest[1]} {rest[2]}, grace {rest[3]} s"),
     }
     return said[event.word]()

@@ -76,6 +76,20 @@ class Listing:
 
 
 @dataclass
+class Decision:
+    """What the kubelet did to a pod, as a recording of it says; the formats do not read that."""
+
+    kind: str
+    """evicted or refused"""
+    at: int
+    pod: str
+    number: int | None
+    """that of the pod; None where it has no line in the trace"""
+    reason: str
+    message: str
+
+
+@dataclass
 class Tick:
     at: int
     entries: dict[str, dict]
@@ -107,6 +121,8 @@ class Trace:
     ticks: list[Tick] = field(default_factory=list)
     places: dict[int, int] = field(default_factory=dict)
     """the place of a tick by its moment"""
+    decisions: list[Decision] = field(default_factory=list)
+    """what the kubelet did, in the order of the ticks"""
 
     def entry(self, pod, place):
         """What a tick has of a pod, as it is written; None where the pod is not in it."""
@@ -122,6 +138,10 @@ class Trace:
     def pause(self):
         """evictionPauseSeconds, which version 3 alone has."""
         return number_at(self.settings, "evictionPauseSeconds", 0) if self.settings.get("version") == 3 else 0
+
+    def tells(self):
+        """Whether the trace says what the kubelet did: where it then says nothing, the kubelet did nothing."""
+        return self.settings.get("recordsKubelet") is True or bool(self.decisions)
 
     def dedicated(self):
         return value_at(self.settings, "dedicatedImagefs", False)
@@ -194,6 +214,11 @@ def read_trace(path):
         raise TraceFault(f"{path} can't be read: {fault.strerror}") from None
     if len(text) > LONGEST_TRACE:
         raise TraceFault(f"{path} is no trace: it has more than 64 MiB")
+    return trace_of(text, path)
+
+
+def trace_of(text, path):
+    """The trace of a text, which a path names where it is none. Raises TraceFault."""
     trace, present = None, {}
     for number, line in enumerate(text.split(b"\n"), 1):
         if not line.strip(b" \t\r"):
@@ -226,6 +251,7 @@ def trace_with(trace, present, found):
         present.pop(found["pod"]).gone = len(trace.ticks)
     elif kind == "tick":
         add_tick(trace, present, tick_of(found))
+        trace.decisions += decisions_of(found, present)
     else:
         raise ValueError("kind")
     return trace
@@ -241,6 +267,19 @@ def add_tick(trace, present, tick):
 def tick_of(found):
     entries = {text_at(entry, "pod"): entry for entry in list_at(found, "pods")}
     return Tick(found["at"] + 0, entries, samples(found, "signals"), samples(found, "afterReclaim"))
+
+
+def decisions_of(found, present):
+    """What a tick says that the kubelet did. Since the formats do not read it, what has another shape says nothing."""
+    told = found.get("kubelet")
+    for kind in ("evicted", "refused"):
+        each_of = told.get(kind) if isinstance(told, dict) else None
+        for each in each_of if isinstance(each_of, list) else []:
+            if isinstance(each, dict) and isinstance(each.get("pod"), str):
+                at, key = each.get("at"), each["pod"]
+                pod = None if each.get("leftOut") is True else present.get(key)
+                yield Decision(kind, at if isinstance(at, int) else found["at"], key, pod and pod.number,
+                               str(each.get("reason") or ""), str(each.get("message") or ""))
 
 
 def samples(found, name):

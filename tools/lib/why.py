@@ -51,14 +51,15 @@ class Exit:
 @dataclass
 class Candidate:
     pod: traces.Pod
-    usage: int
+    usage: int | None
+    """None where no sample of it was recorded, which counts as 0"""
     request: int | None
     qos: str
     victim: bool
 
     @property
     def above(self):
-        return self.usage - (self.request or 0)
+        return (self.usage or 0) - (self.request or 0)
 
 
 @dataclass
@@ -223,16 +224,23 @@ def gather_evictions(trace, report, moments):
             continue
         threshold = next((limit for limit in trace.thresholds
                           if (limit.signal, limit.kind) == (eviction.signal, eviction.kind)), None)
-        found[eviction.at] = Evicted(eviction.signal, threshold, since, samples_of(trace, eviction, since),
-                                     candidates_of(trace, report, eviction, usages[trace.places[eviction.at]]),
-                                     trace.pause(), before and before.at)
+        place = trace.places[eviction.at]
+        found[eviction.at] = Evicted(eviction.signal, threshold, since,
+                                     samples_of(trace, eviction.at, eviction.signal, since),
+                                     candidates_of(trace, report, place, eviction.signal, eviction.number,
+                                                   usages[place]), trace.pause(), before and before.at)
     return found
 
 
-def samples_of(trace, eviction, since):
-    last = trace.places[eviction.at]
-    ticks = trace.ticks[trace.places.get(since, last) : last + 1]
-    return [(tick.at, tick.signals.get(eviction.signal), tick.after_reclaim.get(eviction.signal)) for tick in ticks]
+def samples_of(trace, at, signal, since):
+    """The samples of a signal from one tick to another; a value that a tick repeats is no sample of its own."""
+    last = trace.places[at]
+    found = []
+    for tick in trace.ticks[trace.places.get(since, last) : last + 1]:
+        sample = tick.signals.get(signal), tick.after_reclaim.get(signal)
+        if not found or found[-1][1:] != sample:
+            found.append((tick.at, *sample))
+    return found
 
 
 def usages_at(trace, places):
@@ -256,24 +264,23 @@ def take_usage(usage, entry):
             usage[resource] = traces.amounts.quantity(value)
 
 
-def candidates_of(trace, report, eviction, usages):
-    """The pods that were present and had not ended before the eviction, in the order of the rules for its signal."""
-    place = trace.places[eviction.at]
-    found = []
+def candidates_of(trace, report, place, signal, number, usages):
+    """The pods that were present at a tick and had not ended before it, in the order of the rules for a signal; one of
+    a number was evicted."""
+    found, at = [], trace.ticks[place].at
     for pod, status in zip(trace.pods, report.pods):
         ended = reports.end_of(status)
-        if not pod.is_present(place) or (ended and ended[0] <= eviction.at and ended != (eviction.at, "Evicted")):
+        if not pod.is_present(place) or (ended and ended[0] <= at and ended != (at, "Evicted")):
             continue
-        usage = used(usages[pod.number], eviction.signal, trace.dedicated())
-        found.append(Candidate(pod, usage, requested(pod, eviction.signal), status.qos,
-                               pod.number == eviction.number))
+        usage = used(usages[pod.number], signal, trace.dedicated())
+        found.append(Candidate(pod, usage, requested(pod, signal), status.qos, pod.number == number))
     return sorted(found, key=order)
 
 
 def order(candidate):
     """Above the request first, then lower priority, more usage above the request, lower number; without requests by
     priority and usage alone."""
-    exceeds = candidate.request is not None and candidate.usage > candidate.request
+    exceeds = candidate.request is not None and candidate.above > 0
     return not exceeds, candidate.pod.priority, -candidate.above, candidate.pod.number
 
 
@@ -283,7 +290,8 @@ def used(usage, signal, dedicated):
         "nodefs.available": ("volumes", "logs") if dedicated else ("volumes", "logs", "writable"),
         "imagefs.available": ("writable",) if dedicated else ("volumes", "logs", "writable"),
     }
-    return sum(usage.get(kind, 0) for kind in kinds.get(signal, ("inodes",)))
+    found = [usage[kind] for kind in kinds.get(signal, ("inodes",)) if kind in usage]
+    return sum(found) if found else None
 
 
 def requested(pod, signal):

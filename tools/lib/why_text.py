@@ -2,6 +2,7 @@
 
 from __future__ import annotations
 
+import kubelet as kubelets
 import trace as traces
 import why
 from amounts import amount_text
@@ -13,11 +14,14 @@ ORDERS = {True: "usage above the request first, then lower priority, then more u
           False: "lower priority first, then greater usage, then lower number"}
 
 
-def whole_text(trace, report, pod, show):
-    """The lines for each event of a pod of the report; show writes a moment."""
+def whole_text(trace, report, pod, show, kubelet=None):
+    """The lines for each event of a pod of the report, and for what the kubelet did to it; show writes a moment."""
+    parts = [(around.event.at, [heading(around.event, show, kubelet), *told(trace, pod, around, show)])
+             for around in why.around_events(trace, report, pod)]
+    parts += kubelet_parts(trace, report, pod, show, kubelet)
     lines = []
-    for around in why.around_events(trace, report, pod):
-        lines += [heading(around.event, show), *(f"  {line}".rstrip() for line in told(trace, pod, around, show)), ""]
+    for _, (head, *rest) in sorted(parts, key=lambda part: part[0]):
+        lines += [head, *(f"  {line}".rstrip() for line in rest), ""]
     lines = lines or ["no event", ""]
     gone = trace.pods[pod.number].gone
     if gone is not None:
@@ -26,8 +30,22 @@ def whole_text(trace, report, pod, show):
     return "\n".join(lines[:-1]) + "\n"
 
 
-def heading(event, show):
-    attempt, what = event_words(event)
+def kubelet_parts(trace, report, pod, show, kubelet):
+    """What the kubelet did to a pod, beside what the rules do, by moment."""
+    fact = kubelet and kubelet.fact(pod.number)
+    if not fact:
+        return []
+    head = f"{show(fact.decision.at)}  the kubelet evicted it: {kubelets.why_words(fact.decision)}"
+    lines = [kubelets.rules_words(fact, show)]
+    is_over = fact.eviction is not None and fact.eviction.at <= fact.decision.at + kubelets.NEAR
+    around = None if is_over else kubelets.around(trace, report, fact.decision)
+    if around is not None:
+        lines += evicted_lines(around, show, f"samples of the {kubelets.SAMPLE_SECONDS} s before:")
+    return [(fact.decision.at, [head, *lines])]
+
+
+def heading(event, show, kubelet=None):
+    attempt, what = event_words(event, kubelet is not None)
     said = " ".join(filter(None, [event.container, what, f"(attempt {attempt})" if attempt else ""]))
     return f"{show(event.at)}  {said}"
 
@@ -105,11 +123,11 @@ def exit_lines(trace, pod, around, show):
     return lines + left_out(len(around.exits) - len(kept), "earlier exits")
 
 
-def evicted_lines(evicted, show):
-    """The threshold of an eviction, its samples, and the pods in the order in which they were ranked."""
+def evicted_lines(evicted, show, title="samples since it became active:"):
+    """The threshold of an eviction, its samples, and the pods in the order in which they are ranked."""
     of_bytes = evicted.signal in traces.BYTE_SIGNALS
     lines = threshold_lines(evicted, of_bytes, show) + pause_lines(evicted, show)
-    lines += sample_lines(evicted, of_bytes, show)
+    lines += sample_lines(evicted, of_bytes, show, title)
     with_requests = any(candidate.request is not None for candidate in evicted.candidates)
     rows = [candidate_row(place, candidate, of_bytes) for place, candidate in enumerate(evicted.candidates, 1)]
     lines += table("pods that were present and had not ended:",
@@ -144,7 +162,7 @@ def threshold_words(evicted, of_bytes):
             f"grace {threshold.grace} s")
 
 
-def sample_lines(evicted, of_bytes, show):
+def sample_lines(evicted, of_bytes, show, title):
     """The first sample and the last ones."""
     samples = evicted.samples
     kept = samples if len(samples) <= MOST_ROWS else [samples[0], *samples[1 - MOST_ROWS :]]
@@ -152,7 +170,7 @@ def sample_lines(evicted, of_bytes, show):
     rows = [[show(at), amount_text(value, of_bytes), *([amount_text(after, of_bytes)] if with_reclaim else [])]
             for at, value, after in kept]
     heads = ["moment", evicted.signal, *(["after reclaim"] if with_reclaim else [])]
-    lines = table("samples since it became active:", heads, rows)[:-1]
+    lines = table(title, heads, rows)[:-1]
     least = min((value for _, value, _ in samples if value is not None), default=None)
     if len(samples) > len(kept):
         lines.append(f"{len(samples) - len(kept)} samples behind the first are left out; the least of all is "
@@ -163,5 +181,6 @@ def sample_lines(evicted, of_bytes, show):
 def candidate_row(place, candidate, of_bytes):
     request = "-" if candidate.request is None else amount_text(candidate.request, of_bytes)
     above = "-" if candidate.request is None else amount_text(candidate.above, of_bytes)
-    return [str(place), candidate.pod.key, amount_text(candidate.usage, of_bytes), request, above,
+    usage = "no sample" if candidate.usage is None else amount_text(candidate.usage, of_bytes)
+    return [str(place), candidate.pod.key, usage, request, above,
             str(candidate.pod.priority), candidate.qos, "evicted" if candidate.victim else ""]
