@@ -3,6 +3,7 @@ are differences, so that a page of many events stays small. `decode.js` reads it
 
 from __future__ import annotations
 
+import kubelet as kubelets
 import records
 import report as reports
 import trace as traces
@@ -53,9 +54,12 @@ def data_of(report, trace, utc):
         "tickSteps": repeated(differences([span.of(tick.at) for tick in trace.ticks])) if trace else [],
         "signals": signals_of(trace), "active": active_of(report, span), "pressure": pressure_of(report, span),
         "reclaims": [[span.of(event.at), *event.rest] for event in report.events if event.word == "reclaim"],
-        "evictions": evictions_of(report, trace, span, left),
+        "evictions": evictions_of(report, trace, span, left), "kubelet": kubelet_of(report, trace, span),
         "podList": [pod_of(report, trace, span, pod, ticks.get(pod.number), budget) for pod in report.pods],
     }
+    refused = sorted({one["key"] for one in data["kubelet"]["refused"]} if data["kubelet"] else ())
+    if refused:
+        left.append(f"the pods that the kubelet refused under pressure, which never ran: {', '.join(refused)}")
     if budget.refused:
         left.append(f"the results of the probes of {budget.refused} containers, behind the first {MOST_RUNS} runs")
     if trace:
@@ -144,6 +148,30 @@ def evictions_of(report, trace, span, left):
     if cut:
         left.append(f"the rows behind the first {MOST_ROWS} of the evictions' tables, {cut} in all; tools/why has them")
     return found
+
+
+def kubelet_of(report, trace, span):
+    """What the kubelet did, beside what the rules do; None where no trace says so."""
+    found = kubelets.beside(trace, report) if trace else None
+    if found is None:
+        return None
+    return {
+        "evicted": [decision_of(fact.decision, span) | {
+            "rules": span.of(fact.eviction.at) if fact.eviction else None, "agrees": fact.agrees,
+            "causes": causes_of(fact.causes, span)} for fact in found.evicted],
+        "refused": [decision_of(decision, span) for decision in found.refused],
+        "alone": [[each.eviction.number, causes_of(each.causes, span)] for each in found.alone],
+    }
+
+
+def decision_of(decision, span):
+    return {"at": span.of(decision.at), "pod": decision.number, "key": decision.pod, "kind": decision.kind,
+            "why": kubelets.why_words(decision)}
+
+
+def causes_of(causes, span):
+    """Causes as their parts, with moments from the first one on."""
+    return [[span.of(part) if isinstance(part, int) else part for part in cause] for cause in causes]
 
 
 def around_of(evicted, span):

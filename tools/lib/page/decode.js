@@ -30,10 +30,13 @@ function entries(list, columns) {
 
 function eventsOf(pod) {
   let at = 0;
-  return pod.events.map((event, number) => {
+  const events = pod.events.map((event, number) => {
     at += event[0];
     return {at, place: event[1], word: data.words[event[2]], rest: event.slice(3), number, pod};
   });
+  if (!pod.fact) return events;
+  const did = {at: pod.fact.at, place: -1, word: 'kubelet', rest: [pod.fact.why], number: events.length, pod};
+  return [...events, did].sort((a, b) => a.at - b.at);
 }
 
 // Results of a probe as runs of equal ones, from one moment until another.
@@ -74,6 +77,7 @@ data.podList.forEach((pod, number) => {
   pod.restarts = pod.containers.reduce((sum, container) => sum + container.restarts, 0);
   pod.isReady = pod.conditions.some((one) => one[0] === 'Ready' && one[1] === 'True');
   pod.eviction = data.evictions.find((one) => one.pod === number) || null;
+  pod.fact = data.kubelet && data.kubelet.evicted.find((one) => one.pod === number) || null;
   pod.kills = pod.events.filter((event) => data.words[event[2]] === 'kill').length;
   lazily(pod, 'list', () => eventsOf(pod));
   pod.containers.forEach((container) => lazily(container, 'spans', () => entries(container.states, 4)));
@@ -90,9 +94,14 @@ function placeBefore(length, of, at) {
   return low - 1;
 }
 
+// Whether the kubelet evicted a pod, where the trace says so, or else whether the rules do.
+function isEvicted(pod) {
+  return Boolean(data.kubelet ? pod.fact : pod.eviction);
+}
+
 function worth(pod) {
   const failed = pod.phase === 'Failed' ? 1 : 0;
-  return [pod.eviction ? 1 : 0, failed, pod.restarts + pod.kills, pod.unready];
+  return [isEvicted(pod) ? 1 : 0, failed, pod.restarts + pod.kills, pod.unready];
 }
 
 function isWorse(left, right) {
@@ -132,6 +141,29 @@ function seconds(count) {
   return `${Number((count / 86400).toFixed(1))} days`;
 }
 
+// Causes of a difference, behind a semicolon each; their numbers are moments.
+function causesWords(causes) {
+  return causes.map((cause) => `; ${cause.map((part) => typeof part === 'number' ? moment(part) : part).join(' ')}`)
+    .join('');
+}
+
+function rulesWords(fact) {
+  const does = `the rules, over the recorded samples, ${fact.agrees ? 'agree' : 'differ'}: they `;
+  if (fact.rules === null) return `${does}do not evict it${causesWords(fact.causes)}`;
+  const apart = fact.rules - fact.at;
+  const when = apart ? `, ${Math.abs(apart)} s ${apart > 0 ? 'after' : 'before'}` : '';
+  return `${does}evict it at ${moment(fact.rules)}${when}${causesWords(fact.causes)}`;
+}
+
+// What the kubelet did to a pod and what the rules do, as sentences; none where no trace says so.
+function kubeletWords(pod) {
+  if (pod.fact) return [`the kubelet evicted it at ${moment(pod.fact.at)}: ${pod.fact.why}`, rulesWords(pod.fact)];
+  const alone = data.kubelet && data.kubelet.alone.find((one) => one[0] === pod.number);
+  if (!alone) return [];
+  return [`the kubelet did not evict it; the rules, over the recorded samples, evict it at ${moment(pod.eviction.at)}`
+    + causesWords(alone[1])];
+}
+
 function told(event) {
   const rest = event.rest;
   switch (event.word) {
@@ -142,7 +174,11 @@ function told(event) {
     case 'backoff': return `restart backed off by ${rest[0]} s`;
     case 'restart': return `restart of attempt ${rest[0]}`;
     case 'phase': return `phase ${rest[0]}`;
-    case 'evicted': return `evicted by ${rest[1]} ${rest[2]}, grace ${rest[3]} s`;
+    case 'evicted': {
+      const evicts = data.kubelet ? 'the rules evict it:' : 'evicted by';
+      return `${evicts} ${rest[1]} ${rest[2]}, grace ${rest[3]} s`;
+    }
+    case 'kubelet': return `the kubelet evicted it: ${rest[0]}`;
     default: return event.word;
   }
 }

@@ -148,7 +148,8 @@ function makeCharts() {
     section.append(holder);
     charts.push({canvas, draw, tip, hits, signal});
   };
-  add(drawNodeLanes, nodeTip, () => data.evictions);
+  const facts = data.kubelet ? data.kubelet.evicted.filter((one) => one.pod !== null) : [];
+  add(drawNodeLanes, nodeTip, () => [...facts, ...data.evictions]);
   for (const signal of data.signals) {
     signal.isTall = data.active.some((span) => span[0] === signal.name);
     add((canvas) => drawSignal(canvas, signal), (at, reach) => signalTip(signal, at, reach),
@@ -179,16 +180,29 @@ function nodeLanes() {
 
 function drawNodeLanes(canvas) {
   const lanes = nodeLanes();
-  const area = fit(canvas, (lanes.length + 1) * NODE_LANE + 4);
+  const area = fit(canvas, (lanes.length + (data.kubelet ? 2 : 1)) * NODE_LANE + 4);
   drawGrid(area);
   lanes.forEach((lane, place) => {
     drawName(area, lane.name, place * NODE_LANE + 9);
     drawBars(area, lane.spans, place * NODE_LANE + 3, 11, {});
   });
-  const y = lanes.length * NODE_LANE + 10;
-  drawName(area, data.evictions.length ? `${data.evictions.length} evicted` : 'no eviction', y);
+  let y = lanes.length * NODE_LANE + 10;
+  if (data.kubelet) {
+    const count = data.kubelet.evicted.length;
+    drawName(area, count ? `${count} evicted by kubelet` : 'kubelet evicted none', y);
+    const at = y;
+    drawEvictions(area, data.kubelet.evicted, () => at, colours.failed);
+    y += NODE_LANE;
+  }
+  const byRules = data.kubelet ? ' by the rules' : '';
+  drawName(area, data.evictions.length ? `${data.evictions.length} evicted${byRules}` : `no eviction${byRules}`, y);
   drawReclaims(area, y);
-  drawEvictions(area, data.evictions, () => y);
+  drawEvictions(area, data.evictions, () => y, ruleColour());
+}
+
+// Where the kubelet's evictions are shown, those of the rules are no facts, and are drawn quietly.
+function ruleColour() {
+  return data.kubelet ? colours.quiet : colours.failed;
 }
 
 function drawReclaims(area, y) {
@@ -197,12 +211,12 @@ function drawReclaims(area, y) {
   for (const [at] of data.reclaims) if (at >= view.from && at <= view.to) area.pen.fillText('◇', xOf(area, at), y);
 }
 
-function drawEvictions(area, evictions, yAt) {
+function drawEvictions(area, evictions, yAt, colour) {
   let last = -9;
   for (const one of evictions) {
     const x = xOf(area, one.at);
     if (x < area.left - 1 || x > area.right + 1 || x - last < 2) continue;
-    drawCross(area.pen, x, yAt(one), 4.5, colours.failed);
+    drawCross(area.pen, x, yAt(one), 4.5, colour);
     last = x;
   }
 }
@@ -252,8 +266,9 @@ function drawSignal(canvas, signal) {
   drawGrid(area);
   drawThresholds(area, signal, yOf);
   drawLine(area, columns, yOf);
-  drawEvictions(area, data.evictions.filter((one) => one.signal === signal.name),
-    (one) => yOf(signal.values[placeBefore(tickMoments.length, (place) => tickMoments[place], one.at)] || 0));
+  const valueAt = (at) => signal.values[placeBefore(tickMoments.length, (place) => tickMoments[place], at)] || 0;
+  drawEvictions(area, data.evictions.filter((one) => one.signal === signal.name), (one) => yOf(valueAt(one.at)),
+    ruleColour());
   drawName(area, `${signal.isTall ? '▾' : '▸'} ${signal.name}`, 10);
   if (signal.isTall) drawName(area, `0 to ${amount(most, signal.bytes)}`, 25);
 }
@@ -306,8 +321,15 @@ function drawThresholds(area, signal, yOf) {
 }
 
 function evictionWords(evictions, at, reach) {
+  const by = data.kubelet ? 'evicted by the rules:' : 'evicted by';
   return evictions.filter((one) => Math.abs(one.at - at) <= reach)
-    .map((one) => `${moment(one.at)} ${data.podList[one.pod].name} evicted by ${one.signal} ${one.kind}`);
+    .map((one) => `${moment(one.at)} ${data.podList[one.pod].name} ${by} ${one.signal} ${one.kind}`);
+}
+
+function didWords(at, reach) {
+  if (!data.kubelet) return [];
+  return [...data.kubelet.evicted, ...data.kubelet.refused].filter((one) => Math.abs(one.at - at) <= reach)
+    .map((one) => `${moment(one.at)} the kubelet ${one.kind} ${one.key}: ${one.why}`);
 }
 
 function signalTip(signal, at, reach) {
@@ -325,5 +347,5 @@ function nodeTip(at, reach) {
   const reclaimed = data.reclaims.filter((one) => Math.abs(one[0] - at) <= reach)
     .map((one) => `${moment(one[0])} reclaimed: ${one[1]} ${one[2]}`);
   const evicted = evictionWords(data.evictions, at, reach);
-  return [moment(Math.round(at)), ...found, ...active, ...reclaimed, ...evicted].join('\n');
+  return [moment(Math.round(at)), ...found, ...active, ...reclaimed, ...didWords(at, reach), ...evicted].join('\n');
 }

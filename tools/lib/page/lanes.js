@@ -67,7 +67,8 @@ function makeRow(pod, place) {
 function metaOf(pod) {
   const meta = element('span', undefined, 'meta');
   const bad = [];
-  if (pod.eviction) bad.push(`evicted ${shortMoment(pod.eviction.at, 1)}`);
+  if (isEvicted(pod)) bad.push(`evicted ${shortMoment((pod.fact || pod.eviction).at, 1)}`);
+  else if (pod.eviction) bad.push('evicted by the rules alone');
   else if (pod.phase === 'Failed') bad.push('failed');
   if (pod.restarts) bad.push(`${pod.restarts} restart${pod.restarts > 1 ? 's' : ''}`);
   const gone = typeof pod.gone === 'number' ? `gone before ${shortMoment(pod.gone, 1)}` : '';
@@ -133,6 +134,13 @@ function drawRow(row) {
     drawMarks(area, drawn.marks[place], laneTop(place));
   });
   if (pod.end) drawEnd(area, pod);
+  if (pod.fact) drawFact(area, pod);
+}
+
+function drawFact(area, pod) {
+  const x = xOf(area, pod.fact.at);
+  if (x < area.left || x > area.right + 1) return;
+  drawCross(area.pen, x, (laneTop(pod.containers.length) - LANE + BAR + 3) / 2, 4.5, colours.failed);
 }
 
 function drawEnd(area, pod) {
@@ -145,7 +153,7 @@ function drawEnd(area, pod) {
   area.pen.moveTo(x, 0);
   area.pen.lineTo(x, bottom);
   area.pen.stroke();
-  if (pod.eviction) drawCross(area.pen, x, bottom / 2, 4.5, colours.failed);
+  if (pod.eviction) drawCross(area.pen, x, bottom / 2, 4.5, ruleColour());
 }
 
 // One mark for each five pixels, the weightiest of those that fall there.
@@ -202,8 +210,8 @@ function eventsAt(row, area, x, y) {
   const at = momentAt(area, x);
   const near = row.pod.list.filter((event) => Math.abs(event.at - at) <= reach);
   const lane = laneAt(row.pod, y);
-  const own = near.filter((event) => lane < 0 ? ['ready', 'unready', 'phase', 'evicted'].includes(event.word)
-    : event.place === lane || event.word === 'evicted');
+  const own = near.filter((event) => lane < 0 ? ['ready', 'unready', 'phase', 'evicted', 'kubelet'].includes(event.word)
+    : event.place === lane || event.word === 'evicted' || event.word === 'kubelet');
   return own.length ? own : near;
 }
 

@@ -1,7 +1,7 @@
 // What the page shows, and what is done to it.
 const shown = {filter: '', chip: 'all', order: 'worst'};
 const CHIPS = [
-  ['all', 'all', () => true], ['evicted', 'evicted', (pod) => pod.eviction !== null],
+  ['all', 'all', () => true], ['evicted', 'evicted', isEvicted],
   ['restarted', 'restarted', (pod) => pod.restarts > 0], ['killed', 'killed by a probe', (pod) => pod.kills > 0],
   ['unready', 'not ready at the end', (pod) => !pod.isReady && pod.phase !== 'Succeeded'],
 ];
@@ -13,7 +13,8 @@ const LEGEND = [
   ['ready', 'ready'], ['unready', 'not ready'], ['pressure', 'pressure'], ['shade', 'threshold active'],
 ];
 const MARKS = [['▼', 'kill ordered', 'kill'], ['○', 'restart', 'mark'], ['□', 'restart backed off', 'mark'],
-  ['✕', 'evicted', 'failed'], ...(data.reclaims.length ? [['◇', 'reclaimed', 'quiet']] : [])];
+  ['✕', 'evicted', 'failed'], ...(data.kubelet ? [['✕', 'by the rules', 'quiet']] : []),
+  ...(data.reclaims.length ? [['◇', 'reclaimed', 'quiet']] : [])];
 const byId = (name) => document.getElementById(name);
 let asked = 0, askedAll = false;
 
@@ -189,7 +190,7 @@ function click(plot, event) {
 
 function openEviction(eviction) {
   const pod = data.podList[eviction.pod];
-  openWhy(pod, pod.list.filter((event) => event.word === 'evicted'));
+  openWhy(pod, pod.list.filter((event) => event.word === 'evicted' || event.word === 'kubelet'));
 }
 
 function tell(event) {

@@ -61,12 +61,14 @@ function openStory(pod) {
   const ended = pod.end ? `, ended ${moment(pod.end[0])} as ${pod.end[1]}` : '';
   const gone = typeof pod.gone === 'number' ? `, gone before ${moment(pod.gone)}` : '';
   const first = pod.first === null ? 'no tick' : `first tick ${moment(pod.first)}`;
+  const byRules = data.kubelet && pod.eviction ? 'by the rules ' : '';
   const restarts = pod.containers.map((one) => [one.name, one.state, one.code === null ? '-' : one.code, one.restarts,
     one.ready, one.started]);
   const conditions = pod.conditions.map(([kind, value, since, reason]) =>
     [kind, value, since === null ? '-' : moment(since), reason || '-']);
   openPanel(pod.name, [
-    said(`${pod.phase}${pod.reason ? ` (${pod.reason})` : ''}, ${pod.qos}, ${first}${ended}${gone}; `
+    ...kubeletWords(pod).map((words) => element('p', words)),
+    said(`${byRules}${pod.phase}${pod.reason ? ` (${pod.reason})` : ''}, ${pod.qos}, ${first}${ended}${gone}; `
       + `not ready ${seconds(pod.unready)} in all`),
     element('h2', 'Containers'), tableOf(['container', 'state', 'code', 'restarts', 'ready', 'started'], restarts),
     element('h2', 'Conditions'), tableOf(['condition', 'value', 'since', 'reason'], conditions),
@@ -86,7 +88,7 @@ function eventList(pod, events, open) {
 }
 
 const DOTS = {started: 'running', died: 'failed', kill: 'kill', ready: 'ready', unready: 'unready', backoff: 'waiting',
-  restart: 'accent', evicted: 'failed'};
+  restart: 'accent', evicted: 'failed', kubelet: 'failed'};
 
 function eventItem(pod, event, open) {
   const [holder, button] = [element('div', undefined, 'event'), element('button')];
@@ -126,7 +128,8 @@ function whyParts(pod, event) {
   switch (event.word) {
     case 'started': case 'died': return listedParts(pod, event);
     case 'backoff': case 'restart': return exitParts(pod, event);
-    case 'evicted': return evictedParts(pod);
+    case 'evicted': return [...kubeletWords(pod).map(said), ...evictedParts(pod)];
+    case 'kubelet': return [said(rulesWords(pod.fact))];
     case 'phase': return phaseParts(pod, event);
     default: return resultParts(pod, event);
   }
@@ -237,7 +240,10 @@ function sampleParts(name, around, at) {
   const after = new Map(around.after);
   const found = [];
   let place = placeBefore(tickMoments.length, (one) => tickMoments[one], at);
-  for (; place >= 0 && tickMoments[place] >= from; place--) found.unshift(place);
+  // a value that a tick repeats is no sample of its own
+  const isNew = (one) => one === 0 || tickMoments[one - 1] < from || after.has(tickMoments[one])
+    || signal.values[one] !== signal.values[one - 1];
+  for (; place >= 0 && tickMoments[place] >= from; place--) if (isNew(place)) found.unshift(place);
   const kept = found.length <= MOST_ROWS ? found : [found[0], ...found.slice(1 - MOST_ROWS)];
   const heads = after.size ? ['moment', name, 'after reclaim'] : ['moment', name];
   const parts = [said('Samples since it became active:'), tableOf(heads, kept.map((one) => {
