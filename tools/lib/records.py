@@ -3,14 +3,15 @@ seconds of the trace. What a record does not have is left out of it; what is the
 
 from __future__ import annotations
 
+import kubelet as kubelets
 import report as reports
 
 
-def records_of(report):
+def records_of(report, kubelet=None):
     """Each record of a report: the node, its events, its pods with their containers and conditions, its own
-    conditions, and the evictions."""
+    conditions, and the evictions; then what the kubelet did, where a trace said so."""
     last = last_moment(report)
-    yield node_record(report, last)
+    yield node_record(report, last) | ({} if kubelet is None else {"tells_kubelet": True})
     for number, event in enumerate(report.events):
         yield event_record(report, number, event)
     for pod in report.pods:
@@ -22,7 +23,9 @@ def records_of(report):
     for condition in report.conditions:
         yield condition_record(report, condition, None)
     for number, eviction in enumerate(report.evictions):
-        yield eviction_record(report, number, eviction)
+        yield eviction_record(report, number, eviction, kubelet)
+    for number, (decision, fact) in enumerate(kubelet.decisions() if kubelet is not None else ()):
+        yield decision_record(report, number, decision, fact)
 
 
 def last_moment(report):
@@ -128,9 +131,25 @@ def condition_record(report, condition, pod):
     }
 
 
-def eviction_record(report, number, eviction):
-    return {
+def eviction_record(report, number, eviction, kubelet):
+    record = {
         "record": "eviction", "node": report.node, "number": number, "at": eviction.at, "pod": eviction.pod,
         "pod_number": eviction.number, "signal": eviction.signal, "kind": eviction.kind,
         "grace_seconds": eviction.grace,
     }
+    if kubelet is None:
+        return record
+    fact = kubelet.fact(eviction.number)
+    return record | {"kubelet_at": fact.decision.at if fact else None}
+
+
+def decision_record(report, number, decision, fact):
+    """What the kubelet did to a pod, and whether the rules agree; a refused pod is none that they evict."""
+    record = {"record": "decision", "node": report.node, "number": number, "at": decision.at, "pod": decision.pod,
+              "pod_number": decision.number, "decision": decision.kind, "reason": decision.reason,
+              "message": decision.message, "rules_at": None, "agrees": None, "causes": None}
+    if fact is not None:
+        causes = kubelets.causes_text(fact.causes, str).removeprefix("; ")
+        record |= {"rules_at": fact.eviction.at if fact.eviction else None, "agrees": fact.agrees,
+                   "causes": causes or None}
+    return record

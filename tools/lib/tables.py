@@ -9,7 +9,7 @@ import tempfile
 
 TABLES = {
     "node": ("nodes", "node TEXT, pods INTEGER, ticks INTEGER, last_moment INTEGER, updates INTEGER, "
-                      "pod_events INTEGER, orders INTEGER, restarts INTEGER, evictions INTEGER"),
+                      "pod_events INTEGER, orders INTEGER, restarts INTEGER, evictions INTEGER, tells_kubelet INTEGER"),
     "pod": ("pods", "node TEXT, number INTEGER, pod TEXT, namespace TEXT, name TEXT, phase TEXT, reason TEXT, "
                     "qos TEXT, ready INTEGER, ready_since INTEGER, first_tick INTEGER, ended_at INTEGER, "
                     "ended_as TEXT, restarts INTEGER, deaths INTEGER, kills INTEGER, backoffs INTEGER, "
@@ -25,7 +25,9 @@ TABLES = {
     "condition": ("conditions", "node TEXT, pod TEXT, pod_number INTEGER, condition TEXT, value INTEGER, "
                                 "since INTEGER, reason TEXT"),
     "eviction": ("evictions", "node TEXT, number INTEGER, at INTEGER, pod TEXT, pod_number INTEGER, signal TEXT, "
-                              "kind TEXT, grace_seconds INTEGER"),
+                              "kind TEXT, grace_seconds INTEGER, kubelet_at INTEGER"),
+    "decision": ("decisions", "node TEXT, number INTEGER, at INTEGER, pod TEXT, pod_number INTEGER, decision TEXT, "
+                              "reason TEXT, message TEXT, rules_at INTEGER, agrees INTEGER, causes TEXT"),
 }
 
 

@@ -18,7 +18,7 @@ except ImportError:
 LINES = f"{HERE}/lines"
 SCHEMA = f"{TOP}/docs/report.schema.json"
 TABLES = {"nodes": "node", "pods": "pod", "containers": "container", "events": "event", "conditions": "condition",
-          "evictions": "eviction"}
+          "evictions": "eviction", "decisions": "decision"}
 # what a hand counts in lines/came_again.report
 QUERIES = (
     ("SELECT node, pods, ticks, last_moment, restarts, evictions FROM nodes", [("n1", 3, 6, 60, 1, 1)]),
