@@ -14,13 +14,15 @@ import stat
 import subprocess
 
 import entry
+import kubelet as kubelets
 import program as programs
 import records
 import report as reports
+import trace as traces
 
 LONGEST_INPUT = 64 << 20
 # events are in the report alone: they would be most of the rows
-KINDS = ("node", "pod", "container", "condition", "eviction")
+KINDS = ("node", "pod", "container", "condition", "eviction", "decision")
 REFUSED_LINE = re.compile(r"line (\d+): (\d+) (\S.*)")
 
 
@@ -50,8 +52,21 @@ def answer(program, program_sum, path, known):
     except reports.ReportFault as fault:
         said = str(fault).replace("standard input", "the report")
         return answered(record_of(path, trace_sum, size, "failed", fault=said))
-    rows = [record for record in records.records_of(report) if record["record"] in KINDS]
+    rows = [record for record in records.records_of(report, kubelet_in(text, report)) if record["record"] in KINDS]
     return answered(record_of(path, trace_sum, size, "replayed"), rows, done.stdout)
+
+
+def kubelet_in(text, report):
+    """What a trace says that the kubelet did, beside its report; None where it says nothing of that, or can't be read
+    as the tools read one."""
+    if b'"kubelet"' not in text and b'"recordsKubelet"' not in text.lstrip().split(b"\n", 1)[0]:
+        return None
+    try:
+        trace = traces.trace_of(text, "the trace")
+        traces.check_belongs(trace, report, "the trace")
+        return kubelets.beside(trace, report)
+    except (traces.TraceFault, ValueError, TypeError, KeyError, AttributeError):
+        return None
 
 
 @functools.lru_cache

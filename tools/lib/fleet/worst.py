@@ -8,13 +8,19 @@ import entry
 import telling
 from fleet import database
 
+# by the kubelet, where the trace says what it did, else by the rules
 MEASURES = {"restarts": "restarts", "unready": "unready_seconds", "evicted": "evictions"}
 # a pod that is in more than one trace is one pod: its restarts are counted on by the kubelet, the others are summed
 PODS = """
-SELECT node, pod, MAX(restarts) AS restarts, SUM(unready_seconds) AS unready_seconds, SUM(evictions) AS evictions,
+SELECT node, pod, MAX(restarts) AS restarts, SUM(unready_seconds) AS unready_seconds,
+       SUM(COALESCE(by_kubelet, by_rules)) AS evictions, SUM(by_kubelet) AS by_kubelet, SUM(by_rules) AS by_rules,
        GROUP_CONCAT(signals) AS signals, COUNT(*) AS traces
 FROM (SELECT report, node, pod, SUM(restarts) AS restarts, SUM(unready_seconds) AS unready_seconds,
-             COUNT(evicted_at) AS evictions, GROUP_CONCAT(evicted_signal) AS signals
+             COUNT(evicted_at) AS by_rules, GROUP_CONCAT(evicted_signal) AS signals,
+             (SELECT CASE WHEN tells_kubelet THEN (
+                  SELECT COUNT(*) FROM decisions WHERE decisions.report = pods.report AND decisions.pod = pods.pod
+                  AND decision = 'evicted' AND pod_number IS NOT NULL) END
+              FROM nodes WHERE nodes.report = pods.report) AS by_kubelet
       FROM pods GROUP BY report, node, pod)
 GROUP BY node, pod HAVING {measure} > 0
 ORDER BY {order}, node, pod LIMIT ?
@@ -22,6 +28,10 @@ ORDER BY {order}, node, pod LIMIT ?
 SIGNALS = """
 SELECT signal, kind, COUNT(*), COUNT(DISTINCT node || ' ' || pod), COUNT(DISTINCT node) FROM evictions
 GROUP BY signal, kind ORDER BY COUNT(*) DESC, signal, kind
+"""
+DECISIONS = """
+SELECT decision, COUNT(*), COUNT(DISTINCT node || ' ' || pod), COUNT(DISTINCT node), SUM(agrees) FROM decisions
+GROUP BY decision ORDER BY decision
 """
 FAULTS = """
 SELECT status, fault, COUNT(*), MIN(report), line, path FROM traces WHERE status IN ('refused', 'failed')
@@ -51,12 +61,18 @@ def lines_of(connection, by, top):
     lines = [counts_text(*next(connection.execute(COUNTS))), ""]
     order = [MEASURES[by], *(measure for name, measure in MEASURES.items() if name != by)]
     query = PODS.format(measure=order[0], order=", ".join(f"{measure} DESC" for measure in order))
-    pods = [[node, pod, str(restarts), str(unready), str(evictions), distinct(signals), str(traces)]
-            for node, pod, restarts, unready, evictions, signals, traces in connection.execute(query, [top])]
-    lines += table(f"Worst pods, by {by}",
-                   ["node", "pod", "restarts", "unready s", "evictions", "signals", "traces"], pods)
+    pods = [[node, pod, str(restarts), str(unready), "-" if by_kubelet is None else str(by_kubelet), str(by_rules),
+             distinct(signals), str(traces)]
+            for node, pod, restarts, unready, _, by_kubelet, by_rules, signals, traces
+            in connection.execute(query, [top])]
+    lines += table(f"Worst pods, by {by}", ["node", "pod", "restarts", "unready s", "evicted by kubelet",
+                                            "by the rules", "signals", "traces"], pods)
     signals = [[row[0], row[1], *map(str, row[2:])] for row in connection.execute(SIGNALS)]
-    lines += table("Evictions by signal", ["signal", "kind", "evictions", "pods", "nodes"], signals)
+    decisions = [[row[0], *map(str, row[1:4]), "-" if row[4] is None else str(row[4])]
+                 for row in connection.execute(DECISIONS)]
+    if decisions:
+        lines += table("What the kubelet did", ["decision", "times", "pods", "nodes", "the rules agree"], decisions)
+    lines += table("Evictions by the rules, by signal", ["signal", "kind", "evictions", "pods", "nodes"], signals)
     faults = [[status, fault, str(count), str(line) if line else "-", path]
               for status, fault, count, _, line, path in connection.execute(FAULTS)]
     if faults:
