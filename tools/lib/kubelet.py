@@ -119,6 +119,9 @@ def place_of(trace, fact):
 
 def causes_of(trace, report, decision, usages):
     """Why the rules do not evict a pod when the kubelet did: each cause as its parts, of which numbers are moments."""
+    gone = trace.pods[decision.number].gone
+    if gone is not None and gone < len(trace.ticks) and trace.ticks[gone].at <= decision.at:
+        return [["the pod had gone from the trace before", trace.ticks[gone].at]]
     resource = resource_of(decision)
     signals = SIGNALS.get(resource, traces.SIGNALS)
     limits = [limit for limit in trace.thresholds if limit.signal in signals]

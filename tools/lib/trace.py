@@ -251,7 +251,7 @@ def trace_with(trace, present, found):
         present.pop(found["pod"]).gone = len(trace.ticks)
     elif kind == "tick":
         add_tick(trace, present, tick_of(found))
-        trace.decisions += decisions_of(found, present)
+        trace.decisions += decisions_of(trace, found)
     else:
         raise ValueError("kind")
     return trace
@@ -269,16 +269,17 @@ def tick_of(found):
     return Tick(found["at"] + 0, entries, samples(found, "signals"), samples(found, "afterReclaim"))
 
 
-def decisions_of(found, present):
-    """What a tick says that the kubelet did. Since the formats do not read it, what has another shape says nothing."""
+def decisions_of(trace, found):
+    """What a tick says that the kubelet did, to the last pod of a key unless it is left out. Since the formats do not
+    read it, what has another shape says nothing."""
     told = found.get("kubelet")
     for kind in ("evicted", "refused"):
         each_of = told.get(kind) if isinstance(told, dict) else None
         for each in each_of if isinstance(each_of, list) else []:
             if isinstance(each, dict) and isinstance(each.get("pod"), str):
                 at, key = each.get("at"), each["pod"]
-                pod = None if each.get("leftOut") is True else present.get(key)
-                yield Decision(kind, at if isinstance(at, int) else found["at"], key, pod and pod.number,
+                pods = [] if each.get("leftOut") is True else [pod for pod in trace.pods if pod.key == key]
+                yield Decision(kind, at if isinstance(at, int) else found["at"], key, pods[-1].number if pods else None,
                                str(each.get("reason") or ""), str(each.get("message") or ""))
 
 

@@ -42,7 +42,7 @@ def runtime_checks(sources):
 
 def node_checks(sources, node, trace_format):
     """What asks the kubelet for the node line, which takes the capacities from the summary."""
-    summaries = [Summary({}, False, {}, {}, {})]
+    summaries = [Summary({}, False, {}, {})]
 
     def summarize():
         summaries.append(summary_of(sources.summary()))

@@ -2,6 +2,7 @@
 
 from dataclasses import replace
 
+from .near import Nearness
 from .probes import counters_of
 from .recorder import Seen
 from .pods import pods_of
@@ -9,7 +10,7 @@ from .runtime import CREATED, EXITED, RUNNING, inspected_of, instances_of
 from .sources import Failed
 from .summary import summary_of
 
-# the kubelet samples its node and its pods about as often
+# the kubelet samples its node and its pods about as often, and its node for each decision about evictions
 SUMMARY_SECONDS = 10
 PODS_SECONDS = 10
 # how long the end of an instance that the runtime has removed is looked for in its pod's status, which may come later
@@ -26,12 +27,15 @@ MEANWHILE = {
 
 
 class Observer:
-    """Asks the sources of a node, the summary every some seconds; `say` takes what is said of those that fail."""
+    """Asks the sources of a node, the summary every some seconds where it does not count more; `say` takes what is said
+    of those that fail."""
 
     def __init__(self, sources, summary_seconds, say):
         self.sources = sources
         self.say = say
         self.seconds = {PODS: PODS_SECONDS, SUMMARY: max(SUMMARY_SECONDS, summary_seconds)}
+        self.near = Nearness()
+        self.decided = set()
         self.asked_at = {}
         self.silent = {}
         self.details = {}
@@ -50,6 +54,7 @@ class Observer:
         pods = self.take_pods(moment)
         summary = self.take_summary(moment)
         self.may_have_changed_pods(listed)
+        self.decided = {pod.uid for pod in pods if pod.decision is not None}
         self.pass_over(listed)
         return Seen(moment, self.resolved(listed, moment), counters, pods, summary)
 
@@ -73,9 +78,9 @@ class Observer:
             seen.pods = self.attempt(PODS, moment, lambda: self.take_pods(moment))
         if listed is not None:
             seen.instances = self.attempt(RUNTIME, moment, lambda: self.resolved(listed, moment))
-        if self.is_due(SUMMARY, moment):
+        if self.wants_summary(seen.pods, moment):
             seen.summary = self.attempt(SUMMARY, moment, lambda: self.take_summary(moment))
-        seen.is_summary_silent = SUMMARY in self.silent
+        seen.is_summary_silent, seen.low = SUMMARY in self.silent, self.near.low
         return seen
 
     def attempt(self, source, moment, ask, is_whole=True):
@@ -98,9 +103,22 @@ class Observer:
         asked = self.asked_at.get(source)
         return asked is None or int(moment) < int(asked) or int(moment) - int(asked) >= self.seconds[source]
 
+    def wants_summary(self, pods, moment):
+        """Whether the summary is asked for: at each look while the kubelet may evict a pod, at once where it is seen
+        that it has, and else from time to time, as one that gives no answer."""
+        decided = {pod.uid for pod in pods or () if pod.decision is not None}
+        has_decided = not decided <= self.decided
+        self.decided |= decided
+        if has_decided:
+            self.near.decide(moment)
+        counts = SUMMARY not in self.silent and (has_decided or self.near.is_near(moment))
+        return counts or self.is_due(SUMMARY, moment)
+
     def take_summary(self, moment):
         self.asked_at[SUMMARY] = moment
-        return summary_of(self.sources.summary())
+        summary = summary_of(self.sources.summary())
+        self.near.sample({signal: sample.value for signal, sample in summary.signals.items()}, moment)
+        return summary
 
     def take_pods(self, moment):
         self.asked_at[PODS] = moment

@@ -110,6 +110,7 @@ class Recording:
             else:
                 node_line = node_line_of(self.sources.configuration(), self.words.node, seen.summary, self.words.format)
             first = self.recorder.begin(node_line)
+            self.observer.near.know(node_line.fields)
         except (Failed, TooLong) as failed:
             raise Ended(1, f"nothing recorded: {failed}") from None
         with self.output.undisturbed():

@@ -26,23 +26,26 @@ LEFT_OUT = {EVICTED: "the kubelet had evicted it before it was seen",
 @dataclass
 class Seen:
     """What one look saw, at a moment in seconds since 1970. None is what was not asked, or gave no answer: `instances`
-    has the instances of each pod's uid, `counters` the counts of probes, `pods` those that are there."""
+    has the instances of each pod's uid, `counters` the counts of probes, `pods` those that are there, `low` the signals near their thresholds."""
     moment: float
     instances: Optional[dict] = None
     counters: Optional[dict] = None
     pods: Optional[list] = None
     summary: object = None
     is_summary_silent: bool = False
+    low: frozenset = frozenset()
 
 
 @dataclass
 class Recorded:
-    """A pod of the trace, the second of its line, what was seen of its containers, and what is not planned yet."""
+    """A pod of the trace, the second of its line, that from which on its containers change, what was seen of them, and
+    what is not planned yet; `usage` has its newest samples."""
     pod: object
     arrived: int
+    changes_from: int
     containers: dict = field(default_factory=dict)
     changes: dict = field(default_factory=dict)
-    usage_times: Optional[tuple] = None
+    usage: dict = field(default_factory=dict)
     is_followed: bool = True
     going_since: Optional[float] = None
 
@@ -64,7 +67,7 @@ class Recorder:
         self.is_first = True
         self.is_behind = False
         self.begun = self.planned_at = self.listed_at = self.sampled_at = None
-        self.sample_times = None
+        self.samples = {}
         self.counters = self.planned_counters = {}
 
     def begin(self, node_line):
@@ -134,7 +137,8 @@ class Recorder:
         elif before is None:
             # its first container may have been made in the second in which the one before it went
             moment = max(self.arrival_moment(pod, seen), self.gone_at.get(pod.key, -1) + 1)
-            self.recorded[pod.uid] = Recorded(pod, self.timeline.place_arrival(pod, moment))
+            second = self.timeline.place_arrival(pod, moment)
+            self.recorded[pod.uid] = Recorded(pod, second, second)
 
     def reason_to_leave_out(self, pod):
         """Why a pod has no line, by what came before; None where it can have one."""
@@ -168,7 +172,7 @@ class Recorder:
         if recorded is not None or not self.is_first:
             second = self.timeline.place_decision(pod, self.decided_at(pod, seen), recorded)
         if recorded is not None:
-            recorded.arrived = second + 1
+            recorded.changes_from = second + 1
 
     def decided_at(self, pod, seen):
         """When the kubelet decided: as the pod's status says, else when that or an exit that it led to was seen."""
@@ -204,7 +208,7 @@ class Recorder:
             recorded.changes = {name: self.last_changes(changes) for name, changes in recorded.changes.items()}
         self.plan_pod(recorded, seen.moment)
         recorded.is_followed = False
-        moment = max(seen.moment, recorded.arrived)
+        moment = max(seen.moment, recorded.changes_from)
         self.gone_at[recorded.pod.key] = self.timeline.place_departure(recorded.pod, moment)
 
     def last_changes(self, changes):
@@ -251,7 +255,7 @@ class Recorder:
         for name in recorded.pod.containers():
             changes = recorded.changes.pop(name, [])
             results = self.results(recorded.pod, name, moment)
-            self.timeline.place_container(recorded.pod, name, changes, results, recorded.arrived)
+            self.timeline.place_container(recorded.pod, name, changes, results, recorded.changes_from)
 
     def results(self, pod, name, moment):
         """The results of a container's probes since what was planned last."""
@@ -271,22 +275,38 @@ class Recorder:
     # --- what the node has left ---
 
     def take_summary(self, seen):
-        """A sample of the kubelet's that is new wants a tick; one that it repeats does not."""
+        """Samples of the kubelet's that are new stand at their own moments. Those of signals want a tick, but for one
+        that is counted when it is asked, where it is not near its threshold; usage is in the next one."""
         if seen.summary is None:
             if seen.is_summary_silent and seen.moment - self.sampled_at > SIGNAL_AGE:
                 self.say(f"{int(seen.moment)}: the signals are older than {SIGNAL_AGE} s, and are left out until "
                          "/stats/summary answers", ("signals", self.sampled_at))
-                self.timeline.place_sample(seen.moment, {}, {}, False)
+                self.take_signals({}, seen, False)
             return
-        is_new = self.sample_times != seen.summary.times
-        self.sample_times, self.sampled_at = seen.summary.times, seen.moment
-        usages = {}
+        self.sampled_at = seen.moment
+        self.take_signals(seen.summary.signals, seen, True)
         for recorded in self.followed():
             usage = seen.summary.usage(recorded.pod, self.has_running(recorded))
-            if usage is not None and usage.times != recorded.usage_times:
-                recorded.usage_times = usage.times
-                usages[recorded.pod.uid] = usage.amounts
-        self.timeline.place_sample(seen.moment, seen.summary.signals, usages, is_new)
+            for resource, sample in usage.items():
+                if sample != recorded.usage.get(resource):
+                    moment = max(self.sampled_moment(sample, seen), recorded.arrived)
+                    self.timeline.place_usage(recorded.pod, moment, resource, sample.value)
+            recorded.usage = usage
+
+    def take_signals(self, samples, seen, is_wanted):
+        """Places the samples that are others than before; a signal that is no longer there has no value."""
+        for signal in dict.fromkeys([*self.samples, *samples]):
+            sample = samples.get(signal)
+            if sample is None:
+                self.timeline.place_signal(seen.moment, signal, None, is_wanted)
+            elif sample != self.samples.get(signal):
+                wants = signal in seen.low or sample.moment is not None or signal not in self.samples
+                self.timeline.place_signal(self.sampled_moment(sample, seen), signal, sample.value, wants)
+        self.samples = samples
+
+    def sampled_moment(self, sample, seen):
+        """When a sample was taken, within what is recorded."""
+        return seen.moment if sample.moment is None else max(self.begun, min(sample.moment, seen.moment))
 
     @staticmethod
     def has_running(recorded):

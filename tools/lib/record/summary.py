@@ -1,37 +1,35 @@
 """What the kubelet's /stats/summary says in a trace's words. A value that is not there is None or left out."""
 
 from dataclasses import dataclass
+from typing import Optional
 
 from .formats import is_whole, without_nones
+from .runtime import moment_of
 from .sources import Failed, read_json, reads
 
 
 @dataclass(frozen=True)
-class Usage:
-    """What a pod uses, and the moments of the kubelet's samples as it writes them."""
-    amounts: dict
-    times: tuple
+class Sample:
+    """A value as the kubelet sampled it, at a moment in seconds since 1970, or when it was asked."""
+    value: int
+    moment: Optional[float]
 
 
 @dataclass(frozen=True)
 class Summary:
-    """One answer. `times` has of each signal the moment of the kubelet's own sample, where it says one."""
+    """One answer: the capacities, and the samples of the signals."""
     capacity: dict
     has_dedicated_image_fs: bool
     signals: dict
-    times: dict
     pods: dict
 
     def usage(self, pod, has_running):
-        """What a recorded pod uses, or None. A kubelet 1.20 counts no process of any container, so 0 of them beside a
-        container that runs is no count."""
-        stats = self.pods.get(pod.uid)
-        if stats is None:
-            return None
-        amounts = amounts_of(stats, pod.local_volumes)
-        if has_running and amounts.get("pids") == 0:
-            del amounts["pids"]
-        return Usage(amounts, times_of(stats)) if amounts else None
+        """The samples of what a recorded pod uses, by resource. A kubelet 1.20 counts no process of any container, so 0
+        of them beside a container that runs is no count."""
+        samples = usage_of(self.pods.get(pod.uid, {}), pod.local_volumes)
+        if has_running and "pids" in samples and samples["pids"].value == 0:
+            del samples["pids"]
+        return samples
 
 
 def units(value):
@@ -74,10 +72,11 @@ def summary_of(text):
         "nodefs.available": file_system.get("availableBytes"), "imagefs.available": images.get("availableBytes"),
         "nodefs.inodesFree": file_system.get("inodesFree"), "imagefs.inodesFree": images.get("inodesFree"),
         "pid.available": difference(limits.get("maxpid"), limits.get("curproc"))}
-    sampled = {"memory": memory, "nodefs": file_system, "imagefs": images, "pid": limits}
-    times = {signal: sampled[signal.split(".")[0]].get("time") for signal in signals}
-    return Summary(whole_values(capacity), is_dedicated(images, file_system), whole_values(signals), times,
-                   pods_in(answer))
+    # what a kubelet counts of processes is as it was when it was asked
+    sampled = {"memory": memory, "nodefs": file_system, "imagefs": images, "pid": {}}
+    moments = {signal: moment_of(sampled[signal.split(".")[0]].get("time")) for signal in signals}
+    samples = {signal: Sample(value, moments[signal]) for signal, value in whole_values(signals).items()}
+    return Summary(whole_values(capacity), is_dedicated(images, file_system), samples, pods_in(answer))
 
 
 def pods_in(answer):
@@ -85,8 +84,7 @@ def pods_in(answer):
     pods = {str(fields_of(stats.get("podRef")).get("uid")): stats for stats in answer.get("pods") or []}
     for stats in pods.values():
         volumes = {volume.get("name") for volume in stats.get("volume") or []}
-        amounts_of(stats, volumes)
-        times_of(stats)
+        usage_of(stats, volumes)
     return pods
 
 
@@ -105,20 +103,23 @@ def total(parts, field):
     return sum(amounts) if amounts else None
 
 
-def amounts_of(stats, local_volumes):
-    """One pod's usage. Volumes are those that live on the node's own disk, as the kubelet counts them."""
+def usage_of(stats, local_volumes):
+    """The samples of one pod's usage, by resource. Volumes are those that live on the node's own disk, as the kubelet
+    counts them."""
     volumes = [volume for volume in stats.get("volume") or [] if volume.get("name") in local_volumes]
-    memory = fields_of(stats.get("memory")).get("workingSetBytes")
+    whole = fields_of(stats.get("memory"))
+    memories = parts_of(stats, "memory") if whole.get("workingSetBytes") is None else [whole]
     file_systems, logs = parts_of(stats, "rootfs"), parts_of(stats, "logs")
-    return whole_values({
-        "memory": total(parts_of(stats, "memory"), "workingSetBytes") if memory is None else memory,
-        "volumes": total(volumes, "usedBytes"), "logs": total(logs, "usedBytes"),
-        "writable": total(file_systems, "usedBytes"), "inodes": total(file_systems + logs + volumes, "inodesUsed"),
+    everywhere = file_systems + logs + volumes
+    amounts = whole_values({
+        "memory": total(memories, "workingSetBytes"), "volumes": total(volumes, "usedBytes"),
+        "logs": total(logs, "usedBytes"), "writable": total(file_systems, "usedBytes"),
+        "inodes": total(everywhere, "inodesUsed"),
         "pids": fields_of(stats.get("process_stats")).get("process_count")})
+    parts = {"memory": memories, "volumes": volumes, "logs": logs, "writable": file_systems, "inodes": everywhere}
+    return {resource: Sample(amount, newest(parts.get(resource, []))) for resource, amount in amounts.items()}
 
 
-def times_of(stats):
-    """The moments of a pod's samples, as texts."""
-    parts = [fields_of(stats.get("memory")), *(stats.get("volume") or [])]
-    parts += parts_of(stats, "memory") + parts_of(stats, "rootfs") + parts_of(stats, "logs")
-    return tuple(str(part.get("time")) for part in parts)
+def newest(parts):
+    """The moment of the newest of some samples, or None where none says one."""
+    return max(filter(None, (moment_of(part.get("time")) for part in parts)), default=None)

@@ -8,8 +8,8 @@ the others, and each result of one probe at a second of its own.
 A success behind as many as its probe wants changes nothing, so it wants no tick: the next one has it, once."""
 
 from dataclasses import dataclass, field, replace
-from typing import Optional
 
+from .formats import without_nones
 from .runtime import CREATED, EXITED, LOST_CODE, RUNNING, Change
 from .trace import entry_of, gone_line, pod_line, tick_line, told, unknown
 
@@ -27,7 +27,7 @@ class Tick:
     listings: dict = field(default_factory=dict)
     results: dict = field(default_factory=dict)
     usages: dict = field(default_factory=dict)
-    signals: Optional[dict] = None
+    signals: dict = field(default_factory=dict)
     decisions: list = field(default_factory=list)
     departures: list = field(default_factory=list)
 
@@ -122,10 +122,14 @@ class Timeline:
         self.tick(second, True).decisions.append((pod.key, pod.decision, recorded is None))
         return second
 
-    def place_sample(self, moment, signals, usages, is_wanted):
-        tick = self.tick(self.second_of(moment), is_wanted)
-        tick.signals = signals
-        tick.usages.update(usages)
+    def place_signal(self, moment, signal, value, is_wanted):
+        """A sample of what the node has left, or None where it has no value from then on."""
+        second = self.second_of(moment, self.last_placed.get(("signal", signal), 0))
+        self.tick(second, is_wanted).signals[signal] = value
+        self.last_placed["signal", signal] = second
+
+    def place_usage(self, pod, moment, resource, value):
+        self.tick(self.second_of(moment), False).usages.setdefault(pod.uid, {})[resource] = value
 
     def place_container(self, pod, container, changes, results, arrived):
         """What happened to one container of a pod that arrived at a second."""
@@ -201,8 +205,9 @@ class Timeline:
             # what was found on an instance that is no more changes nothing, and must not count for the next one
             self.results = {place: result for place, result in self.results.items() if place[:2] != (uid, container)}
         self.results.update(tick.results)
-        self.usages.update(tick.usages)
-        self.signals = self.signals if tick.signals is None else tick.signals
+        for uid, usage in tick.usages.items():
+            self.usages.setdefault(uid, {}).update(usage)
+        self.signals = without_nones({**self.signals, **tick.signals})
         if tick.is_wanted:
             changed = set(tick.listings) if is_silent else None
             entries = [self.entry(pod, changed) for pod in self.present]

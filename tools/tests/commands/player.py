@@ -29,9 +29,11 @@ def kind_of(words):
 class Play:
     """A script: its moments are seconds from `begin` on. It has
     clock       what the clock says at each look, where it is no good one, and `true` the moments of these looks
-    pods        {key: {"from", "until", "spec", "evicted"}}; a key may have a list of them, one after the other
-    containers  {"id", "pod", "name", "attempt", "created", "started", "exited", "code", "removed", "lost"}: `lost` is
-                when `crictl inspect` no longer knows it while a list still has it
+    pods        {key: {"from", "until", "spec", "deleted", "evicted", "refused", "message", "condition"}}; a key may
+                have a list of them, one after the other; `condition` is the moment that an evicted pod's status says
+    containers  {"id", "pod", "name", "attempt", "created", "started", "exited", "code", "removed", "lost", "told",
+                "reason"}: `lost` is when `crictl inspect` no longer knows it while a list still has it, and `told` when
+                its pod's status has its exit
     probes      {"pod", "container", "probe", "result", "at": [moments that rise]}
     samples     {moment: {signal: value}} of the node, as the kubelet takes them
     fails       {"kind", "from", "until", "text"}: answers that do not come
@@ -98,7 +100,8 @@ class Play:
         state = self.state(each, moment)
         started, exited = (None if name not in each else self.begin + each[name] for name in ("started", "exited"))
         status = {"id": identity, "state": state, "startedAt": moment_text(started),
-                  "finishedAt": moment_text(exited if state == "CONTAINER_EXITED" else None)}
+                  "finishedAt": moment_text(exited if state == "CONTAINER_EXITED" else None),
+                  "reason": each.get("reason", "")}
         if state == "CONTAINER_EXITED":
             status["exitCode"] = each["code"]
         return json.dumps({"status": status})
@@ -124,10 +127,32 @@ class Play:
 
     def pod(self, key, life, moment):
         namespace, name = key.split("/")
-        is_evicted = life.get("evicted", float("inf")) <= moment
-        status = {"phase": "Failed", "reason": "Evicted"} if is_evicted else {"phase": "Running"}
-        return {"metadata": {"namespace": namespace, "name": name, "uid": life.get("uid", f"uid-{name}")},
-                "spec": life["spec"], "status": status}
+        metadata = {"namespace": namespace, "name": name, "uid": life.get("uid", f"uid-{name}")}
+        if life.get("deleted", float("inf")) <= moment:
+            metadata["deletionTimestamp"] = moment_text(self.begin + life["deleted"])
+        return {"metadata": metadata, "spec": life["spec"], "status": self.status(life, metadata["uid"], moment)}
+
+    def status(self, life, uid, moment):
+        """A pod's status: that of a pod that the kubelet ended has no containers."""
+        ended = min(life.get("evicted", float("inf")), life.get("refused", float("inf")))
+        if ended <= moment:
+            status = {"phase": "Failed", "reason": "Evicted", "message": life.get("message", "")}
+            if "condition" in life:
+                status["conditions"] = [{"type": "DisruptionTarget", "status": "True", "reason": "TerminationByKubelet",
+                                         "lastTransitionTime": moment_text(self.begin + life["condition"])}]
+            return status
+        told = [each for each in self.script["containers"] if self.uid(each) == uid and "told" in each]
+        statuses = {"containerStatuses": [self.told(each, moment) for each in told]} if told else {}
+        return {"phase": "Running", **statuses}
+
+    def told(self, each, moment):
+        """What a pod's status says of an instance."""
+        if moment < each["told"]:
+            return {"name": each["name"], "state": {"running": {}}}
+        return {"name": each["name"], "state": {"terminated": {
+            "containerID": f"containerd://{each['id']}", "startedAt": moment_text(self.begin + each["started"]),
+            "finishedAt": moment_text(self.begin + each["exited"]), "exitCode": each["code"],
+            "reason": each.get("reason", "")}}}
 
     def summary(self, moment):
         samples = {float(at): sample for at, sample in self.script["samples"].items()}

@@ -1,0 +1,42 @@
+"""Whether the kubelet may evict a pod now, so that each of its samples counts."""
+
+import amounts
+from trace import thresholds_of
+
+# a signal below this many times its threshold is near it
+NEAR_TIMES = 2
+TRANSITION = "evictionPressureTransitionPeriod"
+DEFAULT_TRANSITION_SECONDS = 300
+
+
+class Nearness:
+    """How near a node is to its thresholds, by the newest samples and by what the kubelet did."""
+
+    def __init__(self):
+        self.thresholds = []
+        self.transition = DEFAULT_TRANSITION_SECONDS
+        self.low = frozenset()
+        self.pressed_at = None
+
+    def know(self, node_line):
+        """The thresholds of a node line, and for how long its pressure lasts; none where it has faults."""
+        try:
+            self.thresholds = thresholds_of(node_line)
+            self.transition = amounts.duration(node_line.get(TRANSITION) or "0") or DEFAULT_TRANSITION_SECONDS
+        except (ValueError, TypeError, KeyError, AttributeError):
+            self.thresholds = []
+
+    def sample(self, signals, moment):
+        """Takes the newest samples."""
+        left = [(limit, 1000 * signals[limit.signal]) for limit in self.thresholds if limit.signal in signals]
+        self.low = frozenset(limit.signal for limit, value in left if value < NEAR_TIMES * limit.limit)
+        if any(value < limit.limit for limit, value in left):
+            self.pressed_at = moment
+
+    def decide(self, moment):
+        """The kubelet has evicted or refused a pod."""
+        self.pressed_at = moment
+
+    def is_near(self, moment):
+        is_pressed = self.pressed_at is not None and moment - self.pressed_at < self.transition
+        return bool(self.low) or is_pressed
