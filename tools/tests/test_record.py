@@ -53,7 +53,7 @@ class Recorder:
 
     def left(self):
         """The folders for its own use that a run has left."""
-        return [name for name in os.listdir(self.run) if name.startswith("tmp")]
+        return [name for name in os.listdir(self.run) if name.startswith(("tmp", "record-"))]
 
     def clean(self):
         shutil.rmtree(self.run)

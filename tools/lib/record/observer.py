@@ -13,6 +13,9 @@ from .summary import summary_of
 # the kubelet samples its node and its pods about as often, and its node for each decision about evictions
 SUMMARY_SECONDS = 10
 PODS_SECONDS = 10
+# where nothing has happened for some seconds the runtime is asked again after more than one, as its moments are exact
+STILL_SECONDS = 30
+LIST_SECONDS = 1.5
 # how long the end of an instance that the runtime has removed is looked for in its pod's status, which may come later
 STATUS_SECONDS = 3
 # a list is asked for anew so often where a container has gone between it and `crictl inspect`
@@ -44,6 +47,8 @@ class Observer:
         self.unended = {}
         self.missed_at = {}
         self.listed_pods = {}
+        self.instances = self.counters = None
+        self.listed_at = self.moved_at = 0
         self.known = set()
         self.strangers = set()
 
@@ -53,6 +58,7 @@ class Observer:
         listed = instances_of(self.sources.listed())
         pods = self.take_pods(moment)
         summary = self.take_summary(moment)
+        self.listed_at = self.moved_at = moment
         self.may_have_changed_pods(listed)
         self.decided = {pod.uid for pod in pods if pod.decision is not None}
         self.pass_over(listed)
@@ -73,15 +79,28 @@ class Observer:
         seen = Seen(moment)
         # the probes come first: a result that is counted was found on an instance that the list then shows
         seen.counters = self.attempt(PROBES, moment, lambda: counters_of(self.sources.probes()))
-        listed = self.attempt(RUNTIME, moment, lambda: instances_of(self.sources.listed()), is_whole=False)
+        if not self.wants_list(seen.counters, moment):
+            listed, seen.instances = None, self.instances
+        else:
+            self.listed_at = moment
+            listed = self.attempt(RUNTIME, moment, lambda: instances_of(self.sources.listed()), is_whole=False)
         if self.is_due(PODS, moment) or (listed is not None and self.may_have_changed_pods(listed)):
             seen.pods = self.attempt(PODS, moment, lambda: self.take_pods(moment))
         if listed is not None:
             seen.instances = self.attempt(RUNTIME, moment, lambda: self.resolved(listed, moment))
+            self.moved_at = self.moved_at if seen.instances == self.instances and not self.missed_at else moment
+            self.instances = seen.instances
         if self.wants_summary(seen.pods, moment):
             seen.summary = self.attempt(SUMMARY, moment, lambda: self.take_summary(moment))
         seen.is_summary_silent, seen.low = SUMMARY in self.silent, self.near.low
         return seen
+
+    def wants_list(self, counters, moment):
+        """Whether the runtime is asked at a look: not at each where nothing happens and no probe finds anything."""
+        is_still = counters is not None and counters == self.counters and moment - self.moved_at > STILL_SECONDS
+        self.counters = counters
+        is_sure = self.instances is not None and not self.near.is_near(moment)
+        return not (is_still and is_sure and 0 <= moment - self.listed_at < LIST_SECONDS)
 
     def attempt(self, source, moment, ask, is_whole=True):
         """An answer, or None; that a source is silent is said once, and so is that its whole answer is there again."""

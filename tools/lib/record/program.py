@@ -7,11 +7,12 @@ from contextlib import contextmanager
 
 from .check import check
 from .clock import Clock
+from .connections import kept_sources
 from .formats import MOST_BYTES
 from .node import node_line_of, own_node_line
 from .observer import Observer
 from .recorder import Recorder
-from .sources import Failed, Sources
+from .sources import Failed
 from .trace import TooLong
 from .words import BadWord, help_text, missing_commands, words_of
 
@@ -179,7 +180,7 @@ def checked(words, sources, say):
     return 0 if works else 1
 
 
-def main(arguments, clock=None, make_sources=Sources):
+def main(arguments, clock=None, make_sources=None):
     """The program, with a clock and sources that tests can stand in for; its status."""
     say = Says()
     if "--help" in arguments:
@@ -190,11 +191,15 @@ def main(arguments, clock=None, make_sources=Sources):
     except BadWord as bad:
         say(f"{bad} (--help says more)")
         return 2
-    sources = make_sources(words.node, words.kubelet, words.curl_file)
-    missing = missing_commands(sources.commands())
-    if missing:
-        say(f"not on the PATH: {', '.join(missing)}")
-        return 127
-    if words.is_check:
-        return checked(words, sources, say)
-    return recorded(words, sources, clock or Clock(), say)
+    asked = words.node, words.kubelet, words.curl_file
+    sources = kept_sources(*asked, say) if make_sources is None else make_sources(*asked)
+    try:
+        missing = missing_commands(sources.commands())
+        if missing:
+            say(f"not on the PATH: {', '.join(missing)}")
+            return 127
+        if words.is_check:
+            return checked(words, sources, say)
+        return recorded(words, sources, clock or Clock(), say)
+    finally:
+        sources.close()

@@ -16,8 +16,8 @@ PATIENCE = 30
 SIGNAL_AGE = 60
 # how long the new pod of a name waits for the containers of the one before to exit
 GOING_SECONDS = 30
-# a tick is written once the second after it has passed, so that what is seen only then still finds its place
-HELD_SECONDS = 1
+# a tick is written once some seconds after it have passed, so that what is seen only then still finds its place
+HELD_SECONDS = 2
 ANEW = "was made anew under its name, and is left out from here on"
 LEFT_OUT = {EVICTED: "the kubelet had evicted it before it was seen",
             REFUSED: "the kubelet refused it under pressure, so it never ran"}
@@ -26,7 +26,8 @@ LEFT_OUT = {EVICTED: "the kubelet had evicted it before it was seen",
 @dataclass
 class Seen:
     """What one look saw, at a moment in seconds since 1970. None is what was not asked, or gave no answer: `instances`
-    has the instances of each pod's uid, `counters` the counts of probes, `pods` those that are there, `low` the signals near their thresholds."""
+    has the instances of each pod's uid, `counters` the counts of probes, `pods` those that are there, `low` the signals
+    near their thresholds."""
     moment: float
     instances: Optional[dict] = None
     counters: Optional[dict] = None
@@ -181,9 +182,9 @@ class Recorder:
         return min([seen.moment, *moments] if pod.decision.moment is None else [seen.moment, pod.decision.moment])
 
     def see_going(self, recorded, is_listed, seen):
-        """A pod is no longer listed, was told to go, or the kubelet ended it. It is gone once each of its containers has
-        exited with a code that is known, or is no more; where a new pod of its name waits for that, at the latest after
-        some seconds."""
+        """A pod is no longer listed, was told to go, or the kubelet ended it. It is gone once each of its containers
+        has exited with a code that is known, or is no more; where a new pod of its name waits for that, at the latest
+        after some seconds."""
         if not self.format.says_gone:
             if not is_listed and not any(pod.key == recorded.pod.key for pod in self.listed):
                 self.say(f"{recorded.pod.key} is gone, and the replay goes on with it: cut the trace where pods go")

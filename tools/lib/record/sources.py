@@ -1,4 +1,5 @@
-"""The commands that are asked, each with a time-out. An answer is a text; one that does not come is Failed."""
+"""What is asked of a node, each with a time-out: commands, or a connection that is kept. An answer is a text; one that
+does not come is Failed."""
 
 import functools
 import json
@@ -50,19 +51,32 @@ def reads(what):
 
 @dataclass(frozen=True)
 class Sources:
-    """The sources of one node: its runtime by crictl, its kubelet by kubectl or, at an address, by curl."""
+    """The sources of one node: its runtime by crictl, its kubelet by a connection that is kept, or by kubectl or, at an
+    address, by curl."""
     node: str
     kubelet: Optional[str] = None
     curl_file: Optional[str] = None
     run: callable = run_command
+    keeps: Optional[object] = None
 
     def commands(self):
         """The commands that are needed on the PATH."""
-        return ["crictl", "curl" if self.kubelet else "kubectl"]
+        if self.kubelet is None:
+            return ["crictl", "kubectl"]
+        return ["crictl"] if self.keeps is not None else ["crictl", "curl"]
+
+    def close(self):
+        if self.keeps is not None:
+            self.keeps.close()
 
     def ask(self, what, words, seconds):
+        return self.answer(what, lambda: self.run(words, seconds))
+
+    @staticmethod
+    def answer(what, ask):
+        """An answer; where none comes it is said of what."""
         try:
-            return self.run(words, seconds)
+            return ask()
         except Failed as failed:
             raise Failed(f"{what} {failed}") from None
 
@@ -75,6 +89,8 @@ class Sources:
                 f"{self.kubelet}/{path}"]
 
     def endpoint(self, path):
+        if self.keeps is not None and self.keeps.works():
+            return self.answer(f"/{path}", lambda: self.keeps.endpoint(path))
         # the command's own time-out comes first, and says more
         return self.ask(f"/{path}", self.endpoint_words(path), ENDPOINT_SECONDS + 5)
 
@@ -91,6 +107,8 @@ class Sources:
     def pods(self):
         if self.kubelet is not None:
             return self.endpoint("pods")
+        if self.keeps is not None and self.keeps.works():
+            return self.answer(self.pods_name(), self.keeps.pods)
         words = ["kubectl", "get", "pods", "--all-namespaces", "--field-selector", f"spec.nodeName={self.node}",
                  "-o", "json", f"--request-timeout={ENDPOINT_SECONDS}s"]
         return self.ask(self.pods_name(), words, ENDPOINT_SECONDS + 5)

@@ -36,8 +36,9 @@ def is_seamless(item, after):
     """An exit with the code 137 whose successor starts in the same sync: the start's tick says that exit and that code
     too, since it no longer lists the one before, and shows no moment at which the container was not ready. What ran out
     of memory exits by itself, and another sync starts its successor."""
-    return (isinstance(item, Change) and not item.is_out_of_memory and isinstance(after, Change) and item.listing is not None
-            and after.listing is not None and item.listing.state == EXITED and item.listing.exit_code == LOST_CODE
+    return (isinstance(item, Change) and not item.is_out_of_memory and isinstance(after, Change)
+            and item.listing is not None and after.listing is not None
+            and item.listing.state == EXITED and item.listing.exit_code == LOST_CODE
             and after.listing.state == RUNNING and after.moment - item.moment < SYNC_SECONDS)
 
 

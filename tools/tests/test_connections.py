@@ -1,0 +1,251 @@
+"""The tests of the connections that tools/record keeps: to a kubelet's port, and to a proxy of kubectl's."""
+
+import json
+import os
+import shutil
+import signal
+import socket
+import ssl
+import subprocess
+import sys
+import tempfile
+import threading
+import time
+from http.server import BaseHTTPRequestHandler, ThreadingHTTPServer
+
+from checks import HERE, LONGEST, TOOLS, expect, read, run
+
+sys.path.insert(0, f"{TOOLS}/lib")
+from record.connections import NotRead, settings_of  # noqa: E402
+
+ANSWERS = f"{HERE}/recordings/crash_loop/1"
+PATHS = {"/pods": "pods.json", "/configz": "configz.json", "/stats/summary": "summary.json",
+         "/metrics/probes": "probes.txt"}
+TOKEN = "Bearer of-the-test"
+
+
+class Kubelet(ThreadingHTTPServer):
+    """Stands in for a kubelet: it wants a token, and counts its connections and its answers."""
+
+    daemon_threads = True
+
+    def __init__(self, folder, answers_each=10 ** 9):
+        super().__init__(("127.0.0.1", 0), Handler)
+        self.connections, self.answers, self.answers_each, self.token = 0, 0, answers_each, TOKEN
+        context = ssl.SSLContext(ssl.PROTOCOL_TLS_SERVER)
+        context.load_cert_chain(f"{folder}/crt", f"{folder}/key")
+        self.socket = context.wrap_socket(self.socket, server_side=True, do_handshake_on_connect=False)
+        self.url = f"https://127.0.0.1:{self.server_address[1]}"
+        threading.Thread(target=self.serve_forever, daemon=True).start()
+
+    def end(self):
+        self.shutdown()
+        self.server_close()
+
+    def handle_error(self, *_):
+        pass
+
+
+class Handler(BaseHTTPRequestHandler):
+    protocol_version = "HTTP/1.1"
+
+    def setup(self):
+        self.request.do_handshake()
+        super().setup()
+        self.server.connections += 1
+        self.given = 0
+
+    def do_GET(self):
+        self.server.answers += 1
+        self.given += 1
+        if self.headers["Authorization"] != self.server.token:
+            self.answer(401, b"Unauthorized")
+        else:
+            self.answer(200, read(f"{ANSWERS}/{PATHS[self.path]}").encode())
+        # as a server that closes what is idle, without a word of it
+        self.close_connection = self.close_connection or self.given >= self.server.answers_each
+
+    def answer(self, status, body):
+        self.send_response(status)
+        self.send_header("Content-Length", str(len(body)))
+        self.end_headers()
+        self.wfile.write(body)
+
+    def log_message(self, *_):
+        pass
+
+
+class Place:
+    """A folder with a certificate, a file of curl and the stand-ins' own."""
+
+    def __init__(self):
+        self.folder = tempfile.mkdtemp()
+        words = ["openssl", "req", "-x509", "-newkey", "ec", "-pkeyopt", "ec_paramgen_curve:prime256v1", "-nodes",
+                 "-keyout", f"{self.folder}/key", "-out", f"{self.folder}/crt", "-days", "3650", "-subj",
+                 "/CN=worker-3", "-addext", "subjectAltName=IP:127.0.0.1"]
+        if shutil.which("openssl") is not None:
+            subprocess.run(words, check=True, capture_output=True)
+        self.settings = {"PATH": f"{HERE}/commands:{os.environ['PATH']}", "RECORDING": f"{HERE}/recordings/crash_loop",
+                         "RUN": self.folder, "TMPDIR": self.folder}
+
+    def curl_file(self, text):
+        with open(f"{self.folder}/curl", "w", encoding="utf-8") as file:
+            file.write(text)
+        return f"{self.folder}/curl"
+
+    def asked(self):
+        """The commands that were asked, and how often."""
+        lines = read(f"{self.folder}/asked").splitlines() if os.path.exists(f"{self.folder}/asked") else []
+        return {name: sum(line.startswith(f"{name} ") for line in lines)
+                for name in ("crictl", "curl", "kubectl proxy")}
+
+    def left(self):
+        return [name for name in os.listdir(self.folder) if name.startswith("record-")]
+
+    def remove(self):
+        shutil.rmtree(self.folder)
+
+
+def kinds(trace):
+    return [json.loads(line)["kind"] for line in trace.splitlines()]
+
+
+def has_openssl():
+    if shutil.which("openssl") is None:
+        print("left out: the connections to a kubelet, since openssl is missing")
+    return shutil.which("openssl") is not None
+
+
+def test_kubelet():
+    """All answers of a kubelet come by one connection, which is opened anew where it was closed; only crictl is a
+    command."""
+    if not has_openssl():
+        return
+    place = Place()
+    for name, answers_each, certificate in (("kept", 10 ** 9, "insecure"),
+                                            ("closed each time", 1, f'cacert = "{place.folder}/crt"')):
+        kubelet = Kubelet(place.folder, answers_each)
+        curl = place.curl_file(f'# of the test\nheader = "Authorization: {TOKEN}"\n{certificate}\n')
+        words = ["--node", "worker-3", "--standard", "--kubelet", kubelet.url, "--curl", curl, "--for", "3"]
+        status, trace, said = run([f"{TOOLS}/record", *words], **place.settings)
+        expect(f"kubelet, {name}", (status, kinds(trace)[:3], said), (0, ["node", "pod", "tick"], ""))
+        expect(f"kubelet, {name}: its answers", kubelet.answers >= 6, True)
+        many = kubelet.answers if answers_each == 1 else 1
+        expect(f"kubelet, {name}: connections", kubelet.connections, many)
+        expect(f"kubelet, {name}: commands", (place.asked()["crictl"] > 0, place.asked()["curl"]), (True, 0))
+        kubelet.end()
+    place.remove()
+
+
+def test_refusals():
+    """Why a kubelet gives no answer is said in one line."""
+    if not has_openssl():
+        return
+    place, wrong = Place(), "Bearer of-another"
+    kubelet = Kubelet(place.folder)
+    closed = Kubelet(place.folder)
+    closed.end()
+    token = f'header = "Authorization: {TOKEN}"\n'
+    for name, url, text, wanted in (
+        ("a wrong token", kubelet.url, f'header = "Authorization: {wrong}"\ninsecure\n',
+         "/metrics/probes answered with 401 Unauthorized: Unauthorized"),
+        ("a certificate of nobody", kubelet.url, token, "self-signed certificate"),
+        ("no such file of an authority", kubelet.url, f'{token}cacert = "/nonexistent"\n', "No such file"),
+        ("a port where nobody is", closed.url, f"{token}insecure\n", "gave no answer: Connection refused"),
+    ):
+        words = ["--node", "worker-3", "--kubelet", url, "--curl", place.curl_file(text)]
+        status, trace, said = run([f"{TOOLS}/record", *words], **place.settings)
+        is_said = wanted in said.replace("self signed", "self-signed")
+        expect(f"kubelet with {name}", (status, trace, said.count("\n"), is_said), (1, "", 1, True))
+    kubelet.end()
+    place.remove()
+
+
+def test_other_settings():
+    """A file of curl with more than is read leaves the answers to curl."""
+    for text, wanted in (('header = "A: b\\"c"\n-H "D: e"\n--insecure\n', ({"A": 'b"c', "D": "e"}, True)),
+                         ("header: X:y\ncacert /a\n# no\n\n", ({"X": "y"}, False))):
+        found = settings_of(text)
+        expect(f"settings of {text!r}", (found.headers, found.is_insecure), wanted)
+    for text in ("proxy = a", "header = @file", 'header = "A: b', "cert = a:secret", "-x a", "insecure = no"):
+        try:
+            found = settings_of(text)
+        except NotRead:
+            found = None
+        expect(f"settings of {text}", found, None)
+    place = Place()
+    words = ["--node", "worker-3", "--standard", "--kubelet", "https://127.0.0.1:10250", "--for", "1", "--curl",
+             place.curl_file('header = "Authorization: Bearer none"\nproxy = "http://127.0.0.1:1"\n')]
+    status, trace, said = run([f"{TOOLS}/record", *words], **place.settings)
+    expect("settings that curl alone reads", (status, kinds(trace)[:2], said.count("\n"), "curl is started" in said),
+           (0, ["node", "pod"], 1, True))
+    expect("settings that curl alone reads: curl", place.asked()["curl"] > 0, True)
+    place.remove()
+
+
+def test_a_token_that_changes():
+    """The file is read again where it has changed."""
+    if not has_openssl():
+        return
+    place = Place()
+    kubelet = Kubelet(place.folder)
+    curl = place.curl_file(f'header = "Authorization: {TOKEN}"\ninsecure\n')
+    words = ["--node", "worker-3", "--standard", "--kubelet", kubelet.url, "--curl", curl, "--for", "4"]
+    process = subprocess.Popen([f"{TOOLS}/record", *words], env={**os.environ, **place.settings}, stdout=subprocess.PIPE,
+                               stderr=subprocess.PIPE)
+    first = process.stdout.readline().decode()
+    kubelet.token = "Bearer of-the-next-hour"
+    place.curl_file(f'header = "Authorization: {kubelet.token}"\ninsecure\n')
+    out, said = process.communicate(timeout=LONGEST)
+    expect("a token that changes", (process.returncode, kinds(first + out.decode())[:3], said.decode()),
+           (0, ["node", "pod", "tick"], ""))
+    kubelet.end()
+    place.remove()
+
+
+def test_proxy():
+    """kubectl is started once, as a proxy, and nothing of it is left, also where the recorder is interrupted."""
+    place = Place()
+    words = ["--node", "worker-3", "--standard", "--for", "3"]
+    status, trace, said = run([f"{TOOLS}/record", *words], **place.settings)
+    expect("proxy", (status, kinds(trace)[:3], said), (0, ["node", "pod", "tick"], ""))
+    expect("proxy: it is started once, and left nothing", (place.asked()["kubectl proxy"], place.left()), (1, []))
+    for name, number in (("interrupted", signal.SIGINT), ("killed", signal.SIGKILL)):
+        process = subprocess.Popen([f"{TOOLS}/record", "--node", "worker-3", "--standard"], start_new_session=True,
+                                   env={**os.environ, **place.settings}, stdout=subprocess.PIPE, stderr=subprocess.PIPE)
+        process.stdout.readline()
+        [folder] = place.left()
+        os.kill(process.pid, number)
+        process.communicate(timeout=LONGEST)
+        expect(f"proxy, {name}: nobody is there any more", until_refused(f"{place.folder}/{folder}/proxy"), True)
+        expect(f"proxy, {name}: its folder", place.left() == [], number == signal.SIGINT)
+    place.remove()
+
+
+def until_refused(path):
+    """Whether a socket comes to have no server."""
+    for _ in range(100):
+        with socket.socket(socket.AF_UNIX, socket.SOCK_STREAM) as asked:
+            try:
+                asked.connect(path)
+            except OSError:
+                return True
+        time.sleep(0.05)
+    return False
+
+
+def test_no_proxy():
+    """Where kubectl's proxy does not start, kubectl is started for each answer, which is said."""
+    place = Place()
+    os.makedirs(f"{place.folder}/bin")
+    with open(f"{place.folder}/bin/kubectl", "w", encoding="utf-8") as file:
+        file.write(f'#!/bin/sh\n[ "$1" != proxy ] || {{ echo "error: no proxy here" >&2; exit 1; }}\n'
+                   f'exec "{HERE}/commands/kubectl" "$@"\n')
+    os.chmod(f"{place.folder}/bin/kubectl", 0o755)
+    settings = {**place.settings, "PATH": f"{place.folder}/bin:{place.settings['PATH']}"}
+    status, trace, said = run([f"{TOOLS}/record", "--node", "worker-3", "--standard", "--for", "1"], **settings)
+    expect("no proxy", (status, kinds(trace)[:2], said),
+           (0, ["node", "pod"], "record: kubectl proxy failed with status 1: error: no proxy here: kubectl is started "
+                                "for each answer\n"))
+    expect("no proxy: what is left", place.left(), [])
+    place.remove()
