@@ -191,7 +191,8 @@ def test_a_token_that_changes():
     kubelet = Kubelet(place.folder)
     curl = place.curl_file(f'header = "Authorization: {TOKEN}"\ninsecure\n')
     words = ["--node", "worker-3", "--standard", "--kubelet", kubelet.url, "--curl", curl, "--for", "4"]
-    process = subprocess.Popen([f"{TOOLS}/record", *words], env={**os.environ, **place.settings}, stdout=subprocess.PIPE,
+    settings = {**os.environ, **place.settings}
+    process = subprocess.Popen([f"{TOOLS}/record", *words], env=settings, stdout=subprocess.PIPE,
                                stderr=subprocess.PIPE)
     first = process.stdout.readline().decode()
     kubelet.token = "Bearer of-the-next-hour"

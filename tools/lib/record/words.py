@@ -23,33 +23,41 @@ of a line. NAME is the node's name in the cluster (uname -n). --check asks each 
 is missing, and ends.
 
 It needs python3, crictl (as root, on the node) and
-  kubectl  that may get nodes/proxy and list pods; or, with --kubelet,
-  curl     that asks the kubelet at URL, as https://127.0.0.1:10250; FILE is a curl configuration, with a line for the
-           token, as in: header = "Authorization: Bearer ..", and one for the certificate: cacert = "..", or insecure
+  kubectl  that may get nodes/proxy and list pods, which it starts once, as a proxy on a socket of its own; or
+  a kubelet's port, with --kubelet URL, as https://127.0.0.1:10250; FILE is a curl configuration, with a line for the
+           token, as in: header = "Authorization: Bearer ..", and one for the certificate: cacert = "..", or insecure;
+           where it has more than that curl is started for each answer
 /configz is served at port 10250, which wants a permission, and by the API server's proxy; the read-only port 10255 does
 not serve it. --node-line FILE has a node line in its place.
 
 It asks                                  how often              for
-  crictl ps -a -o json                   --look                 attempts and states
+  crictl ps -a -o json                   --look; where nothing  attempts and states
+                                         happens twice that
   crictl inspect                         once a start, an exit  startedAt, finishedAt, exitCode
   /metrics/probes                        --look                 results of probes, as what the counters grew by
-  kubectl get pods -o json, or /pods     10 s, and where an     the pods, without their environment
-                                         instance exited or went
-  /stats/summary                         10 s, or --every       capacity, signals and usage, when the kubelet samples
+  kubectl get pods -o json, or /pods     10 s, and where an     the pods, without their environment; whom the kubelet
+                                         instance exited or     evicted or refused; the codes of what the runtime has
+                                         went                   removed
+  /stats/summary                         10 s, or --every; at   capacity, signals and usage, at the moments at which the
+                                         each look where the    kubelet sampled them
+                                         kubelet may evict
   /configz                               once                   thresholds, graces and periods
+
+The kubelet may evict while a signal is below twice its threshold, and while the node is under pressure. What it did
+stands in the ticks, for the tools; the program does not read it.
 
 --standard writes version 2, --extended version 3 with a line for a pod that goes, its new line where its name comes
 again, and evictionPauseSeconds (10, or --eviction-pause); without either it is --{default}.
 
 It leaves out
-  - an instance that came and went between two looks and was removed by then, and the code of an exit that the runtime
-    no longer knows, which counts as 137: standard error names it;
+  - an instance that came and went between two looks and was removed by then, and the code of an exit that neither the
+    runtime nor the pod's status knows, which counts as 137: standard error names it;
   - the order of several results of one probe between two looks: failures stand before the success that ends them;
   - afterReclaim, so no threshold is reclaimed in the replay; thresholds on other signals, and percentages of a signal
     without a capacity; mergeDefaultEvictionSettings;
   - ephemeral containers, and of a pod's manifest every field that the formats do not read, as its environment;
-  - a pod that the formats refuse, the 257th pod; in the standard format that a pod has gone, and a pod from the moment
-    on that it was made anew under its name.
+  - a pod that the formats refuse, the 257th pod, one that the kubelet refused or had evicted before it was seen; in the
+    standard format that a pod has gone, and a pod from the moment on that it was made anew under its name.
 A file system for images of the same size as the node's is taken for the same one. On standard error it says what it
 leaves out, writes otherwise or infers, and each source that gives no answer with what stands in its place.
 
