@@ -6,7 +6,10 @@ import gzip
 import json
 import sys
 
-POD_FIELDS = ("name", "namespace", "uid", "annotations")
+POD_FIELDS = ("name", "namespace", "uid", "annotations", "deletionTimestamp")
+STATUS_FIELDS = ("phase", "reason", "message")
+STATUSES = ("initContainerStatuses", "containerStatuses")
+END_FIELDS = ("containerID", "startedAt", "finishedAt", "exitCode", "reason")
 SPEC_FIELDS = ("restartPolicy", "priority", "terminationGracePeriodSeconds", "nodeName", "volumes")
 CONTAINER_FIELDS = ("name", "image", "resources", "startupProbe", "livenessProbe", "readinessProbe")
 SAMPLES = ("time", "availableBytes", "capacityBytes", "usedBytes", "workingSetBytes", "inodes", "inodesFree",
@@ -25,10 +28,23 @@ def list_of(answer):
 
 def pods_of(answer):
     return {"kind": answer["kind"], "items": [
-        {"metadata": picked(pod["metadata"], POD_FIELDS), "status": picked(pod.get("status", {}), ("phase", "reason")),
+        {"metadata": picked(pod["metadata"], POD_FIELDS), "status": status_of(pod.get("status", {})),
          "spec": {**picked(pod["spec"], SPEC_FIELDS), **{
              role: [picked(container, CONTAINER_FIELDS) for container in pod["spec"][role]]
              for role in ("initContainers", "containers") if role in pod["spec"]}}} for pod in answer["items"] or []]}
+
+
+def status_of(status):
+    """A pod's status, with how its containers ended."""
+    conditions = [each for each in status.get("conditions") or [] if each.get("type") == "DisruptionTarget"]
+    return {**picked(status, STATUS_FIELDS), **({"conditions": conditions} if conditions else {}),
+            **{role: list(map(container_status, status[role])) for role in STATUSES if status.get(role)}}
+
+
+def container_status(status):
+    ends = {state: {"terminated": picked(status[state]["terminated"], END_FIELDS)} for state in ("lastState", "state")
+            if (status.get(state) or {}).get("terminated")}
+    return {**picked(status, ("name",)), **ends}
 
 
 def sample_of(value):

@@ -37,6 +37,9 @@ class Nearness:
         """The kubelet has evicted or refused a pod."""
         self.pressed_at = moment
 
+    def is_pressed(self, moment):
+        """Whether the node is under pressure, which lasts for some time after the last sample below a threshold."""
+        return self.pressed_at is not None and moment - self.pressed_at < self.transition
+
     def is_near(self, moment):
-        is_pressed = self.pressed_at is not None and moment - self.pressed_at < self.transition
-        return bool(self.low) or is_pressed
+        return bool(self.low) or self.is_pressed(moment)

@@ -13,6 +13,9 @@ from .summary import summary_of
 # the kubelet samples its node and its pods about as often, and its node for each decision about evictions
 SUMMARY_SECONDS = 10
 PODS_SECONDS = 10
+# under pressure a pod without a running container may be evicted, which the runtime shows late: the kubelet is asked at
+# each look, and the API server less often
+PRESSED_PODS_SECONDS = {True: 1, False: 5}
 # where nothing has happened for some seconds the runtime is asked again after more than one, as its moments are exact
 STILL_SECONDS = 30
 LIST_SECONDS = 1.5
@@ -84,7 +87,7 @@ class Observer:
         else:
             self.listed_at = moment
             listed = self.attempt(RUNTIME, moment, lambda: instances_of(self.sources.listed()), is_whole=False)
-        if self.is_due(PODS, moment) or (listed is not None and self.may_have_changed_pods(listed)):
+        if self.wants_pods(moment) or (listed is not None and self.may_have_changed_pods(listed)):
             seen.pods = self.attempt(PODS, moment, lambda: self.take_pods(moment))
         if listed is not None:
             seen.instances = self.attempt(RUNTIME, moment, lambda: self.resolved(listed, moment))
@@ -94,6 +97,11 @@ class Observer:
             seen.summary = self.attempt(SUMMARY, moment, lambda: self.take_summary(moment))
         seen.is_summary_silent, seen.low = SUMMARY in self.silent, self.near.low
         return seen
+
+    def wants_pods(self, moment):
+        """Whether the pods are asked for, though the runtime shows nothing new."""
+        often = PRESSED_PODS_SECONDS[self.sources.kubelet is not None]
+        return self.is_due(PODS, moment, often if self.near.is_pressed(moment) else None)
 
     def wants_list(self, counters, moment):
         """Whether the runtime is asked at a look: not at each where nothing happens and no probe finds anything."""
@@ -117,10 +125,11 @@ class Observer:
                      (source, moment, "again"))
         return answer
 
-    def is_due(self, source, moment):
-        """Whether this many whole seconds have passed since a source was asked, also where it gave no answer."""
+    def is_due(self, source, moment, seconds=None):
+        """Whether so many whole seconds have passed since a source was asked, also where it gave no answer."""
         asked = self.asked_at.get(source)
-        return asked is None or int(moment) < int(asked) or int(moment) - int(asked) >= self.seconds[source]
+        seconds = self.seconds[source] if seconds is None or source in self.silent else seconds
+        return asked is None or int(moment) < int(asked) or int(moment) - int(asked) >= seconds
 
     def wants_summary(self, pods, moment):
         """Whether the summary is asked for: at each look while the kubelet may evict a pod, at once where it is seen
