@@ -14,6 +14,7 @@ import xml.dom.minidom
 sys.dont_write_bytecode = True
 import checks
 import test_connections
+import test_decisions
 import test_fleet
 import test_json
 import test_kubectl
@@ -24,8 +25,8 @@ import test_record
 import test_why
 from checks import HERE, REPLAY, TOOLS, TOP, expect, expect_kept, expect_refused, read, run
 
-MODULES = (test_record, test_connections, test_plays, test_real_node, test_json, test_why, test_page, test_fleet,
-           test_kubectl)
+MODULES = (test_record, test_connections, test_plays, test_real_node, test_json, test_why, test_decisions, test_page,
+           test_fleet, test_kubectl)
 RECORDINGS = f"{HERE}/recordings"
 COMMANDS = f"{HERE}/commands"
 
