@@ -59,14 +59,13 @@ def without_line(kubelet, key, show):
     return kubelets.no_line_text(key, kubelet.of_no_line(key), show) if kubelet is not None else ""
 
 
-def why(trace, report, pods, show):
-    """What the trace holds around the events of some pods, as text."""
-    kubelet = kubelet_beside(trace, report)
+def why(trace, report, pods, show, kubelet):
+    """What the trace holds around the events of some pods, and what the kubelet did to them, as text."""
     return "\n".join(f"why {pod.key} on {report.node}{reports.number_words(report, pod)}\n\n"
                      + why_of(trace, report, pod, show, kubelet) for pod in pods)
 
 
-def why_of(trace, report, pod, show, kubelet=None):
+def why_of(trace, report, pod, show, kubelet):
     return of_whole_ticks(lambda: why_text.whole_text(trace, report, pod, show, kubelet))
 
 

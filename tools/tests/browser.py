@@ -1,7 +1,7 @@
 """Drives pages of tools/page in headless Chromium, and writes what it found as JSON lines: a name, what was there, what
 should be. test_page.py runs it with a python3 that has selenium, and counts.
 
-usage: browser.py FOLDER, which has node.html, plain.html, odd.html, again.html and big.html
+usage: browser.py FOLDER, which has node.html, plain.html, odd.html, again.html, kubelet.html and big.html
 """
 
 import json
@@ -240,6 +240,25 @@ def check_again(chromedriver, path):
         tell("pods of one name: no error came", page.log(), [])
 
 
+def check_kubelet(chromedriver, path):
+    """What the kubelet did, as whys/kubelet has it."""
+    with Page(chromedriver, path) as page:
+        tell("counts whom the kubelet evicted", page.text("#chips button:nth-child(2)"), "evicted 5")
+        metas = dict(zip(page.texts(".pod .name"), page.texts(".pod .meta .bad")))
+        tell("tells when it did, and what the rules alone do", (metas["shop/agree"], metas["shop/paused"]),
+             ("evicted 11", "evicted by the rules alone"))
+        page.click(".pod .name", page.texts(".pod .name").index("shop/first"))
+        told = page.text("#panel")
+        tell("tells it in a story", [words in told for words in (
+            "the kubelet evicted it at 20: low on memory", "they do not evict it; no sample below the threshold")],
+             [True, True])
+        page.press(Keys.ESCAPE)
+        page.click_at(page.row("shop/agree"), 11 / 52, 20)
+        tell("has the why of a cross", "the rules, over the recorded samples, agree: they evict it at 10, 1 s before"
+             in page.text("#panel"), True)
+        tell("of what the kubelet did: no error came", page.log(), [])
+
+
 def timed(page, act):
     began = time.monotonic()
     act()
@@ -278,6 +297,7 @@ def main(folder, chromedriver):
     check_plain(chromedriver, f"{folder}/plain.html")
     check_odd(chromedriver, f"{folder}/odd.html")
     check_again(chromedriver, f"{folder}/again.html")
+    check_kubelet(chromedriver, f"{folder}/kubelet.html")
     check_big(chromedriver, f"{folder}/big.html")
 
 

@@ -14,6 +14,7 @@ from checks import HERE, TOOLS, TOP, expect, expect_refused, read, run
 
 NODE = f"{HERE}/whys/file_system"
 PROBES = f"{HERE}/whys/probes"
+KUBELET = f"{HERE}/whys/kubelet"
 AGAIN = f"{TOP}/crates/case_runner/data/traces/extended"
 PODS, TICKS = 256, 20000
 # of the page of this many pods and ticks
@@ -127,6 +128,7 @@ def write_pages(folder):
         "node": page_of(report, f"{NODE}/trace"), "plain": page_of(report),
         "odd": page_of(odd.replace("shop/api-7f9c", "shop/<img/src=x/onerror=document.title='x'>")),
         "again": page_of(read(f"{AGAIN}/evicted_pod_comes_again_and_is_evicted_again.report")),
+        "kubelet": page_of(read(f"{KUBELET}/report"), f"{KUBELET}/trace"),
         "big": page_of("".join(big_node.report_of(PODS, TICKS, PODS))),
     }
     for name, (status, page, said) in pages.items():
