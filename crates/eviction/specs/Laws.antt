@@ -65,7 +65,7 @@ pub record Lived (pods : List PodSpec) (before : List TickObs) (tick : TickObs)
       (pod_ticks (before ++ tick ∷ []) n)
       → ⊥
 
--- the pod that a tick evicts had not ended before
+-- the pod that a tick evicts had not ended when it had taken the tick into its status
 abbrev pub EvictedPodLived : Type 0
 EvictedPodLived =
     OfEachEviction (λ config pods before tick evictions eviction. Lived pods before tick evictions eviction.pod)

@@ -25,7 +25,7 @@ pub enum Version {
     One,
     /// A pod line may follow a tick line.
     Two,
-    /// The same; and evictions may pause.
+    /// The same; a line may say that a pod is gone, and evictions may pause.
     Three,
 }
 

@@ -44,10 +44,11 @@ written_in d = do
   capacity ← map_of (λ signal. quantity_at) (field_at (codes "capacity") d)
   written_over capacity d
 
--- the signal's threshold of each kind
+-- the signal's hard threshold, if it has one
 abbrev pub hard_threshold_of : Written → Signal → Option Threshold
 hard_threshold_of written signal = hard_threshold (of written.hard signal) (of written.reclaims signal)
 
+-- its soft threshold, if it has one, or the fault that it has no grace period
 abbrev pub soft_threshold_of : Written → Signal → Result (Option Threshold) NodeFault
 soft_threshold_of written signal =
     soft_threshold (of written.soft signal) (of written.reclaims signal) (of written.graces signal)

@@ -7,7 +7,8 @@ use piece_deques::number_of;
 use pod_piece::PodPiece;
 use std::alloc::AllocError;
 
-/// Called before and after each update, with the number of the pod.
+/// Called before and after each update, with the pod's place among those that are present, which is its number in
+/// versions 1 and 2.
 pub trait Gate: Sync {
     ghost use Rattle.std.specs.Prelude.{ℕ, ⊤};
 

@@ -12,7 +12,7 @@ abbrev pub set_amount : Option ℕ → Option ℕ
 set_amount None = None
 set_amount (Some amount) = if amount == 0 then None else Some amount
 
--- the request of a resource that is written for a container
+-- the request of a resource that is written for a container; a written 0 is none
 abbrev pub own_request_of : ContainerSpec → Resource → Option ℕ
 own_request_of container resource = set_amount (amount_of container.resources.requests resource)
 
@@ -38,10 +38,10 @@ RequestEqualsLimit resource container = (limit : ℕ) × (limit_of container res
 unfoldable pub IsGuaranteed : ContainerSpec → Type 0
 IsGuaranteed container = RequestEqualsLimit Cpu container × RequestEqualsLimit Memory container
 
--- a request or a limit of the resource is written for the container
+-- a request or a limit of the resource is written for the container, other than 0
 abbrev pub HasRequestOrLimit : Resource → ContainerSpec → Type 0
 HasRequestOrLimit resource container = IsSome (own_request_of container resource) ⊎ IsSome (limit_of container resource)
 
--- a request or a limit of cpu or of memory is written for the container
+-- a request or a limit of cpu or of memory is written for the container, other than 0
 abbrev pub HasSomeRequestOrLimit : ContainerSpec → Type 0
 HasSomeRequestOrLimit container = HasRequestOrLimit Cpu container ⊎ HasRequestOrLimit Memory container

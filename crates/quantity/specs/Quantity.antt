@@ -80,10 +80,12 @@ HasQuantityFault text fault =
 abbrev pub digit_count : List ℕ → ℕ
 digit_count text = length (whole_of text) + length (fraction_of text)
 
--- the number's digits, with and without the point
+-- the number that the digits before and behind the point make, without the point
 abbrev pub number_value : List ℕ → List ℕ → ℕ
 number_value whole fraction = digits_value 10 whole * 10 ^ length fraction + digits_value 10 fraction
 
+-- a number of which this many digits stand behind the point, times a factor, in thousandths: rounded up, and no more
+-- than the greatest quantity
 abbrev pub thousandths_of : ℕ → ℕ → Factor → ℕ
 thousandths_of number places factor =
     min (div_ceil (1000 * number * factor.numerator) (10 ^ places * factor.denominator)) greatest_quantity

@@ -8,10 +8,11 @@ use Rattle.quantity.specs.declared.suffix.Factor.{Factor}
 use Rattle.quantity.specs.declared.fault.QuantityFault.{QuantityFault}
 use Rattle.quantity.specs.declared.fault.QuantityFault.TheVariants.{BadSuffix, Exponent}
 
--- a factor of n, and of 1 / n
+-- a factor of n
 abbrev pub times : ℕ → Factor
 times n = record { numerator = n; denominator = 1 }
 
+-- a factor of 1 / n
 abbrev pub divided_by : ℕ → Factor
 divided_by n = record { numerator = 1; denominator = n }
 

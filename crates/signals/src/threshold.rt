@@ -11,7 +11,7 @@ use quantity::Limit;
 pub enum ThresholdKind {
     /// At once.
     Hard,
-    /// Once its signal was below it for the whole of its grace period.
+    /// Once its signal fell below it, and stayed below it plus its minimum reclaim for the whole of its grace period.
     Soft,
 }
 

@@ -1,6 +1,6 @@
 -- A pod leaves in version 3 alone.
-use Rattle.std.proofs.Common.{◌≡◌, ℕ, zero, suc, Bool, true, false, List, [], ◌∷◌, ◌++◌, Option, Some, None, Result, Ok, Err}
-use Rattle.std.proofs.Common.{refl}
+use Rattle.std.proofs.Common.{◌≡◌, ℕ, zero, suc, Bool, true, false, List, [], ◌∷◌, ◌++◌, Option, Some, None}
+use Rattle.std.proofs.Common.{Result, Ok, Err, refl}
 use Rattle.std.specs.Prelude.{codes, slice_get, IfOk, bytes_eq, option_map, if◌then◌else◌}
 use Rattle.json_fields.specs.Fields.{text_at}
 use Rattle.node_config.specs.declared.node.Format.{Format}
