@@ -1,6 +1,6 @@
 -- Lines that several threads share, as what was read of them.
-use Rattle.std.proofs.Common.{◌≡◌, ◌+◌, ◌*◌, ◌/◌, ◌%◌, ◌<◌, ℕ, List, [], ◌∷◌, length, map, min, All}
-use Rattle.std.proofs.Common.{IsOk, IfOk, OnOk, Result, Ok, Err, refl, ap₂, arith}
+use Rattle.std.proofs.Common.{◌≡◌, ◌+◌, ◌/◌, ◌%◌, ◌<◌, ℕ, List, [], ◌∷◌, length, map, min, All}
+use Rattle.std.proofs.Common.{IsOk, IfOk, OnOk, Result, Ok, Err, refl, ap₂}
 use Rattle.std.specs.List.{AllZip, flat_map}
 use Rattle.std.proofs.lemmas.Grind.{div_ceil_times}
 use Rattle.json_lines.specs.Parts.{read_in}

@@ -15,7 +15,7 @@ mod usage;
 
 pub use entry::TickEntry;
 pub use fault::TickLineFault;
-pub use line::{TickLine, tick_line_of};
+pub use line::{TickLine, entries_of, tick_line_of};
 pub use listing::{ListedInstance, Listing};
 pub use probing::ProbeResult;
 pub use tape::{

@@ -1,5 +1,8 @@
 //! A tick line, as it is written.
 
+ghost use Rattle.std.specs.Prelude.{codes};
+ghost use Rattle.json_fields.specs.Fields.{field_at};
+ghost use Rattle.tick_lines.specs.Entries.{entries_of};
 ghost use Rattle.tick_lines.specs.GivesUnlessMemory.{GivesUnlessMemory};
 ghost use Rattle.tick_lines.specs.Line.{tick_line_of};
 
@@ -26,6 +29,13 @@ pub struct TickLine {
     pub after_reclaim: BySignal<Option<Quantity>>,
 }
 
+/// Reads the entries of a tick line, which come before its samples.
+pub fn entries_of<V: Json>(alloc: Global, line: &V) -> Result<Sequence<TickEntry>, TickLineFault>
+    ensures { GivesUnlessMemory (λ s. s) result (entries_of (field_at (codes "pods") (V.data line.now))) }
+{
+    read_items::<TickEntry, V>(alloc, field(line, "pods"))
+}
+
 /// Reads a tick line, all but its moment. A field with the value null counts as absent, and a field
 /// of another name is ignored, but for a name that is no signal's where signals are named. Exit
 /// codes are read as far as they are codes, and never refused.
@@ -37,7 +47,7 @@ pub fn tick_line_of<V: Json>(alloc: Global, line: &V) -> Result<TickLine, TickLi
     ensures { GivesUnlessMemory (λ t. t) result (tick_line_of (V.data line.now)) }
 {
     Ok(TickLine {
-        entries: read_items::<TickEntry, V>(alloc, field(line, "pods"))?,
+        entries: entries_of(alloc, line)?,
         signals: samples_of(Scope::Node, field(line, "signals"))?,
         after_reclaim: samples_of(Scope::FileSystems, field(line, "afterReclaim"))?,
     })
