@@ -58,8 +58,10 @@ def replayed(trace):
     return run([REPLAY, *words], trace)
 
 
-def expect_refused(name, answer, status, words):
-    """One line on standard error with some words, nothing on standard output, and a status."""
+def expect_refused(name, answer, status, words, means=None):
+    """One line on standard error with some words, and one more where it says what they mean; nothing on standard
+    output, and a status."""
     got, out, said = answer
-    one_line = said.count("\n") == 1 and said.endswith("\n")
-    expect(name, (got, out, one_line and words in said or said), (status, "", True))
+    lines = said.split("\n")
+    whole = len(lines) == (2 if means is None else 3) and lines[-1] == ""
+    expect(name, (got, out, whole and words in lines[0] and (means or "") in lines[-2] or said), (status, "", True))

@@ -1,0 +1,137 @@
+"""The tests of tools/explain: of each text that the program refuses a field is found, and the whole answers of some."""
+
+import glob
+import io
+import os
+import shutil
+import sys
+import tempfile
+
+from checks import HERE, REPLAY, TOOLS, TOP, expect, expect_kept, expect_refused, read, run
+
+sys.path.insert(0, f"{TOOLS}/lib")
+from explain import answer, before, lines, manifest, node, search, table, tick, told, verdict  # noqa: E402
+
+EXPLAINED = f"{HERE}/explained"
+DATA = f"{TOP}/crates/case_runner/data"
+
+
+def refused_texts():
+    """The texts that the program's own tests have it refuse: a name, the text, what is said, whether it is read in the
+    extended format."""
+    for path in sorted(glob.glob(f"{DATA}/traces/**/*.refusal", recursive=True)):
+        with open(path.removesuffix("refusal") + "trace", "rb") as file:
+            yield path, file.read(), read(path).strip(), "/extended/" in path
+    for path in sorted(glob.glob(f"{DATA}/lines/*.table")):
+        before = read(path.removesuffix("table") + "before")
+        for row in read(path).split("\n"):
+            line, _, said = row.rpartition("\t")
+            if row[:1] != "#" and said.startswith("status 2: "):
+                yield f"{path} {line[:80]}", f"{before}{line}\n".encode(), said, "extended" in os.path.basename(path)
+
+
+def found_of(text, said, is_extended):
+    """What is found of a refused text, as the answer that is told."""
+    line, number, _, manifest = verdict.REFUSED.fullmatch(said.removeprefix("status 2: ")).groups()
+    given = verdict.Verdict(2, said, int(line), int(number), int(manifest) if manifest else None)
+    found, shown = search.search(io.BytesIO(text), given, is_extended)
+    return answer.Answer(said, True, found, *table.row(given.number, given.manifest)[1:], given.line, shown,
+                         given.number in (31, 32))
+
+
+def test_refused_texts():
+    """A field is found of each, and each part of what is told fits on a terminal's line and has no control byte."""
+    nothing, strange, count = [], [], 0
+    for name, text, said, is_extended in refused_texts():
+        count += 1
+        given = found_of(text, said, is_extended)
+        if not given.found:
+            nothing.append(f"{name}: {said}")
+        shown = told.whole_text(given, "TRACE")
+        if not all(each.isprintable() or each == "\n" for each in shown) or not told.one_line(given).isprintable():
+            strange.append(name)
+    expect("explain finds a field of each refused text", nothing, [])
+    expect("explain shows no control byte", strange, [])
+    expect("explain was tried with the texts of all faults", count > 400, True)
+
+
+def test_explanations():
+    """Each folder has a trace, and what is told of it and in one line."""
+    for name in sorted(os.listdir(EXPLAINED)):
+        status, shown, said = run([f"{TOOLS}/explain"], read(f"{EXPLAINED}/{name}/trace"))
+        expect(f"explain {name}", (status, said), (0, ""))
+        expect_kept(f"explain {name}: the text", shown, f"{EXPLAINED}/{name}/told")
+        status, shown, said = run([f"{TOOLS}/explain", "--line"], read(f"{EXPLAINED}/{name}/trace"))
+        expect(f"explain --line {name}", (status, said), (0, ""))
+        expect_kept(f"explain --line {name}: the text", shown, f"{EXPLAINED}/{name}/line")
+
+
+def test_files():
+    """Of what can't be read the reason is said, of what is something else what it is."""
+    folder = tempfile.mkdtemp()
+    report = read(f"{TOP}/examples/liveness_kill.report")
+    for name, text, wanted in (
+        ("a.report", report.encode(), "it is a report"),
+        ("a.gz", b"\x1f\x8b\x08", "it is packed by gzip\n"),
+        ("empty", b"", "it is empty: it has no line of a trace"),
+        ("blank", b" \n\n", "it is empty: it has no line of a trace"),
+        ("pod.json", b'{\n  "apiVersion": "v1",\n  "kind": "Pod"\n}\n', "it is a manifest\n"),
+        ("utf16", '{"kind"'.encode("utf-16"), "it is text in UTF-16\n"),
+    ):
+        with open(f"{folder}/{name}", "wb") as file:
+            file.write(text)
+        status, shown, said = run([f"{TOOLS}/explain", f"{folder}/{name}"])
+        expect(f"explain {name}", (status, said, wanted in shown or shown), (0, "", True))
+    os.truncate(f"{folder}/empty", (64 << 20) + 1)
+    for path, wanted in ((f"{folder}/empty", "the file has 67108865 bytes"),
+                         (f"{folder}/a.reprot", f"{folder}/a.report"), (folder, "it is a folder"),
+                         ("/nonexistent/a", "there is no folder /nonexistent")):
+        status, shown, said = run([f"{TOOLS}/explain", path])
+        expect(f"explain {path}", (status, said, wanted in shown or shown), (0, "", True))
+    shutil.rmtree(folder)
+
+
+def test_what_is_no_fault():
+    trace = f"{TOP}/examples/liveness_kill.trace"
+    shown = run([f"{TOOLS}/explain", trace])
+    expect("explain of a trace", shown, (0, f"{trace}: ok pods=1 ticks=7\n  nothing is wrong with it\n", ""))
+
+
+def test_words_of_explain():
+    for words, said in ((["a", "b"], "one trace, not 2"), (["--all"], "--all is no word")):
+        expect_refused(f"explain {' '.join(words)}", run([f"{TOOLS}/explain", *words]), 2, said)
+    expect_refused("explain of a closed standard input", run(["sh", "-c", f"exec '{TOOLS}/explain' <&-"]), 2,
+                   "standard input is closed")
+    expect_refused("explain without the program", run([f"{TOOLS}/explain", REPLAY],
+                                                      KUBELET_REPLAY="/nonexistent/program"), 127, "is missing")
+
+
+def faults_of(line, before):
+    """Every fault that explain would find of a line, of any kind that has no number of its own."""
+    kind = line["kind"]
+    if kind == "node":
+        yield from node.config_faults(line, True)
+        yield from node.without_graces(line, before)
+    elif kind == "pod":
+        yield from (found for _, found in manifest.faults_of(line))
+    elif kind == "tick":
+        for faults in tick.FAULTS.values():
+            yield from faults(line, before)
+
+
+def test_accepted_texts():
+    """Of a trace that the program takes no line has a fault."""
+    wrong, count = [], 0
+    for path in sorted(glob.glob(f"{DATA}/traces/**/*.report", recursive=True)):
+        with open(path.removesuffix("report") + "trace", "rb") as file:
+            texts = file.read().split(b"\n")
+        state = before.Before()
+        for number, text in enumerate(texts, 1):
+            if not text.strip(b" \t\r"):
+                continue
+            line = lines.value_of(text.decode("utf-8"))
+            wrong += [f"{path} {number}: {found.says}" for found in faults_of(line, state)]
+            state.take(number, line, True)
+            count += 1
+    expect("explain finds nothing in what the program takes", wrong, [])
+    expect("explain was tried with lines that the program takes", count > 2000, True)
