@@ -85,12 +85,15 @@ def page(program, top, version, date):
                                for line in (f"\\fBkubelet_replay\\fR {name} \\fI...\\fR", ".br")),
              "\\fBkubelet_replay\\fR < \\fITRACE\\fR",
              ".SH DESCRIPTION", escaped(about),
-             "Without a word it replays the trace of standard input.", ".SH COMMANDS"]
+             "Without a word it replays the trace of standard input, which commands take as /dev/stdin.",
+             ".SH COMMANDS"]
     for name, _ in commands:
         if name != "help":
             lines += command(program, name)
     lines += [".SH OPTIONS", *list_of(items_of(parts.get("Options", [])))]
     lines += [".SH EXIT STATUS", *list_of(statuses(top))]
+    lines += [".SH DIAGNOSTICS", "Beside the program tools/explain TRACE says in words why a trace is refused: the",
+              "field that is at fault, the line around it, and what to do; so does kubectl replay explain TRACE."]
     lines += [".SH FILES", "Beside the program docs/rules.md has the rules, docs/formats.md says what a trace is,",
               "docs/report.md what a report is, and examples/ has traces with their reports."]
     return "\n".join(lines) + "\n"
