@@ -6,22 +6,36 @@ import difflib
 
 import entry
 import kubelet as kubelets
+import naming
 import report as reports
 import trace as traces
 import why_text
 
 
-def pods_named(report, key, others=""):
+def key_named(report, name, kubelet=None):
+    """The key of a name that may be cut behind, as that of a Deployment's pod is known before its hashes, and may be
+    without its namespace; then it has to fit one pod, of the report or of what the kubelet did to pods without a line.
+    A name that fits none stays as it is."""
+    of_no_line = [] if kubelet is None else [each.pod for each, _ in kubelet.decisions() if each.number is None]
+    return naming.only_key(name, list(dict.fromkeys([*keys_of(report), *of_no_line]))) or name
+
+
+def pods_named(report, name, others=""):
     """The pods of a key, more than one where a pod came again under its name; none where something else is told."""
+    key = name if others else key_named(report, name)
     found = [pod for pod in report.pods if pod.key == key]
     if not found and not others:
-        raise entry.Fault(f"the report has no pod {key}; {nearest(report, key)}")
+        raise entry.Fault(f"the report has no pod {name}; {nearest(report, name)}")
     return found
+
+
+def keys_of(report):
+    return list(dict.fromkeys(pod.key for pod in report.pods))
 
 
 def nearest(report, key):
     """What to write in place of a key that no pod has."""
-    keys = list(dict.fromkeys(pod.key for pod in report.pods))
+    keys = keys_of(report)
     names = {known.partition("/")[2]: known for known in keys}
     near = difflib.get_close_matches(key, keys, 3) or [
         names[name] for name in difflib.get_close_matches(key.rpartition("/")[2], list(names), 3)]
@@ -39,7 +53,7 @@ def trace_of(report, path):
     except traces.TraceFault as fault:
         raise entry.Fault(str(fault)) from None
     except (ValueError, TypeError, KeyError, AttributeError):
-        raise entry.Fault(f"{path} has a tick line that is none (the program's check says which)") from None
+        raise entry.Fault(f"{path} has a tick line that is none (tools/explain says which)") from None
     return trace
 
 
@@ -74,4 +88,4 @@ def of_whole_ticks(gather):
     try:
         return gather()
     except (ValueError, TypeError, KeyError, AttributeError):
-        raise entry.Fault("the trace has a tick line that is none (the program's check says which)") from None
+        raise entry.Fault("the trace has a tick line that is none (tools/explain says which)") from None

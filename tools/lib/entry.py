@@ -6,15 +6,16 @@ import io
 import os
 import sys
 
+import first_bytes
 import report as reports
 
 
 class Fault(Exception):
-    """What is said in one line on standard error, and the status with it."""
+    """What is said in one line on standard error, in one more what it means where that is known, and the status."""
 
-    def __init__(self, said, status=2):
+    def __init__(self, said, status=2, means=None):
         super().__init__(said)
-        self.status = status
+        self.status, self.means = status, means
 
 
 def standard_input():
@@ -26,10 +27,14 @@ def standard_input():
 
 def read_report():
     """The report of standard input."""
+    text, given = b"", standard_input()
+    if given.isatty():
+        raise Fault("it wants a report on standard input, as kubelet_replay run TRACE > REPORT writes it: .. < REPORT")
     try:
-        return reports.read_report(standard_input().read().decode("utf-8", "replace"))
+        text = given.read()
+        return reports.read_report(text.decode("utf-8", "replace"))
     except reports.ReportFault as fault:
-        raise Fault(str(fault)) from None
+        raise Fault(first_bytes.instead_of_report(text) or str(fault)) from None
     except OSError as fault:
         raise Fault(f"standard input can't be read: {fault.strerror}") from None
 
@@ -68,11 +73,12 @@ def run(tool, main):
         return 1
     sys.stdout = standard_output()
     try:
-        status = main(sys.argv[1:])
+        status = version(tool) if is_version(sys.argv[1:]) else main(with_help(sys.argv[1:]))
         sys.stdout.flush()
         return status
     except Fault as fault:
-        print(f"{tool}: {visible(str(fault))}", file=sys.stderr)
+        for said in filter(None, (str(fault), fault.means)):
+            print(f"{tool}: {visible(said)}", file=sys.stderr)
         return fault.status
     except BrokenPipeError:
         # what is still held must not be written once more as the interpreter ends
@@ -87,10 +93,33 @@ def run(tool, main):
         return 130
 
 
+def is_version(words):
+    return words in (["--version"], ["-V"])
+
+
+def version(tool):
+    """Writes the version of the release, or of the checkout, that the tool is of; the status."""
+    top = os.path.dirname(os.path.dirname(os.path.dirname(os.path.realpath(__file__))))
+    with open(os.path.join(top, "VERSION"), encoding="utf-8") as file:
+        sys.stdout.write(f"{tool} {file.read()}")
+    return 0
+
+
+def with_help(words):
+    """The words, with --help in place of its short form."""
+    return ["--help" if word == "-h" else word for word in words]
+
+
 def visible(text):
     """A text as one line that a terminal only shows, whatever names are in it: what can't be printed, as an escape byte
     or the end of a line, is written as Python writes it."""
     return "".join(each if each.isprintable() else each.encode("unicode_escape").decode("ascii") for each in text)
+
+
+def counted(count, what):
+    """A number of things, in words: 1 pod, 2 pods, 2 copies."""
+    several = f"{what[:-1]}ies" if what.endswith("y") else f"{what}s"
+    return f"{count} {what if count == 1 else several}"
 
 
 def words_with(words, flags=(), valued=()):

@@ -7,6 +7,7 @@ import json
 from dataclasses import dataclass, field
 
 import amounts
+import first_bytes
 
 STATES = ("CONTAINER_CREATED", "CONTAINER_RUNNING", "CONTAINER_EXITED", "CONTAINER_UNKNOWN")
 PROBES = ("startup", "liveness", "readiness")
@@ -219,6 +220,9 @@ def read_trace(path):
 
 def trace_of(text, path):
     """The trace of a text, which a path names where it is none. Raises TraceFault."""
+    other = first_bytes.instead_of_trace(text, path)
+    if other:
+        raise TraceFault(other)
     trace, present = None, {}
     for number, line in enumerate(text.split(b"\n"), 1):
         if not line.strip(b" \t\r"):
@@ -228,7 +232,7 @@ def trace_of(text, path):
             trace = trace_with(trace, present, found)
         except (ValueError, TypeError, KeyError, AttributeError, RecursionError):
             raise TraceFault(f"{path}: line {number} is no line of a trace there "
-                             "(the program's check says what it lacks)") from None
+                             "(tools/explain says what it lacks)") from None
     if trace is None:
         raise TraceFault(f"{path} is no trace: it has no line")
     return trace

@@ -15,6 +15,7 @@ sys.dont_write_bytecode = True
 import checks
 import test_connections
 import test_decisions
+import test_explain
 import test_fleet
 import test_json
 import test_kubectl
@@ -26,7 +27,7 @@ import test_why
 from checks import HERE, REPLAY, TOOLS, TOP, expect, expect_kept, expect_refused, read, run
 
 MODULES = (test_record, test_connections, test_plays, test_real_node, test_json, test_why, test_decisions, test_page,
-           test_fleet, test_kubectl)
+           test_fleet, test_kubectl, test_explain)
 RECORDINGS = f"{HERE}/recordings"
 COMMANDS = f"{HERE}/commands"
 
@@ -49,6 +50,40 @@ def test_stories():
         name = "_".join([recording, pod.split("/")[1], *(word.strip("-") for word in words)])
         expect(f"story {name}", (status, said), (0, ""))
         expect_kept(f"story {name}: the text", told, f"{HERE}/stories/{name}")
+
+
+def test_overviews():
+    """Without a pod the pods are listed, and those of a namespace, the worst first."""
+    for name, words, path in (("whole_node", ["--utc"], f"{RECORDINGS}/whole_node/report"),
+                              ("came_again", [], f"{HERE}/lines/came_again.report"),
+                              ("memory_pressure", [], f"{TOP}/examples/memory_pressure.report")):
+        status, told, said = run([f"{TOOLS}/story", *words], read(path))
+        expect(f"story of the pods of {name}", (status, said), (0, ""))
+        expect_kept(f"story of the pods of {name}: the text", told, f"{HERE}/stories/pods_of_{name}")
+    report = read(f"{RECORDINGS}/whole_node/report")
+    told = run([f"{TOOLS}/story", "shop/"], report)[1].split("\n")
+    expect("story of a namespace", [line.split()[0] for line in told[:-1]], ["worker-3:", "pod", "shop/web"])
+    expect_refused("story of a namespace without a pod", run([f"{TOOLS}/story", "shot/"], report), 2,
+                   "no pod in the namespace shot")
+    expect_refused("story of a trace without a pod", run([f"{TOOLS}/story", "--trace", "x"], report), 2,
+                   "--trace goes with a pod")
+
+
+def test_names_that_are_cut():
+    """A name that fits one pod is that pod's, and one that fits several lists them."""
+    report = read(f"{RECORDINGS}/whole_node/report")
+    for asked, key in (("shop/w", "shop/web"), ("web", "shop/web"), ("w", "shop/web"),
+                       ("kube-proxy", "kube-system/kube-proxy-worker-3"), ("batch/r", "batch/report-28401")):
+        expected = run([f"{TOOLS}/story", key], report)
+        expect(f"story {asked}", run([f"{TOOLS}/story", asked], report), expected)
+    several = report.replace("shop/web", "shop/api-1").replace("batch/report-28401", "shop/api-2")
+    for asked in ("shop/api", "api-", "shop/a"):
+        expect_refused(f"story {asked}", run([f"{TOOLS}/story", asked], several), 2,
+                       f"{asked} fits 2 pods: shop/api-1, shop/api-2")
+    expect("story of a whole name that begins others", run([f"{TOOLS}/story", "shop/api-1"],
+                                                            several.replace("shop/api-2", "shop/api-10"))[0], 0)
+    drawn = run([f"{TOOLS}/timeline", "web", "shop/web", "shop/w"], report)
+    expect("timeline of a name that is cut", drawn, run([f"{TOOLS}/timeline", "shop/web"], report))
 
 
 def test_pictures():
@@ -129,7 +164,9 @@ def test_no_reports():
         ("a line behind the totals", f"{report}{lines[1]}\n", "is no line"),
         ("no condition of the node", report.replace("nodecondition PIDPressure", "nodecondition Other"), "condition"),
         ("a pod without a condition", report.replace("condition 0 Ready", "condition 0 Steady"), "shop/api-7f9c"),
-        ("a trace", read(f"{RECORDINGS}/crash_loop/trace"), "line 1 "),
+        ("a trace", read(f"{RECORDINGS}/crash_loop/trace"), "is a trace, and it wants the report: run it first"),
+        ("a refusal", "line 1: 36 Config\n", "tools/explain TRACE says what it means"),
+        ("lines of json", '{"record":"node"}\n', "standard input is lines of tools/json"),
     ):
         expect_refused(f"story of {name}", run([f"{TOOLS}/story", "shop/api-7f9c"], text), 2, words)
         expect_refused(f"timeline of {name}", run([f"{TOOLS}/timeline"], text), 2, words)
@@ -200,15 +237,38 @@ def test_lost_edits():
 
 def test_refused_edits():
     trace = read(f"{RECORDINGS}/crash_loop/trace")
-    for name, edit, given, words in (
-        ("an edit that is no program", "node(", trace, "the edit fails"),
-        ("an edit that fails", "node(.name + 1)", trace, "the edit fails"),
+    for name, edit, given, words, means in (
+        ("an edit that is no program", "node(", trace, "the edit fails", None),
+        ("an edit that fails", "node(.name + 1)", trace, "the edit fails", None),
+        ("an edit of a pod that fails", 'pod("shop/api-7f9c"; error("no"))', trace, "the edit fails: jq: error", None),
         ("a trace that is refused", ".", trace.replace('"kind":"node"', '"kind":"nod"'),
-         "the trace is refused: line 1: 33 UnknownKind"),
+         "the trace is refused: line 1: 33 UnknownKind", 'kind is "nod": there are node, pod and tick'),
         ("an edited trace that is refused", "node(.maxRestartDelay = 301)", trace,
-         "the edited trace is refused: line 1: 36 Config"),
+         "the edited trace is refused: line 1: 36 Config", "maxRestartDelay is 301: it is a whole number from 1 to"),
+        ("a report", ".", read(f"{RECORDINGS}/crash_loop/report"), "the trace is refused: line 1: 32 NotJson",
+         "it is a report: give the trace that it was made of"),
+        ("an edit that brings the extended format a fault", "node(.version = 3 | .evictionPauseSeconds = -1)", trace,
+         "the edited trace is refused: line 1: 36 Config", "evictionPauseSeconds is -1"),
     ):
-        expect_refused(f"what-if {name}", run([f"{TOOLS}/what-if", edit], given), 2, words)
+        expect_refused(f"what-if {name}", run([f"{TOOLS}/what-if", edit], given), 2, words, means)
+
+
+def test_edits_of_what_is_not_there():
+    """A pod or a container that the trace has not is refused with the nearest names."""
+    trace = read(f"{RECORDINGS}/whole_node/trace")
+    for edit, said in (
+        ('pod("shop/wab"; .spec.priority = 1)', "the trace has no pod shop/wab; the nearest: shop/web"),
+        ('container("shop/wab"; "app"; .x = 1)', "the trace has no pod shop/wab; the nearest: shop/web"),
+        ('container("shop/web"; "ap"; .x = 1)', "shop/web has no container ap; the nearest: app"),
+        ('container("shop/web"; "zzz"; .x = 1)', "shop/web has no container zzz; there are app, migrate, proxy"),
+        ('container("shop/web"; "app"; .x = 1) | pod("a/b"; .)', "the trace has no pod a/b; there are kube-system/"),
+    ):
+        expect_refused(f"what-if {edit}", run([f"{TOOLS}/what-if", edit], trace), 2, said)
+    expect_refused("what-if of a pod, of a trace without one",
+                   run([f"{TOOLS}/what-if", 'pod("a/b"; .)'], '{"kind":"node","name":"n1"}\n'), 2, "has no pod a/b")
+    renamed = 'pod("shop/web"; .metadata.name = "other") | pod("shop/other"; .)'
+    expect("what-if finds a pod that the edit has renamed",
+           run([f"{TOOLS}/what-if", renamed], trace, KUBELET_REPLAY=f"{COMMANDS}/show")[0], 0)
 
 
     without_memory = f"{COMMANDS}/without_memory"
@@ -241,7 +301,6 @@ def test_words():
         (["record", "--standard", "--extended"], "give one"),
         (["record", "--standard", "--eviction-pause", "5"], "goes with --extended"),
         (["record", "--extended", "--eviction-pause", "2147483648"], "--eviction-pause takes"),
-        (["story"], "one pod, not 0"),
         (["story", "a/b", "c/d"], "one pod, not 2"),
         (["story", "--all"], "--all is no word"),
         (["timeline", "--wide"], "--wide is no word"),
@@ -289,8 +348,18 @@ def test_full_disks():
     shutil.rmtree(folder)
 
 
+def test_versions():
+    """Each tool says its version, and its help by its short name too."""
+    version = read(f"{TOP}/VERSION")
+    for tool in ("record", "story", "timeline", "what-if", "json", "why", "page", "fleet", "explain", "kubectl-replay",
+                 "kubectl_complete-replay"):
+        for word in ("--version", "-V"):
+            expect(f"{tool} {word}", run([f"{TOOLS}/{tool}", word]), (0, f"{tool} {version}", ""))
+        expect(f"{tool} -h", run([f"{TOOLS}/{tool}", "-h"]), run([f"{TOOLS}/{tool}", "--help"]))
+
+
 def test_help():
-    for tool in ("record", "story", "timeline", "what-if", "json", "why", "page", "fleet"):
+    for tool in ("record", "story", "timeline", "what-if", "json", "why", "page", "fleet", "explain"):
         status, help_text, said = run([f"{TOOLS}/{tool}", "--help"])
         found = [words in help_text for words in (f"usage: tools/{tool} ", "It needs", "leaves out", "Status 0")]
         expect(f"{tool} --help", (status, said, found), (0, "", [True] * 4))
@@ -307,7 +376,7 @@ def test_missing_commands():
         ("record", ["--kubelet", "https://127.0.0.1:10250"], "curl"),
         ("what-if", ["."], "jq"), ("what-if", ["."], "diff"),
         ("story", ["a/b"], "python3"), ("timeline", [], "python3"),
-        ("json", [], "python3"), ("why", ["a/b"], "python3"), ("page", [], "python3"),
+        ("json", [], "python3"), ("why", ["a/b"], "python3"), ("page", [], "python3"), ("explain", [], "python3"),
         ("fleet", [], "python3"), ("kubectl-replay", [], "python3"), ("kubectl_complete-replay", [], "python3"),
         ("test", [], "python3"), ("test", [], "jq"),
     ):

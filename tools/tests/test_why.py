@@ -106,7 +106,7 @@ def test_why_with_story():
     both = run([f"{TOOLS}/story", "shop/web", "--trace", trace], read(report))
     expect("story with a trace", both, (0, f"{story}\n{read(f'{WHYS}/probes/of_shop_web')}", ""))
     utc = run([f"{TOOLS}/why", "--utc", "shop/web", f"--trace={trace}"], read(report))[1].split("\n")
-    expect("why --utc", utc[2], "1970-01-01 00:00:05  app started (attempt 0)")
+    expect("why --utc", utc[2], "1970-01-01 00:00:05Z  app started (attempt 0)")
 
 
 def trace_of_turns():
@@ -147,7 +147,8 @@ def test_refused_whys():
         ("with another listing", given.replace('"at":5,"pods":[{"pod":"shop/web","containers":[{"name":"app"',
                                                '"at":5,"pods":[{"pod":"shop/web","containers":[{"name":"other"'),
          "at 5 it does not list attempt 0 of app of shop/web as running"),
-        ("that is none", "node n1\n", "line 1 is no line of a trace"),
+        ("that is none", "{}\n", "line 1 is no line of a trace"),
+        ("that is a report", "node n1\n", "is a report, and it wants the trace that the report is of"),
         ("without a node line", given[given.index("\n") + 1 :], "line 1 is no line of a trace"),
         ("with a cut line", given[:-30], "line 16 is no line of a trace"),
         ("with nothing", "", "it has no line"),
@@ -167,7 +168,7 @@ def test_refused_whys():
 
 def test_refused_words_of_why():
     trace, report = trace_and_report("file_system")
-    for pod, said in (("default/lat", "nearest: default/late"), ("late", "nearest: default/late"),
+    for pod, said in (("default/lte", "nearest: default/late"), ("lte", "nearest: default/late"),
                       ("zzzzz", "a pod is NAMESPACE/NAME"), ("zz\nzz", "no pod zz\\nzz; a pod is")):
         expect_refused(f"why {pod}", run([f"{TOOLS}/why", pod, "--trace", trace], read(report)), 2, said)
         expect_refused(f"story {pod}", run([f"{TOOLS}/story", pod], read(report)), 2, said)

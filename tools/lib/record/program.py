@@ -170,6 +170,12 @@ def recorded(words, sources, clock, say):
     return 0
 
 
+def version():
+    """That of the release, or of the checkout, with the end of its line."""
+    with open(os.path.join(os.path.dirname(os.path.realpath(__file__)), "../../../VERSION"), encoding="utf-8") as file:
+        return file.read()
+
+
 def checked(words, sources, say):
     """Shows which sources work; the status."""
     try:
@@ -183,8 +189,11 @@ def checked(words, sources, say):
 def main(arguments, clock=None, make_sources=None):
     """The program, with a clock and sources that tests can stand in for; its status."""
     say = Says()
-    if "--help" in arguments:
+    if "--help" in arguments or "-h" in arguments:
         print(help_text(), end="")
+        return 0
+    if arguments in (["--version"], ["-V"]):
+        print(f"record {version()}", end="")
         return 0
     try:
         words = words_of(arguments)
