@@ -1,13 +1,35 @@
-# Words for the edits of tools/what-if. Each changes the lines that it names, and leaves the others as they are.
+# Words for the edits of tools/what-if. Each changes the lines that it names, and leaves the others as they are. What an
+# edit asks for is said on standard error, so that what-if knows of pods and containers that are not there.
+
+def asks($what): ({"what-if": $what} | debug | empty), .;
 
 def node(f): if .kind == "node" then f else . end;
 
 def key: "\(.metadata.namespace // "default")/\(.metadata.name)";
 
-def pod($wanted; f): if .kind == "pod" and (.pod | key) == $wanted then .pod |= f else . end;
+# the node line asks too, since there may be no pod line
+def pod($wanted; f):
+  if .kind == "node" then asks({pod: $wanted})
+  elif .kind == "pod" then
+    (.pod | key) as $key | asks({pod: $wanted, is: $key}) | if $key == $wanted then .pod |= f else . end
+  else . end;
 
 def container($wanted; $name; f):
-  pod($wanted; .spec |= ((if .initContainers then .initContainers[] |= (if .name == $name then f else . end) else . end)
-                      | .containers[] |= (if .name == $name then f else . end)));
+  pod($wanted;
+    asks({pod: $wanted, container: $name, has: [.spec.initContainers // [], .spec.containers // [] | .[].name]})
+    | .spec |= ((if .initContainers then .initContainers[] |= (if .name == $name then f else . end) else . end)
+                | .containers[] |= (if .name == $name then f else . end)));
 
 def tick(f): if .kind == "tick" then f else . end;
+
+# of the lines that `asks` has written, the first pod or container that is not there, what it is missing from, and what
+# is there in its place
+def missing:
+  [inputs | fromjson? | arrays | select(.[0] == "DEBUG:") | .[1] | objects | .["what-if"] | objects] as $asked
+  | first(
+      ($asked | map(select(has("container") | not)) | group_by(.pod)[]
+       | select(all(.is != .pod)) | [.[0].pod, "", map(.is // empty)]),
+      ($asked | map(select(has("container"))) | group_by([.pod, .container])[]
+       | select(all(.container as $name | .has | index([$name]) | not))
+       | [.[0].container, .[0].pod, (map(.has[]) | unique)]))
+  | .[0], .[1], .[2][];
