@@ -11,7 +11,7 @@ import tempfile
 from checks import HERE, REPLAY, TOOLS, TOP, expect, expect_refused, read, run
 
 KEPT = f"{HERE}/kubectl"
-TOOL_NAMES = ("record", "story", "why", "timeline", "page", "json", "what-if", "fleet")
+TOOL_NAMES = ("record", "explain", "story", "why", "timeline", "page", "json", "what-if", "fleet")
 TRACE = ('{"kind":"node","name":"made"}\n'
          '{"kind":"pod","pod":{"metadata":{"name":"web","namespace":"shop"},"spec":{"containers":[{"name":"app"}]}}}\n'
          '{"kind":"pod","pod":{"metadata":{"name":"other","namespace":"shop"},'
@@ -71,15 +71,24 @@ def test_kubectl_words():
 
 
 def test_kubectl_runs_the_program():
-    """What the program says of a trace of each format, of a file and of a pipe, is what it says itself."""
+    """What the program says of a trace of each format, of a file and of a pipe, is what it says itself; behind a
+    refusal stands one more line."""
     folder = make_folder()
+
+    def first_line(answer):
+        status, out, said = answer
+        means = said.split("\n")[1:-1]
+        expect("kubectl replay says what a refusal means", len(means), 1 if status else 0)
+        return status, out, "".join(said.splitlines(True)[:1])
+
     for name, own in (("trace", []), ("extended", ["--extended"]), ("refused", []), ("none", [])):
         path = f"{folder}/{name}"
         for command in ("run", "check"):
             wanted = run([REPLAY, command, path, *own])
-            expect(f"kubectl replay {command} {name}", run([f"{TOOLS}/kubectl-replay", command, path]), wanted)
+            expect(f"kubectl replay {command} {name}", first_line(run([f"{TOOLS}/kubectl-replay", command, path])),
+                   wanted)
             piped = ["sh", "-c", f"cat '{path}' 2>/dev/null | '{TOOLS}/kubectl-replay' {command} /dev/stdin"]
-            expect(f"kubectl replay {command} {name}, of a pipe", run(piped),
+            expect(f"kubectl replay {command} {name}, of a pipe", first_line(run(piped)),
                    run([REPLAY, command, "/dev/stdin", *own], read(path) if name != "none" else ""))
     shutil.rmtree(folder)
 
@@ -87,10 +96,20 @@ def test_kubectl_runs_the_program():
 def test_kubectl_refused():
     folder = make_folder()
     report = read(f"{HERE}/lines/came_again.report")
-    for words, status, said in rows("refused"):
+    for words, status, said, *means in rows("refused"):
         answer = run([f"{folder}/tools/kubectl-replay", *words.replace("FOLDER", folder).split()], report,
                      **with_stand_ins(folder, REPLAY))
-        expect_refused(f"kubectl replay {words}", answer, int(status), said.replace("FOLDER", folder))
+        expect_refused(f"kubectl replay {words}", answer, int(status), said.replace("FOLDER", folder), *means)
+    answer = run([f"{TOOLS}/kubectl-replay", "story", "-f", "-", "shop/web"], "{}\n")
+    expect_refused("kubectl replay -f - of no trace", answer, 2, "standard input is refused: line 1: 33 UnknownKind",
+                   "kind is missing")
+    for name in ("trace", "extended"):
+        piped = f"cat '{folder}/{name}' | '{TOOLS}/kubectl-replay' story -f - -n shop web"
+        expect(f"kubectl replay -f - of a {name}", run(["sh", "-c", piped]),
+               run([f"{TOOLS}/kubectl-replay", "story", "-f", f"{folder}/{name}", "-n", "shop", "web"]))
+        piped = f"cat '{folder}/{name}' | '{TOOLS}/kubectl-replay' why -f - -n shop web"
+        expect(f"kubectl replay why -f - of a {name}", run(["sh", "-c", piped]),
+               run([f"{TOOLS}/kubectl-replay", "why", "-f", f"{folder}/{name}", "-n", "shop", "web"]))
     answer = run(["sh", "-c", f"ulimit -f 0; exec '{TOOLS}/kubectl-replay' story -f '{folder}/trace' shop/web"],
                  TMPDIR="/nonexistent")
     expect_refused("kubectl replay without a place for a report", answer, 1, "No usable temporary directory")
@@ -98,6 +117,13 @@ def test_kubectl_refused():
                  KUBELET_REPLAY="/nonexistent/program")
     expect_refused("kubectl replay without the program", answer, 127, "/nonexistent/program is missing")
     shutil.rmtree(folder)
+
+
+def test_kubectl_to_a_reader_that_has_gone():
+    """What head does not take is no fault."""
+    trace = f"{TOP}/examples/liveness_kill.trace"
+    answer = run(["bash", "-c", f"set -o pipefail; '{TOOLS}/kubectl-replay' run '{trace}' | true"])
+    expect("kubectl replay to a reader that has gone", answer, (0, "", ""))
 
 
 def test_kubectl_completion():
@@ -124,8 +150,8 @@ def test_real_kubectl():
     expect("a kubectl tells a story", by_kubectl, run([f"{TOOLS}/story", "shop/web-0"], report))
     by_kubectl = run([kubectl, "replay", "run", trace], PATH=path)
     expect("a kubectl replays a trace", by_kubectl, (0, report, ""))
-    answer = run([kubectl, "replay", "story", "shop/web"], report, PATH=path)
-    expect_refused("a kubectl refuses a pod", answer, 2, "no pod shop/web; the nearest: shop/web-0")
+    answer = run([kubectl, "replay", "story", "shop/wab-0"], report, PATH=path)
+    expect_refused("a kubectl refuses a pod", answer, 2, "no pod shop/wab-0; the nearest: shop/web-0")
     version = json.loads(run([kubectl, "version", "--client", "--output", "json"])[1])["clientVersion"]
     if int(re.match(r"\d+", version["minor"])[0]) < FIRST_WITH_COMPLETION:
         print(f"left out: completion by kubectl itself, which 1.{version['minor']} does not do for plugins")

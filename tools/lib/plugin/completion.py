@@ -23,14 +23,15 @@ def candidates(given):
     if found.waiting in words.NAMESPACE:
         return beginning(namespaces(found), last), NO_FILES
     if found.waiting:
-        return [], FILES if found.waiting not in COUNTS else NO_FILES
+        return [], FILES if found.waiting not in (*COUNTS, *words.CONTEXT) else NO_FILES
     if before[0] == "fleet":
         return fleet_words(before, last)
     if last.startswith("-"):
-        own = words.NAMESPACE * (command.pods != "none") + words.FILE * command.takes_file
+        of_pods = words.NAMESPACE + words.EVERYWHERE + words.CONTEXT
+        own = of_pods * (command.pods != "none") + words.FILE * command.takes_file
         return beginning((*own, *command.valued, *command.flags), last), NO_FILES
     if command.pods == "none" or command.pods == "one" and found.plain:
-        return [], FILES if before[0] in ("run", "check", "page") else NO_FILES
+        return [], FILES if before[0] in ("run", "check", "explain", "page") else NO_FILES
     return beginning(pods(found, last), last), NO_FILES
 
 
@@ -54,7 +55,9 @@ def pods(found, last):
     named = keys(found)
     if slash and head not in words.POD_TYPES:
         return named
-    namespace = found.namespace or words.current_namespace()
+    if found.is_everywhere:
+        return named
+    namespace = found.namespace or words.current_namespace(found.context)
     before = f"{head}/" if slash else ""
     return [before + key.partition("/")[2] for key in named if key.startswith(namespace + "/")]
 

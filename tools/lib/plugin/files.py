@@ -15,9 +15,13 @@ import entry
 import program as programs
 import report as reports
 import trace as traces
+from explain import beside
 
 # a longer one is no line of a trace
 LONGEST_LINE = 1 << 21
+PIECE = 1 << 16
+# files without names, which go when nobody holds them
+KEPT = []
 
 
 def is_report(path):
@@ -46,7 +50,8 @@ def open_report(path):
 def replayed(path):
     """The report of a trace, as a file without a name."""
     program, report = programs.path(), tempfile.TemporaryFile()
-    words = ["run", path, *format_words(path)]
+    option = format_words(path)
+    words = ["run", path, *option]
     try:
         done = subprocess.run([program, *words], stdout=report, stderr=subprocess.PIPE, check=False)
     except OSError as fault:
@@ -54,8 +59,8 @@ def replayed(path):
     if done.returncode != 0:
         said = done.stderr.decode("utf-8", "replace").split("\n")[0] or f"status {done.returncode}"
         if done.returncode == 2:
-            raise entry.Fault(f"{path} is refused: {said}")
-        raise entry.Fault(f"{path} can't be replayed: {said}", done.returncode if done.returncode == 127 else 1)
+            raise entry.Fault(f"{shown(path)} is refused: {said}", means=beside.meaning(path, bool(option)))
+        raise entry.Fault(f"{shown(path)} can't be replayed: {said}", done.returncode if done.returncode == 127 else 1)
     report.seek(0)
     return report
 
@@ -101,6 +106,7 @@ def whole(report):
     copy = tempfile.TemporaryFile()
     copy.write(report.read())
     copy.seek(0)
+    KEPT.append(copy)
     return copy
 
 
@@ -115,6 +121,57 @@ def keys_of(path):
     except (OSError, ValueError, KeyError, TypeError, entry.Fault, reports.ReportFault):
         return []
     return [f"{found.get('namespace') or 'default'}/{found.get('name')}" for found in manifests]
+
+
+def run_beside(program, words, path, given=None):
+    """Runs the program on a trace, with a file as its standard input; its status. Where it refuses the trace, what that
+    means is said in one more line."""
+    if given is not None:
+        os.lseek(given.fileno(), 0, os.SEEK_SET)
+    to_pipe = stat.S_ISFIFO(os.fstat(1).st_mode)
+    try:
+        process = subprocess.Popen([program, *words], stdin=given, stdout=subprocess.PIPE if to_pipe else None)
+    except OSError as fault:
+        raise entry.Fault(f"{program} is missing or can't be started: {fault.strerror}", 127) from None
+    if to_pipe:
+        hand_on(process.stdout)
+    status = process.wait()
+    if status in (1, 2) and path is not None:
+        means = beside.meaning(path, "--extended" in words)
+        if means:
+            print(f"kubectl-replay: {means}", file=sys.stderr)
+    return status if status >= 0 else 128 - status
+
+
+def hand_on(source):
+    """Writes what the program writes; what a reader that has gone, as head, does not take is let go, where the program
+    would say that it can't write."""
+    is_read = True
+    while piece := os.read(source.fileno(), PIECE):
+        while piece and is_read:
+            try:
+                piece = piece[os.write(1, piece) :]
+            except BrokenPipeError:
+                is_read = False
+
+
+def path_of(file):
+    """The path of an open file without a name, also for the programs that this one starts or becomes."""
+    os.set_inheritable(file.fileno(), True)
+    return f"/proc/{os.getpid()}/fd/{file.fileno()}"
+
+
+def shown(path):
+    """A path as the operator knows it."""
+    return "standard input" if path.startswith(f"/proc/{os.getpid()}/fd/") else path
+
+
+def kept_input():
+    """Standard input as a file that can be read twice."""
+    given = entry.standard_input()
+    if given.isatty():
+        raise entry.Fault("-f - wants a trace or a report on standard input")
+    return path_of(whole(given))
 
 
 def run_on(tool, words, report=None):

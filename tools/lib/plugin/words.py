@@ -8,6 +8,7 @@ from dataclasses import dataclass, field
 import entry
 
 NAMESPACE, FILE = ("-n", "--namespace"), ("-f", "--filename")
+EVERYWHERE, CONTEXT = ("-A", "--all-namespaces"), ("--context",)
 POD_TYPES = ("pod", "pods", "po")
 SECONDS_OF_KUBECTL = 10
 
@@ -22,13 +23,16 @@ class Command:
     takes_file: bool = True
     valued: tuple[str, ...] = ()
     flags: tuple[str, ...] = ()
+    lists_pods: bool = False
+    """without a pod it lists those of a namespace"""
 
 
 COMMANDS = {
     "record": Command("record a node", takes_file=False),
     "run": Command("the report of a trace", valued=("--workers",), flags=("--extended",)),
     "check": Command("whether a file is a trace", flags=("--extended",)),
-    "story": Command("one pod's story", "one", valued=("--trace",), flags=("--utc",)),
+    "explain": Command("what a refusal means", flags=("--extended", "--line")),
+    "story": Command("one pod's story", "one", valued=("--trace",), flags=("--utc",), lists_pods=True),
     "why": Command("what the trace holds around each event of one pod", "one", valued=("--trace",), flags=("--utc",)),
     "page": Command("a page of a node", flags=("--utc",)),
     "timeline": Command("a picture of pods", "any", flags=("--utc",)),
@@ -43,6 +47,8 @@ class Words:
     """The words of a command: what the plugin takes from them, and what is left for its tool."""
 
     namespace: str | None = None
+    is_everywhere: bool = False
+    context: str | None = None
     file: str | None = None
     plain: list[str] = field(default_factory=list)
     rest: list[str] = field(default_factory=list)
@@ -61,6 +67,9 @@ def take(command, given, found):
     """Takes a word, and its value where it has one."""
     word = given.pop(0)
     name, value = parts_of(word, command)
+    if word in EVERYWHERE and command.pods != "none":
+        found.is_everywhere = True
+        return
     if name is None and word.startswith("-") and word != "-":
         found.rest.append(word)
         return
@@ -73,6 +82,8 @@ def take(command, given, found):
     value = given.pop(0) if value is None else value
     if name in NAMESPACE and command.pods != "none":
         found.namespace = value
+    elif name in CONTEXT and command.pods != "none":
+        found.context = value
     elif name in FILE and command.takes_file:
         found.file = value
     else:
@@ -82,7 +93,7 @@ def take(command, given, found):
 def parts_of(word, command):
     """The name of a word that has a value, and the value that stands in the same word; None where it has none."""
     name, equals, value = word.partition("=")
-    if name in (*NAMESPACE, *FILE, *command.valued):
+    if name in (*NAMESPACE, *FILE, *command.valued, *CONTEXT[: command.pods != "none"]):
         return name, value if equals else None
     if word[:2] in (NAMESPACE[0], FILE[0]) and not word.startswith("--"):
         return word[:2], word[2:].removeprefix("=")
@@ -100,13 +111,22 @@ def key_of(name, given, otherwise):
     return f"{given or otherwise()}/{tail if slash else name}"
 
 
-def current_namespace():
-    """That of kubectl's context, else `default`."""
-    words = ["kubectl", "config", "view", "--minify", "--output", "jsonpath={..namespace}"]
+def name_of(name):
+    """A pod's name without kubectl's type before it."""
+    head, slash, tail = name.partition("/")
+    return tail if slash and head in POD_TYPES else name
+
+
+def current_namespace(context=None):
+    """That of a context of kubectl, else of its own, else `default`."""
+    words = ["kubectl", *(["--context", context] if context else []), "config", "view", "--minify", "--output",
+             "jsonpath={..namespace}"]
     try:
         done = subprocess.run(words, capture_output=True, check=False, timeout=SECONDS_OF_KUBECTL,
                               stdin=subprocess.DEVNULL)
     except (OSError, subprocess.TimeoutExpired):
         return "default"
+    if context and done.returncode != 0:
+        raise entry.Fault(f"kubectl has no context {context}")
     said = done.stdout.decode("utf-8", "replace").split()
     return said[0] if done.returncode == 0 and said else "default"
