@@ -6,6 +6,7 @@ import sqlite3
 
 import entry
 import telling
+from explain import beside
 from fleet import database
 
 # by the kubelet, where the trace says what it did, else by the rules
@@ -36,6 +37,10 @@ GROUP BY decision ORDER BY decision
 FAULTS = """
 SELECT status, fault, COUNT(*), MIN(report), line, path FROM traces WHERE status IN ('refused', 'failed')
 GROUP BY status, fault ORDER BY COUNT(*) DESC, status, fault
+"""
+REFUSED = """
+SELECT fault, MIN(report), path, line, code FROM traces WHERE status = 'refused' AND line > 0 GROUP BY fault
+ORDER BY COUNT(*) DESC, fault
 """
 COUNTS = """
 SELECT (SELECT COUNT(*) FROM traces), (SELECT COUNT(*) FROM traces WHERE status = 'replayed'),
@@ -78,12 +83,23 @@ def lines_of(connection, by, top):
     if faults:
         lines += table("Traces without a report",
                        ["status", "fault", "traces", "line of the first", "the first"], faults)
+        lines += table("What the refusal of the first means (tools/explain shows the line)", ["fault", "meaning"],
+                       list(meanings(connection)))
     return lines
 
 
+def meanings(connection):
+    """Of each fault what the refusal of its first trace means, as far as that trace can still be read."""
+    for fault, _, path, line, code in connection.execute(REFUSED):
+        said = beside.meaning_of(path, line, code, fault)
+        if said:
+            yield [fault, said]
+
+
 def counts_text(traces, replayed, refused, failed, copies, pods, nodes):
-    return (f"{traces} traces: {replayed} replayed, {refused} refused, {failed} failed"
-            + (f", {copies} copies of others" if copies else "") + f"; {pods} pods on {nodes} nodes")
+    return (f"{entry.counted(traces, 'trace')}: {replayed} replayed, {refused} refused, {failed} failed"
+            + (f", {entry.counted(copies, 'copy')} of others" if copies else "")
+            + f"; {entry.counted(pods, 'pod')} on {entry.counted(nodes, 'node')}")
 
 
 def table(title, heads, rows):
