@@ -246,10 +246,10 @@ def checked(event):
 
 
 def moment_text(at, utc):
-    """A moment as its seconds, or as a UTC time where that was asked for and there is one."""
+    """A moment as its seconds, or as a UTC time, which says so, where that was asked for and there is one."""
     if not utc or at > LAST_DATE:
         return str(at)
-    return datetime.fromtimestamp(at, timezone.utc).strftime("%Y-%m-%d %H:%M:%S")
+    return datetime.fromtimestamp(at, timezone.utc).strftime("%Y-%m-%d %H:%M:%SZ")
 
 
 def first_tick(pod):

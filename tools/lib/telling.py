@@ -2,11 +2,18 @@
 
 from __future__ import annotations
 
+import re
+
+DATE = re.compile(r"\d{4}-\d\d-\d\d (?=\d\d:\d\d:\d\dZ)")
+# a cell that is a moment, or several of them
+MOMENTS = re.compile(rf"({DATE.pattern})[\d:]{{8}}Z(?:, .*)?", re.ASCII)
+
 
 def table(title, heads, rows):
     """Lines of a table; a column of numbers, some of them missing, is aligned to the right."""
     if not rows:
         return [title, "  none", ""]
+    rows = dated_once(rows)
     columns = list(zip(heads, *rows))
     widths = [max(map(len, column)) for column in columns]
     numbers = [set(column[1:]) != {"-"} and all(cell == "-" or cell.lstrip("-").isdigit() for cell in column[1:])
@@ -17,6 +24,24 @@ def table(title, heads, rows):
                  for cell, width, number in zip(row, widths, numbers))
         lines.append(("  " + "  ".join(cells)).rstrip())
     return [*lines, ""]
+
+
+def dated_once(rows):
+    """Rows in which the date of a moment is left out where it is that of the row above, or of the moment that a text
+    stands beside."""
+    above = {}
+
+    def told(place, cell, own):
+        first = MOMENTS.fullmatch(cell)
+        if not first:
+            return DATE.sub(lambda found: "" if found[0] == own else found[0], cell)
+        date, rest = first[1], cell[first.end(1) :]
+        shown = " " * len(date) if above.get(place) == date else date
+        above[place] = date
+        return shown + rest.replace(date, "")
+
+    dates = [next((found[1] for found in map(MOMENTS.fullmatch, row) if found), None) for row in rows]
+    return [[told(place, cell, own) for place, cell in enumerate(row)] for row, own in zip(rows, dates)]
 
 
 def event_words(event, is_beside=False):

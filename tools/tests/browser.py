@@ -194,7 +194,8 @@ def check_keys(page):
     found.append(page.script("document.activeElement.id"))
     tell("is used by keys", found, [
         "default/late", "why: started, attempt 0", "why: evicted by nodefs.available soft, grace 15 s",
-        "10 – 30 (20 s)", "15 – 35 (20 s)", "1970-01-01 00:00:00 – 1970-01-01 00:00:40 (40 s)", "Keys", "filter"])
+        "10 – 30 (20 s)", "15 – 35 (20 s)", "1970-01-01 00:00:00Z – 1970-01-01 00:00:40Z (40 s)", "Keys",
+        "filter"])
     page.press(Keys.ESCAPE)
 
 

@@ -11,6 +11,7 @@ from checks import HERE, REPLAY, TOOLS, TOP, expect, expect_kept, expect_refused
 sys.path.insert(0, f"{TOOLS}/lib")
 import amounts  # noqa: E402
 import report as reports  # noqa: E402
+import telling  # noqa: E402
 import trace as traces  # noqa: E402
 import why  # noqa: E402
 
@@ -107,6 +108,19 @@ def test_why_with_story():
     expect("story with a trace", both, (0, f"{story}\n{read(f'{WHYS}/probes/of_shop_web')}", ""))
     utc = run([f"{TOOLS}/why", "--utc", "shop/web", f"--trace={trace}"], read(report))[1].split("\n")
     expect("why --utc", utc[2], "1970-01-01 00:00:05Z  app started (attempt 0)")
+
+
+def test_dates_once():
+    """A date stands where it is another than in the row above, and in a text where it is another than the row's."""
+    rows = [["2026-11-25 23:59:58Z", "at 2026-11-25 23:59:58Z, at 2026-11-26 00:00:03Z", "-"],
+            ["2026-11-25 23:59:59Z", "-", "2026-11-25 23:59:59Z, 2026-11-26 00:00:00Z"],
+            ["2026-11-26 00:00:01Z", "-", "2026-11-26 00:00:01Z, 2026-11-26 00:00:02Z"],
+            ["2026-11-26 00:00:02Z", "2026-11-26 00:00:02Z.trace", "end"], ["5", "-", "-"]]
+    expect("a table has each date once", telling.dated_once(rows), [
+        ["2026-11-25 23:59:58Z", "at 23:59:58Z, at 2026-11-26 00:00:03Z", "-"],
+        ["           23:59:59Z", "-", "2026-11-25 23:59:59Z, 2026-11-26 00:00:00Z"],
+        ["2026-11-26 00:00:01Z", "-", "2026-11-26 00:00:01Z, 00:00:02Z"],
+        ["           00:00:02Z", "00:00:02Z.trace", "end"], ["5", "-", "-"]])
 
 
 def trace_of_turns():

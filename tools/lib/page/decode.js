@@ -117,13 +117,13 @@ const LAST_DATE = 253402300799;
 function moment(at) {
   const whole = data.first + at;
   if (!view.utc || whole > LAST_DATE) return String(whole);
-  return new Date(whole * 1000).toISOString().slice(0, 19).replace('T', ' ');
+  return new Date(whole * 1000).toISOString().slice(0, 19).replace('T', ' ') + 'Z';
 }
 
 function shortMoment(at, step) {
   const text = moment(at);
-  if (text.length !== 19) return text;
-  return step >= 86400 ? text.slice(5, 10) : step < 60 ? text.slice(11) : text.slice(11, 16);
+  if (text.length !== 20) return text;
+  return step >= 86400 ? text.slice(5, 10) : text.slice(11, step < 60 ? 19 : 16);
 }
 
 function amount(units, isBytes) {
