@@ -91,6 +91,25 @@ def test_files():
     shutil.rmtree(folder)
 
 
+def test_fallback():
+    """Where no field is found, or the trace is another one by now, what the list of faults has is said."""
+    folder = tempfile.mkdtemp()
+    for text, said, wanted in (
+        ('{"kind":"node","name":"n1"}\n', "line 1: 36 Config", "a field of the node line has another value"),
+        ('{"kind":"node","name":"n1"}\n', "line 7: 44 ExitCode", "the text ends without a line that counts"),
+        ('{"kind":"node","name":"n1"}\n[[\n{"kind":"tick","at":7}\n', "line 3: 42 Moment", "at is missing, no whole"),
+        ('{"kind":"node","name":"n1"}\n[[\n', "line 2: 33 UnknownKind", "the line is no object, or its kind"),
+        ('{"kind":"node","name":"n1"}\n', "line 1: 99 Strange", "the program refuses it"),
+    ):
+        with open(f"{folder}/trace", "w") as file:
+            file.write(text)
+        line, number, _, manifest_fault = verdict.REFUSED.fullmatch(said).groups()
+        given = verdict.Verdict(2, said, int(line), int(number), manifest_fault)
+        shown = told.whole_text(answer.of_verdict(f"{folder}/trace", given, False), "TRACE")
+        expect(f"explain {said} of another text", wanted in shown or shown, True)
+    shutil.rmtree(folder)
+
+
 def test_what_is_no_fault():
     trace = f"{TOP}/examples/liveness_kill.trace"
     shown = run([f"{TOOLS}/explain", trace])
@@ -102,6 +121,9 @@ def test_words_of_explain():
         expect_refused(f"explain {' '.join(words)}", run([f"{TOOLS}/explain", *words]), 2, said)
     expect_refused("explain of a closed standard input", run(["sh", "-c", f"exec '{TOOLS}/explain' <&-"]), 2,
                    "standard input is closed")
+    shown = run([f"{TOOLS}/explain", f"{TOP}/examples/first_tick.trace"],
+                KUBELET_REPLAY=f"{HERE}/commands/without_memory")
+    expect("explain of a program without memory", "gave the program no more memory" in shown[1] or shown, True)
     expect_refused("explain without the program", run([f"{TOOLS}/explain", REPLAY],
                                                       KUBELET_REPLAY="/nonexistent/program"), 127, "is missing")
 

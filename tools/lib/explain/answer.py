@@ -3,6 +3,7 @@
 from __future__ import annotations
 
 import difflib
+import itertools
 import os
 from dataclasses import dataclass
 
@@ -42,6 +43,9 @@ def of_verdict(path, verdict, is_extended):
         return Answer(verdict.said, False, [])
     if verdict.said in ("read failed", "input too long"):
         return of_file(path, verdict.said)
+    if verdict.said == "out of memory":
+        return Answer(verdict.said, True, [Found((), "the system gave the program no more memory")],
+                      "run it where more is free, or raise the limit that it has")
     if verdict.line is None:
         return Answer(verdict.said or f"status {verdict.status}", True, [])
     says, advice, part = table.row(verdict.number, verdict.manifest)
@@ -55,12 +59,14 @@ def of_verdict(path, verdict, is_extended):
 
 
 def found_in(path, verdict, is_extended):
-    """What is found of a line, which is nothing where the trace is written otherwise than it is thought to be here."""
-    try:
-        with open(path, "rb") as file:
+    """What is found of a line, and the line; nothing is found where it is written otherwise than it is thought to be
+    here."""
+    with open(path, "rb") as file:
+        try:
             return search(file, verdict, is_extended)
-    except (OSError, ValueError, TypeError, KeyError, IndexError, AttributeError, RecursionError):
-        return [], b""
+        except (ValueError, TypeError, KeyError, IndexError, AttributeError, RecursionError):
+            file.seek(0)
+            return [], next(itertools.islice(file, verdict.line - 1, None), b"").rstrip(b"\n")
 
 
 def head_of(path):

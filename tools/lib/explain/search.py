@@ -12,7 +12,7 @@ from .before import key_of, lines_before
 from .found import Found, at, is_, shown
 
 MOST_FOUND = 10
-KINDS = ("node", "pod", "tick", "gone")
+KINDS = ("node", "pod", "tick")
 
 
 def search(file, verdict, is_extended):
@@ -80,7 +80,7 @@ def unknown_kind(line, before, is_extended):
         yield at(("kind",), "is missing: a line is of the kind node, pod or tick",
                  manifest_advice(line) or 'write the kind, as "kind":"tick"')
     else:
-        near = difflib.get_close_matches(str(kind).lower(), KINDS[:3], 1)
+        near = difflib.get_close_matches(str(kind).lower(), KINDS, 1)
         yield is_(("kind",), kind, "there are node, pod and tick",
                   manifest_advice(line) or (f'write "kind":"{near[0]}"' if near else None))
 
@@ -95,11 +95,16 @@ def gone_words(before, is_extended):
 
 
 def manifest_advice(line):
-    """What to do with a manifest that stands as a line of its own."""
-    if "spec" in line and "metadata" in line:
+    """What to do with an object of Kubernetes that stands as a line of its own."""
+    kind, spec = line.get("kind"), line.get("spec")
+    if kind == "Pod" or isinstance(spec, dict) and "containers" in spec:
         return "that is a manifest: put it under pod, as jq -c '{kind:\"pod\",pod:.}' does"
     if isinstance(line.get("items"), list):
         return "that is a list of kubectl: jq -c '.items[] | {kind:\"pod\",pod:.}' makes pod lines of it"
+    if kind == "KubeletConfiguration":
+        return 'put its fields into the node line, beside "kind":"node" and "name"'
+    if kind == "Node":
+        return 'that is the node of the API server; a node line begins with {"kind":"node","name":"worker-3"}'
     return None
 
 

@@ -12,7 +12,7 @@ BEFORE, SHOWN = 50, 100
 def whole_text(answer, name):
     """What the program says of a file, what it means, the line around it, and what to do."""
     if not answer.is_fault:
-        return f"{name}: {answer.said}\n  nothing is wrong with it\n"
+        return f"{entry.visible(name)}: {answer.said}\n  nothing is wrong with it\n"
     told = [f"{entry.visible(name)}: {answer.said}"]
     for found in answer.found:
         advice = found.advice or answer.advice
@@ -53,4 +53,7 @@ def span(answer, text, path):
     if answer.is_text_place:
         at = path[0] if path else 0
         return at, at + 1
-    return lines.span_of(text, path)
+    try:
+        return lines.span_of(text, path)
+    except (ValueError, IndexError, RecursionError):
+        return 0, len(text)
