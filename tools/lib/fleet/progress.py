@@ -5,6 +5,8 @@ from __future__ import annotations
 import sys
 import time
 
+import entry
+
 EVERY = 0.2
 
 
@@ -32,7 +34,7 @@ class Progress:
 
     def show(self, seconds):
         replayed = self.done - self.kept
-        said = f"{self.done} of {self.total} traces"
+        said = f"{self.done} of {entry.counted(self.total, 'trace')}"
         said += f", {self.kept} kept from before" if self.kept else ""
         said += f", {self.refused} refused, {self.failed} failed"
         said += f", about {seconds / replayed * (self.total - self.done):.0f} s left" if replayed else ""
