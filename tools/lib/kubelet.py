@@ -151,16 +151,16 @@ def ticks_near(trace, at):
 
 def other_causes(trace, report, decision, limit, usages):
     """The causes where a threshold was due."""
-    found = []
     place = max(place for place, tick in enumerate(trace.ticks) if tick.at <= decision.at + NEAR)
     before = [eviction for eviction in report.evictions if eviction.at <= trace.ticks[place].at]
-    if trace.pause() and before and before[-1].at + trace.pause() > decision.at - NEAR:
-        found.append([f"the rules had evicted {before[-1].pod} at", before[-1].at,
-                      f"and then evict no pod for {trace.pause()} s"])
     candidates = why.candidates_of(trace, report, place, limit.signal, decision.number, usages)
     ours = next((each for each in candidates if each.victim), None)
-    if ours is not None and ours.usage is None:
-        found.append(["the pod had no sample, which counts as 0"])
+    found = [["the pod had no sample, which counts as 0"]] if ours is not None and ours.usage is None else []
+    if before and before[-1].at >= decision.at - NEAR:
+        return [*found, [f"they evict {before[-1].pod} in its place, at", before[-1].at]]
+    if trace.pause() and before and before[-1].at + trace.pause() > decision.at - NEAR:
+        return [*found, [f"they had evicted {before[-1].pod} at", before[-1].at,
+                         f"and then evict no pod for {trace.pause()} s"]]
     if candidates and ours is not candidates[0]:
         found.append([f"{candidates[0].pod.key} ranks first in the samples"])
     return found
@@ -180,13 +180,14 @@ def no_sample_below(limits, near):
 def around(trace, report, decision):
     """What the trace holds around the kubelet's eviction of a pod, as that around one by the rules, with the samples of
     some seconds; None where no threshold is known that it was for."""
-    signals = SIGNALS.get(resource_of(decision), ())
-    limit = next((limit for limit in trace.thresholds if limit.signal in signals), None)
+    limits = [limit for limit in trace.thresholds if limit.signal in SIGNALS.get(resource_of(decision), ())]
     place = max((place for place, tick in enumerate(trace.ticks) if tick.at <= decision.at + NEAR), default=None)
-    if limit is None or place is None or decision.number is None:
+    if not limits or place is None or decision.number is None:
         return None
     at = trace.ticks[place].at
-    since = reports.Thresholds(report).at(at).get((limit.signal, limit.kind))
+    active = reports.Thresholds(report).at(at)
+    limit = next((limit for limit in limits if (limit.signal, limit.kind) in active), limits[0])
+    since = active.get((limit.signal, limit.kind))
     before = [eviction.at for eviction in report.evictions if eviction.at <= at]
     first = next(tick.at for tick in trace.ticks if tick.at >= min(at, decision.at - SAMPLE_SECONDS))
     candidates = why.candidates_of(trace, report, place, limit.signal, decision.number,

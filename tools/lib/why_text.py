@@ -16,8 +16,8 @@ ORDERS = {True: "usage above the request first, then lower priority, then more u
 
 def whole_text(trace, report, pod, show, kubelet=None):
     """The lines for each event of a pod of the report, and for what the kubelet did to it; show writes a moment."""
-    parts = [(around.event.at, [heading(around.event, show, kubelet), *told(trace, pod, around, show)])
-             for around in why.around_events(trace, report, pod)]
+    parts = [(around.event.at, [heading(around.event, show, kubelet), *beside(pod, around, show, kubelet),
+                                *told(trace, pod, around, show)]) for around in why.around_events(trace, report, pod)]
     parts += kubelet_parts(trace, report, pod, show, kubelet)
     lines = []
     for _, (head, *rest) in sorted(parts, key=lambda part: part[0]):
@@ -30,6 +30,11 @@ def whole_text(trace, report, pod, show, kubelet=None):
     return "\n".join(lines[:-1]) + "\n"
 
 
+def beside(pod, around, show, kubelet):
+    """What the kubelet did, below an eviction by the rules."""
+    return kubelets.lines_of(kubelet, pod.number, show) if around.event.word == "evicted" else []
+
+
 def kubelet_parts(trace, report, pod, show, kubelet):
     """What the kubelet did to a pod, beside what the rules do, by moment."""
     fact = kubelet and kubelet.fact(pod.number)
@@ -40,7 +45,7 @@ def kubelet_parts(trace, report, pod, show, kubelet):
     is_over = fact.eviction is not None and fact.eviction.at <= fact.decision.at + kubelets.NEAR
     around = None if is_over else kubelets.around(trace, report, fact.decision)
     if around is not None:
-        lines += evicted_lines(around, show, f"samples of the {kubelets.SAMPLE_SECONDS} s before:")
+        lines += evicted_lines(around, show, True)
     return [(fact.decision.at, [head, *lines])]
 
 
@@ -123,11 +128,11 @@ def exit_lines(trace, pod, around, show):
     return lines + left_out(len(around.exits) - len(kept), "earlier exits")
 
 
-def evicted_lines(evicted, show, title="samples since it became active:"):
-    """The threshold of an eviction, its samples, and the pods in the order in which they are ranked."""
+def evicted_lines(evicted, show, is_kubelets=False):
+    """The threshold of an eviction, its samples, and the pods in the order in which the rules rank them."""
     of_bytes = evicted.signal in traces.BYTE_SIGNALS
-    lines = threshold_lines(evicted, of_bytes, show) + pause_lines(evicted, show)
-    lines += sample_lines(evicted, of_bytes, show, title)
+    lines = threshold_lines(evicted, of_bytes, show) + pause_lines(evicted, show, is_kubelets)
+    lines += sample_lines(evicted, of_bytes, show, is_kubelets)
     with_requests = any(candidate.request is not None for candidate in evicted.candidates)
     rows = [candidate_row(place, candidate, of_bytes) for place, candidate in enumerate(evicted.candidates, 1)]
     lines += table("pods that were present and had not ended:",
@@ -143,10 +148,11 @@ def threshold_lines(evicted, of_bytes, show):
     return [threshold_words(evicted, of_bytes) + since]
 
 
-def pause_lines(evicted, show):
+def pause_lines(evicted, show, is_kubelets):
     if not evicted.pause:
         return []
-    before = "no eviction before" if evicted.before is None else f"the eviction before was at {show(evicted.before)}"
+    whose = "the rules' eviction" if is_kubelets else "the eviction"
+    before = "no eviction before" if evicted.before is None else f"{whose} before was at {show(evicted.before)}"
     return [f"evictionPauseSeconds {evicted.pause}; {before}"]
 
 
@@ -162,7 +168,7 @@ def threshold_words(evicted, of_bytes):
             f"grace {threshold.grace} s")
 
 
-def sample_lines(evicted, of_bytes, show, title):
+def sample_lines(evicted, of_bytes, show, is_kubelets):
     """The first sample and the last ones."""
     samples = evicted.samples
     kept = samples if len(samples) <= MOST_ROWS else [samples[0], *samples[1 - MOST_ROWS :]]
@@ -170,6 +176,7 @@ def sample_lines(evicted, of_bytes, show, title):
     rows = [[show(at), amount_text(value, of_bytes), *([amount_text(after, of_bytes)] if with_reclaim else [])]
             for at, value, after in kept]
     heads = ["moment", evicted.signal, *(["after reclaim"] if with_reclaim else [])]
+    title = f"samples of the {kubelets.SAMPLE_SECONDS} s before:" if is_kubelets else "samples since it became active:"
     lines = table(title, heads, rows)[:-1]
     least = min((value for _, value, _ in samples if value is not None), default=None)
     if len(samples) > len(kept):

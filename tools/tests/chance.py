@@ -1,4 +1,5 @@
-"""A node made by chance, as a play: pods that stay, that go and come again under their names, and that are evicted."""
+"""A node made by chance, as a play: pods that stay, that go and come again under their names, of which some are deleted
+while their objects stay, that are evicted, and that are refused."""
 
 BEGIN = 1767225600
 SECONDS = 60
@@ -63,7 +64,8 @@ def end_of(made):
 
 def let_go(chance, life, made, look):
     """A pod goes: its last instances exit, and then or some seconds before its source lists it no more; by then all are
-    made. The runtime keeps its containers long enough to be asked for their codes."""
+    made. The runtime keeps its containers long enough to be asked for their codes, but for some of a pod that is
+    deleted and still listed, whose status has them."""
     for each in made:
         if "exited" not in each:
             each.update(exited=each["started"] + chance.uniform(1, 9), code=chance.choice([0, 137, 143]))
@@ -72,6 +74,15 @@ def let_go(chance, life, made, look):
     removed = max(life["until"], end_of(made)) + look + chance.uniform(0.1, 10)
     for each in made:
         each["removed"] = removed
+    if chance.random() < 0.5:
+        life["deleted"] = chance.uniform(max(each["created"] for each in made), end_of(made))
+        life["until"] = max(life["until"], end_of(made)) + chance.uniform(3, 30)
+        for each in made:
+            each.update(removed=life["until"] + 1, told=each["exited"] + chance.uniform(0, 1.5))
+            # one that comes and goes between two looks is not seen
+            is_seen = "started" in each and each["exited"] - each["created"] > look
+            if is_seen and each["exited"] > life["deleted"] and chance.random() < 0.5:
+                each["removed"] = each["exited"] + chance.uniform(0.05, 1)
 
 
 def evict(chance, life, made):
@@ -124,4 +135,9 @@ def play_of(chance, look):
             "samples": {"-1": {"memory": 4294967296}, "9": {"memory": 4294967290}}}
     for number in range(chance.randint(1, 4)):
         play["pods"][f"shop/p{number}"] = lives_of(chance, play, number, look)
+    for number in range(chance.randint(0, 2)):
+        since = chance.uniform(-5, SECONDS / 2)
+        play["pods"][f"shop/r{number}"] = [{"uid": f"uid-r{number}", "key": f"shop/r{number}", "from": since,
+                                            "refused": since, "message": "Pod The node had condition: [DiskPressure]. ",
+                                            "spec": {"containers": [{"name": "app"}]}}]
     return play

@@ -373,7 +373,7 @@ def test_missing_commands():
               "mktemp", "rm", "mv", "sed", "head", "date", "sleep", "cmp"]
     for tool, words, missing in (
         ("record", [], "python3"), ("record", [], "crictl"), ("record", [], "kubectl"),
-        ("record", ["--kubelet", "https://127.0.0.1:10250"], "curl"),
+        ("record", ["--kubelet", "https://127.0.0.1:10250"], "crictl"),
         ("what-if", ["."], "jq"), ("what-if", ["."], "diff"),
         ("story", ["a/b"], "python3"), ("timeline", [], "python3"),
         ("json", [], "python3"), ("why", ["a/b"], "python3"), ("page", [], "python3"), ("explain", [], "python3"),

@@ -29,7 +29,7 @@ def without_decisions(text):
     for line in map(json.loads, text.splitlines()):
         line.pop("recordsKubelet", None)
         line.pop("kubelet", None)
-        lines.append(json.dumps(line) + "\n")
+        lines.append(json.dumps(line, separators=(",", ":")) + "\n")
     return "".join(lines)
 
 
@@ -55,6 +55,20 @@ def test_stories_of_decisions():
         expect_kept(f"story of {pod} with what the kubelet did: the text", story, f"{HERE}/stories/kubelet_{pod}")
     expect_refused("story of a pod that the kubelet refused, without the trace", told_by("story", "shop/late"), 2,
                    "no pod shop/late")
+
+
+CAUSES = {"shop/agree": None, "shop/first": "no sample below the threshold was recorded (memory.available was 900Mi, "
+          "hard threshold 100Mi; memory.available was 900Mi, soft threshold 200Mi)",
+          "shop/unseen": "the pod had no sample, which counts as 0; they evict shop/paused in its place, at 30",
+          "shop/soft": "they had evicted shop/paused at 30 and then evict no pod for 10 s",
+          "shop/alone": "memory.available was below the soft threshold since 30 in the samples, and its grace period of "
+                        "30 s was not over"}
+
+
+def test_causes_of_differences():
+    lines = [json.loads(line) for line in told_by("json", "--trace", TRACE)[1].splitlines()]
+    causes = {record["pod"]: record["causes"] for record in lines if record.get("decision") == "evicted"}
+    expect("causes of differences", causes, CAUSES)
 
 
 def test_json_of_decisions():
@@ -109,8 +123,8 @@ def test_fleet_of_decisions():
     expect("fleet of decisions", (status, said), (0, ""))
     lines = [line.split() for line in told.split("\n")]
     expect("fleet of decisions: the worst", [line[1:2] + line[4:6] for line in lines if line[1:2] and "/" in line[1]],
-           [["shop/agree", "1", "1"], ["shop/alone", "1", "0"], ["shop/first", "1", "0"], ["shop/soft", "1", "0"],
-            ["shop/unseen", "1", "0"]])
+           [["shop/first", "1", "0"], ["shop/unseen", "1", "0"], ["shop/soft", "1", "0"], ["shop/agree", "1", "1"],
+            ["shop/alone", "1", "0"]])
     did = [line for line in lines if line[:1] in (["evicted"], ["refused"])]
     expect("fleet of decisions: what the kubelet did", did,
            [["evicted", "5", "5", "1", "1"], ["refused", "2", "1", "1", "-"]])

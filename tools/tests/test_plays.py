@@ -134,14 +134,15 @@ def names_of(found):
 
 def steps_of(trace, pod, container):
     """What the ticks of a trace say of one container: its starts and its exits, as (words, moment)."""
-    before = None
+    before, started = None, set()
     for place in range(pod.first, len(trace.ticks) if pod.gone is None else pod.gone):
         listing, moment = trace.listing(pod, container, place), trace.ticks[place].at - BEGIN
         is_other = before is not None and (listing is None or listing.attempt != before.attempt)
         if is_other and before.state != "CONTAINER_EXITED":
             yield f"died {before.attempt} 137", moment
         if listing is not None and (is_other or before is None or before.state != listing.state):
-            if listing.state == "CONTAINER_RUNNING":
+            if listing.state == "CONTAINER_RUNNING" and listing.attempt not in started:
+                started.add(listing.attempt)
                 yield f"started {listing.attempt}", moment
             elif listing.state == "CONTAINER_EXITED":
                 yield f"died {listing.attempt} {listing.code}", moment
@@ -198,9 +199,10 @@ def unnamed_137(report, play, warnings):
 
 
 def end_of(play, life):
-    """When a pod is gone: it is not listed and nothing of it runs, or it was evicted; None where it stays."""
+    """When a pod is gone: it was evicted, deleted or is not listed, and nothing of it runs; None where it stays."""
     exits = [each["exited"] for each in play["containers"] if each["uid"] == life["uid"] and "exited" in each]
-    return life["evicted"] if "evicted" in life else max(life["until"], *exits) if "until" in life else None
+    told = [life[word] for word in ("evicted", "deleted", "until") if word in life]
+    return max(told[0], *exits, 0) if told else None
 
 
 def presence_fault(trace, play, look):
@@ -209,7 +211,9 @@ def presence_fault(trace, play, look):
     found, late = dict(zip(names_of(trace), trace.pods)), PODS_SECONDS + 2 * look
     for life in lives_in(play).values():
         end, name = end_of(play, life), life["named"]
-        if life["from"] >= SECONDS - late:
+        if "refused" in life and name in found:
+            return f"{name} is there, and was refused"
+        if life["from"] >= SECONDS - late or "refused" in life:
             continue
         if name not in found:
             return f"there is no {name}"

@@ -203,7 +203,8 @@ class Observer:
         return sorted([*listed, *filter(None, found)], key=lambda each: (each.created, each.attempt))
 
     def ended(self, instance, moment):
-        """An instance that the runtime has no more, by its pod's status; None where that won't say how it ended."""
+        """An instance that the runtime has no more, by its pod's status, else since when it is missed; None where that
+        won't say how it ended."""
         pod = self.listed_pods.get(instance.uid)
         ends = None if pod is None else pod.ends
         if ends is not None and instance.id in ends:
@@ -213,7 +214,7 @@ class Observer:
             return None
         else:
             self.asked_at.pop(PODS, None)
-        return replace(instance, state=EXITED)
+        return replace(instance, state=EXITED, finished=self.missed_at[instance.id])
 
     def wants_inspection(self, instance):
         if instance.uid not in self.known:
@@ -236,6 +237,6 @@ class Observer:
         detail = self.details.get(instance.id)
         if detail is None:
             return instance
-        if instance.state == EXITED:
+        if instance.state == EXITED and detail.exit_code is not None:
             return replace(detail, state=EXITED)
         return replace(instance, started=detail.started)

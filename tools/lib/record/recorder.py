@@ -16,8 +16,10 @@ PATIENCE = 30
 SIGNAL_AGE = 60
 # how long the new pod of a name waits for the containers of the one before to exit
 GOING_SECONDS = 30
+# the kubelet takes a sample about as often where nothing is near a threshold
+SAMPLE_SECONDS = 10
 # a tick is written once some seconds after it have passed, so that what is seen only then still finds its place
-HELD_SECONDS = 2
+HELD_SECONDS = 4
 ANEW = "was made anew under its name, and is left out from here on"
 LEFT_OUT = {EVICTED: "the kubelet had evicted it before it was seen",
             REFUSED: "the kubelet refused it under pressure, so it never ran"}
@@ -68,6 +70,7 @@ class Recorder:
         self.is_first = True
         self.is_behind = False
         self.begun = self.planned_at = self.listed_at = self.sampled_at = None
+        self.wanted_at = float("-inf")
         self.samples = {}
         self.counters = self.planned_counters = {}
 
@@ -116,7 +119,8 @@ class Recorder:
             pod = listed.get(recorded.pod.uid)
             if pod is not None and pod.decision is not None:
                 self.see_decision(pod, seen)
-            if pod is None or pod.is_deleted or pod.decision is not None:
+            # the status of a pod that was evicted may be written anew
+            if pod is None or pod.is_deleted or pod.uid in self.decided:
                 self.see_going(recorded, pod is not None, seen)
         for pod in self.listed:
             if pod.uid not in self.recorded and pod.uid not in self.left_out:
@@ -295,14 +299,18 @@ class Recorder:
             recorded.usage = usage
 
     def take_signals(self, samples, seen, is_wanted):
-        """Places the samples that are others than before; a signal that is no longer there has no value."""
+        """Places the samples that are others than before; a signal that is no longer there has no value. In the
+        standard format each tick below a threshold evicts a pod, so there samples want no more ticks than those that
+        the kubelet takes of itself."""
+        is_wanted = is_wanted and (self.format.says_gone or seen.moment - self.wanted_at >= SAMPLE_SECONDS)
+        self.wanted_at = seen.moment if is_wanted else self.wanted_at
         for signal in dict.fromkeys([*self.samples, *samples]):
             sample = samples.get(signal)
             if sample is None:
                 self.timeline.place_signal(seen.moment, signal, None, is_wanted)
             elif sample != self.samples.get(signal):
                 wants = signal in seen.low or sample.moment is not None or signal not in self.samples
-                self.timeline.place_signal(self.sampled_moment(sample, seen), signal, sample.value, wants)
+                self.timeline.place_signal(self.sampled_moment(sample, seen), signal, sample.value, is_wanted and wants)
         self.samples = samples
 
     def sampled_moment(self, sample, seen):

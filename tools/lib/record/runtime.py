@@ -135,6 +135,8 @@ class Container:
         self.is_unknown = False
         self.attempt = None
         self.shift = 0
+        # since when the runtime no longer has the newest, where its pod's status may have its code yet
+        self.missed_since = None
 
     def first_changes(self, instances, moment):
         """What the first look shows of it: its newest instance alone, as it is at that moment."""
@@ -153,6 +155,7 @@ class Container:
         made = self.vanished(newer, moment)
         for instance in newer:
             if instance.state == EXITED and instance.exit_code is None:
+                self.missed_since = instance.finished
                 break
             made += self.of_instance(instance, moment)
         return made
@@ -170,6 +173,7 @@ class Container:
         if not has_exited:
             self.say(f"{self.place}: attempt {self.attempt} was removed before its exit code was known, which counts "
                      f"as {LOST_CODE}")
+        moment = moment if has_exited or self.missed_since is None else self.missed_since
         return [] if newer else [Change(moment, None, has_exited)]
 
     def begin(self, instance):
@@ -184,7 +188,7 @@ class Container:
             self.say(f"{self.place}: {missed} {instances} before attempt {number} came and went unseen")
         self.shift = number - instance.attempt
         self.attempt = number
-        self.newest, self.is_listed = replace(instance, state=CREATED), True
+        self.newest, self.is_listed, self.missed_since = replace(instance, state=CREATED), True, None
         self.has_started = self.is_unknown = False
 
     def of_instance(self, instance, moment):

@@ -149,8 +149,9 @@ class Play:
         """What a pod's status says of an instance."""
         if moment < each["told"]:
             return {"name": each["name"], "state": {"running": {}}}
+        started = self.begin + each["started"] if "started" in each else None
         return {"name": each["name"], "state": {"terminated": {
-            "containerID": f"containerd://{each['id']}", "startedAt": moment_text(self.begin + each["started"]),
+            "containerID": f"containerd://{each['id']}", "startedAt": moment_text(started),
             "finishedAt": moment_text(self.begin + each["exited"]), "exitCode": each["code"],
             "reason": each.get("reason", "")}}}
 
