@@ -340,13 +340,13 @@ def test_fleet_parquet():
     show = ("import sys, pyarrow.parquet as parquet\n"
             "print([list(row.values()) for row in parquet.read_table(sys.argv[1]).to_pylist()])")
     connection = sqlite3.connect(f"{folder}/fleet.db")
-    for table in ("traces", "nodes", "pods", "containers", "conditions", "evictions"):
+    for table in ("traces", "nodes", "pods", "containers", "conditions", "evictions", "decisions"):
         rows = [list(row) for row in connection.execute(f"SELECT * FROM {table} ORDER BY rowid")]
         shown = run([python, "-c", show, f"{folder}/set/{table}.parquet"], **settings)[1]
         expect(f"fleet --parquet: {table}", shown, f"{rows}\n")
     connection.close()
     expect("fleet --parquet over its tables", run([python, *words], **settings)[::2], (0, ""))
-    expect("fleet --parquet leaves nothing behind", len(os.listdir(f"{folder}/set")), 6)
+    expect("fleet --parquet leaves nothing behind", len(os.listdir(f"{folder}/set")), 7)
     with open(f"{folder}/set/pods.parquet", "w") as file:
         file.write("something else\n")
     expect_refused("fleet --parquet over another file", run([python, *words], **settings), 2,
