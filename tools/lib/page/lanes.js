@@ -73,7 +73,7 @@ function metaOf(pod) {
   if (pod.restarts) bad.push(`${pod.restarts} restart${pod.restarts > 1 ? 's' : ''}`);
   const gone = typeof pod.gone === 'number' ? `gone before ${shortMoment(pod.gone, 1)}` : '';
   const unready = pod.unready ? `not ready ${seconds(pod.unready)}` : '';
-  const rest = [pod.eviction ? '' : pod.phase, pod.qos, gone, unready];
+  const rest = [isEvicted(pod) || pod.eviction ? '' : pod.phase, pod.qos, gone, unready];
   meta.append(element('span', bad.join(' · '), 'bad'), `${bad.length ? ' · ' : ''}${rest.filter(Boolean).join(' · ')}`);
   meta.title = meta.textContent;
   return meta;

@@ -61,7 +61,7 @@ function openStory(pod) {
   const ended = pod.end ? `, ended ${moment(pod.end[0])} as ${pod.end[1]}` : '';
   const gone = typeof pod.gone === 'number' ? `, gone before ${moment(pod.gone)}` : '';
   const first = pod.first === null ? 'no tick' : `first tick ${moment(pod.first)}`;
-  const byRules = data.kubelet && pod.eviction ? 'by the rules ' : '';
+  const byRules = data.kubelet && (pod.eviction || pod.fact) ? 'by the rules ' : '';
   const restarts = pod.containers.map((one) => [one.name, one.state, one.code === null ? '-' : one.code, one.restarts,
     one.ready, one.started]);
   const conditions = pod.conditions.map(([kind, value, since, reason]) =>
