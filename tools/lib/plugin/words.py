@@ -35,8 +35,8 @@ COMMANDS = {
     "story": Command("one pod's story", "one", valued=("--trace",), flags=("--utc",), lists_pods=True),
     "why": Command("what the trace holds around each event of one pod", "one", valued=("--trace",), flags=("--utc",)),
     "page": Command("a page of a node", flags=("--utc",)),
-    "timeline": Command("a picture of pods", "any", flags=("--utc",)),
-    "json": Command("a report as JSON lines, or tables of SQLite", valued=("--sqlite",)),
+    "timeline": Command("a picture of pods", "any", valued=("--trace",), flags=("--utc",)),
+    "json": Command("a report as JSON lines, or tables of SQLite", valued=("--sqlite", "--trace")),
     "what-if": Command("a trace replayed with an edit"),
     "fleet": Command("the traces of many nodes", takes_file=False),
 }
