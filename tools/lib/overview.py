@@ -34,7 +34,7 @@ def event_text(found):
     """The first of some events in words, and how many there are."""
     if not found:
         return "-"
-    said = " ".join(filter(None, [found[0].container, telling.event_words(found[0])[1]]))
+    said = " ".join(filter(None, [found[0].container, telling.event_words(found[0], True)[1]]))
     return said if len(found) == 1 else f"{said} (first of {len(found)})"
 
 

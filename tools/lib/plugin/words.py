@@ -32,7 +32,7 @@ COMMANDS = {
     "run": Command("the report of a trace", valued=("--workers",), flags=("--extended",)),
     "check": Command("whether a file is a trace", flags=("--extended",)),
     "explain": Command("what a refusal means", flags=("--extended", "--line")),
-    "story": Command("one pod's story", "one", valued=("--trace",), flags=("--utc",), lists_pods=True),
+    "story": Command("one pod's story", "one", valued=("--trace",), flags=("--utc", "--without-why"), lists_pods=True),
     "why": Command("what the trace holds around each event of one pod", "one", valued=("--trace",), flags=("--utc",)),
     "page": Command("a page of a node", flags=("--utc",)),
     "timeline": Command("a picture of pods", "any", valued=("--trace",), flags=("--utc",)),
