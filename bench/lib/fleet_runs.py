@@ -80,23 +80,25 @@ class Cluster:
 
     def end_worker(self):
         """Ends the worker that began first."""
-        self.end_one(self.processes.pop(1), signal.SIGKILL)
+        self.end_these([self.processes.pop(1)], signal.SIGKILL)
 
     def end_scheduler(self):
-        self.end_one(self.processes.pop(0), signal.SIGKILL)
+        self.end_these([self.processes.pop(0)], signal.SIGKILL)
 
     def close_scheduler(self):
         """Ends it as an operator does, so that it takes leave of all."""
-        self.processes[0].terminate()
+        os.kill(self.processes[0].pid, signal.SIGTERM)
 
     def end(self):
-        while self.processes:
-            self.end_one(self.processes.pop(), signal.SIGTERM)
+        self.end_these(self.processes, signal.SIGTERM)
+        self.processes = []
 
-    def end_one(self, process, number):
-        os.kill(process.pid, number)
-        process.returncode, peak = processes.wait(process.pid)
-        self.peak = max(self.peak, peak)
+    def end_these(self, ended, number):
+        for process in ended:
+            os.kill(process.pid, number)
+        for process in ended:
+            process.returncode, peak = processes.wait(process.pid)
+            self.peak = max(self.peak, peak)
 
 
 def local_runs(fleet, traces, python, work):

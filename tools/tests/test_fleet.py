@@ -21,6 +21,7 @@ import node_traces
 
 KEPT = f"{HERE}/fleet"
 FLEET = f"{TOOLS}/fleet"
+TABLES = ("traces", "nodes", "pods", "containers", "conditions", "evictions", "decisions")
 COUNTED = {"KUBELET_REPLAY": f"{KEPT}/replay", "PROGRAM": REPLAY}
 
 
@@ -126,7 +127,7 @@ def test_fleet_copies():
            plain(alone, traces).replace("FOLDER/n5/hour_1", "FOLDER/a_copy").split("\n")[1:])
     connection = sqlite3.connect(database)
     rows = connection.execute("SELECT path, status, copy_of, line, report_file IS NULL FROM traces").fetchall()
-    counted = {report for table in ("nodes", "pods", "containers", "conditions", "evictions")
+    counted = {report for table in TABLES[1:]
                for [report] in connection.execute(f"SELECT report FROM {table}")}
     connection.close()
     expect("fleet of copies: their rows", [(os.path.relpath(path, traces), *row) for path, *row in rows], [
@@ -340,13 +341,13 @@ def test_fleet_parquet():
     show = ("import sys, pyarrow.parquet as parquet\n"
             "print([list(row.values()) for row in parquet.read_table(sys.argv[1]).to_pylist()])")
     connection = sqlite3.connect(f"{folder}/fleet.db")
-    for table in ("traces", "nodes", "pods", "containers", "conditions", "evictions", "decisions"):
+    for table in TABLES:
         rows = [list(row) for row in connection.execute(f"SELECT * FROM {table} ORDER BY rowid")]
         shown = run([python, "-c", show, f"{folder}/set/{table}.parquet"], **settings)[1]
         expect(f"fleet --parquet: {table}", shown, f"{rows}\n")
     connection.close()
     expect("fleet --parquet over its tables", run([python, *words], **settings)[::2], (0, ""))
-    expect("fleet --parquet leaves nothing behind", len(os.listdir(f"{folder}/set")), 7)
+    expect("fleet --parquet leaves nothing behind", len(os.listdir(f"{folder}/set")), len(TABLES))
     with open(f"{folder}/set/pods.parquet", "w") as file:
         file.write("something else\n")
     expect_refused("fleet --parquet over another file", run([python, *words], **settings), 2,
@@ -368,9 +369,9 @@ def test_fleet_on_dask():
         return
     settings = {**COUNTED, "RUNS": f"{folder}/runs"}
     run([*words, f"{folder}/one.db", "--processes", "1"], **settings)
-    for wait, check in (("0.03", check_workers_that_end), ("0.2", check_scheduler_that_closes)):
+    for workers, wait, check in ((3, "0.03", check_workers_that_end), (1, "0.1", check_scheduler_that_closes)):
         os.environ.update(settings, WAIT=wait)
-        cluster = fleet_runs.Cluster(python, 3, tempfile.mkdtemp(dir=folder))
+        cluster = fleet_runs.Cluster(python, workers, tempfile.mkdtemp(dir=folder))
         try:
             check(lambda database: [python, *words, database, "--scheduler", cluster.address], cluster, folder)
         finally:
