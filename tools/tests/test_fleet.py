@@ -2,6 +2,7 @@
 distributed and pyarrow where they are there."""
 
 import glob
+import json
 import os
 import pty
 import re
@@ -150,6 +151,31 @@ def test_fleet_names_with_escapes():
     expect("fleet: a database with a name of signs", (run(words)[0], run(words)[0]), (0, 0))
     answer = run([FLEET, "worst", f"{folder}/a\x1b[31m\n.db"])
     expect_refused("fleet: a word with escapes", answer, 2, f"{folder}/a\\x1b[31m\\n.db can't be read")
+    shutil.rmtree(folder)
+
+
+def hour_of_a_pod(first, results):
+    """A trace of a pod whose readiness has these results, 10 s apart."""
+    app = {"name": "app", "readinessProbe": {"failureThreshold": 1}}
+    pod = {"metadata": {"name": "web", "namespace": "shop"}, "spec": {"containers": [app]}}
+    shown = {"pod": "shop/web", "containers": [{"name": "app", "attempt": 0, "state": "CONTAINER_RUNNING"}]}
+    ticks = [{"kind": "tick", "at": first + 10 * place,
+              "pods": [{**shown, "probes": [{"container": "app", "probe": "readiness", "result": result}]}]}
+             for place, result in enumerate(results)]
+    lines = [{"kind": "node", "name": "n1"}, {"kind": "pod", "pod": pod}, *ticks]
+    return "".join(json.dumps(line) + "\n" for line in lines)
+
+
+def test_fleet_of_a_pod_that_turns_bad():
+    """A pod that was well in its first hour is not left out."""
+    folder = tempfile.mkdtemp()
+    for name, text in (("hour_1", hour_of_a_pod(0, ["success", "success"])),
+                       ("hour_2", hour_of_a_pod(3600, ["success", "failure", "failure", "success"]))):
+        with open(f"{folder}/{name}.trace", "w") as file:
+            file.write(text)
+    told = run([FLEET, "run", folder, "--out", f"{folder}/fleet.db", "--by", "unready"])[1]
+    expect("fleet of a pod that turns bad", [line.split()[:4] for line in told.split("\n") if "shop/web" in line],
+           [["n1", "shop/web", "0", "20"]])
     shutil.rmtree(folder)
 
 

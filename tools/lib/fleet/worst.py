@@ -13,6 +13,7 @@ from fleet import database
 MEASURES = {"restarts": "restarts", "unready": "unready_seconds", "evicted": "evictions"}
 # a pod that is in more than one trace is one pod: its restarts are counted on by the kubelet, the others are summed
 PODS = """
+SELECT * FROM (
 SELECT node, pod, MAX(restarts) AS restarts, SUM(unready_seconds) AS unready_seconds,
        SUM(COALESCE(by_kubelet, by_rules)) AS evictions, SUM(by_kubelet) AS by_kubelet, SUM(by_rules) AS by_rules,
        GROUP_CONCAT(signals) AS signals, COUNT(*) AS traces
@@ -23,8 +24,8 @@ FROM (SELECT report, node, pod, SUM(restarts) AS restarts, SUM(unready_seconds) 
                   AND decision = 'evicted' AND pod_number IS NOT NULL) END
               FROM nodes WHERE nodes.report = pods.report) AS by_kubelet
       FROM pods GROUP BY report, node, pod)
-GROUP BY node, pod HAVING {measure} > 0
-ORDER BY {order}, node, pod LIMIT ?
+GROUP BY node, pod)
+WHERE {measure} > 0 ORDER BY {order}, node, pod LIMIT ?
 """
 SIGNALS = """
 SELECT signal, kind, COUNT(*), COUNT(DISTINCT node || ' ' || pod), COUNT(DISTINCT node) FROM evictions
