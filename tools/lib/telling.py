@@ -62,3 +62,11 @@ def event_words(event, is_beside=False):
         "evicted": lambda: ("", f"{evicts}{rest[1]} {rest[2]}, grace {rest[3]} s"),
     }
     return said[event.word]()
+
+
+def containers_title(pod, ended):
+    """The title of a pod's containers; where some still ran as it ended or went, that they stand as they were seen."""
+    is_over = ended is not None or pod.left is not None
+    if is_over and any(container.state == "Running" for container in pod.containers):
+        return "Containers, each in the last state that was recorded"
+    return "Containers"

@@ -70,10 +70,17 @@ function openStory(pod) {
     ...kubeletWords(pod).map((words) => element('p', words)),
     said(`${byRules}${pod.phase}${pod.reason ? ` (${pod.reason})` : ''}, ${pod.qos}, ${first}${ended}${gone}; `
       + `not ready ${seconds(pod.unready)} in all`),
-    element('h2', 'Containers'), tableOf(['container', 'state', 'code', 'restarts', 'ready', 'started'], restarts),
+    element('h2', containersTitle(pod)), tableOf(['container', 'state', 'code', 'restarts', 'ready', 'started'], restarts),
     element('h2', 'Conditions'), tableOf(['condition', 'value', 'since', 'reason'], conditions),
     element('h2', 'Events'), ...eventList(pod, pod.list, false),
   ]);
+}
+
+// What still ran as the pod ended or went stands as it was seen then.
+function containersTitle(pod) {
+  const isOver = pod.end || typeof pod.gone === 'number';
+  const ran = isOver && pod.containers.some((one) => one.state === 'Running');
+  return ran ? 'Containers, each in the last state that was recorded' : 'Containers';
 }
 
 // Events with a button each that opens its why below it; those in view, where there are too many.
