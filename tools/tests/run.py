@@ -13,6 +13,7 @@ import xml.dom.minidom
 
 sys.dont_write_bytecode = True
 import checks
+import test_command
 import test_connections
 import test_decisions
 import test_explain
@@ -27,7 +28,7 @@ import test_why
 from checks import HERE, REPLAY, TOOLS, TOP, expect, expect_kept, expect_refused, read, run
 
 MODULES = (test_record, test_connections, test_plays, test_real_node, test_json, test_why, test_decisions, test_page,
-           test_fleet, test_kubectl, test_explain)
+           test_fleet, test_kubectl, test_command, test_explain)
 RECORDINGS = f"{HERE}/recordings"
 COMMANDS = f"{HERE}/commands"
 
@@ -351,8 +352,8 @@ def test_full_disks():
 def test_versions():
     """Each tool says its version, and its help by its short name too."""
     version = read(f"{TOP}/VERSION")
-    for tool in ("record", "story", "timeline", "what-if", "json", "why", "page", "fleet", "explain", "kubectl-replay",
-                 "kubectl_complete-replay"):
+    for tool in ("record", "story", "timeline", "what-if", "json", "why", "page", "fleet", "explain", "kubelet-replay",
+                 "kubectl-replay", "kubectl_complete-replay"):
         for word in ("--version", "-V"):
             expect(f"{tool} {word}", run([f"{TOOLS}/{tool}", word]), (0, f"{tool} {version}", ""))
         expect(f"{tool} -h", run([f"{TOOLS}/{tool}", "-h"]), run([f"{TOOLS}/{tool}", "--help"]))
@@ -377,7 +378,8 @@ def test_missing_commands():
         ("what-if", ["."], "jq"), ("what-if", ["."], "diff"),
         ("story", ["a/b"], "python3"), ("timeline", [], "python3"),
         ("json", [], "python3"), ("why", ["a/b"], "python3"), ("page", [], "python3"), ("explain", [], "python3"),
-        ("fleet", [], "python3"), ("kubectl-replay", [], "python3"), ("kubectl_complete-replay", [], "python3"),
+        ("fleet", [], "python3"), ("kubelet-replay", [], "python3"), ("kubectl-replay", [], "python3"),
+        ("kubectl_complete-replay", [], "python3"),
         ("test", [], "python3"), ("test", [], "jq"),
     ):
         folder = tempfile.mkdtemp()

@@ -8,10 +8,11 @@ from plugin import files, words
 NO_FILES, FILES = 4, 0
 MEASURES = ("restarts", "unready", "evicted")
 # words whose value is no file
-COUNTS = ("--workers", "--processes", "--scheduler", "--top")
+COUNTS = ("--workers", "--processes", "--scheduler", "--top", "--node", "--every", "--look", "--ticks", "--for",
+          "--kubelet", "--eviction-pause")
 
 
-def candidates(given):
+def candidates(given, is_of_kubectl=True):
     """The candidates for the last word, and the directive."""
     *before, last = given or [""]
     if not before:
@@ -19,7 +20,7 @@ def candidates(given):
     command = words.COMMANDS.get(before[0])
     if command is None:
         return [], NO_FILES
-    found = words.words_of(command, before[1:])
+    found = words.words_of(command, before[1:], is_of_kubectl)
     if found.waiting in words.NAMESPACE:
         return beginning(namespaces(found), last), NO_FILES
     if found.waiting:
@@ -27,7 +28,7 @@ def candidates(given):
     if before[0] == "fleet":
         return fleet_words(before, last)
     if last.startswith("-"):
-        of_pods = words.NAMESPACE + words.EVERYWHERE + words.CONTEXT
+        of_pods = words.NAMESPACE + (words.EVERYWHERE + words.CONTEXT) * is_of_kubectl
         own = of_pods * (command.pods != "none") + words.FILE * command.takes_file
         return beginning((*own, *command.valued, *command.flags), last), NO_FILES
     if command.pods == "none" or command.pods == "one" and found.plain:

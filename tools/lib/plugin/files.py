@@ -123,7 +123,7 @@ def keys_of(path):
     return [f"{found.get('namespace') or 'default'}/{found.get('name')}" for found in manifests]
 
 
-def run_beside(program, words, path, given=None):
+def run_beside(program, words, path, given, caller):
     """Runs the program on a trace, with a file as its standard input; its status. Where it refuses the trace, what that
     means is said in one more line."""
     if given is not None:
@@ -139,7 +139,7 @@ def run_beside(program, words, path, given=None):
     if status in (1, 2) and path is not None:
         means = beside.meaning(path, "--extended" in words)
         if means:
-            print(f"kubectl-replay: {means}", file=sys.stderr)
+            print(f"{caller}: {means}", file=sys.stderr)
     return status if status >= 0 else 128 - status
 
 

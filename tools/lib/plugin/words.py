@@ -1,4 +1,4 @@
-"""Words as kubectl takes them: a namespace, a file, names of pods."""
+"""Words as kubectl takes them: a namespace, a file, names of pods; and the commands that take them."""
 
 from __future__ import annotations
 
@@ -27,8 +27,11 @@ class Command:
     """without a pod it lists those of a namespace"""
 
 
+RECORDER_VALUED = ("--node", "--every", "--look", "--ticks", "--for", "--kubelet", "--curl", "--node-line",
+                   "--eviction-pause")
+RECORDER_FLAGS = ("--check", "--standard", "--extended")
 COMMANDS = {
-    "record": Command("record a node", takes_file=False),
+    "record": Command("record a node", takes_file=False, valued=RECORDER_VALUED, flags=RECORDER_FLAGS),
     "run": Command("the report of a trace", valued=("--workers",), flags=("--extended",)),
     "check": Command("whether a file is a trace", flags=("--extended",)),
     "explain": Command("what a refusal means", flags=("--extended", "--line")),
@@ -56,10 +59,16 @@ class Words:
     """the last word, where it wants a value"""
 
 
-def words_of(command, given):
+def words_of(command, given, is_of_kubectl=True):
+    """The words of a command. Where kubectl is not what runs it there is no context, and pods are those of all
+    namespaces where none is named."""
     found, given = Words(), list(given)
     while given:
         take(command, given, found)
+    if not is_of_kubectl:
+        if found.context is not None or found.waiting in CONTEXT:
+            raise entry.Fault(f"{CONTEXT[0]} is no word of it (--help says more)")
+        found.is_everywhere = found.is_everywhere or found.namespace is None
     return found
 
 
