@@ -7,6 +7,13 @@ import re
 import subprocess
 import sys
 
+EXAMPLES = (
+    ("kubelet_replay run worker-3.trace > worker-3.report", "The report of a trace."),
+    ("kubelet_replay check worker-3.trace", "Whether it is one, or its first faulty line."),
+    ("kubelet_replay run --extended worker-3.trace", "That of a trace of version 3, in which pods go."),
+    ("zcat worker-3.trace.gz | kubelet_replay", "That of a trace that is packed."),
+    ("kubelet-replay story shop/web < worker-3.report", "The story of one pod of a report."),
+)
 # what stands above the list of statuses
 STATUSES = "\nThe program ends with a status, and says on standard error:\n\n"
 
@@ -92,10 +99,14 @@ def page(program, top, version, date):
             lines += command(program, name)
     lines += [".SH OPTIONS", *list_of(items_of(parts.get("Options", [])))]
     lines += [".SH EXIT STATUS", *list_of(statuses(top))]
-    lines += [".SH DIAGNOSTICS", "Beside the program tools/explain TRACE says in words why a trace is refused: the",
-              "field that is at fault, the line around it, and what to do; so does kubectl replay explain TRACE."]
+    lines += [".SH EXAMPLES", *list_of(EXAMPLES)]
+    lines += [".SH DIAGNOSTICS", "kubelet\\-replay explain TRACE says in words why a trace is refused: the field",
+              "that is at fault, the line around it, and what to do."]
     lines += [".SH FILES", "Beside the program docs/rules.md has the rules, docs/formats.md says what a trace is,",
-              "docs/report.md what a report is, and examples/ has traces with their reports."]
+              "docs/report.md what a report is, and examples/ has traces with their reports. The Debian package has",
+              "them in /usr/share/doc/kubelet\\-replay."]
+    lines += [".SH SEE ALSO", "\\fBkubelet\\-replay\\fR(1), \\fBkubelet\\-replay\\-story\\fR(1),",
+              "\\fBkubelet\\-replay\\-explain\\fR(1)"]
     return "\n".join(lines) + "\n"
 
 

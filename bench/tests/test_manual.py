@@ -1,10 +1,14 @@
-"""Tests of what writes the manual page: manual/program says the help that it is made of."""
+"""Tests of what writes the manual pages: manual/program says the help that the program's is made of, and those of the
+tools are made of their own."""
+import glob
 import shutil
 import subprocess
 import sys
+import tempfile
 import unittest
 
 from common import TESTS, TOP, Case, read
+import tool_manual
 
 HERE = f"{TESTS}/manual"
 KEPT = f"{HERE}/kubelet_replay.1"
@@ -32,3 +36,86 @@ class Manual(Case):
         status, said, fault = manual("/bin/false", HERE, "1.2.3", "2026-01-31")
         self.assertEqual((status, said), (1, ""))
         self.assertIn("'/bin/false', 'help'", fault)
+
+
+HELP = """\
+usage: tool [--one] POD < REPORT
+       tool --two FILE
+
+Tells of a pod. There are
+  one(f)   the first
+  two(f)   .the second
+where f is a filter.
+
+It leaves out
+  - all that
+    is over;
+  - the rest.
+
+Status 0: done; 2: a bad word, a report; that is none; 127: python3 is missing.
+"""
+PAGE = """\
+.TH KUBELET-REPLAY-TOOL 1 "2026-01-31" "kubelet\\-replay 1.2.3"
+.SH NAME
+kubelet\\-replay\\-tool \\- tells of a pod
+.SH SYNOPSIS
+.nf
+tool [\\-\\-one] POD < REPORT
+tool \\-\\-two FILE
+.fi
+.SH DESCRIPTION
+Tells of a pod. There are
+.PP
+.nf
+  one(f)   the first
+  two(f)   .the second
+.fi
+.PP
+where f is a filter.
+.PP
+It leaves out
+.IP \\(bu 2
+all that
+is over;
+.IP \\(bu 2
+the rest.
+.SH EXIT STATUS
+.TP
+\\fB0\\fR
+done
+.TP
+\\fB2\\fR
+a bad word, a report; that is none
+.TP
+\\fB127\\fR
+python3 is missing.
+.SH SEE ALSO
+\\fBkubelet\\-replay\\fR(1), \\fBkubelet_replay\\fR(1)
+"""
+
+
+class ToolManual(Case):
+    def test_a_page(self):
+        self.assertEqual(tool_manual.page("kubelet-replay-tool", "tells of a pod", HELP, "1.2.3", "2026-01-31"), PAGE)
+
+    def test_the_commands(self):
+        text = ("usage: x\n\n  kubelet-replay run t    a report\n  kubelet-replay story -f t        the pods\n"
+                "  kubelet-replay story -f t shop/web   one\n  kubelet-replay why t > w   why it was\n")
+        self.assertEqual(tool_manual.commands_of(text), {"story": "one", "why": "why it was"})
+
+    def test_the_pages_of_all_tools(self):
+        with tempfile.TemporaryDirectory() as room:
+            subprocess.run([sys.executable, "-B", f"{TOP}/bench/lib/tool_manual.py", TOP, room, "1.2.3", "2026-01-31"],
+                           check=True)
+            pages = sorted(glob.glob("*.1", root_dir=room))
+            self.assertEqual(len(pages), 11)
+            self.assertIn("kubelet-replay-story.1", pages)
+            if shutil.which("groff"):
+                done = subprocess.run(["groff", "-man", "-Tutf8", "-ww", "-z", *pages], cwd=room, capture_output=True,
+                                      text=True, check=True)
+                self.assertEqual(done.stderr, "")
+
+    def test_words(self):
+        done = subprocess.run([sys.executable, "-B", f"{TOP}/bench/lib/tool_manual.py", TOP], capture_output=True,
+                              text=True, check=False)
+        self.assertEqual((done.returncode, done.stderr), (3, "usage: tool_manual.py TOP FOLDER VERSION DATE\n"))
