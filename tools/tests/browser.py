@@ -95,6 +95,18 @@ class Page:
             .move_by_offset((to_x - x) // 2, 0).move_by_offset(to_x - x - (to_x - x) // 2, 0).release().perform()
         self.wait()
 
+    def pinch(self, canvas, xs, to_xs):
+        """Two fingers at these places of the page, which move to others."""
+        self.driver.execute_script("arguments[0].scrollIntoView({block: 'center'})", canvas)
+        self.wait()
+        y = self.driver.execute_script("return arguments[0].getBoundingClientRect().top", canvas) + 10
+        self.driver.execute_cdp_cmd("Emulation.setTouchEmulationEnabled", {"enabled": True, "maxTouchPoints": 2})
+        for kind, places in (("touchStart", xs[:1]), ("touchStart", xs), ("touchMove", to_xs), ("touchEnd", ())):
+            self.driver.execute_cdp_cmd("Input.dispatchTouchEvent", {"type": kind, "touchPoints": [
+                {"x": x, "y": y, "id": number} for number, x in enumerate(places)]})
+        self.driver.execute_cdp_cmd("Emulation.setTouchEmulationEnabled", {"enabled": False})
+        self.wait()
+
     def row(self, key):
         """The canvas of a pod's row."""
         names = self.texts(".pod .name")
@@ -117,6 +129,12 @@ def check_filter(page):
     page.press(Keys.ESCAPE)
     tell("clears the filter by a key", len(page.texts(".pod .name")), 4)
     page.click("#chips button", 1)
+    page.press("/", "job")
+    tell("says why no pod is shown", page.text("#none"),
+         "No pod has “job” in its name and is among “evicted”.show all pods")
+    page.click("#none button")
+    tell("shows all again", (len(page.texts(".pod .name")), page.text("#none")), (4, ""))
+    page.click("#chips button", 1)
     tell("shows the evicted alone", sorted(page.texts(".pod .name")), ["default/a", "default/late"])
     page.click("#chips button", 0)
 
@@ -130,6 +148,10 @@ def check_zoom(page):
     page.drag(page.row("default/b"), 0.75, 0.5, 20)
     tell("zooms by dragging to the left over a lane", page.text("#range"), "20 – 30 (10 s)")
     page.press("0")
+    page.click("#in")
+    tell("zooms in by a button", page.text("#range"), "10 – 30 (20 s)")
+    page.click("#out")
+    tell("zooms out by a button", page.text("#range"), "0 – 40 (40 s)")
 
 
 def check_story(page):
@@ -150,6 +172,7 @@ def check_story(page):
 def check_why(page):
     page.click_at(page.row("default/a"), 0.75, 10)
     why = page.text("#panel")
+    tell("names the threshold of an eviction", page.text(".pod .meta .bad"), "evicted 30 by nodefs.available")
     tell("opens the why of an eviction in a lane", [words in why for words in (
         "nodefs.available soft: below 10Gi (10%), cleared at 11Gi, grace 20 s; active since 10", "after reclaim",
         "Their order: usage above the request first")], [True] * 3)
@@ -165,9 +188,22 @@ def check_why(page):
     page.press(Keys.ESCAPE)
 
 
+CONTRAST = """const [ink, ...grounds] = ['failed', 'ground', 'panel', 'faint'].map((name) => {
+  const hex = getComputedStyle(document.documentElement).getPropertyValue('--' + name).trim();
+  const [r, g, b] = [1, 3, 5].map((at) => parseInt(hex.slice(at, at + 2), 16) / 255)
+    .map((one) => one <= 0.03928 ? one / 12.92 : ((one + 0.055) / 1.055) ** 2.4);
+  return 0.2126 * r + 0.7152 * g + 0.0722 * b;
+});
+return Math.min(...grounds.map((one) => (Math.max(one, ink) + 0.05) / (Math.min(one, ink) + 0.05)));"""
+LEAST_CONTRAST = 4.5
+
+
 def check_theme(page):
     grounds = [page.script("getComputedStyle(document.body).backgroundColor")]
+    contrasts = [page.driver.execute_script(CONTRAST)]
     page.click("#theme")
+    contrasts.append(page.driver.execute_script(CONTRAST))
+    tell("has red text that can be read in both themes", [one >= LEAST_CONTRAST for one in contrasts], [True] * 2)
     grounds.append(page.script("getComputedStyle(document.body).backgroundColor"))
     page.press("t")
     grounds.append(page.script("getComputedStyle(document.body).backgroundColor"))
@@ -204,6 +240,13 @@ def check_narrow(chromedriver, path):
         widths = "[document.documentElement.scrollWidth, document.body.scrollWidth]"
         tell("has no horizontal scroll at 360 px", page.script(widths), [360, 360])
         tell("is dark where the system is", page.script("document.documentElement.dataset.theme"), "dark")
+        cut = "[...document.querySelectorAll('.meta')].some((one) => one.scrollWidth > one.clientWidth)"
+        tell("shows there what became of a pod", (page.text(".meta"), page.script(cut)),
+             ("evicted 30 by nodefs.available · BestEffort", False))
+        page.pinch(page.row("default/a"), (180, 220), (140, 260))
+        # the lanes have 226 px, of 104 on the left: 11.7 and 18.8 s are then 26 and 146 px behind these
+        tell("zooms there by two fingers", page.text("#range"), "10 – 23 (13 s)")
+        page.click("#whole")
         page.click(".pod .name")
         page.click("#panel .event > button", -1)
         tell("nor with a story", (page.script(widths), page.script("document.getElementById('panel').scrollWidth")),
@@ -247,7 +290,7 @@ def check_kubelet(chromedriver, path):
         tell("counts whom the kubelet evicted", page.text("#chips button:nth-child(2)"), "evicted 5")
         metas = dict(zip(page.texts(".pod .name"), page.texts(".pod .meta .bad")))
         tell("tells when it did, and what the rules alone do", (metas["shop/agree"], metas["shop/paused"]),
-             ("evicted 11", "evicted by the rules alone"))
+             ("evicted 11: low on memory", "evicted by the rules alone, by memory.available"))
         page.click(".pod .name", page.texts(".pod .name").index("shop/first"))
         told = page.text("#panel")
         tell("tells it in a story", [words in told for words in (

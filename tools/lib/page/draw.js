@@ -26,9 +26,15 @@ function fit(canvas, height) {
   return {pen, width, height, left: margin(width), right: width - 10};
 }
 
-// How much room the names have left of the lanes.
+// How much room the names have left of the lanes. A narrow page has the names of signals above their charts.
+const narrow = window.matchMedia('(max-width:600px)');
+
 function margin(width) {
-  return width < 560 ? 84 : 170;
+  return width < 560 ? 104 : 170;
+}
+
+function aboveChart() {
+  return narrow.matches ? 16 : 0;
 }
 
 function xOf(area, at) {
@@ -189,15 +195,25 @@ function drawNodeLanes(canvas) {
   let y = lanes.length * NODE_LANE + 10;
   if (data.kubelet) {
     const count = data.kubelet.evicted.length;
-    drawName(area, count ? `${count} evicted by kubelet` : 'kubelet evicted none', y);
+    drawName(area, kubeletName(count), y);
     const at = y;
     drawEvictions(area, data.kubelet.evicted, () => at, colours.failed);
     y += NODE_LANE;
   }
-  const byRules = data.kubelet ? ' by the rules' : '';
-  drawName(area, data.evictions.length ? `${data.evictions.length} evicted${byRules}` : `no eviction${byRules}`, y);
+  drawName(area, rulesName(data.evictions.length), y);
   drawReclaims(area, y);
   drawEvictions(area, data.evictions, () => y, ruleColour());
+}
+
+function kubeletName(count) {
+  if (narrow.matches) return `${count || 'none'} by kubelet`;
+  return count ? `${count} evicted by kubelet` : 'kubelet evicted none';
+}
+
+function rulesName(count) {
+  if (!data.kubelet) return count ? `${count} evicted` : 'no eviction';
+  if (narrow.matches) return `${count || 'none'} by the rules`;
+  return `${count ? `${count} evicted` : 'no eviction'} by the rules`;
 }
 
 // Where the kubelet's evictions are shown, those of the rules are no facts, and are drawn quietly.
@@ -206,9 +222,13 @@ function ruleColour() {
 }
 
 function drawReclaims(area, y) {
-  area.pen.fillStyle = colours.quiet;
-  area.pen.textAlign = 'center';
-  for (const [at] of data.reclaims) if (at >= view.from && at <= view.to) area.pen.fillText('◇', xOf(area, at), y);
+  for (const [at] of data.reclaims) if (at >= view.from && at <= view.to) drawReclaim(area.pen, xOf(area, at), y);
+}
+
+function drawReclaim(pen, x, y) {
+  pen.fillStyle = colours.quiet;
+  pen.textAlign = 'center';
+  pen.fillText('◇', x, y);
 }
 
 function drawEvictions(area, evictions, yAt, colour) {
@@ -221,11 +241,11 @@ function drawEvictions(area, evictions, yAt, colour) {
   }
 }
 
-function drawName(area, name, y) {
+function drawName(area, name, y, room = area.left - 10) {
   area.pen.fillStyle = colours.quiet;
   area.pen.textAlign = 'left';
   area.pen.font = SMALL;
-  area.pen.fillText(short(area.pen, name, area.left - 10), 0, y);
+  area.pen.fillText(short(area.pen, name, room), 0, y);
 }
 
 // --- signals ---
@@ -250,18 +270,19 @@ function envelope(area, signal) {
 }
 
 function drawSignal(canvas, signal) {
-  const area = fit(canvas, signal.isTall ? TALL : LOW);
+  const above = aboveChart();
+  const area = fit(canvas, (signal.isTall ? TALL : LOW) + above);
   const {pen} = area;
   const columns = envelope(area, signal);
   let most = 0;
   for (const one of signal.thresholds) most = Math.max(most, one.clear);
   columns.forEach((column) => { if (column) most = Math.max(most, column[1]); });
-  const yOf = (value) => area.height - 5 - value / (most * 1.06 || 1) * (area.height - 12);
+  const yOf = (value) => area.height - 5 - value / (most * 1.06 || 1) * (area.height - 12 - above);
   for (const span of data.active) {
     if (span[0] !== signal.name) continue;
     const [x, end] = [clip(area, xOf(area, span[2])), clip(area, xOf(area, span[3] === null ? data.last : span[3]))];
     pen.fillStyle = colours.shade;
-    if (end >= x && span[2] <= view.to) pen.fillRect(x, 0, Math.max(end - x, 1), area.height);
+    if (end >= x && span[2] <= view.to) pen.fillRect(x, above, Math.max(end - x, 1), area.height - above);
   }
   drawGrid(area);
   drawThresholds(area, signal, yOf);
@@ -269,8 +290,12 @@ function drawSignal(canvas, signal) {
   const valueAt = (at) => signal.values[placeBefore(tickMoments.length, (place) => tickMoments[place], at)] || 0;
   drawEvictions(area, data.evictions.filter((one) => one.signal === signal.name), (one) => yOf(valueAt(one.at)),
     ruleColour());
-  drawName(area, `${signal.isTall ? '▾' : '▸'} ${signal.name}`, 10);
-  if (signal.isTall) drawName(area, `0 to ${amount(most, signal.bytes)}`, 25);
+  const [name, reaches] = [`${signal.isTall ? '▾' : '▸'} ${signal.name}`, `0 to ${amount(most, signal.bytes)}`];
+  if (above) drawName(area, `${name}, ${reaches}`, 8, area.width);
+  else {
+    drawName(area, name, 10);
+    if (signal.isTall) drawName(area, reaches, 25);
+  }
 }
 
 // A line that keeps a value until the next tick, with the whole height between the least and the greatest of a pixel.

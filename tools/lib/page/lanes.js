@@ -1,11 +1,16 @@
 // The rows of pods: a heading, a strip for Ready, a lane for each container. Only the rows in sight are there.
-const HEAD = 27, STRIP = 9, LANE = 19, BAR = 11, BELOW = 10;
+const STRIP = 9, LANE = 19, BAR = 11, BELOW = 10;
 const WEIGHTS = {running: 0, waiting: 1, ended: 2, failed: 3, ready: 0, unready: 1};
 const MARKED = {kill: 3, restart: 1, backoff: 2};
 const rows = {pods: [], tops: [], height: 0, made: new Map(), chosen: -1};
 
+// On a narrow page what a pod came to stands below its name.
+function headHeight() {
+  return narrow.matches ? 43 : 27;
+}
+
 function heightOf(pod) {
-  return HEAD + STRIP + 6 + LANE * pod.containers.length + BELOW;
+  return headHeight() + STRIP + 6 + LANE * pod.containers.length + BELOW;
 }
 
 function placeRows(pods) {
@@ -67,8 +72,8 @@ function makeRow(pod, place) {
 function metaOf(pod) {
   const meta = element('span', undefined, 'meta');
   const bad = [];
-  if (isEvicted(pod)) bad.push(`evicted ${shortMoment((pod.fact || pod.eviction).at, 1)}`);
-  else if (pod.eviction) bad.push('evicted by the rules alone');
+  if (isEvicted(pod)) bad.push(`evicted ${shortMoment((pod.fact || pod.eviction).at, 1)}${evictedFor(pod)}`);
+  else if (pod.eviction) bad.push(`evicted by the rules alone, by ${pod.eviction.signal}`);
   else if (pod.phase === 'Failed') bad.push('failed');
   if (pod.restarts) bad.push(`${pod.restarts} restart${pod.restarts > 1 ? 's' : ''}`);
   const gone = typeof pod.gone === 'number' ? `gone before ${shortMoment(pod.gone, 1)}` : '';
@@ -77,6 +82,11 @@ function metaOf(pod) {
   meta.append(element('span', bad.join(' · '), 'bad'), `${bad.length ? ' · ' : ''}${rest.filter(Boolean).join(' · ')}`);
   meta.title = meta.textContent;
   return meta;
+}
+
+// What a pod was evicted for: in the kubelet's words where it did, else the signal.
+function evictedFor(pod) {
+  return pod.fact ? `: ${pod.fact.why.split(',')[0]}` : ` by ${pod.eviction.signal}`;
 }
 
 function endOf(pod) {
@@ -123,7 +133,7 @@ function laneTop(place) {
 
 function drawRow(row) {
   const {pod} = row;
-  const area = fit(row.canvas, heightOf(pod) - HEAD - 2);
+  const area = fit(row.canvas, heightOf(pod) - headHeight() - 2);
   const drawn = spansOf(pod);
   drawGrid(area);
   drawName(area, 'Ready', 5);
@@ -156,8 +166,35 @@ function drawEnd(area, pod) {
   if (pod.eviction) drawCross(area.pen, x, bottom / 2, 4.5, ruleColour());
 }
 
-// One mark for each five pixels, the weightiest of those that fall there.
+// Marks that stand apart are drawn over the lane; where they are dense a strip below it has their colours, so that none
+// hides it.
+const DENSE = 12, MOST_MARKS = 4;
+
 function drawMarks(area, marks, top) {
+  let run = [];
+  const drawRun = () => {
+    if (run.length > MOST_MARKS) drawStrip(area.pen, run, top);
+    else for (const mark of run) drawMark(area.pen, mark, top);
+    run = [];
+  };
+  for (const mark of markColumns(area, marks)) {
+    if (run.length && mark.x - run[run.length - 1].x >= DENSE) drawRun();
+    run.push(mark);
+  }
+  drawRun();
+}
+
+function drawStrip(pen, run, top) {
+  run.forEach((mark, place) => {
+    const [x, next] = [mark.x, place + 1 < run.length ? run[place + 1].x : mark.x + 5].map(Math.round);
+    pen.fillStyle = {kill: colours.kill, backoff: colours.waiting, restart: colours.quiet}[mark.word];
+    pen.fillRect(x - 2, top + BAR + 1, next - x, 4);
+  });
+}
+
+// One mark for each five pixels, the weightiest of those that fall there.
+function markColumns(area, marks) {
+  const found = [];
   const first = placeBefore(marks.length, (place) => marks[place].at, view.from - 1) + 1;
   let kept = null;
   for (let place = first; place < marks.length && marks[place].at <= view.to; place++) {
@@ -166,10 +203,10 @@ function drawMarks(area, marks, top) {
       if (MARKED[marks[place].word] > MARKED[kept.word]) kept.word = marks[place].word;
       continue;
     }
-    if (kept) drawMark(area.pen, kept, top);
     kept = {x, word: marks[place].word};
+    found.push(kept);
   }
-  if (kept) drawMark(area.pen, kept, top);
+  return found;
 }
 
 function drawMark(pen, mark, top) {

@@ -2,7 +2,7 @@
 const shown = {filter: '', chip: 'all', order: 'worst'};
 const CHIPS = [
   ['all', 'all', () => true], ['evicted', 'evicted', isEvicted],
-  ['restarted', 'restarted', (pod) => pod.restarts > 0], ['killed', 'killed by a probe', (pod) => pod.kills > 0],
+  ['restarted', 'restarted', (pod) => pod.restarts > 0], ['killed', 'kill ordered by a probe', (pod) => pod.kills > 0],
   ['unready', 'not ready at the end', (pod) => !pod.isReady && pod.phase !== 'Succeeded'],
 ];
 const byNumber = (a, b) => a.number - b.number;
@@ -12,9 +12,14 @@ const LEGEND = [
   ['waiting', 'waiting'], ['running', 'running'], ['ended', 'ended with 0'], ['failed', 'ended otherwise'],
   ['ready', 'ready'], ['unready', 'not ready'], ['pressure', 'pressure'], ['shade', 'threshold active'],
 ];
-const MARKS = [['▼', 'kill ordered', 'kill'], ['○', 'restart', 'mark'], ['□', 'restart backed off', 'mark'],
-  ['✕', 'evicted', 'failed'], ...(data.kubelet ? [['✕', 'by the rules', 'quiet']] : []),
-  ...(data.reclaims.length ? [['◇', 'reclaimed', 'quiet']] : [])];
+// Signs of the legend are drawn as those of the lanes are.
+const ofMark = (word) => (pen) => drawMark(pen, {word, x: 8}, 8 - BAR / 2);
+const ofStrip = (pen) => drawStrip(pen, ['restart', 'backoff', 'kill'].map((word, at) => ({word, x: 3 + 5 * at})), -6);
+const SIGNS = [['kill ordered', ofMark('kill')], ['restart', ofMark('restart')],
+  ['restart backed off', ofMark('backoff')], ['many of these', ofStrip],
+  ['evicted', (pen) => drawCross(pen, 8, 8, 4.5, colours.failed)],
+  ...(data.kubelet ? [['by the rules', (pen) => drawCross(pen, 8, 8, 4.5, colours.quiet)]] : []),
+  ...(data.reclaims.length ? [['reclaimed', (pen) => drawReclaim(pen, 8, 8)]] : [])];
 const byId = (name) => document.getElementById(name);
 let asked = 0, askedAll = false;
 
@@ -30,6 +35,7 @@ function draw(all) {
       document.documentElement.style.setProperty('--head', `${document.querySelector('header').offsetHeight}px`);
       drawAxis();
       drawCharts();
+      drawLegend();
       describe();
     }
     showRows(askedAll);
@@ -51,7 +57,26 @@ function refilter() {
   const pods = data.podList.filter((pod) => chip(pod) && words.every((word) => pod.key.toLowerCase().includes(word)));
   placeRows(pods.sort(ORDERS[shown.order]));
   byId('shown').textContent = `${pods.length} of ${data.podList.length} pods`;
+  sayNone(pods.length);
   draw(true);
+}
+
+// Why no pod is shown, and the way back.
+function sayNone(count) {
+  const named = shown.filter.trim() ? `has “${shown.filter.trim()}” in its name` : '';
+  const chosen = shown.chip === 'all' ? '' : `is among “${CHIPS.find((one) => one[0] === shown.chip)[1]}”`;
+  byId('none').hidden = count > 0;
+  if (count > 0) return;
+  if (!data.podList.length) byId('none').textContent = 'The report has no pod.';
+  else {
+    byId('none').replaceChildren(`No pod ${[named, chosen].filter(Boolean).join(' and ')}.`,
+      pressable('show all pods', showAll));
+  }
+}
+
+function showAll() {
+  byId('filter').value = shown.filter = '';
+  byId('chips').firstChild.click();
 }
 
 // --- the view ---
@@ -136,16 +161,45 @@ function plotOf(target) {
   return {canvas: target, area, row, chart: charts.find((one) => one.canvas === target)};
 }
 
-let drag = null;
+let drag = null, pinch = null;
+const fingers = new Map();
+
+// Two fingers keep the moments that they were put on.
+function startPinch(plot) {
+  const left = plot.canvas.getBoundingClientRect().left;
+  endTouch();
+  pinch = {area: plot.area, left, at: [...fingers.values()].map((x) => momentAt(plot.area, x - left))};
+}
+
+function movePinch() {
+  const {area, left, at} = pinch;
+  const [a, b] = [...fingers.values()].map((x) => x - left - area.left);
+  const scale = (at[1] - at[0]) / (b - a);
+  if (Math.abs(b - a) < 10 || scale <= 0) return;
+  const from = at[0] - a * scale;
+  zoom(from, from + (area.right - area.left) * scale);
+}
+
+function endTouch() {
+  drag = null;
+  byId('band').hidden = true;
+}
 
 function startDrag(event) {
   const plot = plotOf(event.target);
   if (!plot || event.button !== 0) return;
+  if (event.pointerType === 'touch') {
+    fingers.set(event.pointerId, event.clientX);
+    if (fingers.size === 2) return startPinch(plot);
+  }
+  if (pinch) return;
   drag = {plot, from: event.clientX, to: event.clientX};
   event.target.setPointerCapture(event.pointerId);
 }
 
 function moveDrag(event) {
+  if (fingers.has(event.pointerId)) fingers.set(event.pointerId, event.clientX);
+  if (pinch) return movePinch();
   if (!drag) return tell(event);
   drag.to = event.clientX;
   const band = byId('band');
@@ -156,6 +210,11 @@ function moveDrag(event) {
 }
 
 function endDrag(event) {
+  fingers.delete(event.pointerId);
+  if (pinch) {
+    if (fingers.size < 2) pinch = null;
+    return;
+  }
   if (!drag) return;
   const {plot, from, to} = drag;
   drag = null;
@@ -181,7 +240,7 @@ function click(plot, event) {
     const near = plot.chart.hits().map((one) => [Math.abs(xOf(plot.area, one.at) - x), one])
       .filter((one) => one[0] < 8).sort((a, b) => a[0] - b[0]);
     if (near.length) openEviction(near[0][1]);
-    else if (plot.chart.signal && x < plot.area.left) {
+    else if (plot.chart.signal && (x < plot.area.left || y < aboveChart())) {
       plot.chart.signal.isTall = !plot.chart.signal.isTall;
       draw(true);
     }
@@ -256,12 +315,16 @@ function makeLegend() {
     item.append(patch, words);
     byId('legend').append(item);
   }
-  for (const [sign, words, colour] of MARKS) {
-    const [item, mark] = [element('span'), element('b', sign)];
-    mark.style.color = `var(--${colour})`;
-    item.append(mark, words);
+  for (const [words] of SIGNS) {
+    const [item, sign] = [element('span'), element('canvas')];
+    sign.setAttribute('aria-hidden', 'true');
+    item.append(sign, words);
     byId('legend').append(item);
   }
+}
+
+function drawLegend() {
+  byId('legend').querySelectorAll('canvas').forEach((canvas, place) => SIGNS[place][1](fit(canvas, 16).pen));
 }
 
 function begin() {
@@ -274,13 +337,20 @@ function begin() {
   byId('filter').addEventListener('input', (event) => { shown.filter = event.target.value; refilter(); });
   byId('order').addEventListener('change', (event) => { shown.order = event.target.value; refilter(); });
   byId('whole').addEventListener('click', PRESSED[0]);
+  byId('in').addEventListener('click', PRESSED['+']);
+  byId('out').addEventListener('click', PRESSED['-']);
   byId('clock').addEventListener('click', PRESSED.u);
   const isDark = () => document.documentElement.dataset.theme === 'dark';
   byId('theme').addEventListener('click', () => setTheme(isDark() ? 'light' : 'dark'));
   byId('keys').addEventListener('click', openKeys);
   for (const [name, done] of [['pointerdown', startDrag], ['pointermove', moveDrag], ['pointerup', endDrag],
     ['keydown', press]]) document.addEventListener(name, done);
-  document.addEventListener('pointercancel', () => { drag = null; byId('band').hidden = true; });
+  document.addEventListener('pointercancel', (event) => {
+    fingers.delete(event.pointerId);
+    pinch = null;
+    endTouch();
+  });
+  narrow.addEventListener('change', refilter);
   document.addEventListener('pointerleave', () => { byId('tip').hidden = true; });
   window.addEventListener('scroll', () => draw(false), {passive: true});
   window.addEventListener('resize', () => draw(true));

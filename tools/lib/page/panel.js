@@ -68,12 +68,19 @@ function openStory(pod) {
     [kind, value, since === null ? '-' : moment(since), reason || '-']);
   openPanel(pod.name, [
     ...kubeletWords(pod).map((words) => element('p', words)),
-    said(`${byRules}${pod.phase}${pod.reason ? ` (${pod.reason})` : ''}, ${pod.qos}, ${first}${ended}${gone}; `
+    said(`${byRules}${pod.phase}${reasonWords(pod)}, ${pod.qos}, ${first}${ended}${gone}; `
       + `not ready ${seconds(pod.unready)} in all`),
-    element('h2', containersTitle(pod)), tableOf(['container', 'state', 'code', 'restarts', 'ready', 'started'], restarts),
+    element('h2', containersTitle(pod)),
+    tableOf(['container', 'state', 'code', 'restarts', 'ready', 'started'], restarts),
     element('h2', 'Conditions'), tableOf(['condition', 'value', 'since', 'reason'], conditions),
     element('h2', 'Events'), ...eventList(pod, pod.list, false),
   ]);
+}
+
+// Of an eviction by the rules the reason names its threshold.
+function reasonWords(pod) {
+  if (!pod.reason) return '';
+  return ` (${pod.reason}${pod.eviction ? ` by ${pod.eviction.signal} ${pod.eviction.kind}` : ''})`;
 }
 
 // What still ran as the pod ended or went stands as it was seen then.
@@ -278,7 +285,8 @@ function openKeys() {
     keys.split(', ').forEach((key) => cell.append(element('kbd', key), ' '));
     row.append(element('td', what));
   }
-  openPanel('Keys', [made, said('Drag over a lane or a chart to zoom. A click on a pod opens its story, one on a mark '
-    + 'or a cross the why of the events there. A mark stands for all events within five pixels. A click on the name of '
-    + 'a signal makes its chart tall or low.')]);
+  openPanel('Keys', [made, said('Drag over a lane or a chart to zoom, or pinch it. A click on a pod opens its '
+    + 'story, one on a mark or a cross the why of the events there. A mark stands for all events within five pixels; '
+    + 'where marks are dense, a strip below the lane has their colours. A click on the name of a signal makes its '
+    + 'chart tall or low.')]);
 }
