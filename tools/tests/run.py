@@ -12,6 +12,7 @@ import time
 import xml.dom.minidom
 
 sys.dont_write_bytecode = True
+import big_node
 import checks
 import test_command
 import test_connections
@@ -96,6 +97,15 @@ def test_pictures():
     titles = [text.firstChild.data for text in xml.dom.minidom.parseString(one).getElementsByTagName("text")
               if text.getAttribute("class") == "pod"]
     expect("timeline of one pod", titles, ["shop/web: Running"])
+    tall = xml.dom.minidom.parseString(run([f"{TOOLS}/timeline"], "".join(big_node.report_of(12, 4000, 12)))[1])
+    above = [text.firstChild.data for text in tall.getElementsByTagName("text") if text.getAttribute("y") == "38.0"]
+    expect("timeline of many pods: moments above too", above, ["0", "5000", "10000", "15000", "20000", "25000", "30000",
+                                                               "35000", "40000"])
+    strips = [title.firstChild.data for title in tall.getElementsByTagName("title")
+              if " restarts, " in title.firstChild.data]
+    expect("timeline of many restarts: a strip", strips[0], "app: 97 restarts, 400 to 39760")
+    expect("timeline of many restarts: no mark of its own", [circle for circle in tall.getElementsByTagName("circle")
+                                                            if circle.firstChild.firstChild.data != "restart"], [])
     odd = xml.dom.minidom.parseString(run([f"{TOOLS}/timeline"], report.replace("worker-3", "a&b<c>\"d'")
                                           .replace("shop/web", "shop/<i>&amp;"))[1])
     texts = [text.firstChild.data for text in odd.getElementsByTagName("text")]
