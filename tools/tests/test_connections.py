@@ -152,6 +152,8 @@ def test_refusals():
         ("a certificate of nobody", kubelet.url, token, "self-signed certificate"),
         ("no such file of an authority", kubelet.url, f'{token}cacert = "/nonexistent"\n', "No such file"),
         ("a port where nobody is", closed.url, f"{token}insecure\n", "gave no answer: Connection refused"),
+        ("a port that there is not", "https://127.0.0.1:99999", token, "gave no answer: Port out of range"),
+        ("a token that can't be sent", kubelet.url, 'header = "Authorization: \u2026"\ninsecure\n', "gave no answer: "),
     ):
         words = ["--node", "worker-3", "--kubelet", url, "--curl", place.curl_file(text)]
         status, trace, said = run([f"{TOOLS}/record", *words], **place.settings)

@@ -20,6 +20,8 @@ from urllib.parse import urlsplit
 from .sources import ENDPOINT_SECONDS, Failed, Sources
 
 PART_BYTES = 1 << 16
+# what an answer fails with: of the connection, and of an address or a header that can't be sent
+FAULTS = (http.client.HTTPException, OSError, ValueError)
 # the longest answer that is read
 MOST_BYTES = 1 << 28
 LINE = re.compile(r"(?:--)?(?P<name>[a-z-]+)(?:\s*[=:]\s*|\s+|$)(?P<value>.*)|-(?P<letter>[A-Za-z])\s*(?P<rest>.*)")
@@ -94,14 +96,14 @@ class Kept:
         is_kept = self.connection is not None
         try:
             return self.asked(path, headers)
-        except (http.client.HTTPException, OSError) as error:
+        except FAULTS as error:
             self.close()
             # the other side may have closed what was idle
             if not is_kept or isinstance(error, TimeoutError):
                 raise self.failed(error) from None
         try:
             return self.asked(path, headers)
-        except (http.client.HTTPException, OSError) as error:
+        except FAULTS as error:
             raise self.failed(error) from None
 
     def failed(self, error):
