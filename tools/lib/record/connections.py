@@ -256,9 +256,14 @@ class Proxy:
             self.close()
             raise
 
+    def listens(self):
+        """Whether it takes a connection: its socket is there some moments before that."""
+        with socket.socket(socket.AF_UNIX, socket.SOCK_STREAM) as tried:
+            return tried.connect_ex(self.socket()) == 0
+
     def wait_for_socket(self):
         until = time.monotonic() + ENDPOINT_SECONDS
-        while not os.path.exists(self.socket()):
+        while not self.listens():
             if self.process.poll() is not None:
                 said = self.process.stderr.read().decode("utf-8", "replace").split("\n")[0]
                 raise Failed(f"kubectl proxy failed with status {self.process.returncode}: {said}")
