@@ -17,7 +17,7 @@ pub returns-in-Ok-clause-whole : goal.returns-in-Ok-clause-whole
 returns-in-Ok-clause-whole g c = λ config after.
     let trace = c.args.trace in
     let new =
-        subst (λ (ps : List PodSpec). IsAfter trace.node ps [] c.in-Ok.node) c.new.ensures.items c.in-Ok.ensures in
+    subst (λ (ps : List PodSpec). IsAfter trace.node ps [] c.in-Ok.node) c.new.ensures.items c.in-Ok.ensures in
     subst (λ (ts : List TickObs). AreWhole config.version ts) (sym c.into_vec-in-Ok.ensures)
     (subst (λ (of : NodeConfig). AreWhole of.version trace.ticks) (one_config _ config _ new after)
     (are_whole trace.node.version trace.pods trace.arrivals trace.departures trace.ticks c.requires.shape
