@@ -31,7 +31,7 @@ class Kubelet(ThreadingHTTPServer):
 
     def __init__(self, folder, answers_each=10 ** 9):
         super().__init__(("127.0.0.1", 0), Handler)
-        self.connections, self.answers, self.answers_each, self.token = 0, 0, answers_each, TOKEN
+        self.connections, self.answers, self.answers_each, self.tokens = 0, 0, answers_each, {TOKEN}
         context = ssl.SSLContext(ssl.PROTOCOL_TLS_SERVER)
         context.load_cert_chain(f"{folder}/crt", f"{folder}/key")
         self.socket = context.wrap_socket(self.socket, server_side=True, do_handshake_on_connect=False)
@@ -58,7 +58,7 @@ class Handler(BaseHTTPRequestHandler):
     def do_GET(self):
         self.server.answers += 1
         self.given += 1
-        if self.headers["Authorization"] != self.server.token:
+        if self.headers["Authorization"] not in self.server.tokens:
             self.answer(401, b"Unauthorized")
         else:
             self.answer(200, read(f"{ANSWERS}/{PATHS[self.path]}").encode())
@@ -89,8 +89,10 @@ class Place:
                          "RUN": self.folder, "TMPDIR": self.folder}
 
     def curl_file(self, text):
-        with open(f"{self.folder}/curl", "w", encoding="utf-8") as file:
+        with open(f"{self.folder}/curl.new", "w", encoding="utf-8") as file:
             file.write(text)
+        # whole at once, as it is read again while it is used
+        os.replace(f"{self.folder}/curl.new", f"{self.folder}/curl")
         return f"{self.folder}/curl"
 
     def asked(self):
@@ -129,7 +131,7 @@ def test_kubelet():
         words = ["--node", "worker-3", "--standard", "--kubelet", kubelet.url, "--curl", curl, "--for", "3"]
         status, trace, said = run([f"{TOOLS}/record", *words], **place.settings)
         expect(f"kubelet, {name}", (status, kinds(trace)[:3], said), (0, ["node", "pod", "tick"], ""))
-        expect(f"kubelet, {name}: its answers", kubelet.answers >= 6, True)
+        expect(f"kubelet, {name}: its answers", kubelet.answers >= 5, True)
         many = kubelet.answers if answers_each == 1 else 1
         expect(f"kubelet, {name}: connections", kubelet.connections, many)
         expect(f"kubelet, {name}: commands", (place.asked()["crictl"] > 0, place.asked()["curl"]), (True, 0))
@@ -197,8 +199,11 @@ def test_a_token_that_changes():
     process = subprocess.Popen([f"{TOOLS}/record", *words], env=settings, stdout=subprocess.PIPE,
                                stderr=subprocess.PIPE)
     first = process.stdout.readline().decode()
-    kubelet.token = "Bearer of-the-next-hour"
-    place.curl_file(f'header = "Authorization: {kubelet.token}"\ninsecure\n')
+    later = "Bearer of-the-next-hour"
+    kubelet.tokens.add(later)
+    place.curl_file(f'header = "Authorization: {later}"\ninsecure\n')
+    time.sleep(1.5)
+    kubelet.tokens.remove(TOKEN)
     out, said = process.communicate(timeout=LONGEST)
     expect("a token that changes", (process.returncode, kinds(first + out.decode())[:3], said.decode()),
            (0, ["node", "pod", "tick"], ""))
