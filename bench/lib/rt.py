@@ -88,27 +88,27 @@ def trait_of(text, name):
 
 
 def type_of(text, name):
-    """A struct or an enum, with the types of its fields, or with what contracts see it as in place of these."""
+    """A struct or an enum: with the types of its fields, or where contracts see it by a value, with that alone."""
     lines = text.split("\n")
     first = found_line(lines, rf"(pub(\(crate\))? )?(struct|enum) {name}\b")
     if first is None:
         return None
     comment, kept, last = item_at(lines, first, re.compile(r"\}|.*;$"))
     whole = "\n".join([*kept, last])
+    if value := value_of(lines, name):
+        head = re.match(r"[^{(;]*[^{(; ]", whole)[0]
+        return Item(name, comment, f"{head} {{ .. }}\n// contracts: ghost Value = {{ {value} }}", first + 1,
+                    Walk().take(tokens_of(value)), [])
     # the name of a variant is no type
     fields = re.sub(r"//.*|(?m:^\s+[A-Z]\w*(?=\s*[,({=]|$))", "", whole)
     types = [word for word in re.findall(r"\b[A-Z]\w*", fields) if word != name]
-    names, model = model_of(lines, name)
-    return Item(name, comment, whole + model, first + 1, names, [] if model else list(dict.fromkeys(types)))
+    return Item(name, comment, whole, first + 1, [], list(dict.fromkeys(types)))
 
 
-def model_of(lines, name):
-    """What contracts see a type as: the names of its view, and the text that says so; nothing without a view."""
+def value_of(lines, name):
+    """What contracts see a type as; nothing where they see its fields."""
     first = found_line(lines, rf"impl.*\bModel for {name}\b")
     if first is None:
-        return [], ""
+        return None
     _, kept, _ = item_at(lines, first, re.compile(r"\}"))
-    text = "\n".join(kept)
-    shown = [(word, " ".join(term.split())) for word in ("Value", "view") for term in braced(text, rf"ghost {word} = ")]
-    names = [name for _, term in shown for name in Walk().take(tokens_of(term))]
-    return names, "".join(f"\n// contracts: ghost {word} = {{ {term} }}" for word, term in shown)
+    return next(" ".join(term.split()) for term in braced("\n".join(kept), r"ghost Value = "))
