@@ -1,4 +1,19 @@
 //! What happens on a node: its events, tick after tick, and their text.
+//!
+//! An [`Event`] has its moment and what happened: to a container of a pod, to a pod, or to the node. Those of a tick
+//! have one order, which the report has too:
+//!
+//! ```text
+//! of each pod, by number:   its containers' events, by number; then its phase
+//! of the node:              thresholds; then conditions
+//! of the eviction:          one, if a pod was evicted
+//! ```
+//!
+//! `specs/Events.antt` defines the events of a list of ticks and its evictions over the whole history (`AreEvents`):
+//! the parts of the ticks, one behind the other, each made by the definitions of `pod_state`, `node_signals` and
+//! `eviction`. By [`laws`] ticks with their evictions have one such list and no other. [`add_events`] adds the events
+//! of one more tick to a list, from the pieces that took it; `specs/Text.antt` says what an event reads like, and
+//! [`event_text`] writes it.
 #![tactic(auto)]
 
 mod event;
