@@ -50,7 +50,7 @@ fn add_listings(text: &mut String, items: Option<TapeItems<'_, '_>>) -> Result<b
     Ok(false)
 }
 
-/// The same of the results of its probes.
+/// Adds the results of a pod's probes, and says whether each was read.
 fn add_results(text: &mut String, items: Option<TapeItems<'_, '_>>) -> Result<bool, AllocError> {
     let Some(mut items) = items else {
         return Ok(true);
@@ -67,7 +67,7 @@ fn add_results(text: &mut String, items: Option<TapeItems<'_, '_>>) -> Result<bo
     Ok(false)
 }
 
-/// The same of an entry.
+/// Adds an entry, and says whether it was read whole.
 fn add_entry(text: &mut String, item: &TapeValue<'_, '_>) -> Result<bool, AllocError> {
     let Some(entry) = entry_text(item) else {
         return Ok(false);
@@ -80,7 +80,7 @@ fn add_entry(text: &mut String, item: &TapeValue<'_, '_>) -> Result<bool, AllocE
     Ok(true)
 }
 
-/// The same of the entries of a tick line.
+/// Adds the entries of a tick line, and says whether each was read.
 fn add_entries(text: &mut String, items: Option<TapeItems<'_, '_>>) -> Result<bool, AllocError> {
     let Some(mut items) = items else {
         return Ok(true);

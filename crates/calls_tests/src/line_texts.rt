@@ -36,7 +36,7 @@ pub(crate) fn line_of(
 }
 
 /// Places of a tick line for a value: what stands before it, and behind it.
-pub(crate) const PLACES: [(&str, &str); 35] = [
+pub(crate) const PLACES: [(&str, &str); 37] = [
     (r#"{"kind":"#, r#","at":7}"#),
     (r#"{"at":7,"kind":"tick","kind":"#, "}"),
     (r#"{"kind":"tick","at":"#, "}"),
@@ -98,6 +98,14 @@ pub(crate) const PLACES: [(&str, &str); 35] = [
     (
         r#"{"kind":"tick","at":7,"pods":[{"pod":"a","usage":{"inodes":8,"pids":"#,
         "}}]}",
+    ),
+    (
+        r#"{"kind":"tick","at":7,"pods":[{"pod":"a","unsampled":"#,
+        "}]}",
+    ),
+    (
+        r#"{"kind":"tick","at":99,"pods":[{"pod":"a","unsampled":"#,
+        r#","usage":{"pids":2},"unsampled":true}]}"#,
     ),
     (r#"{"kind":"tick","at":99,"signals":"#, "}"),
     (

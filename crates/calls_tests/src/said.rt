@@ -6,7 +6,7 @@ use observations::Usage;
 use quantity::Quantity;
 use signals::BySignal;
 use std::alloc::{AllocError, Global};
-use tick_lines::{ListedInstance, Listing, ProbeResult, TickEntry, TickLine};
+use tick_lines::{ListedInstance, Listing, ProbeResult, TickEntry, TickLine, UnsampledMember};
 
 pub(crate) fn add_moment(text: &mut String, at: Option<u64>) -> Result<(), AllocError> {
     write!(text, "tick {at:?}")
@@ -42,6 +42,14 @@ pub(crate) fn add_usage(text: &mut String, usage: Option<Usage>) -> Result<(), A
     write!(text, "\n  uses {usage:?}")
 }
 
+/// Adds what an entry says of a missing sample, where it says something: the faster reader reads no such entry.
+fn add_unsampled(text: &mut String, unsampled: UnsampledMember) -> Result<(), AllocError> {
+    if unsampled == UnsampledMember::No {
+        return Ok(());
+    }
+    write!(text, "\n  unsampled {unsampled:?}")
+}
+
 pub(crate) fn add_samples(
     text: &mut String,
     signals: BySignal<Option<Quantity>>,
@@ -75,6 +83,7 @@ fn add_entries(text: &mut String, entries: &[TickEntry]) -> Result<(), AllocErro
         add_listings(text, entry.listings.as_slice())?;
         add_results(text, entry.results.as_slice())?;
         add_usage(text, entry.usage)?;
+        add_unsampled(text, entry.unsampled)?;
     }
     Ok(())
 }

@@ -42,7 +42,7 @@ reason_of : (config : NodeConfig) (pods : List PodSpec) (before : List TickObs) 
     → IsEvictionOfTick config pods before tick evictions (Some eviction)
     → Reason config pods before tick evictions eviction
 reason_of config pods before tick evictions eviction round =
-    unpaused (is_paused config tick.at evictions) round.served round.is_served round.is_for
+    unpaused (is_paused config tick.at (before ++ tick ∷ []) evictions) round.served round.is_served round.is_for
   where
     of : (key : ThresholdKey) → IsServed config.eviction before tick (Some key) → (victim : Option ℕ)
         → IsVictim key.signal config.has_dedicated_imagefs (IsCandidate pods before tick evictions) victim

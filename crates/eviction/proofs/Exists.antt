@@ -150,7 +150,7 @@ some_round : (config : NodeConfig) (pods : List PodSpec) (before : List TickObs)
     → (e : Option Eviction) × IsEvictionOfTick config pods before tick evictions e
 some_round config pods before tick evictions =
     let served = some_served config.eviction before tick in
-    let found = some_eviction (unless_paused (is_paused config tick.at evictions) served.0) in
+    let found = some_eviction (unless_paused (is_paused config tick.at (before ++ tick ∷ []) evictions) served.0) in
     (found.0, record { served = served.0; is_served = served.1; is_for = found.1 })
   where
     Candidate : ℕ → PodStatus → Type 0

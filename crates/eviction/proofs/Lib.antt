@@ -5,4 +5,5 @@ pub mod Evicted
 pub mod Statuses
 pub mod Exists
 pub mod Paused
-pub mod Latest
+pub mod Pausing
+pub mod Ended

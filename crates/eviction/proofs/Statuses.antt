@@ -8,7 +8,6 @@ use Rattle.histories.specs.Histories.{HoldsAt}
 use Rattle.histories.proofs.Decide.{test_of}
 use Rattle.histories.proofs.Found.{first_or_none}
 use Rattle.manifest.specs.declared.pod.PodSpec.{PodSpec}
-use Rattle.observations.specs.declared.usage.Usage.{Usage}
 use Rattle.qos.proofs.ClassLemmas.{some_class}
 use Rattle.containers.specs.declared.status.ContainerStatus.{ContainerStatus}
 use Rattle.pod_state.specs.Pods.{PodTick, EndsPod}
@@ -16,6 +15,7 @@ use Rattle.pod_state.specs.Containers.{AreStatusesOf}
 use Rattle.pod_state.proofs.FoundLemmas.{some_end}
 use Rattle.pod_state.proofs.FoundLemmas as found
 use Rattle.pod_piece.specs.declared.piece.EvictionRecord.{EvictionRecord}
+use Rattle.pod_piece.specs.declared.status.NewestUsage.{NewestUsage}
 use Rattle.pod_piece.specs.Piece.{place_of}
 use Rattle.pod_piece.specs.Status.{requests_of}
 use Rattle.pod_piece.specs.Usage.{IsUsageOf, nothing}
@@ -38,19 +38,19 @@ some_vector xs few = (
 )
 
 -- what a pod uses, after the ticks that follow
-usage_after : (pod : PodSpec) (evicted : Option ℕ) (later h : List PodTick) (usage : Usage)
-    → IsUsageOf pod evicted h usage → (u : Usage) × IsUsageOf pod evicted (h ++ later) u
+usage_after : (pod : PodSpec) (evicted : Option ℕ) (later h : List PodTick) (usage : NewestUsage)
+    → IsUsageOf pod evicted h usage → (u : NewestUsage) × IsUsageOf pod evicted (h ++ later) u
 usage_after pod evicted [] h usage is =
     let P : List PodTick → Type 0 = λ k. IsUsageOf pod evicted k usage in
     (usage, subst P (sym (append-nil h)) is)
 usage_after pod evicted (x ∷ later) h usage is =
-    let P : List PodTick → Type 0 = λ k. (u : Usage) × IsUsageOf pod evicted k u in
+    let P : List PodTick → Type 0 = λ k. (u : NewestUsage) × IsUsageOf pod evicted k u in
     let ended = test_of (first_or_none (HoldsAt (EndsPod pod evicted) h) (some_end pod evicted h)) in
     let end = some_end pod evicted (h ++ x ∷ []) in
     let next = usage_more pod evicted end.0 h x usage ended.0 is ended.1 end.1 in
     subst P (append_assoc h (x ∷ []) later) (usage_after pod evicted later (h ++ x ∷ []) _ next)
 
-some_usage : (pod : PodSpec) (evicted : Option ℕ) (h : List PodTick) → (u : Usage) × IsUsageOf pod evicted h u
+some_usage : (pod : PodSpec) (evicted : Option ℕ) (h : List PodTick) → (u : NewestUsage) × IsUsageOf pod evicted h u
 some_usage pod evicted h = usage_after pod evicted h [] nothing (no_usage pod evicted)
 
 pub some_status : SomeStatus

@@ -1,5 +1,5 @@
 -- There is one list of evictions at most.
-use Rattle.std.proofs.Common.{◌≡◌, ℕ, zero, suc, ◌<◌, List, [], ◌∷◌, length, take, Option, Some, None, refl, sym}
+use Rattle.std.proofs.Common.{◌≡◌, ℕ, zero, suc, ◌<◌, List, [], ◌∷◌, ◌++◌, length, take, Option, Some, None, refl, sym}
 use Rattle.std.proofs.Common.{ap, subst, ◌∙◌, arith}
 use Rattle.std.specs.Prelude.{slice_get, option_and_then}
 use Rattle.std.proofs.lemmas.Option.{slice_get_within}
@@ -79,10 +79,11 @@ pub round_unique : (config : NodeConfig) (pods : List PodSpec) (before : List Ti
     → one ≡ other
 round_unique config pods before tick evictions one other v w =
     let P : Option ThresholdKey → Type 0 = λ served. IsEvictionFor config pods before tick evictions
-    (unless_paused (is_paused config tick.at evictions) served) other in
+    (unless_paused (is_paused config tick.at (before ++ tick ∷ []) evictions) served) other in
     let same : w.served ≡ v.served = served_unique config before tick w.served v.served w.is_served v.is_served in
-    eviction_unique config pods before tick evictions (unless_paused (is_paused config tick.at evictions) v.served)
-    one other v.is_for (subst P same w.is_for)
+    let paused = is_paused config tick.at (before ++ tick ∷ []) evictions in
+    eviction_unique config pods before tick evictions (unless_paused paused v.served) one other v.is_for
+    (subst P same w.is_for)
 
 pub one_replay : OneReplay
 one_replay config pods ticks one other v w = same_lists one other (v.as_many ∙ sym w.as_many) (λ t before x y e f.

@@ -1,6 +1,6 @@
 -- The statements of the laws.
-use Rattle.std.specs.Prelude.{◌≡◌, ◌^◌, ◌<◌, ◌≤◌, ◌-◌, ℕ, List, length, [], ◌∷◌, ◌++◌, take, slice_get, Option, Some}
-use Rattle.std.specs.Prelude.{IsSome}
+use Rattle.std.specs.Prelude.{◌≡◌, ◌⊎◌, ◌^◌, ◌<◌, ◌≤◌, ◌-◌, ℕ, true, List, length, [], ◌∷◌, ◌++◌, take, slice_get}
+use Rattle.std.specs.Prelude.{Option, Some, IsSome}
 use Rattle.manifest.specs.declared.pod.PodSpec.{PodSpec}
 use Rattle.observations.specs.declared.tick.TickObs.{TickObs}
 use Rattle.observations.specs.Observations.{shown_of}
@@ -13,7 +13,7 @@ use Rattle.pod_piece.specs.declared.status.PodStatus.{PodStatus}
 use Rattle.pod_piece.specs.Piece.{place_of}
 use Rattle.pod_piece.specs.Status.{IsStatusAfter}
 use Rattle.eviction.specs.declared.eviction.Eviction.{Eviction}
-use Rattle.eviction.specs.Replay.{pod_ticks, own_eviction, pause_in, IsReplay}
+use Rattle.eviction.specs.Replay.{pod_ticks, own_eviction, pause_in, is_over_in, IsReplay}
 
 -- a pod of as many containers as a status can show has a status, whenever it is evicted and whatever
 -- its ticks are
@@ -86,11 +86,21 @@ abbrev pub ServedAlone : Type 0
 ServedAlone =
     OfEachEviction (λ config pods before tick evictions eviction. ServesOne config before tick eviction)
 
--- between two evictions at least the node's pause passes
+-- some tick after this place, up to that one, has the pod of the number ended or gone
+pub record IsOverBetween (ticks : List TickObs) (t u : ℕ) (pod : ℕ) : Type 0 where
+  pub place : ℕ
+  pub after : t < place
+  pub until : place ≤ u
+  pub tick : TickObs
+  pub at : slice_get ticks place ≡ Some tick
+  pub is_over : is_over_in pod tick ≡ true
+
+-- between two evictions at least the node's pause passes; or, where it ends with the evicted pod, that one ends or goes
 abbrev pub PausedBetween : Type 0
 PausedBetween =
     (config : NodeConfig) (pods : List PodSpec) (ticks : List TickObs) (evictions : List (Option Eviction))
     (t u : ℕ) (one other : Eviction)
     → IsReplay config pods ticks evictions → t < u
     → slice_get evictions t ≡ Some (Some one) → slice_get evictions u ≡ Some (Some other)
-    → pause_in config ≤ other.order.at - one.order.at
+    → (pause_in config ≤ other.order.at - one.order.at)
+    ⊎ ((config.pauses_until_gone ≡ true) × IsOverBetween ticks t u one.pod)

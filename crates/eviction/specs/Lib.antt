@@ -1,3 +1,3 @@
 pub mod Replay
 pub mod Laws
-pub mod Latest
+pub mod Pausing

@@ -3,13 +3,17 @@
 -- its own and by the evictions before it; that one pod at most is evicted in a tick is this profile's
 -- rule. A tick is named by its place, a pod by its number.
 use Rattle.std.specs.Prelude.{◌≡◌, ◌==◌, ℕ, suc, List, [], ◌∷◌, ◌++◌, length, map, take, slice_get, Option, Some, None}
-use Rattle.std.specs.Prelude.{Bool, true, false, ◌-◌, nat_lt, option_map, IsSome, if◌then◌else◌, min}
-use Rattle.std.specs.List.{list_any}
+use Rattle.std.specs.Prelude.{Bool, true, false, ◌-◌, ◌&&◌, ◌||◌, not, nat_lt, option_map, IsSome, if◌then◌else◌, min}
+use Rattle.std.specs.List.{list_all, list_any}
 use Rattle.manifest.specs.declared.pod.PodSpec.{PodSpec}
 use Rattle.signals.specs.declared.threshold.ThresholdKind.{ThresholdKind}
 use Rattle.signals.specs.declared.threshold.ThresholdKind.TheVariants.{Hard, Soft}
+use Rattle.observations.specs.declared.container.ContainerObs.{ContainerObs}
+use Rattle.observations.specs.Pods.{PodObs}
 use Rattle.observations.specs.declared.tick.TickObs.{TickObs}
 use Rattle.observations.specs.Observations.{shown_of, own_ticks}
+use Rattle.state_diff.specs.declared.seen.Seen.{Seen}
+use Rattle.state_diff.specs.States.{is_exited}
 use Rattle.node_config.specs.declared.node.NodeConfig.{NodeConfig}
 use Rattle.node_config.specs.declared.node.Version.{Version}
 use Rattle.node_config.specs.declared.node.Version.TheVariants.{One, Two, Three}
@@ -110,15 +114,38 @@ pause_by Three pause = pause
 abbrev pub pause_in : NodeConfig → ℕ
 pause_in config = pause_by config.version config.eviction_pause
 
--- the eviction of an earlier tick, if it had one, is less than the node's pause ago
-abbrev pub is_recent : NodeConfig → ℕ → Option Eviction → Bool
-is_recent config at None = false
-is_recent config at (Some earlier) = nat_lt (at - earlier.order.at) (pause_in config)
+-- a container has ended in a tick that lists it as exited, or not at all
+abbrev pub has_ended : Option Seen → Bool
+has_ended None = true
+has_ended (Some seen) = is_exited seen.state
 
--- the eviction of some earlier tick is less than the node's pause ago, so that no pod is evicted (this project's
+-- a pod is over in a tick in which all its containers have ended, or in which it is not present
+abbrev pub is_over : Option PodObs → Bool
+is_over None = true
+is_over (Some shown) = list_all (λ (container : ContainerObs). has_ended container.seen) shown.containers
+
+-- the pod of this number is over in the tick
+abbrev pub is_over_in : ℕ → TickObs → Bool
+is_over_in n tick = is_over (shown_of tick n)
+
+-- where the node's pause ends with the evicted pod: in some of the ticks after its eviction the pod is over
+abbrev pub ends_early : NodeConfig → Eviction → List TickObs → Bool
+ends_early config eviction later = config.pauses_until_gone && list_any (is_over_in eviction.pod) later
+
+-- the eviction of a tick, if it has one, pauses others: it is less than the node's pause ago at this moment, and the
+-- ticks after its own, up to that of this moment, have not ended the pause early
+abbrev pub pauses : NodeConfig → ℕ → Option Eviction → List TickObs → Bool
+pauses config at None later = false
+pauses config at (Some eviction) later =
+    nat_lt (at - eviction.order.at) (pause_in config) && not (ends_early config eviction later)
+
+-- the eviction of some of these ticks pauses others, where these are the evictions of the first of them (this project's
 -- extended format)
-abbrev pub is_paused : NodeConfig → ℕ → List (Option Eviction) → Bool
-is_paused config at evictions = list_any (is_recent config at) evictions
+abbrev pub is_paused : NodeConfig → ℕ → List TickObs → List (Option Eviction) → Bool
+is_paused config at [] evictions = false
+is_paused config at (tick ∷ later) [] = false
+is_paused config at (tick ∷ later) (eviction ∷ evictions) =
+    pauses config at eviction later || is_paused config at later evictions
 
 -- the threshold that is served, or none while evictions pause
 abbrev pub unless_paused : Bool → Option ThresholdKey → Option ThresholdKey
@@ -131,7 +158,7 @@ pub record IsEvictionOfTick (config : NodeConfig) (pods : List PodSpec) (before 
   pub served : Option ThresholdKey
   pub is_served : IsServed config.eviction before tick served
   pub is_for : IsEvictionFor config pods before tick evictions
-      (unless_paused (is_paused config tick.at evictions) served) eviction
+      (unless_paused (is_paused config tick.at (before ++ tick ∷ []) evictions) served) eviction
 
 -- these are the evictions of these ticks, one or none for each
 pub record IsReplay (config : NodeConfig) (pods : List PodSpec) (ticks : List TickObs)

@@ -1,12 +1,15 @@
 //! The evictions of a node's ticks.
 
-ghost use Rattle.std.specs.Prelude.{◌≡◌, ◌++◌, ◌∷◌, [], length, OnOk, OnErr};
-ghost use Rattle.eviction.specs.Latest.{later, latest_of, is_within};
-ghost use Rattle.eviction.specs.Replay.{is_paused, pause_in, unless_paused};
+ghost use Rattle.std.specs.Prelude.{◌≡◌, ◌++◌, ◌∷◌, [], length, None, OnOk, OnErr};
+ghost use Rattle.std.specs.Option.{option_or};
+ghost use Rattle.eviction.specs.Pausing.{kept, still};
+ghost use Rattle.eviction.specs.Replay.{pause_in, pauses, unless_paused};
 
 use crate::eviction::Eviction;
+use crate::over::is_over_in;
 use node_config::{NodeConfig, Version};
 use node_signals::ThresholdKey;
+use observations::TickObs;
 use std::alloc::{AllocError, Global};
 use std::marker::Model;
 
@@ -14,31 +17,16 @@ use std::marker::Model;
 #[derive(Drop)]
 pub struct Evictions {
     each: Vec<Option<Eviction>>,
-    /// The latest moment of one of them, in seconds.
-    latest: Option<u64>,
+    /// The one by which others may pause: the latest, until its pause has ended early.
+    pausing: Option<Eviction>,
 }
 
 impl Model for Evictions {
-    ghost use Rattle.std.specs.Prelude.{◌≡◌, List, Option};
-    ghost use Rattle.eviction.specs.declared.eviction.Eviction.{Eviction};
-    ghost use Rattle.eviction.specs.Latest.{latest_of};
+    ghost use Rattle.eviction.specs.Pausing.{Kept, kept};
 
-    ghost Value = { List (Option Eviction) };
+    ghost Value = { Kept };
 
-    ghost view = { λ e. e.each.items };
-
-    ghost invariant = { λ e. e.latest ≡ latest_of e.each.items };
-}
-
-/// The latest moment, in seconds, once this is the eviction of one more tick.
-fn later(latest: Option<u64>, eviction: Option<Eviction>) -> Option<u64>
-    ensures { result ≡ later latest eviction }
-{
-    match (latest, eviction) {
-        (_, None) => latest,
-        (None, Some(eviction)) => Some(eviction.order.at),
-        (Some(latest), Some(eviction)) => Some(latest.max(eviction.order.at)),
-    }
+    ghost view = { λ e. kept e.each.items e.pausing };
 }
 
 /// The node's pause after an eviction, in seconds.
@@ -51,69 +39,85 @@ fn pause_in(config: &NodeConfig) -> u64
     }
 }
 
-/// Whether this moment, if there is one, is less than the pause ago.
-fn is_within(pause: u64, at: u64, latest: Option<u64>) -> bool
-    ensures { result ≡ is_within pause at latest }
+/// Whether evictions pause at a moment, in seconds, by this one. The tick of the moment was looked at.
+fn pauses(config: &NodeConfig, at: u64, pausing: Option<Eviction>) -> bool
+    ensures { result ≡ pauses config.now at pausing [] }
 {
-    match latest {
+    match pausing {
         None => false,
-        Some(latest) => at.saturating_sub(latest) < pause,
+        Some(eviction) => at.saturating_sub(eviction.order.at) < pause_in(config),
+    }
+}
+
+/// What is left in the tick that comes next of the eviction by which others pause.
+fn still(config: &NodeConfig, tick: &TickObs, pausing: Option<Eviction>) -> Option<Eviction>
+    ensures { result ≡ still config.now tick.now pausing }
+{
+    let eviction = pausing?;
+    if config.pauses_until_gone && is_over_in(eviction.pod, tick) {
+        None
+    } else {
+        Some(eviction)
     }
 }
 
 impl Evictions {
     /// Those of no tick. It takes no memory.
     pub fn new(alloc: Global) -> Evictions
-        ensures { result ≡ [] }
+        ensures { result ≡ kept [] None }
     {
         Evictions {
             each: Vec::new(alloc),
-            latest: None,
+            pausing: None,
         }
     }
 
     /// How many ticks there were.
     pub fn len(&self) -> usize
-        ensures { result ≡ length self.now }
+        ensures { result ≡ length self.now.each }
     {
         self.each.len()
     }
 
     /// That of each tick, or none, in the order of the ticks.
     pub fn as_slice(&self) -> &[Option<Eviction>]
-        ensures { result.now ≡ self.now }
+        ensures { result.now ≡ self.now.each }
     {
         &self.each
     }
 
+    /// Looks at the tick that comes next: it may end the pause after an eviction early.
+    pub fn look(&mut self, config: &NodeConfig, tick: &TickObs)
+        ensures { self.new ≡ kept self.old.each (still config.now tick.now self.old.pausing) }
+    {
+        self.pausing = still(config, tick, self.pausing);
+    }
+
     /// Adds that of one more tick, or none. An `Err` says that memory was refused, and changes nothing.
-    #[tactic(auto, using(crate::proofs::Latest::latest_pushed))]
     pub fn push(&mut self, eviction: Option<Eviction>) -> Result<(), AllocError>
-        ensures ok { OnOk result (self.new ≡ self.old ++ eviction ∷ []) }
+        ensures ok { OnOk result (self.new
+            ≡ kept (self.old.each ++ eviction ∷ []) (option_or eviction self.old.pausing)) }
         ensures err { OnErr result (self.new ≡ self.old) }
     {
         self.each.push(eviction)?;
-        self.latest = later(self.latest, eviction);
+        self.pausing = eviction.or(self.pausing);
         Ok(())
     }
 
-    /// Whether evictions pause at a moment, in seconds, after these.
-    #[tactic(auto, using(crate::proofs::Latest::paused_by_latest))]
-    fn pause(&self, config: &NodeConfig, at: u64) -> bool
-        ensures { result ≡ is_paused config.now at self.now }
-    {
-        is_within(pause_in(config), at, self.latest)
-    }
-
-    /// The threshold that is served at a moment, in seconds, or none while evictions pause after these.
+    /// The threshold that is served at a moment, in seconds, or none while evictions pause. The tick of the moment was
+    /// looked at.
     pub fn unless_paused(
         &self,
         config: &NodeConfig,
         at: u64,
         served: Option<ThresholdKey>,
     ) -> Option<ThresholdKey>
-        ensures { result ≡ unless_paused (is_paused config.now at self.now) served }
+        ensures { result ≡ unless_paused (pauses config.now at self.now.pausing []) served }
     {
-        if self.pause(config, at) { None } else { served }
+        if pauses(config, at, self.pausing) {
+            None
+        } else {
+            served
+        }
     }
 }

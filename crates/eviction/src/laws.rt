@@ -35,7 +35,7 @@ pub fn served_alone()
     ensures { laws.ServedAlone }
 {}
 
-/// Between two evictions the node's pause passes.
+/// Between two evictions the node's pause passes, or the first one's pod ends or goes where the pause ends with it.
 pub fn paused_between()
     ensures { laws.PausedBetween }
 {}

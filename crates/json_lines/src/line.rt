@@ -76,7 +76,7 @@ fn said_by_value(alloc: Global, line: &[u8]) -> Result<TextLine, AllocError>
     }
 }
 
-/// The same, where a plain tick is read faster.
+/// What a line says that is neither blank nor too long; a plain tick is read faster.
 fn said_in(alloc: Global, line: &[u8], buffers: &mut LineBuffers) -> Result<TextLine, AllocError>
     ensures { IfOk result (λ read. data_of read ≡ said_in line.now) }
 {
@@ -113,8 +113,8 @@ pub fn text_line(
     }
 }
 
-/// The same as [`text_line`], for a line of which [`tick_tape`](crate::tick_tape) made no tape: it has another shape
-/// than the common one, so that `serde_json` alone can read it.
+/// What a line says, as [`text_line`] reads it, of which [`tick_tape`](crate::tick_tape) made no tape: it has another
+/// shape than the common one, so that `serde_json` alone can read it.
 pub fn other_line(alloc: Global, line: &[u8]) -> Result<TextLine, AllocError>
     ensures { IfOk result (λ read. data_of read ≡ line_data line.now) }
 {

@@ -168,7 +168,7 @@ fn tick_in<A: Allocator + Copy>(
     Ok(Some(tick_record(alloc, &value)?))
 }
 
-/// The same, and the memory of the line's values is freed.
+/// The record of a plain tick line, if it is one; the memory of the line's values is freed.
 pub(crate) fn plain_tick(
     alloc: Global,
     line: &[u8],

@@ -6,7 +6,7 @@ ghost use Rattle.json_lines.specs.Ticks.{is_tick, moment_written, moment_at};
 
 use json_fields::{Json, field, text_at};
 use std::alloc::{AllocError, Global};
-use tick_lines::{TickLine, TickLineFault, tick_line_of};
+use tick_lines::{TickLine, TickLineFault, TickValue, tick_line_of};
 
 /// What a tick line says by itself: the tree of its JSON value is no longer needed.
 #[derive(Drop)]
@@ -32,7 +32,7 @@ pub(crate) fn moment_written<V: Json>(found: Option<&V>) -> Option<u64>
 }
 
 /// Reads a tick line.
-pub fn tick_record<V: Json>(alloc: Global, line: &V) -> Result<TickRecord, AllocError>
+pub fn tick_record<V: TickValue>(alloc: Global, line: &V) -> Result<TickRecord, AllocError>
     ensures at { IfOk result (λ tick. tick.at ≡ moment_at (V.data line.now)) }
     ensures written { IfOk result (λ tick. tick.written ≡ tick_line_of (V.data line.now)) }
 {

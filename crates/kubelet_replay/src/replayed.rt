@@ -60,7 +60,8 @@ pub(crate) fn take_by_steps<U: Ledger, E: Ledger, O: Ledger>(
     Ok(())
 }
 
-/// The same, where this many workers update the pods of each tick in threads of their own.
+/// A new node takes the ticks of a trace, once the pods that arrive before each have arrived; this many workers update
+/// the pods of each tick in threads of their own.
 pub(crate) fn take_by_workers<
     U: Ledger + Send,
     E: Ledger + Send,

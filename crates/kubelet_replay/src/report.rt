@@ -117,7 +117,7 @@ fn by_steps<U: Ledger, E: Ledger, O: Ledger>(
     report
 }
 
-/// The same, where this many workers update the pods of each tick in threads of their own.
+/// The report of a trace, whose pods this many workers update in each tick, in threads of their own.
 fn by_workers<U: Ledger + Send, E: Ledger + Send, O: Ledger + Send, R: Spawner, G: Gate>(
     rt: &R,
     alloc: Global,

@@ -171,7 +171,7 @@ pub fn replay<H: AllocGlobal + Spawner, R: Source, W: Sink, G: Gate>(
     replay_in(rt, Format::Standard, input, output, workers, gate)
 }
 
-/// The same of a trace in a format.
+/// Replays a trace in a format and writes its report, as [`replay`] does of one in the standard format.
 pub fn replay_in<H: AllocGlobal + Spawner, R: Source, W: Sink, G: Gate>(
     rt: &H,
     format: Format,
@@ -220,7 +220,8 @@ pub fn replay_play<R: Source, W: Sink>(
     replay_play_in(alloc, Format::Standard, input, output, workers, steps)
 }
 
-/// The same of a trace in a format.
+/// Replays a trace in a format on one thread, by steps that workers are played by, as [`replay_play`] does of one in
+/// the standard format.
 pub fn replay_play_in<R: Source, W: Sink>(
     alloc: Global,
     format: Format,
@@ -265,7 +266,7 @@ pub fn check<R: Source, W: Sink>(
     check_in(alloc, Format::Standard, input, output)
 }
 
-/// The same of a trace in a format.
+/// Reads a trace in a format without replaying it, as [`check`] does of one in the standard format.
 pub fn check_in<R: Source, W: Sink>(
     alloc: Global,
     format: Format,

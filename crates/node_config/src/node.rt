@@ -25,7 +25,7 @@ pub enum Version {
     One,
     /// A pod line may follow a tick line.
     Two,
-    /// The same; a line may say that a pod is gone, and evictions may pause.
+    /// A pod line may follow a tick line, a line may say that a pod is gone, and evictions may pause.
     Three,
 }
 
@@ -47,6 +47,8 @@ pub struct NodeConfig {
     pub eviction_pressure_transition_period: u64,
     /// `evictionPauseSeconds`: for this many seconds after an eviction no pod is evicted. 0 in versions 1 and 2.
     pub eviction_pause: u32,
+    /// `evictionPauseUntilGone`: the pause is over once the evicted pod has ended or gone. False in versions 1 and 2.
+    pub pauses_until_gone: bool,
 }
 
 impl NodeConfig {

@@ -72,6 +72,12 @@ pause_of One found = Ok 0
 pause_of Two found = Ok 0
 pause_of Three found = seconds_of found
 
+-- whether the pause is over once the evicted pod has ended or gone; versions 1 and 2 have no such field
+abbrev pub until_gone_of : Version → Option Data → Result Bool NodeFault
+until_gone_of One found = Ok false
+until_gone_of Two found = Ok false
+until_gone_of Three found = flag_of found
+
 -- what a node line says besides its thresholds, one line for each field
 unfoldable pub settings_in : Data → Result Settings NodeFault
 settings_in d = do
@@ -81,6 +87,7 @@ settings_in d = do
   max_pod_grace_period ← seconds_of (field_at (codes "evictionMaxPodGracePeriod") d)
   transition_period ← duration_at (field_at (codes "evictionPressureTransitionPeriod") d)
   eviction_pause ← pause_of version (field_at (codes "evictionPauseSeconds") d)
+  pauses_until_gone ← until_gone_of version (field_at (codes "evictionPauseUntilGone") d)
   Ok (record {
     version = version;
     max_restart_delay = max_restart_delay;
@@ -88,6 +95,7 @@ settings_in d = do
     max_pod_grace_period = max_pod_grace_period;
     transition_period = or_default transition_period;
     eviction_pause = eviction_pause;
+    pauses_until_gone = pauses_until_gone;
   })
 
 -- every field is read before a soft threshold without its grace is looked for
@@ -106,4 +114,5 @@ node_of d = do
     eviction_max_pod_grace_period = settings.max_pod_grace_period;
     eviction_pressure_transition_period = settings.transition_period;
     eviction_pause = settings.eviction_pause;
+    pauses_until_gone = settings.pauses_until_gone;
   })

@@ -5,7 +5,7 @@ ghost use Rattle.serde_json.specs.View.{view};
 ghost use Rattle.json_fields.specs.Reading.{GivesExactly};
 ghost use Rattle.node_lines.specs.GivesUnlessMemory.{GivesUnlessMemory};
 ghost use Rattle.node_lines.specs.Node.{version_of, name_from, restart_delay_of, flag_of, seconds_of};
-ghost use Rattle.node_lines.specs.Node.{or_default, pause_of, settings_in, node_of};
+ghost use Rattle.node_lines.specs.Node.{or_default, pause_of, until_gone_of, settings_in, node_of};
 
 use crate::eviction::{eviction_from, written_in};
 use crate::fault::NodeFault;
@@ -25,6 +25,7 @@ pub(crate) struct Settings {
     max_pod_grace_period: u32,
     transition_period: u64,
     eviction_pause: u32,
+    pauses_until_gone: bool,
 }
 
 /// How long a condition of the node stays where nothing else is written, in seconds.
@@ -117,6 +118,16 @@ fn pause(version: Version, found: Option<&Value>) -> Result<u32, NodeFault>
     }
 }
 
+/// Whether a pause ends with the pod that was evicted, in a version that says so.
+fn until_gone(version: Version, found: Option<&Value>) -> Result<bool, NodeFault>
+    ensures { result ≡ until_gone_of version (option_map (λ v. view v.now) found.entry) }
+{
+    match version {
+        Version::One | Version::Two => Ok(false),
+        Version::Three => flag(found),
+    }
+}
+
 #[tactic(auto, unfolding(crate::specs::Node::settings_in))]
 fn settings_in(node: &Value) -> Result<Settings, NodeFault>
     ensures { result ≡ settings_in (view node.now) }
@@ -127,6 +138,7 @@ fn settings_in(node: &Value) -> Result<Settings, NodeFault>
     let max_pod_grace_period = seconds(field(node, "evictionMaxPodGracePeriod"))?;
     let transition_period = duration_at(field(node, "evictionPressureTransitionPeriod"))?;
     let eviction_pause = pause(version, field(node, "evictionPauseSeconds"))?;
+    let pauses_until_gone = until_gone(version, field(node, "evictionPauseUntilGone"))?;
     Ok(Settings {
         version,
         max_restart_delay,
@@ -134,6 +146,7 @@ fn settings_in(node: &Value) -> Result<Settings, NodeFault>
         max_pod_grace_period,
         transition_period: or_default(transition_period),
         eviction_pause,
+        pauses_until_gone,
     })
 }
 
@@ -158,5 +171,6 @@ pub fn node_of(alloc: Global, node: &Value) -> Result<NodeConfig, NodeFault>
         eviction_max_pod_grace_period: settings.max_pod_grace_period,
         eviction_pressure_transition_period: settings.transition_period,
         eviction_pause: settings.eviction_pause,
+        pauses_until_gone: settings.pauses_until_gone,
     })
 }

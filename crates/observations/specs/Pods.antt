@@ -1,23 +1,24 @@
 -- What a tick shows of one pod.
-use Rattle.std.specs.Prelude.{ℕ, List, [], ◌∷◌, Option, Some, None}
+use Rattle.std.specs.Prelude.{ℕ, List, [], ◌∷◌}
 use Rattle.observations.specs.declared.container.ContainerObs.{ContainerObs}
 use Rattle.observations.specs.declared.containers.Containers.{Containers}
 use Rattle.observations.specs.declared.containers.Containers.TheVariants as containers
 use Rattle.observations.specs.declared.packed_container.PackedContainer.{PackedContainer}
 use Rattle.observations.specs.declared.packed_containers.PackedContainers.{PackedContainers}
 use Rattle.observations.specs.declared.packed_containers.PackedContainers.TheVariants as shown
-use Rattle.observations.specs.declared.usage.Usage.{Usage}
+use Rattle.observations.specs.declared.usage.Sampling.{Sampling}
+use Rattle.observations.specs.declared.usage.Sampling.TheVariants.{Unsaid, Unsampled, Sampled}
 use Rattle.observations.specs.Whole.{memory_as, usage_as}
 
--- the moment in seconds, an observation for each container by number, and what the pod used where the tick has a
--- sample of it
+-- the moment in seconds, an observation for each container by number, and what the tick says of the samples of the
+-- pod's use of its node
 pub record PodObs : Type 0 where
   pub at : ℕ
   pub containers : List ContainerObs
-  pub usage : Option Usage
+  pub sampling : Sampling
 
-abbrev pub pod_obs : ℕ → List ContainerObs → Option Usage → PodObs
-pod_obs at containers usage = record { at = at; containers = containers; usage = usage }
+abbrev pub pod_obs : ℕ → List ContainerObs → Sampling → PodObs
+pod_obs at containers sampling = record { at = at; containers = containers; sampling = sampling }
 
 -- what is kept of containers in a block
 abbrev pub containers_in : Containers → List PackedContainer
@@ -32,13 +33,15 @@ kept_in (shown.Two one two) = one ∷ two ∷ []
 kept_in (shown.OneWithMemory one memory) = one ∷ []
 kept_in (shown.TwoWithMemory one two memory) = one ∷ two ∷ []
 kept_in (shown.Unused containers) = containers.items
+kept_in (shown.Unsampled containers) = containers_in containers.value
 kept_in (shown.Whole whole) = containers_in whole.value.containers
 kept_in (shown.Used used) = containers_in used.value.containers
 
--- what a pod used of its node, as its packed containers keep it
-abbrev pub usage_in : PackedContainers → Option Usage
-usage_in (shown.OneWithMemory one memory) = Some (memory_as memory)
-usage_in (shown.TwoWithMemory one two memory) = Some (memory_as memory)
-usage_in (shown.Whole whole) = Some (usage_as whole.value.usage)
-usage_in (shown.Used used) = Some used.value.usage
-usage_in s = None
+-- what the tick says of the pod's samples, as its packed containers keep it
+abbrev pub sampling_in : PackedContainers → Sampling
+sampling_in (shown.Unsampled containers) = Unsampled
+sampling_in (shown.OneWithMemory one memory) = Sampled (memory_as memory)
+sampling_in (shown.TwoWithMemory one two memory) = Sampled (memory_as memory)
+sampling_in (shown.Whole whole) = Sampled (usage_as whole.value.usage)
+sampling_in (shown.Used used) = Sampled used.value.usage
+sampling_in s = Unsaid

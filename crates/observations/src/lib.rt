@@ -15,4 +15,4 @@ pub use container::ContainerObs;
 pub use limits::{MOST_PODS, MOST_TICKS};
 pub use pod::PodObs;
 pub use tick::{TickObs, seen_of};
-pub use usage::Usage;
+pub use usage::{Sampling, Usage};

@@ -1,14 +1,15 @@
 //! What a tick shows of a pod's containers and of its use of the node, as it is kept.
 
-ghost use Rattle.std.specs.Prelude.{◌≡◌, length, map, None, Some, IfOk, IfSome, slice_get};
+ghost use Rattle.std.specs.Prelude.{◌≡◌, length, map, IfOk, IfSome, slice_get};
 ghost use Rattle.observations.specs.PackedContainer.{shown_as};
-ghost use Rattle.observations.specs.Pods.{kept_in, usage_in};
+ghost use Rattle.observations.specs.Pods.{kept_in, sampling_in};
 ghost use Rattle.observations.specs.Whole.{memory_as, usage_as};
+ghost use Rattle.observations.specs.declared.usage.Sampling.TheVariants.{Unsaid, Sampled};
 
 use crate::container::ContainerObs;
 use crate::containers::{Containers, kept};
 use crate::packed_container::PackedContainer;
-use crate::usage::Usage;
+use crate::usage::{Sampling, Usage};
 use crate::whole::{WholeUsage, usage_of_memory};
 use std::alloc::{AllocError, Global};
 
@@ -26,8 +27,9 @@ pub(crate) struct Used {
     pub(crate) usage: Usage,
 }
 
-/// What a tick shows of a pod, in 32 bytes. Three containers or more take a block beside these, and so does a sample of
-/// more than the memory: both are rarer than one or two containers without a sample, or with one of their memory.
+/// What a tick shows of a pod, in 32 bytes. Three containers or more take a block beside these, and so do a sample of
+/// more than the memory and the word that there is none: each is rarer than one or two containers without a sample, or
+/// with one of their memory.
 #[derive(Drop)]
 pub(crate) enum PackedContainers {
     One(PackedContainer),
@@ -35,14 +37,15 @@ pub(crate) enum PackedContainers {
     OneWithMemory(PackedContainer, u64),
     TwoWithMemory(PackedContainer, PackedContainer, u32),
     Unused(Vec<PackedContainer>),
+    Unsampled(Box<Containers>),
     Whole(Box<Whole>),
     Used(Box<Used>),
 }
 
-/// What is kept of containers where the tick has no sample.
+/// What is kept of containers where the tick says nothing of samples.
 fn unused(alloc: Global, containers: &[ContainerObs]) -> Result<PackedContainers, AllocError>
     ensures containers { IfOk result (λ s. map shown_as (kept_in s) ≡ containers.now) }
-    ensures usage { IfOk result (λ s. usage_in s ≡ None) }
+    ensures sampling { IfOk result (λ s. sampling_in s ≡ Unsaid) }
 {
     match containers {
         [one] => Ok(PackedContainers::One(PackedContainer::of(*one))),
@@ -57,7 +60,7 @@ fn unused(alloc: Global, containers: &[ContainerObs]) -> Result<PackedContainers
 /// What is kept without a block of containers and of a sample of so much memory alone.
 fn in_place(containers: &[ContainerObs], memory: u64) -> Option<PackedContainers>
     ensures containers { IfSome result (λ s. map shown_as (kept_in s) ≡ containers.now) }
-    ensures usage { IfSome result (λ s. usage_in s ≡ Some (memory_as memory)) }
+    ensures sampling { IfSome result (λ s. sampling_in s ≡ Sampled (memory_as memory)) }
 {
     match containers {
         [one] => Some(PackedContainers::OneWithMemory(PackedContainer::of(*one), memory)),
@@ -80,7 +83,7 @@ fn in_units(
     usage: WholeUsage,
 ) -> Result<PackedContainers, AllocError>
     ensures containers { IfOk result (λ s. map shown_as (kept_in s) ≡ containers.now) }
-    ensures usage { IfOk result (λ s. usage_in s ≡ Some (usage_as usage)) }
+    ensures sampling { IfOk result (λ s. sampling_in s ≡ Sampled (usage_as usage)) }
 {
     if let Some(memory) = usage.memory_alone()
         && let Some(shown) = in_place(containers, memory)
@@ -92,24 +95,40 @@ fn in_units(
     Ok(PackedContainers::Whole(Box::new(alloc, whole)?))
 }
 
+/// What is kept of containers and of a sample.
+fn sampled(
+    alloc: Global,
+    containers: &[ContainerObs],
+    usage: Usage,
+) -> Result<PackedContainers, AllocError>
+    ensures containers { IfOk result (λ s. map shown_as (kept_in s) ≡ containers.now) }
+    ensures sampling { IfOk result (λ s. sampling_in s ≡ Sampled usage) }
+{
+    if let Some(usage) = WholeUsage::of(usage) {
+        return in_units(alloc, containers, usage);
+    }
+    let containers = Containers::new(alloc, containers)?;
+    let used = Used { containers, usage };
+    Ok(PackedContainers::Used(Box::new(alloc, used)?))
+}
+
 impl PackedContainers {
     pub(crate) fn new(
         alloc: Global,
         containers: &[ContainerObs],
-        usage: Option<Usage>,
+        sampling: Sampling,
     ) -> Result<PackedContainers, AllocError>
         ensures containers { IfOk result (λ s. map shown_as (kept_in s) ≡ containers.now) }
-        ensures usage { IfOk result (λ s. usage_in s ≡ usage) }
+        ensures sampling { IfOk result (λ s. sampling_in s ≡ sampling) }
     {
-        let Some(usage) = usage else {
-            return unused(alloc, containers);
-        };
-        if let Some(usage) = WholeUsage::of(usage) {
-            return in_units(alloc, containers, usage);
+        match sampling {
+            Sampling::Unsaid => unused(alloc, containers),
+            Sampling::Unsampled => {
+                let containers = Containers::new(alloc, containers)?;
+                Ok(PackedContainers::Unsampled(Box::new(alloc, containers)?))
+            }
+            Sampling::Sampled(usage) => sampled(alloc, containers, usage),
         }
-        let containers = Containers::new(alloc, containers)?;
-        let used = Used { containers, usage };
-        Ok(PackedContainers::Used(Box::new(alloc, used)?))
     }
 
     /// How many containers there are.
@@ -120,6 +139,7 @@ impl PackedContainers {
             PackedContainers::One(_) | PackedContainers::OneWithMemory(..) => 1,
             PackedContainers::Two(..) | PackedContainers::TwoWithMemory(..) => 2,
             PackedContainers::Unused(containers) => containers.len(),
+            PackedContainers::Unsampled(containers) => containers.len(),
             PackedContainers::Whole(whole) => whole.containers.len(),
             PackedContainers::Used(used) => used.containers.len(),
         }
@@ -137,24 +157,28 @@ impl PackedContainers {
                 [*one, *two].get(number).copied()
             }
             PackedContainers::Unused(containers) => containers.get(number).copied(),
+            PackedContainers::Unsampled(containers) => containers.get(number),
             PackedContainers::Whole(whole) => whole.containers.get(number),
             PackedContainers::Used(used) => used.containers.get(number),
         }
     }
 
-    /// The sample, if the tick has one.
-    pub(crate) fn usage(&self) -> Option<Usage>
-        ensures { result ≡ usage_in self.now }
+    /// What the tick says of the pod's samples.
+    pub(crate) fn sampling(&self) -> Sampling
+        ensures { result ≡ sampling_in self.now }
     {
         match self {
-            PackedContainers::OneWithMemory(_, memory) => Some(usage_of_memory(*memory)),
-            PackedContainers::TwoWithMemory(_, _, memory) => Some(usage_of_memory(u64::from(
+            PackedContainers::OneWithMemory(_, memory) => Sampling::Sampled(usage_of_memory(
                 *memory,
-            ))),
-            PackedContainers::Whole(whole) => Some(whole.usage.usage()),
-            PackedContainers::Used(used) => Some(used.usage),
+            )),
+            PackedContainers::TwoWithMemory(_, _, memory) => Sampling::Sampled(usage_of_memory(
+                u64::from(*memory),
+            )),
+            PackedContainers::Whole(whole) => Sampling::Sampled(whole.usage.usage()),
+            PackedContainers::Used(used) => Sampling::Sampled(used.usage),
+            PackedContainers::Unsampled(_) => Sampling::Unsampled,
             PackedContainers::One(_) | PackedContainers::Two(..) | PackedContainers::Unused(_) =>
-                None,
+                Sampling::Unsaid,
         }
     }
 }

@@ -5,12 +5,12 @@ ghost use Rattle.observations.specs.Pods.{pod_obs};
 
 use crate::container::ContainerObs;
 use crate::packed_containers::PackedContainers;
-use crate::usage::Usage;
+use crate::usage::Sampling;
 use std::alloc::{AllocError, Global};
 use std::marker::Model;
 
 /// What a tick shows of one pod, in 40 bytes: a trace has millions of these. Contracts see the moment, an observation
-/// for each container by number, and the use of the node where the tick has a sample of it.
+/// for each container by number, and what the tick says of the samples of its use of the node.
 #[derive(Drop)]
 pub struct PodObs {
     at: u64,
@@ -20,25 +20,25 @@ pub struct PodObs {
 impl Model for PodObs {
     ghost use Rattle.std.specs.Prelude.{map};
     ghost use Rattle.observations.specs.PackedContainer.{shown_as};
-    ghost use Rattle.observations.specs.Pods.{PodObs, pod_obs, kept_in, usage_in};
+    ghost use Rattle.observations.specs.Pods.{PodObs, pod_obs, kept_in, sampling_in};
 
     ghost Value = { PodObs };
 
-    ghost view = { λ o. pod_obs o.at (map shown_as (kept_in o.shown)) (usage_in o.shown) };
+    ghost view = { λ o. pod_obs o.at (map shown_as (kept_in o.shown)) (sampling_in o.shown) };
 }
 
 impl PodObs {
-    /// What a tick at the moment, in seconds, shows of a pod: one observation for each container, by number, and the
-    /// use of the node where it has a sample.
+    /// What a tick at the moment, in seconds, shows of a pod: one observation for each container, by number, and what
+    /// it says of the samples of its use of the node.
     pub fn new(
         alloc: Global,
         at: u64,
         containers: &[ContainerObs],
-        usage: Option<Usage>,
+        sampling: Sampling,
     ) -> Result<PodObs, AllocError>
-        ensures { IfOk result (λ o. o ≡ pod_obs at containers.now usage) }
+        ensures { IfOk result (λ o. o ≡ pod_obs at containers.now sampling) }
     {
-        let shown = PackedContainers::new(alloc, containers, usage)?;
+        let shown = PackedContainers::new(alloc, containers, sampling)?;
         Ok(PodObs { at, shown })
     }
 
@@ -64,10 +64,10 @@ impl PodObs {
         Some(kept.shown())
     }
 
-    /// What the pod used, where the tick has a sample of it.
-    pub fn usage(&self) -> Option<Usage>
-        ensures { result ≡ self.now.usage }
+    /// What the tick says of the samples of the pod's use of the node.
+    pub fn sampling(&self) -> Sampling
+        ensures { result ≡ self.now.sampling }
     {
-        self.shown.usage()
+        self.shown.sampling()
     }
 }

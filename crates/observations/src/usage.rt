@@ -20,3 +20,14 @@ pub struct Usage {
     /// Processes.
     pub pids: Option<Quantity>,
 }
+
+/// What a tick says of the samples of a pod's use of the node.
+#[derive(Clone, Copy, Debug, PartialEq, Eq)]
+pub enum Sampling {
+    /// Nothing.
+    Unsaid,
+    /// From this tick on it has none, until one comes. (This project's extended format.)
+    Unsampled,
+    /// One was taken.
+    Sampled(Usage),
+}

@@ -1,55 +1,88 @@
 -- What a pod uses: each resource by its newest sample (Kubernetes, "Node-pressure Eviction", "Pod
--- selection for kubelet eviction"; that a sample stands until the next, and that those after the
--- pod's end don't count, are this profile's rules).
-use Rattle.std.specs.Prelude.{◌≡◌, ℕ, List, Option, Some, None, option_and_then, IsSome, IsSomeAnd}
-use Rattle.std.specs.Option.{option_or}
+-- selection for kubelet eviction"; that a sample stands until the next, that a tick may say that there is none, and
+-- that those after the pod's end don't count, are this profile's rules).
+use Rattle.std.specs.Prelude.{◌≡◌, ℕ, Bool, true, false, List, Option, Some, None, option_map, unwrap_or, IsSome}
+use Rattle.std.specs.Prelude.{IsSomeAnd}
+use Rattle.std.specs.Option.{option_flatten, option_or}
 use Rattle.histories.specs.Histories.{entry_at, IsLast}
 use Rattle.manifest.specs.declared.pod.PodSpec.{PodSpec}
+use Rattle.observations.specs.declared.usage.Sampling.{Sampling}
+use Rattle.observations.specs.declared.usage.Sampling.TheVariants.{Unsaid, Unsampled, Sampled}
 use Rattle.observations.specs.declared.usage.Usage.{Usage}
 use Rattle.pod_state.specs.Pods.{PodEntry, PodTick, IsEnd, counted}
+use Rattle.pod_piece.specs.declared.status.NewestUsage.{NewestUsage}
 
--- the sample of a resource in a tick, if it has one
-abbrev pub sample_in : (Usage → Option ℕ) → PodEntry → Option ℕ
-sample_in resource entry = option_and_then resource entry.usage
+-- what a tick says of the samples of a resource: that there are none, or one, where it has one
+abbrev pub sample_said : (Usage → Option ℕ) → Sampling → Option (Option ℕ)
+sample_said resource Unsaid = None
+sample_said resource Unsampled = Some None
+sample_said resource (Sampled usage) = option_map (λ amount. Some amount) (resource usage)
 
--- the tick has a sample of the resource
-abbrev pub HasSample : (Usage → Option ℕ) → PodEntry → Type 0
-HasSample resource entry = IsSome (sample_in resource entry)
+-- what a tick says of whether the pod has no sample
+abbrev pub unsampled_said : Sampling → Option Bool
+unsampled_said Unsaid = None
+unsampled_said Unsampled = Some true
+unsampled_said (Sampled usage) = Some false
 
--- the sample of the last tick that has one, if any has
-abbrev pub IsNewestSample : (Usage → Option ℕ) → List PodTick → Option ℕ → Type 0
-IsNewestSample resource h None = (t : ℕ) → IsSomeAnd (entry_at h t) (HasSample resource) → ⊥
-IsNewestSample resource h (Some amount) =
-    (t : ℕ) × IsLast (λ u. IsSomeAnd (entry_at h u) (HasSample resource)) t
-    × IsSomeAnd (entry_at h t) (λ entry. sample_in resource entry ≡ Some amount)
+-- the tick says something of it
+abbrev pub Says : {A : Type 0} → (Sampling → Option A) → PodEntry → Type 0
+Says said entry = IsSome (said entry.sampling)
+
+-- what the last tick says that says something, if any does
+abbrev pub IsLastSaid : {A : Type 0} → (Sampling → Option A) → List PodTick → Option A → Type 0
+IsLastSaid said h None = (t : ℕ) → IsSomeAnd (entry_at h t) (Says said) → ⊥
+IsLastSaid said h (Some last) =
+    (t : ℕ) × IsLast (λ u. IsSomeAnd (entry_at h u) (Says said)) t
+    × IsSomeAnd (entry_at h t) (λ entry. said entry.sampling ≡ Some last)
+
+-- the newest sample of a resource, if there is one
+pub record IsNewestSample (resource : Usage → Option ℕ) (h : List PodTick) (amount : Option ℕ) : Type 0 where
+  pub last : Option (Option ℕ)
+  pub is_last : IsLastSaid (sample_said resource) h last
+  pub amount_is : amount ≡ option_flatten last
+
+-- the pod has no sample, as the last tick says that says whether it has one
+pub record IsUnsampled (h : List PodTick) (is_unsampled : Bool) : Type 0 where
+  pub last : Option Bool
+  pub is_last : IsLastSaid unsampled_said h last
+  pub is : is_unsampled ≡ unwrap_or last false
 
 -- the newest sample of each resource
-pub record AreNewestSamples (h : List PodTick) (usage : Usage) : Type 0 where
-  pub memory : IsNewestSample (λ u. u.memory) h usage.memory
-  pub volumes : IsNewestSample (λ u. u.volumes) h usage.volumes
-  pub logs : IsNewestSample (λ u. u.logs) h usage.logs
-  pub writable : IsNewestSample (λ u. u.writable) h usage.writable
-  pub inodes : IsNewestSample (λ u. u.inodes) h usage.inodes
-  pub pids : IsNewestSample (λ u. u.pids) h usage.pids
+pub record AreNewestSamples (h : List PodTick) (usage : NewestUsage) : Type 0 where
+  pub memory : IsNewestSample (λ u. u.memory) h usage.samples.memory
+  pub volumes : IsNewestSample (λ u. u.volumes) h usage.samples.volumes
+  pub logs : IsNewestSample (λ u. u.logs) h usage.samples.logs
+  pub writable : IsNewestSample (λ u. u.writable) h usage.samples.writable
+  pub inodes : IsNewestSample (λ u. u.inodes) h usage.samples.inodes
+  pub pids : IsNewestSample (λ u. u.pids) h usage.samples.pids
+  pub unsampled : IsUnsampled h usage.is_unsampled
 
 -- what the pod uses, by the ticks that count
-pub record IsUsageOf (pod : PodSpec) (evicted : Option ℕ) (h : List PodTick) (usage : Usage) : Type 0 where
+pub record IsUsageOf (pod : PodSpec) (evicted : Option ℕ) (h : List PodTick) (usage : NewestUsage) : Type 0 where
   pub end : Option ℕ
   pub is_end : IsEnd pod evicted h end
   pub newest : AreNewestSamples (counted h end) usage
 
 -- no sample of anything
-abbrev pub nothing : Usage
-nothing = record { memory = None; volumes = None; logs = None; writable = None; inodes = None; pids = None }
+abbrev pub no_samples : Usage
+no_samples = record { memory = None; volumes = None; logs = None; writable = None; inodes = None; pids = None }
+
+-- the newest samples of a pod of which no tick has one or says that it has none
+abbrev pub nothing : NewestUsage
+nothing = record { samples = no_samples; is_unsampled = false }
 
 -- the newest samples, with those of a tick more
-abbrev pub newer : Usage → Option Usage → Usage
-newer old None = old
-newer old (Some new) = record {
-  memory = option_or new.memory old.memory;
-  volumes = option_or new.volumes old.volumes;
-  logs = option_or new.logs old.logs;
-  writable = option_or new.writable old.writable;
-  inodes = option_or new.inodes old.inodes;
-  pids = option_or new.pids old.pids;
+abbrev pub newer : NewestUsage → Sampling → NewestUsage
+newer old Unsaid = old
+newer old Unsampled = record { samples = no_samples; is_unsampled = true }
+newer old (Sampled new) = record {
+  samples = record {
+    memory = option_or new.memory old.samples.memory;
+    volumes = option_or new.volumes old.samples.volumes;
+    logs = option_or new.logs old.samples.logs;
+    writable = option_or new.writable old.samples.writable;
+    inodes = option_or new.inodes old.samples.inodes;
+    pids = option_or new.pids old.samples.pids;
+  };
+  is_unsampled = false;
 }

@@ -218,8 +218,8 @@ impl PodPiece {
         }
     }
 
-    /// As `update`, in its place: takes what was handed to it into its status. An `Err` changes nothing, so it
-    /// is still pending.
+    /// Takes what was handed to it into its status, in its place. An `Err` says that memory was refused, and changes
+    /// nothing, so it is still pending.
     pub fn update_in_place(&mut self) -> Result<(), AllocError>
         requires { IsTrue self.old.is_pending }
         ensures ok { OnOk result (self.new ≡ updated self.old) }
@@ -230,7 +230,7 @@ impl PodPiece {
         let observed = parts.history.at(last);
         let had_ended = parts.state.lifecycle().has_ended();
         let events = parts.state.take(parts.alloc, parts.pod.policy, observed)?;
-        parts.status.usage = newer_while(!had_ended, parts.status.usage, observed.usage());
+        parts.status.usage = newer_while(!had_ended, parts.status.usage, observed.sampling());
         let is_evicted = parts.eviction.is_some();
         parts.state.show(is_evicted, &mut parts.status.containers);
         let lifecycle = parts.state.lifecycle();

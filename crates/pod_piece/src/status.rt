@@ -45,6 +45,15 @@ impl EffectiveRequests {
     }
 }
 
+/// What a pod uses of its node, by the newest sample of each resource.
+#[derive(Clone, Copy, Debug, PartialEq, Eq)]
+pub struct NewestUsage {
+    /// The newest samples, since a tick last said that there is none.
+    pub samples: Usage,
+    /// Whether a tick said that there is none, and none has come since. (This project's extended format.)
+    pub is_unsampled: bool,
+}
+
 /// The status of a pod. (Kubernetes, "Pod Lifecycle".)
 #[derive(Drop)]
 pub struct PodStatus {
@@ -62,7 +71,7 @@ pub struct PodStatus {
     /// Its effective requests.
     pub requests: EffectiveRequests,
     /// What it uses, by the newest sample of each resource.
-    pub usage: Usage,
+    pub usage: NewestUsage,
     /// Its priority.
     pub priority: i32,
     /// The order that evicted it, if it was evicted.

@@ -2,14 +2,15 @@
 
 ghost use Rattle.std.specs.Prelude.{◌≡◌, if◌then◌else◌};
 ghost use Rattle.std.specs.Option.{option_or};
-ghost use Rattle.pod_piece.specs.Usage.{nothing, newer};
+ghost use Rattle.pod_piece.specs.Usage.{no_samples, nothing, newer};
 
-use observations::Usage;
+use crate::status::NewestUsage;
+use observations::{Sampling, Usage};
 use quantity::Quantity;
 
-/// No sample so far.
-pub(crate) fn nothing() -> Usage
-    ensures { result ≡ nothing }
+/// No sample of anything.
+fn no_samples() -> Usage
+    ensures { result ≡ no_samples }
 {
     Usage {
         memory: None,
@@ -21,6 +22,16 @@ pub(crate) fn nothing() -> Usage
     }
 }
 
+/// No sample so far.
+pub(crate) fn nothing() -> NewestUsage
+    ensures { result ≡ nothing }
+{
+    NewestUsage {
+        samples: no_samples(),
+        is_unsampled: false,
+    }
+}
+
 /// The newer sample where there is one, else the older.
 fn newer_of(old: Option<Quantity>, new: Option<Quantity>) -> Option<Quantity>
     ensures { result ≡ option_or new old }
@@ -29,25 +40,32 @@ fn newer_of(old: Option<Quantity>, new: Option<Quantity>) -> Option<Quantity>
 }
 
 /// The newest samples, with those of a tick more, if that counts.
-pub(crate) fn newer_while(counts: bool, old: Usage, sample: Option<Usage>) -> Usage
-    ensures { result ≡ (if counts then newer old sample else old) }
+pub(crate) fn newer_while(counts: bool, old: NewestUsage, sampling: Sampling) -> NewestUsage
+    ensures { result ≡ (if counts then newer old sampling else old) }
 {
-    if counts { newer(old, sample) } else { old }
+    if counts { newer(old, sampling) } else { old }
 }
 
 /// The newest samples, with those of a tick more.
-fn newer(old: Usage, sample: Option<Usage>) -> Usage
-    ensures { result ≡ newer old sample }
+fn newer(old: NewestUsage, sampling: Sampling) -> NewestUsage
+    ensures { result ≡ newer old sampling }
 {
-    match sample {
-        None => old,
-        Some(new) => Usage {
-            memory: newer_of(old.memory, new.memory),
-            volumes: newer_of(old.volumes, new.volumes),
-            logs: newer_of(old.logs, new.logs),
-            writable: newer_of(old.writable, new.writable),
-            inodes: newer_of(old.inodes, new.inodes),
-            pids: newer_of(old.pids, new.pids),
+    match sampling {
+        Sampling::Unsaid => old,
+        Sampling::Unsampled => NewestUsage {
+            samples: no_samples(),
+            is_unsampled: true,
+        },
+        Sampling::Sampled(new) => NewestUsage {
+            samples: Usage {
+                memory: newer_of(old.samples.memory, new.memory),
+                volumes: newer_of(old.samples.volumes, new.volumes),
+                logs: newer_of(old.samples.logs, new.logs),
+                writable: newer_of(old.samples.writable, new.writable),
+                inodes: newer_of(old.samples.inodes, new.inodes),
+                pids: newer_of(old.samples.pids, new.pids),
+            },
+            is_unsampled: false,
         },
     }
 }

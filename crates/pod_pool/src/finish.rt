@@ -112,7 +112,7 @@ impl<D: Deal, U: Ledger, E: Ledger, O: Ledger> WorkerResult<D, U, E, O> {
         self.keep(rt, book, piece, updated)
     }
 
-    /// The same result, or the piece whose update was refused.
+    /// The result where no update was refused, else the piece whose update was.
     pub fn complete(self) -> Result<WorkerResult<D, U, E, O>, PodPiece>
         ensures ok { IfOk result (λ worker_result. worker_result ≡ self) }
         ensures none { IfOk result (λ worker_result. worker_result.refused ≡ None) }

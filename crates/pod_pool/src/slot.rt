@@ -24,7 +24,7 @@ pub(crate) struct WorkerSlot<D: Deal> {
     pub ghost room_uncounted: { vec_capacity uncounted ≡ vec_capacity done },
 }
 
-/// The same with a permit of each deque, by which nothing was taken yet.
+/// What a worker begins with, with a permit of each deque, by which nothing was taken yet.
 #[derive(Drop)]
 pub(crate) struct DealtSlot<D: Deal> {
     pub(crate) handles: Vec<StealHandle<D>>,

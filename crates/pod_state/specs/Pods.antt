@@ -7,7 +7,7 @@ use Rattle.std.specs.List.{range_with_len}
 use Rattle.histories.specs.Histories.{Recorded, recorded, project, up_to, HoldsAt, IsFirstPlace}
 use Rattle.observations.specs.declared.container.ContainerObs.{ContainerObs}
 use Rattle.observations.specs.Pods.{PodObs}
-use Rattle.observations.specs.declared.usage.Usage.{Usage}
+use Rattle.observations.specs.declared.usage.Sampling.{Sampling}
 use Rattle.state_diff.specs.Instances.{IsSetUp}
 use Rattle.manifest.specs.declared.pod.ContainerSpec.{ContainerSpec}
 use Rattle.manifest.specs.declared.pod.Role.{Role}
@@ -23,10 +23,10 @@ use Rattle.containers.specs.Probed as probed
 use Rattle.containers.specs.Shown as shown
 
 -- what a tick shows of a pod: of each container what is listed of it and its probes' results, and
--- what the pod used
+-- what it says of the samples of the pod's use of its node
 pub record PodEntry : Type 0 where
   pub containers : List ContainerObs
-  pub usage : Option Usage
+  pub sampling : Sampling
 
 -- one tick of a pod: its moment, and what it shows
 abbrev pub PodTick : Type 0
@@ -34,7 +34,7 @@ PodTick = Recorded PodEntry
 
 -- the tick that an observation is
 abbrev pub pod_tick : PodObs → PodTick
-pod_tick observed = recorded observed.at (record { containers = observed.containers; usage = observed.usage })
+pod_tick observed = recorded observed.at (record { containers = observed.containers; sampling = observed.sampling })
 
 -- what a tick shows of a container of which it has no entry: nothing listed, and no results
 abbrev pub unseen : ContainerObs

@@ -25,18 +25,21 @@ exact_bool true false e = absurd (cc)
 exact_bool false true e = absurd (cc)
 
 abbrev Fields : Type 0
-Fields = Bool × (ℤ × (ℕ × (ℕ × ℕ)))
+Fields = Bool × (Bool × (ℤ × (Bool × (ℕ × (ℕ × ℕ)))))
 
 fields : RankKey → Fields
-fields k = (k.within_request, (k.priority, (k.excess.0, (k.shortfall, k.number))))
+fields k =
+    (k.follows_unsampled, (k.within_request, (k.priority, (k.is_sampled, (k.excess.0, (k.shortfall, k.number))))))
 
 made : Fields → RankKey
 made f = record {
-  within_request = f.0;
-  priority = f.1.0;
-  excess = record { 0 = f.1.1.0 };
-  shortfall = f.1.1.1.0;
-  number = f.1.1.1.1;
+  follows_unsampled = f.0;
+  within_request = f.1.0;
+  priority = f.1.1.0;
+  is_sampled = f.1.1.1.0;
+  excess = record { 0 = f.1.1.1.1.0 };
+  shortfall = f.1.1.1.1.1.0;
+  number = f.1.1.1.1.1.1;
 }
 
 exact_keys : CmpEqualImpliesEq rank_cmp
@@ -44,17 +47,21 @@ unfolding fields made
 exact_keys j k e =
     let numbers = exact_pairs nat_cmp nat_cmp exact_unsigned exact_unsigned in
     let margins = exact_pairs (λ (x y : ℕ). nat_cmp y x) _ (λ x y r. sym (exact_unsigned y x r)) numbers in
-    let priorities = exact_pairs int_cmp _ exact_signed margins in
-    let same : fields j ≡ fields k = exact_pairs bool_cmp _ exact_bool priorities (fields j) (fields k) e in
+    let samples = exact_pairs bool_cmp _ exact_bool margins in
+    let priorities = exact_pairs int_cmp _ exact_signed samples in
+    let requests = exact_pairs bool_cmp _ exact_bool priorities in
+    let same : fields j ≡ fields k = exact_pairs bool_cmp _ exact_bool requests (fields j) (fields k) e in
     ap made same
 
 keys_total : IsTotalOrder rank_cmp
 keys_total =
-    then_total (on_total (λ (k : RankKey). k.within_request) bool_cmp_total)
+    then_total (on_total (λ (k : RankKey). k.follows_unsampled) bool_cmp_total)
+    (then_total (on_total (λ (k : RankKey). k.within_request) bool_cmp_total)
     (then_total (on_total (λ (k : RankKey). k.priority) int_cmp_total)
+    (then_total (on_total (λ (k : RankKey). k.is_sampled) bool_cmp_total)
     (then_total (on_total (λ (k : RankKey). k.excess.0) (back_total nat_cmp_total))
     (then_total (on_total (λ (k : RankKey). k.shortfall) nat_cmp_total)
-    (on_total (λ (k : RankKey). k.number) nat_cmp_total))))
+    (on_total (λ (k : RankKey). k.number) nat_cmp_total))))))
 
 pub keys_exact : IsExact rank_cmp
 keys_exact = record { total = keys_total; exact = exact_keys }

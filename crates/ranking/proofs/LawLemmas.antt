@@ -1,6 +1,6 @@
 -- The laws of the order of eviction.
 use Rattle.std.proofs.Common.{◌≡◌, ◌⊎◌, inl, inr, ℕ, ◌-◌, Bool, cond, refl, sym, ap, subst, ◌∙◌}
-use Rattle.std.specs.Prelude.{◌≢◌, ◌↔◌, ◌==◌, ◌&&◌, leb, Option, Some, None}
+use Rattle.std.specs.Prelude.{◌≢◌, ◌↔◌, ◌==◌, ◌&&◌, not, leb, Option, Some, None}
 use Rattle.std.specs.declared.cmp.Ordering.{Ordering}
 use Rattle.std.specs.declared.cmp.Ordering.TheVariants.{Less, Equal, Greater}
 use Rattle.std.proofs.lemmas.Bool.{cases_eq}
@@ -10,7 +10,7 @@ use Rattle.phase.proofs.DecideLemmas.{terminal_cases}
 use Rattle.pod_piece.specs.declared.status.PodStatus.{PodStatus}
 use Rattle.ranking.specs.declared.key.RankKey.{RankKey}
 use Rattle.ranking.specs.Amounts.{used, has_requests, requested}
-use Rattle.ranking.specs.Order.{IsBefore, IsVictim}
+use Rattle.ranking.specs.Order.{ranks_unsampled_first, IsBefore, IsVictim}
 use Rattle.ranking.specs.Keys.{key_of, rank_cmp}
 use Rattle.ranking.specs.Index.{AreHeldAfter, AreHeldWithout}
 use Rattle.ranking.specs.Laws.{LesserKeyIsBefore, OrderIsTotal, OneVictim, OneIsHeldAfter, OneIsHeldWithout}
@@ -60,10 +60,13 @@ pub record RankAlike (p q : PodStatus) : Type 0 where
 key_alike : (signal : Signal) (dedicated : Bool) (p q : PodStatus) → RankAlike p q
     → key_of signal dedicated p ≡ key_of signal dedicated q
 key_alike signal dedicated p q a = λ i. record {
-  within_request = has_requests signal && leb (used signal dedicated (a.usage i)) (requested signal (a.requests i));
+  follows_unsampled = ranks_unsampled_first signal && not (a.usage i).is_unsampled;
+  within_request =
+      has_requests signal && leb (used signal dedicated (a.usage i).samples) (requested signal (a.requests i));
   priority = a.priority i;
-  excess = record { 0 = used signal dedicated (a.usage i) - requested signal (a.requests i) };
-  shortfall = requested signal (a.requests i) - used signal dedicated (a.usage i);
+  is_sampled = not (a.usage i).is_unsampled;
+  excess = record { 0 = used signal dedicated (a.usage i).samples - requested signal (a.requests i) };
+  shortfall = requested signal (a.requests i) - used signal dedicated (a.usage i).samples;
   number = a.number i;
 }
 

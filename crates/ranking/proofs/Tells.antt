@@ -1,6 +1,6 @@
 -- The order of keys is the order of pods.
 use Rattle.std.proofs.Common.{◌≡◌, inl, inr, ℕ, ◌+◌, ◌-◌, ◌<◌, ◌≤◌, Bool, true, false, refl, subst, arith}
-use Rattle.std.specs.Prelude.{◌↔◌, ℤ, ◌<ℤ◌, ◌&&◌, leb, IsTrue}
+use Rattle.std.specs.Prelude.{◌↔◌, ℤ, ◌<ℤ◌, ◌&&◌, not, leb, IsTrue}
 use Rattle.std.specs.Ordering.{nat_cmp, int_cmp, bool_cmp, ordering_then, MatchOrdering}
 use Rattle.std.specs.declared.cmp.Ordering.{Ordering}
 use Rattle.std.specs.declared.cmp.Ordering.TheVariants.{Less, Equal, Greater}
@@ -11,7 +11,8 @@ use Rattle.std.proofs.lemmas.Bool.Decides.{nat_tests}
 use Rattle.signals.specs.declared.signal.Signal.{Signal}
 use Rattle.pod_piece.specs.declared.status.PodStatus.{PodStatus}
 use Rattle.ranking.specs.Amounts.{used, has_requests, requested}
-use Rattle.ranking.specs.Order.{First, ExceedsAlone, HasLowerPriority, UsesMore, HasLowerNumber, IsBefore}
+use Rattle.ranking.specs.Order.{First, UnsampledAlone, UnsampledFirst, ranks_unsampled_first, ExceedsAlone}
+use Rattle.ranking.specs.Order.{HasLowerPriority, UsesMore, HasLowerNumber, IsBefore}
 use Rattle.ranking.specs.Keys.{key_of, rank_cmp}
 
 -- an ordering tells which of two comes before the other
@@ -131,14 +132,34 @@ tells_alone true u r v s = alone_by u r v s
 tells_alone false u r v s =
     tells_equal _ _ (λ w. let e : false ≡ true = w.0 in cc) (λ w. let e : false ≡ true = w.0 in cc)
 
+-- of two flags the first alone is set
+abbrev SetAlone : Bool → Bool → Type 0
+SetAlone a b = IsTrue a × (IsTrue b → ⊥)
+
+tells_set : (a b : Bool) → Tells (SetAlone a b) (SetAlone b a) (bool_cmp (not a) (not b))
+tells_set true true = tells_equal _ _ (λ w. w.1 refl) (λ w. w.1 refl)
+tells_set false false = tells_equal _ _ (λ w. w.1 w.0) (λ w. w.1 w.0)
+tells_set true false =
+    tells_less _ _ (refl, λ e. let f : false ≡ true = e in cc) (λ w. let f : false ≡ true = w.0 in cc)
+tells_set false true =
+    tells_greater _ _ (refl, λ e. let f : false ≡ true = e in cc) (λ w. let f : false ≡ true = w.0 in cc)
+
+-- where that is asked
+tells_asked : (asked a b : Bool)
+    → Tells (IsTrue asked × SetAlone a b) (IsTrue asked × SetAlone b a) (bool_cmp (asked && not a) (asked && not b))
+tells_asked true a b =
+    tells_as _ _ _ _ _ ((λ w. (refl, w)), (λ w. w.1)) ((λ w. (refl, w)), (λ w. w.1)) (tells_set a b)
+tells_asked false a b =
+    tells_equal _ _ (λ w. let e : false ≡ true = w.0 in cc) (λ w. let e : false ≡ true = w.0 in cc)
+
 -- keys stand as their pods do
 pub tells_keys : (signal : Signal) (dedicated : Bool) (p q : PodStatus)
     → Tells (IsBefore signal dedicated p q) (IsBefore signal dedicated q p)
     (rank_cmp (key_of signal dedicated p) (key_of signal dedicated q))
 tells_keys signal dedicated p q =
-    let u = used signal dedicated p.usage in
+    let u = used signal dedicated p.usage.samples in
     let r = requested signal p.requests in
-    let v = used signal dedicated q.usage in
+    let v = used signal dedicated q.usage.samples in
     let s = requested signal q.requests in
     let More = UsesMore signal dedicated in
     let excess : Ordering = nat_cmp (v - s) (u - r) in
@@ -150,7 +171,13 @@ tells_keys signal dedicated p q =
     (ordering_then excess (ordering_then shortfall number)) =
     subst (Tells (First More HasLowerNumber p q) (First More HasLowerNumber q p))
     (then_assoc excess shortfall number) last in
-    let second = tells_first HasLowerPriority (First More HasLowerNumber) p q _ _
-    (tells_int p.priority q.priority) third in
-    tells_first (ExceedsAlone signal dedicated) (First HasLowerPriority (First More HasLowerNumber)) p q _ _
-    (tells_alone (has_requests signal) u r v s) second
+    let Used = First More HasLowerNumber in
+    let by_sample = tells_first UnsampledAlone Used p q _ _
+    (tells_set p.usage.is_unsampled q.usage.is_unsampled) third in
+    let by_priority = tells_first HasLowerPriority (First UnsampledAlone Used) p q _ _
+    (tells_int p.priority q.priority) by_sample in
+    let by_request = tells_first (ExceedsAlone signal dedicated) (First HasLowerPriority (First UnsampledAlone Used))
+    p q _ _ (tells_alone (has_requests signal) u r v s) by_priority in
+    tells_first (UnsampledFirst signal)
+    (First (ExceedsAlone signal dedicated) (First HasLowerPriority (First UnsampledAlone Used))) p q _ _
+    (tells_asked (ranks_unsampled_first signal) p.usage.is_unsampled q.usage.is_unsampled) by_request

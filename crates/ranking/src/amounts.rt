@@ -3,6 +3,7 @@
 ghost use Rattle.std.specs.Prelude.{◌≡◌, ◌≤◌, ◌*◌};
 ghost use Rattle.quantity.specs.Quantity.{greatest_quantity};
 ghost use Rattle.ranking.specs.Amounts.{newest, local_storage, used, requested, has_requests};
+ghost use Rattle.ranking.specs.Order.{ranks_unsampled_first};
 
 use observations::Usage;
 use pod_piece::EffectiveRequests;
@@ -70,5 +71,19 @@ pub(crate) fn has_requests(signal: Signal) -> bool
     match signal {
         Signal::MemoryAvailable | Signal::NodefsAvailable | Signal::ImagefsAvailable => true,
         Signal::NodefsInodesFree | Signal::ImagefsInodesFree | Signal::PidAvailable => false,
+    }
+}
+
+/// Whether a pod without a sample comes before all others by the signal.
+pub(crate) fn ranks_unsampled_first(signal: Signal) -> bool
+    ensures { result ≡ ranks_unsampled_first signal }
+{
+    match signal {
+        Signal::MemoryAvailable
+        | Signal::NodefsAvailable
+        | Signal::ImagefsAvailable
+        | Signal::NodefsInodesFree
+        | Signal::ImagefsInodesFree => true,
+        Signal::PidAvailable => false,
     }
 }

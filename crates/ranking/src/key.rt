@@ -3,7 +3,7 @@
 ghost use Rattle.std.specs.Prelude.{◌≡◌};
 ghost use Rattle.ranking.specs.Keys.{key_of};
 
-use crate::amounts::{has_requests, requested, used};
+use crate::amounts::{has_requests, ranks_unsampled_first, requested, used};
 use pod_piece::PodStatus;
 use signals::Signal;
 use std::cmp::Reverse;
@@ -12,9 +12,13 @@ use std::cmp::Reverse;
 /// (Kubernetes, "Node-pressure Eviction", "Pod selection for kubelet eviction".)
 #[derive(Clone, Copy, PartialEq, Eq, PartialOrd, Ord)]
 pub struct RankKey {
+    /// Whether it has a sample, where pods without one come before all others.
+    follows_unsampled: bool,
     /// Whether its usage is within its request, where pods request anything of this.
     within_request: bool,
     priority: i32,
+    /// Whether it has a sample, or none was said to be missing.
+    is_sampled: bool,
     /// By how much its usage is above its request, in thousandths.
     excess: Reverse<u128>,
     /// By how much its usage is below its request, in thousandths.
@@ -28,11 +32,14 @@ pub struct RankKey {
 pub fn rank_key(status: &PodStatus, signal: Signal, has_dedicated_imagefs: bool) -> RankKey
     ensures { result ≡ key_of signal has_dedicated_imagefs status.now }
 {
-    let used = used(&status.usage, signal, has_dedicated_imagefs);
+    let used = used(&status.usage.samples, signal, has_dedicated_imagefs);
     let requested = requested(&status.requests, signal);
+    let is_sampled = !status.usage.is_unsampled;
     RankKey {
+        follows_unsampled: ranks_unsampled_first(signal) && is_sampled,
         within_request: has_requests(signal) && used <= requested,
         priority: status.priority,
+        is_sampled,
         excess: Reverse(used.saturating_sub(requested)),
         shortfall: requested.saturating_sub(used),
         number: status.number,

@@ -48,7 +48,7 @@ pub(crate) const COMPACT: Words = Words {
     signals_end: "Gi\"}}\n",
 };
 
-/// The same with names as a deployment's containers have them.
+/// The words of a trace in few bytes, with names as a deployment's containers have them.
 pub(crate) const LONG_NAMES: Words = Words {
     container: r#"{"name":"container-of-web-"#,
     result: r#"{"container":"container-of-web-"#,

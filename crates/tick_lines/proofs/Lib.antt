@@ -4,6 +4,7 @@ pub mod Parts
 pub mod Ordered
 pub mod Texts
 pub mod Quantities
+pub mod Unsampled
 pub mod Strangers
 pub mod Alike
 pub mod Nulls

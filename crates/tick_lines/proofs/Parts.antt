@@ -14,7 +14,7 @@ use Rattle.json_fields.specs.declared.scope.Scope.TheVariants.{Node, FileSystems
 use Rattle.tick_lines.specs.Fields.{only_object, quantity_at}
 use Rattle.tick_lines.specs.Listings.{listings_of}
 use Rattle.tick_lines.specs.Results.{results_of}
-use Rattle.tick_lines.specs.Usages.{usage_in, usage_of}
+use Rattle.tick_lines.specs.Usages.{usage_in, usage_of, unsampled_of}
 use Rattle.tick_lines.specs.Entries.{entry_of, entries_of}
 use Rattle.tick_lines.specs.Samples.{samples_of}
 use Rattle.tick_lines.specs.Line.{tick_line_of}
@@ -42,6 +42,7 @@ pub record IsEntry (d : Data) (entry : TickEntry) : Type 0 where
   pub listings : listings_of (field_at (codes "containers") d) ≡ Ok entry.listings
   pub results : results_of (field_at (codes "probes") d) ≡ Ok entry.results
   pub usage : usage_of (field_at (codes "usage") d) ≡ Ok entry.usage
+  pub unsampled : unsampled_of (field_at (codes "unsampled") d) ≡ entry.unsampled
 
 pub entry_parts : (d : Data) (entry : TickEntry) → entry_of d ≡ Ok entry → IsEntry d entry
 unfolding entry_of
@@ -56,6 +57,7 @@ entry_parts d entry e =
       listings = listings.1 ∙ ap (λ (x : TickEntry). Ok x.listings) same;
       results = results.1 ∙ ap (λ (x : TickEntry). Ok x.results) same;
       usage = usage.1 ∙ ap (λ (x : TickEntry). Ok x.usage) same;
+      unsampled = ap (λ (x : TickEntry). x.unsampled) same;
     }
 
 pub record HasUsage (d : Data) (usage : Usage) : Type 0 where

@@ -9,7 +9,7 @@ use Rattle.tick_lines.specs.declared.fault.TickLineFault.TheVariants.{Usage}
 use Rattle.tick_lines.specs.Fields.{each_item}
 use Rattle.tick_lines.specs.Listings.{listings_of}
 use Rattle.tick_lines.specs.Results.{results_of}
-use Rattle.tick_lines.specs.Usages.{usage_of}
+use Rattle.tick_lines.specs.Usages.{usage_of, unsampled_of}
 
 unfoldable pub entry_of : Data → Result TickEntry TickLineFault
 entry_of d = do
@@ -17,7 +17,13 @@ entry_of d = do
   listings ← listings_of (field_at (codes "containers") d)
   results ← results_of (field_at (codes "probes") d)
   usage ← usage_of (field_at (codes "usage") d)
-  Ok (record { key = key; listings = listings; results = results; usage = usage })
+  Ok (record {
+    key = key;
+    listings = listings;
+    results = results;
+    usage = usage;
+    unsampled = unsampled_of (field_at (codes "unsampled") d);
+  })
 
 -- the entries with one more
 abbrev pub with_entry : List TickEntry → Data → Result (List TickEntry) TickLineFault

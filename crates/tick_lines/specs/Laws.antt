@@ -1,8 +1,8 @@
 -- What the definition of a tick line implies, in the words of the format.
-use Rattle.std.specs.Prelude.{◌≡◌, ◌↔◌, ℕ, false, List, [], ◌∷◌, Option, Some, None, option_and_then, Result, Ok, Err}
-use Rattle.std.specs.Prelude.{codes}
+use Rattle.std.specs.Prelude.{◌≡◌, ◌⊎◌, ◌↔◌, ℕ, true, false, List, [], ◌∷◌, Option, Some, None, option_and_then}
+use Rattle.std.specs.Prelude.{Result, Ok, Err, codes}
 use Rattle.std.specs.List.{AllByRecursion, AllZip}
-use Rattle.serde_json.specs.Data.{Data, null, object, Items, Members, put}
+use Rattle.serde_json.specs.Data.{Data, null, boolean, object, Items, Members, put}
 use Rattle.serde_json.specs.Find.{as_array, get_member}
 use Rattle.json_fields.specs.Fields.{field_at, text_at, items_list}
 use Rattle.observations.specs.declared.usage.Usage.{Usage}
@@ -16,6 +16,8 @@ use Rattle.tick_lines.specs.declared.fault.TickLineFault.TheVariants as faults
 use Rattle.tick_lines.specs.declared.line.TickLine.{TickLine}
 use Rattle.tick_lines.specs.declared.listing.Listing.{Listing}
 use Rattle.tick_lines.specs.declared.probing.ProbeResult.{ProbeResult}
+use Rattle.tick_lines.specs.declared.usage.UnsampledMember.{UnsampledMember}
+use Rattle.tick_lines.specs.declared.usage.UnsampledMember.TheVariants.{No, Yes}
 use Rattle.json_fields.specs.declared.scope.Scope.{Scope}
 use Rattle.tick_lines.specs.Listings.{listing_of}
 use Rattle.tick_lines.specs.Results.{result_of}
@@ -79,6 +81,17 @@ SaysUsage (Some d) said = (usage : Usage) × (said ≡ Some usage) × IsUsage d 
 abbrev pub UsageSaid : Type 0
 UsageSaid = (d : Data) (entry : TickEntry) → entry_of d ≡ Ok entry → SaysUsage (field_at (codes "usage") d) entry.usage
 
+-- that a pod has no sample is said by true alone, and nothing of it by false and by no value
+pub record SaysUnsampled (found : Option Data) (said : UnsampledMember) : Type 0 where
+  pub yes : said ≡ Yes ↔ found ≡ Some (boolean true)
+  pub no : said ≡ No ↔ ((found ≡ None) ⊎ (found ≡ Some (boolean false)))
+
+-- an entry says that its pod has no sample exactly where its member is true; each value but a truth value is left to be
+-- refused
+abbrev pub UnsampledSaid : Type 0
+UnsampledSaid = (d : Data) (entry : TickEntry) → entry_of d ≡ Ok entry
+    → SaysUnsampled (field_at (codes "unsampled") d) entry.unsampled
+
 -- it is the name of no signal of the file systems
 abbrev pub NamesNoFileSystem : List ℕ → Type 0
 NamesNoFileSystem name = (signal : Signal) → named name ≡ Some signal → is_of_file_system signal ≡ false
@@ -107,7 +120,7 @@ abbrev pub line_fields : List (List ℕ)
 line_fields = codes "pods" ∷ codes "signals" ∷ codes "afterReclaim" ∷ []
 
 abbrev pub entry_fields : List (List ℕ)
-entry_fields = codes "pod" ∷ codes "containers" ∷ codes "probes" ∷ codes "usage" ∷ []
+entry_fields = codes "pod" ∷ codes "containers" ∷ codes "probes" ∷ codes "usage" ∷ codes "unsampled" ∷ []
 
 abbrev pub listing_fields : List (List ℕ)
 listing_fields = codes "name" ∷ codes "attempt" ∷ codes "state" ∷ codes "exitCode" ∷ []

@@ -8,8 +8,9 @@ use crate::fields::text_of;
 use crate::items::{ReadItem, read_items};
 use crate::listing::Listing;
 use crate::probing::ProbeResult;
-use crate::usage::usage_of;
-use json_fields::{Json, field, text_at};
+use crate::usage::{UnsampledMember, unsampled_of, usage_of};
+use crate::value::TickValue;
+use json_fields::{field, text_at};
 use lists::Sequence;
 use manifest::Text;
 use observations::Usage;
@@ -26,10 +27,12 @@ pub struct TickEntry {
     pub results: Sequence<ProbeResult>,
     /// What the pod used, where the entry has a sample of it.
     pub usage: Option<Usage>,
+    /// Whether it says that the pod has no sample. (This project's extended format.)
+    pub unsampled: UnsampledMember,
 }
 
 #[tactic(auto, unfolding(crate::specs::Entries::entry_of))]
-fn entry_of<V: Json>(alloc: Global, value: &V) -> Result<TickEntry, TickLineFault>
+fn entry_of<V: TickValue>(alloc: Global, value: &V) -> Result<TickEntry, TickLineFault>
     ensures { GivesUnlessMemory (λ e. e) result (entry_of (V.data value.now)) }
 {
     Ok(TickEntry {
@@ -37,13 +40,14 @@ fn entry_of<V: Json>(alloc: Global, value: &V) -> Result<TickEntry, TickLineFaul
         listings: read_items::<Listing, V>(alloc, field(value, "containers"))?,
         results: read_items::<ProbeResult, V>(alloc, field(value, "probes"))?,
         usage: usage_of(field(value, "usage"))?,
+        unsampled: unsampled_of(field(value, "unsampled")),
     })
 }
 
 impl ReadItem for TickEntry {
     ghost read_of = { entry_of };
 
-    fn read<V: Json>(alloc: Global, item: &V) -> Result<TickEntry, TickLineFault> {
+    fn read<V: TickValue>(alloc: Global, item: &V) -> Result<TickEntry, TickLineFault> {
         entry_of(alloc, item)
     }
 }

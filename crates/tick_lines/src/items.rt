@@ -7,7 +7,7 @@ ghost use Rattle.tick_lines.specs.GivesUnlessMemory.{GivesUnlessMemory};
 
 use crate::fault::TickLineFault;
 use crate::fields::items_of;
-use json_fields::Json;
+use crate::value::TickValue;
 use lists::Sequence;
 use std::alloc::Global;
 
@@ -22,11 +22,11 @@ pub(crate) trait ReadItem: Drop + Sized {
     ghost read_of: { Data → Result Self TickLineFault };
 
     /// Reads the item.
-    fn read<V: Json>(alloc: Global, item: &V) -> Result<Self, TickLineFault>
+    fn read<V: TickValue>(alloc: Global, item: &V) -> Result<Self, TickLineFault>
         ensures { GivesUnlessMemory (λ r. r) result (read_of (V.data item.now)) };
 }
 
-fn read_each<R: ReadItem, V: Json>(
+fn read_each<R: ReadItem, V: TickValue>(
     alloc: Global,
     values: &[V],
 ) -> Result<Sequence<R>, TickLineFault>
@@ -41,7 +41,7 @@ fn read_each<R: ReadItem, V: Json>(
 }
 
 /// What is read of the items of an array that may be left out.
-pub(crate) fn read_items<R: ReadItem, V: Json>(
+pub(crate) fn read_items<R: ReadItem, V: TickValue>(
     alloc: Global,
     found: Option<&V>,
 ) -> Result<Sequence<R>, TickLineFault>

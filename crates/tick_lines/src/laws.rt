@@ -24,6 +24,12 @@ pub fn usage_said()
     ensures { laws.UsageSaid }
 {}
 
+/// An entry says that its pod has no sample exactly where its member `unsampled` is true, and nothing of it exactly
+/// where the member is missing, null or false.
+pub fn unsampled_said()
+    ensures { laws.UnsampledSaid }
+{}
+
 /// A line is refused where it names a signal that it may not name.
 pub fn only_signals()
     ensures { laws.OnlySignals }

@@ -12,6 +12,7 @@ mod probing;
 mod samples;
 mod tape;
 mod usage;
+mod value;
 
 pub use entry::TickEntry;
 pub use fault::TickLineFault;
@@ -22,3 +23,5 @@ pub use tape::{
     EntryText, LineSamples, ListingText, ResultText, entries_text, entry_text, listing_text,
     result_text, samples_text,
 };
+pub use usage::UnsampledMember;
+pub use value::TickValue;

@@ -10,7 +10,8 @@ use crate::entry::TickEntry;
 use crate::fault::TickLineFault;
 use crate::items::read_items;
 use crate::samples::samples_of;
-use json_fields::{Json, Scope, field};
+use crate::value::TickValue;
+use json_fields::{Scope, field};
 use lists::Sequence;
 use quantity::Quantity;
 use signals::BySignal;
@@ -24,13 +25,16 @@ pub struct TickLine {
     /// What the node has left of each resource, in bytes, inodes and processes, where the line has
     /// a sample. (Kubernetes, "Node-pressure Eviction", "Eviction signals".)
     pub signals: BySignal<Option<Quantity>>,
-    /// The same after images and dead containers were deleted, of the file systems alone.
-    /// (Kubernetes, "Node-pressure Eviction", "Reclaiming node level resources".)
+    /// What the node has left of each resource of its file systems after images and dead containers were deleted,
+    /// where the line has a sample. (Kubernetes, "Node-pressure Eviction", "Reclaiming node level resources".)
     pub after_reclaim: BySignal<Option<Quantity>>,
 }
 
 /// Reads the entries of a tick line, which come before its samples.
-pub fn entries_of<V: Json>(alloc: Global, line: &V) -> Result<Sequence<TickEntry>, TickLineFault>
+pub fn entries_of<V: TickValue>(
+    alloc: Global,
+    line: &V,
+) -> Result<Sequence<TickEntry>, TickLineFault>
     ensures { GivesUnlessMemory (λ s. s) result (entries_of (field_at (codes "pods") (V.data line.now))) }
 {
     read_items::<TickEntry, V>(alloc, field(line, "pods"))
@@ -43,7 +47,7 @@ pub fn entries_of<V: Json>(alloc: Global, line: &V) -> Result<Sequence<TickEntry
 /// `Usage` where a field that has to be there is missing, or one has a value of another kind or out
 /// of its range, a faulty quantity, or a signal that it may not name.
 #[tactic(auto, unfolding(crate::specs::Line::tick_line_of))]
-pub fn tick_line_of<V: Json>(alloc: Global, line: &V) -> Result<TickLine, TickLineFault>
+pub fn tick_line_of<V: TickValue>(alloc: Global, line: &V) -> Result<TickLine, TickLineFault>
     ensures { GivesUnlessMemory (λ t. t) result (tick_line_of (V.data line.now)) }
 {
     Ok(TickLine {

@@ -9,6 +9,7 @@ ghost use Rattle.tick_lines.specs.Listings.{listing_of};
 use crate::fault::TickLineFault;
 use crate::fields::text_of;
 use crate::items::ReadItem;
+use crate::value::TickValue;
 use json_fields::{Json, field, text_at};
 use manifest::Text;
 use state_diff::CriState;
@@ -114,7 +115,7 @@ fn listing_of<V: Json>(alloc: Global, value: &V) -> Result<Listing, TickLineFaul
 impl ReadItem for Listing {
     ghost read_of = { listing_of };
 
-    fn read<V: Json>(alloc: Global, item: &V) -> Result<Listing, TickLineFault> {
+    fn read<V: TickValue>(alloc: Global, item: &V) -> Result<Listing, TickLineFault> {
         listing_of(alloc, item)
     }
 }

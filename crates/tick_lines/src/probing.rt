@@ -8,6 +8,7 @@ ghost use Rattle.tick_lines.specs.Results.{probe_named, outcome_named, result_of
 use crate::fault::TickLineFault;
 use crate::fields::text_of;
 use crate::items::ReadItem;
+use crate::value::TickValue;
 use json_fields::{Json, text_at};
 use manifest::{Outcome, ProbeKind, Text};
 use std::alloc::Global;
@@ -65,7 +66,7 @@ fn result_of<V: Json>(alloc: Global, value: &V) -> Result<ProbeResult, TickLineF
 impl ReadItem for ProbeResult {
     ghost read_of = { result_of };
 
-    fn read<V: Json>(alloc: Global, item: &V) -> Result<ProbeResult, TickLineFault> {
+    fn read<V: TickValue>(alloc: Global, item: &V) -> Result<ProbeResult, TickLineFault> {
         result_of(alloc, item)
     }
 }

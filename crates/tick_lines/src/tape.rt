@@ -1,7 +1,7 @@
 //! What a tick line says, read from the tape of its tokens without a copy of its texts. Where one of these answers
 //! none, the line has a fault, or a shape that is left to `tick_line_of`.
 
-ghost use Rattle.std.specs.Prelude.{◌≡◌, List, Some, option_map, Ok, IfOk, IfSome, codes};
+ghost use Rattle.std.specs.Prelude.{◌≡◌, IsTrue, List, Some, option_map, Ok, IfOk, IfSome, codes};
 ghost use Rattle.json.specs.Token.{Token};
 ghost use Rattle.json.specs.Value.{value_view};
 ghost use Rattle.serde_json.specs.Data.{Data};
@@ -13,6 +13,8 @@ ghost use Rattle.tick_lines.specs.Listings.{attempt_of, state_of, listing_of};
 ghost use Rattle.tick_lines.specs.Results.{result_of};
 ghost use Rattle.tick_lines.specs.Samples.{samples_of};
 ghost use Rattle.tick_lines.specs.Tape.{text_in, code_in, probe_in, outcome_in, left_in, listing_as, result_as};
+ghost use Rattle.tick_lines.specs.Tape.{unsampled_in};
+ghost use Rattle.tick_lines.specs.declared.usage.UnsampledMember.TheVariants.{No};
 ghost use Rattle.tick_lines.specs.Tape.{ListingRead, ResultRead, UsageRead, EntryRead, IsEntry, HasSamples};
 ghost use Rattle.tick_lines.specs.Usages.{usage_in, usage_of};
 
@@ -20,6 +22,7 @@ use crate::fields::quantity_at;
 use crate::listing::{ListedInstance, attempt_of, code_of, state_of};
 use crate::probing::{outcome_named, probe_named};
 use crate::samples::samples_of;
+use crate::usage::{UnsampledMember, unsampled_of};
 use json::Value;
 use json_fields::{MemberNames, Scope, TapeItems, TapeValue};
 use manifest::{Outcome, ProbeKind};
@@ -67,7 +70,7 @@ pub struct EntryText<'t, 'a> {
 pub struct LineSamples {
     /// What the node has left of each resource, as in `TickLine`.
     pub signals: BySignal<Option<Quantity>>,
-    /// The same after images and dead containers were deleted, as in `TickLine`.
+    /// What it has left after images and dead containers were deleted, as in `TickLine`.
     pub after_reclaim: BySignal<Option<Quantity>>,
 }
 
@@ -338,7 +341,17 @@ fn usage_here(value: &TapeValue<'_, '_>) -> Option<Option<Usage>>
     Some(Some(usage))
 }
 
-/// What was read of an entry, and of one member more.
+/// Whether a member says nothing of a pod's samples: it is null or false.
+fn is_silent(value: &TapeValue<'_, '_>) -> bool
+    ensures { IsTrue result → unsampled_in (present (Some (data_at value.now))) ≡ Ok No }
+{
+    let Some(found) = scalar_here(value) else {
+        return false;
+    };
+    matches!(unsampled_of(found.as_ref()), UnsampledMember::No)
+}
+
+/// What was read of an entry, and of one member more: none where it says something of samples, which is rare.
 fn entry_with<'t, 'a>(
     entry: EntryMembers<'t, 'a>,
     name: &str,
@@ -364,11 +377,13 @@ fn entry_with<'t, 'a>(
             usage: usage_here(value)?,
             ..entry
         }),
+        "unsampled" => if is_silent(value) { Some(entry) } else { None },
         _ => Some(entry),
     }
 }
 
-/// What an item of a tick line says of a pod, all but its listings and results.
+/// What an item of a tick line says of a pod, all but its listings and results; none where it says that the pod has no
+/// sample.
 pub fn entry_text<'t, 'a>(value: &TapeValue<'t, 'a>) -> Option<EntryText<'t, 'a>>
     ensures { IfSome result (IsEntry (data_at value.now)) }
 {

@@ -22,6 +22,7 @@ use Rattle.pod_piece.specs.Piece.{Piece, new_piece, pods_in}
 use Rattle.ranking.proofs.LawLemmas.{same_victim}
 use Rattle.eviction.specs.declared.eviction.Eviction.{Eviction}
 use Rattle.eviction.specs.Replay.{EvictedAt, pod_ticks, own_eviction, IsCandidate}
+use Rattle.eviction.specs.Pausing.{kept}
 use Rattle.eviction.specs.Replay.{IsOfVictim, IsEvictionFor, is_paused, unless_paused, IsEvictionOfTick}
 use Rattle.eviction.proofs.Own.{evicted_none}
 use Rattle.node_pods.specs.Pods.{Pods, with_pod}
@@ -60,7 +61,7 @@ same_round config pods pod before tick es eviction fewer r =
     record {
       served = r.served;
       is_served = r.is_served;
-      is_for = for (unless_paused (is_paused config tick.at es) r.served) r.is_for;
+      is_for = for (unless_paused (is_paused config tick.at (before ++ tick ∷ []) es) r.served) r.is_for;
     }
   where
     same : (n : ℕ) (p : PodStatus)
@@ -108,7 +109,8 @@ same_round config pods pod before tick es eviction fewer r =
 evicted_below : (config : NodeConfig) (pods : List PodSpec) (before : List TickObs) (tick : TickObs)
     (es : List (Option Eviction)) (e : Eviction)
     → IsEvictionOfTick config pods before tick es (Some e) → e.pod < length pods
-evicted_below config pods before tick es e r = by (unless_paused (is_paused config tick.at es) r.served) r.is_for
+evicted_below config pods before tick es e r =
+    by (unless_paused (is_paused config tick.at (before ++ tick ∷ []) es) r.served) r.is_for
   where
     by : (served : Option ThresholdKey) → IsEvictionFor config pods before tick es served (Some e)
         → e.pod < length pods
@@ -120,7 +122,8 @@ evicted_below config pods before tick es e r = by (unless_paused (is_paused conf
 
 -- the pod is one of the node's
 abbrev with_arrived : State → PodSpec → State
-with_arrived s pod = state s.config s.signals (with_pod s.pods pod) s.evictions s.events s.totals s.last
+with_arrived s pod =
+    state s.config s.signals (with_pod s.pods pod) (kept s.evictions s.pausing) s.events s.totals s.last
 
 abbrev pieces_with : State → PodSpec → List Piece
 pieces_with s pod = s.pods.pieces ++ new_piece (length s.pods.pieces) pod s.pods.max_restart_delay ∷ []
@@ -194,6 +197,7 @@ arrives pods ticks s pod taken room = record {
   events = events_arrived s.config pods pod ticks s.evictions s.events taken.events;
   totals = taken.totals;
   signals = taken.signals;
+  pausing = taken.pausing;
   max_restart_delay = taken.max_restart_delay;
   dedicated = taken.dedicated;
   shown = λ t tick at. let le : length tick.pods ≤ length pods = taken.shown t tick at in omega (arith, le, more);
@@ -211,10 +215,12 @@ arrives pods ticks s pod taken room = record {
 -- the same of a node whose pods are set
 pub arrives_as : (pods : List PodSpec) (ticks : List TickObs) (now s : State) (pod : PodSpec) (new : Pods)
     → now ≡ s → new ≡ with_pod s.pods pod → length now.pods.pieces < most_pods → HasTaken pods ticks now
-    → HasTaken (pods ++ pod ∷ []) ticks (state s.config s.signals new s.evictions s.events s.totals s.last)
+    → HasTaken (pods ++ pod ∷ []) ticks
+    (state s.config s.signals new (kept s.evictions s.pausing) s.events s.totals s.last)
 arrives_as pods ticks now s pod new is more room taken =
     subst
-    (λ (p : Pods). HasTaken (pods ++ pod ∷ []) ticks (state s.config s.signals p s.evictions s.events s.totals s.last))
+    (λ (p : Pods). HasTaken (pods ++ pod ∷ []) ticks
+    (state s.config s.signals p (kept s.evictions s.pausing) s.events s.totals s.last))
     (sym more)
     (arrives pods ticks s pod (subst (λ (t : State). HasTaken pods ticks t) is taken)
     (subst (λ (t : State). length t.pods.pieces < most_pods) is room))
@@ -228,10 +234,10 @@ few_more pods pod few one n p at = elim (place_split pods pod p n at) [
 
 pub arrived_kept : (now s : State) (pod : PodSpec) (new : Pods) → now ≡ s → new ≡ with_pod s.pods pod
     → length now.pods.pieces < most_pods → length pod.containers ≤ most_containers → IsKept s
-    → IsKept (state s.config s.signals new s.evictions s.events s.totals s.last)
-arrived_kept now s pod new is more room small kept =
-    kept_by (pods_in s.pods.pieces ++ pod ∷ []) kept.ticks
-    (state s.config s.signals new s.evictions s.events s.totals s.last)
-    (arrives_as (pods_in s.pods.pieces) kept.ticks now s pod new is more room
-    (subst (λ (t : State). HasTaken (pods_in s.pods.pieces) kept.ticks t) (sym is) kept.taken))
-    (few_more (pods_in s.pods.pieces) pod kept.few small) kept.room
+    → IsKept (state s.config s.signals new (kept s.evictions s.pausing) s.events s.totals s.last)
+arrived_kept now s pod new is more room small was =
+    kept_by (pods_in s.pods.pieces ++ pod ∷ []) was.ticks
+    (state s.config s.signals new (kept s.evictions s.pausing) s.events s.totals s.last)
+    (arrives_as (pods_in s.pods.pieces) was.ticks now s pod new is more room
+    (subst (λ (t : State). HasTaken (pods_in s.pods.pieces) was.ticks t) (sym is) was.taken))
+    (few_more (pods_in s.pods.pieces) pod was.few small) was.room

@@ -87,10 +87,12 @@ pub round_of : (config : NodeConfig) (pods : List PodSpec) (before : List TickOb
     (served : Option ThresholdKey) (eviction : Option Eviction)
     → ArePresent pieces tick → ArePieces config pods (before ++ tick ∷ []) es pieces
     → IsServed config.eviction before tick served
-    → IsEvictionAt config pieces tick.at (unless_paused (is_paused config tick.at es) served) eviction
+    → IsEvictionAt config pieces tick.at
+    (unless_paused (is_paused config tick.at (before ++ tick ∷ []) es) served) eviction
     → IsEvictionOfTick config pods before tick es eviction
 round_of config pods before tick es pieces served eviction present are is by =
-    record { served = served; is_served = is; is_for = for (unless_paused (is_paused config tick.at es) served) by }
+    let paused = is_paused config tick.at (before ++ tick ∷ []) es in
+    record { served = served; is_served = is; is_for = for (unless_paused paused served) by }
   where
     for : (served : Option ThresholdKey) → IsEvictionAt config pieces tick.at served eviction
         → IsEvictionFor config pods before tick es served eviction

@@ -1,7 +1,8 @@
 -- A node after one more tick.
 use Rattle.std.proofs.Common.{◌≡◌, inl, inr, ℕ, suc, ◌+◌, ◌*◌, ◌<◌, ◌≤◌, List, [], ◌∷◌, ◌++◌, length}
-use Rattle.std.proofs.Common.{map, Option, Some, None, refl, sym, ap, subst, ◌∙◌, arith}
-use Rattle.std.specs.Prelude.{slice_get, option_map}
+use Rattle.std.proofs.Common.{map, Bool, Option, Some, None, refl, sym, ap, subst, ◌∙◌, arith}
+use Rattle.std.specs.Prelude.{slice_get, option_map, true, false, IfSome}
+use Rattle.std.specs.Option.{option_or}
 use Rattle.std.proofs.lemmas.List.{length-append, length-map}
 use Rattle.std.proofs.lemmas.Option.{slice_get_within, slice_get-map}
 use Rattle.histories.proofs.Places.{length-more}
@@ -21,8 +22,10 @@ use Rattle.node_signals.specs.Node.{IsStateOf}
 use Rattle.pod_state.specs.declared.events.PodEvent.{PodEvent}
 use Rattle.pod_piece.specs.Piece.{Piece, updated, pods_in}
 use Rattle.eviction.specs.declared.eviction.Eviction.{Eviction}
-use Rattle.eviction.specs.Replay.{is_paused, unless_paused}
+use Rattle.eviction.specs.Pausing.{Kept, kept, still}
+use Rattle.eviction.specs.Replay.{is_paused, pauses, unless_paused}
 use Rattle.eviction.proofs.More.{no_replay, replay_more}
+use Rattle.eviction.proofs.Pausing.{none_pausing, paused_now, pausing_more}
 use Rattle.event_book.specs.declared.totals.Totals.{Totals}
 use Rattle.event_book.specs.declared.totals.Entry.{Entry}
 use Rattle.event_book.specs.Limits.{most_events, IsLow}
@@ -58,13 +61,15 @@ last_more (y ∷ z ∷ ticks) x = last_more (z ∷ ticks) x
 starts : (config : NodeConfig) (signals : NodeSignals)
     → IsStateOf config.eviction config.eviction_pressure_transition_period [] signals
     → HasTaken [] []
-    (state config signals (pods_of [] config.max_restart_delay config.has_dedicated_imagefs) [] [] nothing None)
+    (state config signals (pods_of [] config.max_restart_delay config.has_dedicated_imagefs) (kept [] None) []
+    nothing None)
 starts config signals s = record {
   replay = no_replay config [];
   pieces = record { as_many = refl; each = λ n pod at. absurd (cc) };
   events = no_events config [];
   totals = refl;
   signals = s;
+  pausing = none_pausing config;
   max_restart_delay = refl;
   dedicated = refl;
   shown = λ t tick at. absurd (cc);
@@ -73,16 +78,17 @@ starts config signals s = record {
   few_pods = omega arith;
 }
 
-pub starts_as : (config : NodeConfig) (signals : NodeSignals) (pods : Pods) (es : List (Option Eviction))
+pub starts_as : (config : NodeConfig) (signals : NodeSignals) (pods : Pods) (es : Kept)
     (evs : List Event) (totals : Totals)
-    → pods ≡ pods_of [] config.max_restart_delay config.has_dedicated_imagefs → es ≡ [] → evs ≡ [] → totals ≡ nothing
+    → pods ≡ pods_of [] config.max_restart_delay config.has_dedicated_imagefs → es ≡ kept [] None → evs ≡ []
+    → totals ≡ nothing
     → IsStateOf config.eviction config.eviction_pressure_transition_period [] signals
     → HasTaken [] [] (state config signals pods es evs totals None)
 starts_as config signals pods es evs totals no_pods no_es no_evs none is =
     subst (λ (p : Pods). HasTaken [] [] (state config signals p es evs totals None)) (sym no_pods)
-    (subst (λ (l : List (Option Eviction)). HasTaken [] [] (state config signals empty l evs totals None)) (sym no_es)
-    (subst (λ (l : List Event). HasTaken [] [] (state config signals empty [] l totals None)) (sym no_evs)
-    (subst (λ (t : Totals). HasTaken [] [] (state config signals empty [] [] t None)) (sym none)
+    (subst (λ (l : Kept). HasTaken [] [] (state config signals empty l evs totals None)) (sym no_es)
+    (subst (λ (l : List Event). HasTaken [] [] (state config signals empty (kept [] None) l totals None)) (sym no_evs)
+    (subst (λ (t : Totals). HasTaken [] [] (state config signals empty (kept [] None) [] t None)) (sym none)
     (starts config signals is))))
   where
     empty : Pods
@@ -130,22 +136,30 @@ without config pods ticks es x served (Some e) old new len present are by evicte
     let shown = some_given (shown_of x e.pod) ((present e.pod candidate.piece candidate.at).0 candidate.present) in
     pieces_evicted config pods ticks es x e old new may.0 shown.0 len shown.1 are candidate evicted
 
+-- while evictions pause nobody is evicted
+evicts_unpaused : (config : NodeConfig) (pieces : List Piece) (at : ℕ) (paused : Bool) (served : Option ThresholdKey)
+    (eviction : Option Eviction) → IsEvictionAt config pieces at (unless_paused paused served) eviction
+    → IfSome eviction (λ e. paused ≡ false)
+evicts_unpaused config pieces at paused served None by = tt
+evicts_unpaused config pieces at true served (Some e) by = absurd (let none : Some e ≡ None = by in cc)
+evicts_unpaused config pieces at false served (Some e) by = refl
+
 pub goes_on : (pods : List PodSpec) (ticks : List TickObs) (s : State) (x : TickObs) (begun : TickInProgress)
     (back : List Piece) (totals : Totals) (mid : List Piece) (new : Pods) (eviction : Option Eviction)
     (evs : List Event) → HasTaken pods ticks s → MayEnd s x begun back totals → AreAfter s.pods.pieces x.pods mid
-    → IsEvictionAt s.config mid x.at (unless_paused (is_paused s.config x.at s.evictions) begun.served) eviction
+    → IsEvictionAt s.config mid x.at
+    (unless_paused (is_paused s.config x.at (ticks ++ x ∷ []) s.evictions) begun.served) eviction
     → AddsEvents x.at mid begun.node_events.items eviction s.events evs → AreWithout mid eviction new.pieces
     → new.max_restart_delay ≡ s.pods.max_restart_delay → new.has_dedicated_imagefs ≡ s.pods.has_dedicated_imagefs
     → HasTaken pods (ticks ++ x ∷ [])
-    (state s.config begun.signals new (s.evictions ++ eviction ∷ []) evs totals (Some x.at))
+    (state s.config begun.signals new
+    (kept (s.evictions ++ eviction ∷ []) (option_or eviction (still s.config x s.pausing))) evs totals (Some x.at))
 goes_on pods ticks s x begun back totals mid new eviction evs taken may after by adds gone max_restart_delay
     dedicated = record {
       replay = replay_more s.config pods ticks s.evictions x eviction taken.replay
           (round_of s.config pods ticks x s.evictions mid begun.served eviction present now_pieces served by);
       pieces = without s.config pods ticks s.evictions x
-          (unless_paused (is_paused s.config x.at s.evictions) begun.served) eviction mid new.pieces len present
-          now_pieces
-          by gone;
+          (unless_paused paused begun.served) eviction mid new.pieces len present now_pieces by gone;
       events = subst (λ (es : List Event). AreEvents s.config pods (ticks ++ x ∷ []) (s.evictions ++ eviction ∷ []) es)
           (sym adds.added)
           (events_more s.config pods ticks s.evictions s.events (part adds.made) x eviction len taken.events (record {
@@ -162,6 +176,8 @@ goes_on pods ticks s x begun back totals mid new eviction evs taken may after by
           may.updated.back_are may.updated.entered.are_entries))
           ∙ ap (λ (es : List Event). totals_of (ticks ++ x ∷ []) es) (sym adds.added);
       signals = now;
+      pausing = pausing_more s.config ticks s.evictions s.last s.pausing x eviction len taken.pausing may.fits.later
+          (free eviction (evicts_unpaused s.config mid x.at paused begun.served eviction by));
       max_restart_delay = max_restart_delay ∙ taken.max_restart_delay;
       dedicated = dedicated ∙ taken.dedicated;
       shown = λ t tick at. elim (place_split ticks x tick t at) [
@@ -177,6 +193,16 @@ goes_on pods ticks s x begun back totals mid new eviction evs taken may after by
       few_pods = taken.few_pods;
     }
   where
+    paused : Bool
+    paused = is_paused s.config x.at (ticks ++ x ∷ []) s.evictions
+
+    -- and the one that is kept pauses none
+    free : (e : Option Eviction) → IfSome e (λ eviction. paused ≡ false)
+        → IfSome e (λ eviction. pauses s.config x.at (still s.config x s.pausing) [] ≡ false)
+    free None none = none
+    free (Some e) none =
+        sym (paused_now s.config ticks s.evictions s.last s.pausing x taken.pausing may.fits.later) ∙ none
+
     len : length s.evictions ≡ length ticks
     len = taken.replay.as_many
 
@@ -220,13 +246,14 @@ after_back pods ticks s x begun back totals taken may =
 -- the node that has ended the tick
 pub ends : (pods : List PodSpec) (ticks : List TickObs) (s : State) (x : TickObs) (begun : TickInProgress)
     (back : List Piece) (totals : Totals) (between new : Pods) (key : Option ThresholdKey)
-    (eviction : Option Eviction) (evs : List Event) (es : List (Option Eviction))
+    (eviction : Option Eviction) (evs : List Event) (es : Kept)
     → HasTaken pods ticks s → MayEnd s x begun back totals → between ≡ joined begun.pods back
-    → key ≡ unless_paused (is_paused begun.config begun.at begun.evictions) begun.served
+    → key ≡ unless_paused (pauses begun.config begun.at begun.evictions.pausing []) begun.served
     → IsEvictionAt begun.config between.pieces begun.at key eviction
     → AddsEvents begun.at between.pieces begun.node_events.items eviction begun.events.items evs
     → AreWithout between.pieces eviction new.pieces → new.max_restart_delay ≡ between.max_restart_delay
-    → new.has_dedicated_imagefs ≡ between.has_dedicated_imagefs → es ≡ begun.evictions ++ eviction ∷ []
+    → new.has_dedicated_imagefs ≡ between.has_dedicated_imagefs
+    → es ≡ kept (begun.evictions.each ++ eviction ∷ []) (option_or eviction begun.evictions.pausing)
     → HasTaken pods (ticks ++ x ∷ []) (state begun.config begun.signals new es evs totals (Some begun.at))
 ends pods ticks s x begun back totals between new key eviction evs es taken may is heeds by adds gone
     max_restart_delay dedicated
@@ -234,9 +261,8 @@ ends pods ticks s x begun back totals between new key eviction evs es taken may 
     subst (λ (c : NodeConfig). HasTaken pods all (state c begun.signals new es evs totals (Some begun.at)))
     (sym b.config)
     (subst (λ (k : ℕ). HasTaken pods all (state s.config begun.signals new es evs totals (Some k))) (sym b.at)
-    (subst (λ (l : List (Option Eviction)). HasTaken pods all
-    (state s.config begun.signals new l evs totals (Some x.at)))
-    (sym (more ∙ ap (λ (l : List (Option Eviction)). l ++ eviction ∷ []) b.evictions))
+    (subst (λ (k : Kept). HasTaken pods all (state s.config begun.signals new k evs totals (Some x.at)))
+    (sym (more ∙ ap (λ (k : Kept). kept (k.each ++ eviction ∷ []) (option_or eviction k.pausing)) b.evictions))
     (goes_on pods ticks s x begun back totals between.pieces new eviction evs taken may after by' adds' gone
     (max_restart_delay ∙ ap (λ (p : Pods). p.max_restart_delay) is ∙ ap (λ (a : Awaited). a.max_restart_delay) b.pods)
     (dedicated ∙ ap (λ (p : Pods). p.has_dedicated_imagefs) is
@@ -253,15 +279,17 @@ ends pods ticks s x begun back totals between new key eviction evs es taken may 
         subst (λ (p : Pods). AreAfter s.pods.pieces x.pods p.pieces) (sym is)
         (after_back pods ticks s x begun back totals taken may)
 
-    heeds' : key ≡ unless_paused (is_paused s.config x.at s.evictions) begun.served
+    heeds' : key ≡ unless_paused (is_paused s.config x.at all s.evictions) begun.served
     heeds' =
         heeds
-        ∙ ap (λ (c : NodeConfig). unless_paused (is_paused c begun.at begun.evictions) begun.served) b.config
-        ∙ ap (λ (k : ℕ). unless_paused (is_paused s.config k begun.evictions) begun.served) b.at
-        ∙ ap (λ (l : List (Option Eviction)). unless_paused (is_paused s.config x.at l) begun.served) b.evictions
+        ∙ ap (λ (c : NodeConfig). unless_paused (pauses c begun.at begun.evictions.pausing []) begun.served) b.config
+        ∙ ap (λ (m : ℕ). unless_paused (pauses s.config m begun.evictions.pausing []) begun.served) b.at
+        ∙ ap (λ (k : Kept). unless_paused (pauses s.config x.at k.pausing []) begun.served) b.evictions
+        ∙ ap (λ (p : Bool). unless_paused p begun.served)
+        (sym (paused_now s.config ticks s.evictions s.last s.pausing x taken.pausing may.fits.later))
 
-    by' : IsEvictionAt s.config between.pieces x.at (unless_paused (is_paused s.config x.at s.evictions) begun.served)
-        eviction
+    by' : IsEvictionAt s.config between.pieces x.at
+        (unless_paused (is_paused s.config x.at all s.evictions) begun.served) eviction
     by' =
         subst (λ (k : Option ThresholdKey). IsEvictionAt s.config between.pieces x.at k eviction) heeds'
         (subst (λ (c : NodeConfig). IsEvictionAt c between.pieces x.at key eviction) b.config
@@ -286,7 +314,8 @@ adds_as at pieces others node_events same_events eviction old new is is' adds =
 pub begun_as : (s t : State) (x : TickObs) (b : TickInProgress) → s ≡ t → b.config ≡ s.config
     → IsSampled s.config s.signals x b.signals b.node_events.items b.served
     → b.pods ≡ awaited (kept_of s.pods.pieces x.pods) s.pods.max_restart_delay s.pods.has_dedicated_imagefs
-    → b.evictions ≡ s.evictions → b.events.items ≡ s.events → b.at ≡ x.at → HasBegun t x b
+    → b.evictions ≡ kept s.evictions (still s.config x s.pausing) → b.events.items ≡ s.events → b.at ≡ x.at
+    → HasBegun t x b
 begun_as s t x b same config sampled pods evictions events at =
     subst (λ (u : State). HasBegun u x b) same
     (record { config = config; sampled = sampled; pods = pods; evictions = evictions; events = events; at = at })

@@ -13,6 +13,7 @@ use Rattle.node_signals.specs.declared.node.NodeSignals.{NodeSignals}
 use Rattle.node_signals.specs.Node.{IsStateOf}
 use Rattle.pod_piece.specs.Piece.{Piece}
 use Rattle.eviction.specs.declared.eviction.Eviction.{Eviction}
+use Rattle.eviction.specs.Pausing.{Kept, IsPausing}
 use Rattle.eviction.specs.Replay.{pod_ticks, own_eviction, IsReplay}
 use Rattle.event_book.specs.declared.totals.Totals.{Totals}
 use Rattle.node_pods.specs.Pods.{Pods, Fits as PodsFit}
@@ -27,18 +28,21 @@ pub record State : Type 0 where
   pub pods : Pods
   -- the eviction of each tick, or none
   pub evictions : List (Option Eviction)
+  -- the one by which others may pause
+  pub pausing : Option Eviction
   -- what happened, tick after tick
   pub events : List Event
   pub totals : Totals
   -- the moment of the last tick, in seconds
   pub last : Option ℕ
 
-abbrev pub state : NodeConfig → NodeSignals → Pods → List (Option Eviction) → List Event → Totals → Option ℕ → State
+abbrev pub state : NodeConfig → NodeSignals → Pods → Kept → List Event → Totals → Option ℕ → State
 state config signals pods evictions events totals last = record {
   config = config;
   signals = signals;
   pods = pods;
-  evictions = evictions;
+  evictions = evictions.each;
+  pausing = evictions.pausing;
   events = events;
   totals = totals;
   last = last;
@@ -75,6 +79,7 @@ pub record HasTaken (pods : List PodSpec) (ticks : List TickObs) (s : State) : T
   pub events : AreEvents s.config pods ticks s.evictions s.events
   pub totals : s.totals ≡ totals_of ticks s.events
   pub signals : IsStateOf s.config.eviction s.config.eviction_pressure_transition_period ticks s.signals
+  pub pausing : IsPausing s.config ticks s.evictions s.last s.pausing
   pub max_restart_delay : s.pods.max_restart_delay ≡ s.config.max_restart_delay
   pub dedicated : s.pods.has_dedicated_imagefs ≡ s.config.has_dedicated_imagefs
   pub shown : (t : ℕ) (tick : TickObs) → slice_get ticks t ≡ Some tick → length tick.pods ≤ length pods

@@ -12,6 +12,7 @@ use Rattle.node_signals.specs.Events.{AreNodeEvents}
 use Rattle.node_signals.specs.Node.{IsStateOf}
 use Rattle.node_signals.specs.Thresholds.{IsServed}
 use Rattle.pod_piece.specs.Piece.{Piece, updated, pods_in}
+use Rattle.eviction.specs.Pausing.{kept, still}
 use Rattle.event_book.specs.declared.totals.Totals.{Totals}
 use Rattle.event_book.specs.Limits.{most_events}
 use Rattle.node_pods.specs.Pods.{ArePlaced, handed_from, joined, kept_of, awaited}
@@ -54,7 +55,7 @@ pub record HasBegun (s : State) (tick : TickObs) (begun : TickInProgress) : Type
   pub sampled : IsSampled s.config s.signals tick begun.signals begun.node_events.items begun.served
   pub pods : begun.pods
       ≡ awaited (kept_of s.pods.pieces tick.pods) s.pods.max_restart_delay s.pods.has_dedicated_imagefs
-  pub evictions : begun.evictions ≡ s.evictions
+  pub evictions : begun.evictions ≡ kept s.evictions (still s.config tick s.pausing)
   pub events : begun.events.items ≡ s.events
   pub at : begun.at ≡ tick.at
 

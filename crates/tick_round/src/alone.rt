@@ -29,7 +29,7 @@ fn update_one<U: Ledger, E: Ledger, O: Ledger, G: Gate>(
     Ok(())
 }
 
-/// The same of the pod with the number.
+/// The pod with the number takes the tick that was handed to it into its status, and is entered in the book.
 fn update_at<U: Ledger, E: Ledger, O: Ledger, G: Gate>(
     pieces: &mut Vec<PodPiece>,
     number: usize,

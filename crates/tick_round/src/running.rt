@@ -156,7 +156,7 @@ impl<U: Ledger, E: Ledger, O: Ledger> Running<U, E, O> {
             config,
             mut signals,
             pods,
-            evictions,
+            mut evictions,
             events,
             book,
             last: _,
@@ -169,6 +169,7 @@ impl<U: Ledger, E: Ledger, O: Ledger> Running<U, E, O> {
             }
         };
         let served = signals.served(&config.eviction, &tick);
+        evictions.look(&config, &tick);
         let at = tick.at;
         match pods.hand(tick.pods.into_vec()) {
             Ok((pieces, pods)) => {

@@ -1,6 +1,8 @@
 //! A node in the midst of a tick.
 
 ghost use Rattle.std.specs.Prelude.{◌≡◌, ◌++◌, ◌∷◌, [], IfOk, OnOk};
+ghost use Rattle.std.specs.Option.{option_or};
+ghost use Rattle.eviction.specs.Pausing.{kept};
 ghost use Rattle.observations.specs.declared.tick.TickObs.{TickObs};
 ghost use Rattle.event_list.specs.Tick.{AddsEvents};
 ghost use Rattle.tick_round.specs.Node.{State, IsNextBy};
@@ -43,7 +45,8 @@ fn add_tick(
     eviction: Option<Eviction>,
 ) -> Result<(), AllocError>
     ensures events { OnOk result (AddsEvents at pieces.now node_events.now eviction events.old.items events.new.items) }
-    ensures evictions { OnOk result (evictions.new ≡ evictions.old ++ eviction ∷ []) }
+    ensures evictions { OnOk result (evictions.new
+        ≡ kept (evictions.old.each ++ eviction ∷ []) (option_or eviction evictions.old.pausing)) }
 {
     add_events(events, at, pieces, node_events, eviction)?;
     evictions.push(eviction)?;

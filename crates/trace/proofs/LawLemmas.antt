@@ -41,7 +41,7 @@ use Rattle.trace.specs.Pod.{has_key, pod_from, named_in}
 use Rattle.trace.specs.Placing.{placed_of}
 use Rattle.node_config.specs.declared.node.Format.{Format}
 use Rattle.node_config.specs.declared.node.Version.{Version}
-use Rattle.trace.specs.TraceSoFar.{TraceSoFar, version_in, of_node, with_pod, without, with_tick}
+use Rattle.trace.specs.TraceSoFar.{TraceSoFar, version_in, heeds, of_node, with_pod, without, with_tick}
 use Rattle.trace.specs.Tick.{moment_of, observed_in, tick_at}
 use Rattle.trace.specs.Trace.{json_of, kind_from, with_node, is_late, pod_line_at, gone_line_at, in_order, line_at}
 use Rattle.trace.specs.Trace.{at_line, trace_in, finished, read_on, nothing, trace_of}
@@ -166,14 +166,15 @@ tick_line_keeps past d next e =
     let last : TickObs → Result TraceSoFar FaultKind = λ t. Ok (with_tick past t) in
     let seen : ℕ → TickLine → List PlacedEntry → Result TraceSoFar FaultKind = λ at w ps. observed_in past at w ps
     >>= last in
-    let place : ℕ → TickLine → Result TraceSoFar FaultKind = λ at w. placed_of past.roll w.entries >>= seen at w in
-    let list : ℕ → Result TraceSoFar FaultKind = λ at. tick_line_in d >>= place at in
+    let place : ℕ → TickLine → Result TraceSoFar FaultKind =
+    λ at w. placed_of (heeds past) past.roll w.entries >>= seen at w in
+    let list : ℕ → Result TraceSoFar FaultKind = λ at. tick_line_in (heeds past) d >>= place at in
     let moment : ⊤ → Result TraceSoFar FaultKind = λ u. moment_of past.ticks (field_at (codes "at") d) >>= list in
     let room = bind_ok (refused_if (nat_le most_ticks (length past.ticks)) TooMany) moment next
     (sym (tick_whole past d) ∙ e) in
     let at = bind_ok (moment_of past.ticks (field_at (codes "at") d)) list next room.2 in
-    let written = bind_ok (tick_line_in d) (place at.0) next at.2 in
-    let placed = bind_ok (placed_of past.roll written.0.entries) (seen at.0 written.0) next written.2 in
+    let written = bind_ok (tick_line_in (heeds past) d) (place at.0) next at.2 in
+    let placed = bind_ok (placed_of (heeds past) past.roll written.0.entries) (seen at.0 written.0) next written.2 in
     let tick = bind_ok (observed_in past at.0 written.0 placed.0) last next placed.2 in
     let given : Ok (with_tick past tick.0) ≡ Ok next = tick.2 in
     let is_next : with_tick past tick.0 ≡ next = cc in

@@ -17,6 +17,7 @@ use Rattle.manifest.specs.declared.pod.PodSpec.{PodSpec}
 use Rattle.observations.specs.declared.tick.TickObs.{TickObs}
 use Rattle.observations.specs.declared.container.ContainerObs.{ContainerObs}
 use Rattle.observations.specs.Pods.{PodObs, pod_obs}
+use Rattle.observations.specs.declared.usage.Sampling.TheVariants.{Unsaid}
 use Rattle.roster.specs.Roll.{Roll, number_of, is_present}
 use Rattle.serde_json.specs.Data.{Data}
 use Rattle.tick_lines.specs.declared.entry.TickEntry.{TickEntry}
@@ -26,6 +27,7 @@ use Rattle.tick_lines.specs.declared.listing.Listing.{Listing}
 use Rattle.tick_lines.specs.declared.probing.ProbeResult.{ProbeResult}
 use Rattle.tick_lines.specs.declared.tape.EntryText.{EntryText}
 use Rattle.tick_lines.specs.declared.tape.LineSamples.{LineSamples}
+use Rattle.tick_lines.specs.declared.usage.UnsampledMember.TheVariants.{No}
 use Rattle.tick_lines.specs.Entries.{entry_of, entries_of}
 use Rattle.tick_lines.specs.Line.{tick_line_of}
 use Rattle.tick_lines.specs.Listings.{listing_of, listings_of}
@@ -39,12 +41,14 @@ use Rattle.trace.specs.declared.placing.PlacedListing.{PlacedListing}
 use Rattle.trace.specs.declared.placing.PlacedResult.{PlacedResult}
 use Rattle.trace.specs.Observed.{containers_from, pod_observed, pods_from, lacks_code}
 use Rattle.trace.specs.Placing.{number_in, pod_numbered, placed_listing, placed_result, entry_of_pod, placed_entry}
-use Rattle.trace.specs.Placing.{placed_of, repeats}
+use Rattle.trace.specs.Placing.{placed_of, repeats, speaks, sampled_or}
 use Rattle.trace.specs.Noted.{ListingsNoted, ResultsNoted}
 use Rattle.trace.specs.Slots.{slots_from, has_entry}
-use Rattle.trace.specs.Tape.{of_item, listing_read, result_read, entry_read, EntriesNoted}
+use Rattle.trace.specs.Tape.{of_item, listing_read, result_read, entry_read, item_speaks, EntriesNoted}
 use Rattle.trace.proofs.NotedItems.{each_more}
 use Rattle.trace.proofs.NotedPods.{apart_more, found_present, slots_length}
+use Rattle.trace.proofs.Placed.{said_of}
+use Rattle.trace.proofs.Silent.{entries_silent}
 use Rattle.trace.proofs.TakenAhead.{shown_record}
 
 of_item_ok : {A : Type 0} (r : Result A TickLineFault) (x : A) → of_item r ≡ Ok x → r ≡ Ok x
@@ -74,22 +78,24 @@ read_then_placed {A} {B} f g (d ∷ ds) ys e =
 entry_by_parts : (roll : Roll) (entry : TickEntry) (n : ℕ) (pod : PodSpec) (ls : List PlacedListing)
     (rs : List PlacedResult) → number_of roll entry.key ≡ Some n → slice_get roll.pods n ≡ Some pod
     → each (placed_listing pod) entry.listings ≡ Ok ls → each (placed_result pod) entry.results ≡ Ok rs
-    → placed_entry roll entry ≡ Ok (record { pod = n; listings = ls; results = rs; usage = entry.usage })
+    → placed_entry false roll entry
+    ≡ Ok (record { pod = n; listings = ls; results = rs; sampling = said_of false entry })
 unfolding placed_entry entry_of_pod
 entry_by_parts roll entry n pod ls rs number there listings results = rw (number, there, listings, results) refl
 
 entry_spoken : (d : Data) (key : List ℕ) (ws : List Listing) (ps : List ProbeResult) (text : EntryText)
     → text_at (codes "pod") d ≡ Some key → listings_of (field_at (codes "containers") d) ≡ Ok ws
     → results_of (field_at (codes "probes") d) ≡ Ok ps → IsEntry d text
-    → entry_of d ≡ Ok (record { key = key; listings = ws; results = ps; usage = text.usage })
+    → entry_of d ≡ Ok (record { key = key; listings = ws; results = ps; usage = text.usage; unsampled = No })
 unfolding entry_of
-entry_spoken d key ws ps text named listings results is = rw (named, listings, results, is.usage) refl
+entry_spoken d key ws ps text named listings results is =
+    rw (named, listings, results, is.usage, is.unsampled) refl
 
 -- an entry that was read in parts and placed is what its item says, placed
 entry_placed : (roll : Roll) (d : Data) (text : EntryText) (n : ℕ) (pod : PodSpec) (ls : List PlacedListing)
     (rs : List PlacedResult) → IsEntry d text → number_of roll text.key.now ≡ Some n → slice_get roll.pods n ≡ Some pod
     → each (listing_read pod) (left_in text.listings) ≡ Ok ls → each (result_read pod) (left_in text.results) ≡ Ok rs
-    → entry_read roll d ≡ Ok (record { pod = n; listings = ls; results = rs; usage = text.usage })
+    → entry_read roll d ≡ Ok (record { pod = n; listings = ls; results = rs; sampling = sampled_or Unsaid text.usage })
 entry_placed roll d text n pod ls rs is number there read_listings read_results =
     let listings = read_then_placed listing_of (placed_listing pod) (left_in text.listings) ls read_listings in
     let results = read_then_placed result_of (placed_result pod) (left_in text.results) rs read_results in
@@ -98,6 +104,7 @@ entry_placed roll d text n pod ls rs is number there read_listings read_results 
       listings = listings.0;
       results = results.0;
       usage = text.usage;
+      unsampled = No;
     } in
     let listed : listings_of (field_at (codes "containers") d) ≡ Ok listings.0 = rw is.listings listings.1 in
     let probed : results_of (field_at (codes "probes") d) ≡ Ok results.0 = rw is.results results.1 in
@@ -107,25 +114,26 @@ entry_placed roll d text n pod ls rs is number there read_listings read_results 
 -- ---- all entries
 
 numbers_known : (roll : Roll) (es : List TickEntry) (placed : List PlacedEntry)
-    → each (placed_entry roll) es ≡ Ok placed
+    → each (placed_entry false roll) es ≡ Ok placed
     → (ns : List ℕ) × (each (number_in roll) es ≡ Ok ns)
 unfolding placed_entry
 numbers_known roll [] placed e = ([], refl)
 numbers_known roll (x ∷ xs) placed e =
-    let one = bind_ok (placed_entry roll x) (λ y. each (placed_entry roll) xs >>= λ ys. Ok (y ∷ ys)) placed e in
-    let rest = bind_ok (each (placed_entry roll) xs) (λ ys. Ok (one.0 ∷ ys)) placed one.2 in
-    let number = bind_ok (number_in roll x) (λ n. entry_of_pod roll.pods n x) one.0 one.1 in
+    let one = bind_ok (placed_entry false roll x) (λ y. each (placed_entry false roll) xs >>= λ ys. Ok (y ∷ ys)) placed
+    e in
+    let rest = bind_ok (each (placed_entry false roll) xs) (λ ys. Ok (one.0 ∷ ys)) placed one.2 in
+    let number = bind_ok (number_in roll x) (λ n. entry_of_pod false roll.pods n x) one.0 one.1 in
     let later = numbers_known roll xs rest.0 rest.1 in (
       number.0 ∷ later.0,
       then_each (number_in roll x) (each (number_in roll) xs) number.0 later.0 number.1 later.1,
     )
 
-all_placed : (roll : Roll) (es : List TickEntry) (placed : List PlacedEntry) → each (placed_entry roll) es ≡ Ok placed
-    → placed_of roll es ≡ Ok placed
+all_placed : (roll : Roll) (es : List TickEntry) (placed : List PlacedEntry)
+    → each (placed_entry false roll) es ≡ Ok placed → placed_of false roll es ≡ Ok placed
 unfolding placed_of
 all_placed roll es placed e =
     let numbers = numbers_known roll es placed e in
-    then_ok (each (number_in roll) es) (λ ns. each (placed_entry roll) es) numbers.0 numbers.1 ∙ e
+    then_ok (each (number_in roll) es) (λ ns. each (placed_entry false roll) es) numbers.0 numbers.1 ∙ e
 
 line_spoken : (d : Data) (es : List TickEntry) (samples : LineSamples)
     → entries_of (field_at (codes "pods") d) ≡ Ok es → HasSamples d samples
@@ -148,9 +156,14 @@ none_noted roll at slots noted = record {
   once = refl;
   apart = refl;
   coded = refl;
+  silent = refl;
   present = All-nil _;
   noted = noted;
 }
+
+-- the entry of the pod with the number
+abbrev pub entry_with : ℕ → List PlacedListing → List PlacedResult → EntryText → PlacedEntry
+entry_with n ls rs text = record { pod = n; listings = ls; results = rs; sampling = sampled_or Unsaid text.usage }
 
 -- the entries with one more
 pub one_more_noted : (roll : Roll) (at : ℕ) (ds : List Data) (d : Data) (old new : List (Option PodObs))
@@ -160,11 +173,11 @@ pub one_more_noted : (roll : Roll) (at : ℕ) (ds : List Data) (d : Data) (old n
     → IsEntry d text → number_of roll text.key.now ≡ Some n → pod_numbered roll.pods n ≡ Ok pod
     → has_entry before.entries n ≡ false
     → new ≡ slots_from at (before.entries
-    ++ record { pod = n; listings = ls.listings; results = rs.results; usage = text.usage } ∷ []) 0 roll.pods
+    ++ entry_with n ls.listings rs.results text ∷ []) 0 roll.pods
     → EntriesNoted roll at (ds ++ d ∷ []) new
 one_more_noted roll at ds d old new text n pod listed all ls rs before is number numbered free noted =
     let there : slice_get roll.pods n ≡ Some pod = there_is _ (slice_get roll.pods n) pod numbered in
-    let entry : PlacedEntry = record { pod = n; listings = ls.listings; results = rs.results; usage = text.usage } in
+    let entry = entry_with n ls.listings rs.results text in
     let placed = entry_placed roll d text n pod ls.listings rs.results is number there ls.read rs.read in
     record {
       entries = before.entries ++ entry ∷ [];
@@ -173,6 +186,7 @@ one_more_noted roll at ds d old new text n pod listed all ls rs before is number
       apart = none_more repeats before.entries entry before.apart (rw (ls.once, rs.once) refl);
       coded = none_more (λ (e : PlacedEntry). list_any (λ l. lacks_code l.instance) e.listings) before.entries entry
           before.coded ls.coded;
+      silent = none_more item_speaks ds d before.silent (ap speaks is.unsampled);
       present = All-push (λ (e : PlacedEntry). is_present roll.departures e.pod ≡ true) before.entries entry
           before.present (found_present roll text.key.now n number).0;
       noted = noted;
@@ -197,7 +211,7 @@ pub entry_noted : (roll : Roll) (at : ℕ) (ds : List Data) (d : Data) (old new 
     → ((ls : List PlacedListing) → listed ≡ containers_from ls [] 0 pod.containers
     → ResultsNoted pod ls (left_in text.results) all)
     → EntriesNoted roll at ds old → IsEntry d text → number_of roll text.key.now ≡ Some n
-    → pod_numbered roll.pods n ≡ Ok pod → shown ≡ pod_obs at all text.usage
+    → pod_numbered roll.pods n ≡ Ok pod → shown ≡ pod_obs at all (sampled_or Unsaid text.usage)
     → ((es : List PlacedEntry) → old ≡ slots_from at es 0 roll.pods → n < length roll.pods → has_entry es n ≡ false)
     → ((es : List PlacedEntry) (e : PlacedEntry) → old ≡ slots_from at es 0 roll.pods → e.pod ≡ n
     → slice_get roll.pods n ≡ Some pod → shown ≡ pod_observed at (Some e) pod
@@ -206,8 +220,7 @@ pub entry_noted : (roll : Roll) (at : ℕ) (ds : List Data) (d : Data) (old new 
 entry_noted roll at ds d old new text n pod listed all shown listings results before is number known made free noted =
     let rs = results listings.listings listings.noted in
     let there : slice_get roll.pods n ≡ Some pod = there_is _ (slice_get roll.pods n) pod known in
-    let entry : PlacedEntry =
-    record { pod = n; listings = listings.listings; results = rs.results; usage = text.usage } in
+    let entry = entry_with n listings.listings rs.results text in
     let shows : shown ≡ pod_observed at (Some entry) pod = made ∙ rw rs.noted refl in
     one_more_noted roll at ds d old new text n pod listed all listings rs before is number known
     (free before.entries before.noted (found_present roll text.key.now n number).1)
@@ -231,7 +244,7 @@ pub line_shown : (roll : Roll) (d : Data) (moment : Option ℕ) (items : List Da
     }
     → IsShown roll (Tick moment (tick_line_of d)) tick
 line_shown roll d moment items samples at slots tick noted early has_items has shows =
-    let entries = read_then_placed entry_of (placed_entry roll) items noted.entries noted.read in
+    let entries = read_then_placed entry_of (placed_entry false roll) items noted.entries noted.read in
     let listed : entries_of (field_at (codes "pods") d) ≡ Ok entries.0 = rw has_items entries.1 in
     let written : TickLine = record {
       entries = entries.0;
@@ -239,5 +252,5 @@ line_shown roll d moment items samples at slots tick noted early has_items has s
       after_reclaim = samples.after_reclaim;
     } in
     shown_record roll moment (tick_line_of d) at written noted.entries tick early
-    (line_spoken d entries.0 samples listed has) (all_placed roll entries.0 noted.entries entries.2) noted.once
-    noted.apart noted.coded shows
+    (line_spoken d entries.0 samples listed has) (entries_silent items entries.0 entries.1 noted.silent)
+    (all_placed roll entries.0 noted.entries entries.2) noted.once noted.apart noted.coded shows

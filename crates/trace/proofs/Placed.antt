@@ -1,5 +1,5 @@
 -- Entries whose pods' numbers are known.
-use Rattle.std.proofs.Common.{◌≡◌, ◌∙◌, ℕ, suc, ◌<◌, List, [], ◌∷◌, length, Result, Ok, Err}
+use Rattle.std.proofs.Common.{◌≡◌, ◌∙◌, ℕ, suc, ◌<◌, Bool, List, [], ◌∷◌, length, Result, Ok, Err}
 use Rattle.std.proofs.Common.{refl, ap, sym, subst}
 use Rattle.std.specs.Prelude.{All, IfOk, slice_get}
 use Rattle.std.proofs.lemmas.List.Elements.{All-nil, All-cons}
@@ -8,6 +8,7 @@ use Rattle.json_fields.specs.Reading.{◌>>=◌, each}
 use Rattle.json_fields.proofs.Steps.{bind_ok, then_ok, there_is}
 use Rattle.json_fields.proofs.Only.{same_value}
 use Rattle.manifest.specs.declared.pod.PodSpec.{PodSpec}
+use Rattle.observations.specs.declared.usage.Sampling.{Sampling}
 use Rattle.tick_lines.specs.declared.entry.TickEntry.{TickEntry}
 use Rattle.trace.specs.declared.fault.FaultKind.{FaultKind}
 use Rattle.trace.specs.declared.placing.PlacedListing.{PlacedListing}
@@ -16,49 +17,56 @@ use Rattle.trace.specs.declared.placing.PlacedEntry.{PlacedEntry}
 use Rattle.trace.specs.GivesUnlessMemory.{GivesUnlessMemory}
 use Rattle.roster.specs.Roll.{Roll}
 use Rattle.trace.specs.Placing.{number_in, pod_numbered, placed_listing, placed_result}
-use Rattle.trace.specs.Placing.{entry_of_pod, placed_entry, entries_of_pods, placed_of}
+use Rattle.trace.specs.Placing.{sampling_of, entry_of_pod, placed_entry, entries_of_pods, placed_of}
 
 -- the steps of an entry
-abbrev pub placed : TickEntry → ℕ → List PlacedListing → List PlacedResult → Result PlacedEntry FaultKind
-placed entry number listings results =
-    Ok (record { pod = number; listings = listings; results = results; usage = entry.usage })
+abbrev pub placed : Sampling → ℕ → List PlacedListing → List PlacedResult → Result PlacedEntry FaultKind
+placed sampling number listings results =
+    Ok (record { pod = number; listings = listings; results = results; sampling = sampling })
 
-abbrev pub with_listings : TickEntry → ℕ → PodSpec → List PlacedListing → Result PlacedEntry FaultKind
-with_listings entry number pod listings = each (placed_result pod) entry.results >>= placed entry number listings
+abbrev pub with_listings : Sampling → TickEntry → ℕ → PodSpec → List PlacedListing → Result PlacedEntry FaultKind
+with_listings sampling entry number pod listings =
+    each (placed_result pod) entry.results >>= placed sampling number listings
 
-abbrev pub with_pod : TickEntry → ℕ → PodSpec → Result PlacedEntry FaultKind
-with_pod entry number pod = each (placed_listing pod) entry.listings >>= with_listings entry number pod
+abbrev pub with_pod : Sampling → TickEntry → ℕ → PodSpec → Result PlacedEntry FaultKind
+with_pod sampling entry number pod =
+    each (placed_listing pod) entry.listings >>= with_listings sampling entry number pod
 
-abbrev pub with_number : List PodSpec → TickEntry → ℕ → Result PlacedEntry FaultKind
-with_number pods entry number = pod_numbered pods number >>= with_pod entry number
+abbrev pub with_number : Sampling → List PodSpec → TickEntry → ℕ → Result PlacedEntry FaultKind
+with_number sampling pods entry number = pod_numbered pods number >>= with_pod sampling entry number
+
+-- what an entry says of samples
+abbrev pub said_of : Bool → TickEntry → Sampling
+said_of heeds entry = sampling_of heeds entry.usage entry.unsampled
 
 -- what stands before the rest of a list, once its first step is known to go well
 then_all : {A B E : Type 0} (r : Result A E) (f : A → Result B E) (x : A) (rest : Result (List B) E) → r ≡ Ok x
     → ((r >>= f) >>= λ y. rest >>= λ ys. Ok (y ∷ ys)) ≡ (f x >>= λ y. rest >>= λ ys. Ok (y ∷ ys))
 then_all r f x rest e = rw e refl
 
-entry_by_number : (roll : Roll) (x : TickEntry) (n : ℕ) (rest : Result (List PlacedEntry) FaultKind)
+entry_by_number : (heeds : Bool) (roll : Roll) (x : TickEntry) (n : ℕ) (rest : Result (List PlacedEntry) FaultKind)
     → number_in roll x ≡ Ok n
-    → (placed_entry roll x >>= λ y. rest >>= λ ys. Ok (y ∷ ys))
-    ≡ (entry_of_pod roll.pods n x >>= λ y. rest >>= λ ys. Ok (y ∷ ys))
+    → (placed_entry heeds roll x >>= λ y. rest >>= λ ys. Ok (y ∷ ys))
+    ≡ (entry_of_pod heeds roll.pods n x >>= λ y. rest >>= λ ys. Ok (y ∷ ys))
 unfolding placed_entry
-entry_by_number roll x n rest e = then_all (number_in roll x) (λ number. entry_of_pod roll.pods number x) n rest e
+entry_by_number heeds roll x n rest e =
+    then_all (number_in roll x) (λ number. entry_of_pod heeds roll.pods number x) n rest e
 
 -- once the numbers of all pods are known, each entry is placed by its own
-pub by_numbers : (roll : Roll) (es : List TickEntry) (ns : List ℕ)
-    → each (number_in roll) es ≡ Ok ns → each (placed_entry roll) es ≡ entries_of_pods roll.pods ns es
-by_numbers roll [] ns e =
-    subst (λ (ks : List ℕ). each (placed_entry roll) [] ≡ entries_of_pods roll.pods ks [])
+pub by_numbers : (heeds : Bool) (roll : Roll) (es : List TickEntry) (ns : List ℕ)
+    → each (number_in roll) es ≡ Ok ns → each (placed_entry heeds roll) es ≡ entries_of_pods heeds roll.pods ns es
+by_numbers heeds roll [] ns e =
+    subst (λ (ks : List ℕ). each (placed_entry heeds roll) [] ≡ entries_of_pods heeds roll.pods ks [])
     (same_value {E = FaultKind} [] ns e) refl
-by_numbers roll (x ∷ xs) ns e =
+by_numbers heeds roll (x ∷ xs) ns e =
     let one = bind_ok (number_in roll x) (λ n. each (number_in roll) xs >>= λ ms. Ok (n ∷ ms)) ns e in
     let rest = bind_ok (each (number_in roll) xs) (λ ms. Ok (one.0 ∷ ms)) ns one.2 in
     let add : Result (List PlacedEntry) FaultKind → Result (List PlacedEntry) FaultKind =
-    λ read. entry_of_pod roll.pods one.0 x >>= λ y. read >>= λ ys. Ok (y ∷ ys) in
-    subst (λ (ks : List ℕ). each (placed_entry roll) (x ∷ xs) ≡ entries_of_pods roll.pods ks (x ∷ xs))
+    λ read. entry_of_pod heeds roll.pods one.0 x >>= λ y. read >>= λ ys. Ok (y ∷ ys) in
+    subst (λ (ks : List ℕ). each (placed_entry heeds roll) (x ∷ xs) ≡ entries_of_pods heeds roll.pods ks (x ∷ xs))
     (same_value {E = FaultKind} (one.0 ∷ rest.0) ns rest.2)
-    (entry_by_number roll x one.0 (each (placed_entry roll) xs) one.1
-    ∙ ap add (by_numbers roll xs rest.0 rest.1))
+    (entry_by_number heeds roll x one.0 (each (placed_entry heeds roll) xs) one.1
+    ∙ ap add (by_numbers heeds roll xs rest.0 rest.1))
 
 -- this many entries, this many numbers
 pub as_many : {A B E : Type 0} (f : A → Result B E) (xs : List A) (ys : List B) → each f xs ≡ Ok ys
@@ -70,56 +78,69 @@ as_many {B = B} {E = E} f (x ∷ xs) ys e =
     ap (λ (zs : List B). length zs) (sym (same_value {E = E} (one.0 ∷ rest.0) ys rest.2))
     ∙ ap suc (as_many f xs rest.0 rest.1)
 
--- the pod of an entry that could be placed is there
-entry_known : (pods : List PodSpec) (n : ℕ) (entry : TickEntry) (e : PlacedEntry) → entry_of_pod pods n entry ≡ Ok e
-    → e.pod < length pods
+-- the pod of an entry that could be placed is there, and the entry says what was written of its samples
+pub entry_says : (heeds : Bool) (pods : List PodSpec) (n : ℕ) (entry : TickEntry) (e : PlacedEntry)
+    → entry_of_pod heeds pods n entry ≡ Ok e
+    → (n < length pods) × (n ≡ e.pod) × (said_of heeds entry ≡ e.sampling)
 unfolding entry_of_pod
-entry_known pods n entry e is =
-    let pod = bind_ok (pod_numbered pods n) (with_pod entry n) e is in
-    let listings = bind_ok (each (placed_listing pod.0) entry.listings) (with_listings entry n pod.0) e pod.2 in
-    let results = bind_ok (each (placed_result pod.0) entry.results) (placed entry n listings.0) e listings.2 in
-    let same : n ≡ e.pod = ap (λ (p : PlacedEntry). p.pod) (same_value {E = FaultKind} (record {
+entry_says heeds pods n entry e is =
+    let says = said_of heeds entry in
+    let pod = bind_ok (pod_numbered pods n) (with_pod says entry n) e is in
+    let listings = bind_ok (each (placed_listing pod.0) entry.listings) (with_listings says entry n pod.0) e pod.2 in
+    let results = bind_ok (each (placed_result pod.0) entry.results) (placed says n listings.0) e listings.2 in
+    let same = same_value {E = FaultKind} (record {
       pod = n;
       listings = listings.0;
       results = results.0;
-      usage = entry.usage;
-    }) e results.2) in
-    subst (λ (k : ℕ). k < length pods) same (slice_get_within pods n pod.0 (there_is _ (slice_get pods n) pod.0 pod.1))
+      sampling = says;
+    }) e results.2 in (
+      slice_get_within pods n pod.0 (there_is _ (slice_get pods n) pod.0 pod.1),
+      ap (λ (p : PlacedEntry). p.pod) same,
+      ap (λ (p : PlacedEntry). p.sampling) same,
+    )
 
-pub all_known : (pods : List PodSpec) (ns : List ℕ) (es : List TickEntry) (placed : List PlacedEntry)
-    → entries_of_pods pods ns es ≡ Ok placed → All (λ e. e.pod < length pods) placed
-all_known pods [] es placed is =
+entry_known : (heeds : Bool) (pods : List PodSpec) (n : ℕ) (entry : TickEntry) (e : PlacedEntry)
+    → entry_of_pod heeds pods n entry ≡ Ok e → e.pod < length pods
+entry_known heeds pods n entry e is =
+    let says = entry_says heeds pods n entry e is in
+    subst (λ (k : ℕ). k < length pods) says.1 says.0
+
+pub all_known : (heeds : Bool) (pods : List PodSpec) (ns : List ℕ) (es : List TickEntry) (placed : List PlacedEntry)
+    → entries_of_pods heeds pods ns es ≡ Ok placed → All (λ e. e.pod < length pods) placed
+all_known heeds pods [] es placed is =
     subst (All (λ (e : PlacedEntry). e.pod < length pods)) (same_value {E = FaultKind} [] placed is) (All-nil _)
-all_known pods (n ∷ ns) [] placed is =
+all_known heeds pods (n ∷ ns) [] placed is =
     subst (All (λ (e : PlacedEntry). e.pod < length pods)) (same_value {E = FaultKind} [] placed is) (All-nil _)
-all_known pods (n ∷ ns) (x ∷ xs) placed is =
-    let one = bind_ok (entry_of_pod pods n x) (λ y. entries_of_pods pods ns xs >>= λ ys. Ok (y ∷ ys)) placed is in
-    let rest = bind_ok (entries_of_pods pods ns xs) (λ ys. Ok (one.0 ∷ ys)) placed one.2 in
+all_known heeds pods (n ∷ ns) (x ∷ xs) placed is =
+    let one = bind_ok (entry_of_pod heeds pods n x) (λ y. entries_of_pods heeds pods ns xs >>= λ ys. Ok (y ∷ ys)) placed
+    is in
+    let rest = bind_ok (entries_of_pods heeds pods ns xs) (λ ys. Ok (one.0 ∷ ys)) placed one.2 in
     subst (All (λ (e : PlacedEntry). e.pod < length pods)) (same_value {E = FaultKind} (one.0 ∷ rest.0) placed rest.2)
-    (All-cons (λ (e : PlacedEntry). e.pod < length pods) one.0 rest.0 (entry_known pods n x one.0 one.1)
-    (all_known pods ns xs rest.0 rest.1))
+    (All-cons (λ (e : PlacedEntry). e.pod < length pods) one.0 rest.0 (entry_known heeds pods n x one.0 one.1)
+    (all_known heeds pods ns xs rest.0 rest.1))
 
 -- entries placed by the numbers of their pods are the entries placed by their names
-pub by_names : {X : Type 0} (view : X → List PlacedEntry) (r : Result X FaultKind) (roll past : Roll)
+pub by_names : {X : Type 0} (heeds : Bool) (view : X → List PlacedEntry) (r : Result X FaultKind) (roll past : Roll)
     (pods : List PodSpec) (ns numbers : List ℕ) (es entries : List TickEntry) → pods ≡ past.pods → roll ≡ past
     → ns ≡ numbers → es ≡ entries → each (number_in roll) es ≡ Ok numbers
-    → GivesUnlessMemory view r (entries_of_pods pods ns es)
-    → GivesUnlessMemory view r (placed_of past entries)
+    → GivesUnlessMemory view r (entries_of_pods heeds pods ns es)
+    → GivesUnlessMemory view r (placed_of heeds past entries)
 unfolding placed_of
-by_names view r roll past pods ns numbers es entries pods_are is ns_are es_are e gives =
+by_names heeds view r roll past pods ns numbers es entries pods_are is ns_are es_are e gives =
     let known : each (number_in past) es ≡ Ok numbers = ap (λ (l : Roll). each (number_in l) es) (sym is) ∙ e in
     let names : List TickEntry → Result (List PlacedEntry) FaultKind =
-    λ xs. each (number_in past) xs >>= λ _. each (placed_entry past) xs in
-    let whole : names es ≡ each (placed_entry past) es =
-    then_ok (each (number_in past) es) (λ _. each (placed_entry past) es) numbers known in
-    subst (GivesUnlessMemory view r) (ap (λ (ps : List PodSpec). entries_of_pods ps ns es) pods_are
-    ∙ ap (λ (ms : List ℕ). entries_of_pods past.pods ms es) ns_are
-    ∙ sym (whole ∙ by_numbers past es numbers known) ∙ ap names es_are) gives
+    λ xs. each (number_in past) xs >>= λ _. each (placed_entry heeds past) xs in
+    let whole : names es ≡ each (placed_entry heeds past) es =
+    then_ok (each (number_in past) es) (λ _. each (placed_entry heeds past) es) numbers known in
+    subst (GivesUnlessMemory view r) (ap (λ (ps : List PodSpec). entries_of_pods heeds ps ns es) pods_are
+    ∙ ap (λ (ms : List ℕ). entries_of_pods heeds past.pods ms es) ns_are
+    ∙ sym (whole ∙ by_numbers heeds past es numbers known) ∙ ap names es_are) gives
 
-pub known_pods : {X : Type 0} (view : X → List PlacedEntry) (r : Result X FaultKind) (pods past : List PodSpec)
-    (ns : List ℕ) (es : List TickEntry) → pods ≡ past → GivesUnlessMemory view r (entries_of_pods pods ns es)
+pub known_pods : {X : Type 0} (heeds : Bool) (view : X → List PlacedEntry) (r : Result X FaultKind)
+    (pods past : List PodSpec) (ns : List ℕ) (es : List TickEntry) → pods ≡ past
+    → GivesUnlessMemory view r (entries_of_pods heeds pods ns es)
     → IfOk r (λ v. All (λ (e : PlacedEntry). e.pod < length past) (view v))
-known_pods view (Ok x) pods past ns es same gives =
+known_pods heeds view (Ok x) pods past ns es same gives =
     subst (λ (ps : List PodSpec). All (λ (e : PlacedEntry). e.pod < length ps) (view x)) same
-    (all_known pods ns es (view x) gives)
-known_pods view (Err kind) pods past ns es same gives = tt
+    (all_known heeds pods ns es (view x) gives)
+known_pods heeds view (Err kind) pods past ns es same gives = tt

@@ -28,13 +28,15 @@ use Rattle.trace.specs.declared.ahead.LineAhead.{LineAhead}
 use Rattle.trace.specs.Ahead.{IsShown, IsAhead, AreAhead, IsReadAhead, KeepsPods, may_stand}
 use Rattle.trace.specs.GivesUnlessMemory.{is_memory}
 use Rattle.trace.specs.Observed.{observed, some_code_missing}
-use Rattle.trace.specs.TraceSoFar.{TraceSoFar, version_in, with_tick}
-use Rattle.trace.specs.Placing.{placed_of, is_doubled, has_twice, are_of_one_pod, repeats}
+use Rattle.trace.specs.TraceSoFar.{TraceSoFar, version_in, heeds, with_tick}
+use Rattle.trace.specs.Placing.{placed_of, is_doubled, has_twice, are_of_one_pod, repeats, some_speaks}
 use Rattle.trace.specs.Pod.{container_counts}
 use Rattle.trace.specs.Taken.{tick_of, tick_after, tick_line_at, any_line_at, lines_at}
 use Rattle.trace.specs.Tick.{moment_from, room_for_tick, observed_in}
 use Rattle.trace.specs.Trace.{turn_of, at_line}
+use Rattle.trace.specs.Written.{heeded}
 use Rattle.trace.proofs.Shown.{comes_next, went_on}
+use Rattle.trace.proofs.Silent.{placed_alike, not_refused}
 use Rattle.json_lines.proofs.ZippedParts.{zip_append}
 
 abbrev seen : TraceSoFar → TickObs → Result TraceSoFar FaultKind
@@ -49,13 +51,20 @@ entries_apart : (past : TraceSoFar) (at : ℕ) (written : TickLine) (placed : Li
 unfolding observed_in
 entries_apart past at written placed apart coded = rw (apart, coded) refl
 
+-- nothing is refused of what is written, which is placed as in any version
 entries_shown : (past : TraceSoFar) (tick : TickObs) (written : TickLine) (placed : List PlacedEntry)
-    → placed_of past.roll written.entries ≡ Ok placed → is_doubled placed ≡ false → some_code_missing placed ≡ false
+    → some_speaks written.entries ≡ false → placed_of false past.roll written.entries ≡ Ok placed
+    → is_doubled placed ≡ false → some_code_missing placed ≡ false
     → tick ≡ observed tick.at written placed past.roll
-    → (placed_of past.roll written.entries >>= observed_in past tick.at written)
+    → (heeded (heeds past) written
+    >>= λ (w : TickLine). placed_of (heeds past) past.roll w.entries >>= observed_in past tick.at w)
     ≡ (refused_if (is_backwards past.ticks tick) Backwards >>= λ (u : ⊤). Ok tick)
-entries_shown past tick written placed places apart coded shows =
-    then_ok (placed_of past.roll written.entries) (observed_in past tick.at written) placed places
+entries_shown past tick written placed silent places apart coded shows =
+    then_ok (heeded (heeds past) written)
+    (λ (w : TickLine). placed_of (heeds past) past.roll w.entries >>= observed_in past tick.at w) written
+    (not_refused (heeds past) written silent)
+    ∙ then_ok (placed_of (heeds past) past.roll written.entries) (observed_in past tick.at written) placed
+    (placed_alike (heeds past) past.roll written.entries silent ∙ places)
     ∙ subst (λ (o : TickObs). observed_in past tick.at written placed
     ≡ (refused_if (is_backwards past.ticks o) Backwards >>= λ (u : ⊤). Ok o)) (sym shows)
     (entries_apart past tick.at written placed apart coded)
@@ -75,22 +84,24 @@ steps (Ok t) (Ok u) true true past tick entries e = rw e refl
 steps (Ok t) (Ok u) true false past tick entries e = rw e refl
 
 tick_taken : (past : TraceSoFar) (tick : TickObs) (written : TickLine) (placed : List PlacedEntry)
-    → placed_of past.roll written.entries ≡ Ok placed → is_doubled placed ≡ false → some_code_missing placed ≡ false
+    → some_speaks written.entries ≡ false → placed_of false past.roll written.entries ≡ Ok placed
+    → is_doubled placed ≡ false → some_code_missing placed ≡ false
     → tick ≡ observed tick.at written placed past.roll
     → tick_line_at past (Some tick.at) (Ok written) ≡ (may_stand past tick >>= λ (u : ⊤). seen past tick)
 unfolding tick_after tick_of may_stand
-tick_taken past tick written placed places apart coded shows =
+tick_taken past tick written placed silent places apart coded shows =
     steps (turn_of (version_in past) line_kinds.Tick) (room_for_tick past.ticks) _ (is_backwards past.ticks tick)
     past tick
-    (λ (at : ℕ). placed_of past.roll written.entries >>= observed_in past at written)
-    (entries_shown past tick written placed places apart coded shows)
+    (λ (at : ℕ). heeded (heeds past) written
+    >>= λ (w : TickLine). placed_of (heeds past) past.roll w.entries >>= observed_in past at w)
+    (entries_shown past tick written placed silent places apart coded shows)
 
 -- a line that was read ahead is taken by what is left to look at
 pub shown_taken : (past : TraceSoFar) (said : LineData) (tick : TickObs) → IsShown past.roll said tick
     → any_line_at past said ≡ (may_stand past tick >>= λ (u : ⊤). seen past tick)
 shown_taken past said tick is =
     ap (any_line_at past) is.says
-    ∙ tick_taken past tick is.written is.placed is.places is.apart is.coded is.shows
+    ∙ tick_taken past tick is.written is.placed is.silent is.places is.apart is.coded is.shows
 
 moment_step : (test : Bool) (n at : ℕ) (given : Result ℕ FaultKind) → given ≡ (if test then Ok n else Err Moment)
     → given ≡ Ok at → n ≡ at
@@ -131,15 +142,17 @@ pods_kept past next (Json d) keeps e = absurd keeps
 
 pub shown_record : (roll : Roll) (moment : Option ℕ) (said : Result TickLine TickLineFault) (at : ℕ)
     (written : TickLine) (placed : List PlacedEntry) (tick : TickObs) → moment ≡ Some at → said ≡ Ok written
-    → placed_of roll written.entries ≡ Ok placed → has_twice are_of_one_pod placed ≡ false
-    → list_any repeats placed ≡ false → some_code_missing placed ≡ false → tick ≡ observed at written placed roll
+    → some_speaks written.entries ≡ false → placed_of false roll written.entries ≡ Ok placed
+    → has_twice are_of_one_pod placed ≡ false → list_any repeats placed ≡ false → some_code_missing placed ≡ false
+    → tick ≡ observed at written placed roll
     → IsShown roll (Tick moment said) tick
-shown_record roll moment said at written placed tick early spoken places once apart coded shows =
+shown_record roll moment said at written placed tick early spoken silent places once apart coded shows =
     let here : at ≡ tick.at = sym (ap (λ (t : TickObs). t.at) shows) in
     record {
       written = written;
       placed = placed;
       says = rw (early, spoken, here) refl;
+      silent = silent;
       places = places;
       apart = rw (once, apart) refl;
       coded = coded;

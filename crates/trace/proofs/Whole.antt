@@ -17,7 +17,7 @@ use Rattle.trace.specs.declared.trace_so_far.LineKind.{LineKind}
 use Rattle.trace.specs.declared.placing.PlacedEntry.{PlacedEntry}
 use Rattle.json_lines.specs.Lines.{longest_line}
 use Rattle.trace.specs.Observed.{observed, some_code_missing}
-use Rattle.trace.specs.TraceSoFar.{TraceSoFar, version_in, with_pod, without, with_tick}
+use Rattle.trace.specs.TraceSoFar.{TraceSoFar, version_in, heeds, with_pod, without, with_tick}
 use Rattle.trace.specs.Placing.{placed_of}
 use Rattle.roster.specs.Roll.{key_of_pod}
 use Rattle.trace.specs.Pod.{has_key, pod_from, named_in}
@@ -43,10 +43,10 @@ abbrev pub with_places : TraceSoFar → ℕ → TickLine → List PlacedEntry �
 with_places past at written placed = observed_in past at written placed >>= with_tick_seen past
 
 abbrev pub with_written : TraceSoFar → ℕ → TickLine → Result TraceSoFar FaultKind
-with_written past at written = placed_of past.roll written.entries >>= with_places past at written
+with_written past at written = placed_of (heeds past) past.roll written.entries >>= with_places past at written
 
 abbrev pub with_moment : TraceSoFar → Data → ℕ → Result TraceSoFar FaultKind
-with_moment past d at = tick_line_in d >>= with_written past at
+with_moment past d at = tick_line_in (heeds past) d >>= with_written past at
 
 abbrev pub with_room : TraceSoFar → Data → ⊤ → Result TraceSoFar FaultKind
 with_room past d u = moment_of past.ticks (field_at (codes "at") d) >>= with_moment past d
@@ -94,10 +94,10 @@ in_a_row (Err fault) f g h same = refl
 
 -- of a tick line, up to the tick
 abbrev said_placed : TraceSoFar → ℕ → TickLine → Result TickObs FaultKind
-said_placed past at written = placed_of past.roll written.entries >>= observed_in past at written
+said_placed past at written = placed_of (heeds past) past.roll written.entries >>= observed_in past at written
 
 abbrev said_written : TraceSoFar → Data → ℕ → Result TickObs FaultKind
-said_written past d at = tick_line_in d >>= said_placed past at
+said_written past d at = tick_line_in (heeds past) d >>= said_placed past at
 
 abbrev said_moment : TraceSoFar → Data → ⊤ → Result TickObs FaultKind
 said_moment past d room = moment_of past.ticks (field_at (codes "at") d) >>= said_written past d
@@ -110,9 +110,9 @@ tick_whole past d =
     in_a_row (refused_if (nat_le most_ticks (length past.ticks)) TooMany) (said_moment past d) last (with_room past d)
     (λ room.
     in_a_row (moment_of past.ticks (field_at (codes "at") d)) (said_written past d) last (with_moment past d) (λ at.
-    in_a_row (tick_line_in d) (said_placed past at) last (with_written past at) (λ written.
-    in_a_row (placed_of past.roll written.entries) (observed_in past at written) last (with_places past at written)
-    (λ placed. refl))))
+    in_a_row (tick_line_in (heeds past) d) (said_placed past at) last (with_written past at) (λ written.
+    in_a_row (placed_of (heeds past) past.roll written.entries) (observed_in past at written) last
+    (with_places past at written) (λ placed. refl))))
 
 -- of a pod line, up to the pod
 abbrev said_pod : Data → ⊤ → Result PodSpec FaultKind

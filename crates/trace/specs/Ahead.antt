@@ -16,16 +16,18 @@ use Rattle.trace.specs.declared.trace_so_far.LineKind.TheVariants as line_kinds
 use Rattle.trace.specs.declared.placing.PlacedEntry.{PlacedEntry}
 use Rattle.trace.specs.Observed.{observed, some_code_missing}
 use Rattle.trace.specs.TraceSoFar.{TraceSoFar, version_in}
-use Rattle.trace.specs.Placing.{placed_of, is_doubled}
+use Rattle.trace.specs.Placing.{placed_of, is_doubled, some_speaks}
 use Rattle.trace.specs.Tick.{moment_from, room_for_tick}
 use Rattle.trace.specs.Trace.{turn_of}
 
--- the line shows this of these pods, and nothing in it is at fault by itself
+-- The line shows this of these pods, and nothing in it is at fault by itself. None of its entries says that its pod has
+-- no sample, so it is the same in each version.
 pub record IsShown (roll : Roll) (said : LineData) (tick : TickObs) : Type 0 where
   pub written : TickLine
   pub placed : List PlacedEntry
   pub says : said ≡ Tick (Some tick.at) (Ok written)
-  pub places : placed_of roll written.entries ≡ Ok placed
+  pub silent : some_speaks written.entries ≡ false
+  pub places : placed_of false roll written.entries ≡ Ok placed
   pub apart : is_doubled placed ≡ false
   pub coded : some_code_missing placed ≡ false
   pub shows : tick ≡ observed tick.at written placed roll

@@ -1,7 +1,7 @@
 -- What the trace of a text is, in the words of its format. The lines of a text have the places 0,
 -- 1, .. and, in an answer, the numbers 1, 2, ...
 use Rattle.std.specs.Prelude.{◌≡◌, ◌≢◌, ◌⊎◌, ◌↔◌, ◌+◌, ◌≤◌, ◌<◌, ℕ, zero, suc, true, false, List, [], length}
-use Rattle.std.specs.Prelude.{slice_get, Option, Some, None, is_some, option_and_then, IsSomeAnd, Ok, Err, codes}
+use Rattle.std.specs.Prelude.{slice_get, Bool, Option, Some, None, is_some, option_map, IsSomeAnd, Ok, Err, codes}
 use Rattle.serde_json.specs.Data.{Data}
 use Rattle.json_fields.specs.Fields.{field_at, text_at}
 use Rattle.trace.specs.declared.fault.FaultKind.{FaultKind}
@@ -16,6 +16,7 @@ use Rattle.trace.specs.declared.trace_so_far.LineKind.TheVariants as kinds
 use Rattle.tick_lines.specs.declared.listing.Listing.{Listing}
 use Rattle.tick_lines.specs.declared.entry.TickEntry.{TickEntry}
 use Rattle.tick_lines.specs.declared.probing.ProbeResult.{ProbeResult}
+use Rattle.tick_lines.specs.declared.usage.UnsampledMember.TheVariants.{Yes}
 use Rattle.lists.specs.Names.{place_of}
 use Rattle.roster.specs.Roll.{Roll, key_of_pod, number_of, is_present}
 use Rattle.manifest.specs.Containers.{names_of}
@@ -41,6 +42,8 @@ use Rattle.manifest_fields.specs.declared.fault.ManifestFault.TheVariants as man
 use Rattle.manifest.specs.declared.pod.PodSpec.{PodSpec}
 use Rattle.observations.specs.Pods.{PodObs}
 use Rattle.observations.specs.declared.tick.TickObs.{TickObs}
+use Rattle.observations.specs.declared.usage.Sampling.{Sampling}
+use Rattle.observations.specs.declared.usage.Sampling.TheVariants.{Unsampled, Sampled}
 use Rattle.observations.specs.declared.usage.Usage.{Usage as PodUsage}
 use Rattle.observations.specs.Observations.{shown_of, seen_of, history}
 use Rattle.observations.specs.Limits.{most_pods, most_ticks}
@@ -51,7 +54,8 @@ use Rattle.node_config.specs.declared.node.Format.{Format}
 use Rattle.node_config.specs.declared.node.Format.TheVariants.{Standard, Extended}
 use Rattle.node_config.specs.declared.node.Version.{Version}
 use Rattle.node_config.specs.declared.node.Version.TheVariants.{One, Two, Three}
-use Rattle.trace.specs.TraceSoFar.{TraceSoFar, version_in, of_node, with_pod, without, with_tick}
+use Rattle.trace.specs.TraceSoFar.{TraceSoFar, version_in, heeds_unsampled, heeds, of_node, with_pod, without}
+use Rattle.trace.specs.TraceSoFar.{with_tick}
 use Rattle.trace.specs.Tick.{moment_of}
 use Rattle.trace.specs.Trace.{json_of, kind_from, line_at, nothing, trace_of}
 
@@ -169,13 +173,13 @@ pub record HasMoment (past : TraceSoFar) (line : List ℕ) (d : Data) (at : ℕ)
 -- and with this written beside it
 pub record HasWritten (past : TraceSoFar) (line : List ℕ) (d : Data) (at : ℕ) (written : TickLine) : Type 0 where
   pub has_moment : HasMoment past line d at
-  pub written_is : tick_line_in d ≡ Ok written
+  pub written_is : tick_line_in (heeds past) d ≡ Ok written
 
 -- whose entries are of pods that are present and of containers that are known
 pub record HasPlaces (past : TraceSoFar) (line : List ℕ) (d : Data) (at : ℕ) (written : TickLine)
     (placed : List PlacedEntry) : Type 0 where
   pub has_written : HasWritten past line d at written
-  pub placed_are : placed_of past.roll written.entries ≡ Ok placed
+  pub placed_are : placed_of (heeds past) past.roll written.entries ≡ Ok placed
 
 -- no two of them are of one pod, and none has a container or a probe twice
 pub record IsApart (past : TraceSoFar) (line : List ℕ) (d : Data) (at : ℕ) (written : TickLine)
@@ -212,10 +216,10 @@ pub data Fails (past : TraceSoFar) (line : List ℕ) : FaultKind → Type 0 wher
   many_ticks : (d : Data) → Stands past line kinds.Tick d → most_ticks ≤ length past.ticks → Fails past line TooMany
   wrong_moment : (d : Data) (kind : FaultKind) → Stands past line kinds.Tick d → length past.ticks < most_ticks
       → moment_of past.ticks (field_at (codes "at") d) ≡ Err kind → Fails past line kind
-  wrong_field : (d : Data) (at : ℕ) (kind : FaultKind) → HasMoment past line d at → tick_line_in d ≡ Err kind
-      → Fails past line kind
+  wrong_field : (d : Data) (at : ℕ) (kind : FaultKind) → HasMoment past line d at
+      → tick_line_in (heeds past) d ≡ Err kind → Fails past line kind
   stranger : (d : Data) (at : ℕ) (written : TickLine) (kind : FaultKind) → HasWritten past line d at written
-      → placed_of past.roll written.entries ≡ Err kind → Fails past line kind
+      → placed_of (heeds past) past.roll written.entries ≡ Err kind → Fails past line kind
   doubled : (d : Data) (at : ℕ) (written : TickLine) (placed : List PlacedEntry)
       → HasPlaces past line d at written placed → is_doubled placed ≡ true → Fails past line Doubled
   backwards : (d : Data) (at : ℕ) (written : TickLine) (placed : List PlacedEntry)
@@ -255,9 +259,9 @@ pub record KindsOfChecks : Type 0 where
       × (kind ≡ Manifest fault)
   pub moment : (ticks : List TickObs) (found : Option Data) (kind : FaultKind) → moment_of ticks found ≡ Err kind
       → kind ≡ Moment
-  pub tick : (d : Data) (kind : FaultKind) → tick_line_in d ≡ Err kind → kind ≡ Usage
-  pub places : (roll : Roll) (es : List TickEntry) (kind : FaultKind) → placed_of roll es ≡ Err kind
-      → (kind ≡ StrangerPod) ⊎ (kind ≡ StrangerContainer)
+  pub tick : (heeds : Bool) (d : Data) (kind : FaultKind) → tick_line_in heeds d ≡ Err kind → kind ≡ Usage
+  pub places : (heeds : Bool) (roll : Roll) (es : List TickEntry) (kind : FaultKind)
+      → placed_of heeds roll es ≡ Err kind → (kind ≡ StrangerPod) ⊎ (kind ≡ StrangerContainer)
 
 -- an entry names a pod that isn't present
 pub record NamesStranger (roll : Roll) (es : List TickEntry) : Type 0 where
@@ -290,9 +294,11 @@ pub record NamesStrangerContainer (roll : Roll) (es : List TickEntry) : Type 0 w
 -- every pod of the line has to be present before any of its containers is looked for; a key is of the pod that is
 -- present and has it, and of none where there is no such pod
 pub record Strangers : Type 0 where
-  pub pod : (roll : Roll) (es : List TickEntry) → (placed_of roll es ≡ Err StrangerPod ↔ NamesStranger roll es)
-  pub container : (roll : Roll) (es : List TickEntry)
-      → (placed_of roll es ≡ Err StrangerContainer ↔ ((NamesStranger roll es → ⊥) × NamesStrangerContainer roll es))
+  pub pod : (heeds : Bool) (roll : Roll) (es : List TickEntry)
+      → (placed_of heeds roll es ≡ Err StrangerPod ↔ NamesStranger roll es)
+  pub container : (heeds : Bool) (roll : Roll) (es : List TickEntry)
+      → (placed_of heeds roll es ≡ Err StrangerContainer
+      ↔ ((NamesStranger roll es → ⊥) × NamesStrangerContainer roll es))
   pub named : (roll : Roll) (key : List ℕ) (n : ℕ) → number_of roll key ≡ Some n → IsNamed roll n key
   pub unnamed : (roll : Roll) (key : List ℕ) → (number_of roll key ≡ None ↔ (HasKey roll key → ⊥))
 
@@ -326,14 +332,14 @@ ListingsShown = (at : ℕ) (written : TickLine) (es : List PlacedEntry) (roll : 
     → slice_get roll.pods n ≡ Some pod → is_present roll.departures n ≡ true → c < length pod.containers
     → (seen_of (observed at written es roll) n c ≡ Some seen ↔ Lists es n c seen)
 
--- one of the entries is of the pod with the number, and tells this use
-abbrev pub Tells : List PlacedEntry → ℕ → PodUsage → Type 0
-Tells es pod usage = (k : ℕ) × (entry : PlacedEntry) × (slice_get es k ≡ Some entry) × (entry.pod ≡ pod)
-    × (entry.usage ≡ Some usage)
+-- one of the entries is of the pod with the number, and says this of its samples
+abbrev pub Tells : List PlacedEntry → ℕ → Sampling → Type 0
+Tells es pod sampling = (k : ℕ) × (entry : PlacedEntry) × (slice_get es k ≡ Some entry) × (entry.pod ≡ pod)
+    × (entry.sampling ≡ sampling)
 
--- what the tick shows of the use of the pod with the number
-abbrev pub usage_shown_of : TickObs → ℕ → Option PodUsage
-usage_shown_of tick n = option_and_then (λ (p : PodObs). p.usage) (shown_of tick n)
+-- what the tick shows of the samples of the pod with the number
+abbrev pub sampling_shown_of : TickObs → ℕ → Option Sampling
+sampling_shown_of tick n = option_map (λ (p : PodObs). p.sampling) (shown_of tick n)
 
 -- where no pod is listed twice, what a tick shows of a pod's use is exactly what the pod's entry
 -- tells, wherever it stands
@@ -341,15 +347,34 @@ abbrev pub UsageShown : Type 0
 UsageShown = (at : ℕ) (written : TickLine) (es : List PlacedEntry) (roll : Roll) (n : ℕ) (pod : PodSpec)
     (usage : PodUsage) → has_twice are_of_one_pod es ≡ false
     → slice_get roll.pods n ≡ Some pod → is_present roll.departures n ≡ true
-    → (usage_shown_of (observed at written es roll) n ≡ Some usage ↔ Tells es n usage)
+    → (sampling_shown_of (observed at written es roll) n ≡ Some (Sampled usage) ↔ Tells es n (Sampled usage))
+
+-- one of the entries is of the pod with this number and says that it has no sample, and none came with it
+pub record SaysUnsampled (roll : Roll) (es : List TickEntry) (n : ℕ) : Type 0 where
+  pub k : ℕ
+  pub entry : TickEntry
+  pub here : slice_get es k ≡ Some entry
+  pub known : number_of roll entry.key ≡ Some n
+  pub says : entry.unsampled ≡ Yes
+  pub alone : entry.usage ≡ None
+
+-- where no pod is listed twice, a tick shows that a pod has no sample exactly where the text is of version 3 and the
+-- pod's entry says so
+abbrev pub UnsampledShown : Type 0
+UnsampledShown = (version : Option Version) (at : ℕ) (written : TickLine) (es : List PlacedEntry) (roll : Roll) (n : ℕ)
+    (pod : PodSpec) → placed_of (heeds_unsampled version) roll written.entries ≡ Ok es
+    → has_twice are_of_one_pod es ≡ false
+    → slice_get roll.pods n ≡ Some pod → is_present roll.departures n ≡ true
+    → (sampling_shown_of (observed at written es roll) n ≡ Some Unsampled
+    ↔ ((version ≡ Some Three) × SaysUnsampled roll written.entries n))
 
 -- what a tick shows of a signal is exactly the quantity that its line has under the signal's name
 pub record SignalsShown : Type 0 where
-  pub signals : (d : Data) (at : ℕ) (written : TickLine) (placed : List PlacedEntry) (roll : Roll)
-      (signal : Signal) → tick_line_in d ≡ Ok written
+  pub signals : (heeds : Bool) (d : Data) (at : ℕ) (written : TickLine) (placed : List PlacedEntry) (roll : Roll)
+      (signal : Signal) → tick_line_in heeds d ≡ Ok written
       → IsSample (field_at (codes "signals") d) (name_of signal) (of (observed at written placed roll).signals signal)
-  pub after_reclaim : (d : Data) (at : ℕ) (written : TickLine) (placed : List PlacedEntry) (roll : Roll)
-      (signal : Signal) → tick_line_in d ≡ Ok written
+  pub after_reclaim : (heeds : Bool) (d : Data) (at : ℕ) (written : TickLine) (placed : List PlacedEntry) (roll : Roll)
+      (signal : Signal) → tick_line_in heeds d ≡ Ok written
       → IsSample (field_at (codes "afterReclaim") d) (name_of signal)
       (of (observed at written placed roll).after_reclaim signal)
 

@@ -36,7 +36,8 @@ pub record NotesListing (listing : PlacedListing) (old new : List ContainerObs) 
   pub noted : (ls : List PlacedListing) (rs : List PlacedResult) (cs : List ContainerSpec)
       → old ≡ containers_from ls rs 0 cs → has_one ≡ false → new ≡ containers_from (ls ++ listing ∷ []) rs 0 cs
 
--- the same of a probe's result
+-- A probe's result beside earlier ones, where the containers show these: whether its probe has one already, and if it
+-- has none, the containers then show it too.
 pub record NotesResult (written : PlacedResult) (old new : List ContainerObs) (has_one : Bool) : Type 0 where
   pub earlier : (ls : List PlacedListing) (rs : List PlacedResult) (cs : List ContainerSpec)
       → old ≡ containers_from ls rs 0 cs → has_one ≡ has_result rs written

@@ -18,7 +18,8 @@ use Rattle.trace.specs.declared.placing.PlacedEntry.{PlacedEntry}
 use Rattle.observations.specs.declared.container.ContainerObs.{ContainerObs}
 use Rattle.observations.specs.Pods.{PodObs}
 use Rattle.observations.specs.declared.tick.TickObs.{TickObs}
-use Rattle.observations.specs.declared.usage.Usage.{Usage}
+use Rattle.observations.specs.declared.usage.Sampling.{Sampling}
+use Rattle.observations.specs.declared.usage.Sampling.TheVariants.{Unsaid}
 use Rattle.tick_lines.specs.declared.line.TickLine.{TickLine}
 use Rattle.roster.specs.Roll.{Roll, is_present}
 use Rattle.trace.specs.Placing.{is_of_probe}
@@ -65,7 +66,7 @@ abbrev pub entry_for : List PlacedEntry → ℕ → Option PlacedEntry
 entry_for [] n = None
 entry_for (e ∷ es) n = if e.pod == n then Some e else entry_for es n
 
--- a pod without an entry has no listings, no results and no sample of its use
+-- a pod without an entry has no listings and no results, and nothing is said of its samples
 abbrev pub listings_of : Option PlacedEntry → List PlacedListing
 listings_of None = []
 listings_of (Some e) = e.listings
@@ -74,16 +75,16 @@ abbrev pub results_of : Option PlacedEntry → List PlacedResult
 results_of None = []
 results_of (Some e) = e.results
 
-abbrev pub usage_of : Option PlacedEntry → Option Usage
-usage_of None = None
-usage_of (Some e) = e.usage
+abbrev pub sampling_from : Option PlacedEntry → Sampling
+sampling_from None = Unsaid
+sampling_from (Some e) = e.sampling
 
 -- what its entry says of a pod
 abbrev pub pod_observed : ℕ → Option PlacedEntry → PodSpec → PodObs
 pod_observed at entry pod = record {
   at = at;
   containers = containers_from (listings_of entry) (results_of entry) 0 pod.containers;
-  usage = usage_of entry;
+  sampling = sampling_from entry;
 }
 
 -- what the entries say of each of the pods, numbered from n on; of one that is not present nothing

@@ -1,15 +1,21 @@
 -- The entries of a tick line, with numbers in the place of names.
-use Rattle.std.specs.Prelude.{ℕ, ◌==◌, ◌&&◌, ◌||◌, Bool, false, List, [], ◌∷◌, slice_get, Result, Ok}
+use Rattle.std.specs.Prelude.{ℕ, ◌==◌, ◌&&◌, ◌||◌, Bool, true, false, List, [], ◌∷◌, slice_get, Option, Some, None}
+use Rattle.std.specs.Prelude.{if◌then◌else◌, Result, Ok}
 use Rattle.std.specs.List.{list_any}
 use Rattle.lists.specs.Names.{place_of}
 use Rattle.json_fields.specs.Reading.{◌>>=◌, some_or, each}
 use Rattle.manifest.specs.declared.pod.PodSpec.{PodSpec}
 use Rattle.manifest.specs.Containers.{names_of}
+use Rattle.observations.specs.declared.usage.Sampling.{Sampling}
+use Rattle.observations.specs.declared.usage.Sampling.TheVariants.{Unsaid, Unsampled, Sampled}
+use Rattle.observations.specs.declared.usage.Usage.{Usage}
 use Rattle.trace.specs.declared.fault.FaultKind.{FaultKind}
 use Rattle.trace.specs.declared.fault.FaultKind.TheVariants.{StrangerPod, StrangerContainer}
 use Rattle.tick_lines.specs.declared.listing.Listing.{Listing}
 use Rattle.tick_lines.specs.declared.entry.TickEntry.{TickEntry}
 use Rattle.tick_lines.specs.declared.probing.ProbeResult.{ProbeResult}
+use Rattle.tick_lines.specs.declared.usage.UnsampledMember.{UnsampledMember}
+use Rattle.tick_lines.specs.declared.usage.UnsampledMember.TheVariants.{No, Yes, OfOtherKind}
 use Rattle.manifest.specs.declared.outcome.ProbeKind.{ProbeKind}
 use Rattle.trace.specs.declared.placing.PlacedListing.{PlacedListing}
 use Rattle.trace.specs.declared.placing.PlacedResult.{PlacedResult}
@@ -38,29 +44,61 @@ abbrev pub placed_result : PodSpec → ProbeResult → Result PlacedResult Fault
 placed_result pod r = container_number pod r.container
     >>= λ number. Ok (record { container = number; probe = r.probe; outcome = r.outcome })
 
+abbrev pub says_so : UnsampledMember → Bool
+says_so No = false
+says_so Yes = true
+says_so OfOtherKind = false
+
+-- the member is other than null and false, where there is one
+abbrev pub speaks : UnsampledMember → Bool
+speaks No = false
+speaks Yes = true
+speaks OfOtherKind = true
+
+abbrev pub some_speaks : List TickEntry → Bool
+some_speaks entries = list_any (λ e. speaks e.unsampled) entries
+
+-- a sample that came, or this where none did
+abbrev pub sampled_or : Sampling → Option Usage → Sampling
+sampled_or other None = other
+sampled_or other (Some usage) = Sampled usage
+
+-- what an entry without a sample says of them: that there is none counts where the version heeds it
+abbrev pub without_sample : Bool → UnsampledMember → Sampling
+without_sample heeds unsampled = if heeds && says_so unsampled then Unsampled else Unsaid
+
+-- what an entry says of the samples of its pod
+abbrev pub sampling_of : Bool → Option Usage → UnsampledMember → Sampling
+sampling_of heeds usage unsampled = sampled_or (without_sample heeds unsampled) usage
+
 -- an entry of the pod with this number
-unfoldable pub entry_of_pod : List PodSpec → ℕ → TickEntry → Result PlacedEntry FaultKind
-entry_of_pod pods number entry = do
+unfoldable pub entry_of_pod : Bool → List PodSpec → ℕ → TickEntry → Result PlacedEntry FaultKind
+entry_of_pod heeds pods number entry = do
   pod ← pod_numbered pods number
   listings ← each (placed_listing pod) entry.listings
   results ← each (placed_result pod) entry.results
-  Ok (record { pod = number; listings = listings; results = results; usage = entry.usage })
+  Ok (record {
+    pod = number;
+    listings = listings;
+    results = results;
+    sampling = sampling_of heeds entry.usage entry.unsampled;
+  })
 
-unfoldable pub placed_entry : Roll → TickEntry → Result PlacedEntry FaultKind
-placed_entry roll entry = number_in roll entry >>= λ number. entry_of_pod roll.pods number entry
+unfoldable pub placed_entry : Bool → Roll → TickEntry → Result PlacedEntry FaultKind
+placed_entry heeds roll entry = number_in roll entry >>= λ number. entry_of_pod heeds roll.pods number entry
 
 -- the entries, each of the pod with its number
-abbrev pub entries_of_pods : List PodSpec → List ℕ → List TickEntry → Result (List PlacedEntry) FaultKind
-entries_of_pods pods [] es = Ok []
-entries_of_pods pods (n ∷ ns) [] = Ok []
-entries_of_pods pods (n ∷ ns) (e ∷ es) =
-    entry_of_pod pods n e >>= λ placed. entries_of_pods pods ns es >>= λ rest. Ok (placed ∷ rest)
+abbrev pub entries_of_pods : Bool → List PodSpec → List ℕ → List TickEntry → Result (List PlacedEntry) FaultKind
+entries_of_pods heeds pods [] es = Ok []
+entries_of_pods heeds pods (n ∷ ns) [] = Ok []
+entries_of_pods heeds pods (n ∷ ns) (e ∷ es) =
+    entry_of_pod heeds pods n e >>= λ placed. entries_of_pods heeds pods ns es >>= λ rest. Ok (placed ∷ rest)
 
 -- all entries: first every pod has to be known and present, then every container
-unfoldable pub placed_of : Roll → List TickEntry → Result (List PlacedEntry) FaultKind
-placed_of roll entries = do
+unfoldable pub placed_of : Bool → Roll → List TickEntry → Result (List PlacedEntry) FaultKind
+placed_of heeds roll entries = do
   numbers ← each (number_in roll) entries
-  each (placed_entry roll) entries
+  each (placed_entry heeds roll) entries
 
 -- two of the items are alike
 abbrev pub has_twice : {A : Type 0} → (A → A → Bool) → List A → Bool

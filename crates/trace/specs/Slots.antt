@@ -26,7 +26,8 @@ abbrev pub or_present : ℕ → Bool → PodSpec → Option PodObs → Option Po
 or_present at is_present pod None = if is_present then Some (pod_observed at None pod) else None
 or_present at is_present pod (Some shown) = Some shown
 
--- the same of each of the pods, numbered from n on
+-- what is shown of each of the pods, numbered from n on, once those that are present and have no entry show nothing of
+-- their containers
 abbrev pub with_others : ℕ → List (Option ℕ) → ℕ → List PodSpec → List (Option PodObs) → List (Option PodObs)
 with_others at departures n [] slots = []
 with_others at departures n (p ∷ ps) [] = []

@@ -10,11 +10,11 @@ use Rattle.trace.specs.declared.fault.FaultKind.{FaultKind}
 use Rattle.trace.specs.declared.fault.FaultKind.TheVariants as kinds
 use Rattle.trace.specs.declared.fault.LineFault.{LineFault}
 use Rattle.trace.specs.declared.trace_so_far.LineKind.TheVariants as line_kinds
-use Rattle.trace.specs.TraceSoFar.{TraceSoFar, version_in, with_tick}
+use Rattle.trace.specs.TraceSoFar.{TraceSoFar, version_in, heeds, with_tick}
 use Rattle.trace.specs.Placing.{placed_of}
 use Rattle.trace.specs.Tick.{moment_from, room_for_tick, observed_in}
 use Rattle.trace.specs.Trace.{kind_of_line, turn_of, in_order, at_line}
-use Rattle.trace.specs.Written.{of_tick_line}
+use Rattle.trace.specs.Written.{written_in}
 
 -- a JSON value after those that say what is past
 unfoldable pub value_at : TraceSoFar → Data → Result TraceSoFar FaultKind
@@ -25,8 +25,8 @@ unfoldable pub tick_of : TraceSoFar → Option ℕ → Result TickLine TickLineF
 tick_of past moment said = do
   room ← room_for_tick past.ticks
   at ← moment_from past.ticks moment
-  written ← of_tick_line said
-  placed ← placed_of past.roll written.entries
+  written ← written_in (heeds past) said
+  placed ← placed_of (heeds past) past.roll written.entries
   observed_in past at written placed
 
 unfoldable pub tick_after : TraceSoFar → Option ℕ → Result TickLine TickLineFault → Result TraceSoFar FaultKind

@@ -13,7 +13,7 @@ use Rattle.observations.specs.declared.tick.TickObs.{TickObs}
 use Rattle.observations.specs.Limits.{most_ticks}
 use Rattle.tick_lines.specs.declared.line.TickLine.{TickLine}
 use Rattle.trace.specs.declared.placing.PlacedEntry.{PlacedEntry}
-use Rattle.trace.specs.TraceSoFar.{TraceSoFar, with_tick}
+use Rattle.trace.specs.TraceSoFar.{TraceSoFar, heeds, with_tick}
 use Rattle.trace.specs.Written.{tick_line_in}
 use Rattle.trace.specs.Placing.{placed_of, is_doubled}
 use Rattle.trace.specs.Observed.{observed, some_code_missing}
@@ -60,8 +60,8 @@ unfoldable pub tick_in : TraceSoFar → Data → Result TickObs FaultKind
 tick_in past d = do
   room ← room_for_tick past.ticks
   at ← moment_in past.ticks d
-  written ← tick_line_in d
-  placed ← placed_of past.roll written.entries
+  written ← tick_line_in (heeds past) d
+  placed ← placed_of (heeds past) past.roll written.entries
   observed_in past at written placed
 
 unfoldable pub tick_at : TraceSoFar → Data → Result TraceSoFar FaultKind

@@ -1,9 +1,10 @@
 -- What the lines so far say.
-use Rattle.std.specs.Prelude.{ℕ, List, [], ◌∷◌, ◌++◌, length, Option, Some, option_map}
+use Rattle.std.specs.Prelude.{ℕ, Bool, true, false, List, [], ◌∷◌, ◌++◌, length, Option, Some, None, option_map}
 use Rattle.manifest.specs.declared.pod.PodSpec.{PodSpec}
 use Rattle.node_config.specs.declared.node.NodeConfig.{NodeConfig}
 use Rattle.node_config.specs.declared.node.Format.{Format}
 use Rattle.node_config.specs.declared.node.Version.{Version}
+use Rattle.node_config.specs.declared.node.Version.TheVariants.{One, Two, Three}
 use Rattle.observations.specs.declared.tick.TickObs.{TickObs}
 use Rattle.roster.specs.Roll.{Roll}
 use Rattle.roster.specs.Roll as rolls
@@ -19,6 +20,16 @@ pub record TraceSoFar : Type 0 where
 -- the version of the format, once the node is said
 abbrev pub version_in : TraceSoFar → Option Version
 version_in past = option_map (λ (node : NodeConfig). node.version) past.node
+
+-- in version 3 an entry may say that its pod has no sample
+abbrev pub heeds_unsampled : Option Version → Bool
+heeds_unsampled None = false
+heeds_unsampled (Some One) = false
+heeds_unsampled (Some Two) = false
+heeds_unsampled (Some Three) = true
+
+abbrev pub heeds : TraceSoFar → Bool
+heeds past = heeds_unsampled (version_in past)
 
 abbrev pub of_node : TraceSoFar → NodeConfig → TraceSoFar
 of_node past node = record past { node = Some node }

@@ -9,7 +9,7 @@ ghost use Rattle.trace.specs.Placing.{are_of_one_pod, has_twice};
 
 use crate::by_pod::entries_by_pod;
 use crate::fault::FaultKind;
-use crate::placing::{PlacedEntry, some_entry_repeats};
+use crate::placing::{PlacedEntry, some_entry_repeats, some_speaks};
 use crate::tape::shown_on_tape;
 use crate::tick::{observed, placed_by, some_code_missing};
 use json_lines::{LONGEST_TAPE, LineBuffers, TextLine, TickRecord, other_line, text_line};
@@ -57,7 +57,8 @@ fn shown_once(
     Ok(Some(observed(alloc, at, written, placed, &found.first, roster)?))
 }
 
-/// The tick that a tick line shows of these pods, if nothing in it is at fault by itself.
+/// The tick that a tick line shows of these pods, if nothing in it is at fault by itself, and no entry says that its
+/// pod has no sample: that depends on the version.
 fn shown_by(
     alloc: Global,
     roster: &Roster,
@@ -68,7 +69,10 @@ fn shown_by(
     let (Some(at), Ok(written)) = (line.at, &line.written) else {
         return Ok(None);
     };
-    let placed = match placed_by(alloc, roster, written) {
+    if some_speaks(written.entries.as_slice()) {
+        return Ok(None);
+    }
+    let placed = match placed_by(alloc, false, roster, written) {
         Ok(placed) => placed,
         Err(kind) => {
             unless_memory(kind)?;

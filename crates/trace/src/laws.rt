@@ -56,6 +56,12 @@ pub fn usage_shown()
     ensures { laws.UsageShown }
 {}
 
+/// A tick shows that a pod has no sample exactly where the text is of version 3 and the pod's entry says so, and no
+/// sample came with it.
+pub fn unsampled_shown()
+    ensures { laws.UnsampledShown }
+{}
+
 /// What a tick shows of the node's signals is what its line has of them.
 pub fn signals_shown()
     ensures { laws.SignalsShown }

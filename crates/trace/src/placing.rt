@@ -5,16 +5,17 @@ ghost use Rattle.json_fields.specs.Reading.{each, GivesExactly};
 ghost use Rattle.trace.specs.GivesUnlessMemory.{GivesUnlessMemory};
 ghost use Rattle.trace.specs.Placing.{number_in, container_number, placed_listing, placed_result, pod_numbered};
 ghost use Rattle.trace.specs.Placing.{entry_of_pod, entries_of_pods, has_twice, are_of_one_container, is_of_probe};
-ghost use Rattle.trace.specs.Placing.{are_of_one_probe, repeats};
+ghost use Rattle.trace.specs.Placing.{are_of_one_probe, repeats, speaks, some_speaks, sampled_or, without_sample};
+ghost use Rattle.trace.specs.Placing.{sampling_of};
 ghost use Rattle.std.specs.List.{list_any};
 
 use crate::fault::FaultKind;
 use lists::Sequence;
 use manifest::{Outcome, PodSpec, ProbeKind};
-use observations::Usage;
+use observations::{Sampling, Usage};
 use roster::Roster;
 use std::alloc::Global;
-use tick_lines::{ListedInstance, Listing, ProbeResult, TickEntry};
+use tick_lines::{ListedInstance, Listing, ProbeResult, TickEntry, UnsampledMember};
 
 /// A listing of the container with the number.
 #[derive(Clone, Copy)]
@@ -37,7 +38,7 @@ pub(crate) struct PlacedEntry {
     pub(crate) pod: usize,
     pub(crate) listings: Sequence<PlacedListing>,
     pub(crate) results: Sequence<PlacedResult>,
-    pub(crate) usage: Option<Usage>,
+    pub(crate) sampling: Sampling,
 }
 
 /// What places that which is written, by the names that it has.
@@ -124,37 +125,80 @@ pub(crate) fn pod_numbered(pods: &[PodSpec], number: usize) -> Result<&PodSpec, 
     pods.get(number).ok_or(FaultKind::StrangerPod)
 }
 
+/// Whether the member is other than null and false, where there is one.
+fn speaks(unsampled: UnsampledMember) -> bool
+    ensures { result ≡ speaks unsampled }
+{
+    !matches!(unsampled, UnsampledMember::No)
+}
+
+/// Whether an entry has a member `unsampled` other than null and false.
+pub(crate) fn some_speaks(entries: &[TickEntry]) -> bool
+    ensures { result ≡ some_speaks entries.now }
+{
+    entries.iter().any(|e| speaks(e.unsampled))
+}
+
+/// A sample that came, or this where none did.
+pub(crate) fn sampled_or(other: Sampling, usage: Option<Usage>) -> Sampling
+    ensures { result ≡ sampled_or other usage }
+{
+    match usage {
+        None => other,
+        Some(usage) => Sampling::Sampled(usage),
+    }
+}
+
+/// What an entry without a sample says of them: that there is none counts where the version heeds it.
+fn without_sample(heeds: bool, unsampled: UnsampledMember) -> Sampling
+    ensures { result ≡ without_sample heeds unsampled }
+{
+    match unsampled {
+        UnsampledMember::Yes if heeds => Sampling::Unsampled,
+        _ => Sampling::Unsaid,
+    }
+}
+
+/// What an entry says of the samples of its pod.
+fn sampling_of(heeds: bool, usage: Option<Usage>, unsampled: UnsampledMember) -> Sampling
+    ensures { result ≡ sampling_of heeds usage unsampled }
+{
+    sampled_or(without_sample(heeds, unsampled), usage)
+}
+
 #[tactic(auto, unfolding(crate::specs::Placing::entry_of_pod))]
 fn entry_of_pod(
     alloc: Global,
+    heeds: bool,
     pods: &[PodSpec],
     number: usize,
     entry: &TickEntry,
 ) -> Result<PlacedEntry, FaultKind>
-    ensures { GivesUnlessMemory (λ e. e) result (entry_of_pod pods.now number entry.now) }
+    ensures { GivesUnlessMemory (λ e. e) result (entry_of_pod heeds pods.now number entry.now) }
 {
     let pod = pod_numbered(pods, number)?;
     Ok(PlacedEntry {
         pod: number,
         listings: place_each(alloc, pod, entry.listings.as_slice())?,
         results: place_each(alloc, pod, entry.results.as_slice())?,
-        usage: entry.usage,
+        sampling: sampling_of(heeds, entry.usage, entry.unsampled),
     })
 }
 
 /// The entries, each of the pod with its number.
 pub(crate) fn entries_of_pods(
     alloc: Global,
+    heeds: bool,
     pods: &[PodSpec],
     numbers: &[usize],
     entries: &[TickEntry],
 ) -> Result<Vec<PlacedEntry>, FaultKind>
     requires { length numbers.now ≡ length entries.now }
-    ensures { GivesUnlessMemory (λ v. v.items) result (entries_of_pods pods.now numbers.now entries.now) }
+    ensures { GivesUnlessMemory (λ v. v.items) result (entries_of_pods heeds pods.now numbers.now entries.now) }
 {
     let mut all = Vec::with_capacity(alloc, entries.len())?;
     for (place, entry) in entries.iter().enumerate() {
-        let placed = entry_of_pod(alloc, pods, numbers[place], entry)?;
+        let placed = entry_of_pod(alloc, heeds, pods, numbers[place], entry)?;
         all.push(placed).map_err(|_| FaultKind::OutOfMemory)?;
     }
     Ok(all)

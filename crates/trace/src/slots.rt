@@ -11,7 +11,7 @@ ghost use Rattle.trace.specs.Slots.{has_entry, slots_from};
 
 use crate::noted::keep_unknown;
 use manifest::PodSpec;
-use observations::{ContainerObs, PodObs};
+use observations::{ContainerObs, PodObs, Sampling};
 use roster::Roster;
 use std::alloc::{AllocError, Global};
 
@@ -61,7 +61,7 @@ fn without_entry(
         return Ok(None);
     }
     keep_unknown(containers, pod.containers.as_slice())?;
-    let observed = PodObs::new(alloc, at, containers, None)?;
+    let observed = PodObs::new(alloc, at, containers, Sampling::Unsaid)?;
     Ok(Some(observed))
 }
 

@@ -12,12 +12,12 @@ ghost use Rattle.trace.specs.Ahead.{IsShown};
 ghost use Rattle.trace.specs.Tape.{EntriesNoted};
 
 use crate::noted::{clear, note_listings, note_results};
-use crate::placing::pod_numbered;
+use crate::placing::{pod_numbered, sampled_or};
 use crate::slots::{no_pods, note_pod, with_others};
 use json_fields::{TapeItems, TapeValue};
 use json_lines::{LineBuffers, tape_moment, tick_tape};
 use lists::Sequence;
-use observations::{ContainerObs, PodObs, TickObs};
+use observations::{ContainerObs, PodObs, Sampling, TickObs};
 use roster::Roster;
 use std::alloc::{AllocError, Global};
 use tick_lines::{entries_text, entry_text, samples_text};
@@ -51,7 +51,8 @@ fn note_entry(
     {
         return Ok(false);
     }
-    let shown = PodObs::new(alloc, at, containers, entry.usage)?;
+    let sampling = sampled_or(Sampling::Unsaid, entry.usage);
+    let shown = PodObs::new(alloc, at, containers, sampling)?;
     Ok(!note_pod(slots, number, shown))
 }
 
@@ -75,7 +76,7 @@ fn note_entries(
     Ok(Some(slots))
 }
 
-/// The same of entries that may be left out.
+/// What entries show of the pods, where they may be left out; none where one of them is left to the other reader.
 fn entries_noted(
     alloc: Global,
     roster: &Roster,

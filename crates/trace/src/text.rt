@@ -284,7 +284,8 @@ pub fn read_trace(alloc: Global, format: Format, text: &[u8]) -> Result<Trace, L
     read_windows(&OneThread, alloc, format, text)
 }
 
-/// The same as [`read_trace`]; this many workers share the lines of a text behind its first 64 KiB.
+/// The trace that a text says in a format, or its first faulty line with that line's first fault, as [`read_trace`]
+/// answers; this many workers share the lines of a text behind its first 64 KiB.
 pub fn read_trace_by_workers<R: Threads + Sync>(
     rt: &R,
     alloc: Global,

@@ -7,7 +7,7 @@ ghost use Rattle.trace.specs.GivesUnlessMemory.{GivesUnlessMemory};
 ghost use Rattle.trace.specs.TraceSoFar.{with_tick};
 ghost use Rattle.trace.specs.ByPod.{AreFirst};
 ghost use Rattle.trace.specs.Placing.{placed_of, is_doubled};
-ghost use Rattle.trace.specs.Observed.{seen_in, outcome_in, results_in, listings_of, results_of, usage_of};
+ghost use Rattle.trace.specs.Observed.{seen_in, outcome_in, results_in, listings_of, results_of, sampling_from};
 ghost use Rattle.trace.specs.Observed.{seen_listed, containers_from, pod_observed, pods_from, observed, lacks_code};
 ghost use Rattle.trace.specs.Observed.{some_code_missing};
 ghost use Rattle.following.specs.Backwards.{is_backwards};
@@ -15,7 +15,7 @@ ghost use Rattle.following.specs.Followed.{EndBefore, ComesNext};
 ghost use Rattle.trace.specs.Pod.{container_counts};
 ghost use Rattle.trace.specs.Taken.{tick_of, tick_after};
 ghost use Rattle.trace.specs.Tick.{moment_from, room_for_tick, MayStandBehind, observed_in};
-ghost use Rattle.trace.specs.Written.{of_tick_line};
+ghost use Rattle.trace.specs.Written.{is_of_other_kind, has_other_kind, heeded, written_in};
 
 use crate::by_pod::{EntriesByPod, entries_by_pod, entry_for};
 use crate::fault::{FaultKind, refused_if};
@@ -23,16 +23,16 @@ use crate::placing::{
     PlacedEntry, PlacedListing, PlacedResult, entries_of_pods, is_of_probe, place_each,
     some_entry_repeats,
 };
-use crate::trace_so_far::TraceSoFar;
+use crate::trace_so_far::{TraceSoFar, heeds_unsampled};
 use json_lines::TickRecord;
 use lists::Sequence;
 use manifest::{ContainerSpec, Outcome, PodSpec, ProbeKind};
-use observations::{ContainerObs, MOST_TICKS, PodObs, TickObs, Usage};
+use observations::{ContainerObs, MOST_TICKS, PodObs, Sampling, TickObs};
 use quantity::END_OF_TIME;
 use roster::Roster;
 use state_diff::{CriState, Seen};
 use std::alloc::{AllocError, Global};
-use tick_lines::{ListedInstance, TickLine, TickLineFault};
+use tick_lines::{ListedInstance, TickEntry, TickLine, TickLineFault, UnsampledMember};
 
 fn moment_from(ticks: &[TickObs], written: Option<u64>) -> Result<u64, FaultKind>
     ensures { GivesExactly (λ n. n) result (moment_from ticks.now written) }
@@ -131,10 +131,13 @@ fn results_of(entry: Option<&PlacedEntry>) -> &[PlacedResult]
     }
 }
 
-fn usage_of(entry: Option<&PlacedEntry>) -> Option<Usage>
-    ensures { result ≡ usage_of (option_map (λ e. e.now) entry.entry) }
+fn sampling_from(entry: Option<&PlacedEntry>) -> Sampling
+    ensures { result ≡ sampling_from (option_map (λ e. e.now) entry.entry) }
 {
-    entry?.usage
+    match entry {
+        None => Sampling::Unsaid,
+        Some(entry) => entry.sampling,
+    }
 }
 
 fn pod_observed(
@@ -148,10 +151,10 @@ fn pod_observed(
     let listings = listings_of(entry);
     let results = results_of(entry);
     let containers = containers_observed(alloc, listings, results, pod.containers.as_slice())?;
-    PodObs::new(alloc, at, &containers, usage_of(entry))
+    PodObs::new(alloc, at, &containers, sampling_from(entry))
 }
 
-/// The same, if the pod is present.
+/// What a tick shows of a pod, if it is present.
 fn shown(
     alloc: Global,
     at: u64,
@@ -228,12 +231,36 @@ pub(crate) fn some_code_missing(entries: &[PlacedEntry]) -> bool
         .any(|e| entry_lacks_code(e.listings.as_slice()))
 }
 
+fn is_of_other_kind(unsampled: UnsampledMember) -> bool
+    ensures { result ≡ is_of_other_kind unsampled }
+{
+    matches!(unsampled, UnsampledMember::OfOtherKind)
+}
+
+/// Whether a member `unsampled` is of another kind than a truth value.
+fn has_other_kind(entries: &[TickEntry]) -> bool
+    ensures { result ≡ has_other_kind entries.now }
+{
+    entries.iter().any(|e| is_of_other_kind(e.unsampled))
+}
+
+/// Refuses these members where the version heeds them.
+fn heeded(heeds: bool, written: &TickLine) -> Result<&TickLine, FaultKind>
+    ensures { GivesExactly (λ t. t.now) result (heeded heeds written.now) }
+{
+    refused_if(
+        heeds && has_other_kind(written.entries.as_slice()),
+        FaultKind::Usage,
+    )?;
+    Ok(written)
+}
+
 /// What a tick line says beside its moment.
-fn written_in(said: &Result<TickLine, TickLineFault>) -> Result<&TickLine, FaultKind>
-    ensures { GivesExactly (λ t. t.now) result (of_tick_line said.now) }
+fn written_in(heeds: bool, said: &Result<TickLine, TickLineFault>) -> Result<&TickLine, FaultKind>
+    ensures { GivesExactly (λ t. t.now) result (written_in heeds said.now) }
 {
     match said {
-        Ok(written) => Ok(written),
+        Ok(written) => heeded(heeds, written),
         Err(fault) => Err(FaultKind::from(*fault)),
     }
 }
@@ -258,27 +285,29 @@ pub(crate) fn moment_in(so_far: &TraceSoFar, written: Option<u64>) -> Result<u64
 #[tactic(auto, unfolding(crate::specs::Placing::placed_of))]
 pub(crate) fn placed_by(
     alloc: Global,
+    heeds: bool,
     roster: &Roster,
     written: &TickLine,
 ) -> Result<Vec<PlacedEntry>, FaultKind>
-    ensures gives { GivesUnlessMemory (λ v. v.items) result (placed_of roster.now written.now.entries) }
+    ensures gives { GivesUnlessMemory (λ v. v.items) result (placed_of heeds roster.now written.now.entries) }
     ensures known { IfOk result (λ v. All (λ e. e.pod < length roster.now.pods) v.items) }
 {
     let entries = written.entries.as_slice();
     let numbers = place_each(alloc, roster, entries)?;
-    entries_of_pods(alloc, roster.pods(), numbers.as_slice(), entries)
+    entries_of_pods(alloc, heeds, roster.pods(), numbers.as_slice(), entries)
 }
 
-/// The same by the pods so far.
+/// The entries with numbers in the place of names, by the pods so far.
 fn placed_of(
     alloc: Global,
+    heeds: bool,
     so_far: &TraceSoFar,
     written: &TickLine,
 ) -> Result<Vec<PlacedEntry>, FaultKind>
-    ensures gives { GivesUnlessMemory (λ v. v.items) result (placed_of so_far.now.roll written.now.entries) }
+    ensures gives { GivesUnlessMemory (λ v. v.items) result (placed_of heeds so_far.now.roll written.now.entries) }
     ensures known { IfOk result (λ v. All (λ e. e.pod < length so_far.now.roll.pods) v.items) }
 {
-    placed_by(alloc, &so_far.roster, written)
+    placed_by(alloc, heeds, &so_far.roster, written)
 }
 
 /// Where the entries of each pod so far stand.
@@ -358,8 +387,9 @@ fn tick_of(alloc: Global, so_far: &TraceSoFar, line: &TickRecord) -> Result<Tick
 {
     room(so_far)?;
     let at = moment_in(so_far, line.at)?;
-    let written = written_in(&line.written)?;
-    let placed = placed_of(alloc, so_far, written)?;
+    let heeds = heeds_unsampled(so_far);
+    let written = written_in(heeds, &line.written)?;
+    let placed = placed_of(alloc, heeds, so_far, written)?;
     observed_in(alloc, so_far, at, written, &placed)
 }
 

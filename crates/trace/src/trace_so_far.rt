@@ -1,5 +1,8 @@
 //! What the lines so far say.
 
+ghost use Rattle.std.specs.Prelude.{◌≡◌};
+ghost use Rattle.trace.specs.TraceSoFar.{heeds};
+
 use following::ListingOrder;
 use lists::Sequence;
 use manifest::PodSpec;
@@ -18,7 +21,7 @@ pub(crate) enum LineKind {
     Gone,
 }
 
-/// As what a line is taken that may stand where it does.
+/// What a line is taken as that may stand where it does.
 #[derive(Clone, Copy)]
 pub(crate) enum Turn {
     Node,
@@ -53,6 +56,16 @@ impl Model for TraceSoFar {
     } };
 
     ghost invariant = { λ r. HasFollowed r.ticks (container_counts r.roster.pods) r.following };
+}
+
+/// Whether an entry may say that its pod has no sample: in version 3 alone.
+pub(crate) fn heeds_unsampled(so_far: &TraceSoFar) -> bool
+    ensures { result ≡ heeds so_far.now }
+{
+    match &so_far.node {
+        None => false,
+        Some(node) => matches!(node.version, Version::Three),
+    }
 }
 
 /// A whole trace: the node, its pods, and what was recorded of them tick by tick.

@@ -33,7 +33,7 @@ use Rattle.trace.proofs.Keys.{key_there, there_key}
 use Rattle.trace.specs.Placing.{placed_of, is_doubled}
 use Rattle.trace.specs.Observed.{observed, some_code_missing}
 use Rattle.following.specs.Backwards.{is_backwards}
-use Rattle.trace.specs.TraceSoFar.{TraceSoFar, version_in, of_node, with_pod, without, with_tick}
+use Rattle.trace.specs.TraceSoFar.{TraceSoFar, version_in, heeds, of_node, with_pod, without, with_tick}
 use Rattle.trace.specs.Tick.{moment_of, observed_in, tick_at}
 use Rattle.trace.specs.Trace.{json_of, kind_from, with_node, is_late, pod_line_at, gone_line_at, in_order, line_at}
 use Rattle.trace.specs.Laws.{IsJson, IsOfKind, TakesPods, MayStand, Stands, HasPod, HasMoment, HasWritten, HasPlaces}
@@ -139,7 +139,7 @@ places_fails past line d at written placed kind is e =
 written_fails : (past : TraceSoFar) (line : List ℕ) (d : Data) (at : ℕ) (written : TickLine) (kind : FaultKind)
     → HasWritten past line d at written → with_written past at written ≡ Err kind → Fails past line kind
 written_fails past line d at written kind is e =
-    elim (bind_err (placed_of past.roll written.entries) (with_places past at written) kind e) [
+    elim (bind_err (placed_of (heeds past) past.roll written.entries) (with_places past at written) kind e) [
       | inl here ↦ stranger d at written kind is here
       | inr later ↦ places_fails past line d at written later.0 kind (record { has_written = is; placed_are = later.1 })
           later.2
@@ -147,7 +147,7 @@ written_fails past line d at written kind is e =
 
 moment_fails : (past : TraceSoFar) (line : List ℕ) (d : Data) (at : ℕ) (kind : FaultKind) → HasMoment past line d at
     → with_moment past d at ≡ Err kind → Fails past line kind
-moment_fails past line d at kind is e = elim (bind_err (tick_line_in d) (with_written past at) kind e) [
+moment_fails past line d at kind is e = elim (bind_err (tick_line_in (heeds past) d) (with_written past at) kind e) [
   | inl here ↦ wrong_field d at kind is here
   | inr later ↦ written_fails past line d at later.0 kind (record { has_moment = is; written_is = later.1 }) later.2
 ]
@@ -389,12 +389,12 @@ of_moment past line d at is = of_room past line d is.stands is.room
 of_written : (past : TraceSoFar) (line : List ℕ) (d : Data) (at : ℕ) (written : TickLine)
     → HasWritten past line d at written → line_at past line ≡ with_written past at written
 of_written past line d at written is = of_moment past line d at is.has_moment
-    ∙ then_ok (tick_line_in d) (with_written past at) written is.written_is
+    ∙ then_ok (tick_line_in (heeds past) d) (with_written past at) written is.written_is
 
 pub of_places : (past : TraceSoFar) (line : List ℕ) (d : Data) (at : ℕ) (written : TickLine) (placed : List PlacedEntry)
     → HasPlaces past line d at written placed → line_at past line ≡ with_places past at written placed
 of_places past line d at written placed is = of_written past line d at written is.has_written
-    ∙ then_ok (placed_of past.roll written.entries) (with_places past at written) placed is.placed_are
+    ∙ then_ok (placed_of (heeds past) past.roll written.entries) (with_places past at written) placed is.placed_are
 
 of_observed : (past : TraceSoFar) (line : List ℕ) (d : Data) (at : ℕ) (written : TickLine) (placed : List PlacedEntry)
     (kind : FaultKind) → HasPlaces past line d at written placed
@@ -444,9 +444,9 @@ fails_line past line _ (many_ticks d is many) =
 fails_line past line _ (wrong_moment d kind is room e) =
     of_room past line d is room ∙ then_err (moment_of past.ticks (field_at (codes "at") d)) (with_moment past d) kind e
 fails_line past line _ (wrong_field d at kind is e) =
-    of_moment past line d at is ∙ then_err (tick_line_in d) (with_written past at) kind e
+    of_moment past line d at is ∙ then_err (tick_line_in (heeds past) d) (with_written past at) kind e
 fails_line past line _ (stranger d at written kind is e) = of_written past line d at written is
-    ∙ then_err (placed_of past.roll written.entries) (with_places past at written) kind e
+    ∙ then_err (placed_of (heeds past) past.roll written.entries) (with_places past at written) kind e
 fails_line past line _ (doubled d at written placed is twice) =
     of_observed past line d at written placed Doubled is
     (failed (is_doubled placed) Doubled (with_apart past at written placed) twice)

@@ -28,7 +28,7 @@ use Rattle.trace.specs.Pod.{of_manifest, pod_from}
 use Rattle.manifest_reader.specs.Manifest.{pod_at}
 use Rattle.trace.specs.Placing.{number_in, container_number, placed_listing, placed_result, entry_of_pod}
 use Rattle.trace.specs.Placing.{placed_entry, placed_of}
-use Rattle.trace.specs.TraceSoFar.{TraceSoFar}
+use Rattle.trace.specs.TraceSoFar.{TraceSoFar, heeds}
 use Rattle.trace.specs.Tick.{is_later, moment_from}
 use Rattle.trace.specs.Trace.{json_of}
 use Rattle.trace.specs.Laws.{IsFirstFault, Fails, too_long, not_json, unknown_kind, misplaced, wrong_node, many_pods}
@@ -36,16 +36,17 @@ use Rattle.trace.specs.Laws.{wrong_pod, duplicate_pod, nobody_gone, many_ticks, 
 use Rattle.trace.specs.Laws.{doubled, backwards, no_code, KindsOfChecks, IsNotMemory, NeverMemory}
 use Rattle.trace.proofs.LawLemmas.{first_fault}
 use Rattle.trace.proofs.LawLemmas.Checks.{line_fails}
-use Rattle.json_fields.proofs.Only.{Only, only_ok, only_err, only_bind, only_if, only_some, only_each}
+use Rattle.json_fields.proofs.Only.{Only, only_ok, only_err, only_bind, only_if, only_refused, only_some, only_each}
 use Rattle.node_config.specs.declared.node.Format.{Format}
 use Rattle.node_lines.specs.declared.fault.NodeFault.{NodeFault}
 use Rattle.node_lines.specs.Node.{node_of}
 use Rattle.node_lines.proofs.FaultLemmas.{IsNodeFault, node_only}
 use Rattle.tick_lines.specs.declared.fault.TickLineFault.{TickLineFault}
+use Rattle.tick_lines.specs.declared.line.TickLine.{TickLine}
 use Rattle.tick_lines.specs.Line.{tick_line_of}
 use Rattle.tick_lines.proofs.OnlyUsage.{IsUsageFault, one_kind}
 use Rattle.trace.specs.Faults.{kind_of_node_fault, kind_of_tick_fault}
-use Rattle.trace.specs.Written.{is_foreign, of_node_line, of_tick_line, node_in, tick_line_in}
+use Rattle.trace.specs.Written.{is_foreign, of_node_line, of_tick_line, node_in, has_other_kind, heeded, tick_line_in}
 use Rattle.manifest_reader.proofs.NeverMemory.{IsFound, missing, pod_at_only}
 
 abbrev Is : FaultKind → FaultKind → Type 0
@@ -96,8 +97,14 @@ of_tick_only (Ok x) only = only_ok (Is Usage) x
 of_tick_only (Err fault) only =
     only_err (Is Usage) (kind_of_tick_fault fault) (ap kind_of_tick_fault (only.has fault refl))
 
-tick_only : (d : Data) → Only (Is Usage) (tick_line_in d)
-tick_only d = of_tick_only (tick_line_of d) (record { has = one_kind d })
+heeded_only : (heeds : Bool) (written : TickLine) → Only (Is Usage) (heeded heeds written)
+heeded_only heeds written =
+    only_bind (Is Usage) _ _ (only_refused (Is Usage) (heeds && has_other_kind written.entries) Usage refl)
+    (λ known. only_ok (Is Usage) written)
+
+tick_only : (heeds : Bool) (d : Data) → Only (Is Usage) (tick_line_in heeds d)
+tick_only heeds d =
+    only_bind (Is Usage) _ _ (of_tick_only (tick_line_of d) (record { has = one_kind d })) (heeded_only heeds)
 
 abbrev IsStranger : FaultKind → Type 0
 IsStranger kind = (kind ≡ StrangerPod) ⊎ (kind ≡ StrangerContainer)
@@ -117,21 +124,21 @@ placed_result_only : (pod : PodSpec) (r : ProbeResult) → Only IsStranger (plac
 placed_result_only pod r = only_bind IsStranger _ _ (container_number_only pod r.container)
     (λ number. only_ok IsStranger _)
 
-placed_entry_only : (roll : Roll) (entry : TickEntry) → Only IsStranger (placed_entry roll entry)
+placed_entry_only : (heeds : Bool) (roll : Roll) (entry : TickEntry) → Only IsStranger (placed_entry heeds roll entry)
 unfolding placed_entry entry_of_pod
-placed_entry_only roll entry =
+placed_entry_only heeds roll entry =
     let P = IsStranger in
     only_bind P _ _ (number_only roll entry) (λ number.
     only_bind P _ _ (only_some P StrangerPod (slice_get roll.pods number) (inl refl)) (λ pod.
     only_bind P _ _ (only_each P (placed_listing pod) (placed_listing_only pod) entry.listings) (λ listings.
     only_bind P _ _ (only_each P (placed_result pod) (placed_result_only pod) entry.results) (λ results. only_ok P _))))
 
-placed_only : (roll : Roll) (es : List TickEntry) → Only IsStranger (placed_of roll es)
+placed_only : (heeds : Bool) (roll : Roll) (es : List TickEntry) → Only IsStranger (placed_of heeds roll es)
 unfolding placed_of
-placed_only roll es =
+placed_only heeds roll es =
     let P = IsStranger in
     only_bind P _ _ (only_each P (number_in roll) (number_only roll) es) (λ numbers.
-    only_each P (placed_entry roll) (placed_entry_only roll) es)
+    only_each P (placed_entry heeds roll) (placed_entry_only heeds roll) es)
 
 pub kinds_of_checks : KindsOfChecks
 kinds_of_checks = record {
@@ -140,8 +147,8 @@ kinds_of_checks = record {
   pod = λ found kind e. let is = (pod_only found).has kind e in (is.0, is.1);
   moment = λ ticks found kind e. (moment_only ticks (option_and_then as_u64 (option_and_then as_number found))).has
       kind e;
-  tick = λ d kind e. (tick_only d).has kind e;
-  places = λ roll es kind e. (placed_only roll es).has kind e;
+  tick = λ heeds d kind e. (tick_only heeds d).has kind e;
+  places = λ heeds roll es kind e. (placed_only heeds roll es).has kind e;
 }
 
 -- a kind that isn't of refused memory
@@ -175,9 +182,9 @@ fails_not_memory past line _ (wrong_moment d kind is room e) =
     is_not kind Moment (kinds_of_checks.moment past.ticks (field_at (codes "at") d) kind e)
     (λ memory. absurd (cc), λ memory. absurd (cc))
 fails_not_memory past line _ (wrong_field d at kind is e) =
-    is_not kind Usage ((tick_only d).has kind e) (λ memory. absurd (cc), λ memory. absurd (cc))
+    is_not kind Usage ((tick_only (heeds past) d).has kind e) (λ memory. absurd (cc), λ memory. absurd (cc))
 fails_not_memory past line _ (stranger d at written kind is e) =
-    elim ((placed_only past.roll written.entries).has kind e) [
+    elim ((placed_only (heeds past) past.roll written.entries).has kind e) [
       | inl pod ↦ is_not kind StrangerPod pod (λ memory. absurd (cc), λ memory. absurd (cc))
       | inr container ↦ is_not kind StrangerContainer container (λ memory. absurd (cc), λ memory. absurd (cc))
     ]

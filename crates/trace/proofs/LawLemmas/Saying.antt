@@ -31,7 +31,7 @@ use Rattle.trace.proofs.Keys.{key_nowhere, nowhere_key}
 use Rattle.trace.specs.Placing.{placed_of, is_doubled}
 use Rattle.trace.specs.Observed.{observed, some_code_missing}
 use Rattle.following.specs.Backwards.{is_backwards}
-use Rattle.trace.specs.TraceSoFar.{TraceSoFar, version_in, of_node, with_pod, without, with_tick}
+use Rattle.trace.specs.TraceSoFar.{TraceSoFar, version_in, heeds, of_node, with_pod, without, with_tick}
 use Rattle.trace.specs.Tick.{moment_of, observed_in, tick_at}
 use Rattle.trace.specs.Trace.{json_of, kind_from, with_node, is_late, pod_line_at, gone_line_at, in_order, line_at}
 use Rattle.trace.specs.Laws.{IsJson, IsOfKind, Stands, HasPod, HasMoment, HasWritten, HasPlaces}
@@ -54,8 +54,9 @@ tick_says past line d next is e =
     let room = cleared (nat_le most_ticks (length past.ticks)) TooMany (with_room past d) next
     (sym (tick_whole past d) ∙ e) in
     let at = bind_ok (moment_of past.ticks (field_at (codes "at") d)) (with_moment past d) next room.1 in
-    let written = bind_ok (tick_line_in d) (with_written past at.0) next at.2 in
-    let placed = bind_ok (placed_of past.roll written.0.entries) (with_places past at.0 written.0) next written.2 in
+    let written = bind_ok (tick_line_in (heeds past) d) (with_written past at.0) next at.2 in
+    let placed = bind_ok (placed_of (heeds past) past.roll written.0.entries)
+    (with_places past at.0 written.0) next written.2 in
     let tick = bind_ok (observed_in past at.0 written.0 placed.0) (with_tick_seen past) next placed.2 in
     let apart = cleared (is_doubled placed.0) Doubled (with_apart past at.0 written.0 placed.0) tick.0 tick.1 in
     let forwards = cleared (is_backwards past.ticks (observed at.0 written.0 placed.0 past.roll)) Backwards

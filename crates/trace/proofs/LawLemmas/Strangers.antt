@@ -1,12 +1,13 @@
 -- Which entries of a tick line name what isn't known.
-use Rattle.std.proofs.Common.{◌≡◌, ◌∙◌, ◌⊎◌, ℕ, zero, suc, List, [], ◌∷◌, slice_get, Option, Some, None, Result, Ok}
-use Rattle.std.proofs.Common.{Err, refl, ap, sym, inl, inr}
+use Rattle.std.proofs.Common.{◌≡◌, ◌∙◌, ◌⊎◌, ℕ, zero, suc, Bool, List, [], ◌∷◌, slice_get, Option, Some, None, Result}
+use Rattle.std.proofs.Common.{Ok, Err, refl, ap, sym, inl, inr}
 use Rattle.json_fields.specs.Reading.{◌>>=◌, some_or, each}
 use Rattle.json_fields.proofs.Only.{no_fault, same_fault}
 use Rattle.json_fields.proofs.Steps.{bind_err, then_ok, there_is}
 use Rattle.lists.specs.Names.{place_of}
 use Rattle.manifest.specs.declared.pod.PodSpec.{PodSpec}
 use Rattle.manifest.specs.Containers.{names_of}
+use Rattle.observations.specs.declared.usage.Sampling.{Sampling}
 use Rattle.trace.specs.declared.fault.FaultKind.{FaultKind}
 use Rattle.trace.specs.declared.fault.FaultKind.TheVariants.{StrangerPod, StrangerContainer}
 use Rattle.tick_lines.specs.declared.listing.Listing.{Listing}
@@ -20,7 +21,7 @@ use Rattle.trace.proofs.Keys.{named, unnamed}
 use Rattle.trace.specs.Placing.{number_in, pod_numbered, container_number, placed_listing, placed_result}
 use Rattle.trace.specs.Placing.{entry_of_pod, placed_entry, placed_of}
 use Rattle.trace.specs.Laws.{HasNo, NamesOther, NamesStranger, NamesStrangerContainer, Strangers}
-use Rattle.trace.proofs.Placed.{placed, with_listings, with_pod, with_number}
+use Rattle.trace.proofs.Placed.{placed, with_listings, with_pod, with_number, said_of}
 use Rattle.trace.proofs.LawLemmas.Checks.{then_err}
 
 -- the first item that gives a fault
@@ -86,15 +87,15 @@ result_fault pod r kind e =
     ]
 
 -- a fault of an entry of a known pod: it names a container that isn't the pod's
-known_fault : (entry : TickEntry) (number : ℕ) (pod : PodSpec) (kind : FaultKind) → with_pod entry number pod ≡ Err kind
-    → (kind ≡ StrangerContainer) × NamesOther pod entry
-known_fault entry number pod kind e =
-    elim (bind_err (each (placed_listing pod) entry.listings) (with_listings entry number pod) kind e) [
+known_fault : (says : Sampling) (entry : TickEntry) (number : ℕ) (pod : PodSpec) (kind : FaultKind)
+    → with_pod says entry number pod ≡ Err kind → (kind ≡ StrangerContainer) × NamesOther pod entry
+known_fault says entry number pod kind e =
+    elim (bind_err (each (placed_listing pod) entry.listings) (with_listings says entry number pod) kind e) [
       | inl faulty ↦
           let at = each_at (placed_listing pod) entry.listings kind faulty in
           let why = listing_fault pod at.1 kind at.3 in
           (why.1, inl (at.0, at.1, at.2, why.0))
-      | inr listings ↦ elim (bind_err (each (placed_result pod) entry.results) (placed entry number listings.0) kind
+      | inr listings ↦ elim (bind_err (each (placed_result pod) entry.results) (placed says number listings.0) kind
           listings.2) [
             | inl faulty ↦
                 let at = each_at (placed_result pod) entry.results kind faulty in
@@ -104,47 +105,47 @@ known_fault entry number pod kind e =
               pod = number;
               listings = listings.0;
               results = done.0;
-              usage =
-                  entry.usage;
+              sampling = says;
             }) kind done.2)
           ]
     ]
 
 -- and where it names one, that is its fault
-known_is : (entry : TickEntry) (number : ℕ) (pod : PodSpec) → NamesOther pod entry
+known_is : (says : Sampling) (entry : TickEntry) (number : ℕ) (pod : PodSpec) → NamesOther pod entry
     → (r : Result (List PlacedListing) FaultKind) → each (placed_listing pod) entry.listings ≡ r
-    → with_pod entry number pod ≡ Err StrangerContainer
-known_is entry number pod (inl (m, listing, here, unknown)) r e =
+    → with_pod says entry number pod ≡ Err StrangerContainer
+known_is says entry number pod (inl (m, listing, here, unknown)) r e =
     let last : ℕ → Result PlacedListing FaultKind =
     λ number. Ok (record { container = number; instance = listing.instance }) in
     let one : placed_listing pod listing ≡ Err StrangerContainer =
     then_err (container_number pod listing.name) last StrangerContainer
     (ap (λ (found : Option ℕ). some_or StrangerContainer found) unknown) in
-    then_err (each (placed_listing pod) entry.listings) (with_listings entry number pod) StrangerContainer
+    then_err (each (placed_listing pod) entry.listings) (with_listings says entry number pod) StrangerContainer
     (each_meets (placed_listing pod) StrangerContainer entry.listings m listing here one
     (λ m z other at e. (listing_fault pod z other e).1))
-known_is entry number pod (inr (m, result, here, unknown)) (Ok listings) e =
+known_is says entry number pod (inr (m, result, here, unknown)) (Ok listings) e =
     let last : ℕ → Result PlacedResult FaultKind =
     λ number. Ok (record { container = number; probe = result.probe; outcome = result.outcome }) in
     let one : placed_result pod result ≡ Err StrangerContainer =
     then_err (container_number pod result.container) last StrangerContainer
     (ap (λ (found : Option ℕ). some_or StrangerContainer found) unknown) in
-    then_ok (each (placed_listing pod) entry.listings) (with_listings entry number pod) listings e
-    ∙ then_err (each (placed_result pod) entry.results) (placed entry number listings) StrangerContainer
+    then_ok (each (placed_listing pod) entry.listings) (with_listings says entry number pod) listings e
+    ∙ then_err (each (placed_result pod) entry.results) (placed says number listings) StrangerContainer
     (each_meets (placed_result pod) StrangerContainer entry.results m result here one
     (λ m z other at e. (result_fault pod z other e).1))
-known_is entry number pod (inr other) (Err kind) e =
+known_is says entry number pod (inr other) (Err kind) e =
     let at = each_at (placed_listing pod) entry.listings kind e in
-    then_err (each (placed_listing pod) entry.listings) (with_listings entry number pod) StrangerContainer
+    then_err (each (placed_listing pod) entry.listings) (with_listings says entry number pod) StrangerContainer
     (e ∙ ap Err (listing_fault pod at.1 kind at.3).1)
 
 -- a fault of one entry: its pod isn't known, or a container isn't its pod's
-entry_fault : (roll : Roll) (es : List TickEntry) (n : ℕ) (entry : TickEntry) (kind : FaultKind)
-    → slice_get es n ≡ Some entry → placed_entry roll entry ≡ Err kind
+entry_fault : (heeds : Bool) (roll : Roll) (es : List TickEntry) (n : ℕ) (entry : TickEntry) (kind : FaultKind)
+    → slice_get es n ≡ Some entry → placed_entry heeds roll entry ≡ Err kind
     → NamesStranger roll es ⊎ ((kind ≡ StrangerContainer) × NamesStrangerContainer roll es)
 unfolding placed_entry entry_of_pod
-entry_fault roll es n entry kind here e =
-    elim (bind_err (number_in roll entry) (with_number roll.pods entry) kind e) [
+entry_fault heeds roll es n entry kind here e =
+    let says = said_of heeds entry in
+    elim (bind_err (number_in roll entry) (with_number says roll.pods entry) kind e) [
       | inl unknown ↦ inl (record {
         n = n;
         entry = entry;
@@ -155,14 +156,14 @@ entry_fault roll es n entry kind here e =
       | inr number ↦
           let known = there_is StrangerPod (number_of roll entry.key) number.0 number.1 in
           let pod = named roll entry.key number.0 known in
-          elim (bind_err (pod_numbered roll.pods number.0) (with_pod entry number.0) kind number.2) [
+          elim (bind_err (pod_numbered roll.pods number.0) (with_pod says entry number.0) kind number.2) [
             | inl gone ↦
                 let none = (missing_is StrangerPod kind (slice_get roll.pods number.0) gone).0 in
                 let some = pod.at in
                 absurd (cc)
             | inr found ↦
                 let is = there_is StrangerPod (slice_get roll.pods number.0) found.0 found.1 in
-                let why = known_fault entry number.0 found.0 kind found.2 in
+                let why = known_fault says entry number.0 found.0 kind found.2 in
                 inr (
                   why.0,
                   record {
@@ -192,56 +193,59 @@ all_known : (roll : Roll) (es : List TickEntry) (numbers : List ℕ)
     → each (number_in roll) es ≡ Ok numbers → NamesStranger roll es → ⊥
 all_known roll es numbers e is = no_fault numbers StrangerPod (sym e ∙ unknown_pod roll es is)
 
-entries_fault : (roll : Roll) (es : List TickEntry) (kind : FaultKind) → placed_of roll es ≡ Err kind
+entries_fault : (heeds : Bool) (roll : Roll) (es : List TickEntry) (kind : FaultKind)
+    → placed_of heeds roll es ≡ Err kind
     → ((kind ≡ StrangerPod) × NamesStranger roll es) ⊎ ((kind ≡ StrangerContainer) × NamesStrangerContainer roll es)
 unfolding placed_of
-entries_fault roll es kind e =
-    elim (bind_err (each (number_in roll) es) (λ numbers. each (placed_entry roll) es) kind
+entries_fault heeds roll es kind e =
+    elim (bind_err (each (number_in roll) es) (λ numbers. each (placed_entry heeds roll) es) kind
     e) [
       | inl unknown ↦
           let at = each_at (number_in roll) es kind unknown in
           let why = missing_is StrangerPod kind (number_of roll at.1.key) at.3 in
           inl (why.1, record { n = at.0; entry = at.1; here = at.2; unknown = why.0 })
       | inr numbers ↦
-          let at = each_at (placed_entry roll) es kind numbers.2 in
-          elim (entry_fault roll es at.0 at.1 kind at.2 at.3) [
+          let at = each_at (placed_entry heeds roll) es kind numbers.2 in
+          elim (entry_fault heeds roll es at.0 at.1 kind at.2 at.3) [
             | inl stranger ↦ absurd (all_known roll es numbers.0 numbers.1 stranger)
             | inr container ↦ inr container
           ]
     ]
 
-pod_is : (roll : Roll) (es : List TickEntry) → NamesStranger roll es → placed_of roll es ≡ Err StrangerPod
+pod_is : (heeds : Bool) (roll : Roll) (es : List TickEntry) → NamesStranger roll es
+    → placed_of heeds roll es ≡ Err StrangerPod
 unfolding placed_of
-pod_is roll es is = then_err (each (number_in roll) es)
-    (λ numbers. each (placed_entry roll) es) StrangerPod (unknown_pod roll es is)
+pod_is heeds roll es is = then_err (each (number_in roll) es)
+    (λ numbers. each (placed_entry heeds roll) es) StrangerPod (unknown_pod roll es is)
 
-one_entry : (roll : Roll) (es : List TickEntry) → (is : NamesStrangerContainer roll es)
-    → placed_entry roll is.entry ≡ Err StrangerContainer
+one_entry : (heeds : Bool) (roll : Roll) (es : List TickEntry) → (is : NamesStrangerContainer roll es)
+    → placed_entry heeds roll is.entry ≡ Err StrangerContainer
 unfolding placed_entry entry_of_pod
-one_entry roll es is =
-    then_ok (number_in roll is.entry) (with_number roll.pods is.entry) is.number
+one_entry heeds roll es is =
+    let says = said_of heeds is.entry in
+    then_ok (number_in roll is.entry) (with_number says roll.pods is.entry) is.number
     (ap (λ (found : Option ℕ). some_or StrangerPod found) is.known)
-    ∙ then_ok (pod_numbered roll.pods is.number) (with_pod is.entry is.number) is.pod
+    ∙ then_ok (pod_numbered roll.pods is.number) (with_pod says is.entry is.number) is.pod
     (ap (λ (found : Option PodSpec). some_or StrangerPod found) is.pod_is)
-    ∙ known_is is.entry is.number is.pod is.other (each (placed_listing is.pod) is.entry.listings) refl
+    ∙ known_is says is.entry is.number is.pod is.other (each (placed_listing is.pod) is.entry.listings) refl
 
-only_container : (roll : Roll) (es : List TickEntry) → (NamesStranger roll es → ⊥)
+only_container : (heeds : Bool) (roll : Roll) (es : List TickEntry) → (NamesStranger roll es → ⊥)
     → (m : ℕ) (z : TickEntry) (other : FaultKind) → slice_get es m ≡ Some z
-    → placed_entry roll z ≡ Err other → other ≡ StrangerContainer
-only_container roll es none m z other at faulty = elim (entry_fault roll es m z other at faulty) [
+    → placed_entry heeds roll z ≡ Err other → other ≡ StrangerContainer
+only_container heeds roll es none m z other at faulty = elim (entry_fault heeds roll es m z other at faulty) [
   | inl stranger ↦ absurd (none stranger)
   | inr container ↦ container.0
 ]
 
-container_is : (roll : Roll) (es : List TickEntry) → (NamesStranger roll es → ⊥) → NamesStrangerContainer roll es
-    → (r : Result (List ℕ) FaultKind) → each (number_in roll) es ≡ r
-    → placed_of roll es ≡ Err StrangerContainer
+container_is : (heeds : Bool) (roll : Roll) (es : List TickEntry) → (NamesStranger roll es → ⊥)
+    → NamesStrangerContainer roll es → (r : Result (List ℕ) FaultKind) → each (number_in roll) es ≡ r
+    → placed_of heeds roll es ≡ Err StrangerContainer
 unfolding placed_of
-container_is roll es none is (Ok numbers) e =
-    then_ok (each (number_in roll) es) (λ numbers. each (placed_entry roll) es) numbers e
-    ∙ each_meets (placed_entry roll) StrangerContainer es is.n is.entry is.here (one_entry roll es is)
-    (λ m z other at faulty. only_container roll es none m z other at faulty)
-container_is roll es none is (Err kind) e =
+container_is heeds roll es none is (Ok numbers) e =
+    then_ok (each (number_in roll) es) (λ numbers. each (placed_entry heeds roll) es) numbers e
+    ∙ each_meets (placed_entry heeds roll) StrangerContainer es is.n is.entry is.here (one_entry heeds roll es is)
+    (λ m z other at faulty. only_container heeds roll es none m z other at faulty)
+container_is heeds roll es none is (Err kind) e =
     let at = each_at (number_in roll) es kind e in
     absurd (none (record {
       n = at.0;
@@ -251,8 +255,9 @@ container_is roll es none is (Err kind) e =
           (missing_is StrangerPod kind (number_of roll at.1.key) at.3).0;
     }))
 
-pod_of : (roll : Roll) (es : List TickEntry) → placed_of roll es ≡ Err StrangerPod → NamesStranger roll es
-pod_of roll es e = elim (entries_fault roll es StrangerPod e) [
+pod_of : (heeds : Bool) (roll : Roll) (es : List TickEntry) → placed_of heeds roll es ≡ Err StrangerPod
+    → NamesStranger roll es
+pod_of heeds roll es e = elim (entries_fault heeds roll es StrangerPod e) [
   | inl pod ↦ pod.1
   | inr container ↦ let other : StrangerPod ≡ StrangerContainer = container.0 in absurd (cc)
 ]
@@ -260,21 +265,21 @@ pod_of roll es e = elim (entries_fault roll es StrangerPod e) [
 apart : ◌≡◌ {A = Result (List PlacedEntry) FaultKind} (Err StrangerPod) (Err StrangerContainer) → ⊥
 apart e = let same = same_fault {A = List PlacedEntry} StrangerPod StrangerContainer e in absurd (cc)
 
-container_of : (roll : Roll) (es : List TickEntry) → placed_of roll es ≡ Err StrangerContainer
+container_of : (heeds : Bool) (roll : Roll) (es : List TickEntry) → placed_of heeds roll es ≡ Err StrangerContainer
     → (NamesStranger roll es → ⊥) × NamesStrangerContainer roll es
-container_of roll es e = elim (entries_fault roll es StrangerContainer e) [
+container_of heeds roll es e = elim (entries_fault heeds roll es StrangerContainer e) [
   | inl pod ↦ let other : StrangerContainer ≡ StrangerPod = pod.0 in absurd (cc)
-  | inr container ↦ (λ is. apart (sym (pod_is roll es is) ∙ e), container.1)
+  | inr container ↦ (λ is. apart (sym (pod_is heeds roll es is) ∙ e), container.1)
 ]
 
 pub strangers : Strangers
 strangers = record {
-  pod = λ roll es. (pod_of roll es, pod_is roll es);
+  pod = λ heeds roll es. (pod_of heeds roll es, pod_is heeds roll es);
   named = named;
   unnamed = unnamed;
-  container = λ roll es. (
-    container_of roll es,
-    λ is. container_is roll es is.0 is.1
+  container = λ heeds roll es. (
+    container_of heeds roll es,
+    λ is. container_is heeds roll es is.0 is.1
         (each (number_in roll) es) refl,
   );
 }

@@ -1,53 +1,195 @@
--- What a tick shows of a pod's use and of the node's signals is what its line tells.
-use Rattle.std.proofs.Common.{◌≡◌, ◌∙◌, ℕ, true, false, List, Option, Some, None, Result, Ok, Err, refl, ap, sym}
-use Rattle.std.specs.Prelude.{slice_get, option_and_then}
+-- What a tick shows of a pod's samples and of the node's signals is what its line tells.
+use Rattle.std.proofs.Common.{◌≡◌, ◌∙◌, ℕ, zero, suc, Bool, true, false, List, [], ◌∷◌, Option, Some, None, Result, Ok}
+use Rattle.std.proofs.Common.{Err, refl, ap, sym}
+use Rattle.std.specs.Prelude.{◌↔◌, ◌&&◌, slice_get, option_map}
+use Rattle.std.proofs.lemmas.Option.{same_Some}
+use Rattle.json_fields.specs.Reading.{◌>>=◌, each, refused_if}
+use Rattle.json_fields.proofs.Only.{same_value}
+use Rattle.json_fields.proofs.Steps.{bind_ok, there_is}
 use Rattle.manifest.specs.declared.pod.PodSpec.{PodSpec}
+use Rattle.node_config.specs.declared.node.Version.{Version}
+use Rattle.node_config.specs.declared.node.Version.TheVariants.{One, Two, Three}
 use Rattle.observations.specs.Pods.{PodObs}
-use Rattle.roster.specs.Roll.{Roll, is_present}
+use Rattle.roster.specs.Roll.{Roll, number_of, is_present}
+use Rattle.observations.specs.declared.usage.Sampling.{Sampling}
+use Rattle.observations.specs.declared.usage.Sampling.TheVariants.{Unsaid, Unsampled, Sampled}
 use Rattle.observations.specs.declared.usage.Usage.{Usage}
+use Rattle.tick_lines.specs.declared.entry.TickEntry.{TickEntry}
 use Rattle.tick_lines.specs.declared.fault.TickLineFault.{TickLineFault}
 use Rattle.tick_lines.specs.declared.line.TickLine.{TickLine}
+use Rattle.tick_lines.specs.declared.usage.UnsampledMember.{UnsampledMember}
+use Rattle.tick_lines.specs.declared.usage.UnsampledMember.TheVariants.{No, Yes, OfOtherKind}
 use Rattle.tick_lines.specs.Line.{tick_line_of}
 use Rattle.tick_lines.proofs.Quantities.{samples_said}
+use Rattle.trace.specs.declared.fault.FaultKind.{FaultKind}
+use Rattle.trace.specs.declared.fault.FaultKind.TheVariants as faults
+use Rattle.trace.specs.declared.fault.FaultKind.TheVariants.{StrangerPod}
 use Rattle.trace.specs.declared.placing.PlacedEntry.{PlacedEntry}
-use Rattle.trace.specs.Observed.{usage_of, entry_for, observed}
-use Rattle.trace.specs.Placing.{has_twice, are_of_one_pod}
-use Rattle.trace.specs.Written.{of_tick_line}
-use Rattle.trace.specs.Laws.{Tells, usage_shown_of, UsageShown, SignalsShown}
+use Rattle.trace.specs.Observed.{sampling_from, entry_for, observed}
+use Rattle.trace.specs.Placing.{has_twice, are_of_one_pod, number_in, sampling_of, entry_of_pod, placed_entry}
+use Rattle.trace.specs.Placing.{placed_of}
+use Rattle.trace.specs.TraceSoFar.{heeds_unsampled}
+use Rattle.trace.specs.Written.{has_other_kind, written_in}
+use Rattle.trace.specs.Laws.{Tells, sampling_shown_of, UsageShown, SaysUnsampled, UnsampledShown, SignalsShown}
+use Rattle.trace.proofs.Placed.{said_of, entry_says}
 use Rattle.trace.proofs.LawLemmas.Listings.{entry_found, entry_given, pod_shown}
 
-usage_is : (at : ℕ) (written : TickLine) (es : List PlacedEntry) (roll : Roll) (n : ℕ) (pod : PodSpec)
+sampling_is : (at : ℕ) (written : TickLine) (es : List PlacedEntry) (roll : Roll) (n : ℕ) (pod : PodSpec)
     → slice_get roll.pods n ≡ Some pod → is_present roll.departures n ≡ true
-    → usage_shown_of (observed at written es roll) n ≡ usage_of (entry_for es n)
-usage_is at written es roll n pod here present =
-    ap (λ (o : Option PodObs). option_and_then (λ (p : PodObs). p.usage) o)
+    → sampling_shown_of (observed at written es roll) n ≡ Some (sampling_from (entry_for es n))
+sampling_is at written es roll n pod here present =
+    ap (λ (o : Option PodObs). option_map (λ (p : PodObs). p.sampling) o)
     (pod_shown at written es roll n pod here present)
 
-tells : (es : List PlacedEntry) (n : ℕ) (usage : Usage) (entry : Option PlacedEntry) → entry_for es n ≡ entry
-    → usage_of entry ≡ Some usage → Tells es n usage
-tells es n usage None is e = absurd (cc)
-tells es n usage (Some entry) is e =
+tells : (es : List PlacedEntry) (n : ℕ) (says : Sampling) (entry : Option PlacedEntry) → (says ≡ Unsaid → ⊥)
+    → entry_for es n ≡ entry → sampling_from entry ≡ says → Tells es n says
+tells es n says None some is e = absurd (some (sym e))
+tells es n says (Some entry) some is e =
     let found = entry_found es n entry is in
     (found.0, entry, found.1, found.2, e)
 
-told : (es : List PlacedEntry) (n : ℕ) (usage : Usage) → has_twice are_of_one_pod es ≡ false → Tells es n usage
-    → usage_of (entry_for es n) ≡ Some usage
-told es n usage once (k, entry, here, is, given) = ap usage_of (entry_given es n entry once k here is) ∙ given
+told : (es : List PlacedEntry) (n : ℕ) (says : Sampling) → has_twice are_of_one_pod es ≡ false → Tells es n says
+    → sampling_from (entry_for es n) ≡ says
+told es n says once (k, entry, here, is, given) = ap sampling_from (entry_given es n entry once k here is) ∙ given
+
+-- what is shown of samples, where something is, is what the pod's entry tells
+shown_told : (at : ℕ) (written : TickLine) (es : List PlacedEntry) (roll : Roll) (n : ℕ) (pod : PodSpec)
+    (says : Sampling) → (says ≡ Unsaid → ⊥) → has_twice are_of_one_pod es ≡ false
+    → slice_get roll.pods n ≡ Some pod → is_present roll.departures n ≡ true
+    → (sampling_shown_of (observed at written es roll) n ≡ Some says ↔ Tells es n says)
+shown_told at written es roll n pod says some once here present =
+    let is = sampling_is at written es roll n pod here present in (
+      λ e. tells es n says (entry_for es n) some refl (same_Some (sampling_from (entry_for es n)) says (sym is ∙ e)),
+      λ given. is ∙ ap Some (told es n says once given),
+    )
 
 pub usage_shown : UsageShown
 usage_shown at written es roll n pod usage once here present =
-    let is = usage_is at written es roll n pod here present in
-    (λ e. tells es n usage (entry_for es n) refl (sym is ∙ e), λ given. is ∙ told es n usage once given)
+    shown_told at written es roll n pod (Sampled usage) (λ e. absurd (cc)) once here present
+
+-- ---- that a pod has no sample
+
+-- what is read of the items of a list stands at their places
+item_of : {A B E : Type 0} (f : A → Result B E) (xs : List A) (ys : List B) (k : ℕ) (y : B) → each f xs ≡ Ok ys
+    → slice_get ys k ≡ Some y → (x : A) × (slice_get xs k ≡ Some x) × (f x ≡ Ok y)
+item_of {B = B} {E = E} f [] ys k y e here =
+    let gone : slice_get [] k ≡ Some y = ap (λ (zs : List B). slice_get zs k) (same_value {E = E} [] ys e) ∙ here in
+    absurd (cc)
+item_of {B = B} {E = E} f (x ∷ xs) ys zero y e here =
+    let one = bind_ok (f x) (λ z. each f xs >>= λ zs. Ok (z ∷ zs)) ys e in
+    let rest = bind_ok (each f xs) (λ zs. Ok (one.0 ∷ zs)) ys one.2 in
+    let same = same_value {E = E} (one.0 ∷ rest.0) ys rest.2 in
+    (x, refl, one.1 ∙ ap Ok (same_Some one.0 y (ap (λ (zs : List B). slice_get zs 0) same ∙ here)))
+item_of {B = B} {E = E} f (x ∷ xs) ys (suc k) y e here =
+    let one = bind_ok (f x) (λ z. each f xs >>= λ zs. Ok (z ∷ zs)) ys e in
+    let rest = bind_ok (each f xs) (λ zs. Ok (one.0 ∷ zs)) ys one.2 in
+    let same = same_value {E = E} (one.0 ∷ rest.0) ys rest.2 in
+    item_of f xs rest.0 k y rest.1 (ap (λ (zs : List B). slice_get zs (suc k)) same ∙ here)
+
+read_of : {A B E : Type 0} (f : A → Result B E) (xs : List A) (ys : List B) (k : ℕ) (x : A) → each f xs ≡ Ok ys
+    → slice_get xs k ≡ Some x → (y : B) × (slice_get ys k ≡ Some y) × (f x ≡ Ok y)
+read_of f [] ys k x e here = absurd (cc)
+read_of {B = B} {E = E} f (z ∷ xs) ys zero x e here =
+    let one = bind_ok (f z) (λ y. each f xs >>= λ zs. Ok (y ∷ zs)) ys e in
+    let rest = bind_ok (each f xs) (λ zs. Ok (one.0 ∷ zs)) ys one.2 in
+    let same = same_value {E = E} (one.0 ∷ rest.0) ys rest.2 in
+    (one.0, sym (ap (λ (zs : List B). slice_get zs 0) same), ap f (sym (same_Some z x here)) ∙ one.1)
+read_of {B = B} {E = E} f (z ∷ xs) ys (suc k) x e here =
+    let one = bind_ok (f z) (λ y. each f xs >>= λ zs. Ok (y ∷ zs)) ys e in
+    let rest = bind_ok (each f xs) (λ zs. Ok (one.0 ∷ zs)) ys one.2 in
+    let same = same_value {E = E} (one.0 ∷ rest.0) ys rest.2 in
+    let later = read_of f xs rest.0 k x rest.1 here in
+    (later.0, sym (ap (λ (zs : List B). slice_get zs (suc k)) same) ∙ later.1, later.2)
+
+all_read : (heeds : Bool) (roll : Roll) (entries : List TickEntry) (es : List PlacedEntry)
+    → placed_of heeds roll entries ≡ Ok es → each (placed_entry heeds roll) entries ≡ Ok es
+unfolding placed_of
+all_read heeds roll entries es e =
+    (bind_ok (each (number_in roll) entries) (λ numbers. each (placed_entry heeds roll) entries) es e).2
+
+-- an entry is placed by the number of its pod, and says what was written of its samples
+placed_says : (heeds : Bool) (roll : Roll) (entry : TickEntry) (e : PlacedEntry) → placed_entry heeds roll entry ≡ Ok e
+    → (number_of roll entry.key ≡ Some e.pod) × (said_of heeds entry ≡ e.sampling)
+unfolding placed_entry
+placed_says heeds roll entry e is =
+    let number = bind_ok (number_in roll entry) (λ n. entry_of_pod heeds roll.pods n entry) e is in
+    let says = entry_says heeds roll.pods number.0 entry e number.2 in
+    (there_is StrangerPod (number_of roll entry.key) number.0 number.1 ∙ ap Some says.1, says.2)
+
+says_none : (heeds : Bool) (usage : Option Usage) (unsampled : UnsampledMember)
+    → sampling_of heeds usage unsampled ≡ Unsampled → (heeds ≡ true) × (usage ≡ None) × (unsampled ≡ Yes)
+says_none heeds (Some usage) unsampled e = absurd (cc)
+says_none true None No e = absurd (cc)
+says_none true None Yes e = (refl, refl, refl)
+says_none true None OfOtherKind e = absurd (cc)
+says_none false None unsampled e = absurd (cc)
+
+in_three : (version : Option Version) → heeds_unsampled version ≡ true → version ≡ Some Three
+in_three None e = absurd (cc)
+in_three (Some One) e = absurd (cc)
+in_three (Some Two) e = absurd (cc)
+in_three (Some Three) e = refl
+
+none_said : (version : Option Version) (entry : TickEntry) → version ≡ Some Three → entry.unsampled ≡ Yes
+    → entry.usage ≡ None → said_of (heeds_unsampled version) entry ≡ Unsampled
+none_said version entry three says alone =
+    ap (λ (v : Option Version). said_of (heeds_unsampled v) entry) three
+    ∙ ap (λ (usage : Option Usage). sampling_of true usage entry.unsampled) alone
+    ∙ ap (λ (unsampled : UnsampledMember). sampling_of true None unsampled) says
+
+told_by : (version : Option Version) (roll : Roll) (entries : List TickEntry) (es : List PlacedEntry) (n : ℕ)
+    → each (placed_entry (heeds_unsampled version) roll) entries ≡ Ok es → Tells es n Unsampled
+    → (version ≡ Some Three) × SaysUnsampled roll entries n
+told_by version roll entries es n all (k, entry, there, is, given) =
+    let heeds = heeds_unsampled version in
+    let w = item_of (placed_entry heeds roll) entries es k entry all there in
+    let says = placed_says heeds roll w.0 entry w.2 in
+    let none = says_none heeds w.0.usage w.0.unsampled (says.1 ∙ given) in (
+      in_three version none.0,
+      record {
+        k = k;
+        entry = w.0;
+        here = w.1;
+        known = says.0 ∙ ap Some is;
+        says = none.2;
+        alone = none.1;
+      },
+    )
+
+tells_it : (version : Option Version) (roll : Roll) (entries : List TickEntry) (es : List PlacedEntry) (n : ℕ)
+    → each (placed_entry (heeds_unsampled version) roll) entries ≡ Ok es → version ≡ Some Three
+    → SaysUnsampled roll entries n → Tells es n Unsampled
+tells_it version roll entries es n all three w =
+    let heeds = heeds_unsampled version in
+    let placed = read_of (placed_entry heeds roll) entries es w.k w.entry all w.here in
+    let says = placed_says heeds roll w.entry placed.0 placed.2 in (
+      w.k,
+      placed.0,
+      placed.1,
+      same_Some placed.0.pod n (sym says.0 ∙ w.known),
+      sym says.1 ∙ none_said version w.entry three w.says w.alone,
+    )
+
+pub unsampled_shown : UnsampledShown
+unsampled_shown version at written es roll n pod places once here present =
+    let all = all_read (heeds_unsampled version) roll written.entries es places in
+    let shown = shown_told at written es roll n pod Unsampled (λ e. absurd (cc)) once here present in (
+      λ e. told_by version roll written.entries es n all (shown.0 e),
+      λ is. shown.1 (tells_it version roll written.entries es n all is.0 is.1),
+    )
 
 -- a tick line that is taken is as it is read
-as_read : (r : Result TickLine TickLineFault) (written : TickLine) → of_tick_line r ≡ Ok written → r ≡ Ok written
-as_read (Ok x) written e = let is : x ≡ written = cc in ap Ok is
-as_read (Err fault) written e = absurd (cc)
+as_read : (heeds : Bool) (r : Result TickLine TickLineFault) (written : TickLine) → written_in heeds r ≡ Ok written
+    → r ≡ Ok written
+as_read heeds (Ok x) written e =
+    let known = bind_ok (refused_if (heeds && has_other_kind x.entries) faults.Usage) (λ known. Ok x) written e in
+    ap Ok (same_value {E = FaultKind} x written known.2)
+as_read heeds (Err fault) written e = absurd (cc)
 
 pub signals_shown : SignalsShown
 signals_shown = record {
-  signals = λ d at written placed roll signal e. samples_said.signals d written signal
-      (as_read (tick_line_of d) written e);
-  after_reclaim = λ d at written placed roll signal e. samples_said.after_reclaim d written signal
-      (as_read (tick_line_of d) written e);
+  signals = λ heeds d at written placed roll signal e. samples_said.signals d written signal
+      (as_read heeds (tick_line_of d) written e);
+  after_reclaim = λ heeds d at written placed roll signal e. samples_said.after_reclaim d written signal
+      (as_read heeds (tick_line_of d) written e);
 }

@@ -2,7 +2,7 @@ use Rattle.std.proofs.Common.{◌≡◌, [], length, None, true, false, rules, S
 use Rattle.std.proofs.lemmas.Int.{ints}
 use Rattle.pod_state.specs.declared.lifecycle.Lifecycle.{Lifecycle}
 use Rattle.pod_state.specs.Lifecycles.{IsLifecycleOf}
-use Rattle.observations.specs.declared.usage.Usage.{Usage}
+use Rattle.pod_piece.specs.declared.status.NewestUsage.{NewestUsage}
 use Rattle.pod_piece.specs.Usage.{IsUsageOf}
 use Rattle.pod_piece.proofs.PieceLemmas.{by_eviction, has_containers}
 use Rattle.pod_piece.proofs.UsageLemmas.{no_usage}
@@ -27,7 +27,7 @@ returns c =
           ((λ t. let w : false ≡ true = t in absurd (cc)), (λ w. let v : false ≡ true = w in absurd (cc))) tt) is;
       class = c.qos_class.ensures;
       requests = c.of.ensures;
-      usage = subst (λ (u : Usage). IsUsageOf pod None [] u) (sym c.nothing.ensures) (no_usage pod None);
+      usage = subst (λ (u : NewestUsage). IsUsageOf pod None [] u) (sym c.nothing.ensures) (no_usage pod None);
       priority = let fits : SFits w32 c.args.pod.now.priority = search rules in omega (arith, ints);
       order = refl;
     }

@@ -5,5 +5,5 @@ use Rattle.trace.proofs.placing.entries_of_pods.Given as goal
 
 abbrev pub invariant-loop-place : goal.invariant-loop-place
 invariant-loop-place l = with_front l.all.items
-    (entries_of_pods l.pods (drop l.place l.numbers) (drop l.place l.entries))
-    ≡ entries_of_pods l.pods l.numbers l.entries
+    (entries_of_pods l.heeds l.pods (drop l.place l.numbers) (drop l.place l.entries))
+    ≡ entries_of_pods l.heeds l.pods l.numbers l.entries

@@ -22,7 +22,7 @@ returns c ds before noted =
     c.note_pod.new.slots c.in-Some.entry c.in-Some-number_of.number c.in-Ok.pod.now c.note_listings.new.all.items
     c.note_results.new.all.items c.in_ok-shown.shown (c.note_listings.ensures c.if-not-note_listings.false)
     (λ ls is. c.note_results.ensures ls is c.if-not-note_results.false) before c.in-Some.ensures (search rules)
-    (search rules) (rw c.deref.ensures.value at c.in_ok-shown.ensures)
+    (search rules) (rw (c.deref.ensures.value, c.sampled_or-sampling.ensures) at c.in_ok-shown.ensures)
     (λ es old lt. sym (c.note_pod.ensures.earlier c.args.at es c.args.roster.now.pods
     (c.deref_mut.ensures.value ∙ old) lt) ∙ free)
     (λ es e old is there shows. c.note_pod.ensures.noted c.args.at es c.args.roster.now.pods e c.in-Ok.pod.now

@@ -10,12 +10,12 @@ entries_of_pods-requires c = ap (λ (ns : List ℕ). length ns) c.as_slice.ensur
 
 pub returns-clause-gives : goal.returns-clause-gives
 returns-clause-gives c =
-    by_names (λ v. v.items) c.entries_of_pods.result c.args.roster.now c.args.roster.now c.pods.result.now
+    by_names c.args.heeds (λ v. v.items) c.entries_of_pods.result c.args.roster.now c.args.roster.now c.pods.result.now
     c.as_slice.result.now c.in_ok-numbers.numbers c.as_slice-entries.result.now
     c.args.written.now.entries c.pods.ensures refl c.as_slice.ensures
     c.as_slice-entries.ensures c.in_ok-numbers.ensures c.entries_of_pods.ensures
 
 pub returns-clause-known : goal.returns-clause-known
 returns-clause-known c =
-    known_pods (λ v. v.items) c.entries_of_pods.result c.pods.result.now c.args.roster.now.pods
+    known_pods c.args.heeds (λ v. v.items) c.entries_of_pods.result c.pods.result.now c.args.roster.now.pods
     c.as_slice.result.now c.as_slice-entries.result.now c.pods.ensures c.entries_of_pods.ensures

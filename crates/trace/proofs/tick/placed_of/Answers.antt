@@ -8,7 +8,8 @@ use Rattle.trace.proofs.tick.placed_of.Goals as goal
 
 pub returns-clause-gives : goal.returns-clause-gives
 returns-clause-gives c =
-    subst (λ (r : Roll). GivesUnlessMemory (λ v. v.items) c.placed_by.result (placed_of r c.args.written.now.entries))
+    subst (λ (r : Roll). GivesUnlessMemory (λ v. v.items) c.placed_by.result
+    (placed_of c.args.heeds r c.args.written.now.entries))
     (ap (λ (p : TraceSoFar). p.roll) c.so_far.view_is) c.placed_by.ensures.gives
 
 pub returns-clause-known : goal.returns-clause-known

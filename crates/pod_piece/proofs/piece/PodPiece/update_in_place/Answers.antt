@@ -1,9 +1,10 @@
 use Rattle.std.proofs.Common.{◌∙◌, ◌++◌, ◌∷◌, [], length, map, Option, refl, sym, subst}
 use Rattle.std.specs.Prelude.{not, if◌then◌else◌}
-use Rattle.observations.specs.declared.usage.Usage.{Usage}
+use Rattle.observations.specs.declared.usage.Sampling.{Sampling}
 use Rattle.pod_state.specs.declared.lifecycle.Lifecycle.{Lifecycle}
 use Rattle.pod_state.specs.Pods.{pod_tick}
 use Rattle.pod_state.specs.Lifecycles.{IsLifecycleOf, IsProgressOf}
+use Rattle.pod_piece.specs.declared.status.NewestUsage.{NewestUsage}
 use Rattle.pod_piece.specs.Usage.{IsUsageOf, newer}
 use Rattle.pod_piece.specs.Piece.{piece, before_last, place_of}
 use Rattle.pod_piece.proofs.NextTicks.{may_take}
@@ -70,10 +71,10 @@ invariant_of-self-2 c =
           (end_is i.pod k e phase.0 after.ended phase.1)) st;
       class = shown.class;
       requests = shown.requests;
-      usage = subst (λ (u : Usage). IsUsageOf i.pod e k u) (sym c.newer_while-parts.ensures)
-          (subst (λ (o : Option Usage). IsUsageOf i.pod e k
+      usage = subst (λ (u : NewestUsage). IsUsageOf i.pod e k u) (sym c.newer_while-parts.ensures)
+          (subst (λ (o : Sampling). IsUsageOf i.pod e k
           (if not c.has_ended-had_ended.result then newer i.status.usage o else i.status.usage))
-          (sym c.usage.ensures)
+          (sym c.sampling.ensures)
           (usage_more i.pod e phase.0 h (pod_tick observed) i.status.usage c.has_ended-had_ended.result shown.usage
           (c.has_ended-had_ended.ensures.ended i.pod e h was) phase.1));
       priority = shown.priority;

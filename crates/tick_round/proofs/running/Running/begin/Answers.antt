@@ -27,4 +27,4 @@ returns-in-Ok-hand-clause-begun g c =
     })
     (c.in-Ok-hand.ensures.awaited
     ∙ ap (λ (shown : List (Option PodObs)). awaited (kept_of i.pods.pieces shown) i.pods.max_restart_delay
-    i.pods.has_dedicated_imagefs) c.into_vec.ensures) refl refl refl
+    i.pods.has_dedicated_imagefs) c.into_vec.ensures) c.look.ensures refl refl

@@ -1,0 +1,5 @@
+use Rattle.tick_lines.proofs.Unsampled as lemmas
+use Rattle.tick_lines.proofs.laws.unsampled_said.Goals as goal
+
+pub returns : goal.returns
+returns c = lemmas.unsampled_said
