@@ -10,6 +10,7 @@ POD_FIELDS = ("name", "namespace", "uid", "annotations", "deletionTimestamp")
 STATUS_FIELDS = ("phase", "reason", "message")
 STATUSES = ("initContainerStatuses", "containerStatuses")
 END_FIELDS = ("containerID", "startedAt", "finishedAt", "exitCode", "reason")
+WAIT_FIELDS = ("reason", "message")
 SPEC_FIELDS = ("restartPolicy", "priority", "terminationGracePeriodSeconds", "nodeName", "volumes")
 CONTAINER_FIELDS = ("name", "image", "resources", "startupProbe", "livenessProbe", "readinessProbe")
 SAMPLES = ("time", "availableBytes", "capacityBytes", "usedBytes", "workingSetBytes", "inodes", "inodesFree",
@@ -35,16 +36,20 @@ def pods_of(answer):
 
 
 def status_of(status):
-    """A pod's status, with how its containers ended."""
+    """A pod's status, with how its containers ended and why they wait."""
     conditions = [each for each in status.get("conditions") or [] if each.get("type") == "DisruptionTarget"]
     return {**picked(status, STATUS_FIELDS), **({"conditions": conditions} if conditions else {}),
             **{role: list(map(container_status, status[role])) for role in STATUSES if status.get(role)}}
 
 
 def container_status(status):
-    ends = {state: {"terminated": picked(status[state]["terminated"], END_FIELDS)} for state in ("lastState", "state")
-            if (status.get(state) or {}).get("terminated")}
-    return {**picked(status, ("name",)), **ends}
+    """How a container ended and why it waits; a message of its end may be its own words."""
+    states = {}
+    for state in ("lastState", "state"):
+        for kind, fields in (("terminated", END_FIELDS), ("waiting", WAIT_FIELDS)):
+            if (status.get(state) or {}).get(kind):
+                states[state] = {kind: picked(status[state][kind], fields)}
+    return {**picked(status, ("name",)), **states}
 
 
 def sample_of(value):

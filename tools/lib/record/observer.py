@@ -4,6 +4,7 @@ from dataclasses import replace
 
 from .near import Nearness
 from .probes import counters_of
+from .reasons import better
 from .recorder import Seen
 from .pods import pods_of
 from .runtime import CREATED, EXITED, RUNNING, inspected_of, instances_of
@@ -216,6 +217,12 @@ class Observer:
             self.asked_at.pop(PODS, None)
         return replace(instance, state=EXITED, finished=self.missed_at[instance.id])
 
+    def reason(self, instance):
+        """Why an instance ended: what the runtime says, or its pod's status where that says more."""
+        pod = self.listed_pods.get(instance.uid)
+        end = (pod.ends or {}).get(instance.id) if pod is not None else None
+        return better(instance.reason, end and end.reason)
+
     def wants_inspection(self, instance):
         if instance.uid not in self.known:
             return False
@@ -238,5 +245,5 @@ class Observer:
         if detail is None:
             return instance
         if instance.state == EXITED and detail.exit_code is not None:
-            return replace(detail, state=EXITED)
+            return replace(detail, state=EXITED, reason=self.reason(detail))
         return replace(instance, started=detail.started)

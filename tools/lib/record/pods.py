@@ -6,6 +6,7 @@ from typing import Optional
 
 from .decisions import Decision, decision_of
 from .formats import (at_place, first_fault, label_fault, name_fault, quantity_fault, whole_fault, without_nones)
+from .reasons import reason_of, waits_in
 from .runtime import End, code_fault, moment_of
 from .sources import Failed, read_json, reads
 
@@ -20,7 +21,8 @@ MOST_SECONDS = 2 ** 31 - 1
 class Pod:
     """A pod as a source lists it; `fault` says why the formats do not take its manifest, or is None. `decision` is what
     the kubelet did to it, `is_deleted` that it was told to go; `ends` has the instances that its status says have
-    ended, by their ids, and is None where its status has no container."""
+    ended, by their ids, and is None where its status has no container; `waits` why its containers wait, by their
+    names."""
     key: str
     uid: str
     manifest: dict
@@ -29,6 +31,7 @@ class Pod:
     decision: Optional[Decision] = None
     is_deleted: bool = False
     ends: Optional[dict] = field(default=None, compare=False)
+    waits: dict = field(default_factory=dict, compare=False)
 
     def containers(self):
         """The names of its containers, init containers first."""
@@ -72,16 +75,18 @@ def pod_of(item):
     except (KeyError, TypeError, AttributeError):
         manifest, volumes, fault = {}, frozenset(), "no manifest"
     return Pod(f"{metadata.get('namespace') or 'default'}/{metadata.get('name')}", str(uid_of(metadata)), manifest,
-               fault, volumes, decision_of(status), metadata.get("deletionTimestamp") is not None, ends_in(status))
+               fault, volumes, decision_of(status), metadata.get("deletionTimestamp") is not None, ends_in(status),
+               waits_in(item))
 
 
 def ends_in(status):
-    """The ends that a status has of its containers' instances: the newest and the one before."""
+    """The ends that a status has of its containers' instances: the newest and the one before. A message of theirs may
+    be the container's own words, and is not read."""
     listed = [*(status.get("initContainerStatuses") or []), *(status.get("containerStatuses") or [])]
     ended = [(container.get(state) or {}).get("terminated") for container in listed for state in ("lastState", "state")]
     found = {end["containerID"].rpartition("//")[2]: End(moment_of(end.get("startedAt")),
                                                          moment_of(end.get("finishedAt")), end["exitCode"],
-                                                         end.get("reason") == "OOMKilled")
+                                                         reason_of({"reason": end.get("reason")}))
              for end in ended if end and end.get("containerID") and not code_fault(end.get("exitCode"))}
     return found if listed else None
 

@@ -6,7 +6,7 @@ from typing import Optional
 from .decisions import EVICTED, REFUSED
 from .formats import MOST_PODS
 from .probes import PROBES, grown, results_of
-from .runtime import RUNNING, Container
+from .runtime import EXITED, RUNNING, Container
 from .timeline import Timeline
 from .trace import line_of
 
@@ -42,13 +42,14 @@ class Seen:
 @dataclass
 class Recorded:
     """A pod of the trace, the second of its line, that from which on its containers change, what was seen of them, and
-    what is not planned yet; `usage` has its newest samples."""
+    what is not planned yet; `usage` has its newest samples, and `waits` why its containers wait."""
     pod: object
     arrived: int
     changes_from: int
     containers: dict = field(default_factory=dict)
     changes: dict = field(default_factory=dict)
     usage: dict = field(default_factory=dict)
+    waits: dict = field(default_factory=dict)
     is_followed: bool = True
     going_since: Optional[float] = None
 
@@ -117,6 +118,8 @@ class Recorder:
         listed = {pod.uid: pod for pod in self.listed}
         for recorded in self.followed():
             pod = listed.get(recorded.pod.uid)
+            if pod is not None and seen.pods is not None:
+                self.see_waits(recorded, pod.waits, seen)
             if pod is not None and pod.decision is not None:
                 self.see_decision(pod, seen)
             # the status of a pod that was evicted may be written anew
@@ -144,6 +147,7 @@ class Recorder:
             moment = max(self.arrival_moment(pod, seen), self.gone_at.get(pod.key, -1) + 1)
             second = self.timeline.place_arrival(pod, moment)
             self.recorded[pod.uid] = Recorded(pod, second, second)
+            self.see_waits(self.recorded[pod.uid], pod.waits, seen)
 
     def reason_to_leave_out(self, pod):
         """Why a pod has no line, by what came before; None where it can have one."""
@@ -157,6 +161,12 @@ class Recorder:
             return None
         was_here = any(each.pod.key == pod.key and not each.is_followed for each in self.recorded.values())
         return ANEW if was_here else None
+
+    def see_waits(self, recorded, waits, seen):
+        """Why a pod's containers wait, where that is another than before."""
+        if waits != recorded.waits:
+            recorded.waits = waits
+            self.timeline.place_waits(recorded.pod, seen.moment, waits)
 
     def arrival_moment(self, pod, seen):
         """A pod that comes late is there from the moment on at which its first container was made."""
@@ -245,6 +255,13 @@ class Recorder:
                 container = recorded.containers.setdefault(name, Container(f"{pod.key} {name}", self.say))
                 step = container.first_changes if self.is_first else container.changes
                 recorded.changes.setdefault(name, []).extend(step(instances, seen.moment))
+                self.take_end(recorded, name)
+
+    def take_end(self, recorded, name):
+        """Why a container's newest instance ended, which its pod's status may say later."""
+        container = recorded.containers[name]
+        if container.newest is not None and container.newest.state == EXITED:
+            self.timeline.asides.take_end(recorded.pod.uid, name, container.attempt, container.newest.reason)
 
     def without_past(self, instances):
         """The instances of a container that is met: without those that were over before the recording began."""

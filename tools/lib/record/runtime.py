@@ -6,6 +6,7 @@ from dataclasses import dataclass, replace
 from typing import Optional
 
 from .formats import whole_fault
+from .reasons import OUT_OF_MEMORY, Reason, environment_of_process, reason_of
 from .sources import Failed, read_json, reads
 
 CREATED, RUNNING, EXITED, UNKNOWN = ("CONTAINER_CREATED", "CONTAINER_RUNNING", "CONTAINER_EXITED", "CONTAINER_UNKNOWN")
@@ -27,7 +28,7 @@ class Instance:
     started: Optional[float] = None
     finished: Optional[float] = None
     exit_code: Optional[int] = None
-    is_out_of_memory: bool = False
+    reason: Optional[Reason] = None
 
 
 @dataclass(frozen=True)
@@ -36,31 +37,38 @@ class End:
     started: Optional[float]
     finished: Optional[float]
     exit_code: int
-    is_out_of_memory: bool
+    reason: Optional[Reason]
 
     def of(self, instance):
         """The instance as it ended, which the runtime may know no more."""
         started = self.started if instance.started is None else instance.started
         return replace(instance, state=EXITED, started=started, finished=self.finished, exit_code=self.exit_code,
-                       is_out_of_memory=self.is_out_of_memory)
+                       reason=self.reason)
 
 
 @dataclass(frozen=True)
 class Listing:
-    """What a tick lists of a container; None stands for no listing."""
+    """What a tick lists of a container; None stands for no listing. `ended` is the instance before, where the tick of
+    this one's start says its exit too."""
     attempt: int
     state: str
     exit_code: Optional[int] = None
+    reason: Optional[Reason] = None
+    ended: Optional["Listing"] = None
 
 
 @dataclass(frozen=True)
 class Change:
-    """From a moment on a container is listed so. A quiet change is written with the next tick, and wants none. What ran
-    out of memory was not ended by the kubelet, which sees it some time after."""
+    """From a moment on a container is listed so. A quiet change is written with the next tick, and wants none."""
     moment: float
     listing: Optional[Listing]
     is_quiet: bool = False
-    is_out_of_memory: bool = False
+
+    @property
+    def is_out_of_memory(self):
+        """What ran out of memory was not ended by the kubelet, which sees it some time after."""
+        reason = self.listing and self.listing.reason
+        return reason is not None and reason.word == OUT_OF_MEMORY
 
 
 def moment_of(text):
@@ -120,7 +128,7 @@ def inspected_of(text, instance):
     if code_fault(code):
         raise Failed(f"crictl inspect {instance.id}: the exit code is {code}")
     return replace(instance, state=EXITED, started=started, finished=moment_of(status.get("finishedAt")),
-                   exit_code=code, is_out_of_memory=status.get("reason") == "OOMKilled")
+                   exit_code=code, reason=reason_of(status, environment_of_process(answer)))
 
 
 class Container:
@@ -144,7 +152,7 @@ class Container:
         self.begin(newest)
         self.newest, self.has_started = newest, newest.state != CREATED
         self.is_unknown = newest.state == UNKNOWN
-        return [Change(moment, Listing(self.attempt, newest.state, newest.exit_code))]
+        return [Change(moment, Listing(self.attempt, newest.state, newest.exit_code, newest.reason))]
 
     def changes(self, instances, moment):
         """What became of it since the last look, by its instances in the order of their creation."""
@@ -228,5 +236,4 @@ class Container:
         if instance.state != EXITED:
             return []
         return [Change(moment if instance.finished is None else instance.finished,
-                       Listing(self.attempt, EXITED, instance.exit_code),
-                       is_out_of_memory=instance.is_out_of_memory)]
+                       Listing(self.attempt, EXITED, instance.exit_code, instance.reason))]

@@ -9,6 +9,7 @@ A success behind as many as its probe wants changes nothing, so it wants no tick
 
 from dataclasses import dataclass, field, replace
 
+from .asides import Asides
 from .formats import without_nones
 from .runtime import CREATED, EXITED, LOST_CODE, RUNNING, Change
 from .trace import entry_of, gone_line, pod_line, tick_line, told, unknown
@@ -27,6 +28,7 @@ class Tick:
     listings: dict = field(default_factory=dict)
     results: dict = field(default_factory=dict)
     usages: dict = field(default_factory=dict)
+    waits: dict = field(default_factory=dict)
     signals: dict = field(default_factory=dict)
     decisions: list = field(default_factory=list)
     departures: list = field(default_factory=list)
@@ -43,7 +45,17 @@ def is_seamless(item, after):
 
 
 def without_seamless_exits(items):
-    return [item for item, after in zip(items, [*items[1:], None]) if not is_seamless(item, after)]
+    """Without the exits that the ticks of their successors' starts say, which keep them."""
+    kept = []
+    for item in items:
+        if kept and is_seamless(kept[-1], item):
+            item = keeping(item, kept.pop())
+        kept.append(item)
+    return kept
+
+
+def keeping(start, exit_before):
+    return replace(start, listing=replace(start.listing, ended=exit_before.listing))
 
 
 def is_exit(change):
@@ -85,6 +97,7 @@ class Timeline:
         self.results = {}
         self.usages = {}
         self.signals = {}
+        self.asides = Asides()
 
     def tick(self, second, is_wanted):
         tick = self.ticks.setdefault(second, Tick())
@@ -129,6 +142,10 @@ class Timeline:
         self.tick(second, is_wanted).signals[signal] = value
         self.last_placed["signal", signal] = second
 
+    def place_waits(self, pod, moment, waits):
+        """Why the containers of a pod wait from a moment on; that wants no tick."""
+        self.tick(self.second_of(moment), False).waits[pod.uid] = waits
+
     def place_usage(self, pod, moment, resource, value):
         self.tick(self.second_of(moment), False).usages.setdefault(pod.uid, {})[resource] = value
 
@@ -143,7 +160,7 @@ class Timeline:
     def place_change(self, pod, container, change, arrived):
         """Gives a change its second, in which no other listing of the container is, nor a result from before it."""
         key = pod.uid, container
-        self.take_back_exit(key, change)
+        change = self.without_exit_before(key, change)
         self.successes = {place: run for place, run in self.successes.items() if place[:2] != key}
         last = [self.last_placed.get((*key, kind), -1) + 1 for kind in ("listing", "startup", "liveness", "readiness")]
         second = self.second_of(change.moment, arrived, *last)
@@ -152,13 +169,15 @@ class Timeline:
         if change.listing is None or change.listing.state != CREATED:
             self.last_placed[(*key, "listing")] = second
 
-    def take_back_exit(self, key, change):
-        """An exit that is not written yet goes where its successor's start, known only now, says it too."""
+    def without_exit_before(self, key, change):
+        """The change; an exit that is not written yet goes where its successor's start, known only now, says it too."""
         second = self.last_placed.get((*key, "listing"))
         before = self.ticks[second].listings.get(key) if second in self.ticks else None
         if before is not None and is_seamless(before, change):
             del self.ticks[second].listings[key]
             self.last_placed[(*key, "listing")] = second - 1
+            return keeping(change, before)
+        return change
 
     def place_result(self, pod, container, result, arrived):
         """Gives a result its second: not before the start of what it was found on, and with no other of its probe."""
@@ -208,6 +227,8 @@ class Timeline:
         self.results.update(tick.results)
         for uid, usage in tick.usages.items():
             self.usages.setdefault(uid, {}).update(usage)
+        for uid, waits in tick.waits.items():
+            self.asides.take_waits(uid, waits)
         self.signals = without_nones({**self.signals, **tick.signals})
         if tick.is_wanted:
             changed = set(tick.listings) if is_silent else None
@@ -224,6 +245,7 @@ class Timeline:
         for pod in pods:
             self.present.remove(pod)
             self.listings.pop(pod.uid, None)
+            self.asides.depart(pod.uid)
 
     def entry(self, pod, changed):
         """A pod's entry. Where the runtime is silent `changed` has the containers whose listing is of this tick; what
@@ -232,4 +254,4 @@ class Timeline:
                     for name, listing in self.listings.get(pod.uid, {}).items() if listing is not None}
         of_pod = {(container, probe): result for (uid, container, probe), result in self.results.items()
                   if uid == pod.uid}
-        return entry_of(pod, listings, of_pod, self.usages.get(pod.uid))
+        return entry_of(pod, listings, of_pod, self.usages.get(pod.uid), self.asides)

@@ -59,16 +59,19 @@ def container_fields(name, listing):
                           "exitCode": listing.exit_code})
 
 
-def entry_of(pod, listings, results, usage):
-    """One pod's entry of a tick: {container: listing}, {(container, probe): result} and its usage or None; None where
-    there is nothing to say of it."""
-    containers = [container_fields(name, listing) for name, listing in sorted(listings.items())]
+def entry_of(pod, listings, results, usage, asides):
+    """One pod's entry of a tick: {container: listing}, {(container, probe): result}, its usage or None, and what stands
+    beside; None where there is nothing to say of it."""
+    containers = [container_fields(name, listing) | asides.of_listing(pod.uid, name, listing)
+                  for name, listing in sorted(listings.items())]
     probes = [{"container": name, "probe": probe, "result": results[name, probe]}
               for name in pod.containers() for probe in ("startup", "liveness", "readiness")
               if (name, probe) in results]
-    if not containers and not probes and not usage:
+    waiting = asides.of_waits(pod, listings)
+    if not containers and not probes and not usage and not waiting:
         return None
-    return without_nones({"pod": pod.key, "containers": containers, "probes": probes or None, "usage": usage})
+    return without_nones({"pod": pod.key, "containers": containers, "probes": probes or None, "usage": usage,
+                          "waiting": waiting})
 
 
 def told(second, decisions):

@@ -29,11 +29,12 @@ def kind_of(words):
 class Play:
     """A script: its moments are seconds from `begin` on. It has
     clock       what the clock says at each look, where it is no good one, and `true` the moments of these looks
-    pods        {key: {"from", "until", "spec", "deleted", "evicted", "refused", "message", "condition"}}; a key may
-                have a list of them, one after the other; `condition` is the moment that an evicted pod's status says
+    pods        {key: {"from", "until", "spec", "deleted", "evicted", "refused", "message", "condition", "waits"}}; a
+                key may have a list of them, one after the other; `condition` is the moment that an evicted pod's status
+                says, and `waits` a list of {"container", "from", "until", "reason", "message"}, of its status too
     containers  {"id", "pod", "name", "attempt", "created", "started", "exited", "code", "removed", "lost", "told",
-                "reason"}: `lost` is when `crictl inspect` no longer knows it while a list still has it, and `told` when
-                its pod's status has its exit
+                "reason", "message", "env", "told_reason"}: `lost` is when `crictl inspect` no longer knows it while a
+                list still has it, and `told` when its pod's status has its exit, for `told_reason` where it is another
     probes      {"pod", "container", "probe", "result", "at": [moments that rise]}
     samples     {moment: {signal: value}} of the node, as the kubelet takes them
     fails       {"kind", "from", "until", "text"}: answers that do not come
@@ -101,10 +102,10 @@ class Play:
         started, exited = (None if name not in each else self.begin + each[name] for name in ("started", "exited"))
         status = {"id": identity, "state": state, "startedAt": moment_text(started),
                   "finishedAt": moment_text(exited if state == "CONTAINER_EXITED" else None),
-                  "reason": each.get("reason", "")}
+                  "reason": "", "message": ""}
         if state == "CONTAINER_EXITED":
-            status["exitCode"] = each["code"]
-        return json.dumps({"status": status})
+            status |= {"exitCode": each["code"], "reason": each.get("reason", ""), "message": each.get("message", "")}
+        return json.dumps({"status": status, "info": {"runtimeSpec": {"process": {"env": each.get("env", [])}}}})
 
     # --- the kubelet ---
 
@@ -142,8 +143,11 @@ class Play:
                                          "lastTransitionTime": moment_text(self.begin + life["condition"])}]
             return status
         told = [each for each in self.script["containers"] if self.uid(each) == uid and "told" in each]
-        statuses = {"containerStatuses": [self.told(each, moment) for each in told]} if told else {}
-        return {"phase": "Running", **statuses}
+        listed = [self.told(each, moment) for each in told]
+        listed += [{"name": each["container"], "state": {"waiting": {"reason": each["reason"],
+                                                                     "message": each.get("message", "")}}}
+                   for each in life.get("waits", []) if each["from"] <= moment < each.get("until", float("inf"))]
+        return {"phase": "Running", **({"containerStatuses": listed} if listed else {})}
 
     def told(self, each, moment):
         """What a pod's status says of an instance."""
@@ -153,7 +157,7 @@ class Play:
         return {"name": each["name"], "state": {"terminated": {
             "containerID": f"containerd://{each['id']}", "startedAt": moment_text(started),
             "finishedAt": moment_text(self.begin + each["exited"]), "exitCode": each["code"],
-            "reason": each.get("reason", "")}}}
+            "reason": each.get("told_reason", each.get("reason", ""))}}}
 
     def summary(self, moment):
         samples = {float(at): sample for at, sample in self.script["samples"].items()}
