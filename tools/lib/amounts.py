@@ -3,6 +3,7 @@ them."""
 
 from __future__ import annotations
 
+import functools
 import re
 from fractions import Fraction
 
@@ -19,7 +20,14 @@ def quantity(value):
     """The thousandths of a unit of a quantity, a text or a whole number of units. Raises ValueError."""
     if isinstance(value, int) and not isinstance(value, bool):
         return min(1000 * value, GREATEST)
-    found = QUANTITY.fullmatch(value) if isinstance(value, str) else None
+    if not isinstance(value, str):
+        raise ValueError
+    return quantity_of_text(value)
+
+
+@functools.lru_cache(1 << 12)
+def quantity_of_text(text):
+    found = QUANTITY.fullmatch(text)
     if not found:
         raise ValueError
     number, suffix, power = found.groups()

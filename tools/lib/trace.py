@@ -90,14 +90,54 @@ class Decision:
     message: str
 
 
+class Lines:
+    """The bytes of a trace. Its ticks together take many times that as they are read, so the entries of one are read
+    where they are looked at, and those that were looked at last are kept."""
+
+    def __init__(self, text):
+        self.text, self.newest = text, (None, {})
+
+    def __iter__(self):
+        """Where each line begins and ends, with its number."""
+        begin, number = 0, 1
+        while begin <= len(self.text):
+            end = self.text.find(b"\n", begin)
+            end = len(self.text) if end < 0 else end
+            yield number, begin, end
+            begin, number = end + 1, number + 1
+
+    def read(self, begin, end):
+        """The JSON value of a line; its entries are kept, where it is a tick's."""
+        found = json.loads(self.text[begin:end])
+        if isinstance(found, dict) and found.get("kind") == "tick":
+            self.newest = begin, entries_of(found)
+        return found
+
+    def entries(self, begin, end):
+        if self.newest[0] != begin:
+            self.read(begin, end)
+        return self.newest[1]
+
+
 @dataclass
 class Tick:
     at: int
-    entries: dict[str, dict]
-    """by the pod's key, as they are written"""
+    lines: Lines
+    begin: int
+    end: int
+    """where its line is"""
     signals: dict[str, int]
     """thousandths by signal"""
     after_reclaim: dict[str, int]
+
+    @property
+    def entries(self):
+        """By the pod's key, as they are written."""
+        return self.lines.entries(self.begin, self.end)
+
+    def may_have(self, name):
+        """Whether a member of this name may be in its line, where it may be written with escapes."""
+        return any(self.lines.text.find(sign, self.begin, self.end) >= 0 for sign in (name, b"\\u"))
 
 
 @dataclass
@@ -169,9 +209,14 @@ def value_at(found, name, otherwise=None):
 
 
 def list_at(found, name):
-    value = value_at(found, name, [])
-    if not isinstance(value, list) or not all(isinstance(item, dict) for item in value):
+    value = found.get(name)
+    if value is None:
+        return []
+    if not isinstance(value, list):
         raise ValueError(name)
+    for item in value:
+        if not isinstance(item, dict):
+            raise ValueError(name)
     return value
 
 
@@ -223,13 +268,12 @@ def trace_of(text, path):
     other = first_bytes.instead_of_trace(text, path)
     if other:
         raise TraceFault(other)
-    trace, present = None, {}
-    for number, line in enumerate(text.split(b"\n"), 1):
-        if not line.strip(b" \t\r"):
+    trace, present, lines = None, {}, Lines(text)
+    for number, begin, end in lines:
+        if not text[begin:end].strip(b" \t\r"):
             continue
         try:
-            found = json.loads(line)
-            trace = trace_with(trace, present, found)
+            trace = trace_with(trace, present, lines, begin, end)
         except (ValueError, TypeError, KeyError, AttributeError, RecursionError):
             raise TraceFault(f"{path}: line {number} is no line of a trace there "
                              "(tools/explain says what it lacks)") from None
@@ -238,8 +282,9 @@ def trace_of(text, path):
     return trace
 
 
-def trace_with(trace, present, found):
+def trace_with(trace, present, lines, begin, end):
     """The trace with one more line; present has its pods by key."""
+    found = lines.read(begin, end)
     kind = found["kind"]
     if (trace is None) != (kind == "node"):
         raise ValueError("kind")
@@ -254,7 +299,7 @@ def trace_with(trace, present, found):
     elif kind == "gone":
         present.pop(found["pod"]).gone = len(trace.ticks)
     elif kind == "tick":
-        add_tick(trace, present, tick_of(found))
+        add_tick(trace, present, tick_of(found, lines, begin, end))
         trace.decisions += decisions_of(trace, found)
     else:
         raise ValueError("kind")
@@ -268,9 +313,19 @@ def add_tick(trace, present, tick):
     trace.ticks.append(tick)
 
 
-def tick_of(found):
-    entries = {text_at(entry, "pod"): entry for entry in list_at(found, "pods")}
-    return Tick(found["at"] + 0, entries, samples(found, "signals"), samples(found, "afterReclaim"))
+def tick_of(found, lines, begin, end):
+    return Tick(found["at"] + 0, lines, begin, end, samples(found, "signals"), samples(found, "afterReclaim"))
+
+
+def entries_of(found):
+    entries = {entry.get("pod"): entry for entry in list_at(found, "pods")}
+    if not all(map(is_text, entries)):
+        raise ValueError("pod")
+    return entries
+
+
+def is_text(value):
+    return isinstance(value, str)
 
 
 def decisions_of(trace, found):

@@ -4,6 +4,7 @@ rules, and says where the evicted pod came in it."""
 
 from __future__ import annotations
 
+import sys
 from bisect import bisect_left, bisect_right
 from dataclasses import dataclass, field
 
@@ -102,18 +103,23 @@ class PodTicks:
         """moments and results, by container and probe"""
         self.listings = {container.name: ([], []) for container in pod.containers}
         """the moments at which what is listed changed, and what it was from then on, by container"""
+        self.written = {}
+        """what was listed last, as it is written, by container"""
 
     def take(self, at, entry):
         """One more tick, with what it has of the pod."""
-        listed = {found.get("name"): traces.listing_of(found) for found in traces.list_at(entry, "containers")}
-        for name, (moments, kept) in self.listings.items():
-            if listed.get(name) != (kept[-1] if kept else None):
-                moments.append(at)
-                kept.append(listed.get(name))
+        listed = {found.get("name"): found for found in traces.list_at(entry, "containers")}
+        if listed != self.written:
+            self.written = listed
+            for name, (moments, kept) in self.listings.items():
+                listing = traces.listing_of(listed[name]) if name in listed else None
+                if listing != (kept[-1] if kept else None):
+                    moments.append(at)
+                    kept.append(listing)
         for found in traces.list_at(entry, "probes"):
             moments, kept = self.results.setdefault((found.get("container"), found.get("probe")), ([], []))
             moments.append(at)
-            kept.append(found.get("result"))
+            kept.append(sys.intern(found["result"]) if "result" in found else None)
 
     def listed(self, name, at):
         moments, kept = self.listings[name]
@@ -249,7 +255,8 @@ def usages_at(trace, places):
     usages = {pod.number: {} for pod in trace.pods}
     found = {}
     for place, (tick, present) in enumerate(zip(trace.ticks, traces.present_at_each(trace))):
-        for key, entry in tick.entries.items():
+        # most ticks have no sample, and to read them takes long
+        for key, entry in tick.entries.items() if tick.may_have(b"usage") else ():
             take_usage(usages[present[key].number], entry)
         if place in places:
             found[place] = {number: dict(usage) for number, usage in usages.items()}
