@@ -45,6 +45,8 @@ class Asides:
         waits = self.waits.get(pod.uid, {})
         waiting = [name for name in pod.containers() if name in waits
                    and (name not in listings or listings[name].state != RUNNING)]
+        for name in set(pod.containers()).difference(waiting):
+            self.told.pop((pod.uid, name, "waits"), None)
         return [{"container": name, **self.members((pod.uid, name, "waits"), None, waits[name])}
                 for name in waiting] or None
 
