@@ -30,15 +30,15 @@ def worst_event(pod):
     return len(WORST), []
 
 
-def event_text(found):
+def event_text(found, trace):
     """The first of some events in words, and how many there are."""
     if not found:
         return "-"
-    said = " ".join(filter(None, [found[0].container, telling.event_words(found[0], True)[1]]))
+    said = " ".join(filter(None, [found[0].container, telling.event_words(found[0], True, trace)[1]]))
     return said if len(found) == 1 else f"{said} (first of {len(found)})"
 
 
-def text(report, namespace, show):
+def text(report, namespace, show, trace=None):
     """The table of the pods of a namespace, or of all without one."""
     pods = [pod for pod in report.pods if namespace is None or pod.key.startswith(f"{namespace}/")]
     if namespace is not None and not pods:
@@ -49,7 +49,7 @@ def text(report, namespace, show):
         record = records.pod_record(report, pod, last)
         rows.append(((place, -record["restarts"], -record["unready_seconds"], pod.number),
                      [pod.key + reports.number_words(report, pod), pod.phase, str(record["restarts"]),
-                      str(record["unready_seconds"]), show(found[0].at) if found else "-", event_text(found)]))
+                      str(record["unready_seconds"]), show(found[0].at) if found else "-", event_text(found, trace)]))
     rows = [row for _, row in sorted(rows)]
     where = "" if namespace is None else f" in {namespace}"
     heads = ["pod", "phase", "restarts", "unready s", "moment", "worst event"]

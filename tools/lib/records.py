@@ -4,16 +4,21 @@ seconds of the trace. What a record does not have is left out of it; what is the
 from __future__ import annotations
 
 import kubelet as kubelets
+import reasons
 import report as reports
 
 
-def records_of(report, kubelet=None):
+def records_of(report, kubelet=None, trace=None, span=None):
     """Each record of a report: the node, its events, its pods with their containers and conditions, its own
-    conditions, and the evictions; then what the kubelet did, where a trace said so."""
-    last = last_moment(report)
-    yield node_record(report, last) | ({} if kubelet is None else {"tells_kubelet": True})
+    conditions, and the evictions; then what the kubelet did, and why instances died and containers waited, where a
+    trace said so. The span are the moments of the trace's first and last tick, where they are known."""
+    if span is None and trace is not None and trace.ticks:
+        span = trace.ticks[0].at, trace.ticks[-1].at
+    last = span[1] if span else last_moment(report)
+    yield node_record(report, span[0] if span else first_moment(report), last) | (
+        {} if kubelet is None else {"tells_kubelet": True})
     for number, event in enumerate(report.events):
-        yield event_record(report, number, event)
+        yield event_record(report, number, event) | reason_fields(event, trace)
     for pod in report.pods:
         yield pod_record(report, pod, last)
         for container in pod.containers:
@@ -26,6 +31,15 @@ def records_of(report, kubelet=None):
         yield eviction_record(report, number, eviction, kubelet)
     for number, (decision, fact) in enumerate(kubelet.decisions() if kubelet is not None else ()):
         yield decision_record(report, number, decision, fact)
+    if trace is not None:
+        yield from cause_records(report, trace)
+
+
+def first_moment(report):
+    """The first moment that the report names, which is that of the first tick; None without a tick."""
+    named = [event.at for event in report.events] + [condition.at for condition in report.conditions]
+    named += [reports.first_tick(pod) for pod in report.pods if reports.has_ticks(report, pod)]
+    return min(named) if report.tick_count else None
 
 
 def last_moment(report):
@@ -33,14 +47,25 @@ def last_moment(report):
     return max(reports.moments(report)) if report.tick_count else None
 
 
-def node_record(report, last):
+def node_record(report, first, last):
     updates, events, orders = report.totals
     return {
         "record": "node", "node": report.node, "pods": report.pod_count, "ticks": report.tick_count,
-        "last_moment": last, "updates": updates, "pod_events": events, "orders": orders,
+        "first_moment": first, "last_moment": last, "updates": updates, "pod_events": events, "orders": orders,
         "restarts": sum(int(container.restarts) for pod in report.pods for container in pod.containers),
         "evictions": len(report.evictions),
+        **{PRESSURES[kind]: pressure_seconds(report, kind, last) for kind in reports.CONDITIONS},
     }
+
+
+PRESSURES = {"MemoryPressure": "memory_pressure_seconds", "DiskPressure": "disk_pressure_seconds",
+             "PIDPressure": "pid_pressure_seconds"}
+
+
+def pressure_seconds(report, kind, last):
+    """For how long a condition of the node was True, until the last moment."""
+    return sum((last if span.until is None else span.until) - span.since
+               for span in reports.pressure_spans(report, kind))
 
 
 def event_record(report, number, event):
@@ -50,6 +75,15 @@ def event_record(report, number, event):
     if event.container is not None:
         record["container"] = event.container
     return record | WORDS[event.word](event.rest)
+
+
+def reason_fields(event, trace):
+    """Of a death why, as a trace says it: whether the code is the instance's own, the reason, the message."""
+    if event.word != "died" or trace is None:
+        return {}
+    end = trace.reasons.end_of(event)
+    return {"code_is_known": reasons.is_known(event, trace), "reason": end.reason if end else None,
+            "message": end.message if end else None}
 
 
 WORDS = {
@@ -129,6 +163,35 @@ def condition_record(report, condition, pod):
         "pod_number": pod.number if pod else None, "condition": condition.kind, "value": condition.value == "True",
         "since": condition.at, "reason": condition.reason,
     }
+
+
+def cause_records(report, trace):
+    """Of each container why its instances died and why it waited: a record for each reason and code, and for each
+    reason of waiting."""
+    last = trace.ticks[-1].at if trace.ticks else 0
+    for pod in report.pods:
+        found = {}
+        for event in pod.events:
+            if event.word == "died":
+                end = trace.reasons.end_of(event)
+                code = int(event.rest[1]) if reasons.is_known(event, trace) else None
+                add_cause(found, (event.container, "died", end.reason if end else None, code), event.at, None,
+                          end.message if end else None)
+        for name, wait in trace.reasons.waits_of(pod):
+            seconds = (last if wait.until is None else wait.until) - wait.since
+            add_cause(found, (name, "waited", wait.reason, None), wait.since, seconds, wait.message)
+        for (name, cause, reason, code), rest in found.items():
+            yield {"record": "cause", "node": report.node, "pod": pod.key, "pod_number": pod.number, "container": name,
+                   "cause": cause, "reason": reason, "code": code} | rest
+
+
+def add_cause(found, key, at, seconds, message):
+    """Counts one more death or wait of a cause; of the messages the last one is kept."""
+    rest = found.setdefault(key, {"times": 0, "seconds": None, "first_at": at, "last_at": at, "message": None})
+    rest["times"] += 1
+    rest["last_at"] = at
+    rest["seconds"] = None if seconds is None else (rest["seconds"] or 0) + seconds
+    rest["message"] = message or rest["message"]
 
 
 def eviction_record(report, number, eviction, kubelet):

@@ -8,8 +8,10 @@ import sqlite3
 import tempfile
 
 TABLES = {
-    "node": ("nodes", "node TEXT, pods INTEGER, ticks INTEGER, last_moment INTEGER, updates INTEGER, "
-                      "pod_events INTEGER, orders INTEGER, restarts INTEGER, evictions INTEGER, tells_kubelet INTEGER"),
+    "node": ("nodes", "node TEXT, pods INTEGER, ticks INTEGER, first_moment INTEGER, last_moment INTEGER, "
+                      "updates INTEGER, pod_events INTEGER, orders INTEGER, restarts INTEGER, evictions INTEGER, "
+                      "memory_pressure_seconds INTEGER, disk_pressure_seconds INTEGER, pid_pressure_seconds INTEGER, "
+                      "tells_kubelet INTEGER"),
     "pod": ("pods", "node TEXT, number INTEGER, pod TEXT, namespace TEXT, name TEXT, phase TEXT, reason TEXT, "
                     "qos TEXT, ready INTEGER, ready_since INTEGER, first_tick INTEGER, ended_at INTEGER, "
                     "ended_as TEXT, restarts INTEGER, deaths INTEGER, kills INTEGER, backoffs INTEGER, "
@@ -19,7 +21,8 @@ TABLES = {
                                 "restarts INTEGER, ready INTEGER, started INTEGER, starts INTEGER, deaths INTEGER, "
                                 "kills INTEGER, backoffs INTEGER"),
     "event": ("events", "node TEXT, number INTEGER, at INTEGER, event TEXT, pod TEXT, pod_number INTEGER, "
-                        "container TEXT, attempt INTEGER, code INTEGER, probe TEXT, delay_seconds INTEGER, "
+                        "container TEXT, attempt INTEGER, code INTEGER, code_is_known INTEGER, reason TEXT, "
+                        "message TEXT, probe TEXT, delay_seconds INTEGER, "
                         "phase TEXT, signal TEXT, kind TEXT, active INTEGER, condition TEXT, value INTEGER, "
                         "grace_seconds INTEGER"),
     "condition": ("conditions", "node TEXT, pod TEXT, pod_number INTEGER, condition TEXT, value INTEGER, "
@@ -28,6 +31,9 @@ TABLES = {
                               "kind TEXT, grace_seconds INTEGER, kubelet_at INTEGER"),
     "decision": ("decisions", "node TEXT, number INTEGER, at INTEGER, pod TEXT, pod_number INTEGER, decision TEXT, "
                               "reason TEXT, message TEXT, rules_at INTEGER, agrees INTEGER, causes TEXT"),
+    "cause": ("causes", "node TEXT, pod TEXT, pod_number INTEGER, container TEXT, cause TEXT, reason TEXT, "
+                        "code INTEGER, times INTEGER, seconds INTEGER, first_at INTEGER, last_at INTEGER, "
+                        "message TEXT"),
 }
 
 

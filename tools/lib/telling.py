@@ -4,6 +4,8 @@ from __future__ import annotations
 
 import re
 
+import reasons
+
 DATE = re.compile(r"\d{4}-\d\d-\d\d (?=\d\d:\d\d:\d\dZ)")
 # a cell that is a moment, or several of them
 MOMENTS = re.compile(rf"({DATE.pattern})[\d:]{{8}}Z(?:, .*)?", re.ASCII)
@@ -44,14 +46,14 @@ def dated_once(rows):
     return [[told(place, cell, own) for place, cell in enumerate(row)] for row, own in zip(rows, dates)]
 
 
-def event_words(event, is_beside=False):
+def event_words(event, is_beside=False, trace=None):
     """An event's attempt, if it has one, and what happened; an eviction in other words where it stands beside what the
-    kubelet did."""
+    kubelet did, and a death with why, as far as the trace says it."""
     rest = event.rest
     evicts = "the rules evict it: " if is_beside else "evicted by "
     said = {
         "started": lambda: (rest[0], "started"),
-        "died": lambda: (rest[0], f"died with code {rest[1]}"),
+        "died": lambda: (rest[0], reasons.died_words(event, trace)),
         "startup-passed": lambda: (rest[0], "startup passed"),
         "kill": lambda: (rest[0], f"kill order: {rest[1]}"),
         "ready": lambda: ("", "ready"),

@@ -8,6 +8,7 @@ from dataclasses import dataclass, field
 
 import amounts
 import first_bytes
+from reasons import Reasons
 
 STATES = ("CONTAINER_CREATED", "CONTAINER_RUNNING", "CONTAINER_EXITED", "CONTAINER_UNKNOWN")
 PROBES = ("startup", "liveness", "readiness")
@@ -43,6 +44,8 @@ class Container:
     probes: dict[str, Probe]
     requests: dict[str, int]
     """thousandths by resource; a limit without a request stands for it"""
+    memory_limit: int | None = None
+    """thousandths of a byte"""
 
 
 @dataclass
@@ -164,6 +167,8 @@ class Trace:
     """the place of a tick by its moment"""
     decisions: list[Decision] = field(default_factory=list)
     """what the kubelet did, in the order of the ticks"""
+    reasons: Reasons = field(default_factory=Reasons)
+    """why instances ended and containers wait"""
 
     def entry(self, pod, place):
         """What a tick has of a pod, as it is written; None where the pod is not in it."""
@@ -175,6 +180,11 @@ class Trace:
             if found.get("name") == name:
                 return listing_of(found)
         return None
+
+    def memory_limit(self, number, name):
+        """The memory limit of a container of the pod of a number, as a text; None where it has none."""
+        found = next((one.memory_limit for one in self.pods[number].containers if one.name == name), None)
+        return amounts.amount_text(found, True) if found else None
 
     def pause(self):
         """evictionPauseSeconds, which version 3 alone has."""
@@ -301,6 +311,7 @@ def trace_with(trace, present, lines, begin, end):
     elif kind == "tick":
         add_tick(trace, present, tick_of(found, lines, begin, end))
         trace.decisions += decisions_of(trace, found)
+        trace.reasons.take(lines.text[begin:end], found["at"], trace.ticks[-1].entries, present)
     else:
         raise ValueError("kind")
     return trace
@@ -362,7 +373,9 @@ def container_of(found, role):
     requests = {resource: amounts.quantity(value) for named in ("limits", "requests")
                 for resource, value in dict_at(resources, named).items()
                 if resource in ("memory", "ephemeral-storage") and value is not None and amounts.quantity(value)}
-    return Container(text_at(found, "name"), role, probes, requests)
+    memory_limit = value_at(dict_at(resources, "limits"), "memory")
+    return Container(text_at(found, "name"), role, probes, requests,
+                     None if memory_limit is None else amounts.quantity(memory_limit))
 
 
 def probe_of(found):

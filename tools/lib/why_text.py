@@ -3,6 +3,7 @@
 from __future__ import annotations
 
 import kubelet as kubelets
+import reasons
 import trace as traces
 import why
 from amounts import amount_text
@@ -16,9 +17,9 @@ ORDERS = {True: "usage above the request first, then lower priority, then more u
 
 def whole_text(trace, report, pod, show, kubelet=None):
     """The lines for each event of a pod of the report, and for what the kubelet did to it; show writes a moment."""
-    parts = [(around.event.at, [heading(around.event, show, kubelet), *beside(pod, around, show, kubelet),
+    parts = [(around.event.at, [heading(around.event, show, kubelet, trace), *beside(pod, around, show, kubelet),
                                 *told(trace, pod, around, show)]) for around in why.around_events(trace, report, pod)]
-    parts += kubelet_parts(trace, report, pod, show, kubelet)
+    parts += kubelet_parts(trace, report, pod, show, kubelet) + wait_parts(trace, pod, show)
     lines = []
     for _, (head, *rest) in sorted(parts, key=lambda part: part[0]):
         lines += [head, *(f"  {line}".rstrip() for line in rest), ""]
@@ -49,8 +50,15 @@ def kubelet_parts(trace, report, pod, show, kubelet):
     return [(fact.decision.at, [head, *lines])]
 
 
-def heading(event, show, kubelet=None):
-    attempt, what = event_words(event, kubelet is not None)
+def wait_parts(trace, pod, show):
+    """Why the containers of a pod waited, by moment."""
+    return [(wait.since, [f"{show(wait.since)}  {name} waits: {wait.words()}",
+                          f"until {'the end of the trace' if wait.until is None else show(wait.until)}"])
+            for name, wait in trace.reasons.waits_of(pod)]
+
+
+def heading(event, show, kubelet=None, trace=None):
+    attempt, what = event_words(event, kubelet is not None, trace)
     said = " ".join(filter(None, [event.container, what, f"(attempt {attempt})" if attempt else ""]))
     return f"{show(event.at)}  {said}"
 
@@ -59,7 +67,8 @@ def told(trace, pod, around, show):
     """The lines below the heading of an event."""
     word = around.event.word
     if word in ("started", "died"):
-        return listed_lines(around.listed[0][1], show)
+        because = reasons.because_lines(around.event, trace) if word == "died" else []
+        return because + listed_lines(around.listed[0][1], show)
     if word == "phase":
         return table("the tick lists:", ["container", "attempt", "state", "code"],
                      [[name, *listing_cells(listed.now)] for name, listed in around.listed])[:-1]
@@ -121,11 +130,20 @@ def left_out(count, what):
 def exit_lines(trace, pod, around, show):
     kept = around.exits[-MOST_ROWS:]
     policy, most = trace.pods[pod.number].policy, traces.value_at(trace.settings, "maxRestartDelay", 300)
+    name = around.event.container
     rows = [[str(found.number), str(found.attempt), "-" if found.started is None else show(found.started),
-             show(found.died), f"{found.run} s", str(found.code)] for found in kept]
+             show(found.died), f"{found.run} s", str(found.code), reason_of(trace, pod, name, found)] for found in kept]
+    # a trace that says no reason has no such column
+    kept_columns = 7 if any(row[6] != "-" for row in rows) else 6
     lines = table(f"exits that count (policy {policy}, greatest delay {most} s):",
-                  ["number", "attempt", "started", "died", "run", "code"], rows)[:-1]
+                  ["number", "attempt", "started", "died", "run", "code", "reason"][:kept_columns],
+                  [row[:kept_columns] for row in rows])[:-1]
     return lines + left_out(len(around.exits) - len(kept), "earlier exits")
+
+
+def reason_of(trace, pod, name, found):
+    end = trace.reasons.ends.get((pod.number, name, found.attempt))
+    return end.reason if end is not None and end.reason else "-"
 
 
 def evicted_lines(evicted, show, is_kubelets=False):

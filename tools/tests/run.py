@@ -67,8 +67,6 @@ def test_overviews():
     expect("story of a namespace", [line.split()[0] for line in told[:-1]], ["worker-3:", "pod", "shop/web"])
     expect_refused("story of a namespace without a pod", run([f"{TOOLS}/story", "shot/"], report), 2,
                    "no pod in the namespace shot")
-    expect_refused("story of a trace without a pod", run([f"{TOOLS}/story", "--trace", "x"], report), 2,
-                   "--trace goes with a pod")
 
 
 def test_names_that_are_cut():

@@ -22,7 +22,7 @@ def test_command_runs_the_tools():
         ("story -f TRACE a", told),
         ("story a", story),
         ("story -n default -f TRACE a", told),
-        ("story -f TRACE", run([f"{TOOLS}/story"], report)),
+        ("story -f TRACE", run([f"{TOOLS}/story", "--trace", TRACE], report)),
         ("why -f TRACE a", run([f"{TOOLS}/why", "default/a", "--trace", TRACE], report)),
         ("page -f TRACE", run([f"{TOOLS}/page", TRACE], report)),
         ("json -f TRACE", run([f"{TOOLS}/json", "--trace", TRACE], report)),

@@ -18,10 +18,12 @@ except ImportError:
 LINES = f"{HERE}/lines"
 SCHEMA = f"{TOP}/docs/report.schema.json"
 TABLES = {"nodes": "node", "pods": "pod", "containers": "container", "events": "event", "conditions": "condition",
-          "evictions": "eviction", "decisions": "decision"}
+          "evictions": "eviction", "decisions": "decision", "causes": "cause"}
 # what a hand counts in lines/came_again.report
 QUERIES = (
-    ("SELECT node, pods, ticks, last_moment, restarts, evictions FROM nodes", [("n1", 3, 6, 60, 1, 1)]),
+    ("SELECT node, pods, ticks, first_moment, last_moment, restarts, evictions FROM nodes",
+     [("n1", 3, 6, 10, 60, 1, 1)]),
+    ("SELECT memory_pressure_seconds, disk_pressure_seconds, pid_pressure_seconds FROM nodes", [(20, 0, 0)]),
     ("SELECT number, pod, restarts, unready_seconds, evicted_signal FROM pods ORDER BY number",
      [(0, "shop/db", 1, 10, None), (1, "shop/db", 0, 10, "memory.available"), (2, "shop/late", 0, 0, None)]),
     ("SELECT pod_number, starts, deaths FROM containers ORDER BY pod_number", [(0, 2, 1), (1, 1, 0), (2, 0, 0)]),

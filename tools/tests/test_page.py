@@ -51,8 +51,10 @@ def test_page_data():
            [0, 0, 0, 0, 5, 1, 0, 0, 40, 1, 1, 0, 5, 2, 1, 3, 15, 1, 2, 0, 635, 2, 2, 0])
     expect("page: Ready", pod["ready"], [[0, 0], [20, 1], [35, 0]])
     died = data["words"].index("died")
-    expect("page: deaths with their exits and runs", [event[3:] for event in pod["events"] if event[2] == died],
-           [[0, 137, 1, 40], [1, 3, 2, 5], [2, 0, 1, 635]])
+    deaths = [event[3:] for event in pod["events"] if event[2] == died]
+    expect("page: deaths with their exits and runs, and why", deaths, [[0, 137, 1, 40, 0], [1, 3, 2, 5],
+                                                                       [2, 0, 1, 635]])
+    expect("page: why", data["causes"], [["it was no longer listed, its own code is not known"]])
     readiness = next(probe for probe in pod["probes"] if probe[1] == "readiness")
     expect("page: a probe", readiness, [0, "readiness", 2, 2, 0, 5, [15, 5, 2, 0, 5, 0, 1, 2, 5, 5, 2, 1]])
     expect("page: a listing", pod["listings"][0][:12], [0, 0, 0, 0, 5, 0, 1, 0, 40, 1, 1, 0])

@@ -4,6 +4,7 @@ are differences, so that a page of many events stays small. `decode.js` reads it
 from __future__ import annotations
 
 import kubelet as kubelets
+import reasons
 import records
 import report as reports
 import trace as traces
@@ -47,7 +48,7 @@ def data_of(report, trace, utc):
     span = Span(report, trace)
     left = [] if trace else list(WITHOUT_TRACE)
     ticks = why.ticks_of(trace, trace.pods) if trace else {}
-    budget = Budget(MOST_RUNS)
+    budget, words = Budget(MOST_RUNS), Words(trace)
     data = {
         "node": report.node, "utc": utc, "first": span.first, "last": span.of(span.last), "hasTrace": bool(trace),
         "words": WORDS, "states": STATES, "results": RESULTS, "pods": report.pod_count, "ticks": report.tick_count,
@@ -55,7 +56,8 @@ def data_of(report, trace, utc):
         "signals": signals_of(trace), "active": active_of(report, span), "pressure": pressure_of(report, span),
         "reclaims": [[span.of(event.at), *event.rest] for event in report.events if event.word == "reclaim"],
         "evictions": evictions_of(report, trace, span, left), "kubelet": kubelet_of(report, trace, span),
-        "podList": [pod_of(report, trace, span, pod, ticks.get(pod.number), budget) for pod in report.pods],
+        "podList": [pod_of(report, trace, span, pod, ticks.get(pod.number), budget, words) for pod in report.pods],
+        "causes": words.causes, "waits": words.waits,
     }
     refused = sorted({one["key"] for one in data["kubelet"]["refused"]} if data["kubelet"] else ())
     if refused:
@@ -79,6 +81,30 @@ class Budget:
             return False
         self.room -= count
         return True
+
+
+class Words:
+    """Why instances died and containers waited: each text once, by its place."""
+
+    def __init__(self, trace):
+        self.trace, self.causes, self.waits, self.places = trace, [], [], {}
+
+    def cause(self, event):
+        """A list of the place of what is known of why an instance died, with what it means; empty where its code says
+        as much."""
+        said = reasons.cause_words(event, int(event.rest[1]), self.trace, True)
+        because = reasons.because_lines(event, self.trace) if self.trace and said else []
+        return [self.place(self.causes, [said, *because])] if said else []
+
+    def wait(self, wait):
+        return self.place(self.waits, wait.words())
+
+    def place(self, texts, said):
+        key = id(texts), str(said)
+        if key not in self.places:
+            self.places[key] = len(texts)
+            texts.append(said)
+        return self.places[key]
 
 
 def repeated(values):
@@ -189,7 +215,7 @@ def around_of(evicted, span):
     }
 
 
-def pod_of(report, trace, span, pod, ticks, budget):
+def pod_of(report, trace, span, pod, ticks, budget, words):
     """What the page shows of a pod: that of the report, and with a trace its listings and results."""
     ended, seen = reports.end_of(pod), has_ticks(report, trace, pod)
     found = {
@@ -201,14 +227,21 @@ def pod_of(report, trace, span, pod, ticks, budget):
                   for ready in (reports.ready_spans(pod) if seen else [])],
         "conditions": [[one.kind, one.value, span.of(one.at) if seen else None, one.reason] for one in pod.conditions],
         "containers": [container_of(span, pod, container, seen) for container in pod.containers],
-        "events": events_of(span, pod),
+        "events": events_of(span, pod, words),
     }
     if trace:
         ours = trace.pods[pod.number]
         found |= {"policy": ours.policy, "priority": ours.priority,
                   "listings": [listings_of(span, ticks, container.name) for container in pod.containers],
-                  "probes": probes_of(span, ours, ticks, budget)}
+                  "probes": probes_of(span, ours, ticks, budget), "waits": waits_of(trace, span, pod, words)}
     return found
+
+
+def waits_of(trace, span, pod, words):
+    """Why its containers waited: the container's place, since when, until when, and the place of the words."""
+    names = [container.name for container in pod.containers]
+    return [[names.index(name), span.of(wait.since), span.of(wait.until), words.wait(wait)]
+            for name, wait in trace.reasons.waits_of(pod)]
 
 
 def has_ticks(report, trace, pod):
@@ -232,9 +265,10 @@ def container_of(span, pod, container, seen):
             "started": container.started == "true", "states": flat}
 
 
-def events_of(span, pod):
+def events_of(span, pod, words):
     """Events, each with the difference of its moment, the place of its container (-1 without), that of its word, and
-    its words. A death has the number of its exit and its run behind its own."""
+    its words. A death has the number of its exit and its run behind its own, and the place of why, where that is
+    known."""
     names = [container.name for container in pod.containers]
     starts, exits, found, before = {}, {}, [], 0
     for event in pod.events:
@@ -244,7 +278,7 @@ def events_of(span, pod):
         elif event.word == "died":
             of_it = exits.setdefault(event.container, [])
             why.add_exit(of_it, event, starts.get(event.container))
-            rest += [of_it[-1].number, of_it[-1].run]
+            rest += [of_it[-1].number, of_it[-1].run, *words.cause(event)]
         place = names.index(event.container) if event.container in names else -1
         found.append([span.of(event.at) - before, place, WORDS.index(event.word), *rest])
         before = span.of(event.at)

@@ -164,11 +164,25 @@ function kubeletWords(pod) {
     + causesWords(alone[1])];
 }
 
+// Why an instance died, as far as it is known.
+function causeWords(event) {
+  return event.rest.length > 4 ? `: ${data.causes[event.rest[4]][0]}` : '';
+}
+
+// Why a container waits at a moment, or null; the moment may be the end, at which what has no end still waits.
+function waitAt(pod, place, at) {
+  return (pod.waits || []).find((one) => one[0] === place && one[1] <= at && (one[2] === null || at < one[2])) || null;
+}
+
+function waitWord(wait) {
+  return data.waits[wait[3]].split(':')[0];
+}
+
 function told(event) {
   const rest = event.rest;
   switch (event.word) {
     case 'started': return `started, attempt ${rest[0]}`;
-    case 'died': return `died with code ${rest[1]}, attempt ${rest[0]}`;
+    case 'died': return `died with code ${rest[1]}${causeWords(event)}, attempt ${rest[0]}`;
     case 'startup-passed': return `startup passed, attempt ${rest[0]}`;
     case 'kill': return `kill order by ${rest[1]}, attempt ${rest[0]}`;
     case 'backoff': return `restart backed off by ${rest[0]} s`;

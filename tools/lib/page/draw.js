@@ -5,12 +5,13 @@ const colours = {};
 function readColours() {
   const style = getComputedStyle(document.documentElement);
   for (const name of ['panel', 'quiet', 'line', 'waiting', 'running', 'ended', 'failed', 'ready', 'unready', 'pressure',
-    'signal', 'hard', 'soft', 'kill', 'mark', 'shade']) {
+    'signal', 'hard', 'soft', 'kill', 'mark', 'shade', 'onfailed', 'onwaiting']) {
     colours[name] = style.getPropertyValue(`--${name}`).trim();
   }
 }
 
 const FONT = '12px system-ui, "DejaVu Sans", Verdana, sans-serif';
+const WITHIN = '10px system-ui, "DejaVu Sans", Verdana, sans-serif';
 const SMALL = '11px system-ui, "DejaVu Sans", Verdana, sans-serif';
 
 // A canvas as wide as its place and so many pixels high, to be drawn in pixels of the page.

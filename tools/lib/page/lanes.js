@@ -75,6 +75,7 @@ function metaOf(pod) {
   if (isEvicted(pod)) bad.push(`evicted ${shortMoment((pod.fact || pod.eviction).at, 1)}${evictedFor(pod)}`);
   else if (pod.eviction) bad.push(`evicted by the rules alone, by ${pod.eviction.signal}`);
   else if (pod.phase === 'Failed') bad.push('failed');
+  bad.push(...lastReasons(pod));
   if (pod.restarts) bad.push(`${pod.restarts} restart${pod.restarts > 1 ? 's' : ''}`);
   const gone = typeof pod.gone === 'number' ? `gone before ${shortMoment(pod.gone, 1)}` : '';
   const unready = pod.unready ? `not ready ${seconds(pod.unready)}` : '';
@@ -82,6 +83,14 @@ function metaOf(pod) {
   meta.append(element('span', bad.join(' · '), 'bad'), `${bad.length ? ' · ' : ''}${rest.filter(Boolean).join(' · ')}`);
   meta.title = meta.textContent;
   return meta;
+}
+
+// Why its containers still wait at the end, and whether one ran out of memory.
+function lastReasons(pod) {
+  const killed = pod.list.filter((one) => one.word === 'died' && causeWords(one).startsWith(': OOMKilled'));
+  const waiting = pod.containers.map((_, place) => waitAt(pod, place, endOf(pod))).filter(Boolean).map(waitWord);
+  return [...(killed.length ? [`OOMKilled${killed.length > 1 ? ` ${killed.length} times` : ''}`] : []),
+    ...new Set(waiting)];
 }
 
 // What a pod was evicted for: in the kubelet's words where it did, else the signal.
@@ -141,10 +150,34 @@ function drawRow(row) {
   pod.containers.forEach((container, place) => {
     drawName(area, container.name, laneTop(place) + 6);
     drawBars(area, inView(drawn.lanes[place]), laneTop(place), BAR, WEIGHTS);
+    drawWaits(area, pod, place);
     drawMarks(area, drawn.marks[place], laneTop(place));
   });
   if (pod.end) drawEnd(area, pod);
   if (pod.fact) drawFact(area, pod);
+}
+
+// Why it waits stands in the lane, where there is room for it.
+function drawWaits(area, pod, place) {
+  const {pen} = area;
+  pen.save();
+  pen.font = WITHIN;
+  for (const wait of pod.waits || []) {
+    if (wait[0] !== place || wait[1] > view.to || (wait[2] !== null && wait[2] < view.from)) continue;
+    const [x, end] = [wait[1], wait[2] === null ? endOf(pod) : wait[2]].map((at) => clip(area, xOf(area, at)));
+    const words = waitWord(wait);
+    if (pen.measureText(words).width + 12 > end - x) continue;
+    const span = stateAt(pod.containers[place], Math.max(wait[1], view.from));
+    pen.fillStyle = span && span[1] === 2 && span[3] !== 0 ? colours.onfailed : colours.onwaiting;
+    pen.fillText(words, x + 7, laneTop(place) + BAR / 2 + 0.5);
+  }
+  pen.restore();
+}
+
+function stateAt(container, at) {
+  const {spans} = container;
+  const place = placeBefore(spans.length, (one) => spans[one][0], at);
+  return place < 0 ? null : spans[place];
 }
 
 function drawFact(area, pod) {
@@ -263,9 +296,10 @@ function rowTip(row, area, x, y) {
     const found = spansOf(pod).ready.find((span) => span[0] <= at && at <= span[1]);
     lines.push(found ? (found[2] === 'ready' ? 'ready' : 'not ready') : 'Ready is not known here');
   } else {
-    const {spans, name} = pod.containers[lane];
-    const place = placeBefore(spans.length, (one) => spans[one][0], at);
-    if (place >= 0) lines.push(`${name}: ${stateWords(spans[place])}`);
+    const span = stateAt(pod.containers[lane], at);
+    if (span) lines.push(`${pod.containers[lane].name}: ${stateWords(pod, lane, span)}`);
+    const wait = waitAt(pod, lane, at);
+    if (wait) lines.push(`waits: ${data.waits[wait[3]]}`);
   }
   const events = eventsAt(row, area, x, y);
   for (const event of events.slice(0, 3)) lines.push(`${moment(event.at)} ${told(event)}`);
@@ -273,8 +307,9 @@ function rowTip(row, area, x, y) {
   return lines.join('\n');
 }
 
-function stateWords(span) {
+function stateWords(pod, lane, span) {
   if (span[1] === 0) return 'waiting';
   if (span[1] === 1) return `running, attempt ${span[2]}`;
-  return `terminated with code ${span[3]}, attempt ${span[2]}`;
+  const died = pod.list.find((one) => one.word === 'died' && one.place === lane && one.rest[0] === span[2]);
+  return `terminated with code ${span[3]}${died ? causeWords(died) : ''}, attempt ${span[2]}`;
 }

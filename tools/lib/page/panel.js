@@ -73,8 +73,18 @@ function openStory(pod) {
     element('h2', containersTitle(pod)),
     tableOf(['container', 'state', 'code', 'restarts', 'ready', 'started'], restarts),
     element('h2', 'Conditions'), tableOf(['condition', 'value', 'since', 'reason'], conditions),
+    ...waitParts(pod),
     element('h2', 'Events'), ...eventList(pod, pod.list, false),
   ]);
+}
+
+function waitParts(pod) {
+  if (!pod.waits || !pod.waits.length) return [];
+  const lines = pod.waits.slice(-MOST_ROWS).map(([place, since, until, words]) => [moment(since),
+    pod.containers[place].name, until === null ? 'end' : moment(until), data.waits[words]]);
+  const cut = pod.waits.length - lines.length;
+  return [element('h2', 'Waits'), tableOf(['from', 'container', 'until', 'why'], lines),
+    ...(cut ? [said(`${cut} earlier waits are left out.`)] : [])];
 }
 
 // Of an eviction by the rules the reason names its threshold.
@@ -140,13 +150,18 @@ function whyOf(pod, event) {
 
 function whyParts(pod, event) {
   switch (event.word) {
-    case 'started': case 'died': return listedParts(pod, event);
+    case 'died': return [...becauseParts(event), ...listedParts(pod, event)];
+    case 'started': return listedParts(pod, event);
     case 'backoff': case 'restart': return exitParts(pod, event);
     case 'evicted': return [...kubeletWords(pod).map(said), ...evictedParts(pod)];
     case 'kubelet': return [said(rulesWords(pod.fact))];
     case 'phase': return phaseParts(pod, event);
     default: return resultParts(pod, event);
   }
+}
+
+function becauseParts(event) {
+  return event.rest.length > 4 ? data.causes[event.rest[4]].slice(1).map((words) => element('p', words)) : [];
 }
 
 function lackOf(what) {

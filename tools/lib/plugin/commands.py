@@ -126,7 +126,7 @@ def trace_words(name, found, pods):
         return []
     if name == "story" and "--trace" not in found.rest:
         has_pod = bool(pods) and not pods[0].endswith("/")
-        return ["--trace", found.file, "--without-why"] if has_pod else []
+        return ["--trace", found.file, *(["--without-why"] if has_pod else [])]
     if name in ("why", "timeline", "json") and "--trace" not in found.rest:
         return ["--trace", found.file]
     return [found.file] if name == "page" and not found.plain else []
