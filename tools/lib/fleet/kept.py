@@ -13,6 +13,10 @@ import re
 import entry
 
 
+# of which form the rows are: those of another one are no answers
+FORM = "2"
+
+
 class Kept:
     """The folder of kept answers of one program; another program's are no answers."""
 
@@ -29,9 +33,9 @@ class Kept:
             raise entry.Fault(f"{folder} can't be written: {fault.strerror}") from None
 
     def name(self, path):
-        """The name of a trace's files: what people call it, and a key of its path and of the program."""
+        """The name of a trace's files: what people call it, and a key of its path, of the program and of the form."""
         plain = re.sub(r"[^A-Za-z0-9.-]", "_", os.path.basename(path).removesuffix(".trace"))[:80]
-        key = hashlib.sha256(self.program_sum.encode() + b"\n" + os.fsencode(path)).hexdigest()[:16]
+        key = hashlib.sha256(f"{FORM}\n{self.program_sum}\n".encode() + os.fsencode(path)).hexdigest()[:16]
         return f"{plain}-{key}"
 
     def file(self, path, kind):

@@ -22,7 +22,9 @@ import trace as traces
 
 LONGEST_INPUT = 64 << 20
 # events are in the report alone: they would be most of the rows
-KINDS = ("node", "pod", "container", "condition", "eviction", "decision")
+KINDS = ("node", "pod", "container", "condition", "eviction", "decision", "cause")
+# of what a trace may say beside what the formats read
+SIGNS = (b'"kubelet"', b'"reason"', b'"waiting"', b'"ended"')
 REFUSED_LINE = re.compile(r"line (\d+): (\d+) (\S.*)")
 
 
@@ -52,21 +54,54 @@ def answer(program, program_sum, path, known):
     except reports.ReportFault as fault:
         said = str(fault).replace("standard input", "the report")
         return answered(record_of(path, trace_sum, size, "failed", fault=said))
-    rows = [record for record in records.records_of(report, kubelet_in(text, report)) if record["record"] in KINDS]
+    trace, kubelet = beside(text, report)
+    rows = [record for record in records.records_of(report, kubelet, trace, span_of(text)) if record["record"] in KINDS]
     return answered(record_of(path, trace_sum, size, "replayed"), rows, done.stdout)
 
 
-def kubelet_in(text, report):
-    """What a trace says that the kubelet did, beside its report; None where it says nothing of that, or can't be read
-    as the tools read one."""
-    if b'"kubelet"' not in text and b'"recordsKubelet"' not in text.lstrip().split(b"\n", 1)[0]:
-        return None
+def beside(text, report):
+    """A trace and what it says that the kubelet did, beside its report; None for each where it says nothing that the
+    formats don't read, or can't be read as the tools read one."""
+    node_line = text.lstrip().split(b"\n", 1)[0]
+    if b'"recordsKubelet"' not in node_line and not any(sign in text for sign in SIGNS):
+        return None, None
     try:
         trace = traces.trace_of(text, "the trace")
         traces.check_belongs(trace, report, "the trace")
-        return kubelets.beside(trace, report)
+        return trace, kubelets.beside(trace, report)
     except (traces.TraceFault, ValueError, TypeError, KeyError, AttributeError):
+        return None, None
+
+
+def span_of(text):
+    """The moments of the first and the last tick, of which the lines are looked for from both ends; None without."""
+    found = [next(filter(None, map(moment_of, lines)), None) for lines in (lines_from(text), lines_back(text))]
+    return None if None in found else tuple(each["at"] for each in found)
+
+
+def lines_from(text):
+    begin = 0
+    while begin < len(text):
+        end = text.find(b"\n", begin)
+        end = len(text) if end < 0 else end
+        yield text[begin:end]
+        begin = end + 1
+
+
+def lines_back(text):
+    end = len(text)
+    while end > 0:
+        begin = text.rfind(b"\n", 0, end) + 1
+        yield text[begin:end]
+        end = begin - 1
+
+
+def moment_of(line):
+    """A tick line as it is read, or None."""
+    if b'"tick"' not in line:
         return None
+    found = json.loads(line)
+    return found if found.get("kind") == "tick" else None
 
 
 @functools.lru_cache

@@ -7,7 +7,7 @@ import sqlite3
 import entry
 import telling
 from explain import beside
-from fleet import database
+from fleet import database, nodes
 
 # by the kubelet, where the trace says what it did, else by the rules
 MEASURES = {"restarts": "restarts", "unready": "unready_seconds", "evicted": "evictions"}
@@ -73,6 +73,9 @@ def lines_of(connection, by, top):
             in connection.execute(query, [top])]
     lines += table(f"Worst pods, by {by}", ["node", "pod", "restarts", "unready s", "evicted by kubelet",
                                             "by the rules", "signals", "traces"], pods)
+    lines += table(f"Worst nodes, by {by} an hour of recording", nodes.HEADS,
+                   list(nodes.worst_rows(connection, by, top)))
+    lines += ["Causes, those on the most nodes first", *(nodes.causes(connection, top) or ["  none"]), ""]
     signals = [[row[0], row[1], *map(str, row[2:])] for row in connection.execute(SIGNALS)]
     decisions = [[row[0], *map(str, row[1:4]), "-" if row[4] is None else str(row[4])]
                  for row in connection.execute(DECISIONS)]
