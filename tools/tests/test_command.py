@@ -1,10 +1,12 @@
 """The tests of kubelet-replay, the one command of the program and the tools: its words, its helps, and its completion
 in the shells that are there."""
 
+import os
 import re
 import shutil
+import tempfile
 
-from checks import REPLAY, TOOLS, TOP, expect, expect_refused, read, run
+from checks import HERE, REPLAY, TOOLS, TOP, expect, expect_refused, read, run
 
 COMMAND = f"{TOOLS}/kubelet-replay"
 NAMES = ("record", "run", "check", "explain", "story", "why", "page", "timeline", "json", "what-if", "fleet")
@@ -33,6 +35,48 @@ def test_command_runs_the_tools():
                    "--context is no word of it")
     expect_refused("kubelet-replay story of another pod", run([COMMAND, "story", "-f", TRACE, "default/aa"]), 2,
                    "no pod default/aa; the nearest: default/a")
+
+
+def test_command_fails_on():
+    """Run with --fail-on writes the same report, and has a status of its own where something happened."""
+    crash, first = f"{TOP}/examples/crash_loop.trace", f"{TOP}/examples/first_tick.trace"
+    for trace, kinds, status, said in (
+        (TRACE, "evicted", 4, ["evicted: default/a"]),
+        (TRACE, "restarted,unready", 4, ["unready: default/a"]),
+        (TRACE, "restarted", 0, []),
+        (crash, "evicted,restarted,unready", 4, ["restarted: shop/api-7f9c", "unready: shop/api-7f9c"]),
+        (first, "evicted,restarted,unready", 0, []),
+    ):
+        told = "".join(f"kubelet-replay: --fail-on {line}\n" for line in said)
+        wanted = status, read(trace.replace(".trace", ".report")), told
+        expect(f"run --fail-on {kinds}", run([COMMAND, "run", trace, "--fail-on", kinds]), wanted)
+    expect("run -f - --fail-on", run([COMMAND, "run", "-f", "-", "--fail-on=evicted"], read(TRACE))[0], 4)
+    kubelet = f"{HERE}/whys/kubelet/trace"
+    told = run([COMMAND, "run", kubelet, "--fail-on", "evicted"])
+    expect("run --fail-on evicted, of a trace that says whom the kubelet evicted", (told[0], told[2]), (
+        4, "kubelet-replay: --fail-on evicted: shop/agree, shop/first, shop/unseen and 2 more pods\n"))
+    for words, said in ((["--fail-on", "killed"], "evicted, restarted, unready, one or more"),
+                        (["--fail-on"], "wants a value"), (["--fail-on="], "one or more")):
+        expect_refused(f"run {' '.join(words)}", run([COMMAND, "run", TRACE, *words]), 2, said)
+    expect_refused("run --fail-on of no trace", run([COMMAND, "run", "--fail-on", "evicted"]), 2, "wants one trace")
+    refused = run([COMMAND, "run", "/dev/null", "--fail-on", "evicted"])
+    expect("run --fail-on of a trace that is refused", (refused[0], refused[1]), (2, ""))
+
+
+def test_no_room():
+    """Where what is kept for a tool has no place it is said where, and how it can be elsewhere."""
+    folder = tempfile.mkdtemp()
+    with open(f"{folder}/full", "w", encoding="utf-8") as file:
+        file.write("#!/bin/sh\n[ $# = 0 ] && cat >/dev/null\necho 'write failed' >&2\nexit 1\n")
+    os.chmod(f"{folder}/full", 0o755)
+    settings = {"KUBELET_REPLAY": f"{folder}/full", "TMPDIR": folder}
+    expect_refused("story -f, without room", run([COMMAND, "story", "-f", TRACE], **settings), 1,
+                   f"no place in {folder}: it takes no more (TMPDIR names another folder)")
+    expect_refused("what-if, without room", run([f"{TOOLS}/what-if", "."], read(TRACE), **settings), 1,
+                   f"{folder} takes no more (TMPDIR names another folder)")
+    expect_refused("what-if, without a folder", run([f"{TOOLS}/what-if", "."], read(TRACE), TMPDIR=f"{folder}/none"), 1,
+                   f"no folder can be made in {folder}/none (TMPDIR names another)")
+    shutil.rmtree(folder)
 
 
 def test_command_helps():

@@ -170,6 +170,28 @@ def test_check():
         recorder.clean()
 
 
+def test_check_without_a_command():
+    """Where crictl is not there the other sources are asked all the same; a recording is not begun."""
+    recorder, folder = Recorder("crash_loop"), tempfile.mkdtemp()
+    for name in ("sh", "env", "python3", "cat", "dirname", "readlink", "uname", "awk"):
+        path = sys.executable if name == "python3" else shutil.which(name)
+        os.symlink(path, f"{folder}/{name}")
+    for name in ("kubectl", "proxy", "recorded"):
+        os.symlink(f"{COMMANDS}/{name}", f"{folder}/{name}")
+    settings = {**recorder.settings, "PATH": folder}
+    status, told, said = run([f"{TOOLS}/record", "--check", "--node", "worker-3"], **settings)
+    expect("--check without crictl", (status, said), (1, ""))
+    whole = read(f"{HERE}/checked/all").split("\n")
+    expect("--check without crictl: the lines", told.split("\n"), [
+        "missing  crictl ps can't be asked: crictl is not on the PATH; it wants root, on the node, and the runtime's "
+        "socket (crictl --runtime-endpoint, /etc/crictl.yaml)",
+        "unasked  crictl inspect: there is no container to ask for", *whole[2:]])
+    expect_refused("a recording without crictl", run([f"{TOOLS}/record", "--node", "worker-3"], **settings), 127,
+                   "not on the PATH: crictl (--check asks the other sources)")
+    shutil.rmtree(folder)
+    recorder.clean()
+
+
 def test_nothing_told():
     """What a manifest tells its containers stays on the node."""
     for name in ("crash_loop", "whole_node"):

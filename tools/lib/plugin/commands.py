@@ -10,7 +10,7 @@ from dataclasses import dataclass
 
 import entry
 import program as programs
-from plugin import files, words
+from plugin import failing, files, words
 
 # beside the command that was called, which may be reached by a link
 TOOLS = os.path.dirname(os.path.realpath(sys.argv[0]))
@@ -80,13 +80,26 @@ def named(text, name, typed):
 
 def run_program(name, found, caller):
     """Runs the program, with the option for the format that the node line of the trace says; its status."""
+    rest, kinds = without_fail_on(found.rest)
     traces, copy, option = [*([found.file] if found.file else []), *found.plain], None, []
     traces = ["/dev/stdin" if trace == "-" else trace for trace in traces]
     path = traces[0] if len(traces) == 1 else None
-    if path and "--extended" not in found.rest:
+    if path and "--extended" not in rest:
         traces[0], copy, option = files.with_format(path)
         path = files.path_of(copy) if copy else path
-    return files.run_beside(programs.path(), [name, *traces, *found.rest, *option], path, copy, caller.name)
+    if kinds and path is None:
+        raise entry.Fault(f"{failing.WORD} wants one trace, not {len(traces)} (--help says more)")
+    if kinds:
+        return failing.run([name, *traces, *rest, *option], path, copy, caller.name, kinds)
+    return files.run_beside(programs.path(), [name, *traces, *rest, *option], path, copy, caller.name)
+
+
+def without_fail_on(rest):
+    """The words for the program, and what a run is to fail on."""
+    if failing.WORD not in rest:
+        return rest, None
+    place = rest.index(failing.WORD)
+    return rest[:place] + rest[place + 2 :], failing.kinds_of(rest[place + 1])
 
 
 def run_tool(name, command, found):

@@ -7,6 +7,7 @@ from plugin import files, words
 # kubectl's directives: the shell offers no files, or its files
 NO_FILES, FILES = 4, 0
 MEASURES = ("restarts", "unready", "evicted")
+FAILURES = ("evicted", "restarted", "unready")
 # words whose value is no file
 COUNTS = ("--workers", "--processes", "--scheduler", "--top", "--node", "--every", "--look", "--ticks", "--for",
           "--kubelet", "--eviction-pause")
@@ -23,6 +24,8 @@ def candidates(given, is_of_kubectl=True):
     found = words.words_of(command, before[1:], is_of_kubectl)
     if found.waiting in words.NAMESPACE:
         return beginning(namespaces(found), last), NO_FILES
+    if found.waiting == "--fail-on":
+        return beginning(FAILURES, last), NO_FILES
     if found.waiting:
         return [], FILES if found.waiting not in (*COUNTS, *words.CONTEXT) else NO_FILES
     if before[0] == "fleet":
@@ -73,5 +76,5 @@ def fleet_words(before, last):
         return [], NO_FILES
     if last.startswith("-"):
         own = ("--out", "--processes", "--scheduler", "--parquet", "--anew") * (before[1] == "run")
-        return beginning((*own, "--by", "--top"), last), NO_FILES
+        return beginning((*own, "--by", "--top", "--metrics"), last), NO_FILES
     return [], FILES

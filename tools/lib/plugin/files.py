@@ -47,9 +47,23 @@ def open_report(path):
     return replayed(path)
 
 
+def temporary():
+    """A file without a name."""
+    try:
+        return tempfile.TemporaryFile()
+    except OSError as fault:
+        raise no_room(fault.strerror) from None
+
+
+def no_room(said):
+    """That what is kept for a tool has no place."""
+    folder = os.environ.get("TMPDIR") or "/tmp"
+    return entry.Fault(f"what it has to keep has no place in {folder}: {said} (TMPDIR names another folder)", 1)
+
+
 def replayed(path):
     """The report of a trace, as a file without a name."""
-    program, report = programs.path(), tempfile.TemporaryFile()
+    program, report = programs.path(), temporary()
     option = format_words(path)
     words = ["run", path, *option]
     try:
@@ -58,6 +72,8 @@ def replayed(path):
         raise entry.Fault(f"{program} is missing or can't be started: {fault.strerror}", 127) from None
     if done.returncode != 0:
         said = done.stderr.decode("utf-8", "replace").split("\n")[0] or f"status {done.returncode}"
+        if said == "write failed":
+            raise no_room("it takes no more")
         if done.returncode == 2:
             raise entry.Fault(f"{shown(path)} is refused: {said}", means=beside.meaning(path, bool(option)))
         raise entry.Fault(f"{shown(path)} can't be replayed: {said}", done.returncode if done.returncode == 127 else 1)
@@ -103,9 +119,12 @@ def pods_in(report, namespace):
 
 def whole(report):
     """The same as a file that can be read twice."""
-    copy = tempfile.TemporaryFile()
-    copy.write(report.read())
-    copy.seek(0)
+    copy = temporary()
+    try:
+        copy.write(report.read())
+        copy.seek(0)
+    except OSError as fault:
+        raise no_room(fault.strerror) from None
     KEPT.append(copy)
     return copy
 
@@ -123,14 +142,14 @@ def keys_of(path):
     return [f"{found.get('namespace') or 'default'}/{found.get('name')}" for found in manifests]
 
 
-def run_beside(program, words, path, given, caller):
-    """Runs the program on a trace, with a file as its standard input; its status. Where it refuses the trace, what that
-    means is said in one more line."""
+def run_beside(program, words, path, given, caller, output=None):
+    """Runs the program on a trace, with a file as its standard input, and one as its standard output where that is not
+    this one's; its status. Where it refuses the trace, what that means is said in one more line."""
     if given is not None:
         os.lseek(given.fileno(), 0, os.SEEK_SET)
-    to_pipe = stat.S_ISFIFO(os.fstat(1).st_mode)
+    to_pipe = output is None and stat.S_ISFIFO(os.fstat(1).st_mode)
     try:
-        process = subprocess.Popen([program, *words], stdin=given, stdout=subprocess.PIPE if to_pipe else None)
+        process = subprocess.Popen([program, *words], stdin=given, stdout=subprocess.PIPE if to_pipe else output)
     except OSError as fault:
         raise entry.Fault(f"{program} is missing or can't be started: {fault.strerror}", 127) from None
     if to_pipe:

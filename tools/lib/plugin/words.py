@@ -32,7 +32,7 @@ RECORDER_VALUED = ("--node", "--every", "--look", "--ticks", "--for", "--kubelet
 RECORDER_FLAGS = ("--check", "--standard", "--extended")
 COMMANDS = {
     "record": Command("record a node", takes_file=False, valued=RECORDER_VALUED, flags=RECORDER_FLAGS),
-    "run": Command("the report of a trace", valued=("--workers",), flags=("--extended",)),
+    "run": Command("the report of a trace", valued=("--workers", "--fail-on"), flags=("--extended",)),
     "check": Command("whether a file is a trace", flags=("--extended",)),
     "explain": Command("what a refusal means", flags=("--extended", "--line")),
     "story": Command("one pod's story", "one", valued=("--trace",), flags=("--utc", "--without-why"), lists_pods=True),

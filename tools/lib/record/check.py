@@ -16,6 +16,10 @@ class NotAsked(Exception):
     """A source that can't be asked; its text says why."""
 
 
+def counted(count, what):
+    return f"{count} {what}{'' if count == 1 else 's'}"
+
+
 def wish(sources, what):
     """What a source at the kubelet wants."""
     return PROXY if sources.kubelet is None else PORT.replace("{what}", what)
@@ -28,7 +32,7 @@ def runtime_checks(sources):
 
     def list_them():
         listed.extend(instances_of(sources.listed()))
-        return f"{len(listed)} containers"
+        return counted(len(listed), "container")
 
     def inspect_one():
         if not listed:
@@ -46,7 +50,7 @@ def node_checks(sources, node, trace_format):
 
     def summarize():
         summaries.append(summary_of(sources.summary()))
-        return f"{len(summaries[-1].pods)} pods, signals {' '.join(summaries[-1].signals)}"
+        return f"{counted(len(summaries[-1].pods), 'pod')}, signals {' '.join(summaries[-1].signals)}"
 
     def configure():
         made = node_line_of(sources.configuration(), node, summaries[-1], trace_format)
@@ -61,8 +65,8 @@ def checks_of(sources, node, trace_format):
     """Each source with how it is asked and what it wants: (name, ask, wish)."""
     pods = wish(sources, "proxy") if sources.kubelet else "it wants the permission to list pods of all namespaces"
     return [*runtime_checks(sources),
-            (sources.pods_name(), lambda: f"{len(pods_of(sources.pods(), sources.pods_name()))} pods", pods),
-            ("/metrics/probes", lambda: f"{len(counters_of(sources.probes()))} probes with results",
+            (sources.pods_name(), lambda: counted(len(pods_of(sources.pods(), sources.pods_name())), "pod"), pods),
+            ("/metrics/probes", lambda: f"{counted(len(counters_of(sources.probes())), 'probe')} with results",
              wish(sources, "metrics")),
             *node_checks(sources, node, trace_format)]
 

@@ -241,7 +241,11 @@ class Proxy:
     def start(self):
         """Starts it; Failed where it does not come up."""
         self.close()
-        self.folder = tempfile.mkdtemp(prefix="record-")
+        try:
+            self.folder = tempfile.mkdtemp(prefix="record-")
+        except OSError as error:
+            folder = f"{os.environ.get('TMPDIR') or '/tmp'} (TMPDIR names another folder)"
+            raise Failed(f"kubectl proxy has no place in {folder}: {error.strerror}") from None
         words = ["kubectl", "proxy", f"--unix-socket={self.socket()}"]
         try:
             # a session of its own, so that an interrupt at the terminal is the recorder's alone

@@ -113,7 +113,7 @@ class Recording:
             first = self.recorder.begin(node_line)
             self.observer.near.know(node_line.fields)
         except (Failed, TooLong) as failed:
-            raise Ended(1, f"nothing recorded: {failed}") from None
+            raise Ended(1, f"nothing recorded: {failed} (--check says which sources work)") from None
         with self.output.undisturbed():
             self.output.write([first])
             self.recorder.take(seen)
@@ -204,8 +204,8 @@ def main(arguments, clock=None, make_sources=None):
     sources = kept_sources(*asked, say) if make_sources is None else make_sources(*asked)
     try:
         missing = missing_commands(sources.commands())
-        if missing:
-            say(f"not on the PATH: {', '.join(missing)}")
+        if missing and not words.is_check:
+            say(f"not on the PATH: {', '.join(missing)} (--check asks the other sources)")
             return 127
         if words.is_check:
             return checked(words, sources, say)

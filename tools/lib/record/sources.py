@@ -21,6 +21,8 @@ def run_command(words, seconds):
         done = subprocess.run(words, stdin=subprocess.DEVNULL, capture_output=True, timeout=seconds, check=False)
     except subprocess.TimeoutExpired:
         raise Failed(f"gave no answer within {seconds} s") from None
+    except FileNotFoundError:
+        raise Failed(f"can't be asked: {words[0]} is not on the PATH") from None
     except OSError as error:
         raise Failed(f"can't be started: {error.strerror}") from None
     if done.returncode != 0:

@@ -19,8 +19,8 @@ usage: tools/record [--node NAME] [--every SECONDS] [--look SECONDS] [--ticks N]
 Records a node as the lines of a trace (docs/formats.md). It looks at the container runtime and at the results of probes
 every --look seconds (1), and writes a tick for each second in which something happened, and else after --every seconds
 (10). It ends after N ticks (20000, the most that a trace takes), after --for seconds, or at an interrupt, at the end
-of a line. NAME is the node's name in the cluster (uname -n). --check asks each source once, says what works and what
-is missing, and ends.
+of a line. NAME is the node's name in the cluster (uname -n). --check asks each source once, those too whose command
+is there where another one is missing, says what works and what is missing, and ends.
 
 It needs python3, crictl (as root, on the node) and
   kubectl  that may get nodes/proxy and list pods, which it starts once, as a proxy on a socket of its own; or
@@ -33,18 +33,18 @@ not serve it. --node-line FILE has a node line in its place.
 It asks                                  how often              for
   crictl ps -a -o json                   --look; where nothing  attempts and states
                                          happens twice that
-  crictl inspect                         once a start, an exit  startedAt, finishedAt, exitCode
+  crictl inspect                         once a start, an exit  startedAt, finishedAt, exitCode, reason, message
   /metrics/probes                        --look                 results of probes, as what the counters grew by
   kubectl get pods -o json, or /pods     10 s, and where an     the pods, without their environment; whom the kubelet
                                          instance exited or     evicted or refused; the codes of what the runtime has
-                                         went                   removed
+                                         went                   removed; why containers wait
   /stats/summary                         10 s, or --every; at   capacity, signals and usage, at the moments at which the
                                          each look where the    kubelet sampled them
                                          kubelet may evict
   /configz                               once                   thresholds, graces and periods
 
-The kubelet may evict while a signal is below twice its threshold, and while the node is under pressure. What it did
-stands in the ticks, for the tools; the program does not read it.
+The kubelet may evict while a signal is below twice its threshold, and while the node is under pressure. What it did,
+why instances ended and why containers wait stands in the ticks, for the tools; the program does not read it.
 
 --standard writes version 2, --extended version 3 with a line for a pod that goes, its new line where its name comes
 again, and evictionPauseSeconds (10, or --eviction-pause); without either it is --{default}.
