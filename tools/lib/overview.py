@@ -34,8 +34,24 @@ def event_text(found, trace):
     """The first of some events in words, and how many there are."""
     if not found:
         return "-"
-    said = " ".join(filter(None, [found[0].container, telling.event_words(found[0], True, trace)[1]]))
+    said = " ".join(filter(None, [found[0].container, telling.event_words(found[0], True, trace, False)[1]]))
     return said if len(found) == 1 else f"{said} (first of {len(found)})"
+
+
+def last_wait(pod, trace):
+    """The container that still waits at the end, and why; None where none does or no trace says so."""
+    waits = trace.reasons.waits_of(pod) if trace else []
+    return next(((name, wait) for name, wait in waits if wait.until is None), None)
+
+
+def worst_cells(pod, trace, show):
+    """How bad the worst is that happened to a pod, its moment and what it is."""
+    place, found = worst_event(pod)
+    waiting = last_wait(pod, trace)
+    if not found and waiting:
+        name, wait = waiting
+        return WORST.index("unready"), [show(wait.since), f"{name} waits: {wait.reason}"]
+    return place, [show(found[0].at) if found else "-", event_text(found, trace)]
 
 
 def text(report, namespace, show, trace=None):
@@ -45,11 +61,11 @@ def text(report, namespace, show, trace=None):
         raise entry.Fault(f"the report has no pod in the namespace {namespace}")
     last, rows = records.last_moment(report), []
     for pod in pods:
-        place, found = worst_event(pod)
+        place, cells = worst_cells(pod, trace, show)
         record = records.pod_record(report, pod, last)
         rows.append(((place, -record["restarts"], -record["unready_seconds"], pod.number),
                      [pod.key + reports.number_words(report, pod), pod.phase, str(record["restarts"]),
-                      str(record["unready_seconds"]), show(found[0].at) if found else "-", event_text(found, trace)]))
+                      str(record["unready_seconds"]), *cells]))
     rows = [row for _, row in sorted(rows)]
     where = "" if namespace is None else f" in {namespace}"
     heads = ["pod", "phase", "restarts", "unready s", "moment", "worst event"]

@@ -46,14 +46,14 @@ def dated_once(rows):
     return [[told(place, cell, own) for place, cell in enumerate(row)] for row, own in zip(rows, dates)]
 
 
-def event_words(event, is_beside=False, trace=None):
+def event_words(event, is_beside=False, trace=None, is_whole=True):
     """An event's attempt, if it has one, and what happened; an eviction in other words where it stands beside what the
-    kubelet did, and a death with why, as far as the trace says it."""
+    kubelet did, and a death with why, as far as the trace says it, and the whole with its message."""
     rest = event.rest
     evicts = "the rules evict it: " if is_beside else "evicted by "
     said = {
         "started": lambda: (rest[0], "started"),
-        "died": lambda: (rest[0], reasons.died_words(event, trace)),
+        "died": lambda: (rest[0], reasons.died_words(event, trace, is_whole)),
         "startup-passed": lambda: (rest[0], "startup passed"),
         "kill": lambda: (rest[0], f"kill order: {rest[1]}"),
         "ready": lambda: ("", "ready"),

@@ -85,12 +85,16 @@ function metaOf(pod) {
   return meta;
 }
 
-// Why its containers still wait at the end, and whether one ran out of memory.
+// Why its instances died, where that says more than their codes, and why its containers still wait at the end.
 function lastReasons(pod) {
-  const killed = pod.list.filter((one) => one.word === 'died' && causeWords(one).startsWith(': OOMKilled'));
+  const counts = new Map();
+  for (const one of pod.list.filter((event) => event.word === 'died')) {
+    const [reason] = (causeWords(one).match(/(?<=^: )[A-Z]\w+/) || []);
+    if (reason && reason !== 'Error' && reason !== 'Completed') counts.set(reason, (counts.get(reason) || 0) + 1);
+  }
   const waiting = pod.containers.map((_, place) => waitAt(pod, place, endOf(pod))).filter(Boolean).map(waitWord);
-  return [...(killed.length ? [`OOMKilled${killed.length > 1 ? ` ${killed.length} times` : ''}`] : []),
-    ...new Set(waiting)];
+  const died = [...counts].map(([reason, count]) => count > 1 ? `${reason} ${count} times` : reason);
+  return [...died, ...new Set(waiting)];
 }
 
 // What a pod was evicted for: in the kubelet's words where it did, else the signal.

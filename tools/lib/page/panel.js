@@ -80,11 +80,11 @@ function openStory(pod) {
 
 function waitParts(pod) {
   if (!pod.waits || !pod.waits.length) return [];
-  const lines = pod.waits.slice(-MOST_ROWS).map(([place, since, until, words]) => [moment(since),
-    pod.containers[place].name, until === null ? 'end' : moment(until), data.waits[words]]);
+  const lines = pod.waits.slice(-MOST_ROWS).map(([place, since, until, words]) =>
+    said(`${moment(since)} to ${until === null ? 'the end' : moment(until)}: ${pod.containers[place].name} waits: `
+      + data.waits[words]));
   const cut = pod.waits.length - lines.length;
-  return [element('h2', 'Waits'), tableOf(['from', 'container', 'until', 'why'], lines),
-    ...(cut ? [said(`${cut} earlier waits are left out.`)] : [])];
+  return [element('h2', 'Waits'), ...(cut ? [said(`${cut} earlier waits are left out.`)] : []), ...lines];
 }
 
 // Of an eviction by the rules the reason names its threshold.
