@@ -44,10 +44,10 @@ def nearest(report, key):
     return "a pod is NAMESPACE/NAME"
 
 
-def trace_of(report, path):
-    """The trace of a file, which has to belong to the report."""
+def trace_of(report, path, watch=None):
+    """The trace of a file, which has to belong to the report; `watch` as traces.trace_of has it."""
     try:
-        trace = traces.read_trace(path)
+        trace = traces.read_trace(path, watch)
         traces.check_belongs(trace, report, path)
         tell_left(trace, report)
     except traces.TraceFault as fault:

@@ -111,7 +111,7 @@ class Lines:
 
     def read(self, begin, end):
         """The JSON value of a line; its entries are kept, where it is a tick's."""
-        found = json.loads(self.text[begin:end])
+        found = json.loads(self.text[begin:end].decode())
         if isinstance(found, dict) and found.get("kind") == "tick":
             self.newest = begin, entries_of(found)
         return found
@@ -261,7 +261,7 @@ def listing_of(found):
     return Listing(number_at(found, "attempt", 0), state, code)
 
 
-def read_trace(path):
+def read_trace(path, watch=None):
     """The trace of a file. Raises TraceFault."""
     try:
         with open(path, "rb") as file:
@@ -270,11 +270,12 @@ def read_trace(path):
         raise TraceFault(f"{path} can't be read: {fault.strerror}") from None
     if len(text) > LONGEST_TRACE:
         raise TraceFault(f"{path} is no trace: it has more than 64 MiB")
-    return trace_of(text, path)
+    return trace_of(text, path, watch)
 
 
-def trace_of(text, path):
-    """The trace of a text, which a path names where it is none. Raises TraceFault."""
+def trace_of(text, path, watch=None):
+    """The trace of a text, which a path names where it is none. `watch` is called with the trace and the pods that are
+    present behind each tick, whose entries need not be read once more then. Raises TraceFault."""
     other = first_bytes.instead_of_trace(text, path)
     if other:
         raise TraceFault(other)
@@ -283,7 +284,10 @@ def trace_of(text, path):
         if not text[begin:end].strip(b" \t\r"):
             continue
         try:
+            before = 0 if trace is None else len(trace.ticks)
             trace = trace_with(trace, present, lines, begin, end)
+            if watch is not None and len(trace.ticks) > before:
+                watch(trace, present)
         except (ValueError, TypeError, KeyError, AttributeError, RecursionError):
             raise TraceFault(f"{path}: line {number} is no line of a trace there "
                              "(tools/explain says what it lacks)") from None

@@ -103,20 +103,21 @@ class PodTicks:
         """moments and results, by container and probe"""
         self.listings = {container.name: ([], []) for container in pod.containers}
         """the moments at which what is listed changed, and what it was from then on, by container"""
-        self.written = {}
-        """what was listed last, as it is written, by container"""
+        self.written = None
+        """what was listed last, as it is written"""
 
     def take(self, at, entry):
         """One more tick, with what it has of the pod."""
-        listed = {found.get("name"): found for found in traces.list_at(entry, "containers")}
-        if listed != self.written:
-            self.written = listed
+        # most ticks list what the one before did, and to read that takes long
+        if entry.get("containers") != self.written:
+            self.written = entry.get("containers")
+            listed = {found.get("name"): found for found in traces.list_at(entry, "containers")}
             for name, (moments, kept) in self.listings.items():
                 listing = traces.listing_of(listed[name]) if name in listed else None
                 if listing != (kept[-1] if kept else None):
                     moments.append(at)
                     kept.append(listing)
-        for found in traces.list_at(entry, "probes"):
+        for found in traces.list_at(entry, "probes") if "probes" in entry else ():
             moments, kept = self.results.setdefault((found.get("container"), found.get("probe")), ([], []))
             moments.append(at)
             kept.append(sys.intern(found["result"]) if "result" in found else None)
@@ -144,23 +145,41 @@ class PodTicks:
         return runs
 
 
-def ticks_of(trace, pods):
-    """The ticks of some pods, by their numbers, in one reading of the trace. A tick that does not list a pod matters
-    where the tick before did."""
-    found = {pod.number: PodTicks(trace, pod) for pod in pods}
-    wanted, listed = set(found), {}
-    for tick, present in zip(trace.ticks, traces.present_at_each(trace)):
+class Ticks:
+    """The ticks of pods, of those of some numbers where these are given, one after the other. A tick that does not list
+    a pod matters where the tick before did."""
+
+    def __init__(self, wanted=None):
+        self.found, self.wanted, self.listed = {}, wanted, {}
+
+    def of(self, trace, pod):
+        if pod.number not in self.found:
+            self.found[pod.number] = PodTicks(trace, pod)
+        return self.found[pod.number]
+
+    def take(self, trace, tick, present):
         now = {}
         for key, entry in tick.entries.items():
-            number = present[key].number
-            if number in wanted:
-                found[number].take(tick.at, entry)
-                now[number] = present[key]
-        for number, pod in listed.items():
+            pod = present[key]
+            if self.wanted is None or pod.number in self.wanted:
+                self.of(trace, pod).take(tick.at, entry)
+                now[pod.number] = pod
+        for number, pod in self.listed.items():
             if number not in now and present.get(pod.key) is pod:
-                found[number].take(tick.at, {})
-        listed = now
-    return found
+                self.found[number].take(tick.at, {})
+        self.listed = now
+
+    def take_last(self, trace, present):
+        """Takes a trace's last tick, as it is read."""
+        self.take(trace, trace.ticks[-1], present)
+
+
+def ticks_of(trace, pods):
+    """The ticks of some pods, by their numbers, in one reading of the trace."""
+    ticks = Ticks({pod.number for pod in pods})
+    for tick, present in zip(trace.ticks, traces.present_at_each(trace)):
+        ticks.take(trace, tick, present)
+    return {pod.number: ticks.of(trace, pod) for pod in pods}
 
 
 def around_events(trace, report, pod):

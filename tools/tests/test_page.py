@@ -107,7 +107,7 @@ def test_refused_pages():
     with open(f"{folder}/trace", "w") as file:
         file.write(read(f"{NODE}/trace").replace('"result"', '"outcome"').replace('"containers":[]', '"containers":7'))
     expect_refused("page of a trace with a strange tick", page_of(report, f"{folder}/trace"), 2,
-                   "tick line that is none")
+                   "is no line of a trace there")
     shutil.rmtree(folder)
 
 

@@ -12,9 +12,9 @@ HERE = os.path.dirname(os.path.realpath(__file__))
 SCRIPTS = ("decode.js", "draw.js", "lanes.js", "panel.js", "page.js")
 
 
-def page_of(report, trace, utc):
-    """The text of the page of a report, and of its trace where there is one."""
-    shown = data.data_of(report, trace, utc)
+def page_of(report, trace, ticks, utc):
+    """The text of the page of a report, and of its trace with its ticks where there is one."""
+    shown = data.data_of(report, trace, ticks, utc)
     script = "\n".join(["'use strict';", "(() => {", *map(read, SCRIPTS), "})();"])
     parts = {"title": escape(f"{report.node}: a replay"), "style": read("page.css"), "script": script,
              "data": as_script(shown)}

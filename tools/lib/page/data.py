@@ -43,11 +43,10 @@ def differences(moments):
     return [at - before for before, at in zip([0, *moments], moments)]
 
 
-def data_of(report, trace, utc):
+def data_of(report, trace, ticks, utc):
     """All that the page shows; what a trace alone would tell is left out without one."""
     span = Span(report, trace)
     left = [] if trace else list(WITHOUT_TRACE)
-    ticks = why.ticks_of(trace, trace.pods) if trace else {}
     budget, words = Budget(MOST_RUNS), Words(trace)
     data = {
         "node": report.node, "utc": utc, "first": span.first, "last": span.of(span.last), "hasTrace": bool(trace),
@@ -56,7 +55,7 @@ def data_of(report, trace, utc):
         "signals": signals_of(trace), "active": active_of(report, span), "pressure": pressure_of(report, span),
         "reclaims": [[span.of(event.at), *event.rest] for event in report.events if event.word == "reclaim"],
         "evictions": evictions_of(report, trace, span, left), "kubelet": kubelet_of(report, trace, span),
-        "podList": [pod_of(report, trace, span, pod, ticks.get(pod.number), budget, words) for pod in report.pods],
+        "podList": [pod_of(report, trace, span, pod, ticks, budget, words) for pod in report.pods],
         "causes": words.causes, "waits": words.waits,
     }
     refused = sorted({one["key"] for one in data["kubelet"]["refused"]} if data["kubelet"] else ())
@@ -231,6 +230,7 @@ def pod_of(report, trace, span, pod, ticks, budget, words):
     }
     if trace:
         ours = trace.pods[pod.number]
+        ticks = ticks.of(trace, ours)
         found |= {"policy": ours.policy, "priority": ours.priority,
                   "listings": [listings_of(span, ticks, container.name) for container in pod.containers],
                   "probes": probes_of(span, ours, ticks, budget), "waits": waits_of(trace, span, pod, words)}
