@@ -95,7 +95,10 @@ def test_captured_answers():
 
 def test_trimmed_answers():
     """A look has the answers that are others than before, without the fields that the recorder does not read."""
-    pod = {"metadata": {"name": "a", "uid": "1", "labels": {}}, "status": {"phase": "Running", "hostIP": "10.0.0.1"},
+    states = {"lastState": {"terminated": {"exitCode": 1, "reason": "Error", "message": "its own words"}},
+              "state": {"waiting": {"reason": "CrashLoopBackOff", "message": "back-off 10s", "more": 1}}}
+    pod = {"metadata": {"name": "a", "uid": "1", "labels": {}},
+           "status": {"phase": "Running", "hostIP": "10.0.0.1", "containerStatuses": [{"name": "c", "x": 0, **states}]},
            "spec": {"priority": 1, "hostNetwork": True, "containers": [{"name": "c", "command": ["sh"]}]}}
     listed = {"id": "5", "state": 1, "image": {}, "labels": {"io.kubernetes.pod.uid": "1", "app": "a"}}
     answers = {
@@ -120,7 +123,9 @@ def test_trimmed_answers():
     shutil.rmtree(folder)
     expect("trimmed: the first look", made[0], {"at": 1.0, "answers": {
         "pods": {"kind": "PodList", "items": [
-            {"metadata": {"name": "a", "uid": "1"}, "status": {"phase": "Running"},
+            {"metadata": {"name": "a", "uid": "1"}, "status": {"phase": "Running", "containerStatuses": [
+                {"name": "c", "lastState": {"terminated": {"exitCode": 1, "reason": "Error"}},
+                 "state": {"waiting": {"reason": "CrashLoopBackOff", "message": "back-off 10s"}}}]},
              "spec": {"priority": 1, "containers": [{"name": "c"}]}}]},
         "ps": {"containers": [{"id": "5", "state": 1, "labels": {"io.kubernetes.pod.uid": "1"}}]},
         "5": {"status": {}}, "configz": {"kubeletconfig": {"clusterDomain": "local"}},

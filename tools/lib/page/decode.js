@@ -169,6 +169,11 @@ function causeWords(event) {
   return event.rest.length > 4 ? `: ${data.causes[event.rest[4]][0]}` : '';
 }
 
+// The one word of why it died, where a trace has it.
+function reasonOf(event) {
+  return (causeWords(event).match(/^: ([A-Z]\w+)/) || [])[1] || null;
+}
+
 // Why a container waits at a moment, or null; the moment may be the end, at which what has no end still waits.
 function waitAt(pod, place, at) {
   return (pod.waits || []).find((one) => one[0] === place && one[1] <= at && (one[2] === null || at < one[2])) || null;

@@ -89,7 +89,7 @@ function metaOf(pod) {
 function lastReasons(pod) {
   const counts = new Map();
   for (const one of pod.list.filter((event) => event.word === 'died')) {
-    const [reason] = (causeWords(one).match(/(?<=^: )[A-Z]\w+/) || []);
+    const reason = reasonOf(one);
     if (reason && reason !== 'Error' && reason !== 'Completed') counts.set(reason, (counts.get(reason) || 0) + 1);
   }
   const waiting = pod.containers.map((_, place) => waitAt(pod, place, endOf(pod))).filter(Boolean).map(waitWord);

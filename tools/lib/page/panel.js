@@ -204,9 +204,11 @@ function exitParts(pod, event) {
   const counted = exits.slice(exits.length - newest.rest[2]);
   const kept = counted.slice(-MOST_ROWS);
   const policy = pod.policy ? ` (policy ${pod.policy})` : '';
+  const columns = kept.some(reasonOf) ? 6 : 5;
   const parts = [said(`Exits that count${policy}; the delay goes by the last number:`),
-    tableOf(['number', 'attempt', 'died', 'run', 'code'],
-      kept.map((one) => [one.rest[2], one.rest[0], moment(one.at), `${one.rest[3]} s`, one.rest[1]]))];
+    tableOf(['number', 'attempt', 'died', 'run', 'code', 'reason'].slice(0, columns),
+      kept.map((one) => [one.rest[2], one.rest[0], moment(one.at), `${one.rest[3]} s`, one.rest[1],
+        reasonOf(one) || '-'].slice(0, columns)))];
   if (kept.length < counted.length) parts.push(said(`${counted.length - kept.length} earlier exits are left out.`));
   return parts;
 }

@@ -2,6 +2,7 @@
 
 from __future__ import annotations
 
+import os
 import sys
 
 import asking
@@ -30,6 +31,8 @@ def run(words, path, given, caller, kinds):
     """Runs the program on a trace, writes its report, and says what of these kinds is in it; the status."""
     report = files.temporary()
     status = files.run_beside(programs.path(), words, path, given, caller, report)
+    if status == 1 and os.fstatvfs(report.fileno()).f_bavail == 0:
+        raise files.no_room("it takes no more")
     if status != 0:
         return status
     report.seek(0)
