@@ -5,6 +5,7 @@ from __future__ import annotations
 
 from dataclasses import dataclass
 
+import amounts
 import entry
 
 LOST = 137
@@ -148,14 +149,21 @@ def because_lines(event, trace):
         return []
     if end.reason == OUT_OF_MEMORY:
         limit = trace.memory_limit(event.number, event.container)
-        because = f"it wanted more memory than its limit, {limit} (resources.limits.memory)" if limit else \
-            "memory ran out: it has no limit of its own, so its pod or the node had no more"
-        return [f"OOM-killed because {because}"]
+        because = f"it came to its memory limit, {limit} (resources.limits.memory)" if limit else \
+            "memory ran out, and it has no limit of its own"
+        return [f"OOM-killed because {because}{left_words(event, trace)}"]
     if end.reason == PLAIN and end.code == LOST:
-        return ["killed by SIGKILL and not for memory, as at the end of a grace period, or it exited with 137 itself"]
+        return [f"the runtime says {PLAIN} and not {OUT_OF_MEMORY}: it was killed, as at the end of a grace period, or "
+                f"exited with {LOST} itself"]
     if end.reason in NEVER_RAN:
         return [f"the runtime could not start it{f': {end.message}' if end.message else ''}"]
     return []
+
+
+def left_words(event, trace):
+    """What memory the node had left by the last sample, which tells a limit from a node that ran out of it."""
+    left = trace.ticks[trace.places[event.at]].signals.get("memory.available")
+    return "" if left is None else f"; the node had {amounts.amount_text(left, True)} of memory available"
 
 
 def is_known(event, trace):
