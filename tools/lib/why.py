@@ -147,10 +147,11 @@ class PodTicks:
 
 class Ticks:
     """The ticks of pods, of those of some numbers where these are given, one after the other. A tick that does not list
-    a pod matters where the tick before did."""
+    a pod matters where the tick before did. Of some moments it keeps what each pod used by then."""
 
-    def __init__(self, wanted=None):
+    def __init__(self, wanted=None, moments=()):
         self.found, self.wanted, self.listed = {}, wanted, {}
+        self.usages, self.usages_at = {}, dict.fromkeys(moments)
 
     def of(self, trace, pod):
         if pod.number not in self.found:
@@ -171,7 +172,13 @@ class Ticks:
 
     def take_last(self, trace, present):
         """Takes a trace's last tick, as it is read."""
-        self.take(trace, trace.ticks[-1], present)
+        tick = trace.ticks[-1]
+        self.take(trace, tick, present)
+        if tick.may_have(b"usage"):
+            for key, entry in tick.entries.items():
+                take_usage(self.usages.setdefault(present[key].number, {}), entry)
+        if tick.at in self.usages_at:
+            self.usages_at[tick.at] = {number: dict(usage) for number, usage in self.usages.items()}
 
 
 def ticks_of(trace, pods):
@@ -238,9 +245,12 @@ def add_evictions(trace, report, found):
         around.evicted = gathered[around.event.at]
 
 
-def gather_evictions(trace, report, moments):
-    """What the trace holds around the evictions of some moments, by moment; a tick evicts one pod at most."""
-    usages = usages_at(trace, {trace.places[at] for at in moments})
+def gather_evictions(trace, report, moments, usages=None):
+    """What the trace holds around the evictions of some moments, by moment; a tick evicts one pod at most. The usages
+    are what each pod used by then, by moment, where that is known already."""
+    if usages is None:
+        by_place = usages_at(trace, {trace.places[at] for at in moments})
+        usages = {trace.ticks[place].at: usage for place, usage in by_place.items()}
     active, found = reports.Thresholds(report), {}
     evictions = sorted(report.evictions, key=lambda eviction: eviction.at)
     for before, eviction in zip([None, *evictions], evictions):
@@ -253,7 +263,7 @@ def gather_evictions(trace, report, moments):
         found[eviction.at] = Evicted(eviction.signal, threshold, since,
                                      samples_of(trace, eviction.at, eviction.signal, since),
                                      candidates_of(trace, report, place, eviction.signal, eviction.number,
-                                                   usages[place]), trace.pause(), before and before.at)
+                                                   usages[eviction.at]), trace.pause(), before and before.at)
     return found
 
 
@@ -298,7 +308,7 @@ def candidates_of(trace, report, place, signal, number, usages):
         ended = reports.end_of(status)
         if not pod.is_present(place) or (ended and ended[0] <= at and ended != (at, "Evicted")):
             continue
-        usage = used(usages[pod.number], signal, trace.dedicated())
+        usage = used(usages.get(pod.number, {}), signal, trace.dedicated())
         found.append(Candidate(pod, usage, requested(pod, signal), status.qos, pod.number == number))
     return sorted(found, key=order)
 

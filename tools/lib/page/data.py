@@ -54,7 +54,7 @@ def data_of(report, trace, ticks, utc):
         "tickSteps": repeated(differences([span.of(tick.at) for tick in trace.ticks])) if trace else [],
         "signals": signals_of(trace), "active": active_of(report, span), "pressure": pressure_of(report, span),
         "reclaims": [[span.of(event.at), *event.rest] for event in report.events if event.word == "reclaim"],
-        "evictions": evictions_of(report, trace, span, left), "kubelet": kubelet_of(report, trace, span),
+        "evictions": evictions_of(report, trace, ticks, span, left), "kubelet": kubelet_of(report, trace, span),
         "podList": [pod_of(report, trace, span, pod, ticks, budget, words) for pod in report.pods],
         "causes": words.causes, "waits": words.waits,
     }
@@ -158,9 +158,10 @@ def pressure_of(report, span):
             for pressed in reports.pressure_spans(report, kind)]
 
 
-def evictions_of(report, trace, span, left):
+def evictions_of(report, trace, ticks, span, left):
     """The evictions, with a trace each with the table of its pods, of which a long one is cut."""
-    gathered = why.gather_evictions(trace, report, {one.at for one in report.evictions}) if trace else {}
+    moments = {one.at for one in report.evictions}
+    gathered = why.gather_evictions(trace, report, moments, ticks.usages_at) if trace else {}
     found, cut = [], 0
     for eviction in report.evictions:
         one = {"at": span.of(eviction.at), "pod": eviction.number, "signal": eviction.signal, "kind": eviction.kind,
