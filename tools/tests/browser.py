@@ -1,7 +1,7 @@
 """Drives pages of tools/page in headless Chromium, and writes what it found as JSON lines: a name, what was there, what
 should be. test_page.py runs it with a python3 that has selenium, and counts.
 
-usage: browser.py FOLDER, which has node.html, plain.html, odd.html, again.html, kubelet.html and big.html
+usage: browser.py FOLDER, which has node.html, plain.html, odd.html, again.html, kubelet.html, reasons.html and big.html
 """
 
 import json
@@ -88,6 +88,14 @@ class Page:
         self.wait()
         ActionChains(self.driver).move_to_element_with_offset(canvas, *self.point(canvas, share, y)).click().perform()
         self.wait()
+
+    def tip(self, canvas, share, y):
+        """What is shown where one points at a place of a canvas."""
+        self.driver.execute_script("arguments[0].scrollIntoView({block: 'center'})", canvas)
+        self.wait()
+        ActionChains(self.driver).move_to_element_with_offset(canvas, *self.point(canvas, share, y)).perform()
+        self.wait()
+        return self.text("#tip")
 
     def drag(self, canvas, share, to_share, y):
         (x, over), (to_x, _) = self.point(canvas, share, y), self.point(canvas, to_share, y)
@@ -303,6 +311,33 @@ def check_kubelet(chromedriver, path):
         tell("of what the kubelet did: no error came", page.log(), [])
 
 
+def check_reasons(chromedriver, path):
+    """Why instances died and containers waited, as recordings/reasons has it."""
+    with Page(chromedriver, path) as page:
+        metas = dict(zip(page.texts(".pod .name"), page.texts(".pod .meta .bad")))
+        tell("says why beside a pod's name", [metas[f"shop/{name}"] for name in ("oom", "config", "command", "image")],
+             ["OOMKilled · 1 restart", "CreateContainerConfigError", "StartError", ""])
+        page.click(".pod .name", page.texts(".pod .name").index("shop/oom"))
+        events = page.texts("#panel .event > button")
+        died = next(place for place, event in enumerate(events) if "died" in event)
+        tell("says why in an event", events[died].split("\n")[1],
+             "app died with code 137: OOMKilled, its memory limit is 32Mi, attempt 0")
+        page.click("#panel .event > button", died)
+        tell("and what that means", page.text("#panel .why").split("\n")[0],
+             "OOM-killed because it came to its memory limit, 32Mi (resources.limits.memory); the node had 4Gi of memory "
+             "available")
+        page.press(Keys.ESCAPE)
+        page.click(".pod .name", page.texts(".pod .name").index("shop/config"))
+        tell("says in a story why a container waits", [words in page.text("#panel") for words in (
+            "Waits", "app waits: CreateContainerConfigError: no key $TOKEN in secret shop/keys")], [True, True])
+        page.press(Keys.ESCAPE)
+        tell("says it where one points at the lane", page.tip(page.row("shop/image"), 12 / 20, 20).split("\n")[1:],
+             ["app: waiting", 'waits: ImagePullBackOff: Back-off pulling image "registry.example/shop/web:v9"'])
+        tell("says why it died there too", page.tip(page.row("shop/late"), 18 / 20, 20).split("\n")[1],
+             "app: terminated with code 137: OOMKilled, it has no memory limit, attempt 0")
+        tell("of reasons: no error came", page.log(), [])
+
+
 def timed(page, act):
     began = time.monotonic()
     act()
@@ -342,6 +377,7 @@ def main(folder, chromedriver):
     check_odd(chromedriver, f"{folder}/odd.html")
     check_again(chromedriver, f"{folder}/again.html")
     check_kubelet(chromedriver, f"{folder}/kubelet.html")
+    check_reasons(chromedriver, f"{folder}/reasons.html")
     check_big(chromedriver, f"{folder}/big.html")
 
 

@@ -147,7 +147,8 @@ def test_real_kubectl():
     trace = f"{TOP}/examples/liveness_kill.trace"
     report = read(f"{TOP}/examples/liveness_kill.report")
     by_kubectl = run([kubectl, "replay", "story", "-f", trace, "-n", "shop", "pod/web-0"], PATH=path)
-    expect("a kubectl tells a story", by_kubectl, run([f"{TOOLS}/story", "shop/web-0"], report))
+    story = run([f"{TOOLS}/story", "shop/web-0", "--trace", trace, "--without-why"], report)
+    expect("a kubectl tells a story", by_kubectl, story)
     by_kubectl = run([kubectl, "replay", "run", trace], PATH=path)
     expect("a kubectl replays a trace", by_kubectl, (0, report, ""))
     answer = run([kubectl, "replay", "story", "shop/wab-0"], report, PATH=path)

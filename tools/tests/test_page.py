@@ -15,6 +15,7 @@ from checks import HERE, TOOLS, TOP, expect, expect_refused, read, run
 NODE = f"{HERE}/whys/file_system"
 PROBES = f"{HERE}/whys/probes"
 KUBELET = f"{HERE}/whys/kubelet"
+REASONS = f"{HERE}/recordings/reasons"
 AGAIN = f"{TOP}/crates/case_runner/data/traces/extended"
 PODS, TICKS = 256, 20000
 # of the page of this many pods and ticks
@@ -131,6 +132,7 @@ def write_pages(folder):
         "odd": page_of(odd.replace("shop/api-7f9c", "shop/<img/src=x/onerror=document.title='x'>")),
         "again": page_of(read(f"{AGAIN}/evicted_pod_comes_again_and_is_evicted_again.report")),
         "kubelet": page_of(read(f"{KUBELET}/report"), f"{KUBELET}/trace"),
+        "reasons": page_of(read(f"{REASONS}/report"), f"{REASONS}/trace"),
         "big": page_of("".join(big_node.report_of(PODS, TICKS, PODS))),
     }
     for name, (status, page, said) in pages.items():

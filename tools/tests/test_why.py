@@ -103,7 +103,7 @@ def test_cases():
 
 def test_why_with_story():
     trace, report = trace_and_report("probes")
-    story = run([f"{TOOLS}/story", "shop/web"], read(report))[1]
+    story = run([f"{TOOLS}/story", "shop/web", "--trace", trace, "--without-why"], read(report))[1]
     both = run([f"{TOOLS}/story", "shop/web", "--trace", trace], read(report))
     expect("story with a trace", both, (0, f"{story}\n{read(f'{WHYS}/probes/of_shop_web')}", ""))
     utc = run([f"{TOOLS}/why", "--utc", "shop/web", f"--trace={trace}"], read(report))[1].split("\n")
