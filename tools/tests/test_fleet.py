@@ -22,7 +22,7 @@ import node_traces
 
 KEPT = f"{HERE}/fleet"
 FLEET = f"{TOOLS}/fleet"
-TABLES = ("traces", "nodes", "pods", "containers", "conditions", "evictions", "decisions")
+TABLES = ("traces", "nodes", "pods", "containers", "conditions", "evictions", "decisions", "causes")
 COUNTED = {"KUBELET_REPLAY": f"{KEPT}/replay", "PROGRAM": REPLAY}
 
 
