@@ -19,17 +19,19 @@ import test_connections
 import test_decisions
 import test_explain
 import test_fleet
+import test_fleet_nodes
 import test_json
 import test_kubectl
 import test_page
 import test_plays
 import test_real_node
+import test_reasons
 import test_record
 import test_why
 from checks import HERE, REPLAY, TOOLS, TOP, expect, expect_kept, expect_refused, read, run
 
 MODULES = (test_record, test_connections, test_plays, test_real_node, test_json, test_why, test_decisions, test_page,
-           test_fleet, test_kubectl, test_command, test_explain)
+           test_fleet, test_fleet_nodes, test_kubectl, test_command, test_explain, test_reasons)
 RECORDINGS = f"{HERE}/recordings"
 COMMANDS = f"{HERE}/commands"
 
