@@ -20,6 +20,8 @@ import test_decisions
 import test_explain
 import test_fleet
 import test_fleet_nodes
+import test_into
+import test_into_folder
 import test_json
 import test_kubectl
 import test_page
@@ -30,8 +32,8 @@ import test_record
 import test_why
 from checks import HERE, REPLAY, TOOLS, TOP, expect, expect_kept, expect_refused, read, run
 
-MODULES = (test_record, test_connections, test_plays, test_real_node, test_json, test_why, test_decisions, test_page,
-           test_fleet, test_fleet_nodes, test_kubectl, test_command, test_explain, test_reasons)
+MODULES = (test_record, test_connections, test_plays, test_into, test_into_folder, test_real_node, test_json, test_why,
+           test_decisions, test_page, test_fleet, test_fleet_nodes, test_kubectl, test_command, test_explain, test_reasons)
 RECORDINGS = f"{HERE}/recordings"
 COMMANDS = f"{HERE}/commands"
 
@@ -312,6 +314,18 @@ def test_words():
         (["record", "--standard", "--extended"], "give one"),
         (["record", "--standard", "--eviction-pause", "5"], "goes with --extended"),
         (["record", "--extended", "--eviction-pause", "2147483648"], "--eviction-pause takes"),
+        (["record", "--into", "/nonexistent"], "--into: '/nonexistent' is no folder"),
+        (["record", "--into", f"{HERE}/run.py"], "run.py' is no folder"),
+        (["record", "--into", HERE, "--node", "worker/3"], "--node takes a node's name, not 'worker/3'"),
+        (["record", "--into", HERE, "--node", ".."], "--into wants --node with a name of the formats, not '..'"),
+        (["record", "--into", HERE, "--standard"], "--into writes the extended format"),
+        (["record", "--into", HERE, "--each", "1"], "--each takes a time from 10s to 400d, as 1h, not '1'"),
+        (["record", "--into", HERE, "--each", "9s"], "--each takes a time"),
+        (["record", "--into", HERE, "--keep", "401d"], "--keep takes a time"),
+        (["record", "--into", HERE, "--most", "2GB"], "--most takes a number of bytes of at least 1Mi, as 2Gi"),
+        (["record", "--into", HERE, "--most", "1000000"], "--most takes a number of bytes"),
+        (["record", "--each", "1h"], "--each goes with --into"),
+        (["record", "--crictl", "'"], "--crictl takes words"),
         (["story", "a/b", "c/d"], "one pod, not 2"),
         (["story", "--all"], "--all is no word"),
         (["timeline", "--wide"], "--wide is no word"),

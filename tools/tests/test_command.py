@@ -103,7 +103,7 @@ def test_command_completion():
         (["story", "-f", TRACE, "-n", "default", ""], ["a", "b", "c", ":4"]),
         (["story", "--"], ["--filename", "--namespace", "--trace", "--utc", "--without-why", ":4"]),
         (["run", ""], [":0"]),
-        (["record", "--e"], ["--every", "--eviction-pause", "--extended", ":4"]),
+        (["record", "--e"], ["--each", "--every", "--eviction-pause", "--extended", ":4"]),
         (["record", "--curl", ""], [":0"]),
         (["record", "--node", ""], [":4"]),
     ):

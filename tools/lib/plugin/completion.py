@@ -10,7 +10,7 @@ MEASURES = ("restarts", "unready", "evicted")
 FAILURES = ("evicted", "restarted", "unready")
 # words whose value is no file
 COUNTS = ("--workers", "--processes", "--scheduler", "--top", "--node", "--every", "--look", "--ticks", "--for",
-          "--kubelet", "--eviction-pause")
+          "--kubelet", "--crictl", "--eviction-pause", "--each", "--keep", "--most")
 
 
 def candidates(given, is_of_kubectl=True):

@@ -28,7 +28,7 @@ class Command:
 
 
 RECORDER_VALUED = ("--node", "--every", "--look", "--ticks", "--for", "--kubelet", "--curl", "--node-line",
-                   "--eviction-pause")
+                   "--crictl", "--eviction-pause", "--into", "--each", "--keep", "--most")
 RECORDER_FLAGS = ("--check", "--standard", "--extended")
 COMMANDS = {
     "record": Command("record a node", takes_file=False, valued=RECORDER_VALUED, flags=RECORDER_FLAGS),

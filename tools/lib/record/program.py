@@ -4,6 +4,7 @@ import os
 import signal
 import sys
 from contextlib import contextmanager
+from dataclasses import replace
 
 from .check import check
 from .clock import Clock
@@ -17,6 +18,8 @@ from .trace import TooLong
 from .words import BadWord, help_text, missing_commands, words_of
 
 INTERRUPTS = (signal.SIGINT, signal.SIGTERM, signal.SIGHUP)
+# a recorder that goes on for ever does not grow by what it has said
+MOST_REMEMBERED = 10000
 
 
 class Stopped(Exception):
@@ -33,15 +36,17 @@ class Ended(Exception):
 
 
 class Says:
-    """Says a line on standard error, once of each subject, or once of its text."""
+    """Says a line on standard error, once of each subject, or once of its text, as far back as it remembers."""
 
     def __init__(self):
-        self.said = set()
+        self.said = {}
 
     def __call__(self, text, subject=None):
         subject = text if subject is None else subject
         if subject not in self.said:
-            self.said.add(subject)
+            self.said[subject] = True
+            if len(self.said) > MOST_REMEMBERED:
+                del self.said[next(iter(self.said))]
             print(f"record: {text}", file=sys.stderr, flush=True)
 
 
@@ -153,11 +158,19 @@ class Recording:
 
 def recorded(words, sources, clock, say):
     """Records as the words ask for; the status."""
+    if words.into is not None:
+        from .into import recorded_into  # which stands on what is here
+        return recorded_into(words, sources, clock, say)
     output = Output(words.ticks)
+    return watch(output, Recording(words, sources, clock, output, say), say)
+
+
+def watch(output, recording, say):
+    """Runs a recording until its end or an interrupt; the status."""
     for number in INTERRUPTS:
         signal.signal(number, output.interrupt)
     try:
-        Recording(words, sources, clock, output, say).run()
+        recording.run()
     except Stopped:
         return 0
     except TooLong as failed:
@@ -202,6 +215,7 @@ def main(arguments, clock=None, make_sources=None):
         return 2
     asked = words.node, words.kubelet, words.curl_file
     sources = kept_sources(*asked, say) if make_sources is None else make_sources(*asked)
+    sources = replace(sources, crictl=words.crictl)
     try:
         missing = missing_commands(sources.commands())
         if missing and not words.is_check:

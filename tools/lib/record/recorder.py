@@ -153,7 +153,7 @@ class Recorder:
         """Why a pod has no line, by what came before; None where it can have one."""
         if pod.fault is not None:
             return f"is left out: {pod.fault}"
-        if len(self.recorded) >= MOST_PODS:
+        if not self.has_room():
             return f"is left out: a trace has at most {MOST_PODS} pods"
         if pod.decision is not None:
             return f"is left out: {LEFT_OUT[pod.decision.kind]}"
@@ -167,6 +167,10 @@ class Recorder:
         if waits != recorded.waits:
             recorded.waits = waits
             self.timeline.place_waits(recorded.pod, seen.moment, waits)
+
+    def has_room(self):
+        """Whether the trace can have one more pod."""
+        return len(self.recorded) < MOST_PODS
 
     def arrival_moment(self, pod, seen):
         """A pod that comes late is there from the moment on at which its first container was made."""

@@ -60,12 +60,13 @@ class Sources:
     curl_file: Optional[str] = None
     run: callable = run_command
     keeps: Optional[object] = None
+    crictl: tuple = ("crictl",)
 
     def commands(self):
         """The commands that are needed on the PATH."""
         if self.kubelet is None:
-            return ["crictl", "kubectl"]
-        return ["crictl"] if self.keeps is not None else ["crictl", "curl"]
+            return [self.crictl[0], "kubectl"]
+        return [self.crictl[0]] if self.keeps is not None else [self.crictl[0], "curl"]
 
     def close(self):
         if self.keeps is not None:
@@ -97,10 +98,10 @@ class Sources:
         return self.ask(f"/{path}", self.endpoint_words(path), ENDPOINT_SECONDS + 5)
 
     def listed(self):
-        return self.ask("crictl ps", ["crictl", "ps", "-a", "-o", "json"], RUNTIME_SECONDS)
+        return self.ask("crictl ps", [*self.crictl, "ps", "-a", "-o", "json"], RUNTIME_SECONDS)
 
     def inspected(self, container_id):
-        return self.ask(f"crictl inspect {container_id}", ["crictl", "inspect", "-o", "json", container_id],
+        return self.ask(f"crictl inspect {container_id}", [*self.crictl, "inspect", "-o", "json", container_id],
                         RUNTIME_SECONDS)
 
     def pods_name(self):

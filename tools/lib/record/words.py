@@ -3,17 +3,19 @@
 import json
 import os
 import re
+import shlex
 import shutil
 from dataclasses import dataclass
 from typing import Optional
 
 from . import trace
-from .formats import MOST_TICKS
+from .formats import MOST_TICKS, name_fault
 
 HELP = """\
 usage: tools/record [--node NAME] [--every SECONDS] [--look SECONDS] [--ticks N] [--for SECONDS]
-                    [--kubelet URL [--curl FILE]] [--node-line FILE] [--standard | --extended [--eviction-pause N]]
-                    > TRACE
+                    [--kubelet URL [--curl FILE]] [--crictl WORDS] [--node-line FILE]
+                    [--standard | --extended [--eviction-pause N]] > TRACE
+       tools/record --into FOLDER [--each 1h] [--keep 48h] [--most 2Gi], and the other words but --standard
        tools/record --check [--node NAME] [--kubelet URL [--curl FILE]]
 
 Records a node as the lines of a trace (docs/formats.md). It looks at the container runtime and at the results of probes
@@ -21,6 +23,13 @@ every --look seconds (1), and writes a tick for each second in which something h
 (10). It ends after N ticks (20000, the most that a trace takes), after --for seconds, or at an interrupt, at the end
 of a line. NAME is the node's name in the cluster (uname -n). --check asks each source once, those too whose command
 is there where another one is missing, says what works and what is missing, and ends.
+--crictl has the words that start crictl, as 'chroot /host crictl'.
+
+--into FOLDER writes traces of the extended format one behind the other, as NODE.2026-11-27T05-00-00Z.trace.gz, until it
+is interrupted (docs/recorder.md). Each begins where the one before it ends: after --each (1h, by UTC), or earlier at
+--ticks, 64 MiB or 256 pods. While it is written it is .trace.part; what a crash leaves is ended at the next start. It
+keeps traces for --keep (48h), and at most --most bytes of them (2Gi), and takes the oldest away where the disk is full.
+Where none is left it waits for room. A second recorder of one folder is refused.
 
 It needs python3, crictl (as root, on the node) and
   kubectl  that may get nodes/proxy and list pods, which it starts once, as a proxy on a socket of its own; or
@@ -61,19 +70,34 @@ It leaves out
 A file system for images of the same size as the node's is taken for the same one. On standard error it says what it
 leaves out, writes otherwise or infers, and each source that gives no answer with what stands in its place.
 
-Status 0: ended as asked, or all that --check asked works; 1: nothing could be recorded, or not written, or a source of
---check does not work; 2: a bad word; 127: a command is missing.
+Status 0: ended as asked, or all that --check asked works; 1: nothing could be recorded, or not written, as where the
+folder of --into can't be or has its recorder, or a source of --check does not work; 2: a bad word; 127: a command is
+missing.
 """
 
 # word: what its value is
 NUMBERS = {"--every": 86400, "--look": 3600, "--ticks": MOST_TICKS, "--for": 31622400}
-TEXTS = ("--node", "--kubelet", "--curl", "--node-line", "--eviction-pause", *NUMBERS)
+LASTING = ("--each", "--keep", "--most")
+TEXTS = ("--node", "--kubelet", "--curl", "--crictl", "--node-line", "--eviction-pause", "--into", *LASTING, *NUMBERS)
 SWITCHES = ("--standard", "--extended", "--check")
 MOST_PAUSE = 2 ** 31 - 1
+UNITS = {"s": 1, "m": 60, "h": 3600, "d": 86400}
+SIZES = {"": 1, "k": 10 ** 3, "M": 10 ** 6, "G": 10 ** 9, "T": 10 ** 12, "Ki": 2 ** 10, "Mi": 2 ** 20, "Gi": 2 ** 30,
+         "Ti": 2 ** 40}
+LONGEST = 400 * 86400
 
 
 class BadWord(Exception):
     """Words that are mistaken; its text says what to do."""
+
+
+@dataclass(frozen=True)
+class Into:
+    """Where traces stand one behind the other, for how many seconds each, and how many seconds and bytes are kept."""
+    folder: str
+    each: int
+    keep: int
+    most: int
 
 
 @dataclass(frozen=True)
@@ -89,6 +113,8 @@ class Words:
     duration: Optional[int]
     format: trace.Format
     is_check: bool
+    into: Optional[Into]
+    crictl: tuple
 
 
 def help_text():
@@ -126,7 +152,10 @@ def trace_format(given):
     text = given.get("--eviction-pause")
     if "--standard" in given and "--extended" in given:
         raise BadWord("--standard and --extended are two formats: give one")
-    is_extended = "--extended" in given or ("--standard" not in given and trace.DEFAULT.says_gone)
+    if "--standard" in given and "--into" in given:
+        raise BadWord("--into writes the extended format, and not the standard one")
+    is_extended = ({"--extended", "--into"} & set(given)
+                   or ("--standard" not in given and trace.DEFAULT.says_gone))
     if text is None:
         return trace.extended() if is_extended else trace.STANDARD
     if not is_extended:
@@ -153,6 +182,50 @@ def node_line(given):
     return fields
 
 
+def duration(given, word, default):
+    """A span of time, in seconds."""
+    found = re.fullmatch("([1-9][0-9]{0,8})([smhd])", given.get(word, default))
+    seconds = int(found[1]) * UNITS[found[2]] if found else 0
+    if not 10 <= seconds <= LONGEST:
+        raise BadWord(f"{word} takes a time from 10s to {LONGEST // 86400}d, as {default}, not '{given[word]}'")
+    return seconds
+
+
+def size(given, word, default):
+    """A number of bytes."""
+    found = re.fullmatch("([1-9][0-9]{0,14})([kMGT]|[KMGT]i|)", given.get(word, default))
+    count = int(found[1]) * SIZES[found[2]] if found else 0
+    if not 2 ** 20 <= count < 2 ** 60:
+        raise BadWord(f"{word} takes a number of bytes of at least 1Mi, as {default}, not '{given[word]}'")
+    return count
+
+
+def into(given, node):
+    """Where and how traces stand one behind the other, or None where they don't."""
+    alone = [word for word in LASTING if word in given]
+    if "--into" not in given:
+        if alone:
+            raise BadWord(f"{alone[0]} goes with --into")
+        return None
+    if not os.path.isdir(given["--into"]):
+        raise BadWord(f"--into: '{given['--into']}' is no folder")
+    if name_fault(node) is not None:
+        raise BadWord(f"--into wants --node with a name of the formats, not '{node}'")
+    return Into(given["--into"], duration(given, "--each", "1h"), duration(given, "--keep", "48h"),
+                size(given, "--most", "2Gi"))
+
+
+def crictl_words(given):
+    """The words that start crictl."""
+    try:
+        words = shlex.split(given.get("--crictl", "crictl"))
+    except ValueError:
+        words = []
+    if not words:
+        raise BadWord(f"--crictl takes words as 'chroot /host crictl', not '{given['--crictl']}'")
+    return tuple(words)
+
+
 def words_of(arguments):
     """What the arguments ask for; BadWord where they are mistaken."""
     given = split(arguments)
@@ -168,7 +241,8 @@ def words_of(arguments):
         raise BadWord(f"--kubelet takes a URL as https://127.0.0.1:10250, not '{kubelet}'")
     return Words(node, kubelet.rstrip("/") if kubelet else None, curl_file, node_line(given),
                  number(given, "--every", 10), number(given, "--look", 1), number(given, "--ticks", MOST_TICKS),
-                 number(given, "--for", None), trace_format(given), "--check" in given)
+                 number(given, "--for", None), trace_format(given), "--check" in given, into(given, node),
+                 crictl_words(given))
 
 
 def missing_commands(commands):

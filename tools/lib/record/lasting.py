@@ -1,0 +1,87 @@
+"""What the core of the recorder is where it goes on for ever: it forgets what is over, and follows a clock that goes
+back."""
+
+from dataclasses import replace
+
+from .formats import MOST_PODS
+from .recorder import Recorder
+from .timeline import Timeline
+
+
+class LastingTimeline(Timeline):
+    """One in which no change stands later than it was seen, as one from before a clock went back would."""
+
+    def __init__(self, trace_format):
+        super().__init__(trace_format)
+        self.now = float("inf")
+
+    def place_container(self, pod, container, changes, results, arrived):
+        changes = [replace(change, moment=min(change.moment, self.now)) for change in changes]
+        super().place_container(pod, container, changes, results, arrived)
+
+    def pods(self):
+        """How many pods are there, or have a place and are not written yet."""
+        return len(self.present) + sum(len(tick.arrivals) for tick in self.ticks.values())
+
+    def forget(self, uids):
+        """Forgets the places of all pods but these."""
+        self.last_placed = {place: second for place, second in self.last_placed.items()
+                            if place[0] in uids or place[0] == "signal"}
+        self.successes = {place: run for place, run in self.successes.items() if place[0] in uids}
+
+    def begin_at(self, second):
+        """All is written, and what comes stands behind a second, which may be an earlier one."""
+        self.ticks, self.last_placed = {}, {}
+        self.next_second, self.latest = second + 1, second
+
+
+class LastingRecorder(Recorder):
+    """One that may go on for ever."""
+
+    def __init__(self, trace_format, every, say):
+        super().__init__(trace_format, every, say)
+        self.timeline = LastingTimeline(trace_format)
+
+    def take(self, seen):
+        self.timeline.now = seen.moment
+        super().take(seen)
+
+    def has_room(self):
+        """Pods that have gone have no line in the next trace."""
+        return self.timeline.pods() < MOST_PODS
+
+    def forget(self):
+        """Forgets pods that have gone and are no longer listed."""
+        listed = {pod.uid for pod in self.listed}
+        self.recorded = {uid: recorded for uid, recorded in self.recorded.items()
+                         if recorded.is_followed or uid in listed}
+        self.left_out &= listed
+        self.decided &= listed | set(self.recorded)
+        self.gone_at = {key: second for key, second in self.gone_at.items() if second >= self.timeline.next_second}
+        self.timeline.forget({recorded.pod.uid for recorded in self.followed()})
+
+    def begin_at(self, moment):
+        """What was seen is written, and the clock says an earlier moment."""
+        second = int(moment)
+        self.timeline.begin_at(second)
+        self.begun = self.planned_at = self.sampled_at = moment
+        self.listed_at = None if self.listed_at is None else moment
+        self.wanted_at, self.is_behind, self.gone_at = float("-inf"), False, {}
+        for recorded in self.followed():
+            recorded.arrived = recorded.changes_from = second
+            recorded.going_since = None if recorded.going_since is None else moment
+
+
+def forget_strangers(observer):
+    """Forgets the pods that neither the list of pods nor the runtime has."""
+    running = set(observer.instances or {})
+    observer.known &= running | set(observer.listed_pods)
+    observer.strangers &= running
+    observer.decided &= set(observer.listed_pods)
+
+
+def set_back(observer, moment):
+    """The clock says an earlier moment than it did."""
+    observer.missed_at = {}
+    near = observer.near
+    near.pressed_at = None if near.pressed_at is None else min(near.pressed_at, moment)

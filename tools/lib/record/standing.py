@@ -1,0 +1,231 @@
+"""What is known at a border between two traces. It is read from the lines that were written, by the rules that the
+replay has for them, so that the next trace begins where the replay of the one before it ends."""
+
+from .formats import without_nones
+from .runtime import EXITED, LOST_CODE, RUNNING, UNKNOWN
+from .trace import line_of
+
+FIELDS = {"startup": "startupProbe", "liveness": "livenessProbe", "readiness": "readinessProbe"}
+DELAY = "initialDelaySeconds"
+# a run of results that is longer counts as one of so many
+MOST_CARRIED = 100
+
+
+class Run:
+    """What the results of one probe have shown since its instance started."""
+
+    def __init__(self, probe):
+        self.delay = probe.get(DELAY, 0)
+        self.failures_wanted = probe.get("failureThreshold", 3)
+        self.successes_wanted = probe.get("successThreshold", 1)
+        self.successes = self.failures = 0
+        # startup has passed, or the instance is ready by this probe
+        self.holds = False
+        # a kill was ordered
+        self.is_over = False
+
+    def take(self, result):
+        """A result that is known and counts."""
+        if self.is_over:
+            return
+        self.successes, self.failures = (self.successes + 1, 0) if result == "success" else (0, self.failures + 1)
+        if self.successes >= self.successes_wanted:
+            self.holds = True
+        elif self.failures >= self.failures_wanted:
+            self.holds = False
+
+    def order(self):
+        """Of a probe whose failures order a kill: whether they have."""
+        self.is_over = self.is_over or self.failures >= self.failures_wanted
+
+    def results(self, probe):
+        """The fewest results that show the same once more. A kill that was ordered is not ordered again."""
+        if self.is_over:
+            return []
+        if probe == "startup":
+            return ["success"] if self.holds else ["failure"] * self.failures
+        if probe == "liveness":
+            return ["failure"] * self.failures
+        return ["success"] * (self.successes_wanted if self.holds else self.successes) \
+            + ["failure"] * (self.failures if self.holds else 0)
+
+
+class Container:
+    """One container of a pod: its newest instance as it was listed, since when, and its probes."""
+
+    def __init__(self, fields):
+        self.fields = fields
+        self.listing = None
+        self.since = None
+        self.is_listed = False
+        self.begin()
+
+    def begin(self):
+        """Another instance begins without any result."""
+        self.runs = {probe: Run(self.fields[field]) for probe, field in FIELDS.items() if self.fields.get(field)}
+        self.started = self.passed = None
+
+    def is_running(self):
+        return self.listing is not None and self.listing["state"] == RUNNING
+
+    def show(self, listing, second):
+        """What a tick lists of it, or None. The first state of an exit counts, and what is not known changes none."""
+        self.is_listed = listing is not None
+        if listing is None:
+            if self.listing is not None and self.listing["state"] != EXITED:
+                self.change({"name": self.listing["name"], "attempt": self.listing["attempt"], "state": EXITED,
+                             "exitCode": LOST_CODE}, second)
+        elif self.listing is None or listing["attempt"] != self.listing["attempt"]:
+            self.begin()
+            self.change(listing, second)
+        elif listing["state"] not in (UNKNOWN, self.listing["state"]) and self.listing["state"] != EXITED:
+            self.change(listing, second)
+
+    def change(self, listing, second):
+        self.listing, self.since = listing, second
+        if listing["state"] == RUNNING:
+            self.started = second
+
+    def take(self, probe, result, second):
+        """A result of a tick, behind what the tick lists."""
+        run = self.runs.get(probe)
+        if run is None or result == "unknown" or not self.is_listed or not self.is_running():
+            return
+        if second - self.started < run.delay:
+            return
+        startup = self.runs.get("startup")
+        if probe != "startup" and startup is not None and (self.passed is None or self.passed >= second):
+            return
+        if probe == "startup" and run.holds:
+            return
+        run.take(result)
+        if probe != "readiness":
+            run.order()
+        if probe == "startup" and run.holds:
+            self.passed = second
+
+    def go_over(self):
+        """A border is passed: what runs has its start before it, so no delay counts any more."""
+        for run in self.runs.values() if self.is_running() else ():
+            run.delay = 0
+
+    def carried(self):
+        """The results that show once more what is known, one behind the other: a list of {probe: result}."""
+        if not self.is_running():
+            return []
+        found = {probe: run.results(probe)[-MOST_CARRIED:] for probe, run in self.runs.items()}
+        early, has_startup = found.pop("startup", []), "startup" in self.runs
+        # the others count in the ticks behind the one in which startup passed
+        late = {} if has_startup and not self.runs["startup"].holds else found
+        count = max(map(len, late.values()), default=0)
+        rows = [{probe: results[place - count + len(results)] for probe, results in late.items()
+                 if place >= count - len(results)} for place in range(count)]
+        return [{"startup": result} for result in early] + rows
+
+    def manifest(self):
+        """Its part of the manifest. The kubelet itself has waited for the delay of a probe of what runs, and its start
+        is not in the next trace, so that delay is left out."""
+        if not self.is_running():
+            return self.fields
+        probes = {field: {name: value for name, value in self.fields[field].items() if name != DELAY}
+                  for field in FIELDS.values() if self.fields.get(field)}
+        return {**self.fields, **probes}
+
+
+class Pod:
+    """A pod that is there, as its line has it."""
+
+    def __init__(self, manifest):
+        metadata, spec = manifest["metadata"], manifest["spec"]
+        self.key = f"{metadata['namespace']}/{metadata['name']}"
+        self.fields = manifest
+        self.containers = {each["name"]: Container(each)
+                           for each in (spec.get("initContainers") or []) + spec["containers"]}
+        self.usage = {}
+        self.decisions = []
+
+    def take(self, entry, second):
+        """What a tick has of it."""
+        listed = {each["name"]: each for each in entry.get("containers") or []}
+        for name, container in self.containers.items():
+            container.show(listed.get(name), second)
+        for each in entry.get("probes") or []:
+            self.containers[each["container"]].take(each["probe"], each["result"], second)
+        self.usage.update(entry.get("usage") or {})
+
+    def manifest(self):
+        spec = self.fields["spec"]
+        made = {name: [self.containers[each["name"]].manifest() for each in spec[name]]
+                for name in ("initContainers", "containers") if spec.get(name)}
+        return {**self.fields, "spec": {**spec, **made}}
+
+    def entry(self, back):
+        """Its entry of a tick that stands so many before the border: usage in that of the border alone."""
+        containers = [{**each.listing, "since": each.since} for _, each in sorted(self.containers.items())
+                      if each.listing is not None]
+        rows = [(name, each.carried()) for name, each in self.containers.items()]
+        probes = [{"container": name, "probe": probe, "result": result} for name, carried in rows
+                  if len(carried) > back for probe, result in carried[-1 - back].items()]
+        usage = self.usage if back == 0 else {}
+        if not containers and not probes and not usage:
+            return None
+        return without_nones({"pod": self.key, "containers": containers, "probes": probes or None,
+                              "usage": usage or None})
+
+
+class Standing:
+    """What the lines so far say of the node, and of the pods that are there."""
+
+    def __init__(self):
+        self.node = None
+        self.pods = {}
+        self.signals = {}
+        # the second of the last tick
+        self.at = None
+
+    def take(self, record):
+        """A line that is written, or would be where there was room."""
+        kind = record["kind"]
+        if kind == "node":
+            self.node = record
+        elif kind == "pod":
+            pod = Pod(record["pod"])
+            self.pods[pod.key] = pod
+        elif kind == "gone":
+            self.pods.pop(record["pod"], None)
+        else:
+            self.take_tick(record)
+
+    def take_tick(self, tick):
+        self.at, self.signals = tick["at"], tick.get("signals") or {}
+        entries = {entry["pod"]: entry for entry in tick["pods"]}
+        for key, pod in self.pods.items():
+            pod.take(entries.get(key, {}), self.at)
+        for kind, decisions in (tick.get("kubelet") or {}).items():
+            for decision in decisions:
+                if decision["pod"] in self.pods and not decision.get("leftOut"):
+                    self.pods[decision["pod"]].decisions.append((kind, decision))
+
+    def beginning(self, second, follows):
+        """The lines that a trace begins with at a border: its node and pods, and the ticks that show what is known, the
+        last of which is that of the border. It has one, but where what probes have shown wants more."""
+        containers = [each for pod in self.pods.values() for each in pod.containers.values()]
+        for container in containers:
+            container.go_over()
+        count = max([1, *(len(container.carried()) for container in containers)])
+        yield line_of({**self.node, "follows": follows})
+        for pod in self.pods.values():
+            yield line_of({"kind": "pod", "pod": pod.manifest()})
+        for back in reversed(range(count)):
+            yield self.tick(second - back, back)
+
+    def tick(self, second, back):
+        """One of the ticks that show what is known; signals, and what the kubelet did, are in that of the border."""
+        entries = [pod.entry(back) for pod in self.pods.values()]
+        told = {}
+        for pod in self.pods.values():
+            for kind, decision in pod.decisions if back == 0 else ():
+                told.setdefault(kind, []).append(decision)
+        return line_of(without_nones({
+            "kind": "tick", "at": second, "pods": [entry for entry in entries if entry is not None],
+            "signals": self.signals if back == 0 else {}, "kubelet": told or None}))

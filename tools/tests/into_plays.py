@@ -1,0 +1,112 @@
+"""Plays that are recorded into a folder, and the traces that come of them."""
+
+import glob
+import gzip
+import json
+import os
+import shutil
+import tempfile
+
+from chance import BEGIN
+from checks import HERE, LONGEST, run
+
+
+class Into:
+    """A folder that plays are recorded into."""
+
+    def __init__(self, play):
+        self.run = tempfile.mkdtemp()
+        self.folder = f"{self.run}/traces"
+        os.mkdir(self.folder)
+        with open(f"{self.run}/play.json", "w", encoding="utf-8") as file:
+            json.dump(play, file)
+
+    def record(self, *words, before=(), longest=LONGEST):
+        """The answer of a recording of the play, which another command may start."""
+        return run([*before, f"{HERE}/commands/played_record", "--node", "n1", *words], longest=longest,
+                   PATH=f"{HERE}/commands:{os.environ['PATH']}", RECORDING=self.run, RUN=self.run)
+
+    def into(self, *words, **how):
+        return self.record("--into", self.folder, *words, **how)
+
+    def put(self, name, data):
+        with open(f"{self.folder}/{name}", "wb") as file:
+            file.write(data)
+
+    def names(self):
+        return sorted(os.listdir(self.folder))
+
+    def texts(self):
+        """The traces in their order."""
+        return [unpacked(path) for path in sorted(glob.glob(f"{self.folder}/*.gz"))]
+
+    def clean(self):
+        shutil.rmtree(self.run)
+
+
+def unpacked(path):
+    with gzip.open(path, "rt", encoding="utf-8") as file:
+        return file.read()
+
+
+def follows(text):
+    return json.loads(text.split("\n", 1)[0]).get("follows")
+
+
+def parts_of(text):
+    """A trace as what it begins with, which shows what was known, and what comes behind that."""
+    lines = text.splitlines(True)
+    known = follows(text)
+    if known is None:
+        return "", text
+    ticks = [place for place, line in enumerate(lines) if '"kind":"tick"' in line]
+    last = max(place for place in ticks if json.loads(lines[place])["at"] <= known["at"])
+    return "".join(lines[:last + 1]), "".join(lines[last + 1:])
+
+
+def laid(texts):
+    """Traces as one, laid one behind the other."""
+    return "".join(parts_of(text)[1] for text in texts)
+
+
+def series(pod, container, probe, moments, failures=()):
+    """Results of a probe, as a play has them."""
+    return [{"pod": pod, "container": container, "probe": probe, "result": result, "at": at} for result, at in (
+        ("success", [moment for moment in moments if moment not in failures]), ("failure", list(failures))) if at]
+
+
+def probed_play():
+    """What a border could lose: startup that has passed, one that fails over it, a delay that is over, failures before
+    it that order a kill behind it, readiness that wants two successes, a container that the runtime has removed, and
+    one that is unknown."""
+    delayed = {"initialDelaySeconds": 30, "periodSeconds": 5}
+    specs = {
+        "slow": {"containers": [{"name": "app", "startupProbe": {"periodSeconds": 1, "failureThreshold": 30},
+                                 "readinessProbe": {"periodSeconds": 4}, "livenessProbe": {"periodSeconds": 4}}]},
+        "never": {"containers": [{"name": "app", "startupProbe": {"periodSeconds": 2, "failureThreshold": 8}}]},
+        "late": {"containers": [{"name": "app", "readinessProbe": delayed, "livenessProbe": delayed}]},
+        "fails": {"containers": [{"name": "app", "livenessProbe": {"periodSeconds": 4, "failureThreshold": 4}}]},
+        "twice": {"containers": [{"name": "app", "readinessProbe": {"periodSeconds": 3, "successThreshold": 2,
+                                                                    "failureThreshold": 3}}]},
+        "inits": {"initContainers": [{"name": "setup"}], "containers": [{"name": "app"}]},
+        "once": {"restartPolicy": "Never", "containers": [{"name": "app"}]}}
+    made = [{"id": f"c{number}", "pod": f"shop/{name}", "name": "app", "attempt": 0, "created": 2, "started": 3}
+            for number, name in enumerate(specs)]
+    by_pod = {each["pod"]: each for each in made}
+    by_pod["shop/fails"].update(exited=29, code=137)
+    by_pod["shop/never"].update(exited=23, code=137)
+    by_pod["shop/once"].update(exited=6, code=3, removed=8)
+    made.append({"id": "d1", "pod": "shop/fails", "name": "app", "attempt": 1, "created": 29, "started": 30})
+    made.append({"id": "s1", "pod": "shop/inits", "name": "setup", "attempt": 0, "created": 1, "started": 1.2,
+                 "exited": 2, "code": 0, "removed": 12})
+    results = [*series("shop/slow", "app", "startup", range(4, 8), range(4, 7)),
+               *series("shop/slow", "app", "readiness", range(8, 60, 4), (40, 44, 48)),
+               *series("shop/slow", "app", "liveness", range(9, 60, 4)),
+               *series("shop/never", "app", "startup", (), range(5, 21, 2)),
+               *series("shop/late", "app", "readiness", range(34, 60, 5)),
+               *series("shop/late", "app", "liveness", range(35, 60, 5), (50,)),
+               *series("shop/fails", "app", "liveness", range(5, 28, 4), (13, 17, 21, 25)),
+               *series("shop/twice", "app", "readiness", range(8, 60, 3), (26, 29, 32, 44))]
+    return {"begin": BEGIN, "pods": {f"shop/{name}": {"from": 1, "spec": spec} for name, spec in specs.items()},
+            "containers": made, "probes": results, "samples": {"-1": {"memory": 4294967296}},
+            "fails": [{"kind": "ps", "from": 45, "until": 58, "text": "failed with status 1: no answer"}]}

@@ -1,0 +1,312 @@
+"""The tests of the folder of `tools/record --into`: nothing that was whole is lost in it, by a clock or by a crash, and
+the recorder goes on where there is no room."""
+
+import fcntl
+import glob
+import gzip
+import json
+import os
+import random
+import signal
+import sys
+import time
+
+from chance import BEGIN, SECONDS
+from checks import HERE, LONGEST, TOOLS, expect, read, run
+from into_plays import Into, follows, laid, parts_of, probed_play, unpacked
+from test_into import told_in
+from test_plays import quiet_node, report_of
+from test_record import Recorder
+
+sys.path[:0] = [f"{TOOLS}/lib", f"{HERE}/commands"]
+from player import Play  # noqa: E402
+from record.folder import Folder  # noqa: E402
+from record.into import LastingRecording, Traces  # noqa: E402
+from record.sources import Sources  # noqa: E402
+from record.words import words_of  # noqa: E402
+
+
+# --- what goes ---
+
+
+def test_old_traces_go():
+    """By age, and no more than two at once, since a clock may be wrong; then by size; those of others stay."""
+    stamps = [f"n1.2025-12-{day:02}T00-00-00Z.trace.gz" for day in range(25, 32)]
+    others = ["n2.2025-12-01T00-00-00Z.trace.gz", "n1.2025-12-01.trace.gz", "notes"]
+    for words, kept in ((("--keep", "48h"), stamps[2:]), (("--keep", "400d"), stamps),
+                        (("--keep", "400d", "--most", "1Mi"), stamps[-1:])):
+        into = Into(quiet_node(1, 60))
+        for name in stamps + others:
+            into.put(name, gzip.compress(random.Random(name).randbytes(400000 if "--most" in words else 40)))
+        status, _, said = into.into("--for", "10", *words)
+        expect(f"old traces go {' '.join(words)}", (status, said, into.names()),
+               (0, "", sorted([*kept, *others, "n1.2026-01-01T00-00-00Z.trace.gz"])))
+        into.clean()
+
+
+# --- a folder that is no good one ---
+
+
+def can_mount():
+    return run(["unshare", "-rm", "mount", "-t", "tmpfs", "none", "/mnt"])[0] == 0
+
+
+MOUNTED = """mount -t tmpfs -o "$1" none "$2" || exit 90
+cp -a "$2.seed/." "$2"; [ -z "$3" ] || mount -o remount,"$3" "$2" || exit 91
+folder=$2; shift 3; "$@"; status=$?; cp -a "$folder/." "$folder.made"; exit $status"""
+
+
+def on_a_mount(into, options, again, *words):
+    """Records into a file system of its own, of what lies beside the folder as `seed`; then it is copied out."""
+    os.makedirs(f"{into.folder}.seed", exist_ok=True)
+    os.mkdir(f"{into.folder}.made")
+    return into.into(*words, before=["unshare", "-rm", "sh", "-c", MOUNTED, "sh", options, into.folder, again])
+
+
+def test_folders_that_cannot_be():
+    into = Into(quiet_node(1, 60))
+    holder = os.open(into.folder, os.O_RDONLY)
+    fcntl.flock(holder, fcntl.LOCK_EX)
+    expect("a second recorder of a folder", into.into("--for", "10"),
+           (1, "", f"record: --into: another recorder writes into '{into.folder}'\n"))
+    os.close(holder)
+    expect("a recorder behind another one", into.into("--for", "10"), (0, "", ""))
+    os.chmod(into.folder, 0o555)
+    # a user of no name has no rights on what is another's
+    nobody = ["unshare", "-U"] if os.getuid() == 0 else []
+    if not nobody or run([*nobody, "test", "-r", f"{TOOLS}/record"])[0] == 0:
+        os.chmod(into.run, 0o755)
+        expect("a folder that can't be written", into.into("--for", "10", before=nobody),
+               (1, "", f"record: --into: '{into.folder}' can't be written: Permission denied\n"))
+    os.chmod(into.folder, 0o755)
+    if can_mount():
+        expect("a read-only file system", on_a_mount(into, "size=1M", "ro", "--for", "10"),
+               (1, "", f"record: --into: '{into.folder}' can't be written: Read-only file system\n"))
+    into.clean()
+
+
+def test_a_full_file_system():
+    """The oldest traces go first. Where there is none the recorder says so once, and goes on to its end."""
+    if not can_mount():
+        return
+    into = Into(quiet_node(30, 100))
+    os.mkdir(f"{into.folder}.seed")
+    for hour in range(4):
+        with open(f"{into.folder}.seed/n1.2025-12-31T0{hour}-00-00Z.trace.gz", "wb") as file:
+            file.write(gzip.compress(random.Random(hour).randbytes(150000)))
+    whole = into.record("--for", "60", "--every", "1", "--extended")[1]
+    answer = on_a_mount(into, "size=640k", "", "--for", "60", "--every", "1", "--each", "20s")
+    made = sorted(glob.glob(f"{into.folder}.made/*"))
+    expect("a full file system: the oldest traces go", (answer, [os.path.basename(path)[3:16] for path in made[:4]]),
+           ((0, "", ""), ["2025-12-31T01", "2025-12-31T02", "2025-12-31T03", "2026-01-01T00"]))
+    expect("a full file system: nothing is lost", laid(map(unpacked, made[3:])) == whole, True)
+    into.clean()
+
+    into = Into(quiet_node(30, 100))
+    os.mkdir(f"{into.folder}.seed")
+    with open(f"{into.folder}.seed/another", "wb") as file:
+        file.write(bytes(765000))
+    answer = on_a_mount(into, "size=768k", "", "--for", "60", "--every", "1", "--each", "20s")
+    expect("a full file system without a trace", (answer, os.listdir(f"{into.folder}.made")),
+           ((0, "", f"record: {BEGIN}: nothing is written into '{into.folder}' until it can be: the file system has no "
+             "room to spare\n"), ["another"]))
+    into.clean()
+
+
+class Clock:
+    """One that stands but for its waits."""
+
+    def __init__(self, moment):
+        self.moment = moment
+
+    def now(self):
+        return self.moment
+
+    def wait(self, seconds):
+        self.moment += seconds
+
+
+class Narrow(Folder):
+    """A folder without room at some moments."""
+
+    has_no_room = None
+
+    def room(self):
+        return (0, 1) if self.has_no_room() else super().room()
+
+
+def test_room_that_comes_again():
+    """What happens while there is no room is not written, and a trace begins with what is known once there is."""
+    into, said = Into(probed_play()), []
+    whole = into.record("--for", str(SECONDS), "--extended")[1]
+    play = Play(f"{into.run}/play.json")
+    clock = Clock(BEGIN)
+    sources = Sources("n1", run=lambda words, seconds: play.answer(words, clock.now()))
+    words = words_of(["--node", "n1", "--into", into.folder, "--for", str(SECONDS)])
+    folder = Narrow(into.folder, "n1", words.into.keep, words.into.most, said.append)
+    folder.has_no_room = lambda: 20 <= clock.now() - BEGIN < 35
+    output = Traces(folder, 3600, 20000, lambda text, subject=None: said.append(text))
+    LastingRecording(words, sources, clock, output, lambda *_: None).run()
+    texts = into.texts()
+    at = follows(texts[1])
+    expect("room that comes again: two traces", (len(texts), at["until"] < BEGIN + 20, at["at"] > BEGIN + 25,
+                                                  at["trace"]), (2, True, True, "n1.2026-01-01T00-00-00Z.trace.gz"))
+    expect("room that comes again: it is said twice", [line.split(": ", 1)[1] for line in said],
+           [f"nothing is written into '{into.folder}' until it can be: the file system has no room to spare",
+            "there is room again, and a trace begins"])
+    expect("room that comes again: all else is there",
+           (whole.startswith(texts[0]), whole.endswith(parts_of(texts[1])[1]), report_of(texts[1])[0]), (True, True, 0))
+    into.clean()
+
+
+# --- clocks ---
+
+
+def test_clocks_that_jump():
+    """A clock that goes back by an hour, and one that goes forward: one line, and all that happens is told."""
+    for name, jump in (("back", -3600), ("forward", 3600)):
+        play = probed_play()
+        play["true"] = list(range(SECONDS))
+        play["clock"] = [moment + (jump if moment >= 24 else 0) for moment in play["true"]]
+        for each in [*play["containers"], *play["probes"]]:
+            each.pop("removed", None)
+        play["fails"] = []
+        into = Into(play)
+        status, _, said = into.into("--for", "58" if jump < 0 else "3659")
+        texts = into.texts()
+        expect(f"a clock that goes {name}", (status, said.count("\n"), f"the clock went {name}" in said),
+               (0, 1, True))
+        expect(f"a clock that goes {name}: its traces", [len(texts), *(report_of(text)[0] for text in texts)],
+               [2, 0, 0])
+        whole = told_in(report_of(Into(probed_play()).record("--for", str(SECONDS), "--extended")[1])[1])
+        told = [event.split(" ", 2)[2] for text in texts
+                for event in told_in(report_of(text)[1], (follows(text) or {"at": -1})["at"])]
+        wanted = [event.split(" ", 2)[2] for event in whole]
+        kinds = ("started", "died", "kill")
+        expect(f"a clock that goes {name}: what is told", sorted(event for event in told if event.split()[2] in kinds),
+               sorted(event for event in wanted if event.split()[2] in kinds))
+        into.clean()
+
+
+def test_seconds_that_come_twice():
+    """Traces of one second have names of their own, in their order."""
+    play = quiet_node(1, 100)
+    play["true"] = list(range(110))
+    play["clock"] = [moment - (70 if moment >= 80 else 0) for moment in play["true"]]
+    into = Into(play)
+    status, _, said = into.into("--for", "108", "--each", "20s")
+    expect("a second that comes twice", (status, said.count("\n"), [name[14:-9] for name in into.names()]),
+           (0, 1, ["00-00-00Z", "00-00-10Z", "00-00-20Z", "00-00-20Z_2", "00-00-40Z", "00-01-00Z"]))
+    into.clean()
+
+
+# --- what was left ---
+
+
+def a_trace():
+    """The bytes of a trace."""
+    into = Into(quiet_node(2, 60))
+    into.into("--for", "20")
+    [text] = into.texts()
+    into.clean()
+    return text.encode()
+
+
+def test_what_was_left():
+    """Parts and traces that a recorder has left, and what is not its own."""
+    whole = a_trace()
+    cut, name = whole[:whole.rindex(b"\n", 0, -9) + 50], "n1.2025-12-31T23-00-00Z.trace"
+    ended = f"record: {name}.part was left by a recorder that did not end: it is"
+    for what, files, said, kept in (
+        ("a part that is whole", {f"{name}.part": whole}, f"{ended} {name}.gz now\n", {f"{name}.gz": whole}),
+        ("a part that is cut", {f"{name}.part": cut},
+         f"{ended} {name}.gz now, without the 49 bytes behind its last whole line\n",
+         {f"{name}.gz": cut[:cut.rindex(b"\n") + 1]}),
+        ("a part with nothing behind its lines", {f"{name}.part": whole + bytes(4096)},
+         f"{ended} {name}.gz now, without the 4096 bytes behind its last whole line\n", {f"{name}.gz": whole}),
+        ("a part that is empty", {f"{name}.part": b""}, f"record: {name}.part has no whole line, and is removed\n", {}),
+        ("a part that is cut in its first line", {f"{name}.part": whole[:40]},
+         f"record: {name}.part has no whole line, and is removed\n", {}),
+        ("a part that is no trace", {f"{name}.part": b"notes\n"},
+         f"record: {name}.part is no trace, and is left as it is\n", {f"{name}.part": b"notes\n"}),
+        ("a part of another node", {"n2.2025-12-31T23-00-00Z.trace.part": whole},
+         "record: n2.2025-12-31T23-00-00Z.trace.part is not of this recorder, and is left as it is\n",
+         {"n2.2025-12-31T23-00-00Z.trace.part": whole}),
+        ("a part beside what it was packed into", {f"{name}.part": whole, f"{name}.gz": gzip.compress(whole)},
+         f"{ended} {name}.gz now\n", {f"{name}.gz": whole}),
+        ("a part that was being packed", {f"{name}.part": whole, f"{name}.gz.part": gzip.compress(whole)[:99]},
+         f"{ended} {name}.gz now\n", {f"{name}.gz": whole}),
+        ("a part beside a damaged trace", {f"{name}.part": whole, f"{name}.gz": gzip.compress(whole)[:99]},
+         f"{ended} {name[:-6]}_2.trace.gz now\nrecord: {name}.gz is damaged, and is left as it is: Compressed file "
+         "ended before the end-of-stream marker was reached\n",
+         {f"{name[:-6]}_2.trace.gz": whole, f"{name}.gz": gzip.compress(whole)[:99]}),
+        ("a damaged trace", {f"{name}.gz": b"\x1f\x8b" + bytes(60)},
+         f"record: {name}.gz is damaged, and is left as it is: Unknown compression method\n",
+         {f"{name}.gz": b"\x1f\x8b" + bytes(60)}),
+    ):
+        into = Into(quiet_node(1, 30))
+        for path, data in files.items():
+            into.put(path, data)
+        answer = into.into("--for", "10")
+        expect(f"left: {what}", answer, (0, "", said))
+        made = {path: content(f"{into.folder}/{path}") for path in into.names()}
+        made.pop("n1.2026-01-01T00-00-00Z.trace.gz", None)
+        expect(f"left: {what}: the files", made, kept)
+        into.clean()
+
+
+def content(path):
+    """The bytes of a file, unpacked where that can be."""
+    with open(path, "rb") as file:
+        data = file.read()
+    try:
+        return gzip.decompress(data)
+    except (OSError, EOFError):
+        return data
+
+
+def wait_until(holds):
+    for _ in range(3000):
+        if holds():
+            return True
+        time.sleep(0.01)
+    return False
+
+
+def test_ends():
+    """One that is told to end gives its trace its name; what one that is killed leaves the next one ends."""
+    for name, number in (("told to end", signal.SIGTERM), ("killed", signal.SIGKILL)):
+        recorder = Recorder("crash_loop")
+        folder = f"{recorder.run}/traces"
+        os.mkdir(folder)
+        words = ["--node", "worker-3", "--into", folder, "--every", "1"]
+        process = recorder.start(*words)
+        begun = wait_until(lambda: any(os.path.getsize(path) > 2000 for path in glob.glob(f"{folder}/*.part")))
+        process.send_signal(number)
+        said = process.communicate(timeout=LONGEST)[1].decode()
+        made = sorted(os.listdir(folder))
+        expect(f"{name}: the trace", (begun, process.returncode, said, [path[30:] for path in made]),
+               (True, 0 if number == signal.SIGTERM else -number, "",
+                ["trace.gz" if number == signal.SIGTERM else "trace.part"]))
+        if number == signal.SIGKILL:
+            process = recorder.start(*words)
+            wait_until(lambda: os.path.exists(f"{folder}/{made[0].replace('.part', '.gz')}"))
+            process.send_signal(signal.SIGTERM)
+            said = process.communicate(timeout=LONGEST)[1].decode()
+            expect(f"{name}: the next one ends it", f"{made[0]} was left by a recorder that did not end" in said, True)
+        made = sorted(glob.glob(f"{folder}/*.gz"))
+        lines = [json.loads(line)["kind"] for line in unpacked(made[0]).splitlines()]
+        expect(f"{name}: its lines", (lines[:3], set(lines[3:])), (["node", "pod", "tick"], {"tick"}))
+        recorder.clean()
+
+
+def test_crictl_words():
+    """crictl by other words, as those of a node's own."""
+    recorder = Recorder("crash_loop")
+    answer = run([f"{TOOLS}/record", "--check", "--node", "worker-3", "--crictl", "env X=1 crictl"],
+                 **recorder.settings)
+    expect("--crictl: other words start it", (answer[0], answer[1]), (0, read(f"{HERE}/checked/all")))
+    answer = run([f"{TOOLS}/record", "--check", "--node", "worker-3", "--crictl", "chroot-of-none /host crictl"],
+                 **recorder.settings)
+    expect("--crictl: a command that is missing", answer, (127, "", "record: not on the PATH: chroot-of-none\n"))
+    recorder.clean()
