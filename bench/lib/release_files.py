@@ -1,5 +1,5 @@
-"""Puts into a folder what a release has beside its program: the tools without their tests, the examples and the
-documents. A link of a document to what the release has not becomes its words.
+"""Puts into a folder what a release has beside its program: the tools without their tests, the examples, the documents
+and what starts the recorder on nodes. A link of a document to what the release has not becomes its words.
 
     release_files.py TOP FOLDER
 """
@@ -11,7 +11,7 @@ import subprocess
 
 import script
 
-PARTS = ("tools", "examples", "docs", "README.md", "VERSION", "CHANGELOG.md", "SECURITY.md")
+PARTS = ("tools", "examples", "docs", "deploy", "README.md", "VERSION", "CHANGELOG.md", "SECURITY.md")
 LEFT_OUT = ("tools/tests/", "tools/test")
 # code comes first, since what looks like a link in it is none
 CODE_OR_LINK = re.compile(r"^```.*?^```|(`+)(?!`).*?(?<!`)\1(?!`)"
